@@ -1,0 +1,527 @@
+//! The examples that users meet first, as they stand in doc comments. `.ci/examples --write` prints this file.
+#![tactic(auto)]
+
+#[test]
+fn spin_lib_1(rt: HostRuntime) {
+    use spin::Barrier;
+    use std::thread;
+
+    let both: Barrier = Barrier::new(2);
+    let wait = || both.wait(&rt).is_leader();
+    let (first, second) = thread::join(&rt, &wait, &wait);
+    assert!(rt; first != second);
+}
+
+#[test]
+fn spin_lib_2(rt: HostRuntime) {
+    use spin::Mutex;
+    use std::thread;
+
+    let total = Mutex::new(0u64);
+    let add = || {
+        let mut guard = total.lock(&rt);
+        *guard = guard.saturating_add(1);
+    };
+    thread::join(&rt, &add, &add);
+    assert_eq!(rt; total.into_inner(), 2);
+}
+
+#[test]
+fn spin_lib_3(rt: HostRuntime) {
+    use spin::RwLock;
+
+    let limit: RwLock<u64> = RwLock::new(3);
+    let (first, second) = (limit.read(&rt), limit.read(&rt));
+    assert_eq!(rt; (*first, *second), (3, 3));
+    assert!(rt; limit.try_write().is_none());
+}
+
+#[test]
+fn spin_lib_4(rt: HostRuntime) {
+    use spin::RwLock;
+
+    let limit: RwLock<u64> = RwLock::new(3);
+    let guard = limit.upgradeable_read(&rt);
+    let mut writer = guard.upgrade(&rt);
+    *writer = 4;
+    drop(writer);
+    assert_eq!(rt; limit.into_inner(), 4);
+}
+
+#[test]
+fn spin_lib_5(rt: HostRuntime) {
+    use spin::RwLock;
+
+    let limit: RwLock<u64> = RwLock::new(3);
+    let mut writer = limit.write(&rt);
+    *writer = 4;
+    let reader = writer.downgrade();
+    assert_eq!(rt; (*reader, *limit.read(&rt)), (4, 4));
+}
+
+#[test]
+fn spin_lib_6(rt: HostRuntime) {
+    use spin::Once;
+
+    let port: Once<u16> = Once::new();
+    assert_eq!(rt; port.get().copied(), None);
+    assert_eq!(rt; *port.call_once(&rt, || 80), 80);
+    assert_eq!(rt; *port.call_once(&rt, || 81), 80);
+    assert_eq!(rt; port.get().copied(), Some(80));
+}
+
+#[test]
+fn spin_lib_7(rt: HostRuntime) {
+    use spin::LazyLock;
+    use std::thread;
+
+    let square: LazyLock<u64, _> = LazyLock::new(|| 7 * 7);
+    let force = || *LazyLock::force(&square, &rt);
+    assert_eq!(rt; thread::join(&rt, &force, &force), (49, 49));
+}
+
+#[test]
+fn spin_core_lock_1(rt: HostRuntime) {
+    use spin::lock::Lock;
+    use spin::mutex::{SpinMutex, TicketMutex};
+    use std::sync::Wait;
+
+    fn count<L: Lock<u64>, W: Wait>(rt: &W, lock: &L) -> u64 {
+        lock.with(rt, |number| {
+            *number = number.wrapping_add(1);
+            *number
+        })
+    }
+
+    let lock: SpinMutex<u64> = SpinMutex::new(1);
+    assert_eq!(rt; count(&rt, &lock), 2);
+    let queue: TicketMutex<u64> = TicketMutex::new(5);
+    assert_eq!(rt; count(&rt, &queue), 6);
+}
+
+#[test]
+fn spin_core_lock_2(rt: HostRuntime) {
+    use spin::lock::Lock;
+    use spin::mutex::SpinMutex;
+
+    let lock: SpinMutex<u64> = SpinMutex::new(4);
+    assert_eq!(rt; lock.try_with(|value| *value).ok(), Some(4));
+    let guard = lock.lock(&rt);
+    assert!(rt; lock.try_with(|value| *value).is_err());
+    drop(guard);
+}
+
+#[test]
+fn spin_core_lock_3(rt: HostRuntime) {
+    use spin::RwLock;
+    use spin::lock::SharedLock;
+
+    let limit: RwLock<u64> = RwLock::new(3);
+    let reader = limit.read(&rt);
+    assert_eq!(rt; limit.with_shared(&rt, |value| *value), 3);
+    assert_eq!(rt; *reader, 3);
+}
+
+#[test]
+fn spin_core_lock_4(rt: HostRuntime) {
+    use spin::RwLock;
+    use spin::lock::SharedLock;
+
+    let limit: RwLock<u64> = RwLock::new(3);
+    let writer = limit.write(&rt);
+    assert!(rt; limit.try_with_shared(&rt, |value| *value).is_err());
+    drop(writer);
+    assert_eq!(rt; limit.try_with_shared(&rt, |value| *value).ok(), Some(3));
+}
+
+#[test]
+fn spin_history_history_1(rt: HostRuntime) {
+    use spin::history::{BlankLog, History, Work, open};
+    use spin::register::Register;
+
+    #[derive(Drop)]
+    struct WriteTwo;
+
+    impl Work for WriteTwo {
+        type Answer = u64;
+
+        fn run<H: History + Send + Sync>(self, blank: BlankLog) -> u64 {
+            let log = blank.open::<u64, H>();
+            let mut seen = log.snapshot();
+            let mut register: Register<u64, H> = Register::new(1, log);
+            register.write(2, &mut seen);
+            register.read(&mut seen)
+        }
+    }
+
+    assert_eq!(rt; open(WriteTwo), 2);
+}
+
+#[test]
+fn spin_history_register_1(rt: HostRuntime) {
+    use spin::RwLock;
+    use spin::history::{BlankLog, History, Work, open};
+    use spin::register::{self, Register};
+    use std::sync::Wait;
+
+    #[derive(Drop)]
+    struct Publish<'a, W>(&'a W);
+
+    impl<W: Wait> Work for Publish<'_, W> {
+        type Answer = (u64, u64);
+
+        fn run<H: History + Send + Sync>(self, blank: BlankLog) -> (u64, u64) {
+            let rt = self.0;
+            let log = blank.open::<u64, H>();
+            let mut seen = log.snapshot();
+            let lock: RwLock<Register<u64, H>> = RwLock::new(Register::new(1, log));
+            let first = register::read_shared(rt, &lock, &mut seen);
+            register::write(rt, &lock, 2, &mut seen);
+            (first, register::read_shared(rt, &lock, &mut seen))
+        }
+    }
+
+    assert_eq!(rt; open(Publish(&rt)), (1, 2));
+}
+
+#[test]
+fn spin_history_register_2(rt: HostRuntime) {
+    use spin::history::{BlankLog, History, Work, open};
+    use spin::register::Register;
+
+    #[derive(Drop)]
+    struct AddInPlace;
+
+    impl Work for AddInPlace {
+        type Answer = (u64, u64);
+
+        fn run<H: History + Send + Sync>(self, blank: BlankLog) -> (u64, u64) {
+            let log = blank.open::<u64, H>();
+            let mut seen = log.snapshot();
+            let mut register: Register<u64, H> = Register::new(5, log);
+            let before = register.change(
+                |value| {
+                    let before = *value;
+                    *value = value.saturating_add(1);
+                    before
+                },
+                &mut seen,
+            );
+            (before, register.read(&mut seen))
+        }
+    }
+
+    assert_eq!(rt; open(AddInPlace), (5, 6));
+}
+
+#[test]
+fn spin_history_register_3(rt: HostRuntime) {
+    use spin::history::{BlankLog, History, Work, open};
+    use spin::register::Register;
+
+    #[derive(Drop)]
+    struct WriteAndClose;
+
+    impl Work for WriteAndClose {
+        type Answer = u64;
+
+        fn run<H: History + Send + Sync>(self, blank: BlankLog) -> u64 {
+            let log = blank.open::<u64, H>();
+            let mut seen = log.snapshot();
+            let mut register: Register<u64, H> = Register::new(1, log);
+            register.write(2, &mut seen);
+            let (last, closed) = register.close();
+            closed.observe(&mut seen);
+            last
+        }
+    }
+
+    assert_eq!(rt; open(WriteAndClose), 2);
+}
+
+#[test]
+fn spin_history_register_4(rt: HostRuntime) {
+    use spin::RwLock;
+    use spin::history::{BlankLog, History, Work, open};
+    use spin::register::{self, Register};
+    use std::sync::Wait;
+
+    #[derive(Drop)]
+    struct TryBesideReader<'a, W>(&'a W);
+
+    impl<W: Wait> Work for TryBesideReader<'_, W> {
+        type Answer = (bool, bool);
+
+        fn run<H: History + Send + Sync>(self, blank: BlankLog) -> (bool, bool) {
+            let log = blank.open::<u64, H>();
+            let mut seen = log.snapshot();
+            let lock: RwLock<Register<u64, H>> = RwLock::new(Register::new(1, log));
+            let reader = lock.read(self.0);
+            let beside = register::try_write(&lock, 2, &mut seen);
+            drop(reader);
+            (beside, register::try_write(&lock, 2, &mut seen))
+        }
+    }
+
+    assert_eq!(rt; open(TryBesideReader(&rt)), (false, true));
+}
+
+#[test]
+fn spin_history_tally_1(rt: HostRuntime) {
+    use spin::mutex::SpinMutex;
+    use spin::tally::{self, Tally, Work};
+    use std::sync::Wait;
+    use std::sync::ledger::{Ledger, Share};
+
+    #[derive(Drop)]
+    struct AddTwice<'a, W>(&'a W);
+
+    impl<W: Wait> Work for AddTwice<'_, W> {
+        type Answer = u64;
+
+        fn run<L: Ledger + Send + Sync>(self, tally: Tally<L>, all: Share<L>) -> u64 {
+            let rt = self.0;
+            let lock: SpinMutex<Tally<L>> = SpinMutex::new(tally);
+            let mut mine = all;
+            tally::add(rt, &lock, &mut mine, 3);
+            tally::add(rt, &lock, &mut mine, 4);
+            tally::total(rt, &lock, &mut mine)
+        }
+    }
+
+    assert_eq!(rt; tally::open(AddTwice(&rt)), 7);
+}
+
+#[test]
+fn spin_history_tally_2(rt: HostRuntime) {
+    use spin::tally::{self, Tally, Work};
+    use std::sync::ledger::{Ledger, Share};
+
+    #[derive(Drop)]
+    struct AddTooMuch;
+
+    impl Work for AddTooMuch {
+        type Answer = (bool, bool);
+
+        fn run<L: Ledger + Send + Sync>(self, tally: Tally<L>, all: Share<L>) -> (bool, bool) {
+            let (mut tally, mut mine) = (tally, all);
+            let first = tally.add(&mut mine, u64::MAX);
+            (first, tally.add(&mut mine, 1))
+        }
+    }
+
+    assert_eq!(rt; tally::open(AddTooMuch), (true, false));
+}
+
+#[test]
+fn spin_mutex_mutex_1(rt: HostRuntime) {
+    use spin::Yield;
+    use spin::mutex::Mutex;
+
+    let total: Mutex<u64, Yield> = Mutex::new(1);
+    *total.lock(&rt) = 5;
+    assert_eq!(rt; total.into_inner(), 5);
+}
+
+#[test]
+fn spin_mutex_mutex_2(rt: HostRuntime) {
+    use spin::{Mutex, MutexGuard};
+
+    let total: Mutex<u64> = Mutex::new(1);
+    let held = MutexGuard::hold(total.lock(&rt));
+    let guard = held.into_guard();
+    assert_eq!(rt; *guard, 1);
+    drop(guard);
+    assert!(rt; !total.is_locked());
+}
+
+#[test]
+fn spin_mutex_mutex_3(rt: HostRuntime) {
+    use spin::Mutex;
+
+    let mut total: Mutex<u64> = Mutex::default();
+    *total.get_mut() = 7;
+    assert_eq!(rt; total.into_inner(), 7);
+}
+
+#[test]
+fn spin_mutex_mutex_4(rt: HostRuntime) {
+    use spin::Mutex;
+
+    let total: Mutex<u64> = Mutex::new(1);
+    let guard = total.lock(&rt);
+    assert!(rt; total.try_lock().is_none());
+    drop(guard);
+    assert!(rt; total.try_lock().is_some());
+}
+
+#[test]
+fn spin_mutex_mutex_5(rt: HostRuntime) {
+    use spin::Mutex;
+
+    let total: Mutex<u64> = Mutex::from(1);
+    let guard = total.lock(&rt);
+    assert!(rt; total.is_locked());
+    drop(guard);
+    assert!(rt; !total.is_locked());
+}
+
+#[test]
+fn spin_mutex_mutex_6(rt: HostRuntime) {
+    use spin::Mutex;
+
+    let total: Mutex<u64> = Mutex::new(1);
+    let mut guard = total.lock(&rt);
+    *guard = guard.wrapping_add(1);
+    drop(guard);
+    assert_eq!(rt; total.into_inner(), 2);
+}
+
+#[test]
+fn spin_mutex_mutex_7(rt: HostRuntime) {
+    use spin::{Mutex, MutexGuard};
+
+    let total: Mutex<u64> = Mutex::new(1);
+    *MutexGuard::leak(total.lock(&rt)) = 9;
+    assert!(rt; total.try_lock().is_none());
+    assert_eq!(rt; total.into_inner(), 9);
+}
+
+#[test]
+fn spin_mutex_mutex_8(rt: HostRuntime) {
+    use spin::{Mutex, MutexGuard};
+
+    let total: Mutex<u64> = Mutex::new(1);
+    let held = MutexGuard::hold(total.lock(&rt));
+    assert!(rt; total.is_locked());
+    Mutex::force_unlock(held);
+    assert!(rt; !total.is_locked());
+}
+
+#[test]
+fn spin_once_once_1(rt: HostRuntime) {
+    use spin::Yield;
+    use spin::once::Once;
+    use std::thread;
+
+    let port: Once<u16, Yield> = Once::new();
+    let ask = || *port.call_once(&rt, || 80);
+    assert_eq!(rt; thread::join(&rt, &ask, &ask), (80, 80));
+}
+
+#[test]
+fn spin_once_once_2(rt: HostRuntime) {
+    use spin::Once;
+
+    let mut port: Once<u16> = Once::initialized(80);
+    *port.get_mut().expect(&rt, "it has a value") = 81;
+    assert_eq!(rt; port.try_into_inner(), Some(81));
+}
+
+#[test]
+fn spin_once_once_3(rt: HostRuntime) {
+    use spin::Once;
+
+    let port: Once<u16> = Once::new();
+    assert!(rt; port.try_call_once(&rt, || "no port".parse()).is_err());
+    assert!(rt; !port.is_completed());
+    let found = port.try_call_once(&rt, || "80".parse());
+    assert_eq!(rt; found.ok().copied(), Some(80));
+}
+
+#[test]
+fn spin_once_once_4(rt: HostRuntime) {
+    use spin::Once;
+
+    let port: Once<u16> = Once::new();
+    assert_eq!(rt; *port.init_from_ref(&rt, &80), 80);
+    assert_eq!(rt; *port.init_from_ref(&rt, &81), 80);
+}
+
+#[test]
+fn spin_once_once_5(rt: HostRuntime) {
+    use spin::Once;
+    use std::thread;
+
+    let port: Once<u16> = Once::new();
+    let (made, found) = thread::join(&rt, || *port.call_once(&rt, || 80), || *port.wait(&rt));
+    assert_eq!(rt; (made, found), (80, 80));
+}
+
+#[test]
+fn spin_once_once_6(rt: HostRuntime) {
+    use spin::Once;
+
+    let port: Once<u16> = Once::new();
+    assert_eq!(rt; port.poll(&rt).copied(), None);
+    port.call_once(&rt, || 80);
+    assert_eq!(rt; port.poll(&rt).copied(), Some(80));
+}
+
+#[test]
+fn spin_rwlock_rwlock_1(rt: HostRuntime) {
+    use spin::Yield;
+    use spin::rwlock::RwLock;
+    use std::thread;
+
+    let limit: RwLock<u64, Yield> = RwLock::new(3);
+    let read = || *limit.read(&rt);
+    assert_eq!(rt; thread::join(&rt, &read, &read), (3, 3));
+}
+
+#[test]
+fn spin_rwlock_rwlock_2(rt: HostRuntime) {
+    use spin::RwLock;
+
+    let limit: RwLock<u64> = RwLock::new(3);
+    let reader = limit.read(&rt);
+    assert!(rt; limit.try_write().is_none());
+    drop(reader);
+    assert!(rt; limit.try_write().is_some());
+}
+
+#[test]
+fn spin_rwlock_rwlock_3(rt: HostRuntime) {
+    use spin::RwLock;
+
+    let limit: RwLock<u64> = RwLock::new(3);
+    let (first, second) = (limit.read(&rt), limit.upgradeable_read(&rt));
+    assert_eq!(rt; limit.reader_count(), 2);
+    drop(first);
+    drop(second);
+    assert_eq!(rt; limit.reader_count(), 0);
+}
+
+#[test]
+fn spin_rwlock_rwlock_4(rt: HostRuntime) {
+    use spin::RwLock;
+
+    let limit: RwLock<u64> = RwLock::new(3);
+    assert_eq!(rt; limit.writer_count(), 0);
+    let writer = limit.write(&rt);
+    assert_eq!(rt; limit.writer_count(), 1);
+    drop(writer);
+}
+
+#[test]
+fn spin_rwlock_rwlock_5(rt: HostRuntime) {
+    use spin::RwLock;
+
+    let limit: RwLock<u64> = RwLock::new(3);
+    let guard = limit.upgradeable_read(&rt);
+    assert!(rt; limit.try_read(&rt).is_some());
+    assert!(rt; limit.try_upgradeable_read(&rt).is_none());
+    assert_eq!(rt; *guard, 3);
+}
+
+#[test]
+fn spin_rwlock_rwlock_6(rt: HostRuntime) {
+    use spin::RwLock;
+
+    let limit: RwLock<u64> = RwLock::new(3);
+    let mut writer = limit.write(&rt);
+    *writer = 4;
+    assert!(rt; limit.try_read(&rt).is_none());
+    drop(writer);
+    assert_eq!(rt; *limit.read(&rt), 4);
+}
