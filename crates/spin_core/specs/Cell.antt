@@ -9,8 +9,8 @@ pub data Use : Type 0 where
   reads : Use
   writes : Use
 
--- How the parties use a value of type X beside one another: each has it alone; or some lend it to one another, to read; or a party that reads it reads it for good.
--- In the third way `fact true` is known of a value that somebody reads, and `fact false` of one that nobody uses.
+-- How the parties share a value of type X: each user has it alone (`alone`), or readers share it (`lends`), or a party that reads it may read it for good (`fixes`).
+-- In the way `fixes`, `fact true` holds of a value that somebody reads, and `fact false` of a value that nobody uses.
 pub data Way (X : Type 0) : Type 1 where
   alone : Way X
   lends : Way X
@@ -20,7 +20,7 @@ pub data Way (X : Type 0) : Type 1 where
 abbrev pub Ways : Type 0 → Type 0 → Type 1
 Ways X V = Way X × (V → Use)
 
--- how many readers, and how many writers, one party is
+-- counts 1 for a party that reads; `writing` below counts 1 for a party that writes
 abbrev pub reading : Use → ℕ
 reading reads = 1
 reading _ = 0
@@ -41,11 +41,11 @@ module _ {V : Type 0} (f : V → Use) where
   abbrev pub writers_of : List V → ℕ
   writers_of vs = sum_by (λ v. writing (f v)) vs
 
--- so many numbers a word has
+-- how many different numbers a word may be
 abbrev pub words : ℕ
 words = 18446744073709551616
 
--- so many may read at a time, where parties lend the value
+-- how many parties may read at a time in the way `lends`
 abbrev pub most_readers : ℕ
 most_readers = 4611686018427387904
 
@@ -56,7 +56,7 @@ module _ {X : Type 0} where
   Limits lends r w = r + most_readers * w ≤ most_readers
   Limits (fixes fact) r w = (w ≤ 1) × (0 < w → r ≡ 0)
 
-  -- what is known of the value where so many read and so many write
+  -- what is known of the value if r parties read it and w parties write it
   abbrev pub Fixed : Way X → ℕ → ℕ → X → Type 0
   Fixed (fixes fact) (suc r) w x = fact true x
   Fixed (fixes fact) zero zero x = fact false x
@@ -130,12 +130,12 @@ module _ {X V S : Type 0} (holds : ℕ → S → List V → Type 0) (ways : Ways
   Opens n m x = (vs : List V) × IsNew ways.0 vs × Meets n m vs × Fixed ways.0 (readers_of ways.1 vs) (writers_of ways.1 vs) x
 
 module _ {V : Type 0} where
-  -- the party has this view, or has come to no view yet
+  -- the party has this view, or has no view yet
   abbrev pub Stands : ℕ → Option V → List V → Type 0
   Stands id None vs = Unit {0}
   Stands id (Some v) vs = get_elem? vs id ≡ some v
 
-  -- the views after the party has come to a new one
+  -- the views after the party got a new one
   abbrev pub after : ℕ → Option V → List V → V → List V
   after id None vs w = vs ++ w ∷ []
   after id (Some v) vs w = slice_set vs id w
@@ -166,7 +166,7 @@ module _ {X V : Type 0} (holds : ℕ → ℕ → List V → Type 0) (ways : Ways
   abbrev pub AllowsSecond : (ℕ → ℕ) → (ℕ → V → Type 0) → Type 0
   AllowsSecond f then = AllowsSecondAt None f then
 
--- the party has come to a view of which P holds
+-- the party now has a view of which P holds
 abbrev pub Moved : {V : Type 0} → (V → Type 0) → Option V → Type 0
 Moved P None = ⊥
 Moved P (Some v) = P v

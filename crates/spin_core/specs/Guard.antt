@@ -24,7 +24,7 @@ module _ {T V P R K S : Type 0} where
   abbrev pub IsHolder : (V → Use) → Guard T V P R K S → Type 0
   IsHolder use_of_view it = use_of_view it.writer.view ≡ writes
 
-  -- the value that comes free once the hold is spent
+  -- the value that is free when the hold is consumed
   abbrev pub held_value : {uses : Ghosts P V} → Held T V P R K S uses → Option T
   held_value it = it.permit.value
 

@@ -25,7 +25,7 @@ abbrev pub IsNumber : {X : Type 0} → ℕ → Option (Numbered X) → Type 0
 IsNumber p None = ⊥
 IsNumber p (Some u) = p ≡ u.1
 
--- what moves a party makes, and what they come to
+-- what moves a party makes, and what they result in
 abbrev pub Course : (V C A : Type 0) → Type 1
 Course V C A = List (Move C V) → List (Outcome A V) → Type 0
 
@@ -50,17 +50,17 @@ module _ {V C A : Type 0} where
   abbrev pub IsCall : C → A → Course V C A
   IsCall c a = Begins c (Ends a)
 
-  -- one step that comes to this: the next one of a call that goes on (true), or behind the beginning of this call
+  -- one step with this outcome: the next one of a call that goes on (true), or the first one after the beginning of this call
   abbrev pub IsStep : Bool → C → Outcome A V → Course V C A
   IsStep true c end own outs = (own ≡ Step ∷ []) × (outs ≡ end ∷ [])
   IsStep false c end own outs = (own ≡ Begin c ∷ Step ∷ []) × (outs ≡ Begun ∷ end ∷ [])
 
-  -- what a play says of its step: what it comes to and where it leads, by the number found
+  -- what a play says of its step: what it results in and where it leads, by the number found
   abbrev pub step_by : {X : Type 0} → Bool → C → (ℕ → Outcome A V) → (ℕ → X) → List (Move C V) → List (Outcome A V) → ℕ → X → Type 0
   step_by goes_on c end to own outs n v = (v ≡ to n) × IsStep goes_on c (end n) own outs
 
 module _ {W V C L A : Type 0} (m : Machine W V C L A) where
-  -- what the entries of one party come to, among those of others
+  -- what the entries of one party result in, among those of others
   abbrev pub outcomes_by : ℕ → State W V C L → List (Entry C V) → List (Outcome A V)
   outcomes_by p s [] = []
   outcomes_by p s (e ∷ es) = let h = happens m s e.0 e.1 in if e.0 == p then h.outcome ∷ outcomes_by p h.next es else outcomes_by p h.next es

@@ -1,4 +1,4 @@
--- What a call that tries again and again comes to, where an attempt from a state either answers or fails, and hands on the state in which the next one begins.
+-- What a call that tries again and again results in. An attempt from a state either answers or fails, and then passes on the state in which the next one begins.
 use Rattle.std.specs.Prelude.{◌≡◌, ℕ, zero, suc, Result, Ok, Err}
 
 module _ {S A : Type 0} (attempts : S → Result A S → Type 0) where

@@ -36,7 +36,7 @@ abbrev pub second : ℕ × ℕ → ℕ
 second s = s.1
 
 module _ {W V C L A : Type 0} (m : Machine W V C L A) where
-  -- what the entries of a schedule come to
+  -- what the entries of a schedule result in
   abbrev pub outcomes : State W V C L → List (Entry C V) → List (Outcome A V)
   outcomes s [] = []
   outcomes s (e ∷ es) = (happens m s e.0 e.1).outcome ∷ outcomes (happens m s e.0 e.1).next es
@@ -45,7 +45,7 @@ module _ {W V C L A : Type 0} (m : Machine W V C L A) where
   abbrev pub IsPlayed : ℕ → List (Entry C V) → Type 0
   IsPlayed least schedule = (more : ℕ) → list_all is_played (outcomes (at_first m (least + more)) schedule) ≡ true
 
-  -- these entries are moves of one party; no entry is passed over; and after this log, in each world of the model with so many parties or more, they come to these outcomes
+  -- these entries are moves of one party; no entry is passed over; and after this log, in each world of the model with so many parties or more, they have these outcomes
   abbrev pub AreOwn : List (Move C V) → List (Outcome A V) → List (Entry C V) → List (Entry C V) → Type 0
   AreOwn own outs log es = (p least : ℕ) × (es ≡ map (λ move. (p, move)) own) × IsPlayed least (log ++ es) × ((more : ℕ) → outcomes (after m (at_first m (least + more)) log) es ≡ outs)
 
@@ -72,7 +72,7 @@ module _ {W V C L A : Type 0} (m : Machine W V C L A) where
         (own : List (Move C V)) × (outs : List (Outcome A V)) × P own outs × (list_all is_of_call own ≡ true) × (list_all is_played outs ≡ true) × (w' : W) × (now : Option V)
         × (after m (alone w value (sits view)) (of_one own) ≡ record { words = w'; value = now; seats = seat_of u ∷ [] }) × (outcomes (alone w value (sits view)) (of_one own) ≡ outs) × (words_of w' ≡ s)
 
-    -- Whatever the words are, and whatever view the party comes to by a step of which `then` holds: it has such moves, and the words become what the step leaves
+    -- Whatever the words are, and whatever view the party gets by a step of which `then` holds: it has such moves, and the words become what the step leaves
     abbrev pub AreMoves : Option X → (ℕ × S → ℕ × S) → (ℕ × S → ℕ) → (ℕ → X → Type 0) → (List (Move C V) → List (Outcome A V) → ℕ → X → Type 0) → Type 0
     AreMoves view to found then says =
         (w : W) (value : Option V) (u : X) → then (found (words_of w)) u → Goes view u w value (to (words_of w)) (λ own outs. says own outs (found (words_of w)) u)

@@ -25,7 +25,7 @@ pub use steps::Play;
 pub trait Rule<T, V> {
     // What is settled when a cell is made, as the closure of a lazy value.
     type Key;
-    // What lies behind the value: a trace, with a second word or nothing beside it. A trace alone takes no room.
+    // What lies behind the value: a trace, with a second word or nothing. A trace alone takes no room.
     type Second;
     // Of the first word, the second or nothing, and the views of all parties that ever came.
     ghost holds: { Self.Key → ℕ → Self.Second → List V → Type 0 };
@@ -33,7 +33,7 @@ pub trait Rule<T, V> {
     ghost ways: { Self.Key → Ways T V };
 }
 
-/// A cell: a word, a value, and a trace with a second word or nothing beside it. Only a party with a permit touches the
+/// A cell: a word, a value, and a trace with a second word or nothing. Only a party with a permit touches the
 /// value.
 ///
 /// In a clause a cell is its key.
@@ -289,7 +289,7 @@ impl<T, V, P: Rule<T, V>> WritePermit<'_, T, V, P> {
     }
 }
 
-// Forgets a value whose type need not be `Drop`: a trace, with a number or nothing beside it.
+// Forgets a value whose type need not be `Drop`: a trace, with a number or nothing.
 pub(crate) fn let_go<S>(second: S) {
     let _gone = unsafe { ManuallyDrop::new_unchecked(second) };
 }

@@ -202,7 +202,7 @@ unsafe impl<T: Send, V, P: Release<T, V> + Sync, R> Send for Guard<'_, T, V, P, 
 // SAFETY: a shared guard lends a `&T` and no more.
 unsafe impl<T: Sync, V, P: Release<T, V>, R> Sync for Guard<'_, T, V, P, R> {}
 
-// SAFETY: its new thread hands the value on to whoever comes next: what a guard asks.
+// SAFETY: its new thread passes the value on to the next user: what a guard asks.
 unsafe impl<T: Send, V, P: Release<T, V> + Sync, R> Send for Held<'_, T, V, P, R> {}
 
 // SAFETY: a shared hold lends nothing. It asks what the lock asks.

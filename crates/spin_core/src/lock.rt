@@ -87,7 +87,7 @@ pub trait SharedLock<T>: Lock<T> {
         ensures { AnswersOfShared F.FnOnce by result };
 
     /// Tries to acquire shared access, and then does as [`with_shared`](SharedLock::with_shared). Hands the closure
-    /// back if access is refused, as beside a writer.
+    /// back if access is refused, as while a writer holds.
     ///
     /// # Contract
     /// The closure has to be always callable. `Ok` is an answer as that of `with_shared`. `Err` is the closure, which

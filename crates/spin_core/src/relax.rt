@@ -174,7 +174,7 @@ impl RelaxStrategy for Loop {
     }
 }
 
-/// The strategy of a lock by its name alone: no `R` lies in it, so a lock may go to another thread whatever `R` is.
+/// Names the strategy of a lock. It contains no `R`, so a lock may be sent to another thread whatever `R` is.
 #[derive(Drop)]
 pub struct Strategy<R> {
     name: PhantomData<R>,

@@ -75,7 +75,7 @@ Leads to = Tells latch_machine seat_of words_of (leads_by to)
 abbrev pub either_at : ℕ → View → View → ℕ → View
 either_at old won lost found = if found == old then won else lost
 
--- what a call that comes to read is where its word keeps it out: it waits, or is refused
+-- what becomes of a call that wants to read, and whose word keeps it out: it waits, or is refused
 abbrev pub gone : Bool → View
 gone true = WaitingToRead
 gone false = Idle

@@ -37,7 +37,7 @@ latch_calls (gives_back (Some Read)) = true
 latch_calls (gives_back (Some Write)) = true
 latch_calls _ = false
 
--- one that comes to read looks first, and one that comes to write does not
+-- one that wants to read looks first, and one that wants to write does not
 abbrev pub latch_undisturbed_steps : Asked → ℕ
 latch_undisturbed_steps (waits to_write) = 1
 latch_undisturbed_steps what = steps_past_a_look what
@@ -50,7 +50,7 @@ latch = record (usual latch_word [] latch_plain_steps latch_calls) { undisturbed
 abbrev pub granted : Hold → Next LatchPoint (Answer (Unit {0}))
 granted held = Answers Granted (Some held)
 
--- a call that comes to read goes for the word that it found
+-- a call that wants to read tries to exchange the word that it found
 abbrev pub goes_for : ℕ → Next LatchPoint (Answer (Unit {0}))
 goes_for w = Continue (Exchange w)
 
@@ -59,7 +59,7 @@ abbrev pub comes_by : Next LatchPoint (Answer (Unit {0})) → LatchPoint → Act
 comes_by missed First = load_for let_in (λ p. gets p to_read) goes_for missed
 comes_by missed (Exchange k) = retry k let_in (λ p. gets p to_read) (granted Read) goes_for missed
 
--- what its step comes to, where the step function answers so
+-- what its step results in, where the step function answers so
 abbrev pub comes_at : LatchPoint → ℕ → Option ℕ → Next LatchPoint (Answer (Unit {0})) → Stepped ℕ (Unit {0}) LatchPoint (Answer (Unit {0}))
 comes_at First w to missed = stays w (either (is_some to) (goes_for w) missed)
 comes_at (Exchange k) w to missed = retried (λ n. n) (w == k) w to (granted Read) (goes_for w) missed

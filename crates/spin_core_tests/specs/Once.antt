@@ -21,7 +21,7 @@ use_of_view Reading = reads
 abbrev pub once_ways : ℕ → Ways Stage View
 once_ways key = (fixes (IsMade key), use_of_view)
 
--- the word is 0 where nobody has come, 1 while a party makes the value, and 2 where it is made
+-- the word is 0 when no party has come, 1 while a party makes the value, and 2 when it is made
 abbrev pub Stands : ℕ → ℕ → ℕ → Type 0
 Stands zero r w = (r ≡ 0) × (w ≡ 0)
 Stands (suc zero) r w = (r ≡ 0) × (w ≡ 1)

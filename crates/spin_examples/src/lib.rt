@@ -1,4 +1,4 @@
-//! What the pages print: callers that name `spin` alone.
+//! The examples that the pages print: callers that use `spin` alone.
 //!
 //! Begin with [`from_rust`].
 #![tactic(auto)]

@@ -12,8 +12,8 @@ use crate::options::{Options, options_of};
 use spin_text::{Sink, Source, read_all, write_whole};
 use std::alloc::Global;
 
-/// Reads a text from `input`, and writes what may come of it on `output`. Returns `true` if that tells that a run can
-/// get stuck.
+/// Reads a text from `input`, and writes all that may result from it to `output`. Returns `true` if that tells that a
+/// run can get stuck.
 fn run<I: Source, O: Sink>(
     alloc: Global,
     options: Options,
@@ -47,8 +47,8 @@ fn run<I: Source, O: Sink>(
 
 /// Runs the program on these words and streams, and returns the status of the process.
 ///
-/// It reads a text from `input`: a schedule as [`world_text`](spin_text::world_text) reads it, whose moves `step` and
-/// `weak` it leaves out. The lines of one party, in their order, are its program. In place of the header the text may
+/// It reads a text from `input`: a schedule as [`world_text`](spin_text::world_text) reads it, but without the moves
+/// `step` and `weak`. The lines of one party, in their order, are its program. In place of the header the text may
 /// have lines `lock NAME HEADER`, each with a header that lacks the number of parties. Then each move names its lock:
 /// `PARTY NAME MOVE`.
 ///
@@ -59,14 +59,14 @@ fn run<I: Source, O: Sink>(
 /// # Contract
 /// The caller gives streams that have not failed. The status is one of these:
 ///
-/// - 0: what was asked for is written, and no run can get stuck, or a schedule was asked for (`Does`).
-/// - 3: what was asked for is written, and some run can get stuck.
+/// - 0: what was asked for is written (`Does`). No run can get stuck, or a schedule was asked for.
+/// - 3: what was asked for is written (`Does`), and some run can get stuck.
 /// - 1: memory was refused, a read or a write failed, or there are more states than the limit. Only a failed write
 ///   leaves a beginning of the text on `output`.
-/// - 2: the words are those of no command, a line of the text is wrong, or there is no such outcome.
+/// - 2: the words are no command, a line of the text is wrong, or there is no such outcome.
 ///
-/// With 1 or 2 the fault has this status (`status_of`), the run stopped as that fault says (`StopsProgram`), and its
-/// line is on `errors` (`Told`).
+/// The status 1 or 2 is that of a fault (`status_of`). The run stopped as that fault says (`StopsProgram`), and the
+/// line of the fault is on `errors` (`Told`).
 pub fn program<I: Source, O: Sink, E: Sink>(
     alloc: Global,
     words: &[&str],

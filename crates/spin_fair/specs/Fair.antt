@@ -114,7 +114,7 @@ IsFair name word trace parties = Runs model seat_of words_of (λ n second vs. Wo
 abbrev pub Told : (List OneMove → List Ending → ℕ → View → Type 0) → Option (Numbered View) → List Done → List Done → ℕ → Numbered View → Type 0
 Told = Tells model seat_of words_of
 
--- The steps: what each comes to and where it leads, by the number found
+-- The steps: what each results in and where it leads, by the number found
 
 abbrev pub Says : Type 1
 Says = List OneMove → List Ending → ℕ → View → Type 0
@@ -229,7 +229,7 @@ abbrev pub finds_no_room : FairCall → View
 finds_no_room Lock = Looking patience
 finds_no_room _ = Idle
 
--- a party that found this word goes for the next one, if there is one
+-- a party that found this word tries to exchange it for the next one, if there is one
 abbrev pub goes_for : FairCall → ℕ → View
 goes_for c n = if is_some (starve most_starvers n) then Registering c n else finds_no_room c
 
@@ -338,7 +338,7 @@ HoldsAt vs p = part_at part vs p ≡ holds writing
 abbrev pub StarvesAt : List View → ℕ → Type 0
 StarvesAt vs p = (part_at part vs p ≡ starves) ⊎ (part_at part vs p ≡ holds_starving)
 
--- What a party comes to that keeps its number
+-- What becomes of a party that keeps its number
 
 -- moves of a call that goes on (true), or of this one from its beginning: it goes on, or is answered so
 abbrev pub Comes : Bool → FairCall → Option (Answer (Unit {0})) → Course (Unit {0}) FairCall (Answer (Unit {0}))

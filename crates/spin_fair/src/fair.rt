@@ -223,7 +223,7 @@ impl<T, R> FairMutex<T, R> {
 
     /// Releases the lock that the hold keeps.
     ///
-    /// The hold is spent, so no lock is released twice. Starvers stay registered.
+    /// The call consumes the hold, so no lock is released twice. Starvers stay registered.
     ///
     /// # Contract
     /// No clause. The call returns.

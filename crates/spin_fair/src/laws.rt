@@ -23,7 +23,7 @@ pub fn every_run_of_a_fair_mutex_is_a_schedule()
 
 /// States that a newcomer that holds a `FairMutex` acquired it before each registered starver made its last move.
 ///
-/// So no newcomer acquires the lock beside a registered starver: its move would be the later one.
+/// So no newcomer acquires the lock while a starver is registered: its move would be the later one.
 ///
 /// # Contract
 /// Where the rule holds (`IsFair`), the trace was no longer after the last move of a newcomer that holds, by which it

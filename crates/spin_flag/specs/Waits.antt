@@ -1,4 +1,4 @@
--- What a waiting `lock` comes to by a look, and an exchange where it finds the flag clear.
+-- What a look of a waiting `lock` results in, and an exchange after a look that found the flag clear.
 use Rattle.std.specs.Prelude.{◌≡◌, Some, Result, IfOk, IfErr}
 use Rattle.spin_core.specs.Passes.{Waits, Ends}
 use Rattle.spin_model.specs.declared.answer.Answer.TheVariants.{Granted}

@@ -126,7 +126,7 @@ impl<T, R: RelaxStrategy> SpinMutex<T, R> {
     pub fn lock<W: Wait>(&self, rt: &W) -> SpinMutexGuard<'_, T, R>
         ensures { IsHolder use_of_party result }
     {
-        // As `Pass::lock`: through it, the path of a free lock would be two instructions longer.
+        // This repeats `Pass::lock`: a call of that would make the path of a free lock two instructions longer.
         let Grant { writer, seen: _ } = match try_with(self.cell.enter(), self.cell.watch()) {
             Ok(grant) => grant,
             Err(waiting) => R::back_off(rt, waiting, Waiting::look_and_try),
@@ -184,7 +184,7 @@ impl<T, R> SpinMutex<T, R> {
 
     /// Releases the lock that the hold keeps.
     ///
-    /// The hold is spent, so no lock is released twice.
+    /// The call consumes the hold, so no lock is released twice.
     ///
     /// # Contract
     /// No clause. The call returns.

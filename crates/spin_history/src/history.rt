@@ -96,7 +96,7 @@ pub fn open<K: Work>(work: K) -> K::Answer
 
 /// A monotone log: a list that only grows, and the right to append to it. There is one for each history.
 ///
-/// A log lies beside the value that it tells of, under the same lock. The struct that holds them says in an invariant
+/// A log is kept with the value that it tells of, under the same lock. The struct that holds them says in an invariant
 /// of its own how they belong together, as [`Register`](crate::register::Register) does.
 pub struct Log<T, H: History> {
     marker: PhantomData<(T, H)>,

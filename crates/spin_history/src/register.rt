@@ -86,7 +86,7 @@ impl<T, H: History, P: Order<T>> Register<T, H, P> {
     /// Returns a reference to the value.
     ///
     /// # Contract
-    /// It is the last write of a history that goes on from what the caller knew, and is in order (`order`). So it is at
+    /// It is the last write of a history that extends what the caller knew, and is in order (`order`). So it is at
     /// or after the last value that the caller saw (`grown`), whichever thread wrote.
     pub fn get(&self, seen: &mut Snapshot<T, H>) -> &T
         ensures order { InOrder P.le seen.new.entries }
@@ -119,9 +119,9 @@ impl<T, H: History, P: Order<T>> Register<T, H, P> {
     /// Calls a closure with the value, which it may change in place, and returns its answer.
     ///
     /// # Contract
-    /// The closure has to be always callable. Whatever the value, it has to leave one there that may come after it. It
-    /// is called with the last write, and what it leaves is the next one (`Updates`), at or after the last value that
-    /// the caller saw.
+    /// The closure has to be always callable. For each value that it may find, it has to leave a value that may come
+    /// after that one. It is called with the last write, and what it leaves is the next write (`Updates`). That is at
+    /// or after the last value that the caller saw.
     ///
     /// # Examples
     /// ```
@@ -237,7 +237,7 @@ impl<T: Drop, H: History, P: Order<T>> Register<T, H, P> {
     /// Writes a value.
     ///
     /// # Contract
-    /// The value has to be one that may come after any other. It is the last entry of a history that goes on from what
+    /// The value has to be one that may come after any other. It is the last entry of a history that extends what
     /// the caller knew (`Writes`). Nothing comes between what the register had and this write.
     pub fn write(&mut self, new: T, seen: &mut Snapshot<T, H>)
         requires { (x : T) → P.le x new }
@@ -262,9 +262,9 @@ impl<T: Drop, H: History, P: Order<T>> Register<T, H, P> {
     /// Writes what a closure makes of the value.
     ///
     /// # Contract
-    /// The closure has to be always callable. Whatever the value, it has to answer one that may come after it. It is
-    /// called with the last write, and its answer is the next one (`Updates`), at or after the last value that the
-    /// caller saw.
+    /// The closure has to be always callable. For each value that it may find, it has to answer a value that may come
+    /// after that one. It is called with the last write, and its answer is the next write (`Updates`). That is at or
+    /// after the last value that the caller saw.
     pub fn update<F: FnOnce(&T) -> T>(&mut self, by: F, seen: &mut Snapshot<T, H>)
         requires callable { F.IsAlwaysCallable by }
         requires grows { (x y : T) → FnOnceReturnsAt F.FnOnce by x y → P.le x y }
@@ -309,7 +309,7 @@ impl<T: Copy, H: History, P: Order<T>> Register<T, H, P> {
 /// Calls a closure with the value of a register under a lock, and returns its answer.
 ///
 /// # Contract
-/// The closure has to be always callable. It is called with the last write of a history that goes on from what the
+/// The closure has to be always callable. It is called with the last write of a history that extends what the
 /// caller knew, and is in order (`ReadsIn`). Whether and when the call returns is not promised.
 pub fn inspect<
     T,
@@ -342,7 +342,7 @@ pub fn inspect<
 /// Reads a register under a lock.
 ///
 /// # Contract
-/// The answer is the last write of a history that goes on from what the caller knew, and is in order. So it is at or
+/// The answer is the last write of a history that extends what the caller knew, and is in order. So it is at or
 /// after the last value that the caller saw, whichever thread wrote. Whether and when the call returns is not promised.
 pub fn read<T: Copy, P: Order<T>, H: History, L: Lock<Register<T, H, P>>, W: Wait>(
     rt: &W,
@@ -364,7 +364,7 @@ pub fn read<T: Copy, P: Order<T>, H: History, L: Lock<Register<T, H, P>>, W: Wai
     )
 }
 
-/// Calls a closure with the value of a register under a lock, beside other readers, and returns its answer.
+/// Calls a closure with the value of a register under a lock, with other readers, and returns its answer.
 ///
 /// # Contract
 /// As that of [`inspect`].
@@ -396,7 +396,7 @@ pub fn inspect_shared<
     answer
 }
 
-/// Reads a register under a lock, beside other readers.
+/// Reads a register under a lock, with other readers.
 ///
 /// # Contract
 /// As that of [`read`].
@@ -447,7 +447,7 @@ pub fn try_read<T: Copy, P: Order<T>, H: History, L: Lock<Register<T, H, P>>>(
     Some(value)
 }
 
-/// Tries to read a register under a lock, beside other readers, and does not wait while a writer has it.
+/// Tries to read a register under a lock, with other readers, and does not wait while a writer has it.
 ///
 /// # Contract
 /// As that of [`try_read`]. Whether and when the call returns is not promised.
@@ -478,10 +478,10 @@ pub fn try_read_shared<T: Copy, P: Order<T>, H: History, L: SharedLock<Register<
 /// Calls a closure with the value of a register under a lock, which it may change in place, and returns its answer.
 ///
 /// # Contract
-/// The closure has to be always callable. Whatever the value, it has to leave one there that may come after it. It is
-/// called with the last write of a history that goes on from what the caller knew. What it leaves there is the next
-/// one: nothing comes between. It is at or after the last value that the caller saw, and afterwards the caller knows it
-/// as the last write (`UpdatesIn`). Whether and when the call returns is not promised.
+/// The closure has to be always callable. For each value that it may find, it has to leave a value that may come after
+/// that one. It is called with the last write of a history that extends what the caller knew. What it leaves is the
+/// next write: no write comes between. That is at or after the last value that the caller saw. Afterwards the caller
+/// knows it as the last write (`UpdatesIn`). Whether and when the call returns is not promised.
 pub fn change<
     T,
     P: Order<T>,
@@ -515,7 +515,7 @@ pub fn change<
 /// Writes to a register under a lock.
 ///
 /// # Contract
-/// The value has to be one that may come after any other. It is the last entry of a history that goes on from what the
+/// The new value has to be one that may come after any value. It is the last entry of a history that extends what the
 /// caller knew. Whether and when the call returns is not promised.
 pub fn write<T: Drop, P: Order<T>, H: History, L: Lock<Register<T, H, P>>, W: Wait>(
     rt: &W,
@@ -544,9 +544,9 @@ pub fn write<T: Drop, P: Order<T>, H: History, L: Lock<Register<T, H, P>>, W: Wa
 /// Writes what a closure makes of the value of a register under a lock.
 ///
 /// # Contract
-/// The closure has to be always callable. Whatever the value, it has to answer one that may come after it. It is called
-/// with the last write, and its answer is the next one, as that of [`change`] (`UpdatesIn`). Whether and when the call
-/// returns is not promised.
+/// The closure has to be always callable. For each value that it may find, it has to answer a value that may come after
+/// that one. It is called with the last write, and its answer is the next write, as with [`change`] (`UpdatesIn`).
+/// Whether and when the call returns is not promised.
 pub fn update<
     T: Drop,
     P: Order<T>,

@@ -56,7 +56,7 @@ fn two_share_a_lock_at_once(rt: HostRuntime) {
     equal(&rt, met, (true, true));
 }
 
-// Lets the other thread come, then lets go of what it waits for. The other has to get on.
+// Lets the other thread come, then releases what it waits for. The other has to go on.
 fn lets_go<G: Drop, R: Abort + Wait>(rt: &R, guard: G, came: &AtomicU64, done: &AtomicU64) {
     await_number(rt, came, 1);
     pause(rt);

@@ -1,4 +1,4 @@
--- An object as a table: for each point of a call the shape of its next step. The shapes make the machine, and say what each step owes.
+-- An object as a table: for each point of a call the shape of its next step. From the shapes the machine is made, and what has to be proved of each step.
 use Rattle.std.specs.Prelude.{ℕ, zero, suc, ◌+◌, ◌%◌, Bool, true, false, Option, Some, None, List, [], ◌∷◌, is_some, ◌==◌, if◌then◌else◌, get_or, unwrap_or}
 use Rattle.spin_step.specs.Plain.{Change, completes}
 use Rattle.spin_model.specs.declared.place.Hold.{Hold}
@@ -14,7 +14,7 @@ use Rattle.spin_model.specs.Machines.{Machine}
 use Rattle.spin_model.specs.Operations.{Operation, loads, exchanges, sets_lowest_bit, performed}
 use Rattle.spin_model.specs.Schedules.{placed}
 
--- The numbers that words are, and the words with this number in the place of the i-th
+-- The numbers of an object's words, and the words after the i-th is replaced by this number
 pub record Memory (W : Type 0) : Type 0 where
   pub numbers : W → List ℕ
   pub put : ℕ → ℕ → W → W
@@ -38,29 +38,29 @@ two_numbers a b f g = record { numbers = λ w. a w ∷ b w ∷ []; put = put_in_
 abbrev pub number_at : {W : Type 0} → Memory W → ℕ → W → ℕ
 number_at m i w = get_or (m.numbers w) i 0
 
--- A step of a call on one word, by the number that it finds there. A step function gives the number after it, or refuses; beside it stands the plain step that a party makes with it
+-- The shape of a step of a call on one word, by the number that it finds there. A step function gives the next number, or refuses. The plain step that a party then makes is given after it
 pub data Act (W L A : Type 0) : Type 0 where
   load : (ℕ → Next L A) → Act W L A
-  -- by whether the number passes a test
+  -- a load that goes on by whether the number passes a test
   load_if : (ℕ → Bool) → (ℕ → Next L A) → (ℕ → Next L A) → Act W L A
-  -- by whether the step function would give a new number
+  -- a load that goes on by whether the step function would give a new number
   load_for : (ℕ → Option ℕ) → (ℕ → Change) → (ℕ → Next L A) → Next L A → Act W L A
-  -- the number stays, and the plain step is made where it passes a test; else it is closed
+  -- the number stays; if it passes a test the plain step is made, and if not the plain step is closed
   enter : (ℕ → Bool) → (ℕ → Change) → Next L A → Next L A → Act W L A
-  -- the operation changes the number, or finds another one, which shows that the plain step is closed
+  -- the operation changes the number; if it finds another number instead, the plain step is closed
   exchange : Operation → (ℕ → Change) → Next L A → (ℕ → Next L A) → Act W L A
-  -- an exchange of this number for what the step function gives for it, which may also refuse without cause
+  -- an exchange of this number for what the step function gives for it; the exchange may also fail without cause
   weak_exchange : ℕ → (ℕ → Option ℕ) → (ℕ → Change) → Next L A → Next L A → Act W L A
-  -- an exchange whose refusal shows nothing by itself
+  -- an exchange whose failure alone shows nothing
   attempt : ℕ → (ℕ → Option ℕ) → (ℕ → Change) → Next L A → Next L A → Act W L A
-  -- an exchange, where the first word is still the number that was found, and else a load for the next one
+  -- an exchange if the first word is still the number found before; if not, a load of the number for the next exchange
   retry : ℕ → (ℕ → Option ℕ) → (ℕ → Change) → Next L A → (ℕ → Next L A) → Next L A → Act W L A
-  -- without a look, where the number passes a test
+  -- an operation that does not look first; it may be made only where the number passes a test
   store : (ℕ → Bool) → Operation → (ℕ → Change) → Next L A → Act W L A
-  -- no one operation, but a whole section on all words, where they pass a test: new words, or a refusal, which shows that the plain step is closed
+  -- not one operation but a section on all words, made only where they pass a test. It gives new words, or refuses, and then the plain step is closed
   section : (W → Bool) → (W → Option W) → (ℕ → Change) → (W → Next L A) → (W → Next L A) → Act W L A
 
--- What a step comes to
+-- What a step results in
 
 -- this number for what the step function gives for it
 abbrev pub swap : ℕ → (ℕ → Option ℕ) → Operation

@@ -109,7 +109,7 @@ grant p to_lock_starving = gets p to_lock_starving ∷ stops_starving p ∷ []
 grant p to_lock_starving_alone = gets p to_lock_starving_alone ∷ stops_starving p ∷ []
 grant p ask = gets p ask ∷ []
 
--- a party lets go of what it holds
+-- a party releases what it holds
 abbrev pub let_go_of : ℕ → Hold → Change
 let_go_of p Read = releases p reading
 let_go_of p Upgradable = releases p upgradable

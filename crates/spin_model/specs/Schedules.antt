@@ -1,4 +1,4 @@
--- What a schedule does: which moves are open, and what each comes to.
+-- What a schedule does: which moves are open, and what each results in.
 use Rattle.std.specs.Prelude.{ℕ, ◌+◌, Bool, true, false, ◌&&◌, Option, Some, None, List, [], ◌∷◌, ◌++◌, map, replicate, ◌==◌, if◌then◌else◌, slice_get, slice_set, unwrap_or}
 use Rattle.std.specs.List.{list_all}
 use Rattle.spin_model.specs.declared.place.Hold.{Hold}
@@ -17,7 +17,7 @@ use Rattle.spin_model.specs.declared.schedule.Outcome.TheVariants as outcome
 use Rattle.spin_model.specs.declared.schedule.Event.{Event}
 use Rattle.spin_model.specs.Machines.{Machine}
 
--- the words, the value, and where each party stands
+-- the words, the value, and the place of each party
 pub record State (W V C L : Type 0) : Type 0 where
   pub words : W
   pub value : Option V
@@ -32,7 +32,7 @@ pub record Shown (O W V C L : Type 0) : Type 0 where
 abbrev pub Entry : Type 0 → Type 0 → Type 0
 Entry C V = ℕ × Move C V
 
--- what an entry comes to
+-- what an entry results in
 pub record Happened (W V C L A : Type 0) : Type 0 where
   pub outcome : Outcome A V
   pub next : State W V C L
@@ -63,7 +63,7 @@ seen_by_owner (Holding h) = Holding h
 seen_by_owner (Leaked h) = Gone h
 seen_by_owner (Gone h) = Gone h
 
--- where a party stands that is in no call
+-- the place of a party that is in no call
 abbrev pub resting : {C L : Type 0} → Option Hold → Seat C L
 resting None = Idle
 resting (Some h) = Holding h
@@ -166,7 +166,7 @@ abbrev pub moves_at : {W V C L A : Type 0} → Machine W V C L A → State W V C
 moves_at m s p move None = skipped s
 moves_at m s p move (Some seat) = moves m s p move seat
 
--- what one entry comes to
+-- what one entry results in
 abbrev pub happens : {W V C L A : Type 0} → Machine W V C L A → State W V C L → ℕ → Move C V → Happened W V C L A
 happens m s p move = moves_at m s p move (slice_get s.seats p)
 

@@ -1,4 +1,4 @@
-//! What a world of parties is: where a party stands, what its steps come to, and what a schedule does.
+//! The model of parties: the place of a party, what its steps result in, and what a schedule does.
 //!
 //! Definitions, and types that they name. `spin_world_core` plays them, and proves what holds of every schedule. Begin
 //! with [`Move`] and [`Stepped`]; `after` of specs/Schedules.antt says what a schedule does.

@@ -1,4 +1,4 @@
-//! The moves of a schedule, and what each comes to. Begin with [`Move`] and [`Outcome`].
+//! The moves of a schedule, and what each results in. Begin with [`Move`] and [`Outcome`].
 /// One move of a party. A schedule is a list of parties with their moves.
 #[derive(Copy)]
 pub enum Move<C, V> {

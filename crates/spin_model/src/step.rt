@@ -1,4 +1,4 @@
-//! What a step of a call comes to. Begin with [`Stepped`].
+//! What a step of a call results in. Begin with [`Stepped`].
 ghost use Rattle.std.specs.Prelude.{◌≡◌};
 ghost use Rattle.spin_model.specs.Acts.{stays, becomes};
 

@@ -16,6 +16,6 @@ module _ {T R : Type 0} where
   abbrev pub holds : MutexGuard T R → Type 0
   holds it = IsHolder use_of_party it.inner
 
-  -- the value that comes free once the hold is spent
+  -- the value that is free when the hold is consumed
   abbrev pub held_value : Held T R → Option T
   held_value it = inner_held_value it.inner

@@ -1,4 +1,4 @@
-//! `Mutex`, over the contract of a `TicketMutex` alone; and beside it three mutexes by their own names.
+//! `Mutex`, which uses only the contract of a `TicketMutex`; and the three other mutexes by their own names.
 //!
 //! Begin at [`mutex::Mutex`], and there at `lock`.
 #![tactic(auto)]

@@ -1,4 +1,4 @@
-//! `Mutex`, over the contract of an inner lock alone, and beside it three mutexes by their own names. Begin at
+//! `Mutex`, which uses only the contract of an inner lock, and three other mutexes by their own names. Begin at
 //! [`Mutex::lock`].
 ghost use Rattle.std.specs.Prelude.{◌≡◌, Some, None, [], IfSome};
 ghost use Rattle.spin_ticket.specs.TicketPasses.{history, party, lock_of, first_of, name_of, first_ticket};
@@ -207,7 +207,7 @@ impl<T, R> Mutex<T, R> {
 
     /// Releases the lock that the hold keeps.
     ///
-    /// The hold is spent, so no lock is released twice.
+    /// The call consumes the hold, so no lock is released twice.
     ///
     /// # Contract
     /// No clause. The call returns.
@@ -361,7 +361,7 @@ unsafe impl<T: Send, R> Send for MutexGuard<'_, T, R> {}
 // SAFETY: a shared guard lends a `&T` and no more.
 unsafe impl<T: Sync, R> Sync for MutexGuard<'_, T, R> {}
 
-// SAFETY: its new thread hands the value on to whoever comes next: what a guard asks.
+// SAFETY: its new thread passes the value on to the next user: what a guard asks.
 unsafe impl<T: Send, R> Send for Held<'_, T, R> {}
 
 // SAFETY: a shared hold lends nothing. It asks what the lock asks.

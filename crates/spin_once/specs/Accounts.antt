@@ -64,7 +64,7 @@ module _ {T S : Type 0} where
   Claims p (claim.Found found) = Since p (Ends (Value tt)) (here found.account)
   Claims p (claim.Init permit) = Since p Waits (running permit)
 
-  -- what a call with a closure comes to by its exchange, and by a look before it
+  -- what the exchange of a call with a closure results in, and a look before it
   abbrev pub Attempts : Place S → Result (Claim T S) (Awaiting T S) → Type 0
   Attempts p (Ok claim) = Claims p claim
   Attempts p (Err awaiting) = Since p Waits (here awaiting.account)

@@ -106,7 +106,7 @@ IsOnce given = Runs (model given) seat_of words_of Word
 abbrev pub Told : Option (Unit {0}) → (List OneMove → List Ending → ℕ → View → Type 0) → Option (Numbered View) → List Made → List Made → ℕ → Numbered View → Type 0
 Told given = Tells (model given) seat_of words_of
 
--- The steps: what each comes to and where it leads, by the number found
+-- The steps: what each results in and where it leads, by the number found
 
 abbrev pub Says : Type 1
 Says = List OneMove → List Ending → ℕ → View → Type 0

@@ -27,7 +27,7 @@ AsksWorld words = words ≡ codes "world" ∷ []
 abbrev pub AsksNothing : List (List ℕ) → Type 0
 AsksNothing words = ((workers times : ℕ) → ¬ (AsksCount words workers times)) × (¬ (AsksWorld words))
 
--- what a count of so many workers, each so many times, writes
+-- what a count of this many workers, each this many times, writes
 abbrev pub total_text : ℕ → ℕ → List ℕ
 total_text workers times = decimal (workers * times) ++ 10 ∷ []
 

@@ -427,7 +427,7 @@ fn passes_the_gate_once_each(rt: HostRuntime) {
     }
 }
 
-/// What a run comes to with so many bytes of memory left.
+/// The result of a run with this many bytes of memory left.
 fn ended_with<R: Abort + AllocGlobal + Threads + Wait + Sync>(
     rt: &R,
     run: &Run<'_>,
@@ -514,7 +514,7 @@ impl<R> Env for Told<'_, R> {
     }
 }
 
-/// What the program comes to over those arguments.
+/// What the program does with those arguments.
 fn ended_over<R: AllocGlobal + Threads + Wait + Sync>(rt: &R, arguments: &[&str]) -> Ended {
     let mut input = Tape::new(b"");
     let mut output = Paper::endless(rt.alloc());

@@ -18,7 +18,7 @@ struct Rows<'a, C, T, W, A = Answer<T>> {
     events: &'a [Event<W, T, A>],
 }
 
-/// Rows, each of a party, its move, what came of it, and the words after it.
+/// Rows, each of a party, its move, the outcome, and the words after it.
 macro_rules! rows {
     ($($party:literal $action:expr => $outcome:expr, $words:expr;)*) => {
         Rows {
@@ -44,7 +44,7 @@ macro_rules! answered {
     };
 }
 
-/// A world of so many parties.
+/// A world with this many parties.
 fn world<O: Object>(rt: &impl Abort, alloc: Global, object: O, parties: usize) -> World<O> {
     World::new(alloc, object, parties).expect(rt, "memory")
 }

@@ -23,11 +23,11 @@ module _ {T R : Type 0} where
   abbrev pub write_with : RwLockWriteGuard T R → T → RwLockWriteGuard T R
   write_with it x = record { writer = with_value it.writer x; strategy = it.strategy }
 
-  -- the value that nobody writes until the hold is spent
+  -- the value that nobody writes until the hold is consumed
   abbrev pub read_held_value : ReadHeld T R → Option T
   read_held_value it = it.permit.value
 
-  -- the value that comes free once the hold is spent
+  -- the value that is free when the hold is consumed
   abbrev pub write_held_value : WriteHeld T R → Option T
   write_held_value it = it.permit.value
 

@@ -126,12 +126,12 @@ is_out (Some v) = is_idle (seat_of v)
 abbrev pub IsOut : Option View → Type 0
 IsOut view = is_out view ≡ true
 
--- The courses of a call: its moves, and what they come to
+-- The courses of a call: its moves, and what they result in
 
 abbrev pub OneCourse : Type 1
 OneCourse = Course (Unit {0}) RwCall (Answer (Unit {0}))
 
--- a call that comes to read goes on after an exchange that found this word
+-- a call that wants to read goes on after an exchange that found this word
 abbrev pub still : RwCall → ℕ → Bool
 still TryRead n = is_some (grants TryRead n)
 still TryUpgradeableRead n = is_some (grants TryUpgradeableRead n)
@@ -158,7 +158,7 @@ abbrev pub Left : Bool → OneCourse
 Left true = Waits
 Left false = Ends Refused
 
--- a call that comes to read, and found this word last
+-- a call that wants to read, and found this word last
 abbrev pub Seeks : RwCall → ℕ → OneCourse
 Seeks call n = Begins call (Left (still call n))
 
@@ -218,7 +218,7 @@ IsPeek false n = IsStep false ReaderCount (Answered (Count (readers_in n)) None)
 abbrev pub peeks_by : ℕ → Says
 peeks_by old own outs n v = (v ≡ either_at old Reading Idle n) × IsPeek (n == old) n own outs
 
--- Who comes to read
+-- Who wants to read
 
 -- the call by which a reader of this view comes: it waits, or tries
 abbrev pub call_of : View → Bool → RwCall

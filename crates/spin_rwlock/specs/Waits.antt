@@ -18,7 +18,7 @@ use Rattle.spin_rwlock.specs.declared.rwlock.rule.View.TheVariants.{Writing, Wri
 use Rattle.spin_rwlock.specs.declared.rwlock.rule.Waiting.{Waiting}
 use Rattle.spin_rwlock.specs.declared.rwlock.upgradable.AsksOn.{AsksOn}
 
--- Of a call that comes to read: whatever it has made so far, by its next steps it has made moves of a course
+-- Of a call that wants to read: whatever it has made so far, by its next steps it has made moves of a course
 module _ {T K M R : Type 0} {k : kind.Ghosts K} {m : mode.Ghosts M} (call : RwCall) (was : Coming T K M R k m) where
   abbrev pub LeadsOn : OneCourse → Option (Numbered View) → Watch Done → Type 0
   LeadsOn course party seen =

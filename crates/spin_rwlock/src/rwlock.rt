@@ -91,7 +91,7 @@ impl<T, R> RwLock<T, R> {
     /// Tries to acquire upgradable shared access. Returns `None` if a writer or an upgradable reader holds the lock.
     ///
     /// It also returns `None` at the limit of readers. Like [`try_read`](Self::try_read) it makes a second
-    /// compare-exchange beside readers, and more only while other threads change the word.
+    /// compare-exchange if there are readers, and more only while other threads change the word.
     ///
     /// # Contract
     /// A guard is that of the upgradable reader. `None` promises nothing. Whether and when the call returns is not
@@ -184,7 +184,7 @@ impl<T, R> RwLock<T, R> {
 
     /// Releases the shared access that the hold keeps.
     ///
-    /// The hold is spent, so no reader is released twice.
+    /// The call consumes the hold, so no reader is released twice.
     ///
     /// # Contract
     /// No clause. The call returns.
@@ -194,7 +194,7 @@ impl<T, R> RwLock<T, R> {
 
     /// Releases the exclusive access that the hold keeps.
     ///
-    /// The hold is spent, so no writer is released twice.
+    /// The call consumes the hold, so no writer is released twice.
     ///
     /// # Contract
     /// No clause. The call returns.

@@ -60,7 +60,7 @@ module _ {K C A : Type 0} where
   abbrev pub newcomer : K → ℕ → Known K C A
   newcomer k p = record { opening = k; pass = p; seen = [] }
 
-  -- how often a pass stands in a view
+  -- how many entries of a view are those of this pass
   abbrev pub names : ℕ → List (Known K C A) → ℕ
   names p v = total (λ x. cond (x.pass == p) 1 0) v
 
@@ -70,7 +70,7 @@ module _ {K S C A H : Type 0} (m : Machine K S C A H) where
   after s [] = s
   after s (e ∷ es) = after (m.next e.pass e.call s) es
 
-  -- each call is made by one of n passes, where it may be, and has the plain answer
+  -- each call is made by one of n passes, at a state where that pass may make it, and has the answer of the plain lock
   abbrev pub IsLegalFrom : ℕ → S → List (Entry C A) → Type 0
   IsLegalFrom n s [] = Unit {0}
   IsLegalFrom n s (e ∷ es) =
@@ -92,8 +92,8 @@ module _ {K S C A H : Type 0} (m : Machine K S C A H) where
         → m.holds p (m.next p c (state k log)) ≡ m.held_after c (m.answer p c (state k log)) (m.holds p (state k log))
     pub steady : (p q : ℕ) (c : C) (s : S) → q ≢ p → m.holds p (m.next q c s) ≡ m.holds p s
 
-  -- a pass has made a call: the history that it knew before goes on to one that ends with the call and its answer,
-  -- is legal, and has of the pass's own calls one more, at the end
+  -- A pass has made a call. It knows a legal history now, which extends what it knew before, and ends with this call
+  -- and its answer. Of the pass's own calls only this one is new
   pub record Made (x : Known K C A) (c : C) (a : A) (y : Known K C A) : Type 0 where
     pub opening : y.opening ≡ x.opening
     pub pass : y.pass ≡ x.pass
@@ -102,7 +102,7 @@ module _ {K S C A H : Type 0} (m : Machine K S C A H) where
     pub own : calls_by x.pass y.seen ≡ calls_by x.pass x.seen ++ entry x.pass c a ∷ []
     pub legal : IsLegal x.opening y.seen
 
-  -- a pass has come to know this history, which is legal, begins with all that it knew and has of its calls just those that it made
+  -- A pass now knows this history, which is legal, and begins with all that it knew before. Its own calls in it are exactly those that it made
   pub record Met (x : Known K C A) (log : List (Entry C A)) (y : Known K C A) : Type 0 where
     pub opening : y.opening ≡ x.opening
     pub pass : y.pass ≡ x.pass
@@ -111,7 +111,7 @@ module _ {K S C A H : Type 0} (m : Machine K S C A H) where
     pub own : calls_by x.pass log ≡ calls_by x.pass x.seen
     pub legal : IsLegal x.opening log
 
-  -- what a pass knows agrees with the history of all
+  -- what a pass knows agrees with the history of all passes
   pub record Fits (k : K) (log : List (Entry C A)) (x : Known K C A) : Type 0 where
     pub opening : x.opening ≡ k
     pub given : x.pass < m.passes k

@@ -1,5 +1,5 @@
-//! `SeatedMutex` and `SeatedRwLock`, whose callers can compare what they did: each call stands in one history, and
-//! callers that meet know the same one.
+//! `SeatedMutex` and `SeatedRwLock`, whose callers can compare what they did: all calls form one history, and callers
+//! that meet know the same one.
 //!
 //! Begin with [`mutex::SeatedMutex`]; [`laws`] has what follows from a history. A *pass* is a place among the callers
 //! of one lock: each call takes a pass, and a clause sees the history that the pass knows.

@@ -1,4 +1,4 @@
-//! A lock on a table of two words, whose calls stand in one history. Begin with [`SeatedLock`]; each lock says by a
+//! A lock on a table of two words, whose calls are in one history. Begin with [`SeatedLock`]; each lock says by a
 //! machine of plain answers which calls may be made and what they answer ([`Calls`]).
 ghost use Rattle.std.specs.Prelude.{◌≡◌, ℕ};
 ghost use Rattle.spin_seated.specs.Histories.{Machine};
@@ -70,7 +70,7 @@ impl<C: Calls> TableRule<u64, View<Opening, C, Answer>, Opening> for Law<C> {
     ghost first = { all_passes C.machine };
 }
 
-/// A lock of one number, whose calls `C` stand in one history. The first word is the lock's, the second the value.
+/// A lock of one number, whose calls `C` are in one history. The first word is the lock's, the second the value.
 #[derive(Drop)]
 pub struct SeatedLock<C: Calls, A: Allocator = Global> {
     table: Table<u64, View<Opening, C, Answer>, Opening, Law<C>, A>,

@@ -9,7 +9,7 @@ mod plays;
 
 pub use crate::lock::{Answer, Opening};
 
-/// A call of a `SeatedMutex`, as it stands in a history.
+/// A call of a `SeatedMutex`, as it is in a history.
 #[derive(Clone, Copy)]
 pub enum Call {
     TryLock,
@@ -31,7 +31,7 @@ impl Calls for Call {
     fn laws() {}
 }
 
-/// A mutex of one number, whose calls stand in one history.
+/// A mutex of one number, whose calls are in one history.
 ///
 /// Like a `Mutex`, and callers can also prove what happened, not only what holds now.
 ///

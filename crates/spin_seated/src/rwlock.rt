@@ -18,7 +18,7 @@ pub enum SeatedHold {
     Write,
 }
 
-/// A call of a `SeatedRwLock`, as it stands in a history.
+/// A call of a `SeatedRwLock`, as it is in a history.
 #[derive(Clone, Copy)]
 pub enum Call {
     TryRead,
@@ -44,7 +44,7 @@ impl Calls for Call {
     fn laws() {}
 }
 
-/// A lock of one number for many readers or one writer, whose calls stand in one history.
+/// A lock of one number for many readers or one writer, whose calls are in one history.
 ///
 /// # Examples
 /// ```

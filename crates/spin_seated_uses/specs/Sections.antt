@@ -1,4 +1,4 @@
--- A pass that adds: each time that it is granted the lock, it reads, writes one more than it read or writes nothing, and lets go.
+-- A pass that adds: each time that it is granted the lock, it reads, writes one more than it read or writes nothing, and releases.
 use Rattle.std.specs.Prelude.{◌≡◌, ℕ, Bool, ◌+◌, ◌==◌, true, false, if◌then◌else◌, List, [], ◌∷◌, Option, Some, None, option_and_then}
 use Rattle.spin_seated.specs.declared.history.Entry.{Entry}
 use Rattle.spin_seated.specs.declared.mutex.Call.{Call}

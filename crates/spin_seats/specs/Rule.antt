@@ -89,7 +89,7 @@ at_word n waits word = if nat_lt word (seats n) then Coming waits word else gone
 abbrev pub IsAtWord : ℕ → Option View → ℕ → Type 0
 IsAtWord n view word = (waits : Bool) × (view ≡ Some (at_word n waits word))
 
--- The steps: what each comes to and where it leads, by the number found
+-- The steps: what each results in and where it leads, by the number found
 
 -- it has begun its `enter`, and looks again
 abbrev pub has_begun : Option View → Bool
@@ -105,7 +105,7 @@ abbrev pub call_of : Bool → SeatsCall
 call_of true = call.Enter
 call_of false = call.TryEnter
 
--- what it comes to where it finds this word
+-- what it results in if it finds this word
 abbrev pub met : ℕ → Bool → ℕ → Ending
 met n true found = GoingOn
 met n false found = if nat_lt found (seats n) then GoingOn else Answered Refused None
@@ -113,7 +113,7 @@ met n false found = if nat_lt found (seats n) then GoingOn else Answered Refused
 abbrev pub looks_by : ℕ → Bool → Option View → Says
 looks_by n waits view = step_by (has_begun view) (call_of waits) (met n waits) (at_word n waits)
 
--- whether a call waits that goes for a seat
+-- whether a call that tries to take a seat waits
 abbrev pub waits_in : Option View → Bool
 waits_in (Some (Coming waits word)) = waits
 waits_in _ = true

@@ -26,7 +26,7 @@ Answered = Next SeatsPoint (Answer (Unit {0}))
 abbrev pub granted : Answered
 granted = Answers Granted (Some Read)
 
--- a call that takes a seat goes for the word that it found
+-- a call that takes a seat tries to exchange the word that it found
 abbrev pub goes_for : ℕ → Answered
 goes_for w = Continue (Exchange w)
 
@@ -35,7 +35,7 @@ abbrev pub comes_by : ℕ → Answered → SeatsPoint → Act ℕ SeatsPoint (An
 comes_by n missed First = load_for (entered n) (λ p. gets p to_read) goes_for missed
 comes_by n missed (Exchange k) = retry k (entered n) (λ p. gets p to_read) granted goes_for missed
 
--- what its step comes to, where the step function answers so
+-- what its step results in, where the step function answers so
 abbrev pub comes_at : SeatsPoint → ℕ → Option ℕ → Answered → Stepped ℕ (Unit {0}) SeatsPoint (Answer (Unit {0}))
 comes_at First w to missed = stays w (either (is_some to) (goes_for w) missed)
 comes_at (Exchange k) w to missed = retried (λ n. n) (w == k) w to granted (goes_for w) missed

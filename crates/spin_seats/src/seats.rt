@@ -16,7 +16,7 @@ mod rule;
 pub use self::pass::Pass;
 pub use self::rule::{Entry, View};
 
-/// A lock of `N` seats, but of no more than [`MAX_SEATS`](crate::steps::MAX_SEATS): at most so many threads have a guard at
+/// A lock of `N` seats, but at most [`MAX_SEATS`](crate::steps::MAX_SEATS): at most so many threads have a guard at
 /// the same time.
 ///
 /// Waiting threads may overtake one another.

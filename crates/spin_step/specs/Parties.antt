@@ -50,7 +50,7 @@ entries_after s step e =
     let t = apply_some (with_entries s e) step in
     record { holders = t.holders; tickets = t.tickets; starvers = t.starvers }
 
--- somebody holds the lock, or stands in its queue
+-- somebody holds the lock, or waits in its queue
 abbrev pub is_held : Plain → Bool
 is_held s = not (is_empty s.holders && is_empty s.tickets)
 
@@ -63,12 +63,12 @@ abbrev pub first_alone_entered : List Ticket → Bool
 first_alone_entered [] = true
 first_alone_entered (t ∷ ts) = none_entered ts
 
--- nobody holds beside a writer, at most one holder may upgrade, and at most one ticket has entered
+-- a writer is the only holder, at most one holder may upgrade, and at most one ticket has entered
 pub record IsExclusive (s : Plain) : Type 0 where
   pub writer : 0 < count_kind writing s.holders → length s.holders ≡ 1
   pub one_upgradable : upgraders s.holders ≤ 1
   pub one_entered : first_alone_entered s.tickets ≡ true
 
--- at most one holder stands
+-- there is at most one holder
 abbrev pub OneHolds : Plain → Type 0
 OneHolds s = length s.holders ≤ 1

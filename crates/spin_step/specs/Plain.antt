@@ -25,6 +25,7 @@ pub data Phase : Type 0 where
   running : ℕ → Phase
   complete : Phase
 
+-- The lock itself. By its cap only so many may hold at a time; the cap of a fair lock says how many may starve
 pub record Plain : Type 0 where
   pub cap : ℕ  -- the most holders, or the most starvers, that may stand
   pub group : ℕ  -- how many arrivals make a group at a barrier
@@ -43,7 +44,7 @@ fresh cap group first = record { cap = cap; group = group; holders = []; tickets
 abbrev pub ticket_limit : ℕ
 ticket_limit = 18446744073709551615
 
--- what a party may ask of the lock
+-- What a party may ask of the lock. To ask `to_lock_starving_alone` is to ask for the lock only if there is no other starver
 pub data Ask : Type 0 where
   to_read : Ask
   to_read_upgradable : Ask

@@ -1,5 +1,5 @@
-//! Every change of a lock's word, as a pure function from the word before to the word after; and the plain lock, of
-//! which each of them makes one step.
+//! Every change of a lock's word, as a pure function from the word before to the word after; and the plain lock, on
+//! which each of these functions makes one step.
 //!
 //! Begin with [`flag`], the smallest lock. A function that may refuse returns `None` and gives no new word.
 //!

@@ -26,7 +26,7 @@ tells upgradable word = (word % weight reading) == weight upgradable
 tells asking word = (word % weight reading) == weight asking
 tells writing word = word == weight writing
 
--- no holder keeps out one that comes to read, or to read and upgrade
+-- no holder keeps out one that wants to read, or to read and upgrade
 abbrev pub lets_in : Kind → ℕ → Bool
 lets_in reading word = (word % weight reading == 0) || (word % weight reading == weight upgradable)
 lets_in _ word = word % weight reading == 0

@@ -23,7 +23,7 @@ use Rattle.spin_model.specs.Operations.{adds, subtracts}
 abbrev pub granted : {V : Type 0} → Hold → Next RwPoint (Answer V)
 granted held = Answers Granted (Some held)
 
--- a call that looks first goes for the word that it found
+-- a call that looks first tries to exchange the word that it found
 abbrev pub goes_for : {V : Type 0} → ℕ → Next RwPoint (Answer V)
 goes_for w = Continue (Exchange w)
 
@@ -32,7 +32,7 @@ abbrev pub comes_by : {V : Type 0} → (ℕ → Option ℕ) → Ask → Hold →
 comes_by f ask held missed (Exchange n) = retry n f (λ p. gets p ask) (granted held) goes_for missed
 comes_by f ask held missed _ = load_for f (λ p. gets p ask) goes_for missed
 
--- what its step comes to, where the step function answers so
+-- what its step results in, where the step function answers so
 abbrev pub comes_at : {V : Type 0} → RwPoint → ℕ → Option ℕ → Hold → Next RwPoint (Answer V) → Stepped ℕ V RwPoint (Answer V)
 comes_at (Exchange n) w to held missed = retried (λ k. k) (w == n) w to (granted held) (goes_for w) missed
 comes_at _ w to held missed = stays w (either (is_some to) (goes_for w) missed)

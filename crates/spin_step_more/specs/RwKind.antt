@@ -35,7 +35,7 @@ rw_calls (gives_back (Some Upgradable)) = true
 rw_calls (gives_back (Some Write)) = true
 rw_calls _ = false
 
--- a party that waits to write makes its exchange without a look, one that comes to read looks first, and one that upgrades asks first
+-- a party that waits to write makes its exchange without a look, one that wants to read looks first, and one that upgrades asks first
 abbrev pub rw_undisturbed_steps : Asked → ℕ
 rw_undisturbed_steps (waits to_write) = 1
 rw_undisturbed_steps what = steps_past_a_look what

@@ -1,5 +1,5 @@
 //! The changes of the words of the larger locks: the flag with its starvers, readers and a writer, and the barrier.
-//! They are made as those of `spin_step`, over the same plain lock.
+//! They have the same form as those of `spin_step`, over the same plain lock.
 //!
 //! Begin with [`fair`].
 #![tactic(auto)]

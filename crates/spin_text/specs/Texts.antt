@@ -53,7 +53,7 @@ abbrev pub played : (h : Header) → List (ℕ × Move (CallOf h) ℕ) → List 
 played (Flag value parties) entries = transcript_text (flag_machine value) parties entries
 played (Ticket value first parties) entries = transcript_text (ticket_machine value first) parties entries
 played (Rw value cap parties) entries = transcript_text (rw_machine value cap) parties entries
--- the patience of a lock of so many spins is one look more
+-- the patience of a lock with this many spins is one look more
 played (Fair value cap spins parties) entries = transcript_text (fair_machine value cap (spins + 1)) parties entries
 played (Barrier n parties) entries = transcript_text (barrier_machine n) parties entries
 played (Once parties) entries = transcript_text (once_machine None) parties entries
@@ -72,7 +72,7 @@ pub record Streams : Type 0 where
   pub written_after : Option (List ℕ)
   pub sink_failed : Bool
 
--- the text is what the bytes come to
+-- the text is the result of the bytes
 abbrev pub PlaysBytes : List ℕ → List ℕ → Type 0
 PlaysBytes bytes text = (s : Script) × Spells bytes s × (text ≡ played s.header s.entries)
 
@@ -110,7 +110,7 @@ StopsWriting Before Unwritten AtWrite errors.Memory = Before errors.Memory × Un
 StopsWriting Before Unwritten AtWrite (errors.BadLine n) = Before (errors.BadLine n) × Unwritten
 StopsWriting Before Unwritten AtWrite errors.Write = AtWrite
 
--- the text is what the entries that the lines spell come to
+-- the text is the result of the entries that the lines spell
 abbrev pub PlaysLines : {W C L : Type 0} → Calls C → Machine W ℕ C L (Answer ℕ) → ℕ → List (List (List ℕ)) → List ℕ → Type 0
 PlaysLines {C = C} calls m parties lines text =
     (es : List (ℕ × Move C ℕ)) × EntriesFit calls es × (lines ≡ map (entry_words calls) es) × (text ≡ transcript_text m parties es)

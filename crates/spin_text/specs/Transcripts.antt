@@ -56,7 +56,7 @@ numbers_text [] = []
 numbers_text (n ∷ []) = decimal n
 numbers_text (n ∷ m ∷ more) = decimal n ++ codes " " ++ numbers_text (m ∷ more)
 
--- the line's number, the party, what came of its move, and the words after it
+-- the line's number, the party, the outcome of its move, and the words after it
 abbrev pub event_line : ℕ → ℕ → Outcome (Answer ℕ) ℕ → List ℕ → List ℕ
 event_line line party what numbers =
     decimal line ++ codes " " ++ decimal party ++ codes " " ++ outcome_text what ++ codes ": " ++ numbers_text numbers ++ codes "\n"
@@ -79,6 +79,6 @@ transcript_from m first schedule =
     let last = after m first schedule in
     schedule_lines m first schedule ++ end_line (m.numbers last.words) last.value
 
--- in a world of so many parties
+-- in a world with this many parties
 abbrev pub transcript_text : {W C L : Type 0} → Machine W ℕ C L (Answer ℕ) → ℕ → List (ℕ × Move C ℕ) → List ℕ
 transcript_text m parties schedule = transcript_from m (at_first m parties) schedule

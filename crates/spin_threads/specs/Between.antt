@@ -20,7 +20,7 @@ pub record Between {W V C L A X S : Type 0} (m : Machine W V C L A) (seat_of : X
   -- the words encode exactly its holders, tickets and starvers
   pub encodes : m.numbers seen.state.words ≡ encoded m.lock_kind seen.plain
   pub words_are : words ≡ words_of seen.state.words
-  -- no writer stands beside another holder, and no served ticket beside another
+  -- a writer is the only holder, and at most one ticket has entered
   pub exclusive : IsExclusive seen.plain
   -- each party has in it exactly what its view says
   pub stand : All (λ v. StandsFor seen.plain v.1 (seen.span v.1) (Some (seat_of v.0))) parties

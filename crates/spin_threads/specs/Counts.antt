@@ -19,7 +19,7 @@ steps_since m parties party history = (seen_after m (opening m parties) history)
 pub record IsWithinLimit {W V C L A X : Type 0} (m : Machine W V C L A) (call : C) (view : Option (Numbered X)) (old new : List (Entry C V)) : Type 0 where
   pub party : ℕ
   pub is_number : IsNumber party view
-  -- the history is that of a world of so many parties, in which no move of it is passed over
+  -- the history is that of a world with this many parties, in which no move of it is passed over
   pub parties : ℕ
   pub played : IsPlayed m parties new
   -- it was so long as the call was answered

@@ -24,7 +24,7 @@ IsInCall {L = L} call seat = (l : L) × (held : Option Hold) × (seat ≡ Some (
 pub record AtAMoment {W V C L A X : Type 0} (m : Machine W V C L A) (call : C) (view : Option (Numbered X)) (old new : List (Entry C V)) (P : Plain → Type 0) : Type 0 where
   pub party : ℕ
   pub is_number : IsNumber party view
-  -- the history is that of a world of so many parties, in which no move of it is passed over
+  -- the history is that of a world with this many parties, in which no move of it is passed over
   pub parties : ℕ
   pub played : IsPlayed m parties new
   -- it was so long then
@@ -49,7 +49,7 @@ Found {V = V} {C = C} m View call answer P =
 pub record AsAnswered {W V C L A X : Type 0} (m : Machine W V C L A) (call : C) (answer : A) (view : Option (Numbered X)) (old new : List (Entry C V)) (P : Plain → Type 0) : Type 0 where
   pub party : ℕ
   pub is_number : IsNumber party view
-  -- the history is that of a world of so many parties, in which no move of it is passed over
+  -- the history is that of a world with this many parties, in which no move of it is passed over
   pub parties : ℕ
   pub played : IsPlayed m parties new
   -- it was so long before the step that answered, and the party was in this call

@@ -17,7 +17,7 @@ use Rattle.spin_world.specs.Turns.{tickets_gone}
 pub record EntersInTurn {X : Type 0} (first : ℕ) (view : Option (Numbered X)) (old new : List Made) : Type 0 where
   pub party : ℕ
   pub is_number : IsNumber party view
-  -- the history is that of a world of so many parties, in which no move of it is passed over
+  -- the history is that of a world with this many parties, in which no move of it is passed over
   pub parties : ℕ
   pub played : IsPlayed (model first) parties new
   -- it was so long as the party had entered

@@ -72,7 +72,7 @@ Made = Entry TicketCall (Unit {0})
 abbrev pub Word : ℕ → ℕ → List View → Type 0
 Word = Encodes part 0 next_word serving_word
 
--- of the next number, the trace with the served number beside it, and the parties, under the name of the lock's trace and the number of its first ticket
+-- of the next number, the trace with the served number, and the parties, under the name of the lock's trace and the number of its first ticket
 abbrev pub IsQueue : ℕ → ℕ → ℕ → Trace Made ℕ → List (Numbered View) → Type 0
 IsQueue name first = Runs (model first) seat_of words_of Word name
 
@@ -87,7 +87,7 @@ Says = List OneMove → List Ending → ℕ → View → Type 0
 abbrev pub Told : ℕ → Says → Option (Numbered View) → List Made → List Made → ℕ → Numbered View → Type 0
 Told first = Tells (model first) seat_of words_of
 
--- The steps: what each comes to and where it leads, by the number found
+-- The steps: what each results in and where it leads, by the number found
 
 abbrev pub goes_on : ℕ → Ending
 goes_on n = GoingOn
@@ -102,15 +102,15 @@ number_of (Some (Trying n)) = n
 number_of (Some (LoadedServing n)) = n
 number_of _ = 0
 
--- `lock` goes for the number that it found, or looks again where no ticket is left
+-- `lock` tries to take the number that it found, or looks again if no ticket is left
 abbrev pub going : ℕ → View
 going n = if is_left n then Going n else Coming
 
--- it waits with the ticket that it expected to be next, or goes for the number that it found
+-- it waits with the ticket that it expected to be next, or tries to take the number that it found
 abbrev pub taken : ℕ → ℕ → View
 taken next n = if n == next then Waiting next else going n
 
--- the party with this ticket enters where its number is served
+-- the party with this ticket enters if its number is served
 abbrev pub entered : ℕ → ℕ → View
 entered number n = if n == number then Entered number else Waiting number
 

@@ -1,4 +1,4 @@
--- What a waiting `lock` comes to by one attempt: to take its ticket, and to enter with it.
+-- What one attempt of a waiting `lock` results in: an attempt to take its ticket, and one to enter with it.
 use Rattle.std.specs.Prelude.{◌≡◌, ◌⊎◌, Some, Result, IfOk, IfErr}
 use Rattle.spin_core.specs.Passes.{Waits, Ends}
 use Rattle.spin_model.specs.declared.answer.Answer.TheVariants.{Granted}

@@ -147,7 +147,7 @@ impl<T, R> TicketMutex<T, R> {
 
     /// Releases the lock that the hold keeps, and serves the next ticket.
     ///
-    /// The hold is spent, so no lock is released twice.
+    /// The call consumes the hold, so no lock is released twice.
     ///
     /// # Contract
     /// No clause. The call returns.

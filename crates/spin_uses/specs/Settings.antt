@@ -7,7 +7,7 @@ use Rattle.spin_uses.specs.declared.settings.Setting.TheVariants.{Port, Workers,
 use Rattle.spin_uses.specs.declared.settings.Settings.{Settings}
 use Rattle.spin_uses.specs.declared.settings.BadLine.{BadLine}
 
--- decimal digits, of a number of so many bits. A plus may stand first
+-- decimal digits, of a number of this many bits. A plus may come first
 abbrev pub IsNumber : ℕ → List ℕ → ℕ → Type 0
 IsNumber bits value n = let digits = without_leading_plus value in IsNumeral 10 digits × (digits_value 10 digits ≡ n) × (n < 2 ^ bits)
 

@@ -175,7 +175,7 @@ pub fn replay<A: Allocator>(
     Ok(balances)
 }
 
-/// States what each replay comes to. What an account has and what was paid out of it is what it had and what was paid
+/// States what each replay results in. What an account has and what was paid out of it is what it had and what was paid
 /// into it. A ledger's journal is such a replay.
 pub fn a_balance_is_what_came_less_what_went()
     ensures { (opening balances : List ℕ) (journal : List Transfer) (account : ℕ) → replayed opening journal ≡ Some balances → slice_index balances account + paid_out account journal ≡ slice_index opening account + paid_in account journal }

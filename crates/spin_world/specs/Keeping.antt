@@ -105,6 +105,6 @@ has_just_looked p (m ∷ ms) = if m.party == p then is_look m.step_kind else has
 abbrev pub LooksFirst : {V : Type 0} → OnceMachine V → ℕ → Entries V → Type 0
 LooksFirst m n past = (p : ℕ) → (scene m (seen_at m n past) p Step).change ≡ Some (gets p to_begin) → has_just_looked p ((seen_at m n past).span p) ≡ true
 
--- while the word does not say that there is a value, a closure may be writing it: what a step comes to does not depend on what lies there
+-- while the word does not say that there is a value, a closure may be writing it: what a step results in does not depend on what lies there
 abbrev pub LooksWhereComplete : {V : Type 0} → OnceMachine V → Type 0
 LooksWhereComplete {V} m = (w : ℕ) (u v : Option V) (c : OnceCall V) (l : OncePoint) (h : Option Hold) → (w ≡ 2 → ⊥) → m.step w u c l h ≡ m.step w v c l h

@@ -49,7 +49,7 @@ abbrev pub transcripts_of : {W V C L A : Type 0} → Machine W V C L A → State
 transcripts_of m s [] = []
 transcripts_of m s (run ∷ runs) = with_begins [] (events_of m s run) ∷ transcripts_of m (after m s run) runs
 
--- they come to the state of one run of all their schedules joined; their events together tell that schedule's scenes; and all that is promised of a schedule is so of the joined one
+-- they end in the state of one run of all their schedules joined; their events together tell that schedule's scenes; and all that is promised of a schedule is so of the joined one
 pub record RunsAreOne {W V C L A : Type 0} (m : Machine W V C L A) (s : State W V C L) (runs : List (List (ℕ × Move C V))) : Type 0 where
   pub state : after_runs m s runs ≡ after m s (joined runs)
   pub tells : TellsAfterAnyPast m s (joined runs) (joined (transcripts_of m s runs))

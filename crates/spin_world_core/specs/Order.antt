@@ -10,7 +10,7 @@ use Rattle.spin_model.specs.StepKinds.{StepKind, is_look}
 use Rattle.spin_model.specs.Calls.{LockKind, Asked, waits, waits_or_starves, tries, Mark, AnyOf}
 use Rattle.spin_world_core.specs.Spans.{own, own_count}
 
--- what a call that waits for its turn without a look goes for, by the plain steps that it has made. A call that comes to read or to a queue looks first
+-- what a call that waits for its turn without a look goes for, by the plain steps that it has made. A call that wants to read, or to enter a queue, looks first
 abbrev pub goes_for : Asked → List Change → Option Ask
 goes_for (waits to_write) [] = Some to_write
 goes_for (waits to_lock_starving) [] = Some to_lock_starving

@@ -212,7 +212,7 @@ is_in_place owned OwnerGet (Some seat) = owned
 is_in_place owned (OwnerSet v) (Some seat) = owned
 is_in_place owned _ _ = false
 
--- what an event comes to that is not skipped, from the value before it to the one after it
+-- what an event that is not skipped results in, from the value before it to the one after it
 
 abbrev pub IsStep : {V A : Type 0} → Outcome A V → Type 0
 IsStep outcome.GoingOn = Unit {0}
@@ -284,9 +284,9 @@ pub record Keeps {W V C L A : Type 0} (m : Machine W V C L A) (s : Scene W V C L
   pub encodes : m.numbers s.after.state.words ≡ encoded m.lock_kind s.after.plain
   -- every party's entries are what its place says
   pub places : (q : ℕ) → StandsFor s.after.plain q (s.after.span q) (slice_get s.after.state.seats q)
-  -- no writer stands beside another holder, and no entered ticket beside another
+  -- a writer is the only holder, and at most one ticket has entered
   pub exclusive : IsExclusive s.after.plain
-  -- nor do holders and tickets stand in one lock
+  -- and no lock has both holders and tickets
   pub one_list : (is_empty s.after.plain.holders || is_empty s.after.plain.tickets) ≡ true
   -- the value is the one last written
   pub value_is : s.after.state.value ≡ s.after.written

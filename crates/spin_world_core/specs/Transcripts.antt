@@ -27,7 +27,7 @@ abbrev pub without_begin : {V A : Type 0} → Outcome A V → Outcome A V
 without_begin (outcome.Answered a b) = outcome.Answered a None
 without_begin o = o
 
--- the event has the party of the scene, what came of its move, and the words after it
+-- the event has the party of the scene, the outcome of its move, and the words after it
 pub record TellsScene {W V C L A : Type 0} (s : Scene W V C L A) (e : Event W V A) : Type 0 where
   pub party : e.party ≡ s.party
   pub outcome : without_begin e.outcome ≡ s.outcome

@@ -18,7 +18,7 @@ abbrev pub seen_after : {W V C L A : Type 0} → Machine W V C L A → Seen W V 
 seen_after m seen [] = seen
 seen_after m seen (e ∷ es) = seen_after m (scene m seen e.0 e.1).after es
 
--- what a move comes to after a schedule
+-- what a move results in after a schedule
 abbrev pub outcome_after : {W V C L A : Type 0} → Machine W V C L A → ℕ → List (ℕ × Move C V) → ℕ → Move C V → Outcome A V
 outcome_after m n past p move = (happens m (after m (at_first m n) past) p move).outcome
 
@@ -40,7 +40,7 @@ abbrev pub is_quiet : {C V : Type 0} → (C → Bool) → ℕ → List (ℕ × M
 is_quiet keeps p [] = true
 is_quiet keeps p (e ∷ es) = (not (e.0 == p) || is_quiet_move keeps e.1) && is_quiet keeps p es
 
--- two schedules one after the other come to the same as the two joined
+-- two schedules one after the other result in the same as the two joined
 pub record RunsJoin {W V C L A : Type 0} (m : Machine W V C L A) (s : State W V C L) (first second : List (ℕ × Move C V)) : Type 0 where
   pub state : after m (after m s first) second ≡ after m s (first ++ second)
   pub events : events_of m s first ++ events_of m (after m s first) second ≡ events_of m s (first ++ second)

@@ -120,15 +120,15 @@ module _ {W V C L A : Type 0} (m : Machine W V C L A) where
           })
           move
 
-  -- what is awaited of the party d, which sits so
+  -- the move that a round awaits of the party d, which has the seat o
   abbrev pub awaited_of : ℕ → Option (Seat C L) → Test V C L A
   awaited_of d o q move what x = (q == d) && is_awaited m o move what
 
-  -- an idle outcome is not, and no other party's
+  -- a move with an idle outcome is not that move, and neither is a move of another party
   pub unawaited : (d q : ℕ) (o : Option (Seat C L)) (move : Move C V) (what : Outcome A V) → (q ≡ d → is_idle what ≡ true) → ((q == d) && is_awaited m o move what) ≡ false
   unawaited d q o move what idle = grind (arith, idle, eqb-true)
 
-  -- of a party that has leaked nothing comes
+  -- a party that has leaked makes no such move any more
   pub left_never : (seen : Seen W V C L) (es : List (ℕ × Move C V)) (d : ℕ) (o : Option (Seat C L)) → has_left (slice_get seen.state.seats d) ≡ true → occurs m (awaited_of d o) seen.state es ≡ true → ⊥
   left_never seen [] d o left found = false≢true found
   left_never seen (e ∷ es) d o left found =
@@ -172,7 +172,7 @@ module _ {W V C L A : Type 0} (m : Machine W V C L A) where
         sets = λ v y there may. absurd (no_owner seen q c l h at may);
       })
 
-  -- so it takes one before it begins anything
+  -- so a party in a call takes a step of it before it begins the release of a hold
   pub step_first : (seen : Seen W V C L) (es : List (ℕ × Move C V)) (d : ℕ) (c : C) (l : L) (h : Option Hold) (held : Hold) → slice_get seen.state.seats d ≡ Some (Calling c l h)
       → occurs m (awaited_of d (Some (Holding held))) seen.state es ≡ true → occurs m (awaited_of d (Some (Calling c l h))) seen.state es ≡ true
   step_first seen [] d c l h held there found = found

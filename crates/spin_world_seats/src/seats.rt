@@ -34,8 +34,8 @@ impl Seats {
     /// Creates a lock of `seats` free seats, at most `spin_seats::steps::MAX_SEATS`.
     ///
     /// # Contract
-    /// The object has this number. Its machine is that of a lock of so many seats, up to the limit (`IsSeats`): it
-    /// opens free, and each call asks what [`SeatsCall`] says.
+    /// The object has this number of seats. Its machine is that of a lock with as many, up to the limit (`IsSeats`).
+    /// All seats are free at first, and each call asks what [`SeatsCall`] says.
     pub fn new(seats: usize) -> Seats
         ensures fields { result ≡ record { seats = seats } }
         ensures named { IsSeats seats (⟦<Seats as Object>⟧.machine result) }

@@ -27,7 +27,7 @@ FairAct V = Act ℕ FairPoint (Answer V)
 abbrev FairMachine : Type 0 → Type 0
 FairMachine V = Machine ℕ V FairCall FairPoint (Answer V)
 
--- the lock with these steps in the place of its own
+-- the lock with these steps instead of its own
 abbrev with_steps : {V : Type 0} → V → ℕ → (FairCall → FairPoint → Option Hold → FairAct V → FairAct V) → FairMachine V
 with_steps v cap steps = machine_of (record (fair_table v cap 1) { act = λ c l h. steps c l h (act_of cap 1 c l h) })
 
@@ -89,7 +89,7 @@ lock_beside_a_holder = (0, Begin TryLock) ∷ (0, Step) ∷ (1, Begin Lock) ∷ 
 abbrev pub returns_to_its_exchange : {V : Type 0} → V → FairMachine V
 returns_to_its_exchange v = lock_by v (λ l act. elim l [ Look n ↦ looks_by n (Continue (Attempt n)) (λ w. Continue (Attempt n)) | _ ↦ act ])
 
--- the lock is let go between its second look and its exchange
+-- the lock is released between its second look and its exchange
 abbrev pub lock_as_it_is_let_go : {V : Type 0} → Entries V
 lock_as_it_is_let_go =
     (0, Begin TryLock) ∷ (0, Step) ∷ (1, Begin Lock) ∷ (1, Step) ∷ (1, Step) ∷ (1, Step) ∷ (0, Begin Release) ∷ (0, Step) ∷ (1, Step) ∷ []
@@ -124,7 +124,7 @@ try_beside_a_holder = (0, Begin TryLock) ∷ (0, Step) ∷ (1, Begin TryLockStar
 abbrev pub waits_for_ever : {V : Type 0} → V → FairMachine V
 waits_for_ever v = starver_lock_by v (λ l act. elim l [ Await ↦ load (λ w. Continue Await) | _ ↦ act ])
 
--- the flag is set as the starver tries, and let go then
+-- the flag is set when the starver tries, and is cleared afterwards
 abbrev pub let_go_beside_a_starver : {V : Type 0} → Entries V
 let_go_beside_a_starver =
     (0, Begin TryLock) ∷ (0, Step) ∷ (1, Begin Starve) ∷ (1, Step) ∷ (1, Step) ∷ (1, Begin StarverLock) ∷ (1, Step)

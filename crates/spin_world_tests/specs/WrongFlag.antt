@@ -26,7 +26,7 @@ FlagAct V = Act Bool FlagPoint (Answer V)
 abbrev Entries : Type 0 → Type 0
 Entries V = List (ℕ × Move FlagCall V)
 
--- the flag with these steps in the place of its own
+-- the flag with these steps instead of its own
 abbrev with_steps : {V : Type 0} → V → (FlagCall → FlagAct V → FlagAct V) → FlagMachine V
 with_steps v steps = machine_of (record (flag_table v) { act = λ c l h. steps c (act_of c l h) })
 

@@ -18,7 +18,7 @@ use Rattle.spin_world.specs.Keeping.{Entries}
 abbrev OnceStep : Type 0 → Type 0
 OnceStep V = Stepped ℕ V OncePoint (Answer V)
 
--- the cell with these steps in the place of its own
+-- the cell with these steps instead of its own
 abbrev with_steps : {V : Type 0} → Option V → (ℕ → Option V → OnceCall V → OncePoint → Option Hold → OnceStep V → OnceStep V) → OnceMachine V
 with_steps {V} opening steps =
     let m : OnceMachine V = once_machine opening in record m { step = λ w value c l h. steps w value c l h (m.step w value c l h) }
@@ -46,7 +46,7 @@ two_closures u v = (0, Begin (CallOnce u)) ∷ (0, Step) ∷ (0, Step) ∷ (0, S
 abbrev pub sticks_silently : (V : Type 0) → OnceMachine V
 sticks_silently V = with_steps None (λ w value c l h step. elim c [ TryCallOnceErr ↦ elim l [ Run ↦ stays w (Answers Failed h) | _ ↦ step ] | _ ↦ step ])
 
--- the same, where its step reads as no plain step
+-- the same, but for its step the machine names no plain step
 abbrev pub sticks : (V : Type 0) → OnceMachine V
 sticks V = with_changes (sticks_silently V) (λ c l made. elim c [ TryCallOnceErr ↦ elim l [ Run ↦ None | _ ↦ made ] | _ ↦ made ])
 

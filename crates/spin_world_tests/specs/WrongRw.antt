@@ -33,7 +33,7 @@ RwTable V = Table ℕ V RwCall RwPoint (Answer V)
 abbrev Entries : Type 0 → Type 0
 Entries V = List (ℕ × Move RwCall V)
 
--- a lock with these steps in the place of its own
+-- a lock with these steps instead of its own
 abbrev with_cap : {V : Type 0} → V → ℕ → (RwCall → RwPoint → Option Hold → RwAct V → RwAct V) → RwMachine V
 with_cap {V} v cap steps = let t : RwTable V = rw_table v cap in machine_of (record t { act = λ c l h. steps c l h (act_of cap c l h) })
 
@@ -53,7 +53,7 @@ writes_over ask lost = exchange (stores (weight writing)) (λ p. gets p ask) (gr
 abbrev turns_to_reading : {V : Type 0} → ℕ → RwAct V
 turns_to_reading more = store (tells writing) (adds more) (λ p. turns p writing reading) (Answers Done (Some hold.Read))
 
--- `try_upgrade` is granted while readers stand
+-- `try_upgrade` is granted while there are readers
 abbrev pub upgrades_at_once : {V : Type 0} → V → RwMachine V
 upgrades_at_once v = with_steps v (λ c l h act. elim c [ TryUpgrade ↦ writes_over to_upgrade (Answers Refused h) | _ ↦ act ])
 
@@ -63,7 +63,7 @@ read_alone = (0, Begin TryRead) ∷ (0, Step) ∷ (0, Step) ∷ []
 abbrev pub upgrade_beside_a_reader : {V : Type 0} → Entries V
 upgrade_beside_a_reader = read_alone ++ (1, Begin TryUpgradeableRead) ∷ (1, Step) ∷ (1, Step) ∷ (1, Begin TryUpgrade) ∷ (1, Step) ∷ []
 
--- `upgrade` asks and is granted in one event, while readers stand
+-- `upgrade` asks and is granted in one event, while there are readers
 abbrev pub upgrades_unasked : {V : Type 0} → V → RwMachine V
 upgrades_unasked v = upgrade_by v (λ l act. writes_over to_upgrade_asked (Continue Asking))
 
@@ -129,7 +129,7 @@ writes_by_chance v = with_steps v (λ c l h act. elim c [ TryWrite ↦ load (λ 
 abbrev pub write_alone : {V : Type 0} → Entries V
 write_alone = (0, Begin TryWrite) ∷ (0, Step) ∷ []
 
--- `upgrade` lets go, and then comes to write as anybody does
+-- `upgrade` releases, and then begins to write as anybody does
 abbrev upgrade_anew : {V : Type 0} → RwPoint → RwAct V
 upgrade_anew (Exchange n) = weak_exchange 0 write (λ p. gets p to_write) (granted hold.Write) (Continue (Exchange 0))
 upgrade_anew _ = store (tells upgradable) (subtracts (weight upgradable)) (λ p. releases p upgradable) (Continue (Exchange 0))

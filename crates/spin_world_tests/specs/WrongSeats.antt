@@ -25,11 +25,11 @@ SeatsAct = Act ℕ SeatsPoint (Answer (Unit {0}))
 abbrev Entries : Type 0
 Entries = List (ℕ × Move SeatsCall (Unit {0}))
 
--- a lock of so many seats with these steps in the place of its own
+-- a lock with this many seats with these steps instead of its own
 abbrev with_steps : ℕ → (SeatsCall → SeatsPoint → Option Hold → SeatsAct → SeatsAct) → SeatsMachine
 with_steps n steps = let t : SeatsTable = seats_table n in machine_of (record t { act = λ c l h. steps c l h (act_of n c l h) })
 
--- the party tries to take a seat, and does so where it is alone
+-- the party tries to take a seat, and takes it if it is alone
 abbrev takes_a_seat : ℕ → Entries
 takes_a_seat p = (p, Begin call.TryEnter) ∷ (p, Step) ∷ (p, Step) ∷ []
 
@@ -48,7 +48,7 @@ leaves_for_two =
 abbrev pub one_of_two_leaves : Entries
 one_of_two_leaves = takes_a_seat 0 ++ (takes_a_seat 1 ++ (0, Begin call.Leave) ∷ (0, Step) ∷ [])
 
--- a try looks for ever
+-- a try that looks for ever
 abbrev pub tries_for_ever : SeatsMachine
 tries_for_ever = with_steps 2 (λ c l h act. elim c [ call.TryEnter ↦ load (λ w. Continue First) | _ ↦ act ])
 

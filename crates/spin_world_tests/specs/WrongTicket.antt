@@ -27,7 +27,7 @@ Entries V = List (ℕ × Move TicketCall V)
 abbrev TicketStep : Type 0 → Type 0
 TicketStep V = Stepped TicketWords V TicketPoint (Answer V)
 
--- the lock whose first ticket has this number, with these steps in the place of its own
+-- the lock whose first ticket has this number, with these steps instead of its own
 abbrev with_steps : {V : Type 0} → V → ℕ → (TicketWords → TicketCall → TicketPoint → Option Hold → TicketStep V → TicketStep V) → TicketMachine V
 with_steps {V} v first steps =
     let m : TicketMachine V = ticket_machine v first in record m { step = λ w value c l h. steps w c l h (m.step w value c l h) }
@@ -40,13 +40,13 @@ looks_backwards v = with_steps v 0 (λ w c l h step. elim l [
   | _ ↦ step
 ])
 
--- between the two loads a second party queues and the first lets go: somebody holds or queues at every moment
+-- between the two loads a second party queues and the first releases: somebody holds or queues at every moment
 abbrev pub look_beside_a_queue : {V : Type 0} → Entries V
 look_beside_a_queue =
     (0, Begin TryLock) ∷ (0, Step) ∷ (0, Step) ∷ (0, Step) ∷ (1, Begin IsLocked) ∷ (1, Step)
     ∷ (2, Begin Lock) ∷ (2, Step) ∷ (2, Step) ∷ (0, Begin Release) ∷ (0, Step) ∷ (1, Step) ∷ []
 
--- `lock` takes its ticket only where none stands
+-- `lock` takes its ticket only if there is none
 abbrev pub queues_behind_nobody : {V : Type 0} → V → TicketMachine V
 queues_behind_nobody v = with_steps v 0 (λ w c l h step. elim l [ LoadNext ↦ either (w.next == w.serving) step (stays w (Continue LoadNext)) | _ ↦ step ])
 
@@ -67,7 +67,7 @@ never_enters v = enters_so v (λ t. Continue (Await t)) (λ p. None)
 abbrev pub enters_by_look : {V : Type 0} → V → TicketMachine V
 enters_by_look v = enters_so v granted (λ p. Some (gets p to_enter))
 
--- two queue behind a holder, which lets go, and the later one looks first
+-- two queue behind a holder, which releases, and the later one looks first
 abbrev pub two_queue : {V : Type 0} → Entries V
 two_queue =
     (0, Begin TryLock) ∷ (0, Step) ∷ (0, Step) ∷ (0, Step) ∷ (1, Begin Lock) ∷ (1, Step) ∷ (1, Step)
@@ -115,7 +115,7 @@ lock_in_vain = (0, Begin Lock) ∷ (0, Step) ∷ (0, Weak) ∷ []
 abbrev pub opens_with_a_ticket : {V : Type 0} → V → TicketMachine V
 opens_with_a_ticket {V} v = let m : TicketMachine V = ticket_machine v 0 in record m { words = record { next = 1; serving = 0 } }
 
--- `is_locked` makes a load in vain between its two
+-- `is_locked` makes a useless load between its two
 abbrev pub looks_in_vain : {V : Type 0} → V → TicketMachine V
 looks_in_vain v = with_steps v 0 (λ w c l h step. elim c [
   | IsLocked ↦ elim l [ LookServing ↦ stays w (Continue (TryLoadServing w.serving)) | TryLoadServing k ↦ stays w (Continue (LookNext k)) | _ ↦ step ]
@@ -146,7 +146,7 @@ swaps_its_loads v = with_steps v 0 (λ w c l h step. elim l [
   | _ ↦ step
 ])
 
--- a holder lets go between its two loads
+-- a holder releases between its two loads
 abbrev pub let_go_between : {V : Type 0} → Entries V
 let_go_between =
     (0, Begin TryLock) ∷ (0, Step) ∷ (0, Step) ∷ (0, Step) ∷ (1, Begin TryLock) ∷ (1, Step) ∷ (0, Begin Release) ∷ (0, Step) ∷ []

@@ -47,7 +47,7 @@ impl Dispenser {
     /// Creates a dispenser of the numbers below `cap`.
     ///
     /// # Contract
-    /// Its machine is that of a dispenser of so many numbers (`IsDispenser`).
+    /// Its machine is that of a dispenser with this many numbers (`IsDispenser`).
     pub fn new(cap: u64) -> Dispenser
         ensures fields { result ≡ record { cap = cap } }
         ensures named { IsDispenser cap (⟦<Dispenser as Object>⟧.machine result) }

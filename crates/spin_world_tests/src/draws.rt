@@ -2,7 +2,7 @@
 use crate::dispenser::{Dispenser, DispenserAnswer, DispenserCall};
 use spin_world_core::{Hold, Move, Outcome, Place, World};
 
-/// What may come of a move.
+/// What a move may result in.
 type Came = Outcome<DispenserAnswer, ()>;
 
 /// A party, its move, what comes of it, and the word after it.

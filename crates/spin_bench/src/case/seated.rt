@@ -20,7 +20,7 @@ struct Caller {
 }
 
 impl Caller {
-    /// Takes the lock, adds 1 and lets go, so many times.
+    /// Acquires the lock, adds 1 and releases it, this many times.
     #[inline(never)]
     fn add_times(&mut self, times: u64) {
         let Caller { lock, pass } = self;

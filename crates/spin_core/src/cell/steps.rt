@@ -20,7 +20,7 @@ pub trait Play<K, V, E> {
 
 /// Steps on the first word.
 ///
-/// Each is one atomic operation. By it the party comes to a new view, and appends entries to the trace: which ones its
+/// Each is one atomic operation. By it the party gets a new view, and appends entries to the trace: which ones its
 /// `Play` says. A value that is shown before and after the step is the same (`Keeps`).
 ///
 /// Each call takes what its caller knows of the trace and returns what is known after the step: all that was there

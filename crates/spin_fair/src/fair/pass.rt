@@ -54,7 +54,7 @@ impl<T, R> FairMutex<T, R> {
     /// A guard that is dropped releases the lock too, and ends its pass.
     ///
     /// # Contract
-    /// `seen` has to be what the call returned beside the guard (`Holds`). The call is in the history, as the pass's
+    /// `seen` has to be what the call returned with the guard (`Holds`). The call is in the history, as the pass's
     /// next one (`made`).
     pub fn unlock<'a>(guard: FairMutexGuard<'a, T, R>, seen: Watch<Entry>) -> Pass<'a, T, R>
         requires { Holds guard seen }
@@ -104,7 +104,7 @@ impl<'a, T, R: RelaxStrategy> Pass<'a, T, R> {
     /// Registers the caller as a starver, as [`FairMutex::starve`] does. Returns the pass if too many starve.
     ///
     /// # Contract
-    /// The call is one `Starve`, with the answer `Granted` beside a pass that starves (`granted`), and else `Refused`
+    /// The call is one `Starve`, with the answer `Granted` and a pass that starves (`granted`), or else `Refused`
     /// (`refused`). Whether and when the call returns is not promised.
     pub fn starve<W: Wait>(self, rt: &W) -> Result<StarvingPass<'a, T, R>, Pass<'a, T, R>>
         ensures granted { IfOk result (λ pass. Called Starve Granted self.entry.account.permit.view self.entry.account.seen.entries pass.account.permit.view pass.account.seen.entries × (pass.account.seen.name ≡ self.entry.account.seen.name)) }
@@ -133,7 +133,7 @@ impl<'a, T, R> Pass<'a, T, R> {
     /// starver is registered.
     ///
     /// # Contract
-    /// The call is one `TryLock`, with the answer `Granted` beside a guard (`granted`), and else `Refused` (`refused`).
+    /// The call is one `TryLock`, with the answer `Granted` and a guard (`granted`), or else `Refused` (`refused`).
     pub fn try_lock(self) -> Result<(FairMutexGuard<'a, T, R>, Watch<Entry>), Pass<'a, T, R>>
         ensures holder { IfOk result (λ held. IsHolder use_of_party held.0 × Holds held.0 held.1) }
         ensures newcomer { IfOk result (λ held. (guard_view held.0).0 ≡ Holding) }
@@ -157,7 +157,7 @@ impl<'a, T, R> Pass<'a, T, R> {
     /// Like [`try_lock`](Self::try_lock), but returns the reason for a failure too.
     ///
     /// # Contract
-    /// The call is one `TryLockStarver`, with the answer `Granted` beside a guard (`granted`), and else with the reason
+    /// The call is one `TryLockStarver`, with the answer `Granted` and a guard (`granted`), or else with the reason
     /// that is returned, `Locked` or `Starved` (`refused`).
     ///
     /// # Examples

@@ -21,9 +21,9 @@ pub enum View {
     Holding,
     /// It holds the lock, and starved for it.
     Served,
-    /// It is in `lock`, and goes on with the exchange, after so many looks that found the lock held.
+    /// It is in `lock`, and goes on with the exchange, after this many looks that found the lock held.
     Trying(usize),
-    /// It is in `lock`, and goes on with a look, after so many that found the lock held.
+    /// It is in `lock`, and goes on with a look, after this many that found the lock held.
     Looking(usize),
     /// It is in `lock`, and has looked often enough to register.
     Loading,
@@ -90,7 +90,7 @@ impl Play<Watch<Entry>, Party, Entry> for AttemptToKnow {
     ghost told = { λ key old new before. Told (tries_by TryLockStarver) before };
 }
 
-/// The compare-exchange of `lock`, after so many looks that found the lock held.
+/// The compare-exchange of `lock`, after this many looks that found the lock held.
 pub(super) struct Tries;
 
 impl Play<Watch<Entry>, Party, Entry> for Tries {

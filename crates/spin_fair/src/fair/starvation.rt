@@ -125,7 +125,7 @@ impl<T, R> Drop for Starvation<'_, T, R> {
     }
 }
 
-// SAFETY: a starver's permit. The thread that it goes to may come to the value by it.
+// SAFETY: a starver's permit. The thread that it goes to may use the value by it.
 unsafe impl<T: Send, R> Send for Starvation<'_, T, R> {}
 
 // SAFETY: a shared one lends nothing. It asks what the lock asks.

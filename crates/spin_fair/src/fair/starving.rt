@@ -55,8 +55,8 @@ impl<'a, T, R> StarvingPass<'a, T, R> {
     /// Tries to acquire the lock as [`Starvation::try_lock_fair`](super::Starvation::try_lock_fair) does.
     ///
     /// # Contract
-    /// The call is one `StarverTryLockFair`, with the answer `Granted` beside a guard (`granted`), and else `Refused`
-    /// beside the pass, which starves still (`refused`).
+    /// The call is one `StarverTryLockFair`, with the answer `Granted` and a guard (`granted`), or else `Refused`
+    /// and the pass, which is still a starver (`refused`).
     pub fn try_lock_fair(
         self,
     ) -> Result<(FairMutexGuard<'a, T, R>, Watch<Entry>), StarvingPass<'a, T, R>>
@@ -79,8 +79,8 @@ impl<'a, T, R> StarvingPass<'a, T, R> {
     /// Tries to acquire the lock as [`Starvation::try_lock`](super::Starvation::try_lock) does.
     ///
     /// # Contract
-    /// The call is one `StarverTryLock`, with the answer `Granted` beside a guard (`granted`), and else `Refused` beside
-    /// the pass, which starves still (`refused`). A first exchange that fails is no move: the call begins with it.
+    /// The call is one `StarverTryLock`, with the answer `Granted` and a guard (`granted`), or else `Refused` and the
+    /// pass, which is still a starver (`refused`). A first exchange that fails is no move: the call begins with it.
     pub fn try_lock(
         self,
     ) -> Result<(FairMutexGuard<'a, T, R>, Watch<Entry>), StarvingPass<'a, T, R>>
@@ -187,7 +187,7 @@ impl<'a, T> Awaiting<'a, T> {
     }
 }
 
-// Sets the flag. It tries no exchange as the only starver first: beside others that fails though the flag is clear, and
+// Sets the flag. It tries no exchange as the only starver first: with others that fails though the flag is clear, and
 // a starver that waits goes for each clear flag.
 fn set_flag<'a, T, R>(account: Account<'a, T>) -> Result<Got<'a, T, R>, Account<'a, T>>
     requires { MaySet (view_of account) }

@@ -1,4 +1,4 @@
-//! The right to make the value, beside its party's account. It ends by [`InitPermit::complete`] or
+//! The right to make the value, apart from its party's account. It ends by [`InitPermit::complete`] or
 //! [`InitPermit::fail`].
 ghost use Rattle.std.specs.Prelude.{◌≡◌, Some, true, length};
 ghost use Rattle.spin_core.specs.Own.{what};

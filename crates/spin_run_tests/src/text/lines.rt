@@ -1,6 +1,6 @@
 //! Lines that are in the grammar and lines that are not.
 
-/// Texts of the grammar, each with what it comes to.
+/// Texts of the grammar, each with its result.
 pub const WITHIN: &[(&str, &str)] = &[
     ("flag 5 1", "end: 0 value 5\n"),
     ("flag 5 1\n", "end: 0 value 5\n"),

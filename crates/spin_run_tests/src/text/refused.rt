@@ -40,8 +40,8 @@ fn opens_in<O: OfHeader>(rt: &impl Abort, alloc: Global, opening: Opening, left:
     opens
 }
 
-/// What a world comes to whose second schedule was refused: where it is, what that schedule tells once there is room again,
-/// and where it then stops.
+/// The result of a world whose second schedule was refused: where it is, what that schedule tells when there is room
+/// again, and where it then stops.
 #[derive(Drop)]
 struct Again {
     refused: Shown,

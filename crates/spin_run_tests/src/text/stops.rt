@@ -10,7 +10,7 @@ use spin_world::{Answer, Fair, FairCall, Move, Outcome, Place, run_in_two};
 use std::alloc::Global;
 use std::process::Abort;
 
-/// What a run comes to: where it starts, its events, and where it stops.
+/// The result of a run: where it starts, its events, and where it stops.
 #[derive(Drop)]
 pub struct Run {
     pub start: Shown,

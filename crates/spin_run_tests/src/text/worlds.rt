@@ -1,4 +1,4 @@
-//! Worked schedules in worlds of their own: one body for every object. What a world comes to is told in plain numbers.
+//! Plays each worked schedule in a new world, by one body for every object. It compares words and values as numbers.
 
 use super::gallery::GALLERY;
 use super::objects::{OfHeader, parties_of};
@@ -21,8 +21,8 @@ pub struct Opening {
     pub header: Header,
 }
 
-/// A world in that opening. A caller of this, [`run`], [`numbers`] or [`value`] learns nothing of what they ensure: the
-/// tests look for themselves.
+/// Creates a world in that opening. This function, [`run`], [`numbers`] and [`value`] ensure nothing: the tests check
+/// the results themselves.
 pub fn world<O: OfHeader, A: Allocator + Copy>(
     rt: &impl Abort,
     alloc: A,
@@ -50,7 +50,7 @@ fn value<O: OfHeader, A: Allocator + Copy>(world: &World<O, A>) -> Option<u64> {
     world.value()
 }
 
-/// A world in that opening, for which memory suffices.
+/// Creates a world in that opening. There has to be memory for it.
 pub fn opened<O: OfHeader, A: Allocator + Copy>(
     rt: &impl Abort,
     alloc: A,
@@ -95,7 +95,7 @@ pub fn look_at<O: OfHeader, A: Allocator + Copy>(
     }
 }
 
-/// An event: the party, what came of its move, and the words after it as numbers.
+/// An event: the party, the outcome of its move, and the words after it as numbers.
 #[derive(Clone, Copy)]
 pub struct Told {
     pub party: usize,

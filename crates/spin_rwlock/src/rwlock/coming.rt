@@ -43,7 +43,7 @@ impl Mode for Tries {
     ghost waits = { false };
 }
 
-// The exchange of a call that comes to read.
+// The exchange of a call that wants to read.
 struct Comes<K, M> {
     marker: PhantomData<(K, M)>,
 }
@@ -68,10 +68,10 @@ impl Play<Watch<Entry>, Party, Entry> for Peeks {
     ghost told = { λ key old new before. Told (peeks_by old) before };
 }
 
-/// What a call that comes to read has beside the guard, or in its place: a watch of the lock's history.
+/// What a call that wants to read has with the guard, or in its place: a watch of the lock's history.
 pub(super) type Lent<'a, T, K, R> = (SharedGuard<'a, T, K, R>, Watch<Entry>);
 
-/// A party in a call that comes to read, as a reader of kind `K`, and the word that it found last.
+/// A party in a call that wants to read, as a reader of kind `K`, and the word that it found last.
 pub(super) struct Coming<'a, T, K: Kind, M: Mode, R> {
     permit: RwPermit<'a, T>,
     seen: Watch<Entry>,

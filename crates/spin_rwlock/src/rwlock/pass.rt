@@ -33,7 +33,7 @@ use std::sync::Wait;
 /// others. A pass is as large as a reference to the lock. It can be sent, and a lock has any number of them.
 ///
 /// # Contract
-/// Each call takes the pass, or a guard and what the pass knew beside it, and returns it. It ensures `Called`: of the
+/// Each call takes the pass, or a guard and what the pass knew with it, and returns it. It ensures `Called`: of the
 /// moves by which the history grew, those of this pass are exactly one call, with the answer that is returned. In the
 /// lock's model that call has this answer, at its place among the moves of all threads, and no move of the history is
 /// passed over.
@@ -73,7 +73,7 @@ impl<T, R> RwLock<T, R> {
     /// A guard that is dropped releases the lock too, and ends its pass.
     ///
     /// # Contract
-    /// `seen` has to be what the pass knew beside the guard (`ReadsWith`). The call is in the history, as the pass's
+    /// `seen` has to be what the pass knew with the guard (`ReadsWith`). The call is in the history, as the pass's
     /// next one (`made`).
     pub fn unlock_shared<'a, K: Kind>(
         guard: SharedGuard<'a, T, K, R>,
@@ -92,7 +92,7 @@ impl<T, R> RwLock<T, R> {
     /// A guard that is dropped releases the lock too, and ends its pass.
     ///
     /// # Contract
-    /// `seen` has to be what the pass knew beside the guard (`WritesWith`). The call is in the history, as the pass's
+    /// `seen` has to be what the pass knew with the guard (`WritesWith`). The call is in the history, as the pass's
     /// next one (`made`).
     pub fn unlock<'a>(guard: RwLockWriteGuard<'a, T, R>, seen: Watch<Entry>) -> Pass<'a, T, R>
         requires { WritesWith guard seen }
@@ -239,7 +239,7 @@ impl<'a, T, R> Pass<'a, T, R> {
     /// Tries to acquire shared access as [`RwLock::try_read`] does. Fails with the pass.
     ///
     /// # Contract
-    /// The call is one `TryRead`, with the answer `Granted` beside a guard (`granted`), and else `Refused` (`refused`).
+    /// The call is one `TryRead`, with the answer `Granted` and a guard (`granted`), or else `Refused` (`refused`).
     /// Whether and when the call returns is not promised.
     pub fn try_read<W: Wait>(
         self,
@@ -260,7 +260,7 @@ impl<'a, T, R> Pass<'a, T, R> {
     /// Tries to acquire upgradable shared access as [`RwLock::try_upgradeable_read`] does. Fails with the pass.
     ///
     /// # Contract
-    /// The call is one `TryUpgradeableRead`, with the answer `Granted` beside a guard (`granted`), and else `Refused`
+    /// The call is one `TryUpgradeableRead`, with the answer `Granted` and a guard (`granted`), or else `Refused`
     /// (`refused`). Whether and when the call returns is not promised.
     pub fn try_upgradeable_read<W: Wait>(
         self,
@@ -282,7 +282,7 @@ impl<'a, T, R> Pass<'a, T, R> {
     /// the lock.
     ///
     /// # Contract
-    /// The call is one `TryWrite`, with the answer `Granted` beside a guard (`granted`), and else `Refused`
+    /// The call is one `TryWrite`, with the answer `Granted` and a guard (`granted`), or else `Refused`
     /// (`refused`). The call returns.
     ///
     /// # Examples

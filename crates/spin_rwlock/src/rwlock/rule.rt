@@ -41,7 +41,7 @@ pub enum View {
     Writing,
     /// It writes, and had asked before.
     WritingAsked,
-    /// It is in this call, which comes to read, and found this word last.
+    /// It is in this call, which wants to read, and found this word last.
     Coming(RwCall, usize),
     /// It is in `write`, and goes on with its exchange.
     WaitingToWrite,

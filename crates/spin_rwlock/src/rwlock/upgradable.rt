@@ -1,4 +1,4 @@
-//! The guard of the upgradable reader: what it can do beside reading. Begin at `upgrade`.
+//! The guard of the upgradable reader: what it can do besides reading. Begin at `upgrade`.
 ghost use Rattle.std.specs.Prelude.{◌≡◌, Some, IfOk, IfErr};
 ghost use Rattle.spin_model.specs.declared.answer.Answer.TheVariants.{Granted, Refused, Done};
 ghost use Rattle.spin_step_more.specs.declared.rw_calls.RwCall.TheVariants.{TryUpgrade, Upgrade, Downgrade};
@@ -18,7 +18,7 @@ use std::sync::Wait;
 
 /// The guard of the upgradable reader of an [`RwLock`](super::RwLock). Dropping it releases the shared access.
 ///
-/// Other readers come and go beside it, until its `upgrade` asks.
+/// Other readers come and go meanwhile, until its `upgrade` asks.
 ///
 /// # Contract
 /// That of [`SharedGuard`]. The value stays the same when the reader becomes the writer.
@@ -59,8 +59,8 @@ impl<'a, T, R> SharedGuard<'a, T, Upgrader, R> {
     /// Tries to become the writer, as [`try_upgrade`](Self::try_upgrade) does, in the call of a pass.
     ///
     /// # Contract
-    /// `seen` has to be what the pass knew beside the guard (`ReadsWith`). The call is one `TryUpgrade`, with the answer
-    /// `Granted` beside a writer's guard, and else `Refused`. The guard has the value that this one had.
+    /// `seen` has to be what the pass knew with the guard (`ReadsWith`). The call is one `TryUpgrade`, with the answer
+    /// `Granted` and a writer's guard, or else `Refused`. The guard has the value that this one had.
     pub fn try_upgrade_seen(
         self,
         seen: Watch<Entry>,
@@ -117,7 +117,7 @@ impl<'a, T, R> SharedGuard<'a, T, Upgrader, R> {
     /// Becomes a plain reader, as [`downgrade`](Self::downgrade) does, in the call of a pass.
     ///
     /// # Contract
-    /// `seen` has to be what the pass knew beside the guard (`ReadsWith`). The call is one `Downgrade` (`made`). The
+    /// `seen` has to be what the pass knew with the guard (`ReadsWith`). The call is one `Downgrade` (`made`). The
     /// guard has the value that this one had.
     pub fn downgrade_seen(self, seen: Watch<Entry>) -> (RwLockReadGuard<'a, T, R>, Watch<Entry>)
         requires { ReadsWith self seen }
@@ -167,7 +167,7 @@ impl<'a, T, R: RelaxStrategy> SharedGuard<'a, T, Upgrader, R> {
     /// Becomes the writer, as [`upgrade`](Self::upgrade) does, in the call of a pass.
     ///
     /// # Contract
-    /// `seen` has to be what the pass knew beside the guard (`ReadsWith`). The call is one `Upgrade` with the answer
+    /// `seen` has to be what the pass knew with the guard (`ReadsWith`). The call is one `Upgrade` with the answer
     /// `Granted`, which asked by its first step (`made`). The guard has the value that this one had.
     ///
     /// # Examples

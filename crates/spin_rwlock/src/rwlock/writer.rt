@@ -54,7 +54,7 @@ impl<'a, T, R> RwLockWriteGuard<'a, T, R> {
         }
     }
 
-    /// Becomes a reader, beside which other readers are admitted. It never fails.
+    /// Becomes a reader. Other readers are then admitted too. It never fails.
     ///
     /// It makes one atomic addition, so no other writer comes in between.
     ///
@@ -82,7 +82,7 @@ impl<'a, T, R> RwLockWriteGuard<'a, T, R> {
     /// Becomes a reader, as [`downgrade`](Self::downgrade) does, in the call of a pass.
     ///
     /// # Contract
-    /// `seen` has to be what the pass knew beside the guard (`WritesWith`). The call is one `Downgrade` (`made`). The
+    /// `seen` has to be what the pass knew with the guard (`WritesWith`). The call is one `Downgrade` (`made`). The
     /// reader's guard has the value that this one had.
     pub fn downgrade_seen(self, seen: Watch<Entry>) -> (RwLockReadGuard<'a, T, R>, Watch<Entry>)
         requires { WritesWith self seen }
@@ -121,7 +121,7 @@ impl<'a, T, R> RwLockWriteGuard<'a, T, R> {
     /// of a pass.
     ///
     /// # Contract
-    /// `seen` has to be what the pass knew beside the guard (`WritesWith`). The call is one `DowngradeToUpgradeable`
+    /// `seen` has to be what the pass knew with the guard (`WritesWith`). The call is one `DowngradeToUpgradeable`
     /// (`made`). The upgradable reader's guard has the value that this one had.
     pub fn downgrade_to_upgradeable_seen(
         self,
@@ -259,13 +259,13 @@ impl<T, R> Drop for WriteHeld<'_, T, R> {
     }
 }
 
-// SAFETY: its new thread has the value to itself, and may become a reader beside others.
+// SAFETY: its new thread has the value to itself, and may become one reader among others.
 unsafe impl<T: Send + Sync, R> Send for RwLockWriteGuard<'_, T, R> {}
 
 // SAFETY: a shared guard lends a `&T` and no more.
 unsafe impl<T: Sync, R> Sync for RwLockWriteGuard<'_, T, R> {}
 
-// SAFETY: its new thread hands the value on to whoever comes next: what a guard asks.
+// SAFETY: its new thread passes the value on to the next user: what a guard asks.
 unsafe impl<T: Send + Sync, R> Send for WriteHeld<'_, T, R> {}
 
 // SAFETY: a shared hold lends nothing. It asks what the lock asks.

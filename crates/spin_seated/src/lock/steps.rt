@@ -133,7 +133,7 @@ impl<C: Calls, A: Allocator> SeatedLock<C, A> {
     /// Brings two passes to one history. It makes three loads of the first word, which decide nothing.
     ///
     /// # Contract
-    /// Both have to be passes of this lock. Both know the same history then (`Met`). It goes on from what each knew,
+    /// Both have to be passes of this lock. Both know the same history then (`Met`). It extends what each knew,
     /// and has of each one's own calls just those that it knew. What they hold stays as it is.
     pub fn meet(&self, a: &mut Pass<C>, b: &mut Pass<C>)
         requires first { IsPassOf self.now a.old }

@@ -22,7 +22,7 @@ const WORD: usize = 0;
 const VALUE: usize = 1;
 
 impl<A: Allocator> SeatedLock<Call, A> {
-    /// Tries to acquire the lock as a reader. Returns `false` beside a writer, and at the cap of readers.
+    /// Tries to acquire the lock as a reader. Returns `false` if a writer holds it, or at the cap of readers.
     ///
     /// It makes a load, and then exchanges until one finds the word that it expects or the lock refuses.
     ///
@@ -66,7 +66,7 @@ impl<A: Allocator> SeatedLock<Call, A> {
         unreachable!()
     }
 
-    /// Tries to acquire the lock as the writer, by one exchange. Returns `false` beside any holder.
+    /// Tries to acquire the lock as the writer, by one exchange. Returns `false` if any pass holds it.
     ///
     /// # Contract
     /// The pass has to be one of this lock, and to hold nothing. The call and its answer end the history that the pass

@@ -80,7 +80,7 @@ impl<'a, const N: usize> Pass<'a, N> {
     /// Tries to take a seat as [`Seats::try_enter`] does. Returns the pass if all are taken.
     ///
     /// # Contract
-    /// The call is one `TryEnter`, with the answer `Granted` beside a guard (`granted`), and else `Refused`
+    /// The call is one `TryEnter`, with the answer `Granted` and a guard (`granted`), or else `Refused`
     /// (`refused`). Whether and when it returns is not promised.
     pub fn try_enter<W: Wait>(self, rt: &W) -> Result<SeatGuard<'a, N>, Pass<'a, N>>
         ensures granted { IfOk result (λ guard. Called N TryEnter Granted self.entry.account guard.account) }

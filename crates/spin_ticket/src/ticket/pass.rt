@@ -77,7 +77,7 @@ impl<T, R> TicketMutex<T, R> {
     /// A guard that is dropped releases the lock too, and ends its pass.
     ///
     /// # Contract
-    /// `seen` has to be what [`Pass::lock`] or [`Pass::try_lock`] returned beside the guard (`Holds`). The call is in
+    /// `seen` has to be what [`Pass::lock`] or [`Pass::try_lock`] returned with the guard (`Holds`). The call is in
     /// the history, as the pass's next one (`made`).
     pub fn unlock<'a>(guard: TicketMutexGuard<'a, T, R>, seen: Watch<Entry>) -> Pass<'a, T, R>
         requires { Holds guard seen }
@@ -128,7 +128,7 @@ impl<'a, T, R> Pass<'a, T, R> {
     /// Tries to acquire the lock as [`TicketMutex::try_lock`] does. Returns the pass at once if the lock is held.
     ///
     /// # Contract
-    /// The call is one `TryLock`, with the answer `Granted` beside a guard (`granted`), and else `Refused` (`refused`).
+    /// The call is one `TryLock`, with the answer `Granted` and a guard (`granted`), or else `Refused` (`refused`).
     pub fn try_lock(self) -> Result<(TicketMutexGuard<'a, T, R>, Watch<Entry>), Pass<'a, T, R>>
         ensures holder { IfOk result (λ held. IsHolder use_of_party held.0 × Holds held.0 held.1) }
         ensures same { IfOk result (λ held. (held.1.name ≡ self.entry.seen.name) × ((guard_key held.0).1 ≡ self.entry.permit.key.1)) }

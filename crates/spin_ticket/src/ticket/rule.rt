@@ -20,7 +20,7 @@ pub enum View {
     Idle,
     /// It is in `lock`, and found no ticket left.
     Coming,
-    /// It is in `lock`, and goes for the ticket of this number, which it found next.
+    /// It is in `lock`, and tries to take the ticket of this number, which it found next.
     Going(u64),
     Waiting(u64),
     Entered(u64),
@@ -45,7 +45,7 @@ pub struct TicketRule;
 impl<T> Rule<T, Party> for TicketRule {
     type Key = Key;
 
-    // The trace, and beside it the number that is served.
+    // The trace, and the number that is served.
     type Second = Trace<Entry, u64>;
 
     ghost holds = { λ start. IsQueue start.0.name start.1 };

@@ -10,7 +10,7 @@ use super::rule::{Entry, Party, TicketRule};
 use spin_core::cell::{Permit, WritePermit};
 use spin_core::trace::Watch;
 
-// A call that goes for the ticket of this number, the next one when it last looked.
+// A call that tries to take the ticket of this number, the next one when it last looked.
 pub(super) struct Going<'a, T> {
     pub(super) number: u64,
     pub(super) permit: Permit<'a, T, Party, TicketRule>,
