@@ -2,15 +2,14 @@
 ghost use Rattle.std.specs.Prelude.{◌≡◌, Some, None, [], true, IfSome, IfOk};
 ghost use Rattle.spin_core.specs.Guard.{IsHolder};
 ghost use Rattle.spin_fair.specs.Fair.{use_of_party};
-ghost use Rattle.spin_fair.specs.Waits.{LocksOrWaits};
 ghost use Rattle.spin_fair.specs.declared.fair.rule.View.TheVariants.{Holding};
 
-use self::account::{Account, Got, Waiting};
+use self::account::Account;
 use self::waiting::{register, try_with};
 use spin_core::cell::Cell;
 use spin_core::guard::{self, Guard};
 use spin_core::lock::{Lock, with_guard};
-use spin_core::relax::{MAX_HINTS, RelaxStrategy, Spin, Strategy};
+use spin_core::relax::{RelaxStrategy, Spin, Strategy};
 use spin_core::trace::Trace;
 use spin_step_more::fair;
 use std::sync::Wait;
@@ -121,16 +120,7 @@ impl<T, R: RelaxStrategy> FairMutex<T, R> {
         // As `Pass::lock`: through it, the path of a free lock would be longer.
         let (guard, _) = match try_with(self.account(), 0) {
             Ok(held) => held,
-            Err(waiting) => {
-                R::retry_after(
-                    rt,
-                    waiting,
-                    |_| MAX_HINTS,
-                    |waiting: Waiting<T>| -> Result<Got<T, R>, Waiting<T>>
-                        ensures { LocksOrWaits true waiting.entry.account result }
-                    { waiting.look_and_try(rt) },
-                )
-            }
+            Err(waiting) => waiting.wait(rt),
         };
         guard
     }

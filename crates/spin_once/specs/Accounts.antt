@@ -1,7 +1,7 @@
 -- What a party's account of its calls says from one of its steps to another: which moves the party has made between.
-use Rattle.std.specs.Prelude.{◌≡◌, Bool, true, Option, Some, None, Result, Ok, Err}
+use Rattle.std.specs.Prelude.{◌≡◌, Bool, true, Option, Some, None, Result, Ok, Err, IfOk, IfErr}
 use Rattle.spin_core.specs.Own.{Numbered, what}
-use Rattle.spin_core.specs.Passes.{Ends, Waits, IsStep}
+use Rattle.spin_core.specs.Passes.{Ends, Waits, IsCall, IsStep}
 use Rattle.spin_core.specs.Stable.{maybe_stable}
 use Rattle.spin_core.specs.declared.trace.Watch.{Watch}
 use Rattle.spin_model.specs.declared.answer.Answer.TheVariants.{Value, NoValue}
@@ -78,3 +78,7 @@ module _ {T S : Type 0} where
   PollsOn was (Ok (Ok found)) = Since (here was) (IsStep (has_begun (what was.party.view)) Poll (Answered (Value tt) None)) (here found.account)
   PollsOn was (Ok (Err none)) = Since (here was) (IsStep (has_begun (what was.party.view)) Poll (Answered NoValue None)) (here none) × (what none.party.view ≡ Some Idle)
   PollsOn was (Err next) = Since (here was) (IsStep (has_begun (what was.party.view)) Poll GoingOn) (here next.account) × (has_begun (what next.account.party.view) ≡ true)
+
+  -- a whole call of `poll`
+  abbrev pub IsPolled : Place S → Result (Found T S) (Account T S) → Type 0
+  IsPolled p r = IfOk r (λ found. Since p (IsCall Poll (Value tt)) (here found.account)) × IfErr r (λ none. Since p (IsCall Poll NoValue) (here none) × (what none.party.view ≡ Some Idle))

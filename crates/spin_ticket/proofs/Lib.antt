@@ -1,3 +1,4 @@
 pub mod Queue
+pub mod Waiting
 pub mod TicketQueue
 pub mod Rows

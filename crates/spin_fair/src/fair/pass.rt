@@ -4,18 +4,17 @@ ghost use mathlib.Core.List.{IsPrefix};
 ghost use Rattle.spin_core.specs.Guard.{IsHolder, guard_view};
 ghost use Rattle.spin_fair.specs.Fair.{use_of_party, stands, answer_of, Called};
 ghost use Rattle.spin_fair.specs.Guards.{Holds};
-ghost use Rattle.spin_fair.specs.Waits.{LocksOrWaits};
 ghost use Rattle.spin_fair.specs.declared.fair.rule.View.TheVariants.{Idle, Holding};
 ghost use Rattle.spin_model.specs.declared.answer.Answer.TheVariants.{Granted, Refused, Is, Done};
 ghost use Rattle.spin_step_more.specs.declared.fair_calls.FairCall.TheVariants.{Lock, TryLock, TryLockStarver, IsLocked, Starve, Release};
 
-use super::account::{Account, Got, Waiting};
+use super::account::Account;
 use super::rule::{Attempt, AttemptToKnow, Entry, Frees, LOCKED, Load};
 use super::starving::StarvingPass;
 use super::waiting::{register, try_with};
 use super::{FairMutex, FairMutexGuard, LockRejectReason};
 use spin_core::guard::Guard;
-use spin_core::relax::{MAX_HINTS, RelaxStrategy};
+use spin_core::relax::RelaxStrategy;
 use spin_core::trace::Watch;
 use spin_step_more::fair;
 use std::marker::PhantomData;
@@ -88,16 +87,7 @@ impl<'a, T, R: RelaxStrategy> Pass<'a, T, R> {
         } = self;
         match try_with(account, 0) {
             Ok(held) => held,
-            Err(waiting) => {
-                R::retry_after(
-                    rt,
-                    waiting,
-                    |_| MAX_HINTS,
-                    |waiting: Waiting<T>| -> Result<Got<T, R>, Waiting<T>>
-                        ensures { LocksOrWaits true waiting.entry.account result }
-                    { waiting.look_and_try(rt) },
-                )
-            }
+            Err(waiting) => waiting.wait(rt),
         }
     }
 

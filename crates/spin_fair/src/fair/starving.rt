@@ -5,12 +5,13 @@ ghost use Rattle.spin_step.specs.Parties.{OneHolds};
 ghost use Rattle.spin_step.specs.Steps.{Decides};
 ghost use Rattle.spin_core.specs.Guard.{IsHolder, guard_view};
 ghost use Rattle.spin_core.specs.Own.{what};
-ghost use Rattle.spin_core.specs.Passes.{IsCall};
+ghost use Rattle.spin_core.specs.Passes.{IsCall, Waits};
 ghost use Rattle.spin_model.specs.declared.answer.Answer.TheVariants.{Granted, Refused, Done};
 ghost use Rattle.spin_step_more.specs.declared.fair_calls.FairCall.TheVariants.{StarverTryLock, StarverTryLockFair, StarverLock, StarverDrop};
 ghost use Rattle.spin_fair.specs.Fair.{use_of_party, MaySet, MayAwait, HoldsStarving, Called, Comes};
 ghost use Rattle.spin_fair.specs.Guards.{Holds};
 ghost use Rattle.spin_fair.specs.Waits.{view_of, Goes, Gets, IsServed, FindsFlagSet, Awaits};
+ghost use Rattle.spin_fair.specs.declared.fair.account.Account.{Account as TheAccount};
 ghost use Rattle.spin_fair.specs.declared.fair.rule.View.TheVariants.{Starving};
 
 use super::FairMutexGuard;
@@ -171,6 +172,23 @@ impl<'a, T, R: RelaxStrategy> StarvingPass<'a, T, R> {
 }
 
 impl<'a, T> Awaiting<'a, T> {
+    // Looks and tries again until it has the lock.
+    #[cold]
+    #[inline(never)]
+    fn wait<R: RelaxStrategy, W: Wait>(self, rt: &W) -> Got<'a, T, R>
+        ensures { (was : TheAccount T) → Goes Waits was self.entry.account → IsServed was result }
+    {
+        let mut awaiting = self;
+        for _ in rt.forever() {
+            R::pause(rt, MAX_HINTS);
+            match awaiting.look_and_try() {
+                Ok(held) => return held,
+                Err(next) => awaiting = next,
+            }
+        }
+        unreachable!()
+    }
+
     // A load comes first, as for the lock's other waiting threads.
     fn look_and_try<R>(self) -> Result<Got<'a, T, R>, Awaiting<'a, T>>
         ensures { Awaits self.entry.account result }
@@ -225,14 +243,7 @@ pub(super) fn wait_as_starver<'a, T, R: RelaxStrategy, W: Wait>(
 {
     match await_flag(account) {
         Ok(held) => held,
-        Err(awaiting) => R::retry_after(
-            rt,
-            awaiting,
-            |_| MAX_HINTS,
-            |awaiting: Awaiting<T>| -> Result<Got<T, R>, Awaiting<T>>
-                ensures { Awaits awaiting.entry.account result }
-            { awaiting.look_and_try() },
-        ),
+        Err(awaiting) => awaiting.wait(rt),
     }
 }
 

@@ -1,17 +1,39 @@
 //! A call of `lock` that waits, and how a party registers as a starver. Begin with [`try_with`].
-ghost use Rattle.std.specs.Prelude.{true, IfOk, IfErr};
-ghost use Rattle.spin_fair.specs.Fair.{MayTry, MayRegister, in_call};
-ghost use Rattle.spin_fair.specs.Waits.{view_of, LocksOrWaits, IsRegistered, FindsNoRoom};
+ghost use Rattle.std.specs.Prelude.{Some, None, true, false, IfOk, IfErr};
+ghost use Rattle.spin_core.specs.Guard.{IsHolder};
+ghost use Rattle.spin_model.specs.declared.answer.Answer.TheVariants.{Granted};
+ghost use Rattle.spin_step_more.specs.declared.fair_calls.FairCall.TheVariants.{Lock};
+ghost use Rattle.spin_fair.specs.Fair.{use_of_party, MayTry, MayRegister, Comes, in_call};
+ghost use Rattle.spin_fair.specs.Waits.{view_of, Goes, Gets, LocksOrWaits, IsRegistered, FindsNoRoom};
+ghost use Rattle.spin_fair.specs.declared.fair.account.Account.{Account as TheAccount};
 
 use super::STARVATION_SPINS;
 use super::account::{Account, Got, Waiting};
 use super::rule::{Looks, Register, Tries};
 use super::starving::wait_as_starver;
-use spin_core::relax::RelaxStrategy;
+use spin_core::relax::{MAX_HINTS, RelaxStrategy};
 use spin_step_more::fair;
 use std::sync::Wait;
 
 impl<'a, T> Waiting<'a, T> {
+    // Looks and tries again until it has the lock.
+    #[cold]
+    #[inline(never)]
+    pub(crate) fn wait<R: RelaxStrategy, W: Wait>(self, rt: &W) -> Got<'a, T, R>
+        ensures holder { IsHolder use_of_party result.0 }
+        ensures gets { (was : TheAccount T) → Goes (Comes false Lock None) was self.entry.account → Gets (Comes false Lock (Some Granted)) was result }
+    {
+        let mut waiting = self;
+        for _ in rt.forever() {
+            R::pause(rt, MAX_HINTS);
+            match waiting.look_and_try(rt) {
+                Ok(held) => return held,
+                Err(next) => waiting = next,
+            }
+        }
+        unreachable!()
+    }
+
     // A load comes first, so that waiting threads share the cache line and do not write it. All pauses are equally
     // long, so looks measure time.
     pub(crate) fn look_and_try<R: RelaxStrategy, W: Wait>(

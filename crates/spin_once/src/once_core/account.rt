@@ -7,7 +7,7 @@ ghost use Rattle.spin_core.specs.Passes.{mark_of, IsCall, Begins as BeginsWith, 
 ghost use Rattle.spin_core.specs.Stable.{maybe_stable};
 ghost use Rattle.spin_model.specs.declared.answer.Answer.TheVariants.{Value, NoValue, Is};
 ghost use Rattle.spin_model.specs.declared.once.OnceCall.TheVariants.{Get, IsCompleted, Wait as WaitCall, Poll};
-ghost use Rattle.spin_once.specs.Once.{call_of, closure_call, is_out, may_begin, may_look, may_wait, may_poll};
+ghost use Rattle.spin_once.specs.Once.{call_of, closure_call, has_begun, is_out, may_begin, may_look, may_wait, may_poll};
 ghost use Rattle.spin_once.specs.declared.once_core.rule.Stage.TheVariants.{Done};
 ghost use Rattle.spin_once.specs.declared.once_core.rule.View.TheVariants.{Idle, Reading};
 
@@ -152,7 +152,7 @@ impl<'a, T, S: Seed<T>> Account<'a, T, S> {
         let waiting = Waiting { account: self };
         match waiting.look() {
             Ok(found) => found,
-            Err(waiting) => R::retry(rt, waiting, Waiting::look),
+            Err(waiting) => waiting.wait::<R, W>(rt),
         }
     }
 
@@ -168,7 +168,7 @@ impl<'a, T, S: Seed<T>> Account<'a, T, S> {
         let polling = Polling { account: self };
         match polling.look() {
             Ok(answer) => answer,
-            Err(polling) => R::retry(rt, polling, Polling::look),
+            Err(polling) => polling.wait::<R, W>(rt),
         }
     }
 }
@@ -195,7 +195,7 @@ impl<'a, T, S: Seed<T>> Wanting<'a, T, S> {
     {
         match self.begin() {
             Ok(claim) => claim,
-            Err(awaiting) => R::retry(rt, awaiting, Awaiting::look_and_begin),
+            Err(awaiting) => awaiting.claim::<R, W>(rt),
         }
     }
 
@@ -222,7 +222,25 @@ impl<'a, T, S: Seed<T>> Wanting<'a, T, S> {
 }
 
 impl<'a, T, S: Seed<T>> Awaiting<'a, T, S> {
-    ghost use Rattle.spin_once.specs.Accounts.{here, Attempts, IsClaimOf};
+    ghost use Rattle.spin_once.specs.Accounts.{Place, here, Since, Claims, Attempts, IsClaimOf};
+
+    // Looks again until it finds the value, or gets the right to make it.
+    #[cold]
+    #[inline(never)]
+    fn claim<R: RelaxStrategy, W: Wait>(self, rt: &W) -> Claim<'a, T, S>
+        ensures claims { IsClaimOf (call_of (what self.entry.account.party.view)) result }
+        ensures since { (p : Place S) → Since p Goes (here self.entry.account) → Claims p result }
+    {
+        let mut awaiting = self;
+        for _ in rt.forever() {
+            R::pause(rt, 1);
+            match awaiting.look_and_begin() {
+                Ok(claim) => return claim,
+                Err(next) => awaiting = next,
+            }
+        }
+        unreachable!()
+    }
 
     // Tries to begin if no other thread makes the value.
     fn look_and_begin(self) -> Result<Claim<'a, T, S>, Awaiting<'a, T, S>>
@@ -251,7 +269,25 @@ struct Waiting<'a, T, S: Seed<T>> {
 }
 
 impl<'a, T, S: Seed<T>> Waiting<'a, T, S> {
-    ghost use Rattle.spin_once.specs.Accounts.{WaitsOn};
+    ghost use Rattle.spin_once.specs.Accounts.{Place, here, Since, WaitsOn};
+
+    // Looks again until there is a value.
+    #[cold]
+    #[inline(never)]
+    fn wait<R: RelaxStrategy, W: Wait>(self, rt: &W) -> Found<'a, T, S>
+        requires { has_begun (what self.account.party.view) ≡ true }
+        ensures { (p : Place S) → Since p (BeginsWith WaitCall Goes) (here self.entry.account) → Since p (IsCall WaitCall (Value tt)) (here result.account) }
+    {
+        let mut waiting = self;
+        for _ in rt.forever() {
+            R::pause(rt, 1);
+            match waiting.look() {
+                Ok(found) => return found,
+                Err(next) => waiting = next,
+            }
+        }
+        unreachable!()
+    }
 
     fn look(self) -> Result<Found<'a, T, S>, Waiting<'a, T, S>>
         ensures { WaitsOn self.entry result }
@@ -275,7 +311,25 @@ struct Polling<'a, T, S: Seed<T>> {
 }
 
 impl<'a, T, S: Seed<T>> Polling<'a, T, S> {
-    ghost use Rattle.spin_once.specs.Accounts.{PollsOn};
+    ghost use Rattle.spin_once.specs.Accounts.{Place, here, Since, PollsOn, IsPolled};
+
+    // Looks again while a thread makes the value.
+    #[cold]
+    #[inline(never)]
+    fn wait<R: RelaxStrategy, W: Wait>(self, rt: &W) -> Result<Found<'a, T, S>, Account<'a, T, S>>
+        requires { has_begun (what self.account.party.view) ≡ true }
+        ensures { (p : Place S) → Since p (BeginsWith Poll Goes) (here self.entry.account) → IsPolled p result }
+    {
+        let mut polling = self;
+        for _ in rt.forever() {
+            R::pause(rt, 1);
+            match polling.look() {
+                Ok(answer) => return answer,
+                Err(next) => polling = next,
+            }
+        }
+        unreachable!()
+    }
 
     fn look(self) -> Result<Result<Found<'a, T, S>, Account<'a, T, S>>, Polling<'a, T, S>>
         ensures { PollsOn self.entry.account result }

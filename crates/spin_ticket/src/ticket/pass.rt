@@ -6,7 +6,7 @@ ghost use Rattle.spin_core.specs.Own.{what};
 ghost use Rattle.spin_core.specs.Passes.{mark_of, Begins, Waits};
 ghost use Rattle.spin_ticket.specs.Queue.{use_of_party, stands, IsOut, Moves, Called};
 ghost use Rattle.spin_ticket.specs.Guards.{Holds};
-ghost use Rattle.spin_ticket.specs.Waits.{GoesFor, Enters};
+ghost use Rattle.spin_ticket.specs.Waits.{GoesFor, Queues, Enters, IsGranted};
 ghost use Rattle.spin_ticket.specs.declared.ticket.rule.View.TheVariants.{Idle};
 ghost use Rattle.spin_model.specs.declared.answer.Answer.TheVariants.{Granted, Refused, Is, Done as Released};
 ghost use Rattle.spin_model.specs.declared.ticket.TicketCall.TheVariants.{Lock, TryLock, IsLocked, Release};
@@ -19,7 +19,7 @@ use super::waiting::{Going, Grant, Place};
 use super::{HINTS_EACH, TicketMutex, TicketMutexGuard};
 use spin_core::cell::Permit;
 use spin_core::guard::Guard;
-use spin_core::relax::{Loop, MAX_HINTS, RelaxStrategy};
+use spin_core::relax::{MAX_HINTS, RelaxStrategy};
 use spin_core::trace::Watch;
 use spin_step::ticket;
 use std::marker::PhantomData;
@@ -114,11 +114,11 @@ impl<'a, T, R: RelaxStrategy> Pass<'a, T, R> {
         } = self;
         let place = match go(permit, seen).take() {
             Ok(place) => place,
-            Err(going) => Loop::retry(rt, going, Going::take),
+            Err(going) => going.wait(rt),
         };
         let Grant { writer, seen } = match place.enter() {
             Ok(grant) => grant,
-            Err(place) => R::retry_after(rt, place, Place::pause, Place::enter),
+            Err(place) => place.wait::<R, W>(rt),
         };
         (Guard::new(writer), seen)
     }
@@ -236,6 +236,22 @@ pub(super) fn go<'a, T>(
 }
 
 impl<'a, T> Going<'a, T> {
+    // Tries again until it has a ticket, as `retry` of `Loop` does.
+    #[cold]
+    #[inline(never)]
+    fn wait<W: Wait>(self, rt: &W) -> Place<'a, T>
+        ensures { Queues self.entry result }
+    {
+        let mut going = self;
+        for _ in rt.forever() {
+            match going.take() {
+                Ok(place) => return place,
+                Err(next) => going = next,
+            }
+        }
+        unreachable!()
+    }
+
     // Takes the ticket. `Err` goes for the number that was found in its place, which is the same once the tickets are
     // used up.
     pub(super) fn take(self) -> Result<Place<'a, T>, Going<'a, T>>
@@ -272,6 +288,23 @@ impl<'a, T> Going<'a, T> {
 }
 
 impl<'a, T> Place<'a, T> {
+    // Pauses and looks again until its number is served, as `retry_after` of `R` does.
+    #[cold]
+    #[inline(never)]
+    fn wait<R: RelaxStrategy, W: Wait>(self, rt: &W) -> Grant<'a, T>
+        ensures { IsGranted self.entry result }
+    {
+        let mut place = self;
+        for _ in rt.forever() {
+            R::pause(rt, place.pause());
+            match place.enter() {
+                Ok(grant) => return grant,
+                Err(next) => place = next,
+            }
+        }
+        unreachable!()
+    }
+
     // The next thread in turn looks again after one hint. One with others before it looks seldom, so that it does not
     // disturb them.
     pub(super) fn pause(&self) -> u32 {
