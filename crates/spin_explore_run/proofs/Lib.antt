@@ -3,3 +3,4 @@ pub mod Openings
 pub mod Told
 pub mod Words
 pub mod Wholes
+pub mod Joined

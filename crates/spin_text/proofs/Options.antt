@@ -1,5 +1,8 @@
 -- Steps of reading: a test, or one result after another. And what a result says.
-use Rattle.std.proofs.Common.{◌≡◌, Bool, true, false, ◌&&◌, Option, Some, None, Result, Ok, Err, OnOk, OnErr, IfErr, IfNone, cond, refl}
+use Rattle.std.proofs.Common.{◌≡◌, Bool, true, false, ◌&&◌, Option, Some, None, Result, Ok, Err, OnOk, OnErr, IfErr, IfNone, cond, refl, sym, subst}
+use Rattle.spin_text.specs.declared.text.RunError.{RunError}
+use Rattle.spin_text.specs.declared.text.RunError.TheVariants.{Memory}
+use Rattle.spin_text.specs.Texts.{StopsWriting}
 use Rattle.spin_text.specs.Reading.{◌>>=◌}
 
 pub some_is : {A : Type 0} {x y : A} → Some x ≡ Some y → x ≡ y
@@ -40,3 +43,9 @@ if_err (Err e) P Q then p = then e p
 pub none_said : {A : Type 0} (r : Option A) (P : Type 0) → P → IfNone r P
 none_said None P p = p
 none_said (Some x) P p = tt
+
+-- no memory: nothing was written
+pub refused : {X : Type 0} (r : Result X RunError) (e : RunError) (A W : Type 0) → r ≡ Err e → e ≡ Memory → A → IfErr r (StopsWriting (λ x. x ≡ Memory) A W)
+refused r e A W is memory a =
+    let stops = StopsWriting (λ x. x ≡ Memory) A W in
+    subst (λ q. IfErr q stops) (sym is) (subst stops (sym memory) (refl, a))

@@ -7,7 +7,7 @@ use crate::words::{Rest, is_word, number_then, only_number, word};
 use spin_step_more::{fair, rw};
 
 /// The first line of a text: the object with its opening values, and the number of parties.
-#[derive(Clone, Copy, Debug, PartialEq, Eq)]
+#[derive(Clone, Copy)]
 pub enum Header {
     /// The line `flag VALUE PARTIES`.
     Flag {
