@@ -1,6 +1,7 @@
 -- What the contracts of the locks and of their steps are written in, so that a crate which names `spin` alone can cite it.
 pub use Rattle.spin_mutex.specs.MutexGuard
 pub use Rattle.spin_core.specs.Guard
+pub use Rattle.spin_core.specs.Values
 pub use Rattle.spin_flag.specs.Flag
 pub use Rattle.spin_flag.specs.Passes
 pub use Rattle.spin_ticket.specs.Queue

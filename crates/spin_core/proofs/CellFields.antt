@@ -1,7 +1,7 @@
 -- The fields of a cell in memory: the first word, the value, and the second word or nothing. Assumes `Logic`.
 --     fields_out     the words and the value, and the cell again from any that meet the rule
 --     written_out, written_in, row_out, row_in      the fields of the cell as it is written, and of its row
-use Rattle.std.proofs.Common.{ℕ, zero, ◌+◌, List, [], ◌∷◌, refl}
+use Rattle.std.proofs.Common.{ℕ, zero, ◌+◌, List, [], ◌∷◌, refl, sym, ◌∙◌}
 use seplogic.Ra.Ura.{Ura}
 use mir.Val.{Val}
 use base.Fraction.{full_share}
@@ -9,7 +9,7 @@ use base.Stored.{coded_unit}
 use base.Logic.{SProp, ex, all, all_e, apply∗}
 use base.Fml.{Fml, ftrue, fsep, fex}
 use types.Logic.{Logic}
-use types.Kit.{join, ‵, raw, ◌⊛◌, ◌$◌, ◌∵◌, !, qed, by, move, keep, use1, use2, split, split3, fsplit, fsplit3, fjoin, fjoin3, fpick, fpack, show, each, assume, done}
+use types.Kit.{join, drop, ‵, raw, ◌⊛◌, ◌$◌, ◌∵◌, !, qed, by, move, keep, use1, use2, split, split3, fsplit, fsplit3, fjoin, fjoin3, fpick, fpack, show, each, assume, done}
 use denote.RattleType.{RattleType, Denots}
 use denote.Laws.{Lawful}
 use denote.Memory.{part_of, part_at, cell_at, lone}
@@ -26,7 +26,7 @@ use Rattle.core.proofs.cell.Borrows.{flag}
 use Rattle.core.proofs.tally.Steps.{word_out, word_in}
 use Rattle.core.specs.contracts.marker.PhantomData as marker
 use Rattle.atomic_table.specs.Seated.{fact}
-use Rattle.spin_core.specs.Cell.{Ways, Starts}
+use Rattle.spin_core.specs.Cell.{Ways, Starts, Lends}
 use Rattle.spin_core.specs.CellMemory.{offset, second_at, Known}
 use Rattle.spin_core.specs.declared.cell.Rule.{Ghosts}
 use Rattle.spin_core.specs.contracts.cell.Cell as C
@@ -41,7 +41,7 @@ module _ {M : Type 1} {𝓤 : Ura M} (𝓛 : Logic 𝓤) (m ms : Member) (V Y K 
   abbrev S : RattleType
   S = row_of ms
 
-  abbrev pub ways : Ways R.Denot V.Denot
+  abbrev pub ways : Ways R.Denot V.Denot S.Denot
   ways = g.ways key
 
   abbrev pub Knows : Type 0
@@ -159,3 +159,15 @@ module _ {M : Type 1} {𝓤 : Ura M} (𝓛 : Logic 𝓤) (m ms : Member) (V Y K 
     pub rejoined : (s : All) → Rule s → ⟦ At s.2 ⟧ ∗ ⟦ standing_words (s.0, s.1) ⟧ ∗ Joins ⊢ ⟦ P ⟧
     rejoined s rule = qed 𝓛 (‵ (At s.2) ∷ ‵ (standing_words (s.0, s.1)) ∷ raw Joins ∷ []) ∵ nothing ! $ fpack ! (Rule s) (λ _. ftrue) rule $ move ! (1 ∷ 0 ∷ []) $ join ! $ move ! (1 ∷ 0 ∷ []) $ join ! $ move ! (1 ∷ []) $
         use1 𝓛 (raw (joined s)) (all_e 𝓤 joined s) $ move ! (1 ∷ 0 ∷ []) $ by ! (apply∗ 𝓤 (⟦ standing_words (s.0, s.1) ⟧ ∗ ⟦ At s.2 ⟧ ∗ ⟦ fact (Rule s) ⟧) ⟦ P ⟧)
+
+-- the cell under another key
+module _ {M : Type 1} {𝓤 : Ura M} (𝓛 : Logic 𝓤) (m ms : Member) (V Y K : RattleType) (g : Ghosts Y.Denot (row_of m).Denot V.Denot K.Denot (row_of ms).Denot) (old key : K.Denot) (b o : ℕ)
+    (lends : Lends (g.holds old) (g.ways old) (g.holds key) (g.ways key)) where
+  open (signs 𝓛) use {◌⊢◌, ◌∗◌, ◌-∗◌, ⟦◌⟧}
+
+  known : Knows 𝓛 m ms V Y K g old b o → Knows 𝓛 m ms V Y K g key b o
+  known k = (λ shared. k.0 (lends.0 shared), (λ v e. k.1 v (sym (lends.1 v) ∙ e)), k.2)
+
+  pub rekeyed : ⟦ Row 𝓛 m ms V Y K g old b o ⟧ ⊢ ⟦ Row 𝓛 m ms V Y K g key b o ⟧
+  rekeyed = qed 𝓛 (‵ (Row 𝓛 m ms V Y K g old b o) ∷ []) ∵ use1 𝓛 (‵ (Opened 𝓛 m ms V Y K g old b o)) (row_out 𝓛 m ms V Y K g old b o) $ fpick ! (λ k. fpick ! (λ s. fsplit ! $ move ! (1 ∷ []) $ fpick ! (λ rule. drop ! $
+      nothing ! $ fpack ! (Rule 𝓛 m ms V Y K g key b o s) (λ _. ftrue) (lends.2 s.0 s.1 s.2 rule) $ move ! (1 ∷ []) $ by ! (row_in 𝓛 m ms V Y K g key b o (known k) s))))

@@ -31,18 +31,18 @@ use Rattle.spin_core.proofs.CellParts.{piece_in, piece_cut}
 use Rattle.spin_core.proofs.Signs.{signs}
 
 -- ---- what is shared may be had twice, and for less time
-reader_laws : (Y R : RattleType) {V : Type 0} (c : V → Gv) (S : RattleType) (holds : ℕ → S.Denot → List V → Type 0) (ways : Ways R.Denot V) → RowLaws R → (β : Lft) (b o : ℕ) (u : Use) (x : Option R.Denot)
+reader_laws : (Y R : RattleType) {V : Type 0} (c : V → Gv) (S : RattleType) (holds : ℕ → S.Denot → List V → Type 0) (ways : Ways R.Denot V S.Denot) → RowLaws R → (β : Lft) (b o : ℕ) (u : Use) (x : Option R.Denot)
     → ShrLaws (reader_shares Y R c S holds ways β b o u x)
 reader_laws Y R c S holds ways L β b o reads (Some x) = some_shr_laws (Known ways Y S R) (λ _. within β (shown R b o x)) (λ _. within_shr_laws β (shown R b o x) (L x b (o + offset R)))
 reader_laws Y R c S holds ways L β b o reads None = said_shr_laws ffalse tt
 reader_laws Y R c S holds ways L β b o _ x = nothing_shr_laws
 
-pub permit_laws : (Y R : RattleType) {V : Type 0} (c : V → Gv) (S : RattleType) (holds : ℕ → S.Denot → List V → Type 0) (ways : Ways R.Denot V) → RowLaws R → (β : Lft) (p : Ptr) (view : Option V) (x : Option R.Denot)
+pub permit_laws : (Y R : RattleType) {V : Type 0} (c : V → Gv) (S : RattleType) (holds : ℕ → S.Denot → List V → Type 0) (ways : Ways R.Denot V S.Denot) → RowLaws R → (β : Lft) (p : Ptr) (view : Option V) (x : Option R.Denot)
     → ShrLaws (permit_shares Y R c S holds ways β p view x)
 permit_laws Y R c S holds ways L β (block_ptr b o) view x = reader_laws Y R c S holds ways L β b o (use_of ways.1 view) x
 permit_laws Y R c S holds ways L β null_ptr view x = said_shr_laws ffalse tt
 
-pub writer_laws : (Y R : RattleType) {V : Type 0} (c : V → Gv) (S : RattleType) (holds : ℕ → S.Denot → List V → Type 0) (ways : Ways R.Denot V) → RowLaws R → (β : Lft) (p : Ptr) (view : V) (x : R.Denot)
+pub writer_laws : (Y R : RattleType) {V : Type 0} (c : V → Gv) (S : RattleType) (holds : ℕ → S.Denot → List V → Type 0) (ways : Ways R.Denot V S.Denot) → RowLaws R → (β : Lft) (p : Ptr) (view : V) (x : R.Denot)
     → ShrLaws (writer_shares Y R c S holds ways β p view x)
 writer_laws Y R c S holds ways L β (block_ptr b o) view x = within_shr_laws β (shown R b o x) (L x b (o + offset R))
 writer_laws Y R c S holds ways L β null_ptr view x = said_shr_laws ffalse tt
@@ -92,7 +92,7 @@ module _ {M : Type 1} {𝓤 : Ura M} (𝓛 : Logic 𝓤) where
         use2 𝓛 (later (‵ (fbor ν At) ⊛ raw (lfts 𝓛 ts))) (by_one 𝓛 ν ts sm (A.bor ν P) (A.bor ν At) (Lends-at opens ν (meet_⊑_right κ β))) $ await ! tt $
         use1 𝓛 (later (‵ (shown R b o x ν) ⊛ raw (lfts 𝓛 ts))) (s x ν ts b (o + offset R) inc sm) $ await ! tt $ now ! $ done !
 
-  module _ (Y R : RattleType) {V : Type 0} (c : V → Gv) (S : RattleType) (holds : ℕ → S.Denot → List V → Type 0) (ways : Ways R.Denot V) (β : Lft) where
+  module _ (Y R : RattleType) {V : Type 0} (c : V → Gv) (S : RattleType) (holds : ℕ → S.Denot → List V → Type 0) (ways : Ways R.Denot V S.Denot) (β : Lft) where
     abbrev Knows : Type 0
     Knows = Known ways Y S R
 

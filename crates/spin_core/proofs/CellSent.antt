@@ -11,8 +11,8 @@ use denote.RawPtr.{Ptr, block_ptr, null_ptr}
 use denote.Param.Send.{IsSend, IsSync, part_keyless, whole-keyless}
 use Rattle.core.proofs.atomic.Sent.{chain-Keyless}
 use Rattle.atomic_table.specs.Seated.{halved}
-use Rattle.spin_core.specs.Cell.{Use, off, reads, writes, Way, alone, lends, fixes, Ways, use_of}
-use Rattle.spin_core.specs.CellMemory.{offset, second_at, Common, Sends, IsShared, Known, Id, Round, roster, parts, remains, named, tracked, resting, missing, state, right, stand, kept, cell_shares, permit_owns, permit_shares, reader_shares, writer_owns, writer_shares}
+use Rattle.spin_core.specs.Cell.{Use, off, reads, writes, Way, alone, lends, fixes, Ways, IsKnown, use_of, IsShared}
+use Rattle.spin_core.specs.CellMemory.{offset, second_at, Common, Sends, Known, Id, Round, roster, parts, remains, named, tracked, resting, missing, state, right, stand, kept, cell_shares, permit_owns, permit_shares, reader_shares, writer_owns, writer_shares}
 
 roster_keyless : {V : Type 0} (c : V → Gv) (ρ k : ℕ) (vs : List V) → Keyless (roster c ρ k vs)
 roster_keyless c ρ k [] = λ g. entries_keyless halved ρ k (λ _. (full_share, g))
@@ -45,9 +45,9 @@ module _ (R : RattleType) (s : IsSend R) (b o : ℕ) (t : Id) where
   missing_keyless alone = tt
   missing_keyless _ = λ g. tt
 
-  state_keyless : (way : Way R.Denot) → (IsShared way → Common R) → (r w : ℕ) → Keyless (state R b o t way r w)
-  state_keyless way sees r zero = resting_keyless way sees r
-  state_keyless way sees r (suc w) = missing_keyless way
+  state_keyless : (way : Way R.Denot) (φ : R.Denot → Type 0) → (IsShared way → Common R) → (r w : ℕ) → Keyless (state R b o t way φ r w)
+  state_keyless way φ sees r zero = λ x known. resting_keyless way sees r x
+  state_keyless way φ sees r (suc w) = missing_keyless way
 
   right_keyless : (way : Way R.Denot) (u : Use) → (u ≡ reads → Common R) → (x : Option R.Denot) → Keyless (right R b o t way u x)
   right_keyless way reads sees (Some x) = λ a. ((λ e n. (tt, tt)), sees refl x b (o + offset R) (a ∷ t.life))
@@ -55,11 +55,11 @@ module _ (R : RattleType) (s : IsSend R) (b o : ℕ) (t : Id) where
   right_keyless way off sees None = tt
   right_keyless way _ sees _ = tt
 
-  module _ {V : Type 0} (c : V → Gv) (S : RattleType) (holds : ℕ → S.Denot → List V → Type 0) (ways : Ways R.Denot V) where
+  module _ {V : Type 0} (c : V → Gv) (S : RattleType) (holds : ℕ → S.Denot → List V → Type 0) (ways : Ways R.Denot V S.Denot) where
     kept_keyless : (IsShared ways.0 → Common R) → Sends S → (κ : Lft) → Keyless (kept R b o t c S holds ways κ)
-    kept_keyless sees sent κ = ((λ νs. chain-Keyless νs κ t.life), λ z. (tt, (whole-keyless (raw_all S.mir) S.own_val sent full_share z.1 b (o + second_at S R), λ vs. (roster_keyless c t.views 0 vs, ((λ _. tt), state_keyless ways.0 sees _ _)))))
+    kept_keyless sees sent κ = ((λ νs. chain-Keyless νs κ t.life), λ z. (tt, (whole-keyless (raw_all S.mir) S.own_val sent full_share z.1 b (o + second_at S R), λ vs. (roster_keyless c t.views 0 vs, ((λ _. tt), state_keyless ways.0 (IsKnown ways.2 z.1) sees _ _)))))
 
-module _ (Y R : RattleType) {V : Type 0} (c : V → Gv) (S : RattleType) (holds : ℕ → S.Denot → List V → Type 0) (ways : Ways R.Denot V) where
+module _ (Y R : RattleType) {V : Type 0} (c : V → Gv) (S : RattleType) (holds : ℕ → S.Denot → List V → Type 0) (ways : Ways R.Denot V S.Denot) where
   pub cell_keyless : IsSend R → IsSync Y → (p : Ptr) (κ : Lft) → Keyless (cell_shares Y R c S holds ways p κ)
   cell_keyless s y (block_ptr b o) κ = λ known t. kept_keyless R s b o t c S holds ways (λ e. known.0 e y.shared) known.2 κ
   cell_keyless s y null_ptr κ = tt

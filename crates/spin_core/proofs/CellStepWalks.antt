@@ -45,7 +45,7 @@ module _ {M : Type 1} {𝓤 : Ura M} (𝓛 : Logic 𝓤) (𝓜 : Model 𝓤 𝓛
   β = ℓ.lft
 
   module _ (h : Hr.Denot) (q : Share) where
-    abbrev ways : Ways R.Denot W.Denot
+    abbrev ways : Ways R.Denot W.Denot Sr.Denot
     ways = g.ways h.key
 
     abbrev pub At : Type 0
@@ -67,26 +67,26 @@ module _ {M : Type 1} {𝓤 : Ura M} (𝓛 : Logic 𝓤) (𝓜 : Model 𝓤 𝓛
     abbrev pub next : W.Denot × Option R.Denot → Hr.Denot
     next s = record { cell = block_ptr b o; marker = record {}; key = h.key; view = Some s.0; value = s.1 }
 
-    -- what the step tells: its play, what is shown, and the key
-    abbrev pub Says : (ℕ → W.Denot → Type 0) → ℕ → W.Denot × Option R.Denot → Item 𝓤
-    Says then n s = raw (fact 𝓤 (then n s.0)) ⊛ raw (fact 𝓤 (Keeps ways h.view (Some s.0) h.value s.1)) ⊛ raw (fact 𝓤 (h.key ≡ h.key))
+    -- what the step tells: its play, what is shown, what is known of that, and the key
+    abbrev pub Says : (ℕ → W.Denot → Type 0) → (W.Denot → Option R.Denot → Type 0) → ℕ → W.Denot × Option R.Denot → Item 𝓤
+    Says then finds n s = raw (fact 𝓤 (then n s.0)) ⊛ raw (fact 𝓤 (Keeps ways h.view (Some s.0) h.value s.1)) ⊛ raw (fact 𝓤 (finds s.0 s.1)) ⊛ raw (fact 𝓤 (h.key ≡ h.key))
 
     -- what is left of the cell after a step, by the number found
-    abbrev pub after : At → (ℕ → W.Denot → Type 0) → ℕ → Fml
+    abbrev pub after : At → (ℕ → W.Denot → Option R.Denot → Type 0) → ℕ → Fml
     after k then n = fsep (flft k.1.0.life k.1.1) (steps.moved 𝓛 R LR.shr_laws b o k.1.0 W.coded Sr (g.holds h.key) ways h.view then n h.value)
 
     module _ {K : Type 0} {Γ : List (Item 𝓤)} {G : Goal 𝓤 𝓛.H} where
       -- the permit at its new view, and all tokens
-      pub closes : K → Soaks G → (k : At) (then : ℕ → W.Denot → Type 0) (n : ℕ) (τ : Lft) (r : Share) (os : Fml)
-          → ((s : W.Denot × Option R.Denot) → Seq K 𝓛 ((‵ (flft β q) ⊛ ‵ (flft τ r) ⊛ ‵ os) ∷ ‵ (Hr.own_val (next s) (hand_of (block_ptr b o) ∷ [])) ∷ Says then n s ∷ Γ) G)
-          → Seq K 𝓛 (‵ (after k then n) ∷ raw (Gives k) ∷ ‵ (flft τ r) ∷ ‵ (Remains k) ∷ ‵ os ∷ Γ) G
-      closes t z k then n τ r os go = let Owned : W.Denot × Option R.Denot → Fml = λ s. permit_owns Y R W.coded.code Sr (g.holds h.key) ways β (block_ptr b o) (Some s.0) s.1 in
-          let So : W.Denot × Option R.Denot → Type 0 = λ s. Keeps ways h.view (Some s.0) h.value s.1 in
-          move t (0 ∷ 3 ∷ 1 ∷ []) $ use3 𝓛 (later (some (λ (s : W.Denot × Option R.Denot). given (then n s.0 × So s) (‵ (Owned s))) ⊛ ‵ (flft β q)))
-          (exits 𝓛 𝓜 𝓡 Y R LR.shr_laws W.coded Sr (g.holds h.key) ways β b o k h.view then n h.value q) $ await t z $ split t $ pick t (λ s. learn t (λ so.
+      pub closes : K → Soaks G → (k : At) (then : ℕ → W.Denot → Type 0) (finds : W.Denot → Option R.Denot → Type 0) (n : ℕ) (τ : Lft) (r : Share) (os : Fml)
+          → ((s : W.Denot × Option R.Denot) → Seq K 𝓛 ((‵ (flft β q) ⊛ ‵ (flft τ r) ⊛ ‵ os) ∷ ‵ (Hr.own_val (next s) (hand_of (block_ptr b o) ∷ [])) ∷ Says then finds n s ∷ Γ) G)
+          → Seq K 𝓛 (‵ (after k (λ i w x. then i w × finds w x) n) ∷ raw (Gives k) ∷ ‵ (flft τ r) ∷ ‵ (Remains k) ∷ ‵ os ∷ Γ) G
+      closes t z k then finds n τ r os go = let Owned : W.Denot × Option R.Denot → Fml = λ s. permit_owns Y R W.coded.code Sr (g.holds h.key) ways β (block_ptr b o) (Some s.0) s.1 in
+          let So : W.Denot × Option R.Denot → Type 0 = λ s. Keeps ways h.view (Some s.0) h.value s.1 in let Both : ℕ → W.Denot → Option R.Denot → Type 0 = λ i w x. then i w × finds w x in
+          move t (0 ∷ 3 ∷ 1 ∷ []) $ use3 𝓛 (later (some (λ (s : W.Denot × Option R.Denot). given (Both n s.0 s.1 × So s) (‵ (Owned s))) ⊛ ‵ (flft β q)))
+          (exits 𝓛 𝓜 𝓡 Y R LR.shr_laws W.coded Sr (g.holds h.key) ways β b o k h.view Both n h.value q) $ await t z $ split t $ pick t (λ s. learn t (λ so.
           use0 𝓛 (‵ ((Words ℓ R W Y Kr Sr g).own_val (block_ptr b o, (tt, tt)) (hand_of (block_ptr b o) ∷ []))) (made ℓ R W Y Kr Sr g 𝓛 (block_ptr b o)) $ fjoin t $
-          says t (h.key ≡ h.key) refl $ says t (So s) so.1 $ join t $
-          says t (then n s.0) so.0 $ join t $ move t (3 ∷ 4 ∷ []) $ join t $ move t (3 ∷ 0 ∷ []) $ join t $ move t (0 ∷ 2 ∷ 1 ∷ []) $ go s))
+          says t (h.key ≡ h.key) refl $ says t (finds s.0 s.1) so.0.1 $ join t $ says t (So s) so.1 $ join t $
+          says t (then n s.0) so.0.0 $ join t $ move t (3 ∷ 4 ∷ []) $ join t $ move t (3 ∷ 0 ∷ []) $ join t $ move t (0 ∷ 2 ∷ 1 ∷ []) $ go s))
 
 -- facts that a walk does not look at, and a last one
 abbrev pub Facts : ℕ → Type 1

@@ -41,7 +41,7 @@ module _ {M : Type 1} {𝓤 : Ura M} (𝓛 : Logic 𝓤) where
   pub lasts : (κ α : Lft) (q : Share) (P : Fml) → ⟦ before κ α ⟧ ∗ A.bor α P ∗ A.lft κ q ⊢ H.⇛ (A.bor κ P ∗ A.lft κ q)
   lasts κ α q P = qed 𝓛 (‵ (before κ α) ∷ ‵ (fbor α P) ∷ ‵ (flft κ q) ∷ []) ∵ fpick ! (λ νs. by ! (lasts_chain νs κ α q P))
 
-  module _ (Y R : RattleType) {V : Type 0} (cv : Coded V) (S : RattleType) (holds : ℕ → S.Denot → List V → Type 0) (ways : Ways R.Denot V) (β : Lft) (c e : ℕ) (w : V) where
+  module _ (Y R : RattleType) {V : Type 0} (cv : Coded V) (S : RattleType) (holds : ℕ → S.Denot → List V → Type 0) (ways : Ways R.Denot V S.Denot) (β : Lft) (c e : ℕ) (w : V) where
     abbrev Pen : R.Denot → Fml
     Pen x = writer_owns Y R cv.code S holds ways β (block_ptr c e) w x
 

@@ -24,9 +24,10 @@ use Rattle.spin_core.specs.declared.trace.Trace.{Trace}
 use Rattle.spin_core.proofs.TraceSteps.{appends, observes_whole, shows_whole}
 use Rattle.spin_core.proofs.TraceWord.{beside, with, Takes, word_apart}
 use denote.Builtin.{u64}
-use Rattle.spin_core.specs.Cell.{Ways, Meets, Stands, after, use_of, readers_of, Going}
+use Rattle.spin_core.specs.Cell.{Ways, Meets, Stands, after, use_of, readers_of, Going, Carrying}
 use Rattle.spin_core.specs.CellMemory.{second_at, Id, standing}
-use Rattle.spin_core.specs.Traced.{grown, grown_at, Named, Traces, TracesSecond}
+use Rattle.spin_core.specs.Traced.{grown, grown_at, Learnt, Named, Traces, TracesSecond}
+use Rattle.spin_core.proofs.CellWays.{learnt_of}
 use Rattle.spin_core.proofs.CellSteps as steps
 use Rattle.atomic_table.specs.Seated.{fact}
 use Rattle.spin_core.proofs.Signs.{signs}
@@ -65,14 +66,14 @@ module _ {M : Type 1} {𝓤 : Ura M} (𝓛 : Logic 𝓤) (Er Ur : RattleType) wh
       use1 𝓛 (raw (upd 𝓤 ⟦ Log m' ⟧)) (appends 𝓛 Er.coded m.name m.entries es) $ settle 𝓛 Z (‵ (Log m')) $ use1 𝓛 (‵ (Log m') ⊛ ‵ (Known m.name (m.entries ++ es))) (shows_whole 𝓛 Er.coded m.name (m.entries ++ es)) $ split ! $ suffices ! Z (upd_i 𝓤 Z) $
       move ! (2 ∷ 0 ∷ []) $ fjoin ! $ move ! (2 ∷ 0 ∷ []) $ fjoin ! $ fpack ! (List Val) (λ us. fsep (cell_at full_share S.mir us b e) (S.own_val m' us)) vs $ done !))
 
-  module _ (R : RattleType) (L : RowLaws R) (b o : ℕ) (t : Id) {V : Type 0} (cv : Coded V) (holds : ℕ → Trace E U → List V → Type 0) (ways : Ways R.Denot V) (view : Option V) (v : Option R.Denot) where
+  module _ (R : RattleType) (L : RowLaws R) (b o : ℕ) (t : Id) {V : Type 0} (cv : Coded V) (holds : ℕ → Trace E U → List V → Type 0) (ways : Ways R.Denot V (Trace E U)) (view : Option V) (v : Option R.Denot) where
     abbrev pub Mine : Fml
     Mine = steps.Mine 𝓛 R L b o t cv S holds ways view v
 
     abbrev pub Core : ℕ × Trace E U → Fml
     Core = steps.Core 𝓛 R L b o t cv S holds ways
 
-    abbrev pub moved : (ℕ → V → Type 0) → ℕ → Fml
+    abbrev pub moved : (ℕ → V → Option R.Denot → Type 0) → ℕ → Fml
     moved then n = steps.moved 𝓛 R L b o t cv S holds ways view then n v
 
     abbrev pub I : Fml
@@ -92,10 +93,14 @@ module _ {M : Type 1} {𝓤 : Ura M} (𝓛 : Logic 𝓤) (Er Ur : RattleType) wh
     name_of γ name k (inl none) is = inl none
     name_of γ name k (inr named) is = inr (is named)
 
+    -- what a step tells beside that where the trace has these entries then: what the party knows of the value
+    abbrev pub finding : List E → (ℕ → V → Type 0) → ℕ → V → Option R.Denot → Type 0
+    finding es then n w x = then n w × Learnt ways.2 (use_of ways.1 view) (ways.1 w) v x es
+
     module _ (told : List E → List E → ℕ → V → Type 0) where
       -- what the step leaves its party and its watch with
       abbrev pub seen_by : ℕ → List E → ℕ → ℕ × (List E × List E) → Fml
-      seen_by γ k n s = fsep (fact (IsPrefix k s.1.0 × (Named holds ways γ → s.0 ≡ γ))) (fsep (Known s.0 (s.1.0 ++ s.1.1)) (moved (told s.1.0 s.1.1) n))
+      seen_by γ k n s = fsep (fact (IsPrefix k s.1.0 × (Named holds ways γ → s.0 ≡ γ))) (fsep (Known s.0 (s.1.0 ++ s.1.1)) (moved (finding (s.1.0 ++ s.1.1) (told s.1.0 s.1.1)) n))
 
       abbrev pub watched : ℕ → List E → ℕ → Fml
       watched γ k n = fex (ℕ × (List E × List E)) (seen_by γ k n)
@@ -103,7 +108,8 @@ module _ {M : Type 1} {𝓤 : Ura M} (𝓛 : Logic 𝓤) (Er Ur : RattleType) wh
       -- what a step asks that finds the number k, and leaves the words n and u where they were n₀ and that beside the trace m
       abbrev pub Grows : ℕ → Trace E U → ℕ → U → ℕ → Type 0
       Grows n₀ m n u k = (id : ℕ) (vs : List V) → Meets holds ways n₀ m vs → Stands id view vs
-          → (w : V) × (es : List E) × Going ways.0 (use_of ways.1 view) (ways.1 w) v (readers_of ways.1 vs) (Meets holds ways n (grown_at m u es) (after id view vs w)) × told m.entries es k w
+          → (w : V) × (es : List E) × Going ways.0 (use_of ways.1 view) (ways.1 w) v (readers_of ways.1 vs) (Carrying ways.2 m (grown_at m u es) (use_of ways.1 view) (ways.1 w) v (Meets holds ways n (grown_at m u es) (after id view vs w)))
+          × told m.entries es k w
 
       -- where its words are in place
       pub grows : (γ : ℕ) (k : List E) → May γ k → (n₀ n : ℕ) (m : Trace E U) (u : U) (found : ℕ) → Grows n₀ m n u found
@@ -112,7 +118,10 @@ module _ {M : Type 1} {𝓤 : Ura M} (𝓛 : Logic 𝓤) (Er Ur : RattleType) wh
           let then : X → ℕ → V → Type 0 = λ x. told m.entries x.0 in let Led : X → Fml = steps.led 𝓛 R L b o t cv S holds ways view v then to found in let m' : Trace E U = beside m u in
           qed 𝓛 (‵ (word b (o + 0) n) ∷ ‵ (Traced m') ∷ ‵ (Core (n₀, m)) ∷ ‵ Mine ∷ ‵ (Known γ k) ∷ []) ∵ move ! (2 ∷ 3 ∷ []) $
           use2 𝓛 (raw (upd 𝓤 ⟦ fex X Led ⟧)) (steps.changes 𝓛 R L b o t cv S holds ways view v then (n₀, m) to found (λ id vs meets at. let r = law id vs meets at in (r.0, (r.1, λ named. named n₀ m vs meets), r.2, r.3))) $
-          settle 𝓛 Z (‵ (fex X Led)) $ fpick ! (λ x. let es : List E = x.0 in fsplit ! $ move ! (3 ∷ 4 ∷ []) $
+          settle 𝓛 Z (‵ (fex X Led)) $ fpick ! (λ x. let es : List E = x.0 in fsplit ! $ move ! (1 ∷ []) $
+          let F : ℕ → V → Option R.Denot → Type 0 = finding (m.entries ++ es) (told m.entries es) in
+          use1 𝓛 (‵ (moved F found)) (steps.tells_less 𝓛 R L b o t cv S holds ways view v (steps.learning 𝓛 R L b o t cv S holds ways view v (to x).1 (then x)) F found
+          (λ w y so. (so.0, learnt_of ways.2 (to x).1 (use_of ways.1 view) (ways.1 w) v y so.1))) $ move ! (3 ∷ 4 ∷ 1 ∷ []) $
           use2 𝓛 (given (IsPrefix k m.entries) (raw (upd 𝓤 (⟦ Traced (grown m' es) ⟧ ∗ ⟦ Known m.name (m.entries ++ es) ⟧)))) (shows γ k m' es b at (name_of γ m.name k may x.1)) $ learn ! (λ p. settle 𝓛 Z (‵ (Traced (grown m' es)) ⊛ ‵ (Known m.name (m.entries ++ es))) $ split ! $ suffices ! Z (upd_i 𝓤 Z) $
           -- [the trace; what the watch knows; the core; what the step leaves; the first word]
           move ! (0 ∷ 2 ∷ []) $ fjoin ! $ move ! (3 ∷ 0 ∷ []) $ fjoin ! $ fpack ! (ℕ × Trace E U) (standing R b o t cv.code S holds ways) (to x) $
@@ -128,7 +137,7 @@ module _ {M : Type 1} {𝓤 : Ura M} (𝓛 : Logic 𝓤) (Er Ur : RattleType) wh
             move ! (4 ∷ 2 ∷ 3 ∷ 0 ∷ 1 ∷ []) $ by ! (grows γ k may n (f n) m m.word n (λ id vs meets at. allows id n m vs meets at typed.1.fits))))))
 
 -- where the word beside the trace is a number
-module _ {M : Type 1} {𝓤 : Ura M} (𝓛 : Logic 𝓤) (Er R : RattleType) (L : RowLaws R) (b o : ℕ) (t : Id) {V : Type 0} (cv : Coded V) (holds : ℕ → Trace Er.Denot ℕ → List V → Type 0) (ways : Ways R.Denot V) (view : Option V) (v : Option R.Denot) where
+module _ {M : Type 1} {𝓤 : Ura M} (𝓛 : Logic 𝓤) (Er R : RattleType) (L : RowLaws R) (b o : ℕ) (t : Id) {V : Type 0} (cv : Coded V) (holds : ℕ → Trace Er.Denot ℕ → List V → Type 0) (ways : Ways R.Denot V (Trace Er.Denot ℕ)) (view : Option V) (v : Option R.Denot) where
   open (signs 𝓛) use {◌⊢◌, ◌∗◌, ⟦◌⟧}
 
   abbrev Hand : Fml

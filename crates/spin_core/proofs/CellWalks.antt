@@ -20,7 +20,7 @@ use Rattle.spin_core.proofs.CellRounds.{held, readies, settles_down}
 use Rattle.spin_core.proofs.CellSteps.{Mine, moved}
 use Rattle.spin_core.proofs.Signs.{signs}
 
-module _ {M : Type 1} {𝓤 : Ura M} (𝓛 : Logic 𝓤) (𝓜 : Model 𝓤 𝓛.H) (𝓡 : Running 𝓤 𝓛.H 𝓜) (Y R : RattleType) (L : denote.RattleType.RowLaws R) {V : Type 0} (cv : Coded V) (S : RattleType) (holds : ℕ → S.Denot → List V → Type 0) (ways : Ways R.Denot V) (β : Lft) (b o : ℕ) where
+module _ {M : Type 1} {𝓤 : Ura M} (𝓛 : Logic 𝓤) (𝓜 : Model 𝓤 𝓛.H) (𝓡 : Running 𝓤 𝓛.H 𝓜) (Y R : RattleType) (L : denote.RattleType.RowLaws R) {V : Type 0} (cv : Coded V) (S : RattleType) (holds : ℕ → S.Denot → List V → Type 0) (ways : Ways R.Denot V S.Denot) (β : Lft) (b o : ℕ) where
   open 𝓛 use {H, A}
   open (signs 𝓛) use {◌⊢◌, ◌∗◌, ◌-∗◌, ⟦◌⟧}
 
@@ -50,24 +50,24 @@ module _ {M : Type 1} {𝓤 : Ura M} (𝓛 : Logic 𝓤) (𝓜 : Model 𝓤 𝓛
       (readies 𝓛 R b o t l shares (use_of ways.1 view) ways.0 v t.life s τ r (Incl-refl t.life) le) $ await ! tt $ split3 ! $ move ! (3 ∷ 0 ∷ []) $ fjoin ! $
       now ! $ show ! (Entered view v q τ r) (known, (t, s)) $ move ! (5 ∷ 1 ∷ 0 ∷ 4 ∷ 3 ∷ 2 ∷ []) $ done !)))
 
-  abbrev pub Left : Option V → (ℕ → V → Type 0) → ℕ → Option R.Denot → V × Option R.Denot → SProp 𝓤
-  Left view then n v s = guard 𝓤 (then n s.0 × Keeps ways view (Some s.0) v s.1) ⟦ permit_owns Y R cv.code S holds ways β (block_ptr b o) (Some s.0) s.1 ⟧
+  abbrev pub Left : Option V → (ℕ → V → Option R.Denot → Type 0) → ℕ → Option R.Denot → V × Option R.Denot → SProp 𝓤
+  Left view then n v s = guard 𝓤 (then n s.0 s.1 × Keeps ways view (Some s.0) v s.1) ⟦ permit_owns Y R cv.code S holds ways β (block_ptr b o) (Some s.0) s.1 ⟧
 
-  pub exits : (k : Entry) (view : Option V) (then : ℕ → V → Type 0) (n : ℕ) (v : Option R.Denot) (q : Share)
+  pub exits : (k : Entry) (view : Option V) (then : ℕ → V → Option R.Denot → Type 0) (n : ℕ) (v : Option R.Denot) (q : Share)
       → ⟦ fsep (flft k.1.0.life k.1.1) (moved 𝓛 R L b o k.1.0 cv S holds ways view then n v) ⟧ ∗ ⟦ kept R b o k.1.0 cv.code S holds ways β ⟧ ∗ Back q k ⊢ H.⇛ (ex 𝓤 (Left view then n v) ∗ A.lft β q)
   exits k view then n v q = let t : Id = k.1.0 in let Moved : Fml = moved 𝓛 R L b o t cv S holds ways view then n v in
       qed 𝓛 (‵ (fsep (flft t.life k.1.1) Moved) ∷ ‵ (kept R b o t cv.code S holds ways β) ∷ raw (Back q k) ∷ []) ∵ updating ! $ fsplit ! $ move ! (0 ∷ 3 ∷ []) $
       use2 𝓛 (later (‵ (flft β q))) (apply∗ 𝓤 (A.lft t.life k.1.1) (H.⇛ (A.lft β q))) $ await ! tt $ move ! (1 ∷ []) $ fpick ! (λ s. fsplit ! $ fpick ! (λ so. drop ! $ fsplit ! $ move ! (1 ∷ []) $
       use1 𝓛 (later (‵ (right R b o t ways.0 (ways.1 s.0) s.1))) (settles_down 𝓛 R b o t (ways.1 s.0) ways.0 s.1) $ await ! tt $ move ! (1 ∷ 0 ∷ []) $ fjoin ! $ move ! (2 ∷ 0 ∷ []) $ fjoin ! $
       fpack ! Id (permit_at Y R cv.code S holds ways β b o (Some s.0) s.1) t $ fpack ! (Known ways Y S R) (λ _. fex Id (permit_at Y R cv.code S holds ways β b o (Some s.0) s.1)) k.0 $
-      use1 𝓛 (raw (ex 𝓤 (Left view then n v))) (via 𝓤 (Left view then n v s) (guard_i 𝓤 (then n s.0 × Keeps ways view (Some s.0) v s.1) ⟦ permit_owns Y R cv.code S holds ways β (block_ptr b o) (Some s.0) s.1 ⟧ so) (ex_i 𝓤 (Left view then n v) s)) $
+      use1 𝓛 (raw (ex 𝓤 (Left view then n v))) (via 𝓤 (Left view then n v s) (guard_i 𝓤 (then n s.0 s.1 × Keeps ways view (Some s.0) v s.1) ⟦ permit_owns Y R cv.code S holds ways β (block_ptr b o) (Some s.0) s.1 ⟧ so) (ex_i 𝓤 (Left view then n v) s)) $
       now ! $ keep ! (0 ∷ 1 ∷ []) $ done !))
 
 -- a view and a value are there, and are these
 abbrev pub Writes : {V X : Type 0} → Option V → Option X → V × X → Type 0
 Writes view v s = (view ≡ Some s.0) × (v ≡ Some s.1)
 
-module _ {M : Type 1} {𝓤 : Ura M} (𝓛 : Logic 𝓤) (Y R : RattleType) {V : Type 0} (cv : Coded V) (S : RattleType) (holds : ℕ → S.Denot → List V → Type 0) (ways : Ways R.Denot V) (β : Lft) where
+module _ {M : Type 1} {𝓤 : Ura M} (𝓛 : Logic 𝓤) (Y R : RattleType) {V : Type 0} (cv : Coded V) (S : RattleType) (holds : ℕ → S.Denot → List V → Type 0) (ways : Ways R.Denot V S.Denot) (β : Lft) where
   abbrev Owns : Ptr → Option V → Option R.Denot → Fml
   Owns = permit_owns Y R cv.code S holds ways β
 

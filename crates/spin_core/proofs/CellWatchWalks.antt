@@ -22,9 +22,9 @@ use Rattle.spin_core.specs.contracts.trace.Trace as trace
 use Rattle.spin_core.specs.contracts.trace.Watch as watch
 use Rattle.spin_core.specs.declared.trace.Watch.{Watch}
 use Rattle.spin_core.proofs.TraceTokens.{token, Token, token_made}
-use Rattle.spin_core.specs.Cell.{Ways}
+use Rattle.spin_core.specs.Cell.{Ways, use_of}
 use Rattle.spin_core.specs.CellMemory.{second_at, permit_owns}
-use Rattle.spin_core.specs.Traced.{Watches, Named, MayKnow, Traces, TracesSecond}
+use Rattle.spin_core.specs.Traced.{Watches, Learnt, Named, MayKnow, Traces, TracesSecond}
 use Rattle.spin_core.specs.declared.cell.Rule.{Ghosts}
 use Rattle.spin_core.specs.contracts.cell.Permit as hand
 use Rattle.spin_core.proofs.PermitFields.{hand_of}
@@ -57,7 +57,7 @@ module _ {M : Type 1} {𝓤 : Ura M} (𝓛 : Logic 𝓤) (𝓜 : Model 𝓤 𝓛
   Known s = traced.Known 𝓛 Er Ur s.name s.entries
 
   module _ (h : Hr.Denot) (q : Share) where
-    abbrev ways : Ways R.Denot W.Denot
+    abbrev ways : Ways R.Denot W.Denot Sr.Denot
     ways = g.ways h.key
 
     abbrev At : Type 0
@@ -75,11 +75,12 @@ module _ {M : Type 1} {𝓤 : Ura M} (𝓛 : Logic 𝓤) (𝓜 : Model 𝓤 𝓛
     abbrev Gives : At → SProp 𝓤
     Gives = walks.Gives 𝓛 𝓜 𝓡 ℓ T W Y Kr Sr L g b o h q
 
-    abbrev Says : (ℕ → W.Denot → Type 0) → ℕ → W.Denot × Option R.Denot → Item 𝓤
+    abbrev Says : (ℕ → W.Denot → Type 0) → (W.Denot → Option R.Denot → Type 0) → ℕ → W.Denot × Option R.Denot → Item 𝓤
     Says = walks.Says 𝓛 𝓜 𝓡 ℓ T W Y Kr Sr L g b o h q
 
-    abbrev after : At → (ℕ → W.Denot → Type 0) → ℕ → Fml
-    after = walks.after 𝓛 𝓜 𝓡 ℓ T W Y Kr Sr L g b o h q
+    -- what the party knows of the value where the watch knows these entries
+    abbrev pub finds : List Er.Denot → W.Denot → Option R.Denot → Type 0
+    finds es w x = Learnt ways.2 (use_of ways.1 h.view) (ways.1 w) h.value x es
 
     abbrev pub next : W.Denot × Option R.Denot → Hr.Denot
     next = walks.next 𝓛 𝓜 𝓡 ℓ T W Y Kr Sr L g b o h q
@@ -130,18 +131,20 @@ module _ {M : Type 1} {𝓤 : Ura M} (𝓛 : Logic 𝓤) (𝓜 : Model 𝓤 𝓛
 
         -- the permit at its new view and the watch, and all tokens
         pub closes_seen : K → Soaks G → (k : At) (n : ℕ) (τ : Lft) (r : Share) (os : Fml)
-            → ((s : W.Denot × Option R.Denot) (l : ℕ × List Er.Denot) → Seq K 𝓛 (‵ (Wr.own_val (knowing l) (token ∷ [])) ∷ (‵ (flft β q) ⊛ ‵ (flft τ r) ⊛ ‵ os) ∷ ‵ (Hr.own_val (next s) (hand_of (block_ptr b o) ∷ [])) ∷ Says (then l) n s ∷ Γ) G)
+            → ((s : W.Denot × Option R.Denot) (l : ℕ × List Er.Denot) → Seq K 𝓛 (‵ (Wr.own_val (knowing l) (token ∷ [])) ∷ (‵ (flft β q) ⊛ ‵ (flft τ r) ⊛ ‵ os) ∷ ‵ (Hr.own_val (next s) (hand_of (block_ptr b o) ∷ [])) ∷ Says (then l) (finds l.1) n s ∷ Γ) G)
             → Seq K 𝓛 (‵ (left k n) ∷ raw (Gives k) ∷ ‵ (flft τ r) ∷ ‵ (Remains k) ∷ ‵ os ∷ Γ) G
-        closes_seen t z k n τ r os go = let m : (ℕ → W.Denot → Type 0) → Fml = λ th. steps.moved 𝓛 R LR.shr_laws b o k.1.0 W.coded Sr (g.holds h.key) ways h.view th n h.value in
+        closes_seen t z k n τ r os go = let m : (ℕ → W.Denot → Option R.Denot → Type 0) → Fml = λ th. steps.moved 𝓛 R LR.shr_laws b o k.1.0 W.coded Sr (g.holds h.key) ways h.view th n h.value in
             fsplit t $ move t (1 ∷ []) $ fpick t (λ s. let l : ℕ × List Er.Denot = (s.0, s.1.0 ++ s.1.1) in fsplit t $ fpick t (λ p. drop t $ fsplit t $ move t (1 ∷ []) $
-            use1 𝓛 (‵ (m (then l))) (steps.tells_less 𝓛 R LR.shr_laws b o k.1.0 W.coded Sr (g.holds h.key) ways h.view h.value (told s.1.0 s.1.1) (then l) n (λ w so. (p.1, (s.1.0, s.1.1, p.0, refl, so)))) $
+            let was : ℕ → W.Denot → Option R.Denot → Type 0 = traced.finding 𝓛 Er Ur R LR.shr_laws b o k.1.0 W.coded (g.holds h.key) ways h.view h.value l.1 (told s.1.0 s.1.1) in
+            let now : ℕ → W.Denot → Option R.Denot → Type 0 = λ i w x. then l i w × finds l.1 w x in
+            use1 𝓛 (‵ (m now)) (steps.tells_less 𝓛 R LR.shr_laws b o k.1.0 W.coded Sr (g.holds h.key) ways h.view h.value was now n (λ w x so. ((p.1, (s.1.0, s.1.1, p.0, refl, so.0)), so.1))) $
             move t (2 ∷ 0 ∷ []) $ fjoin t $ move t (0 ∷ 2 ∷ 3 ∷ 4 ∷ 5 ∷ []) $
-            walks.closes 𝓛 𝓜 𝓡 ℓ T W Y Kr Sr L g b o h q t z k (then l) n τ r os (λ v. move t (3 ∷ []) $
+            walks.closes 𝓛 𝓜 𝓡 ℓ T W Y Kr Sr L g b o h q t z k (then l) (finds l.1) n τ r os (λ v. move t (3 ∷ []) $
             use0 𝓛 (‵ ((Token Er).own_val (record {}, tt) (token ∷ []))) (token_made Er 𝓛) $ fjoin t $ go v l)))
 
         -- the number found too
         pub closes_watched : K → Soaks G → (k : At) (n : ℕ) → n < 2 ^ 64 → (τ : Lft) (r : Share) (os : Fml)
-            → ((s : W.Denot × Option R.Denot) (l : ℕ × List Er.Denot) → Seq K 𝓛 ((‵ (flft β q) ⊛ ‵ (flft τ r) ⊛ ‵ os) ∷ ‵ (fex (Valss (u64 ∷ Hr ∷ Wr ∷ [])) (all n s l)) ∷ Says (then l) n s ∷ Γ) G)
+            → ((s : W.Denot × Option R.Denot) (l : ℕ × List Er.Denot) → Seq K 𝓛 ((‵ (flft β q) ⊛ ‵ (flft τ r) ⊛ ‵ os) ∷ ‵ (fex (Valss (u64 ∷ Hr ∷ Wr ∷ [])) (all n s l)) ∷ Says (then l) (finds l.1) n s ∷ Γ) G)
             → Seq K 𝓛 (‵ (left k n) ∷ raw (Gives k) ∷ ‵ (flft τ r) ∷ ‵ (Remains k) ∷ ‵ os ∷ Γ) G
         closes_watched t z k n fits τ r os go = closes_seen t z k n τ r os (λ v l. nothing t $ move t (1 ∷ 0 ∷ []) $ fjoin t $ move t (2 ∷ 0 ∷ []) $ fjoin t $
             flt_i t n (2 ^ 64) fits $ feq_i t (List Val) (vint w64 n ∷ []) (vint w64 n ∷ []) refl $ fjoin t $ fjoin t $
@@ -149,7 +152,7 @@ module _ {M : Type 1} {𝓤 : Ura M} (𝓛 : Logic 𝓤) (𝓜 : Model 𝓤 𝓛
 
         -- the same of a step that finds no number
         pub closes_stored : K → Soaks G → (k : At) (n : ℕ) (τ : Lft) (r : Share) (os : Fml)
-            → ((s : W.Denot × Option R.Denot) (l : ℕ × List Er.Denot) → Seq K 𝓛 ((‵ (flft β q) ⊛ ‵ (flft τ r) ⊛ ‵ os) ∷ ‵ (fex (Valss (Hr ∷ Wr ∷ [])) (both s l)) ∷ Says (then l) n s ∷ Γ) G)
+            → ((s : W.Denot × Option R.Denot) (l : ℕ × List Er.Denot) → Seq K 𝓛 ((‵ (flft β q) ⊛ ‵ (flft τ r) ⊛ ‵ os) ∷ ‵ (fex (Valss (Hr ∷ Wr ∷ [])) (both s l)) ∷ Says (then l) (finds l.1) n s ∷ Γ) G)
             → Seq K 𝓛 (‵ (left k n) ∷ raw (Gives k) ∷ ‵ (flft τ r) ∷ ‵ (Remains k) ∷ ‵ os ∷ Γ) G
         closes_stored t z k n τ r os go = closes_seen t z k n τ r os (λ v l. nothing t $ move t (1 ∷ 0 ∷ []) $ fjoin t $ move t (2 ∷ 0 ∷ []) $ fjoin t $
             feq_i t (List Val) (pair_of ∷ []) (pair_of ∷ []) refl $ fjoin t $ fpack t (Valss (Hr ∷ Wr ∷ [])) (both v l) (hand_of (block_ptr b o) ∷ [], (token ∷ [], tt)) $ move t (1 ∷ []) $ go v l)

@@ -1,6 +1,8 @@
 -- What a step asks besides the rule, taken apart.
-use Rattle.std.proofs.Common.{◌≡◌, ℕ, zero, suc, ◌<◌, true, false, List, Option, arith}
-use Rattle.spin_core.specs.Cell.{Use, Way, fixes, Ways, Going, Frees, Limits, Fixed, Starts, readers_of, writers_of}
+use Rattle.std.proofs.Common.{◌≡◌, ℕ, zero, suc, ◌<◌, true, false, List, Option, Some, None, refl, arith}
+use Rattle.spin_core.specs.Cell.{Use, off, reads, writes, Way, fixes, Ways, Going, Frees, Limits, Fixed, Starts, readers_of, writers_of, Knowledge, no_fact, knows, IsKnown, Knowing, Freeing, Carries, Owed, Carrying, Learns}
+use Rattle.spin_core.specs.Traced.{Learnt}
+use Rattle.spin_core.specs.declared.trace.Trace.{Trace}
 
 module _ {X : Type 0} where
   pub going_rest : (way : Way X) (u v : Use) (shown : Option X) (r : ℕ) {A : Type 0} → Going way u v shown r A → A
@@ -17,8 +19,62 @@ module _ {X : Type 0} where
   freed (fixes fact) frees zero zero x = frees false x
   freed _ frees r w x = tt
 
-  pub restarts : {V S : Type 0} (holds : ℕ → S → List V → Type 0) (ways : Ways X V) (n : ℕ) (m : S) (x y : X) → Frees ways.0 → Starts holds ways n m x → Starts holds ways n m y
-  restarts holds ways n m x y frees starts = (starts.0, starts.1, freed ways.0 frees (readers_of ways.1 starts.0) (writers_of ways.1 starts.0) y)
+  -- where there is nothing to know, nothing is owed
+  carries_nothing : (u v : Use) (shown : Option X) → Carries (λ x. Unit {0}) (λ x. Unit {0}) u v shown
+  carries_nothing writes writes shown = tt
+  carries_nothing writes off None = tt
+  carries_nothing writes reads None = tt
+  carries_nothing writes off (Some x) = tt
+  carries_nothing writes reads (Some x) = tt
+  carries_nothing off v shown = λ x known. tt
+  carries_nothing reads v shown = λ x known. tt
+
+  -- ---- what is known of the value beside that
+  module _ {S : Type 0} where
+    pub knowing_at : (k : Knowledge S X) (m : S) (x : X) {A : Type 0} → IsKnown k m x → A → Knowing k m 0 x A
+    knowing_at no_fact m x known a = a
+    knowing_at (knows φ) m x known a = (known, a)
+
+    pub knowing_known : (k : Knowledge S X) (m : S) (x : X) (A : Type 0) → Knowing k m 0 x A → IsKnown k m x
+    knowing_known no_fact m x A known = tt
+    knowing_known (knows φ) m x A known = known.0
+
+    pub knowing_rest : (k : Knowledge S X) (m : S) (w : ℕ) (x : X) {A : Type 0} → Knowing k m w x A → A
+    knowing_rest no_fact m w x known = known
+    knowing_rest (knows φ) m zero x known = known.1
+    knowing_rest (knows φ) m (suc w) x known = known
+
+    -- where somebody writes, nothing
+    pub knowing_none : (k : Knowledge S X) (m : S) (w : ℕ) (x : X) {A : Type 0} → 0 < w → A → Knowing k m w x A
+    knowing_none k m zero x some a = absurd (omega (arith, some))
+    knowing_none no_fact m (suc w) x some a = a
+    knowing_none (knows φ) m (suc w) x some a = a
+
+    knowing_freed : (k : Knowledge S X) (m : S) (w : ℕ) (y : X) {A B : Type 0} → Freeing k B → (B → A) → Knowing k m w y A
+    knowing_freed no_fact m w y free to = to free
+    knowing_freed (knows φ) m zero y free to = (free.0 m y, to free.1)
+    knowing_freed (knows φ) m (suc w) y free to = to free.1
+
+    pub carrying_of : (k : Knowledge S X) (m m' : S) (u v : Use) (shown : Option X) {A : Type 0} → Owed k m m' u v shown → A → Carrying k m m' u v shown A
+    carrying_of no_fact m m' u v shown owed a = a
+    carrying_of (knows φ) m m' u v shown owed a = (owed, a)
+
+    pub carrying_rest : (k : Knowledge S X) (m m' : S) (u v : Use) (shown : Option X) {A : Type 0} → Carrying k m m' u v shown A → A
+    carrying_rest no_fact m m' u v shown owed = owed
+    carrying_rest (knows φ) m m' u v shown owed = owed.1
+
+    pub carrying_carries : (k : Knowledge S X) (m m' : S) (u v : Use) (shown : Option X) (A : Type 0) → Carrying k m m' u v shown A → Carries (IsKnown k m) (IsKnown k m') u v shown
+    carrying_carries no_fact m m' u v shown A owed = carries_nothing u v shown
+    carrying_carries (knows φ) m m' u v shown A owed = owed.0
+
+  -- what a party learns where the trace is t, it knows of its entries
+  pub learnt_of : {E S : Type 0} (k : Knowledge (Trace E S) X) (t : Trace E S) (u v : Use) (before after : Option X) → Learns (IsKnown k t) u v before after → Learnt k u v before after t.entries
+  learnt_of no_fact t u v before after learns = tt
+  learnt_of (knows φ) t u v before after learns = (t, refl, learns)
+
+  pub restarts : {V S : Type 0} (holds : ℕ → S → List V → Type 0) (ways : Ways X V S) (n : ℕ) (m : S) (x y : X) → Freeing ways.2 (Frees ways.0) → Starts holds ways n m x → Starts holds ways n m y
+  restarts holds ways n m x y frees starts =
+      (starts.0, starts.1, knowing_freed ways.2 m (writers_of ways.1 starts.0) y frees (λ free. freed ways.0 free (readers_of ways.1 starts.0) (writers_of ways.1 starts.0) y))
 
   -- where somebody writes, nothing is known of the value
   pub unknown : (way : Way X) (r w : ℕ) (x : X) → Limits way r w → 0 < w → Fixed way r w x

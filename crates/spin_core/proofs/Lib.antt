@@ -34,6 +34,7 @@ pub mod Runs
 pub mod Owns
 pub mod Sends
 pub mod Ties
+pub mod Values
 pub mod Passes
 pub mod Retries
 pub mod TieLaws

@@ -14,7 +14,7 @@ use Rattle.std.specs.List.{list_all}
 use Rattle.spin_model.specs.declared.place.Seat.{Seat}
 use Rattle.spin_core.specs.Run.{IsPlayed, outcomes, is_played}
 use Rattle.spin_core.specs.Own.{Numbered, what, by_party, entries_by, MadeNone, Tells}
-use Rattle.spin_core.specs.Passes.{mark_of, MayBe, IsNumber, Course, Nothing, Waits, Ends, Begins, IsCall, IsStep, step_by, outcomes_by, Did, Made, Since, Stepped, IsIn, HasCalled}
+use Rattle.spin_core.specs.Passes.{mark_of, MayBe, IsNumber, Course, Nothing, Waits, Ends, Begins, WritesSome, IsCall, IsStep, step_by, outcomes_by, Did, Made, Since, Stepped, IsIn, HasCalled}
 use Rattle.spin_core.specs.Cell.{Ways, Moved}
 use Rattle.spin_core.specs.Traced.{Watches, Named}
 use Rattle.spin_core.specs.declared.trace.Trace.{Trace}
@@ -124,7 +124,7 @@ module _ {W V C L A : Type 0} (m : Machine W V C L A) where
         )
 
 -- the rule says that the trace has this name
-pub may_know : {E S V R : Type 0} (holds : ℕ → Trace E S → List V → Type 0) (ways : Ways R V) (name : ℕ) → ((n : ℕ) (t : Trace E S) (vs : List V) → holds n t vs → t.name ≡ name) → (known : ℕ) → name ≡ known → Named holds ways known
+pub may_know : {E S V R : Type 0} (holds : ℕ → Trace E S → List V → Type 0) (ways : Ways R V (Trace E S)) (name : ℕ) → ((n : ℕ) (t : Trace E S) (vs : List V) → holds n t vs → t.name ≡ name) → (known : ℕ) → name ≡ known → Named holds ways known
 may_know holds ways name says known same n t vs meets = says n t vs meets.0 ∙ same
 
 -- What a step tells a party that knew all up to its last step: which course it took, where it led, and that the party knows all again
@@ -179,6 +179,12 @@ module _ {W V C L A X : Type 0} (m : Machine W V C L A) where
     -- a step that begins a call and answers it
     pub whole : (c : C) (a : A) → Makes (IsStep false c (Answered a None)) → Makes (IsCall c a)
     whole c a = weaker (IsStep false c (Answered a None)) (IsCall c a) (λ own outs s. (Step ∷ [], Answered a None ∷ [], s.0, s.1, (0, refl, refl)))
+
+    -- the same behind a write
+    pub whole_behind : (Q : V → Type 0) (c : C) (a : A) → Makes (WritesSome Q (IsStep false c (Answered a None))) → Makes (WritesSome Q (IsCall c a))
+    whole_behind Q c a =
+        weaker (WritesSome Q (IsStep false c (Answered a None))) (WritesSome Q (IsCall c a))
+        (λ own outs (x, so, (rest, comes, is, are, s)). (x, so, (rest, comes, is, are, (Step ∷ [], Answered a None ∷ [], s.0, s.1, (0, refl, refl)))))
 
     -- one that begins a call, which goes on
     pub begins : (c : C) → Makes (IsStep false c GoingOn) → Makes (Begins c Waits)

@@ -7,7 +7,7 @@ use Rattle.std.specs.Prelude.{◌≢◌}
 use Rattle.spin_step.specs.Plain.{Plain, Change, Kind, Ask, gets, releases, apply, is_open, fresh, ticket_limit}
 use Rattle.spin_step.specs.Steps.{Decides}
 use Rattle.spin_step.specs.Parties.{party_of, apply_some, IsOpenStep, entries_after, no_entries}
-use Rattle.spin_core.specs.Cell.{Use, Way, Ways, Limits, Going, Meets, Allows, AllowsSecond, Moved, Rests, Stands, after, readers_of, writers_of, use_of, off, words}
+use Rattle.spin_core.specs.Cell.{Use, Way, Ways, no_fact, Limits, Going, Meets, Allows, AllowsSecond, Moved, Rests, Stands, after, readers_of, writers_of, use_of, off, words}
 use Rattle.spin_core.specs.Views.{Part, idle as nothing, holds, entries_of, Knows, HasPart, IsLockOf, Encodes}
 use Rattle.spin_step.specs.Orders.{IsInOrder}
 use Rattle.spin_core.specs.Plays.{becomes, exchanges}
@@ -56,8 +56,8 @@ module _ {V S : Type 0} (lock : Lock V S) where
   abbrev pub Holds : ℕ → S → List V → Type 0
   Holds = Encodes part cap first second
 
-  abbrev pub ways : Ways (Unit {0}) V
-  ways = (way, uses)
+  abbrev pub ways : Ways (Unit {0}) V S
+  ways = (way, uses, no_fact)
 
   -- in each lock in which the party of the view is what that says
   abbrev pub Each : Option V → (Plain → ℕ → Type 0) → Type 0

@@ -1,5 +1,5 @@
 -- Moves of one party, alone in its world, are moves of it in any world, with the same outcomes; so where a schedule leads, its step leads on, appended to it.
-use Rattle.std.proofs.Common.{◌≡◌, ℕ, zero, suc, ◌+◌, true, ◌&&◌, Option, Some, None, List, [], ◌∷◌, ◌++◌, length, map, replicate, slice_get, slice_set, refl, sym, ap, ◌∙◌, subst, arith}
+use Rattle.std.proofs.Common.{◌≡◌, ℕ, zero, suc, ◌+◌, Bool, true, false, ◌&&◌, Option, Some, None, List, [], ◌∷◌, ◌++◌, length, map, replicate, slice_get, slice_set, refl, sym, ap, ◌∙◌, subst, arith}
 use Rattle.std.proofs.Math.Seq.{set-append_seam}
 use Rattle.std.specs.List.{list_all}
 use Rattle.std.proofs.lemmas.Bool.{and_parts}
@@ -9,14 +9,14 @@ use mathlib.Core.Option.{some, some-injective, some-ne-none}
 use lib.ListN.{get_elem?}
 use Rattle.spin_model.specs.declared.place.Hold.{Hold}
 use Rattle.spin_model.specs.declared.place.Seat.{Seat}
-use Rattle.spin_model.specs.declared.place.Seat.TheVariants.{Idle, Calling, Holding}
+use Rattle.spin_model.specs.declared.place.Seat.TheVariants.{Idle, Calling, Holding, Leaked}
 use Rattle.spin_model.specs.declared.schedule.Move.{Move}
-use Rattle.spin_model.specs.declared.schedule.Move.TheVariants.{Begin, Step, Weak}
+use Rattle.spin_model.specs.declared.schedule.Move.TheVariants.{Begin, Step, Weak, Write}
 use Rattle.spin_model.specs.declared.schedule.Outcome.{Outcome}
 use Rattle.spin_model.specs.declared.step.Next.{Next}
 use Rattle.spin_model.specs.declared.step.Next.TheVariants.{Continue, Answers}
 use Rattle.spin_model.specs.Machines.{Machine}
-use Rattle.spin_model.specs.Schedules.{State, Entry, after, at_first, happens, moves, begun, goes_on, refuses, resting, placed}
+use Rattle.spin_model.specs.Schedules.{State, Entry, after, at_first, happens, moves, begun, goes_on, refuses, resting, placed, may_write, written_by}
 use Rattle.spin_model.proofs.Schedules.{after-append}
 use Rattle.spin_core.specs.Run.{is_of_call, outcomes, is_played, IsPlayed, AreOwn}
 use Rattle.spin_core.specs.Run as run
@@ -51,6 +51,10 @@ module _ {W V C L A : Type 0} (m : Machine W V C L A) (xs ys : List (Seat C L)) 
   refused_same w value seat c h None = (w, value, seat, refl, refl)
   refused_same w value seat c h (Some next) = goes_on_same w value seat c h next
 
+  written_same : (w : W) (value : Option V) (seat : Seat C L) (v : V) (may : Bool) → Same (written_by {A = A} (world w value (seat ∷ [])) v may).next (written_by {A = A} (world w value (xs ++ seat ∷ ys)) v may).next
+  written_same w value seat v true = (w, Some v, seat, refl, refl)
+  written_same w value seat v false = (w, value, seat, refl, refl)
+
   moved_same : (w : W) (value : Option V) (seat : Seat C L) (move : Move C V) → is_of_call move ≡ true
       → Same (moves m (world w value (seat ∷ [])) 0 move seat).next (moves m (world w value (xs ++ seat ∷ ys)) (length xs) move seat).next
   moved_same w value Idle (Begin c) is = begun_same w value Idle c None (m.begin c None)
@@ -58,6 +62,9 @@ module _ {W V C L A : Type 0} (m : Machine W V C L A) (xs ys : List (Seat C L)) 
   moved_same w value (Calling c l h) Step is =
       let st = m.step w value c l h in goes_on_same st.words (placed st.placed value) (Calling c l h) c h st.next
   moved_same w value (Calling c l h) Weak is = refused_same w value (Calling c l h) c h (m.refuse c l h)
+  moved_same w value (Holding h) (Write v) is = written_same w value (Holding h) v (may_write h)
+  moved_same w value (Leaked h) (Write v) is = written_same w value (Leaked h) v (may_write h)
+  moved_same w value seat (Write v) is = (w, value, seat, refl, refl)
   moved_same w value seat (Begin c) is = (w, value, seat, refl, refl)
   moved_same w value seat Step is = (w, value, seat, refl, refl)
   moved_same w value seat Weak is = (w, value, seat, refl, refl)
@@ -109,6 +116,10 @@ module _ {W V C L A : Type 0} (m : Machine W V C L A) (xs ys : List (Seat C L)) 
   refused_alike w value seat c h None = refl
   refused_alike w value seat c h (Some next) = goes_on_alike w value seat c h next
 
+  written_alike : (w : W) (value : Option V) (seat : Seat C L) (v : V) (may : Bool) → (written_by {A = A} (world w value (seat ∷ [])) v may).outcome ≡ (written_by {A = A} (world w value (xs ++ seat ∷ ys)) v may).outcome
+  written_alike w value seat v true = refl
+  written_alike w value seat v false = refl
+
   moved_alike : (w : W) (value : Option V) (seat : Seat C L) (move : Move C V) → is_of_call move ≡ true
       → (moves m (world w value (seat ∷ [])) 0 move seat).outcome ≡ (moves m (world w value (xs ++ seat ∷ ys)) (length xs) move seat).outcome
   moved_alike w value Idle (Begin c) is = begun_alike w value Idle c None (m.begin c None)
@@ -116,6 +127,9 @@ module _ {W V C L A : Type 0} (m : Machine W V C L A) (xs ys : List (Seat C L)) 
   moved_alike w value (Calling c l h) Step is =
       let st = m.step w value c l h in goes_on_alike st.words (placed st.placed value) (Calling c l h) c h st.next
   moved_alike w value (Calling c l h) Weak is = refused_alike w value (Calling c l h) c h (m.refuse c l h)
+  moved_alike w value (Holding h) (Write v) is = written_alike w value (Holding h) v (may_write h)
+  moved_alike w value (Leaked h) (Write v) is = written_alike w value (Leaked h) v (may_write h)
+  moved_alike w value seat (Write v) is = refl
   moved_alike w value seat (Begin c) is = refl
   moved_alike w value seat Step is = refl
   moved_alike w value seat Weak is = refl

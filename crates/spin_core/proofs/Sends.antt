@@ -16,9 +16,12 @@ use Rattle.spin_core.specs.contracts.trace.Trace.{the_row, the_type}
 use Rattle.spin_core.proofs.TraceSteps.{log_keyless}
 use Rattle.spin_model.specs.contracts.schedule.Move as move
 
--- an entry, of calls of this row
+-- an entry, of calls of this row and values of that one, or of calls alone
+abbrev pub entry_over : RattleType → RattleType → RattleType
+entry_over C V = Tuple (usize ∷ move.the_row C V ∷ [])
+
 abbrev pub entry : RattleType → RattleType
-entry C = Tuple (usize ∷ move.the_row C unit ∷ [])
+entry C = entry_over C unit
 
 -- what lies in its fields
 pub fields_send : (E S : RattleType) → IsSend S → IsSend (Struct (shape (the_type E S)))

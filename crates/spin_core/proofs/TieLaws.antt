@@ -1,5 +1,7 @@
 -- The types that a lock on threads names where its trace is a schedule, with their laws: a walk over its guard cites them.
-use Rattle.std.proofs.Common.{[], ◌∷◌, refl}
+use Rattle.std.proofs.Common.{[], ◌∷◌, ◌++◌, refl}
+use base.Fml.{Lft}
+use contract.BorrowLft.{◌⊑◌, ⊑_meet, ⊑_static}
 use denote.Builtin.{unit, usize}
 use denote.RattleType.{RattleType}
 use denote.Param.Laws.{Laws, of_field}
@@ -11,7 +13,9 @@ use Rattle.spin_core.specs.contracts.trace.Watch as watch
 use Rattle.spin_core.specs.contracts.trace.Trace as trace
 use Rattle.spin_core.proofs.trace.Watch.TheLaws as watches
 use Rattle.spin_core.proofs.trace.Trace.TheLaws as traces
-use Rattle.spin_core.proofs.Sends.{entry}
+use Rattle.spin_core.proofs.Sends.{entry, entry_over}
+use Rattle.spin_core.specs.contracts.tie.Opening as opening
+use Rattle.spin_core.proofs.tie.Opening.TheLaws as openings
 use Rattle.spin_model.proofs.schedule.Move.TheLaws as moves
 
 abbrev numbers : Laws usize
@@ -28,8 +32,11 @@ abbrev pub numbered_laws : (V : RattleType) → Laws V → Laws (numbered V)
 numbered_laws V laws = tuple_laws (V ∷ usize ∷ usize ∷ []) (laws, (numbers, (numbers, tt)))
 
 -- an entry, and what is known of a trace of such, and a trace beside a second word
+abbrev pub entry_over_laws : (C V : RattleType) → Laws C → Laws V → Laws (entry_over C V)
+entry_over_laws C V laws values = tuple_laws (usize ∷ _ ∷ []) (numbers, (moves.the_row_laws C V laws values, tt))
+
 abbrev pub entry_laws : (C : RattleType) → Laws C → Laws (entry C)
-entry_laws C laws = tuple_laws (usize ∷ _ ∷ []) (numbers, (moves.the_row_laws C unit laws units, tt))
+entry_laws C laws = entry_over_laws C unit laws units
 
 abbrev pub watched : RattleType → RattleType
 watched C = watch.the_row (entry C)
@@ -42,3 +49,32 @@ traced C S = trace.the_row (entry C) S
 
 abbrev pub trace_laws : (C S : RattleType) → Laws C → Laws S → Laws (traced C S)
 trace_laws C S laws second = traces.the_row_laws (entry C) S (entry_laws C laws) second
+
+-- the same of a lock whose trace tells values of this row, and what is settled of it when it is made
+abbrev pub opened : RattleType → RattleType
+opened V = opening.the_row V
+
+abbrev pub opening_laws : (V : RattleType) → Laws V → Laws (opened V)
+opening_laws V laws = openings.the_row_laws V laws
+
+abbrev pub traced_over : RattleType → RattleType → RattleType → RattleType
+traced_over C V S = trace.the_row (entry_over C V) S
+
+abbrev pub trace_over_laws : (C V S : RattleType) → Laws C → Laws V → Laws S → Laws (traced_over C V S)
+trace_over_laws C V S laws values second = traces.the_row_laws (entry_over C V) S (entry_over_laws C V laws values) second
+
+-- What a lock owes where it takes a watch of such a trace: the values live as long as the borrow of the lock
+module _ (κ l : Lft) (within : κ ⊑ l) where
+  abbrev alone : Lft
+  alone = l ++ []
+
+  abbrev thrice : Lft
+  thrice = alone ++ (alone ++ (alone ++ []))
+
+  pub entries_within : κ ⊑ (thrice ++ []) ++ (thrice ++ [])
+  entries_within =
+      let one = ⊑_meet _ _ _ within (⊑_static _) in let three = ⊑_meet _ _ _ one (⊑_meet _ _ _ one (⊑_meet _ _ _ one (⊑_static _))) in
+      ⊑_meet _ _ _ (⊑_meet _ _ _ three (⊑_static _)) (⊑_meet _ _ _ three (⊑_static _))
+
+  pub permit_within : κ ⊑ alone ++ ((alone ++ []) ++ [])
+  permit_within = let one = ⊑_meet _ _ _ within (⊑_static _) in ⊑_meet _ _ _ one (⊑_meet _ _ _ (⊑_meet _ _ _ one (⊑_static _)) (⊑_static _))

@@ -6,7 +6,7 @@ use lib.ListN.{get_elem?}
 use Rattle.std.proofs.lemmas.List.{map-append, map-set}
 use Rattle.std.proofs.lemmas.List.Sums.{sum_by-cons}
 use Rattle.spin_core.specs.declared.trace.Trace.{Trace}
-use Rattle.spin_core.specs.Cell.{Way, Ways, Use, use_of, Rests, reading, writing, Limits, Going, Meets, AllowsAt, AllowsSecondAt, Stands, readers_of, writers_of, after as views_after}
+use Rattle.spin_core.specs.Cell.{Way, Ways, no_fact, Use, use_of, Rests, reading, writing, Limits, Going, Knowledge, Owed, Carrying, Meets, AllowsAt, AllowsSecondAt, Stands, readers_of, writers_of, after as views_after}
 use Rattle.spin_core.specs.Traced.{Traces, TracesSecond, Named, grown_at}
 use Rattle.spin_model.specs.declared.place.Seat.{Seat}
 use Rattle.spin_model.specs.declared.place.Seat.TheVariants.{Idle}
@@ -16,7 +16,7 @@ use Rattle.spin_model.specs.Machines.{Machine}
 use Rattle.spin_model.specs.Schedules.{Entry}
 use Rattle.spin_core.specs.Run.{AreMoves, on_first, on_second, first, second}
 use Rattle.spin_core.specs.Own.{Numbered, by_party, what, IsRun, Tells, Runs}
-use Rattle.spin_core.proofs.CellWays.{going_map}
+use Rattle.spin_core.proofs.CellWays.{going_map, carrying_of}
 use Rattle.spin_core.proofs.Owns as owns
 
 module _ {X : Type 0} where
@@ -40,7 +40,7 @@ module _ {X : Type 0} where
   same_after id None vs w = map-append (λ (v : Numbered X). v.0) vs (w ∷ [])
   same_after id (Some u) vs w = map-set (λ (v : Numbered X). v.0) vs id w
 
-  same_use : (f : X → Use) (view : Option (Numbered X)) → use_of f (what view) ≡ use_of (λ v. f v.0) view
+  pub same_use : (f : X → Use) (view : Option (Numbered X)) → use_of f (what view) ≡ use_of (λ v. f v.0) view
   same_use f None = refl
   same_use f (Some u) = refl
 
@@ -58,15 +58,19 @@ module _ {X : Type 0} where
       numbered : Limits way (readers_of f (all vs)) (writers_of f (all vs)) → Limits way (readers_of (λ v. f v.0) vs) (writers_of (λ v. f v.0) vs)
       numbered l = subst (λ (z : ℕ × ℕ). Limits way z.0 z.1) (λ i. (as_many_read i, as_many_write i)) l
 
-module _ {W V C L A X S : Type 0} (m : Machine W V C L A) (seat_of : X → Seat C L) (words_of : W → ℕ × S) (holds : ℕ → S → List X → Type 0) (name : ℕ) (Y : Type 0) (way : Way Y) (f : X → Use) where
+module _ {W V C L A X S : Type 0} (m : Machine W V C L A) (seat_of : X → Seat C L) (words_of : W → ℕ × S) (holds : ℕ → S → List X → Type 0) (name : ℕ) (Y : Type 0) (way : Way Y) (f : X → Use) (know : Knowledge (Trace (Entry C V) S) Y) where
   abbrev Of : ℕ → Trace (Entry C V) S → List (Numbered X) → Type 0
   Of = Runs m seat_of words_of holds name
 
-  abbrev ways : Ways Y X
-  ways = (way, f)
+  abbrev pub ways : Ways Y X S
+  ways = (way, f, no_fact)
 
-  abbrev own_ways : Ways Y (Numbered X)
-  own_ways = (way, λ v. f v.0)
+  abbrev pub own_ways : Ways Y (Numbered X) (Trace (Entry C V) S)
+  own_ways = (way, λ v. f v.0, know)
+
+  -- what the moves owe of the value, whatever the trace is
+  abbrev pub Owing : Use → Use → Option Y → List (Move C V) → Type 0
+  Owing u u' shown own = (t : Trace (Entry C V) S) (word : S) (p : ℕ) → Owed know t (grown_at t word (by_party p own)) u u' shown
 
   pub named : Named Of own_ways name
   named n t vs meets = meets.0.0
@@ -78,20 +82,25 @@ module _ {W V C L A X S : Type 0} (m : Machine W V C L A) (seat_of : X → Seat 
     abbrev Then : List (Entry C V) → List (Entry C V) → ℕ → Numbered X → Type 0
     Then = Tells m seat_of words_of says view
 
+    abbrev Owes : Type 0
+    Owes = (own : List (Move C V)) (outs : List (Outcome A V)) (n : ℕ) (u : X) → says own outs n u → Owing (use_of f (what view)) (f u) shown own
+
     -- where the rule gives the party a next view, its moves lead to that
-    leads : AreMoves m seat_of words_of (what view) to found then says → (id n : ℕ) (t : Trace (Entry C V) S) (vs : List (Numbered X)) → Meets Of own_ways n t vs → Stands id view vs
+    leads : AreMoves m seat_of words_of (what view) to found then says → Owes → (id n : ℕ) (t : Trace (Entry C V) S) (vs : List (Numbered X)) → Meets Of own_ways n t vs → Stands id view vs
         → (u : X) → Going way (use_of f (what view)) (f u) shown (readers_of f (all vs)) (Meets holds ways (to (n, t.word)).0 (to (n, t.word)).1 (views_after id (what view) (all vs) u)) → then (found (n, t.word)) u
-        → (w : Numbered X) × (es : List (Entry C V)) × Going way (use_of (λ v. f v.0) view) (f w.0) shown (readers_of (λ v. f v.0) vs) (Meets Of own_ways (to (n, t.word)).0 (grown_at t (to (n, t.word)).1 es) (views_after id view vs w))
+        → (w : Numbered X) × (es : List (Entry C V)) × Going way (use_of (λ v. f v.0) view) (f w.0) shown (readers_of (λ v. f v.0) vs)
+        (Carrying know t (grown_at t (to (n, t.word)).1 es) (use_of (λ v. f v.0) view) (f w.0) shown (Meets Of own_ways (to (n, t.word)).0 (grown_at t (to (n, t.word)).1 es) (views_after id view vs w)))
         × Then t.entries es (found (n, t.word)) w
-    leads moves id n t vs meets at u going so =
+    leads moves owes id n t vs meets at u going so =
         let s : ℕ × S = (n, t.word) in
         let led = owns.step m seat_of words_of view to found then says moves id s t.entries vs meets.0.2 at u so in
         let p : ℕ = led.0 in let es : List (Entry C V) = by_party p led.1 in let w : Numbered X = (u, p, length (t.entries ++ es)) in
         let us : List (Numbered X) = views_after id view vs w in
-        let Kept : Type 0 = Meets Of own_ways (to s).0 (grown_at t (to s).1 es) us in
+        let Kept : Type 0 = Carrying know t (grown_at t (to s).1 es) (use_of (λ v. f v.0) view) (f u) shown (Meets Of own_ways (to s).0 (grown_at t (to s).1 es) us) in
+        let owed = subst (λ z. Owed know t (grown_at t (to s).1 es) z (f u) shown) (same_use f view) (owes led.1 led.2 (found s) u led.3.3 t (to s).1 p) in
         let keeps : Meets holds ways (to s).0 (to s).1 (views_after id (what view) (all vs) u) → Kept = λ met.
         let met' : Meets holds ways (to s).0 (to s).1 (all us) = subst (λ l. Meets holds ways (to s).0 (to s).1 l) (sym (same_after id view vs w)) met in
-        ((meets.0.0, met'.0, led.3.0), numbered f us way met'.1) in (
+        carrying_of know t (grown_at t (to s).1 es) (use_of (λ v. f v.0) view) (f u) shown owed ((meets.0.0, met'.0, led.3.0), numbered f us way met'.1) in (
           w,
           es,
           subst (λ (z : Use × ℕ). Going way z.0 (f u) shown z.1 Kept) (λ i. (same_use f view i, as_many_read f vs i)) (going_map way (use_of f (what view)) (f u) shown (readers_of f (all vs)) keeps going),
@@ -100,10 +109,10 @@ module _ {W V C L A X S : Type 0} (m : Machine W V C L A) (seat_of : X → Seat 
 
   module _ (view : Option (Numbered X)) (shown : Option Y) (g : ℕ → ℕ) (then : ℕ → X → Type 0) (says : List (Move C V) → List (Outcome A V) → ℕ → X → Type 0) where
     -- a step on the first word
-    pub traces : AreMoves m seat_of words_of (what view) (on_first g) first then says → AllowsAt holds ways (what view) shown g then → Traces Of own_ways view shown g (Tells m seat_of words_of says view)
-    traces moves allows id n t vs meets at small =
+    pub traces : AreMoves m seat_of words_of (what view) (on_first g) first then says → Owes view shown (on_first g) first then says → AllowsAt holds ways (what view) shown g then → Traces Of own_ways view shown g (Tells m seat_of words_of says view)
+    traces moves owes allows id n t vs meets at small =
         let made = allows id n t.word (all vs) (meets.0.1, plain f vs way meets.1) (stands id view vs at) small in
-        leads view shown (on_first g) first then says moves id n t vs meets at made.0 made.1 made.2
+        leads view shown (on_first g) first then says moves owes id n t vs meets at made.0 made.1 made.2
 
   pub rests : (v : Numbered X) → seat_of v.0 ≡ Idle → Rests holds f (Some v.0) → Rests Of (λ w. f w.0) (Some v)
   rests v idle rest = (
@@ -116,10 +125,18 @@ module _ {W V C L A X S : Type 0} (m : Machine W V C L A) (seat_of : X → Seat 
   )
 
 -- a step on the second
-module _ {W V C L A X : Type 0} (m : Machine W V C L A) (seat_of : X → Seat C L) (words_of : W → ℕ × ℕ) (holds : ℕ → ℕ → List X → Type 0) (name : ℕ) (Y : Type 0) (way : Way Y) (f : X → Use) where
+module _ {W V C L A X : Type 0} (m : Machine W V C L A) (seat_of : X → Seat C L) (words_of : W → ℕ × ℕ) (holds : ℕ → ℕ → List X → Type 0) (name : ℕ) (Y : Type 0) (way : Way Y) (f : X → Use) (know : Knowledge (Trace (Entry C V) ℕ) Y) where
   pub traces_second : (view : Option (Numbered X)) (shown : Option Y) (g : ℕ → ℕ) (then : ℕ → X → Type 0) (says : List (Move C V) → List (Outcome A V) → ℕ → X → Type 0)
-      → AreMoves m seat_of words_of (what view) (on_second g) second then says → AllowsSecondAt holds (way, f) (what view) shown g then
-      → TracesSecond (Runs m seat_of words_of holds name) (way, λ v. f v.0) view shown g (Tells m seat_of words_of says view)
-  traces_second view shown g then says moves allows id n t vs meets at small =
+      → AreMoves m seat_of words_of (what view) (on_second g) second then says → Owes m seat_of words_of holds name Y way f know view shown (on_second g) second then says → AllowsSecondAt holds (ways m seat_of words_of holds name Y way f know) (what view) shown g then
+      → TracesSecond (Runs m seat_of words_of holds name) (own_ways m seat_of words_of holds name Y way f know) view shown g (Tells m seat_of words_of says view)
+  traces_second view shown g then says moves owes allows id n t vs meets at small =
       let made = allows id n t.word (all vs) (meets.0.1, plain f vs way meets.1) (stands id view vs at) small in
-      leads m seat_of words_of holds name Y way f view shown (on_second g) second then says moves id n t vs meets at made.0 made.1 made.2
+      leads m seat_of words_of holds name Y way f know view shown (on_second g) second then says moves owes id n t vs meets at made.0 made.1 made.2
+
+-- a step tells less of its moves
+module _ {W V C L A X S : Type 0} (m : Machine W V C L A) (seat_of : X → Seat C L) (words_of : W → ℕ × S) (view : Option (Numbered X)) (says says' : List (Move C V) → List (Outcome A V) → ℕ → X → Type 0)
+    (less : (own : List (Move C V)) (outs : List (Outcome A V)) (n : ℕ) (u : X) → says own outs n u → says' own outs n u) where
+  pub tells_less : {Y : Type 0} (holds : ℕ → Trace (Entry C V) S → List (Numbered X) → Type 0) (used : Ways Y (Numbered X) (Trace (Entry C V) S)) (shown : Option Y) (g : ℕ → ℕ)
+      → Traces holds used view shown g (Tells m seat_of words_of says view) → Traces holds used view shown g (Tells m seat_of words_of says' view)
+  tells_less holds used shown g traces id n t vs meets at small =
+      let (w, es, going, (own, outs, is, mark, none, mine, said)) = traces id n t vs meets at small in (w, es, going, (own, outs, is, mark, none, mine, less own outs n w.0 said))

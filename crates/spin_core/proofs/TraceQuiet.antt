@@ -1,11 +1,14 @@
 -- A lock without a trace, on the steps that append: each appends nothing.
 use Rattle.std.proofs.Common.{ℕ, [], List, Option, Some, None, refl}
 use Rattle.spin_core.specs.declared.trace.Watch.{Watch}
-use Rattle.spin_core.specs.Cell.{Use, Ways, AllowsAt, AllowsSecondAt, Rests, Moved}
+use Rattle.spin_core.specs.Cell.{Use, Way, Ways, no_fact, AllowsAt, AllowsSecondAt, Rests, Moved}
 use Rattle.spin_core.specs.Traced.{Traces, TracesSecond, Watches, Untraced, quiet}
 
 module _ {V : Type 0} (E : Type 0) where
-  module _ {X : Type 0} (ways : Ways X V) (view : Option V) (shown : Option X) (f : ℕ → ℕ) (then : ℕ → V → Type 0) where
+  module _ {X : Type 0} (way : Way X) (uses : V → Use) (view : Option V) (shown : Option X) (f : ℕ → ℕ) (then : ℕ → V → Type 0) where
+    abbrev ways : {S : Type 0} → Ways X V S
+    ways = (way, uses, no_fact)
+
     pub quietly : {S : Type 0} (holds : ℕ → S → List V → Type 0) → AllowsAt holds ways view shown f then → Traces (Untraced {E = E} holds) ways view shown f (quiet then)
     quietly holds allows id n t vs meets at small = let r = allows id n t.word vs meets at small in (r.0, [], r.1, (refl, r.2))
 

@@ -16,9 +16,14 @@ pub data Way (X : Type 0) : Type 1 where
   lends : Way X
   fixes : (Bool → X → Type 0) → Way X
 
--- how the parties of a rule use the value: the way, and the use of each view
-abbrev pub Ways : Type 0 → Type 0 → Type 1
-Ways X V = Way X × (V → Use)
+-- what is known of a value that nobody writes: nothing, or a fact of it and of the second, such as a trace
+pub data Knowledge (S X : Type 0) : Type 1 where
+  no_fact : Knowledge S X
+  knows : (S → X → Type 0) → Knowledge S X
+
+-- how the parties of a rule use the value: the way, the use of each view, and what is known of the value
+abbrev pub Ways : Type 0 → Type 0 → Type 0 → Type 1
+Ways X V S = Way X × (V → Use) × Knowledge S X
 
 -- counts 1 for a party that reads; `writing` below counts 1 for a party that writes
 abbrev pub reading : Use → ℕ
@@ -76,10 +81,56 @@ module _ {X : Type 0} where
   IsNew (fixes fact) vs = Unit {0}
   IsNew _ vs = vs ≡ []
 
+  -- whether a value that nobody writes is shared
+  abbrev pub IsShared : Way X → Type 0
+  IsShared alone = ⊥
+  IsShared _ = Unit {0}
+
   -- any value may take the place of one that nobody uses
   abbrev pub Frees : Way X → Type 0
   Frees (fixes fact) = (read : Bool) (x : X) → fact read x
   Frees _ = Unit {0}
+
+  -- what is known of a value that nobody writes
+  abbrev pub IsKnown : {S : Type 0} → Knowledge S X → S → X → Type 0
+  IsKnown no_fact m x = Unit {0}
+  IsKnown (knows φ) m x = φ m x
+
+  -- a new value has the fact, and A; where there is none to know, A alone
+  abbrev pub Knowing : {S : Type 0} → Knowledge S X → S → ℕ → X → Type 0 → Type 0
+  Knowing (knows φ) m zero x A = φ m x × A
+  Knowing _ m w x A = A
+
+  -- any value has the fact, and A
+  abbrev pub Freeing : {S : Type 0} → Knowledge S X → Type 0 → Type 0
+  Freeing no_fact A = A
+  Freeing {S} (knows φ) A = ((m : S) (x : X) → φ m x) × A
+
+  -- What a step owes, where ψ takes the place of φ as what is known of a value that nobody writes: a writer that ends leaves ψ of what it was shown;
+  -- others keep ψ of whatever φ is known of
+  abbrev pub Carries : (X → Type 0) → (X → Type 0) → Use → Use → Option X → Type 0
+  Carries φ ψ writes writes shown = Unit {0}
+  Carries φ ψ writes _ None = Unit {0}
+  Carries φ ψ writes _ (Some x) = ψ x
+  Carries φ ψ _ _ shown = (x : X) → φ x → ψ x
+
+  -- and what it tells its party, by the values that it is shown before and after: ψ of one that it comes to use, and of one that it has written
+  abbrev pub Learns : (X → Type 0) → Use → Use → Option X → Option X → Type 0
+  Learns ψ reads reads before after = Unit {0}
+  Learns ψ writes writes before after = Unit {0}
+  Learns ψ writes off (Some x) after = ψ x
+  Learns ψ _ _ before (Some x) = ψ x
+  Learns ψ _ _ before None = Unit {0}
+
+  -- what a step that makes m' of m owes of it
+  abbrev pub Owed : {S : Type 0} → Knowledge S X → S → S → Use → Use → Option X → Type 0
+  Owed no_fact m m' u v shown = Unit {0}
+  Owed (knows φ) m m' u v shown = Carries (φ m) (φ m') u v shown
+
+  -- a step that makes m' of m owes that, and A; where there is nothing to know, A alone
+  abbrev pub Carrying : {S : Type 0} → Knowledge S X → S → S → Use → Use → Option X → Type 0 → Type 0
+  Carrying no_fact m m' u v shown A = A
+  Carrying (knows φ) m m' u v shown A = Carries (φ m) (φ m') u v shown × A
 
   -- what a party that is shown the value owes where it comes from one use to another and r parties read: a party that comes to
   -- read finds a reader, and one that has written leaves the fact
@@ -113,21 +164,26 @@ module _ {X : Type 0} where
   Preserves way u v before after = Shows v before after × Finds way u v after
 
   -- a step from one view to another keeps the value that is shown
-  abbrev pub Keeps : {V : Type 0} → Ways X V → Option V → Option V → Option X → Option X → Type 0
+  abbrev pub Keeps : {V S : Type 0} → Ways X V S → Option V → Option V → Option X → Option X → Type 0
   Keeps ways view new before after = Preserves ways.0 (use_of ways.1 view) (use_of ways.1 new) before after
 
-module _ {X V S : Type 0} (holds : ℕ → S → List V → Type 0) (ways : Ways X V) where
+module _ {X V S : Type 0} (holds : ℕ → S → List V → Type 0) (ways : Ways X V S) where
   -- the rule holds of the first word, of the second or nothing, and of the views, and the uses agree with one another
   abbrev pub Meets : ℕ → S → List V → Type 0
   Meets n m vs = holds n m vs × Limits ways.0 (readers_of ways.1 vs) (writers_of ways.1 vs)
 
   -- some parties may have come to a cell with these words and this value, and gone
   abbrev pub Starts : ℕ → S → X → Type 0
-  Starts n m x = (vs : List V) × Meets n m vs × Fixed ways.0 (readers_of ways.1 vs) (writers_of ways.1 vs) x
+  Starts n m x = (vs : List V) × Meets n m vs × Knowing ways.2 m (writers_of ways.1 vs) x (Fixed ways.0 (readers_of ways.1 vs) (writers_of ways.1 vs) x)
 
   -- nobody has come to a new cell; or, where a value is read for good, the party that made it has gone
   abbrev pub Opens : ℕ → S → X → Type 0
-  Opens n m x = (vs : List V) × IsNew ways.0 vs × Meets n m vs × Fixed ways.0 (readers_of ways.1 vs) (writers_of ways.1 vs) x
+  Opens n m x = (vs : List V) × IsNew ways.0 vs × Meets n m vs × Knowing ways.2 m (writers_of ways.1 vs) x (Fixed ways.0 (readers_of ways.1 vs) (writers_of ways.1 vs) x)
+
+-- the rule under another key holds wherever it held, and each view uses the value as before
+module _ {X V S : Type 0} (holds : ℕ → S → List V → Type 0) (ways : Ways X V S) (holds' : ℕ → S → List V → Type 0) (ways' : Ways X V S) where
+  abbrev pub Lends : Type 0
+  Lends = (IsShared ways'.0 → IsShared ways.0) × ((v : V) → ways'.1 v ≡ ways.1 v) × ((n : ℕ) (m : S) (x : X) → Starts holds ways n m x → Starts holds' ways' n m x)
 
 module _ {V : Type 0} where
   -- the party has this view, or has no view yet
@@ -147,7 +203,7 @@ module _ {V : Type 0} where
 
 -- What a step asks of a party that is shown a value, or nothing: whatever the words and the views are when the word becomes f of what it was,
 -- the party has a next view that keeps the rule
-module _ {X V S : Type 0} (holds : ℕ → S → List V → Type 0) (ways : Ways X V) (view : Option V) where
+module _ {X V S : Type 0} (holds : ℕ → S → List V → Type 0) (ways : Ways X V S) (view : Option V) where
   -- of the first word
   abbrev pub AllowsAt : Option X → (ℕ → ℕ) → (ℕ → V → Type 0) → Type 0
   AllowsAt shown f then = (id n : ℕ) (m : S) (vs : List V) → Meets holds ways n m vs → Stands id view vs → n < words
@@ -158,7 +214,7 @@ module _ {X V S : Type 0} (holds : ℕ → S → List V → Type 0) (ways : Ways
   Allows f then = AllowsAt None f then
 
 -- of the second, where there is one
-module _ {X V : Type 0} (holds : ℕ → ℕ → List V → Type 0) (ways : Ways X V) (view : Option V) where
+module _ {X V : Type 0} (holds : ℕ → ℕ → List V → Type 0) (ways : Ways X V ℕ) (view : Option V) where
   abbrev pub AllowsSecondAt : Option X → (ℕ → ℕ) → (ℕ → V → Type 0) → Type 0
   AllowsSecondAt shown f then = (id n m : ℕ) (vs : List V) → Meets holds ways n m vs → Stands id view vs → m < words
       → (w : V) × Going ways.0 (use_of ways.1 view) (ways.1 w) shown (readers_of ways.1 vs) (Meets holds ways n (f m) (after id view vs w)) × then m w

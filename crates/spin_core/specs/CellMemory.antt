@@ -22,7 +22,7 @@ use Rattle.core.specs.Sync.RawAtomic.{word}
 use Rattle.atomic_table.specs.Seated.{fact, halved, seen}
 use types.Keyed.{entries_from}
 use base.Share.{quarter}
-use Rattle.spin_core.specs.Cell.{Use, off, reads, writes, Way, alone, lends, fixes, Ways, use_of, readers_of, writers_of, Meets, Starts}
+use Rattle.spin_core.specs.Cell.{Use, off, reads, writes, Way, alone, lends, fixes, Ways, IsShared, IsKnown, use_of, readers_of, writers_of, Meets, Starts}
 
 -- where the value lies, behind the first word
 abbrev pub offset : RattleType → ℕ
@@ -40,14 +40,9 @@ Common R = (x : R.Denot) (b e : ℕ) (κ : Lft) → Keyless (shared_of R x b e �
 abbrev pub Sends : RattleType → Type 0
 Sends S = (y : S.Denot) (vs : List Val) → Keyless (S.own_val y vs)
 
--- whether a value that nobody writes is shared
-abbrev pub IsShared : {X : Type 0} → Way X → Type 0
-IsShared alone = ⊥
-IsShared _ = Unit {0}
-
 -- where parties share the value, or some view reads it, the rule's own type stands for the value's: a thread that may share the one may share the other
 -- and any thread may have what stands for the second word
-abbrev pub Known : {X V : Type 0} → Ways X V → RattleType → RattleType → RattleType → Type 0
+abbrev pub Known : {X V S : Type 0} → Ways X V S → RattleType → RattleType → RattleType → Type 0
 Known {V = V} ways Y S R = (IsShared ways.0 → Common Y → Common R) × ((v : V) → ways.1 v ≡ reads → Common Y → Common R) × Sends S
 
 -- α, γ, ρ and ν
@@ -129,10 +124,14 @@ module _ (R : RattleType) (b o : ℕ) where
     missing alone = ftrue
     missing _ = idle t.round
 
+    -- the same, of which φ is known
+    abbrev pub lying : Way R.Denot → (R.Denot → Type 0) → ℕ → R.Denot → Fml
+    lying way φ r x = fex (φ x) (λ _. resting way r x)
+
     -- the same with r readers and w writers
-    abbrev pub state : Way R.Denot → ℕ → ℕ → Fml
-    state way r zero = fex R.Denot (resting way r)
-    state way r (suc w) = missing way
+    abbrev pub state : Way R.Denot → (R.Denot → Type 0) → ℕ → ℕ → Fml
+    state way φ r zero = fex R.Denot (lying way φ r)
+    state way φ r (suc w) = missing way
 
     abbrev pub reader : Way R.Denot → R.Denot → Fml
     reader way x = fex ℕ (λ a. fsep (piece R way t.round (a, x)) (shown x (a ∷ t.life)))
@@ -150,9 +149,9 @@ module _ (R : RattleType) (b o : ℕ) where
       stand None = ftrue
       stand (Some v) = fex ℕ (λ id. seen c t.views id three_quarters v)
 
-      module _ (S : RattleType) (holds : ℕ → S.Denot → List V → Type 0) (ways : Ways R.Denot V) where
+      module _ (S : RattleType) (holds : ℕ → S.Denot → List V → Type 0) (ways : Ways R.Denot V S.Denot) where
         abbrev pub core_at : ℕ → S.Denot → List V → Fml
-        core_at n m vs = fsep (roster c t.views 0 vs) (fsep (fact (Meets holds ways n m vs)) (state ways.0 (readers_of ways.1 vs) (writers_of ways.1 vs)))
+        core_at n m vs = fsep (roster c t.views 0 vs) (fsep (fact (Meets holds ways n m vs)) (state ways.0 (IsKnown ways.2 m) (readers_of ways.1 vs) (writers_of ways.1 vs)))
 
         abbrev pub core : ℕ × S.Denot → Fml
         core s = fex (List V) (core_at s.0 s.1)
@@ -166,7 +165,7 @@ module _ (R : RattleType) (b o : ℕ) where
         abbrev pub kept : Lft → Fml
         kept = beside (ends t.life) (always (fbor t.life inner))
 
-module _ (Y R : RattleType) {V : Type 0} (c : V → Gv) (S : RattleType) (holds : ℕ → S.Denot → List V → Type 0) (ways : Ways R.Denot V) where
+module _ (Y R : RattleType) {V : Type 0} (c : V → Gv) (S : RattleType) (holds : ℕ → S.Denot → List V → Type 0) (ways : Ways R.Denot V S.Denot) where
   -- the cell's own fields, and some views that meet the rule
   abbrev pub cell_owns : (ℕ → S.Denot → R.Denot → Fml) → Fml
   cell_owns fields = fex (Known ways Y S R) (λ _. fex (ℕ × S.Denot × R.Denot) (λ s. fsep (fields s.0 s.1 s.2) (fact (Starts holds ways s.0 s.1 s.2))))

@@ -12,4 +12,5 @@ pub mod Texts
 pub mod Run
 pub mod Own
 pub mod Passes
+pub mod Values
 pub mod Logs

@@ -1,9 +1,9 @@
 -- What a party knows of its own calls where it keeps its number, and what is known of the trace, from call to call.
 use Rattle.std.specs.Prelude.{◌≡◌, ℕ, ◌+◌, Bool, true, false, Option, Some, None, List, [], ◌∷◌, ◌++◌, replicate, ◌==◌, if◌then◌else◌}
 use Rattle.spin_model.specs.declared.schedule.Move.{Move}
-use Rattle.spin_model.specs.declared.schedule.Move.TheVariants.{Begin, Step}
+use Rattle.spin_model.specs.declared.schedule.Move.TheVariants.{Begin, Step, Write}
 use Rattle.spin_model.specs.declared.schedule.Outcome.{Outcome}
-use Rattle.spin_model.specs.declared.schedule.Outcome.TheVariants.{Begun, GoingOn, Answered}
+use Rattle.spin_model.specs.declared.schedule.Outcome.TheVariants.{Begun, GoingOn, Answered, Written}
 use Rattle.spin_model.specs.Machines.{Machine}
 use Rattle.spin_model.specs.Schedules.{State, Entry, after, at_first, happens}
 use Rattle.spin_core.specs.Run.{IsPlayed}
@@ -45,6 +45,14 @@ module _ {V C A : Type 0} where
   -- the beginning of this call, and then these moves
   abbrev pub Begins : C → Course V C A → Course V C A
   Begins c P own outs = (rest : List (Move C V)) × (comes : List (Outcome A V)) × (own ≡ Begin c ∷ rest) × (outs ≡ Begun ∷ comes) × P rest comes
+
+  -- a write of this value, and then these moves
+  abbrev pub Writes : V → Course V C A → Course V C A
+  Writes x P own outs = (rest : List (Move C V)) × (comes : List (Outcome A V)) × (own ≡ Write x ∷ rest) × (outs ≡ Written ∷ comes) × P rest comes
+
+  -- a write of a value of which this holds, and then these moves
+  abbrev pub WritesSome : (V → Type 0) → Course V C A → Course V C A
+  WritesSome Q P own outs = (x : V) × Q x × Writes x P own outs
 
   -- a whole call and its answer
   abbrev pub IsCall : C → A → Course V C A

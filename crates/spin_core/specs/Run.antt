@@ -4,17 +4,18 @@ use Rattle.std.specs.List.{list_all}
 use Rattle.spin_model.specs.declared.place.Seat.{Seat}
 use Rattle.spin_model.specs.declared.place.Seat.TheVariants.{Idle}
 use Rattle.spin_model.specs.declared.schedule.Move.{Move}
-use Rattle.spin_model.specs.declared.schedule.Move.TheVariants.{Begin, Step, Weak}
+use Rattle.spin_model.specs.declared.schedule.Move.TheVariants.{Begin, Step, Weak, Write}
 use Rattle.spin_model.specs.declared.schedule.Outcome.{Outcome}
 use Rattle.spin_model.specs.declared.schedule.Outcome.TheVariants.{Skipped}
 use Rattle.spin_model.specs.Machines.{Machine}
 use Rattle.spin_model.specs.Schedules.{State, Entry, after, at_first, happens}
 
--- the moves of a party's calls
+-- the moves of a party's calls, and its writes while it holds
 abbrev pub is_of_call : {C V : Type 0} → Move C V → Bool
 is_of_call (Begin c) = true
 is_of_call Step = true
 is_of_call Weak = true
+is_of_call (Write v) = true
 is_of_call _ = false
 
 -- it was not passed over

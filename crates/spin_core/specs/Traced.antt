@@ -3,7 +3,7 @@ use Rattle.std.specs.Prelude.{◌≡◌, ◌⊎◌, ℕ, ◌<◌, List, [], ◌+
 use mathlib.Core.List.{IsPrefix}
 use Rattle.spin_core.specs.declared.trace.Trace.{Trace}
 use Rattle.spin_core.specs.declared.trace.Watch.{Watch}
-use Rattle.spin_core.specs.Cell.{Ways, Going, Meets, Stands, after, use_of, readers_of, words}
+use Rattle.spin_core.specs.Cell.{Use, Knowledge, no_fact, knows, Ways, Going, Carrying, Learns, Meets, Stands, after, use_of, readers_of, words}
 
 module _ {E S : Type 0} where
   -- the trace with these entries behind it
@@ -20,7 +20,16 @@ module _ {E : Type 0} where
   abbrev pub Watches : {V : Type 0} → Type 0 → Watch E → Watch E → (List E → List E → ℕ → V → Type 0) → ℕ → V → Type 0
   Watches named before now told n v = (named → now.name ≡ before.name) × ((log es : List E) × IsPrefix before.entries log × (now.entries ≡ log ++ es) × told log es n v)
 
-module _ {X V E S : Type 0} (holds : ℕ → Trace E S → List V → Type 0) (ways : Ways X V) where
+-- what a party learns of the value by a step after which the trace has these entries
+abbrev pub Learnt : {X E S : Type 0} → Knowledge (Trace E S) X → Use → Use → Option X → Option X → List E → Type 0
+Learnt no_fact u v before after es = Unit {0}
+Learnt {E = E} {S = S} (knows φ) u v before after es = (t : Trace E S) × (t.entries ≡ es) × Learns (φ t) u v before after
+
+-- the same by its views, where the watch knows the trace then
+abbrev pub Found : {X V E S : Type 0} → Ways X V (Trace E S) → Option V → Option V → Option X → Option X → Watch E → Type 0
+Found ways view new before after seen = Learnt ways.2 (use_of ways.1 view) (use_of ways.1 new) before after seen.entries
+
+module _ {X V E S : Type 0} (holds : ℕ → Trace E S → List V → Type 0) (ways : Ways X V (Trace E S)) where
   -- the rule says that the trace has this name
   abbrev pub Named : ℕ → Type 0
   Named name = (n : ℕ) (t : Trace E S) (vs : List V) → Meets holds ways n t vs → t.name ≡ name
@@ -32,13 +41,15 @@ module _ {X V E S : Type 0} (holds : ℕ → Trace E S → List V → Type 0) (w
   -- whatever the words, the trace and the views are when the first word becomes f of what it was, the party has a next view, and entries that it appends, which keep the rule
   abbrev pub Traces : Option V → Option X → (ℕ → ℕ) → (List E → List E → ℕ → V → Type 0) → Type 0
   Traces view shown f told = (id n : ℕ) (t : Trace E S) (vs : List V) → Meets holds ways n t vs → Stands id view vs → n < words
-      → (w : V) × (es : List E) × Going ways.0 (use_of ways.1 view) (ways.1 w) shown (readers_of ways.1 vs) (Meets holds ways (f n) (grown t es) (after id view vs w)) × told t.entries es n w
+      → (w : V) × (es : List E) × Going ways.0 (use_of ways.1 view) (ways.1 w) shown (readers_of ways.1 vs)
+      (Carrying ways.2 t (grown t es) (use_of ways.1 view) (ways.1 w) shown (Meets holds ways (f n) (grown t es) (after id view vs w))) × told t.entries es n w
 
 -- the same of the second word
-module _ {X V E : Type 0} (holds : ℕ → Trace E ℕ → List V → Type 0) (ways : Ways X V) where
+module _ {X V E : Type 0} (holds : ℕ → Trace E ℕ → List V → Type 0) (ways : Ways X V (Trace E ℕ)) where
   abbrev pub TracesSecond : Option V → Option X → (ℕ → ℕ) → (List E → List E → ℕ → V → Type 0) → Type 0
   TracesSecond view shown f told = (id n : ℕ) (t : Trace E ℕ) (vs : List V) → Meets holds ways n t vs → Stands id view vs → t.word < words
-      → (w : V) × (es : List E) × Going ways.0 (use_of ways.1 view) (ways.1 w) shown (readers_of ways.1 vs) (Meets holds ways n (grown_at t (f t.word) es) (after id view vs w)) × told t.entries es t.word w
+      → (w : V) × (es : List E) × Going ways.0 (use_of ways.1 view) (ways.1 w) shown (readers_of ways.1 vs)
+      (Carrying ways.2 t (grown_at t (f t.word) es) (use_of ways.1 view) (ways.1 w) shown (Meets holds ways n (grown_at t (f t.word) es) (after id view vs w))) × told t.entries es t.word w
 
 -- a lock without a trace, on the same steps: its rule looks at no trace, and its steps append nothing
 module _ {V E : Type 0} where

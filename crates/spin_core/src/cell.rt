@@ -6,7 +6,7 @@
 //! Steps are methods of a permit. Each appends to the cell's trace ([`crate::trace`]), and tells it to its caller.
 ghost use Rattle.std.specs.Prelude.{◌≡◌, ◌≢◌, ◌⊎◌, ℕ, List, [], Option};
 ghost use Rattle.std.specs.Coded.{coded_option};
-ghost use Rattle.spin_core.specs.Cell.{Ways, off, reads, writes, use_of, Opens, Fixes, Frees, Seen, Rests};
+ghost use Rattle.spin_core.specs.Cell.{Ways, off, reads, writes, use_of, Opens, Fixes, Frees, Freeing, Lends, Seen, Rests};
 ghost use Rattle.spin_core.specs.CellMemory.{Known, cell_owns, cell_shares, permit_owns, permit_shares, writer_owns, writer_shares};
 
 use crate::trace::{Trace, Watch};
@@ -29,8 +29,11 @@ pub trait Rule<T, V> {
     type Second;
     // Of the first word, the second or nothing, and the views of all parties that ever came.
     ghost holds: { Self.Key → ℕ → Self.Second → List V → Type 0 };
-    // Whether parties may read the value at the same time, and how a party with a given view may use it.
-    ghost ways: { Self.Key → Ways T V };
+    // Whether parties may read the value at the same time, how a party with a given view may use it, and what is known
+    // of a value that nobody writes.
+    ghost ways: { Self.Key → Ways T V Self.Second };
+    // The key once the owner has borrowed the value to write it. What was known of the value may end there.
+    ghost lent: { Self.Key → Self.Key };
 }
 
 /// A cell: a word, a value, and a trace with a second word or nothing. Only a party with a permit touches the
@@ -157,10 +160,12 @@ impl<T, V, P: Rule<T, V>> Cell<T, V, P> {
     /// Returns a mutable reference to the value. It reads no word: the borrow shows that there is no permit.
     ///
     /// # Contract
-    /// It has to be so that any value may take the place of one that no party uses (`Frees`). The key stays the same.
+    /// The key becomes the one that the rule names (`lent`). Under it the rule has to hold as before (`Lends`), and any
+    /// value has to be allowed in the place of one that no party uses (`Frees`, `Freeing`).
     pub fn get_mut(&mut self) -> &mut T
-        requires { Frees (P.ways self.old).0 }
-        ensures* keeps { sem 𝓛 (follows (the_row T.row V.row P.row P.Key.row P.Second.row (record { holds = P.holds; ways = P.ways })) T.row self.entry.ghost_name result.ghost_name (λ _. self.old)) }
+        requires free { Freeing (P.ways (P.lent self.old)).2 (Frees (P.ways (P.lent self.old)).0) }
+        requires lends { Lends (P.holds self.old) (P.ways self.old) (P.holds (P.lent self.old)) (P.ways (P.lent self.old)) }
+        ensures* keeps { sem 𝓛 (follows (the_row T.row V.row P.row P.Key.row P.Second.row (record { holds = P.holds; ways = P.ways; lent = P.lent })) T.row self.entry.ghost_name result.ghost_name (λ _. P.lent self.old)) }
     {
         &mut self.value
     }
@@ -282,7 +287,7 @@ impl<T, V, P: Rule<T, V>> WritePermit<'_, T, V, P> {
 
     /// Returns a mutable reference to the value. What is written through it is the permit's value when the borrow ends.
     pub fn get_mut(&mut self) -> &mut T
-        ensures* writes_back { sem 𝓛 (follows (the_row (record { mir = named 1; lft = [] }) T.row V.row P.row P.Key.row P.Second.row (record { holds = P.holds; ways = P.ways })) T.row self.entry.ghost_name result.ghost_name (with_value self.old)) }
+        ensures* writes_back { sem 𝓛 (follows (the_row (record { mir = named 1; lft = [] }) T.row V.row P.row P.Key.row P.Second.row (record { holds = P.holds; ways = P.ways; lent = P.lent })) T.row self.entry.ghost_name result.ghost_name (with_value self.old)) }
         ensures value { result.now ≡ self.old.value }
     {
         unsafe { &mut *(&raw const (*self.cell).value as *mut T) }

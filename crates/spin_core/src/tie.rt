@@ -1,9 +1,50 @@
 //! What a lock's trace and the views of its parties are made of, where the trace is the schedule that the lock has run.
 //! Begin with [`Entry`].
+ghost use Rattle.std.specs.Prelude.{◌≡◌, ℕ, Bool, true};
+
+use crate::trace::Trace;
 use spin_model::Move;
+use std::marker::{Model, PhantomData};
 
 /// An entry of a lock's trace: the number of a party, and its move in the lock's model. No value of it is made.
-pub type Entry<C> = (usize, Move<C, ()>);
+///
+/// `T` is the type of the values that parties write. Without it the trace tells no values.
+pub type Entry<C, T = ()> = (usize, Move<C, T>);
+
+/// What is settled of a lock when it is made: the name of its trace, and the value that it opens with. It has no byte.
+///
+/// `told` says that the trace tells the value: it is the one written last. So it is until the owner borrows the value.
+pub struct Opening<T> {
+    marker: PhantomData<T>,
+    pub ghost name: { ℕ },
+    pub ghost value: { T },
+    pub ghost told: { Bool },
+}
+
+impl<T> Model for Opening<T> {
+    ghost use base.Fml.{ftrue};
+
+    ghost also_owns = { λ _. ftrue };
+}
+
+impl<T> Opening<T> {
+    /// Returns that of a lock with this trace and this value.
+    pub fn of<E, S>(trace: &Trace<E, S>, value: &T) -> Opening<T>
+        ensures { (result.name ≡ trace.now.name) × (result.value ≡ value.now) × (result.told ≡ true) }
+    {
+        let _ = trace;
+        let _ = value;
+        Opening {
+            marker: PhantomData,
+        }
+    }
+}
+
+impl<T> Drop for Opening<T> {
+    fn drop(self) {
+        let Self { marker: _ } = self;
+    }
+}
 
 /// What a party is to a lock, its number, and how long the trace was after its last step. No value of it is made.
 ///

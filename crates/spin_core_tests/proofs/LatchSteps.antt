@@ -6,7 +6,7 @@ use Rattle.spin_step.specs.Steps.{Decides}
 use Rattle.spin_step.specs.Orders.{IsInOrder}
 use Rattle.spin_step.proofs.Holders.{is_holder-from_entries}
 use Rattle.spin_step.proofs.Sums.{one_of, by_kinds, all_kinds, sum-less}
-use Rattle.spin_core.specs.Cell.{Ways, lends, writes, Meets, Allows, Rests, Moved}
+use Rattle.spin_core.specs.Cell.{Ways, lends, no_fact, writes, Meets, Allows, Rests, Moved}
 use Rattle.spin_core.specs.Own.{Numbered, what}
 use Rattle.spin_core.specs.Run.{AreMoves, on_first, first, outcomes, alone, of_one, sits as seat_at}
 use Rattle.spin_core.specs.Traced.{Traces, Watches}
@@ -125,8 +125,8 @@ writer_moves w value v is = rw is.1 (Begin call.ReleaseWrite ∷ Step ∷ [], Be
 
 -- Each step keeps the rule, and appends its moves
 
-abbrev own_ways : Ways (Unit {0}) (Numbered View)
-own_ways = (lends, use_of_party)
+abbrev own_ways : Ways (Unit {0}) (Numbered View) (Trace rule.Done (Unit {0}))
+own_ways = (lends, use_of_party, no_fact)
 
 -- a call whose word lets readers in is at that word
 is_coming : (old new : ℕ) (waits : Bool) (view : Option View) → Some new ≡ let_in old → view ≡ Some (at_word waits old) → view ≡ Some (Coming waits old)
@@ -141,10 +141,10 @@ module _ (name : ℕ) where
   Keeps view f to = Traces (IsLatch name) own_ways view None f (Leads to view)
 
   keeps : (view : Option (Numbered View)) (f : ℕ → ℕ) (says : ℕ → View → Type 0) (to : ℕ → View) → Moves (what view) f says to → Allows IsWord (ways latch) (what view) f says → Keeps view f to
-  keeps view f says to moves step = tie.traces latch_machine seat_of words_of IsWord name (Unit {0}) lends use_of_view view None f says (leads_by to) moves step
+  keeps view f says to moves step = tie.traces latch_machine seat_of words_of IsWord name (Unit {0}) lends use_of_view no_fact view None f says (leads_by to) moves (λ own outs n u said t word p. tt) step
 
   pub opens : (t : Trace rule.Done (Unit {0})) → t.name ≡ name → t.entries ≡ [] → Meets (IsLatch name) own_ways 0 t []
-  opens t named empty = tie.opens latch_machine seat_of words_of IsWord name (Unit {0}) lends use_of_view 0 t named empty refl (begins latch 0 0 0 tt (omega arith) refl refl)
+  opens t named empty = tie.opens latch_machine seat_of words_of IsWord name (Unit {0}) lends use_of_view no_fact 0 t named empty refl (begins latch 0 0 0 tt (omega arith) refl refl)
 
   pub tries : Keeps None (λ w. w) (at_word false)
   tries = keeps None (λ w. w) (To (at_word false)) (at_word false) try_moves (looks_at latch None (at_word false) refl (has_none false))
@@ -176,7 +176,7 @@ module _ (name : ℕ) where
   -- Who may go
 
   pub idle_rests : (v : Numbered View) → v.0 ≡ Idle → Rests (IsLatch name) use_of_party (Some v)
-  idle_rests v is = tie.rests latch_machine seat_of words_of IsWord name (Unit {0}) lends use_of_view v (ap seat_of is) (plays.idle_rests latch v.0 is)
+  idle_rests v is = tie.rests latch_machine seat_of words_of IsWord name (Unit {0}) lends use_of_view no_fact v (ap seat_of is) (plays.idle_rests latch v.0 is)
 
   pub missed_rests : (found : ℕ) → found ≢ 0 → (v : Numbered View) → v.0 ≡ either_at 0 Writing Idle found → Rests (IsLatch name) use_of_party (Some v)
   missed_rests found other v is = idle_rests v (is ∙ ap (λ b. if b then Writing else Idle) (ne_eqb found 0 other))

@@ -4,3 +4,4 @@ pub mod Sharing
 mod Latches
 mod LatchSteps
 mod LatchOwed
+pub mod Writing

@@ -1,9 +1,9 @@
 -- The steps of a value that is made once keep its rule.
 use Rattle.std.proofs.Common.{◌≡◌, ℕ, zero, suc, ◌+◌, ◌==◌, List, [], ◌∷◌, ◌++◌, Option, Some, None, refl, sym, ap, subst, arith}
 use prog.Atomic.{either}
-use Rattle.spin_core.specs.Cell.{Use, off, reads, writes, reading, writing, use_of, readers_of, writers_of, Meets, Limits, Opens, Stands as At, after, AllowsAt, Keeps, Moved, Rests}
+use Rattle.spin_core.specs.Cell.{Use, off, fixes, reads, writes, reading, writing, use_of, readers_of, writers_of, Meets, Limits, Opens, Stands as At, after, AllowsAt, Keeps, Moved, Rests}
 use Rattle.spin_core.proofs.CellCounts.{moves, without}
-use Rattle.spin_core_tests.specs.Once.{use_of_view, once_ways, Stands, IsOnce, Loads, Begins, PutsBack, Completes}
+use Rattle.spin_core_tests.specs.Once.{IsMade, use_of_view, once_ways, Stands, IsOnce, Loads, Begins, PutsBack, Completes}
 use Rattle.spin_core_tests.specs.declared.once.View.{View}
 use Rattle.spin_core_tests.specs.declared.once.View.TheVariants.{Away, Running, Reading}
 use Rattle.spin_core_tests.specs.declared.once.Stage.{Stage}
@@ -21,7 +21,7 @@ write_after : (id : ℕ) (view : Option View) (vs : List View) (w : View) → At
 write_after id None vs w at = moves (λ v. writing (f v)) id None vs w at
 write_after id (Some v) vs w at = moves (λ v. writing (f v)) id (Some v) vs w at
 
-limits : (key n r w : ℕ) → Stands n r w → Limits (once_ways key).0 r w
+limits : (key n r w : ℕ) → Stands n r w → Limits (fixes (IsMade key)) r w
 limits key zero r w s = (omega (arith, s.1), λ l. s.0)
 limits key (suc zero) r w s = (omega (arith, s.1), λ l. s.0)
 limits key (suc (suc zero)) r w s = (omega (arith, s.1), λ l. absurd (omega (arith, l, s.1)))
@@ -82,9 +82,9 @@ pub ran : (view : Option View) (found : ℕ) → Moved (Begins 0 1 None found) v
 ran None found moved e = absurd moved
 ran (Some v) found moved e = ap Some (moved.0 e)
 
-pub found_seed : (key : ℕ) (before view : Option View) (old value : Option Stage) (seed : ℕ) → Keeps (once_ways key) before view old value → before ≡ None → view ≡ Some Running → value ≡ Some (Seed seed) → seed ≡ key
+pub found_seed : (key : ℕ) (before view : Option View) (old value : Option Stage) (seed : ℕ) → Keeps (once_ways {S = Unit {0}} key) before view old value → before ≡ None → view ≡ Some Running → value ≡ Some (Seed seed) → seed ≡ key
 found_seed key before view old value seed kept none is shown =
-    (subst (λ (z : Option View × Option View × Option Stage). Keeps (once_ways key) z.0 z.1 old z.2) (λ i. (none i, is i, shown i)) kept).1
+    (subst (λ (z : Option View × Option View × Option Stage). Keeps (once_ways {S = Unit {0}} key) z.0 z.1 old z.2) (λ i. (none i, is i, shown i)) kept).1
 
 pub puts_seed_back : (key : ℕ) (view : Option View) (value : Option Stage) (seed : ℕ) → view ≡ Some Running → value ≡ Some (Seed seed) → seed ≡ key
     → AllowsAt IsOnce (once_ways key) view value (λ _. 0) (λ _. PutsBack 0 0 view 0)

@@ -15,7 +15,7 @@ use Rattle.spin_core_tests.specs.declared.pair.View.{View}
 use Rattle.spin_core_tests.specs.declared.pair.View.TheVariants.{Away, Reading}
 
 -- of a value of any type: here one of the unit type stands for it
-abbrev ways : Ways (Unit {0}) View
+abbrev ways : Ways (Unit {0}) View (Trace (Unit {0}) (Unit {0}))
 ways = pair_ways
 
 no_writer : (v : View) → writing (use_of_view v) ≡ 0

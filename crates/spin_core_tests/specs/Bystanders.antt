@@ -1,6 +1,6 @@
 -- The rule of a cell that nobody uses: any words, and parties that stand by.
 use Rattle.std.specs.Prelude.{◌≡◌, ℕ, List, [], ◌∷◌, Option}
-use Rattle.spin_core.specs.Cell.{off, alone, Ways}
+use Rattle.spin_core.specs.Cell.{off, alone, no_fact, Ways}
 use Rattle.spin_core.specs.declared.trace.Trace.{Trace}
 
 module _ {V : Type 0} where
@@ -8,8 +8,8 @@ module _ {V : Type 0} where
   abbrev pub any_words : ℕ → ℕ → Trace (Unit {0}) ℕ → List V → Type 0
   any_words name n t vs = t.name ≡ name
 
-  abbrev pub no_use : {X : Type 0} → Ways X V
-  no_use = (alone, λ v. off)
+  abbrev pub no_use : {X S : Type 0} → Ways X V S
+  no_use = (alone, λ v. off, no_fact)
 
   abbrev pub nothing_told : ℕ → ℕ → Option V → List (Unit {0}) → List (Unit {0}) → ℕ → V → Type 0
   nothing_told old new before log es found after = es ≡ []

@@ -1,7 +1,7 @@
 -- The rule of a latch: its word is that of a plain lock whose holders are its parties, and its trace is a schedule of its model, which leads there.
 use Rattle.std.specs.Prelude.{◌≡◌, ℕ, ◌==◌, Bool, true, false, if◌then◌else◌, is_some, List, Option, Some, None}
 use Rattle.spin_step.specs.Plain.{reading, writing}
-use Rattle.spin_core.specs.Cell.{Use, lends, Ways}
+use Rattle.spin_core.specs.Cell.{Use, lends, no_fact, Ways}
 use Rattle.spin_core.specs.Own.{Numbered, Runs, Tells}
 use Rattle.spin_core.specs.Views.{Part, idle, holds, Encodes, used_by, no_word}
 use Rattle.spin_core.specs.declared.trace.Trace.{Trace}
@@ -32,8 +32,8 @@ use_of_view = used_by part
 abbrev pub use_of_party : Numbered View → Use
 use_of_party v = use_of_view v.0
 
-abbrev pub latch_ways : {X : Type 0} → Ways X (Numbered View)
-latch_ways = (lends, use_of_party)
+abbrev pub latch_ways : {X S : Type 0} → Ways X (Numbered View) S
+latch_ways = (lends, use_of_party, no_fact)
 
 -- where a party is in the model
 abbrev pub seat_of : View → Seat LatchCall LatchPoint

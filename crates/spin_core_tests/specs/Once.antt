@@ -1,6 +1,6 @@
 -- The rule of a value that is made once, from a number: a small lock, which shows how parties read for good.
 use Rattle.std.specs.Prelude.{◌≡◌, ◌≢◌, ◌<◌, ◌+◌, ℕ, zero, suc, Bool, true, false, List, Option}
-use Rattle.spin_core.specs.Cell.{Use, off, reads, writes, fixes, Ways, readers_of, writers_of}
+use Rattle.spin_core.specs.Cell.{Use, off, reads, writes, fixes, no_fact, Ways, readers_of, writers_of}
 use Rattle.spin_core_tests.specs.declared.once.View.{View}
 use Rattle.spin_core_tests.specs.declared.once.View.TheVariants.{Away, Running, Reading}
 use Rattle.spin_core_tests.specs.declared.once.Stage.{Stage}
@@ -18,8 +18,8 @@ use_of_view Away = off
 use_of_view Running = writes
 use_of_view Reading = reads
 
-abbrev pub once_ways : ℕ → Ways Stage View
-once_ways key = (fixes (IsMade key), use_of_view)
+abbrev pub once_ways : {S : Type 0} → ℕ → Ways Stage View S
+once_ways key = (fixes (IsMade key), use_of_view, no_fact)
 
 -- the word is 0 when no party has come, 1 while a party makes the value, and 2 when it is made
 abbrev pub Stands : ℕ → ℕ → ℕ → Type 0

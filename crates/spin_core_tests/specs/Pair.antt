@@ -1,6 +1,6 @@
 -- The rule of a value that two parties at most read at a time: a small lock, which shows how parties lend the value to one another.
 use Rattle.std.specs.Prelude.{◌≡◌, ◌≤◌, ℕ, List, [], ◌∷◌, Option, if◌then◌else◌, ◌==◌, length}
-use Rattle.spin_core.specs.Cell.{Use, off, reads, lends, Ways, readers_of}
+use Rattle.spin_core.specs.Cell.{Use, off, reads, lends, no_fact, Ways, readers_of}
 use Rattle.spin_core.specs.declared.trace.Trace.{Trace}
 use Rattle.spin_core_tests.specs.declared.pair.View.{View}
 use Rattle.spin_core_tests.specs.declared.pair.View.TheVariants.{Away, Reading}
@@ -9,8 +9,8 @@ abbrev pub use_of_view : View → Use
 use_of_view Away = off
 use_of_view Reading = reads
 
-abbrev pub pair_ways : {X : Type 0} → Ways X View
-pair_ways = (lends, use_of_view)
+abbrev pub pair_ways : {X S : Type 0} → Ways X View S
+pair_ways = (lends, use_of_view, no_fact)
 
 -- the word counts the readers, and each has left an entry
 abbrev pub IsPair : {S : Type 0} → ℕ → Trace (Unit {0}) S → List View → Type 0

@@ -25,6 +25,8 @@ impl Rule<u64, Bystander> for AnyWords {
     ghost holds = { λ start. any_words start.name };
 
     ghost ways = { λ _. no_use };
+
+    ghost lent = { λ key. key };
 }
 
 /// A step that appends nothing.

@@ -15,3 +15,4 @@ mod relax;
 mod rw;
 #[cfg(test)]
 mod steps;
+pub mod written;

@@ -33,6 +33,8 @@ impl Rule<Stage, View> for Stage {
     ghost holds = { λ _. Untraced IsOnce };
 
     ghost ways = { once_ways };
+
+    ghost lent = { λ key. key };
 }
 
 struct Load;

@@ -26,6 +26,8 @@ impl Rule<u64, View> for u64 {
     ghost holds = { λ _. IsPair };
 
     ghost ways = { λ _. pair_ways };
+
+    ghost lent = { λ key. key };
 }
 
 struct Join;

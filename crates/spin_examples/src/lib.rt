@@ -17,3 +17,4 @@ pub mod passes_ticket;
 pub mod registers;
 pub mod totals;
 pub mod versions;
+pub mod written;

@@ -13,7 +13,7 @@ use Rattle.spin_step.specs.Steps.{Decides}
 use Rattle.spin_step.proofs.Holders.{is_holder-from_entries, is_empty-none, length-without_holder}
 use Rattle.spin_step.proofs.Starvers.{is_starver-from_entries, length-without_starver}
 use Rattle.spin_step_more.specs.Starvers.{most_starvers, is_set, starve, lock_starved}
-use Rattle.spin_core.specs.Cell.{Ways, writes, reads, alone, reading, writing as writer, readers_of, writers_of, Limits, Meets, Allows, Rests, Moved, words}
+use Rattle.spin_core.specs.Cell.{Ways, writes, reads, alone, no_fact, reading, writing as writer, readers_of, writers_of, Limits, Meets, Allows, Rests, Moved, words}
 use Rattle.spin_core.specs.Own.{Numbered, what}
 use Rattle.spin_core.specs.Traced.{Traces, Watches}
 use Rattle.spin_core.specs.Views.{Knows, HasPart, idle, holds, starves, holds_starving, entries_of, IsLockOf, used_by, no_word}
@@ -290,8 +290,8 @@ none_alone c n = at c (n == 2)
 
 -- Each step keeps the rule, and appends its moves
 
-abbrev pub own_ways : Ways (Unit {0}) (Numbered View)
-own_ways = (alone, use_of_party)
+abbrev pub own_ways : Ways (Unit {0}) (Numbered View) (Trace fairs.Done (Unit {0}))
+own_ways = (alone, use_of_party, no_fact)
 
 out_has_none : (view : Option View) → IsOut view → part_before part view ≡ idle
 out_has_none None out = refl
@@ -330,7 +330,7 @@ module _ (name : ℕ) where
 
   keeps : (view : Option (Numbered View)) (f : ℕ → ℕ) (leads : ℕ → View → Type 0) (says : Says) → Frees says → Moves (what view) f leads says → Leads (what view) f leads → Keeps view f says
   keeps view f leads says frees moves allows id n t vs meets at small =
-      let made = tie.traces model seat_of words_of Word name (Unit {0}) alone use_of_view view None f leads says moves allows id n t vs ((meets.0.0, meets.0.1.0, meets.0.2), meets.1) at small in
+      let made = tie.traces model seat_of words_of Word name (Unit {0}) alone use_of_view no_fact view None f leads says moves (λ own outs n u said t word p. tt) allows id n t vs ((meets.0.0, meets.0.1.0, meets.0.2), meets.1) at small in
       let w : Numbered View = made.0 in let told : Told says view t.entries made.1 n w = made.3 in
       let order = first_after id view vs w (length t.entries) (marks_within t.entries (n, t.word) vs meets.0.2) (omega (arith, told.3, length-append t.entries made.1))
       (λ got. nobody_starves n t.word vs meets.0.1.0 (frees told.0 told.1 n w.0 told.6 got)) meets.0.1.1 in
@@ -338,7 +338,7 @@ module _ (name : ℕ) where
 
   pub starts : (t : Trace fairs.Done (Unit {0})) → t.name ≡ name → t.entries ≡ [] → Meets (IsFair name) own_ways 0 t []
   starts t named empty =
-      let meets = tie.opens model seat_of words_of Word name (Unit {0}) alone use_of_view 0 t named empty refl (begins fair 0 0 0 tt (omega arith) refl refl) in
+      let meets = tie.opens model seat_of words_of Word name (Unit {0}) alone use_of_view no_fact 0 t named empty refl (begins fair 0 0 0 tt (omega arith) refl refl) in
       ((meets.0.0, (meets.0.1, λ i j v w at. absurd (cc (at))), meets.0.2), meets.1)
 
   pub looks : (view : Option (Numbered View)) → IsOut (what view) → Keeps view (λ n. n) looks_by
@@ -452,7 +452,7 @@ module _ (name : ℕ) where
 module _ (name : ℕ) where
   pub idle_rests : (v : Numbered View) → v.0 ≡ Idle → Rests (IsFair name) use_of_party (Some v)
   idle_rests v is =
-      let rest = tie.rests model seat_of words_of Word name (Unit {0}) alone use_of_view v (ap seat_of is) (plays.idle_rests fair v.0 is) in
+      let rest = tie.rests model seat_of words_of Word name (Unit {0}) alone use_of_view no_fact v (ap seat_of is) (plays.idle_rests fair v.0 is) in
       (rest.0, λ n t before behind kept. let without = rest.1 n t before behind (kept.0, kept.1.0, kept.2) in (without.0, (without.1, first_without before behind v kept.1.1), without.2))
 
   pub rests : (view : Option (Numbered View)) → stands view ≡ Idle → Rests (IsFair name) use_of_party view

@@ -1,11 +1,13 @@
 -- The rule of a lock of one flag: its word is that of a plain lock whose holders are the parties that hold, and its trace is a schedule of the lock's model, which leads there.
-use Rattle.std.specs.Prelude.{ℕ, List, Bool, true, false, Option, Some, None, ◌==◌, if◌then◌else◌}
+use Rattle.std.specs.Prelude.{◌≡◌, ℕ, List, Bool, true, false, Option, Some, None, ◌==◌, if◌then◌else◌}
 use Rattle.spin_step.specs.Plain.{writing, flag_word}
 use Rattle.spin_step.specs.Steps.{bit}
-use Rattle.spin_core.specs.Cell.{Use}
+use Rattle.spin_core.specs.Cell.{Use, alone, Ways}
 use Rattle.spin_core.specs.Views.{Part, idle, holds, Encodes, used_by, no_word}
 use Rattle.spin_core.specs.Own.{Numbered, Runs, Tells}
-use Rattle.spin_core.specs.Passes.{Course, IsCall, step_by, Made}
+use Rattle.spin_core.specs.Passes.{Course, IsCall, IsStep, WritesSome, Writes, step_by, Made}
+use Rattle.spin_core.specs.Values.{last}
+use Rattle.spin_core.specs.declared.tie.Opening.{Opening}
 use Rattle.spin_core.specs.declared.trace.Trace.{Trace}
 use Rattle.spin_flag.specs.declared.spin.rule.View.{View}
 use Rattle.spin_flag.specs.declared.spin.rule.View.TheVariants.{Idle, Holding, Trying, Looking}
@@ -44,62 +46,21 @@ seat_of Holding = seat.Holding Write
 seat_of Trying = seat.Calling Lock First None
 seat_of Looking = seat.Calling Lock Second None
 
-abbrev pub model : Machine Bool (Unit {0}) FlagCall FlagPoint (Answer (Unit {0}))
-model = flag_machine tt
-
 -- the lock's words, by the model's
 abbrev pub words_of : Bool → ℕ × Unit {0}
 words_of b = (bit b, tt)
 
-abbrev pub OneMove : Type 0
-OneMove = Move FlagCall (Unit {0})
-
-abbrev pub Ending : Type 0
-Ending = Outcome (Answer (Unit {0})) (Unit {0})
-
-abbrev pub Done : Type 0
-Done = Entry FlagCall (Unit {0})
-
 abbrev pub Word : ℕ → Unit {0} → List View → Type 0
 Word = Encodes part 0 flag_word no_word
-
--- of the first word, the trace and the parties, under the name of the lock's trace
-abbrev pub IsFlag : ℕ → ℕ → Trace Done (Unit {0}) → List (Numbered View) → Type 0
-IsFlag = Runs model seat_of words_of Word
-
--- what a step tells of its moves
-abbrev pub Told : (List OneMove → List Ending → ℕ → View → Type 0) → Option (Numbered View) → List Done → List Done → ℕ → Numbered View → Type 0
-Told = Tells model seat_of words_of
-
--- The steps: what each comes to and where it leads, by the number found
 
 -- whether a word is that of a set flag
 abbrev pub set : ℕ → Bool
 set n = if n == 0 then false else true
 
-abbrev pub Says : Type 1
-Says = List OneMove → List Ending → ℕ → View → Type 0
-
-abbrev pub looks_by : Says
-looks_by = step_by false IsLocked (λ n. Answered (Is (set n)) None) (λ n. Idle)
-
-abbrev pub tries_by : Says
-tries_by = step_by false TryLock (λ n. if n == 0 then Answered Granted None else Answered Refused None) (λ n. if n == 0 then Holding else Idle)
-
-abbrev pub frees_by : Says
-frees_by = step_by false Release (λ n. Answered answer.Done None) (λ n. Idle)
-
 -- it has begun its `lock`
 abbrev pub has_begun : Option View → Bool
 has_begun (Some Trying) = true
 has_begun _ = false
-
--- the exchange of `lock`, and its look
-abbrev pub tried_by : Option View → Says
-tried_by view = step_by (has_begun view) Lock (λ n. if n == 0 then Answered Granted None else GoingOn) (λ n. if n == 0 then Holding else Looking)
-
-abbrev pub looked_by : Says
-looked_by = step_by true Lock (λ n. GoingOn) (λ n. if n == 0 then Trying else Looking)
 
 -- it is in no call, and holds nothing
 abbrev pub IsOut : Option View → Type 0
@@ -117,10 +78,67 @@ abbrev pub stands : Option (Numbered View) → View
 stands None = Idle
 stands (Some v) = v.0
 
--- Of a pass: since it knew `old` it has made moves of this course, and no others
-abbrev pub Moves : Course (Unit {0}) FlagCall (Answer (Unit {0})) → Option (Numbered View) → List Done → Option (Numbered View) → List Done → Type 0
-Moves course view old view' new = Made model view old view' new course
+-- Of a lock of values of type T
 
--- it has made exactly this call, with this answer
-abbrev pub Called : FlagCall → Answer (Unit {0}) → Option (Numbered View) → List Done → Option (Numbered View) → List Done → Type 0
-Called c a = Moves (IsCall c a)
+abbrev pub OneMove : Type 0 → Type 0
+OneMove T = Move FlagCall T
+
+abbrev pub Ending : Type 0 → Type 0
+Ending T = Outcome (Answer T) T
+
+abbrev pub Done : Type 0 → Type 0
+Done T = Entry FlagCall T
+
+abbrev pub Says : Type 0 → Type 1
+Says T = List (OneMove T) → List (Ending T) → ℕ → View → Type 0
+
+module _ {T : Type 0} where
+  -- the model that opens with this value
+  abbrev pub model : T → Machine Bool T FlagCall FlagPoint (Answer T)
+  model = flag_machine
+
+  -- of the first word, the trace and the parties, of a lock that opened so
+  abbrev pub IsFlag : Opening T → ℕ → Trace (Done T) (Unit {0}) → List (Numbered View) → Type 0
+  IsFlag opening = Runs (model opening.value) seat_of words_of Word opening.name
+
+  -- each holder has the value to itself; the value that nobody holds is the one written last
+  abbrev pub flag_ways : Opening T → Ways T (Numbered View) (Trace (Done T) (Unit {0}))
+  flag_ways opening = (alone, use_of_party, last opening)
+
+  -- what a step tells of its moves, of a lock that opened with this value
+  abbrev pub Told : T → Says T → Option (Numbered View) → List (Done T) → List (Done T) → ℕ → Numbered View → Type 0
+  Told v = Tells (model v) seat_of words_of
+
+  -- The steps: what each comes to and where it leads, by the number found
+
+  abbrev pub looks_by : Says T
+  looks_by = step_by false IsLocked (λ n. Answered (Is (set n)) None) (λ n. Idle)
+
+  abbrev pub tries_by : Says T
+  tries_by = step_by false TryLock (λ n. if n == 0 then Answered Granted None else Answered Refused None) (λ n. if n == 0 then Holding else Idle)
+
+  -- the exchange of `lock`, and its look
+  abbrev pub tried_by : Option View → Says T
+  tried_by view = step_by (has_begun view) Lock (λ n. if n == 0 then Answered Granted None else GoingOn) (λ n. if n == 0 then Holding else Looking)
+
+  abbrev pub looked_by : Says T
+  looked_by = step_by true Lock (λ n. GoingOn) (λ n. if n == 0 then Trying else Looking)
+
+  -- the release: the holder writes the value that it leaves, one of which this holds, and gives the lock back
+  abbrev pub frees_with : (T → Type 0) → Says T
+  frees_with Q own outs n v = (v ≡ Idle) × WritesSome Q (IsStep false Release (Answered answer.Done None)) own outs
+
+  abbrev pub frees_by : Says T
+  frees_by = frees_with (λ x. Unit {0})
+
+  -- Of a pass of a lock that opened with this value: since it knew `old` it has made moves of this course, and no others
+  abbrev pub Moves : T → Course T FlagCall (Answer T) → Option (Numbered View) → List (Done T) → Option (Numbered View) → List (Done T) → Type 0
+  Moves v course view old view' new = Made (model v) view old view' new course
+
+  -- it has made exactly this call, with this answer
+  abbrev pub Called : T → FlagCall → Answer T → Option (Numbered View) → List (Done T) → Option (Numbered View) → List (Done T) → Type 0
+  Called v c a = Moves v (IsCall c a)
+
+  -- it has written a value of which this holds, and then made the release
+  abbrev pub Left : T → (T → Type 0) → Option (Numbered View) → List (Done T) → Option (Numbered View) → List (Done T) → Type 0
+  Left v Q = Moves v (WritesSome Q (IsCall Release answer.Done))

@@ -2,11 +2,12 @@
 use Rattle.std.specs.Prelude.{◌≡◌, length}
 use Rattle.spin_core.specs.Guard.{guard_view, guard_key}
 use Rattle.spin_core.specs.declared.guard.Guard.{Guard}
+use Rattle.spin_core.specs.declared.tie.Opening.{Opening}
 use Rattle.spin_core.specs.declared.trace.Watch.{Watch}
 use Rattle.spin_core.specs.Own.{Numbered}
 use Rattle.spin_flag.specs.Flag.{Done}
 use Rattle.spin_flag.specs.declared.spin.rule.View.{View}
 
 module _ {T P R S : Type 0} where
-  abbrev pub Holds : Guard T (Numbered View) P R (Watch Done) S → Watch Done → Type 0
+  abbrev pub Holds : Guard T (Numbered View) P R (Opening T) S → Watch (Done T) → Type 0
   Holds guard seen = ((guard_key guard).name ≡ seen.name) × ((guard_view guard).2 ≡ length seen.entries)

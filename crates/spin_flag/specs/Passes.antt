@@ -1,17 +1,17 @@
 -- What a pass knows: the lock's history so far, and which moves in it are its own.
-use Rattle.std.specs.Prelude.{ℕ, Bool, Option, List}
+use Rattle.std.specs.Prelude.{◌≡◌, ℕ, Bool, Option, List}
 use Rattle.spin_core.specs.Own.{Numbered}
 use Rattle.spin_model.specs.declared.answer.Answer.TheVariants.{Granted, Is}
-use Rattle.spin_model.specs.declared.answer.Answer.TheVariants as answer
-use Rattle.spin_model.specs.declared.flag.FlagCall.TheVariants.{Lock, IsLocked, Release}
-use Rattle.spin_flag.specs.Flag.{Done, Called}
+use Rattle.spin_model.specs.declared.flag.FlagCall.TheVariants.{Lock, IsLocked}
+use Rattle.spin_core.specs.declared.tie.Opening.{Opening}
+use Rattle.spin_flag.specs.Flag.{Done, Called, Left}
 use Rattle.spin_flag.specs.declared.spin.SpinMutex.{SpinMutex}
 use Rattle.spin_flag.specs.declared.spin.pass.Pass.{Pass}
 use Rattle.spin_flag.specs.declared.spin.rule.View.{View}
 
 module _ {T R : Type 0} where
   -- all moves in the lock up to the pass's last step
-  abbrev pub history : Pass T R → List Done
+  abbrev pub history : Pass T R → List (Done T)
   history it = it.seen.entries
 
   -- the name of the history of a lock, and of the lock of a pass
@@ -21,15 +21,26 @@ module _ {T R : Type 0} where
   abbrev pub lock_of : Pass T R → ℕ
   lock_of it = it.seen.name
 
+  -- what was settled when a lock was made, and of the lock of a pass: that name, and the value that the lock opened with
+  abbrev pub opening : SpinMutex T R → Opening T
+  opening lock = lock.cell
+
+  abbrev pub opening_of : Pass T R → Opening T
+  opening_of it = it.permit.key
+
   -- the party of the pass: none before its first call
   abbrev pub party : Pass T R → Option (Numbered View)
   party it = it.permit.view
 
   -- since then the pass has looked once, and was told this
   abbrev pub Looked : Bool → Pass T R → Pass T R → Type 0
-  Looked set before now = Called IsLocked (Is set) (party before) (history before) (party now) (history now)
+  Looked set before now = Called (opening_of before).value IsLocked (Is set) (party before) (history before) (party now) (history now)
 
-  -- since then the pass has acquired the lock and released it, once
+  -- since then the pass has acquired the lock and released it, once; it left a value of which this holds
+  abbrev pub HeldWith : (T → Type 0) → Pass T R → Pass T R → Type 0
+  HeldWith Q before now =
+      (view : Option (Numbered View)) × (seen : List (Done T)) × (lock : Opening T) × (lock ≡ opening_of before) × Called (opening_of before).value Lock Granted (party before) (history before) view seen
+      × Left lock.value Q view seen (party now) (history now)
+
   abbrev pub HeldOnce : Pass T R → Pass T R → Type 0
-  HeldOnce before now =
-      (view : Option (Numbered View)) × (seen : List Done) × Called Lock Granted (party before) (history before) view seen × Called Release answer.Done view seen (party now) (history now)
+  HeldOnce = HeldWith (λ x. Unit {0})

@@ -10,5 +10,5 @@ module _ {T : Type 0} where
   -- it is granted, or waits on
   abbrev pub GoesOn : Waiting T → Result (Grant T) (Waiting T) → Type 0
   GoesOn was r =
-      IfOk r (λ grant. (grant.seen.name ≡ was.seen.name) × Moves (Ends Granted) was.permit.view was.seen.entries (Some grant.writer.view) grant.seen.entries)
-      × IfErr r (λ next. (next.seen.name ≡ was.seen.name) × Moves Waits was.permit.view was.seen.entries next.permit.view next.seen.entries)
+      IfOk r (λ grant. (grant.writer.key ≡ was.permit.key) × Moves was.permit.key.value (Ends Granted) was.permit.view was.seen.entries (Some grant.writer.view) grant.seen.entries)
+      × IfErr r (λ next. (next.permit.key ≡ was.permit.key) × Moves was.permit.key.value Waits was.permit.view was.seen.entries next.permit.view next.seen.entries)

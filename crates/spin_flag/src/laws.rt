@@ -1,6 +1,8 @@
-//! What holds of each `SpinMutex` between any two steps of threads.
-ghost use Rattle.std.specs.Prelude.{ℕ, List};
+//! What holds of each `SpinMutex` between any two steps of threads, and what follows for its callers.
+ghost use Rattle.std.specs.Prelude.{◌≡◌, ◌++◌, ℕ, List, true};
 ghost use Rattle.spin_core.specs.Own.{Numbered, IsRun};
+ghost use Rattle.spin_core.specs.Values.{IsLast, latest};
+ghost use Rattle.spin_core.specs.declared.tie.Opening.{Opening};
 ghost use Rattle.spin_core.specs.declared.trace.Trace.{Trace};
 ghost use Rattle.spin_flag.specs.Flag.{Done, IsFlag, model, seat_of, words_of};
 ghost use Rattle.spin_flag.specs.declared.spin.rule.View.{View};
@@ -13,6 +15,18 @@ ghost use Rattle.spin_flag.specs.declared.spin.rule.View.{View};
 /// # Contract
 /// Whatever holds between any two steps of threads (`IsFlag`): no move of the list is passed over in the model. After
 /// the list the model has the lock's word, and has each party where the lock has it.
-pub fn every_run_of_a_spin_mutex_is_a_schedule()
-    ensures { (name word : ℕ) (trace : Trace Done (Unit {0})) (parties : List (Numbered View)) → IsFlag name word trace parties → IsRun model seat_of words_of trace.entries (word, trace.word) parties }
+pub fn every_run_of_a_spin_mutex_is_a_schedule<T>()
+    ensures { (opening : Opening T) (word : ℕ) (trace : Trace (Done T) (Unit {0})) (parties : List (Numbered View)) → IsFlag opening word trace parties → IsRun (model opening.value) seat_of words_of trace.entries (word, trace.word) parties }
+{}
+
+/// A guard reads the value that was written last in the lock's history, by whichever thread.
+///
+/// The calls of a [`Pass`](crate::spin::Pass) say which value was last in the history that the pass knows: `found` of a
+/// guard, and `left` of its release.
+///
+/// # Contract
+/// Let `x` be the last value of a history `old`, and `y` that of a longer history of the lock (`IsLast`). Then `y` is what
+/// the further moves write last, or `x` where they write nothing (`latest`).
+pub fn a_guard_reads_the_last_value_written<T>()
+    ensures { (opening : Opening T) (old new more : List (Done T)) (x y : T) → opening.told ≡ true → new ≡ old ++ more → IsLast opening old x → IsLast opening new y → latest x more ≡ y }
 {}

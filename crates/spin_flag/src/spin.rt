@@ -1,5 +1,5 @@
 //! A spinning mutex of one flag, which the thread that finds it clear sets. Begin at [`SpinMutex::lock`].
-ghost use Rattle.std.specs.Prelude.{◌≡◌, Option, Some, IfSome};
+ghost use Rattle.std.specs.Prelude.{◌≡◌, true, Option, Some, IfSome};
 ghost use Rattle.std.specs.Fmt.{DisplaysOnOk};
 ghost use Rattle.spin_core.specs.Guard.{IsHolder};
 ghost use Rattle.spin_core.specs.Texts.{lock_text};
@@ -12,6 +12,7 @@ use spin_core::guard::{self, Guard};
 use spin_core::lock::{Lock, with_guard};
 use spin_core::relax::{RelaxStrategy, Spin, Strategy};
 use spin_core::texts::write_lock;
+use spin_core::tie::Opening;
 use spin_core::trace::Trace;
 use std::fmt;
 use std::fmt::{Debug, Formatter};
@@ -23,6 +24,7 @@ mod waiting;
 
 pub use self::pass::Pass;
 pub use self::rule::{Entry, FlagRule, Party, View};
+pub use crate::laws::a_guard_reads_the_last_value_written;
 
 /// A mutual exclusion lock with one flag as its state, on which a waiting thread spins.
 ///
@@ -93,12 +95,14 @@ impl<T, R> SpinMutex<T, R> {
     /// Creates an unlocked mutex that holds `value`.
     ///
     /// # Contract
-    /// No clause. The call returns.
-    pub fn new(value: T) -> Self {
+    /// The lock's history begins with this value (`opens`). The call returns.
+    pub fn new(value: T) -> Self
+        ensures opens { (result.cell.value ≡ value) × (result.cell.told ≡ true) }
+    {
         let trace = Trace::new(());
-        let start = trace.watch();
+        let opening = Opening::of(&trace, &value);
         SpinMutex {
-            cell: Cell::new(value, word(false), trace, &start),
+            cell: Cell::new(value, word(false), trace, &opening),
             strategy: Strategy::named(),
         }
     }

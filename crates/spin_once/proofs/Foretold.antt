@@ -15,14 +15,14 @@ use Rattle.spin_model.specs.declared.schedule.Move.TheVariants.{Begin, Step, Wea
 use Rattle.spin_model.specs.Schedules.{after, happens, moves, moves_at, at_first}
 use Rattle.spin_model.proofs.Lists.{get-set_same}
 use Rattle.spin_core.specs.Own.{Numbered, IsRun, Rested, present_from, kind, entries_by}
-use Rattle.spin_core.specs.Run.{is_of_call, is_played, outcomes, IsPlayed, LeadsTo, sits}
+use Rattle.spin_core.specs.Run.{is_played, outcomes, IsPlayed, LeadsTo, sits}
 use Rattle.spin_once.specs.Foretold.{fails_by, will_fail, named, told_of, foretold, place_of, counted}
 use Rattle.spin_once.specs.Model.{Point, at, failed}
 use Rattle.spin_once.specs.Once.{OneMove, Made, seat_of, words_of}
 use Rattle.spin_once.specs.declared.once_core.rule.View.{View}
 use Rattle.spin_once.specs.declared.once_core.rule.View.TheVariants as view
 use Rattle.spin_once.specs.declared.once_core.rule.View.TheVariants.{Reading, InCall}
-use Rattle.spin_once.proofs.Resting.{Call, World, rests, rests_after}
+use Rattle.spin_once.proofs.Resting.{Call, World, is_step, rests, rests_after}
 use Rattle.spin_once.proofs.Named.{Object, seat_named, seats_named, object, Alike, renamed, t, m, named_get, named_set, named_alike, named_idle, put_same, moves_alike}
 
 -- the part of the object's schedule that these moves are, where others follow them
@@ -60,7 +60,7 @@ split es later = joined es later ∙ ap (λ l. l ++ foretold later) (sym (till e
 
 module _ (given : Option (Unit {0})) where
   -- a party that is in no call takes no step, and no closure of it fails, before it begins one
-  own_quiet : (s : World) (q : ℕ) (move : OneMove) (later : Bool) (o : Option (Seat Call Point)) → rests o ≡ true → is_played (moves_at (m given) s q move o).outcome ≡ true → ((is_of_call move ≡ true → ⊥) → later ≡ false)
+  own_quiet : (s : World) (q : ℕ) (move : OneMove) (later : Bool) (o : Option (Seat Call Point)) → rests o ≡ true → is_played (moves_at (m given) s q move o).outcome ≡ true → ((is_step move ≡ true → ⊥) → later ≡ false)
       → fails_by move later ≡ false
   own_quiet s q (Begin c) later o is played still = refl
   own_quiet s q Step later (Some (Calling c l h)) is played still = absurd (let d : false ≡ true = is in cc)
@@ -71,7 +71,7 @@ module _ (given : Option (Unit {0})) where
   own_quiet s q Weak later (Some _) is played still = absurd (let d : false ≡ true = played in cc)
   own_quiet s q _ later o is played still = still (λ e. absurd (let d : false ≡ true = e in cc))
 
-  quiet_by : (s : World) (q p : ℕ) (move : OneMove) (later : Bool) → rests (slice_get s.seats p) ≡ true → is_played (happens (m given) s q move).outcome ≡ true → ((is_of_call move ≡ true → q ≡ p → ⊥) → later ≡ false)
+  quiet_by : (s : World) (q p : ℕ) (move : OneMove) (later : Bool) → rests (slice_get s.seats p) ≡ true → is_played (happens (m given) s q move).outcome ≡ true → ((is_step move ≡ true → q ≡ p → ⊥) → later ≡ false)
       → (b : Bool) → (q == p) ≡ b → (if b then fails_by move later else later) ≡ false
   quiet_by s q p move later is played still true same =
       let e : q ≡ p = eqb-true q p same in

@@ -4,7 +4,7 @@ use prog.Atomic.{either}
 use Rattle.core.specs.declared.snapshot.Snapshot.{Snapshot}
 use Rattle.spin_step.specs.Plain.{Plain, gets, completes, fails, to_begin, once_word}
 use Rattle.spin_step.specs.Steps.{Decides, Gives}
-use Rattle.spin_core.specs.Cell.{off, use_of, alone, Fixed, Opens, Rests, readers_of, writers_of}
+use Rattle.spin_core.specs.Cell.{off, use_of, alone, Fixed, Opens, Rests, readers_of, writers_of, no_fact}
 use Rattle.spin_core.specs.Own.{Numbered, what, IsRun}
 use Rattle.spin_core.specs.Stable.{maybe_stable, StableAt}
 use Rattle.spin_core.specs.Traced.{Traces}
@@ -49,7 +49,7 @@ module _ {T S : Type 0} (makes : S → T → Type 0) (seed : Snapshot S) (given 
 
   keeps : (view : Option (Numbered View)) (shown : Option Content) (f : ℕ → ℕ) (leads : ℕ → View → Type 0) (says : Says)
       → Moves given (what view) f leads says → steps.Allowed makes seed (what view) shown f leads → Keeps view shown f says
-  keeps view shown f leads says moves allows = tie.traces (model given) seat_of words_of Word name Content (steps.way makes seed) use_of_view view shown f leads says moves allows
+  keeps view shown f leads says moves allows = tie.traces (model given) seat_of words_of Word name Content (steps.way makes seed) use_of_view no_fact view shown f leads says moves (λ own outs n u said t word p. tt) allows
 
   module _ (view : Option (Numbered View)) (shown : Option Content) where
     abbrev was : Option View
@@ -114,7 +114,7 @@ module _ {T S : Type 0} (makes : S → T → Type 0) (seed : Snapshot S) (given 
   -- ---- a new cell
   pub starts : (t : Trace Made (Unit {0})) → t.name ≡ name → t.entries ≡ [] → given ≡ None → (it : S) → it ≡ seed.value → Opens (IsOnce given name) (once_ways makes seed) 0 t (maybe_stable (Seed it))
   starts t named empty none it same =
-      ([], tt, tie.opens (model given) seat_of words_of Word name Content (steps.way makes seed) use_of_view 0 t named empty (rw none refl) (steps.meets makes seed 0 tt [] (refl, refl) refl), same)
+      ([], tt, tie.opens (model given) seat_of words_of Word name Content (steps.way makes seed) use_of_view no_fact 0 t named empty (rw none refl) (steps.meets makes seed 0 tt [] (refl, refl) refl), same)
 
   abbrev idle_state : ℕ → State ℕ (Unit {0}) (OnceCall (Unit {0})) Point
   idle_state k = record { words = 2; value = Some tt; seats = replicate k seat.Idle }
@@ -152,4 +152,4 @@ module _ {T S : Type 0} (makes : S → T → Type 0) (seed : Snapshot S) (given 
 -- ---- which parties may leave
 module _ (given : Option (Unit {0})) (name : ℕ) where
   pub idle_rests : (v : Numbered View) → v.0 ≡ Idle → Rests (IsOnce given name) use_of_party (Some v)
-  idle_rests v is = tie.rests (model given) seat_of words_of Word name (Unit {0}) alone use_of_view v (ap seat_of is) (rw is steps.idle_rests)
+  idle_rests v is = tie.rests (model given) seat_of words_of Word name (Unit {0}) alone use_of_view no_fact v (ap seat_of is) (rw is steps.idle_rests)

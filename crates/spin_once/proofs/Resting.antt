@@ -9,7 +9,6 @@ use Rattle.spin_model.specs.declared.schedule.Move.TheVariants.{Begin, Step, Wea
 use Rattle.spin_model.specs.declared.step.Next.{Next}
 use Rattle.spin_model.specs.declared.step.Next.TheVariants.{Continue, Answers}
 use Rattle.spin_model.specs.Schedules.{State, Happened, after, moves_at, begun, goes_on, refuses, resting, placed, read_by, written_by, seen_by_owner, owner_gets, owner_sets, owner_writes}
-use Rattle.spin_core.specs.Run.{is_of_call}
 use Rattle.spin_once.specs.Model.{Point, model}
 use Rattle.spin_once.specs.Once.{OneMove}
 
@@ -18,6 +17,13 @@ Call = OnceCall (Unit {0})
 
 abbrev pub World : Type 0
 World = State ℕ (Unit {0}) Call Point
+
+-- the moves that change where a party stands in a call
+abbrev pub is_step : OneMove → Bool
+is_step (Begin c) = true
+is_step Step = true
+is_step Weak = true
+is_step _ = false
 
 abbrev pub rests : Option (Seat Call Point) → Bool
 rests (Some (Calling c l h)) = false
@@ -72,7 +78,7 @@ module _ (given : Option (Unit {0})) (s : World) (q p : ℕ) (is : rests (slice_
   rests_owner v true = rests_set_by v s.value
   rests_owner v false = is
 
-  pub rests_after : (move : OneMove) (o : Option (Seat Call Point)) → (is_of_call move ≡ true → q ≡ p → ⊥) → RestsAfter (moves_at (model given) s q move o)
+  pub rests_after : (move : OneMove) (o : Option (Seat Call Point)) → (is_step move ≡ true → q ≡ p → ⊥) → RestsAfter (moves_at (model given) s q move o)
   rests_after (Begin c) (Some Idle) ne = rests_begun c None ((model given).begin c None) (ne refl)
   rests_after (Begin c) (Some (Holding h)) ne = rests_begun c (Some h) ((model given).begin c (Some h)) (ne refl)
   rests_after Step (Some (Calling c l h)) ne = let st = (model given).step s.words s.value c l h in rests_on st.words (placed st.placed s.value) c h st.next (ne refl)

@@ -8,7 +8,7 @@ use Rattle.core.specs.declared.snapshot.Snapshot.{Snapshot}
 use Rattle.spin_step.specs.Plain as plain
 use Rattle.spin_step.specs.Plain.{Plain, Phase, nothing, complete, gets, completes, fails, to_begin, once_word}
 use Rattle.spin_step.specs.Steps.{Decides, Gives}
-use Rattle.spin_core.specs.Cell.{Use, off, reads, writes, reading, writing, use_of, Way, Ways, Meets, Limits, Going, Stands, after, AllowsAt, Rests}
+use Rattle.spin_core.specs.Cell.{Use, off, reads, writes, reading, writing, use_of, Way, Ways, no_fact, Meets, Limits, Going, Stands, after, AllowsAt, Rests}
 use Rattle.spin_core.specs.Stable.{maybe_stable}
 use Rattle.spin_core.specs.declared.cell.stable.MaybeStable.{MaybeStable}
 use Rattle.spin_core.proofs.CellCounts.{moves, without}
@@ -112,8 +112,8 @@ module _ {T S : Type 0} (makes : S → T → Type 0) (seed : Snapshot S) where
   abbrev pub way : Way Content
   way = (once_ways makes seed).0
 
-  abbrev plain_ways : Ways Content View
-  plain_ways = (way, use_of_view)
+  abbrev plain_ways : Ways Content View (Unit {0})
+  plain_ways = (way, use_of_view, no_fact)
 
   abbrev pub Allowed : Option View → Option Content → (ℕ → ℕ) → (ℕ → View → Type 0) → Type 0
   Allowed = AllowsAt Word plain_ways

@@ -5,7 +5,7 @@ use lib.ListN.{get_elem?}
 use Rattle.core.specs.declared.snapshot.Snapshot.{Snapshot}
 use Rattle.spin_step.specs.Plain as plain
 use Rattle.spin_step.specs.Plain.{Plain, Phase, nothing, complete, fresh, once_word}
-use Rattle.spin_core.specs.Cell.{Use, off, reads, writes, fixes, Ways, readers_of, writers_of}
+use Rattle.spin_core.specs.Cell.{Use, off, reads, writes, fixes, no_fact, Ways, readers_of, writers_of}
 use Rattle.spin_core.specs.Own.{Numbered, Runs, Tells}
 use Rattle.spin_core.specs.Passes as passes
 use Rattle.spin_core.specs.Passes.{Course, Begins, step_by}
@@ -69,6 +69,15 @@ abbrev pub is_done : {T S : Type 0} → Stage T S → Bool
 is_done (Done value) = true
 is_done _ = false
 
+abbrev pub OneMove : Type 0
+OneMove = Move (OnceCall (Unit {0})) (Unit {0})
+
+abbrev pub Ending : Type 0
+Ending = Outcome (Answer (Unit {0})) (Unit {0})
+
+abbrev pub Made : Type 0
+Made = Entry (OnceCall (Unit {0})) (Unit {0})
+
 module _ {T S : Type 0} (makes : S → T → Type 0) where
   -- a value that somebody reads may be made from the seed, and what nobody uses is the seed itself
   abbrev pub IsMadeFrom : Snapshot S → Bool → Stage T S → Type 0
@@ -76,8 +85,8 @@ module _ {T S : Type 0} (makes : S → T → Type 0) where
   IsMadeFrom seed false (Seed it) = it ≡ seed.value
   IsMadeFrom _ _ _ = ⊥
 
-  abbrev pub once_ways : Snapshot S → Ways (MaybeStable (Stage T S)) (Numbered View)
-  once_ways seed = (fixes (λ read x. IsMadeFrom seed read x.value), use_of_party)
+  abbrev pub once_ways : Snapshot S → Ways (MaybeStable (Stage T S)) (Numbered View) (Trace Made (Unit {0}))
+  once_ways seed = (fixes (λ read x. IsMadeFrom seed read x.value), use_of_party, no_fact)
 
 -- where a party sits in the model: one that reads has its answer
 abbrev pub seat_of : View → Seat (OnceCall (Unit {0})) Point
@@ -88,15 +97,6 @@ seat_of (InCall c l) = seat.Calling c (at l) None
 -- the lock's words, by the model's
 abbrev pub words_of : ℕ → ℕ × Unit {0}
 words_of w = (w, tt)
-
-abbrev pub OneMove : Type 0
-OneMove = Move (OnceCall (Unit {0})) (Unit {0})
-
-abbrev pub Ending : Type 0
-Ending = Outcome (Answer (Unit {0})) (Unit {0})
-
-abbrev pub Made : Type 0
-Made = Entry (OnceCall (Unit {0})) (Unit {0})
 
 -- of the first word, the trace and the parties, where the value given at first is this, under the name of the trace
 abbrev pub IsOnce : Option (Unit {0}) → ℕ → ℕ → Trace Made (Unit {0}) → List (Numbered View) → Type 0

@@ -17,7 +17,7 @@ use Rattle.spin_model.specs.Schedules.{after}
 use Rattle.spin_step_more.specs.declared.rw_calls.RwPoint.{RwPoint}
 use Rattle.spin_model.specs.declared.schedule.Move.TheVariants.{Begin, Step}
 use Rattle.spin_model.specs.declared.schedule.Outcome.TheVariants.{Begun, Answered, GoingOn}
-use Rattle.spin_core.specs.Cell.{Ways, lends, writes, Meets, Allows, Rests}
+use Rattle.spin_core.specs.Cell.{Ways, lends, no_fact, writes, Meets, Allows, Rests}
 use Rattle.spin_core.specs.Own.{Numbered, what}
 use Rattle.spin_core.specs.Run.{AreMoves, on_first, first, Goes, is_of_call, is_played, outcomes, of_one}
 use Rattle.spin_core.specs.Traced.{Traces}
@@ -339,18 +339,18 @@ sits_idle _ cm n none = absurd cm
 
 -- Each step keeps the rule, and appends its moves
 
-abbrev pub own_ways : Ways (Unit {0}) (Numbered View)
-own_ways = (lends, use_of_party)
+abbrev pub own_ways : Ways (Unit {0}) (Numbered View) (Trace rws.Done (Unit {0}))
+own_ways = (lends, use_of_party, no_fact)
 
 module _ (name : ℕ) where
   abbrev Keeps : Option (Numbered View) → (ℕ → ℕ) → Says → Type 0
   Keeps view f says = Traces (IsRw name) own_ways view None f (Told says view)
 
   keeps : (view : Option (Numbered View)) (f : ℕ → ℕ) (so : ℕ → View → Type 0) (says : List OneMove → List Ending → ℕ → View → Type 0) → Moves (what view) f so says → Allows Word (ways rw-lock) (what view) f so → Keeps view f says
-  keeps view f so says moves allows = tie.traces model seat_of words_of Word name (Unit {0}) lends use_of_view view None f so says moves allows
+  keeps view f so says moves allows = tie.traces model seat_of words_of Word name (Unit {0}) lends use_of_view no_fact view None f so says moves (λ own outs n u said t word p. tt) allows
 
   pub starts : (t : Trace rws.Done (Unit {0})) → t.name ≡ name → t.entries ≡ [] → Meets (IsRw name) own_ways 0 t []
-  starts t named empty = tie.opens model seat_of words_of Word name (Unit {0}) lends use_of_view 0 t named empty refl (begins rw-lock 0 0 0 tt (omega arith) refl refl)
+  starts t named empty = tie.opens model seat_of words_of Word name (Unit {0}) lends use_of_view no_fact 0 t named empty refl (begins rw-lock 0 0 0 tt (omega arith) refl refl)
 
   pub counts : (call : RwCall) (count : ℕ → ℕ) → Moves None (λ n. n) (To IsRwWord (λ n. Idle)) (counts_by call count) → (view : Option (Numbered View)) → IsOut (what view) → Keeps view (λ n. n) (counts_by call count)
   counts call count moves view out = keeps view (λ n. n) (To IsRwWord (λ n. Idle)) (counts_by call count) (as_new (λ n. n) (To IsRwWord (λ n. Idle)) (counts_by call count) (what view) out moves) (looks (what view) out)
@@ -420,7 +420,7 @@ module _ (name : ℕ) where
   -- Who may go
 
   rests_at : (v : View) → seat_of v ≡ seat.Idle → part v ≡ part Idle → (m k : ℕ) → Rests (IsRw name) use_of_party (Some (v, m, k))
-  rests_at v sits is m k = tie.rests model seat_of words_of Word name (Unit {0}) lends use_of_view (v, m, k) sits (plays.rests rw-lock v (rw is refl) (λ p. rw is refl))
+  rests_at v sits is m k = tie.rests model seat_of words_of Word name (Unit {0}) lends use_of_view no_fact (v, m, k) sits (plays.rests rw-lock v (rw is refl) (λ p. rw is refl))
 
   pub idle_rests : (v : Numbered View) → v.0 ≡ Idle → Rests (IsRw name) use_of_party (Some v)
   idle_rests v is = rw is (rests_at Idle refl refl v.1 v.2)

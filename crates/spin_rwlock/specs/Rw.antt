@@ -20,7 +20,7 @@ use Rattle.spin_model.specs.declared.schedule.Outcome.TheVariants.{Begun, GoingO
 use Rattle.spin_model.specs.Acts.{either}
 use Rattle.spin_model.specs.Machines.{Machine}
 use Rattle.spin_model.specs.Schedules.{Entry}
-use Rattle.spin_core.specs.Cell.{Use, lends, Ways}
+use Rattle.spin_core.specs.Cell.{Use, lends, no_fact, Ways}
 use Rattle.spin_core.specs.Views.{Part, idle, holds, Encodes, used_by, no_word}
 use Rattle.spin_core.specs.Own.{Numbered, Runs, Tells, what}
 use Rattle.spin_core.specs.Passes.{Course, Waits, Ends, Begins, IsCall, IsStep, step_by, Made}
@@ -44,8 +44,8 @@ use_of_view = used_by part
 abbrev pub use_of_party : Numbered View → Use
 use_of_party v = use_of_view v.0
 
-abbrev pub rw_ways : {X : Type 0} → Ways X (Numbered View)
-rw_ways = (lends, use_of_party)
+abbrev pub rw_ways : {X S : Type 0} → Ways X (Numbered View) S
+rw_ways = (lends, use_of_party, no_fact)
 
 -- the word that a call which comes to read makes of the word that it found, if that lets it in
 abbrev pub grants : RwCall → ℕ → Option ℕ

@@ -6,6 +6,7 @@ use Rattle.spin_core.specs.Own.{Numbered, what}
 use Rattle.spin_core.specs.Passes.{mark_of, step_by}
 use Rattle.spin_core.specs.Passes as core
 use Rattle.spin_core.specs.Traced.{Watches, Named, MayKnow}
+use Rattle.spin_core.specs.declared.trace.Trace.{Trace}
 use Rattle.spin_core.specs.declared.trace.Watch.{Watch}
 use Rattle.spin_core.proofs.Passes as passes
 use Rattle.spin_model.specs.declared.answer.Answer.{Answer}
@@ -22,7 +23,7 @@ use Rattle.spin_seats.specs.declared.seats.rule.Account.{Account}
 use Rattle.spin_seats.specs.declared.seats.rule.View.{View}
 use Rattle.spin_seats.specs.declared.seats.rule.View.TheVariants.{Idle, Seated, Coming}
 
-abbrev ways : Ways (Unit {0}) (Numbered View)
+abbrev ways : Ways (Unit {0}) (Numbered View) (Trace rule.Done (Unit {0}))
 ways = seat_ways
 
 out_begins : (view : Option View) → IsOut view → has_begun view ≡ false

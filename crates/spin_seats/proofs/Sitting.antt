@@ -7,7 +7,7 @@ use Rattle.spin_step.specs.Plain.{Plain, reading, count_kind, same_kind, gets, r
 use Rattle.spin_step.specs.Steps.{Decides}
 use Rattle.spin_step.specs.Orders.{IsInOrder}
 use Rattle.spin_step.proofs.Holders.{is_holder-from_entries, length-held}
-use Rattle.spin_core.specs.Cell.{Ways, Limits, lends, reading as reads_of, writing as writes_of, readers_of, writers_of, Meets, Allows, Rests}
+use Rattle.spin_core.specs.Cell.{Ways, Limits, lends, no_fact, reading as reads_of, writing as writes_of, readers_of, writers_of, Meets, Allows, Rests}
 use Rattle.spin_core.specs.Own.{Numbered, what}
 use Rattle.spin_core.specs.Plays.{becomes, becomes_by}
 use Rattle.spin_core.specs.Run.{AreMoves, on_first, first}
@@ -32,8 +32,8 @@ use Rattle.spin_seats.specs.Rule as rule
 use Rattle.spin_seats.specs.Rule.{part, IsWord, IsSeats, OneMove, Ending, Told, model, seat_of, words_of, use_of_view, use_of_party, seat_ways, gone, at_word, Says, counts_by, call_of, met, looks_by, waits_in, led_to, takes_by, sits_by, gets_up_by, IsOut, stands, MayLook, sits, seated}
 use Rattle.spin_seats.proofs.Taken.{leave-gives}
 
-abbrev ways : Ways (Unit {0}) View
-ways = (lends, use_of_view)
+abbrev ways : Ways (Unit {0}) View (Unit {0})
+ways = (lends, use_of_view, no_fact)
 
 -- The holders are the parties that sit, and they read
 
@@ -185,18 +185,18 @@ gets_up_at n = let says : ℕ → View → Type 0 = λ w v. (v ≡ Idle) × (1 �
 
 -- Each step keeps the rule, and appends its moves
 
-abbrev own_ways : Ways (Unit {0}) (Numbered View)
-own_ways = (lends, use_of_party)
+abbrev own_ways : Ways (Unit {0}) (Numbered View) (Trace rule.Done (Unit {0}))
+own_ways = (lends, use_of_party, no_fact)
 
 module _ (n name : ℕ) where
   abbrev Keeps : Option (Numbered View) → (ℕ → ℕ) → Says → Type 0
   Keeps view f says = Traces (IsSeats n name) own_ways view None f (Told n says view)
 
   abbrev traces : (view : Option (Numbered View)) (f : ℕ → ℕ) (th : ℕ → View → Type 0) (says : Says) → Moves n (what view) f th says → Allows (IsWord n) ways (what view) f th → Keeps view f says
-  traces view f th says moves step = tie.traces (model n) seat_of words_of (IsWord n) name (Unit {0}) lends use_of_view view None f th says moves step
+  traces view f th says moves step = tie.traces (model n) seat_of words_of (IsWord n) name (Unit {0}) lends use_of_view no_fact view None f th says moves (λ own outs n u said t word p. tt) step
 
   pub opens : (t : Trace rule.Done (Unit {0})) → t.name ≡ name → t.entries ≡ [] → Meets (IsSeats n name) own_ways 0 t []
-  opens t named empty = tie.opens (model n) seat_of words_of (IsWord n) name (Unit {0}) lends use_of_view 0 t named empty refl (starts n)
+  opens t named empty = tie.opens (model n) seat_of words_of (IsWord n) name (Unit {0}) lends use_of_view no_fact 0 t named empty refl (starts n)
 
   pub counts : (view : Option (Numbered View)) → IsOut (what view) → Keeps view (λ w. w) (counts_by n)
   counts view out = let th : ℕ → View → Type 0 = λ w v. (v ≡ Idle) × (w ≤ seats n) in
@@ -231,7 +231,7 @@ also n v rest = (rest.0, λ w m before behind is. (rest.1 w m before behind is.0
 
 pub rests : (n name : ℕ) (view : Option (Numbered View)) → stands view ≡ Idle → Rests (IsSeats n name) use_of_party view
 rests n name None is = tt
-rests n name (Some v) is = tie.rests (model n) seat_of words_of (IsWord n) name (Unit {0}) lends use_of_view v (ap seat_of is) (also n v.0 (plays.idle_rests (lock n) v.0 is))
+rests n name (Some v) is = tie.rests (model n) seat_of words_of (IsWord n) name (Unit {0}) lends use_of_view no_fact v (ap seat_of is) (also n v.0 (plays.idle_rests (lock n) v.0 is))
 
 -- What the rule says
 

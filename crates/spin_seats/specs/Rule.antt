@@ -1,7 +1,7 @@
 -- The rule of a lock of seats: its word is that of a plain lock whose holders are the parties that sit, no more than there are seats; and its trace is a schedule of the lock's model, which leads there.
 use Rattle.std.specs.Prelude.{◌≡◌, ℕ, ◌≤◌, ◌==◌, Bool, true, false, if◌then◌else◌, nat_lt, List, Option, Some, None, count_by}
 use Rattle.spin_step.specs.Plain.{reading}
-use Rattle.spin_core.specs.Cell.{Use, lends, Ways}
+use Rattle.spin_core.specs.Cell.{Use, lends, no_fact, Ways}
 use Rattle.spin_core.specs.Own.{Numbered, Runs, Tells}
 use Rattle.spin_core.specs.Passes.{step_by}
 use Rattle.spin_core.specs.Views.{Part, idle, holds, Encodes, used_by, no_word}
@@ -73,8 +73,8 @@ abbrev pub Told : ℕ → Says → Option (Numbered View) → List Done → List
 Told n = Tells (model n) seat_of words_of
 
 -- a party that sits reads: sitting beside one another is what readers may
-abbrev pub seat_ways : {X : Type 0} → Ways X (Numbered View)
-seat_ways = (lends, use_of_party)
+abbrev pub seat_ways : {X S : Type 0} → Ways X (Numbered View) S
+seat_ways = (lends, use_of_party, no_fact)
 
 -- what a call that takes a seat is where it found none free: it waits, or is refused
 abbrev pub gone : Bool → View

@@ -37,16 +37,16 @@ ghost use Rattle.spin_threads.specs.Onces.{FoundOnce, GaveOnce, has_value};
 ///
 /// # Contract
 /// `Found`, of the lock's holders, tickets and starvers.
-pub fn a_refused_try_found_the_spin_mutex_held()
-    ensures { Found spin_mutex.model SpinMutexView flag.TryLock Refused (Was is_held true) }
+pub fn a_refused_try_found_the_spin_mutex_held<T>()
+    ensures { (opening : T) → Found (spin_mutex.model opening) SpinMutexView flag.TryLock Refused (Was is_held true) }
 {}
 
 /// If a pass looked once whether a `SpinMutex` is held, it was so at a moment while it looked.
 ///
 /// # Contract
 /// `Found`, of the lock's holders, tickets and starvers.
-pub fn a_look_at_a_spin_mutex_was_so_at_a_moment()
-    ensures { (held : Bool) → Found spin_mutex.model SpinMutexView flag.IsLocked (Is held) (Was is_held held) }
+pub fn a_look_at_a_spin_mutex_was_so_at_a_moment<T>()
+    ensures { (opening : T) (held : Bool) → Found (spin_mutex.model opening) SpinMutexView flag.IsLocked (Is held) (Was is_held held) }
 {}
 
 /// If a pass tried once to acquire a `TicketMutex` and failed, a party held the lock or waited for it at a moment while

@@ -1,6 +1,7 @@
 //! One law for each lock. Each is the contract of a function that does nothing: a caller calls it for what it states.
 ghost use Rattle.std.specs.Prelude.{ℕ, List, Option};
 ghost use Rattle.spin_core.specs.Own.{Numbered};
+ghost use Rattle.spin_core.specs.declared.tie.Opening.{Opening};
 ghost use Rattle.spin_core.specs.declared.trace.Trace.{Trace};
 ghost use Rattle.spin_fair.specs.Fair as fair_mutex;
 ghost use Rattle.spin_fair.specs.declared.fair.rule.View.{View as FairMutexView};
@@ -23,8 +24,8 @@ ghost use Rattle.spin_threads.specs.Between.{Between};
 ///
 /// # Contract
 /// `Between`, of the moves that the lock's cell keeps, with the lock's word and parties.
-pub fn between_any_two_steps_of_a_spin_mutex()
-    ensures { (name word : ℕ) (trace : Trace spin_mutex.Done (Unit {0})) (parties : List (Numbered SpinMutexView)) → spin_mutex.IsFlag name word trace parties → Between spin_mutex.model spin_mutex.seat_of spin_mutex.words_of trace.entries (word, trace.word) parties }
+pub fn between_any_two_steps_of_a_spin_mutex<T>()
+    ensures { (opening : Opening T) (word : ℕ) (trace : Trace (spin_mutex.Done T) (Unit {0})) (parties : List (Numbered SpinMutexView)) → spin_mutex.IsFlag opening word trace parties → Between (spin_mutex.model opening.value) spin_mutex.seat_of spin_mutex.words_of trace.entries (word, trace.word) parties }
 {}
 
 /// Between any two steps of the threads that use a `TicketMutex`, its words are the numbers of a queue of tickets. At

@@ -25,8 +25,8 @@ ghost use Rattle.spin_threads.specs.Turns.{EntersInTurn};
 ///
 /// # Contract
 /// `KeepsLimits`, which says it of the steps that all threads made while the call ran.
-pub fn a_call_of_a_spin_mutex_keeps_its_limit()
-    ensures { KeepsLimits spin_mutex.model SpinMutexView }
+pub fn a_call_of_a_spin_mutex_keeps_its_limit<T>()
+    ensures { (opening : T) → KeepsLimits (spin_mutex.model opening) SpinMutexView }
 {}
 
 /// A look of a pass of a `TicketMutex` takes two steps at most, a try three, and a release one. The exchange by which

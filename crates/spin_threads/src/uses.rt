@@ -36,10 +36,10 @@ use spin_ticket::ticket::{Entry, Pass as TicketPass, TicketMutexGuard};
 
 /// Looks once whether a `SpinMutex` is held.
 pub fn look_at_a_spin_mutex<T, R>(pass: SpinPass<'_, T, R>) -> (bool, SpinPass<'_, T, R>)
-    ensures { AtAMoment spin_mutex.model flag.IsLocked (spin_passes.party result.1)
+    ensures { AtAMoment (spin_mutex.model (spin_passes.opening_of pass.entry).value) flag.IsLocked (spin_passes.party result.1)
         (spin_passes.history pass.entry) (spin_passes.history result.1) (Was is_held result.0) }
 {
-    a_look_at_a_spin_mutex_was_so_at_a_moment();
+    a_look_at_a_spin_mutex_was_so_at_a_moment::<T>();
     let (held, pass) = pass.is_locked();
     (held, pass)
 }

@@ -7,7 +7,7 @@ use Rattle.spin_step.specs.Plain.{Plain, ticket_limit, gets, serves, to_take_tic
 use Rattle.spin_step.specs.Steps.{Decides, Gives}
 use Rattle.spin_step.specs.Tickets.{take}
 use Rattle.spin_step.proofs.Tickets.{serving-taken, serving-entered, entered_is_served, first-length, enters_in_turn}
-use Rattle.spin_core.specs.Cell.{Ways, alone, reads, writes, Meets, Allows, AllowsSecond, Rests, Moved}
+use Rattle.spin_core.specs.Cell.{Ways, alone, no_fact, reads, writes, Meets, Allows, AllowsSecond, Rests, Moved}
 use Rattle.spin_core.specs.Own.{Numbered, what}
 use Rattle.spin_core.specs.Passes.{Course, IsStep, step_by, mark_of}
 use Rattle.spin_core.proofs.Passes as passes
@@ -137,8 +137,8 @@ pub is_out : (view : Option (Numbered View)) → stands view ≡ Idle → IsOut 
 is_out None is = tt
 is_out (Some v) is = subst (λ w. IsOut (Some w)) (sym is) tt
 
-abbrev own_ways : Ways (Unit {0}) (Numbered View)
-own_ways = (alone, use_of_party)
+abbrev own_ways : Ways (Unit {0}) (Numbered View) (Trace Made ℕ)
+own_ways = (alone, use_of_party, no_fact)
 
 module _ (name first : ℕ) where
   abbrev Keeps : Option (Numbered View) → (ℕ → ℕ) → Says → Type 0
@@ -149,14 +149,14 @@ module _ (name first : ℕ) where
 
   -- what the plain lock allows, and what the model does
   keeps : (view : Option (Numbered View)) (f : ℕ → ℕ) (tells : ℕ → View → Type 0) (says : Says) → Moves first (what view) f tells says → Allows Word (ways queue) (what view) f tells → Keeps view f says
-  keeps view f tells says = tie.traces (model first) seat_of words_of Word name (Unit {0}) alone use_of_view view None f tells says
+  keeps view f tells says moves allows = tie.traces (model first) seat_of words_of Word name (Unit {0}) alone use_of_view no_fact view None f tells says moves (λ own outs n u said t word p. tt) allows
 
   keeps_second : (view : Option (Numbered View)) (f : ℕ → ℕ) (tells : ℕ → View → Type 0) (says : Says) → MovesSecond first (what view) f tells says → AllowsSecond Word (ways queue) (what view) f tells → KeepsSecond view f says
-  keeps_second view f tells says = tie.traces_second (model first) seat_of words_of Word name (Unit {0}) alone use_of_view view None f tells says
+  keeps_second view f tells says moves allows = tie.traces_second (model first) seat_of words_of Word name (Unit {0}) alone use_of_view no_fact view None f tells says moves (λ own outs n u said t word p. tt) allows
 
   pub starts : (t : Trace Made ℕ) → t.name ≡ name → t.entries ≡ [] → t.word ≡ first → first ≤ ticket_limit → Meets (IsQueue name first) own_ways first t []
   starts t named empty word small =
-      tie.opens (model first) seat_of words_of Word name (Unit {0}) alone use_of_view first t named empty (ap (λ k. (first, k)) word) (rw word (begins queue 0 first first first (omega (arith, small)) refl (omega arith)))
+      tie.opens (model first) seat_of words_of Word name (Unit {0}) alone use_of_view no_fact first t named empty (ap (λ k. (first, k)) word) (rw word (begins queue 0 first first first (omega (arith, small)) refl (omega arith)))
 
   -- `lock`
 
@@ -243,7 +243,7 @@ module _ (name first : ℕ) where
 module _ (name first : ℕ) where
   pub rests : (view : Option (Numbered View)) → stands view ≡ Idle → Rests (IsQueue name first) use_of_party view
   rests None is = tt
-  rests (Some v) is = tie.rests (model first) seat_of words_of Word name (Unit {0}) alone use_of_view v (ap seat_of is) (plays.idle_rests queue v.0 is)
+  rests (Some v) is = tie.rests (model first) seat_of words_of Word name (Unit {0}) alone use_of_view no_fact v (ap seat_of is) (plays.idle_rests queue v.0 is)
 
   pub may_know : (before : Watch Made) → name ≡ before.name → Named (IsQueue name first) own_ways before.name
   may_know before = passes.may_know (IsQueue name first) own_ways name (λ n t vs is. is.0) before.name

@@ -11,6 +11,7 @@ use spin_examples::passes_once::make_beside_look;
 use spin_examples::passes_ticket::{count_by_three, look, try_once as try_ticket_once};
 use spin_examples::registers::four_threads;
 use spin_examples::versions::{race, watch_one};
+use spin_examples::written::write_beside_read;
 use spin_examples::{any_lock, paired, passes_fair, passes_rw, totals};
 use std::thread;
 
@@ -42,6 +43,16 @@ fn shared_values_as_in_rust(rt: HostRuntime) {
     equal(&rt, port_of(&rt, &port, "no port").is_err(), true);
     equal(&rt, port_of(&rt, &port, "80").ok().copied(), Some(80));
     equal(&rt, port_of(&rt, &port, "none").ok().copied(), Some(80));
+}
+
+#[test]
+fn a_thread_reads_the_last_write(rt: HostRuntime) {
+    let lock = SpinMutex::new(6);
+    let (wrote, (found, read)) = write_beside_read(&rt, &lock, 7);
+    drop(wrote);
+    drop(read);
+    equal(&rt, found == 6 || found == 7, true);
+    equal(&rt, lock.into_inner(), 7);
 }
 
 #[test]

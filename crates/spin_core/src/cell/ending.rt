@@ -2,7 +2,7 @@
 ghost use Rattle.std.specs.Prelude.{◌≡◌, ◌≢◌, ◌==◌, ℕ, List, Some, IfOk, IfErr};
 ghost use prog.Atomic.{either};
 ghost use Rattle.spin_core.specs.Cell.{Rests, Moved, Keeps};
-ghost use Rattle.spin_core.specs.Traced.{Named, MayKnow, Traces, Watches};
+ghost use Rattle.spin_core.specs.Traced.{Found, Named, MayKnow, Traces, Watches};
 
 use super::{Permit, Play, Rule};
 use crate::trace::{Trace, Watch};
@@ -38,6 +38,7 @@ impl<'a, T, V, E, S, P: Rule<T, V, Second = Trace<E, S>>> Permit<'a, T, V, P> {
         requires rests { (log es : List E) (found : ℕ) (after : V) → found ≢ old → M.told self.key old new self.view log es found after → Rests (P.holds self.key) (P.ways self.key).1 (Some after) }
         ensures moved { IfOk result.0 (λ permit. Moved (Watches (Named (P.holds self.entry.key) (P.ways self.entry.key) seen.name) seen result.1 (M.told self.entry.key old new self.entry.view) old) permit.view) }
         ensures kept { IfOk result.0 (λ permit. Keeps (P.ways self.entry.key) self.entry.view permit.view self.entry.value permit.value) }
+        ensures found { IfOk result.0 (λ permit. Found (P.ways self.entry.key) self.entry.view permit.view self.entry.value permit.value result.1) }
         ensures key { IfOk result.0 (λ permit. permit.key ≡ self.entry.key) }
         ensures missed { IfErr result.0 (λ found. found ≢ old) }
         ensures left { IfErr result.0 (λ found. (after : V) × Watches (Named (P.holds self.entry.key) (P.ways self.entry.key) seen.name) seen result.1 (M.told self.entry.key old new self.entry.view) found after) }

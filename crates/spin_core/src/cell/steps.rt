@@ -2,7 +2,7 @@
 ghost use Rattle.std.specs.Prelude.{◌≡◌, ◌+◌, ◌-◌, ◌%◌, ◌^◌, ◌==◌, ℕ, List, Option, bit_or};
 ghost use prog.Atomic.{either};
 ghost use Rattle.spin_core.specs.Cell.{Moved, Keeps};
-ghost use Rattle.spin_core.specs.Traced.{Named, MayKnow, Traces, TracesSecond, Watches};
+ghost use Rattle.spin_core.specs.Traced.{Found, Named, MayKnow, Traces, TracesSecond, Watches};
 
 use super::{Permit, Rule};
 use crate::trace::{Trace, Watch};
@@ -30,12 +30,17 @@ pub trait Play<K, V, E> {
 /// Whatever the words, the trace and the other views are, there have to be a next view and entries to append of which
 /// the `Play` holds and which keep the rule (`Traces`). The watch has to be of the cell's trace, or to know nothing
 /// (`MayKnow`). After the step the `Play` holds (`Moved`), of the trace as the watch tells it (`Watches`).
+///
+/// Where the rule knows a fact of a value that nobody writes, the step has to keep it (`Carrying`). A party that has
+/// written leaves the fact of what it was shown, and the trace then. One that comes to use the value is told the fact of
+/// what it is shown (`Found`).
 impl<'a, T, V, E, S, P: Rule<T, V, Second = Trace<E, S>>> Permit<'a, T, V, P> {
     /// Reads the first word.
     pub fn load<M: Play<P::Key, V, E>>(self, seen: Watch<E>) -> (u64, Permit<'a, T, V, P>, Watch<E>)
         requires { MayKnow (P.holds self.key) (P.ways self.key) seen × Traces (P.holds self.key) (P.ways self.key) self.view self.value (λ n. n) (M.told self.key 0 0 self.view) }
         ensures moved { Moved (Watches (Named (P.holds self.entry.key) (P.ways self.entry.key) seen.name) seen result.2 (M.told self.entry.key 0 0 self.entry.view) result.0) result.1.view }
         ensures kept { Keeps (P.ways self.entry.key) self.entry.view result.1.view self.entry.value result.1.value }
+        ensures found { Found (P.ways self.entry.key) self.entry.view result.1.view self.entry.value result.1.value result.2 }
         ensures key { result.1.key ≡ self.entry.key }
     {
         let Permit { cell, marker: _ } = self;
@@ -60,6 +65,7 @@ impl<'a, T, V, E, S, P: Rule<T, V, Second = Trace<E, S>>> Permit<'a, T, V, P> {
         requires { MayKnow (P.holds self.key) (P.ways self.key) seen × Traces (P.holds self.key) (P.ways self.key) self.view self.value (λ n. either (n == old) new n) (M.told self.key old new self.view) }
         ensures moved { Moved (Watches (Named (P.holds self.entry.key) (P.ways self.entry.key) seen.name) seen result.2 (M.told self.entry.key old new self.entry.view) result.0) result.1.view }
         ensures kept { Keeps (P.ways self.entry.key) self.entry.view result.1.view self.entry.value result.1.value }
+        ensures found { Found (P.ways self.entry.key) self.entry.view result.1.view self.entry.value result.1.value result.2 }
         ensures key { result.1.key ≡ self.entry.key }
     {
         let Permit { cell, marker: _ } = self;
@@ -83,6 +89,7 @@ impl<'a, T, V, E, S, P: Rule<T, V, Second = Trace<E, S>>> Permit<'a, T, V, P> {
         requires { MayKnow (P.holds self.key) (P.ways self.key) seen × Traces (P.holds self.key) (P.ways self.key) self.view self.value (λ _. new) (λ log es _. M.told self.key 0 new self.view log es 0) }
         ensures moved { Moved (Watches (Named (P.holds self.entry.key) (P.ways self.entry.key) seen.name) seen result.1 (λ log es _. M.told self.entry.key 0 new self.entry.view log es 0) 0) result.0.view }
         ensures kept { Keeps (P.ways self.entry.key) self.entry.view result.0.view self.entry.value result.0.value }
+        ensures found { Found (P.ways self.entry.key) self.entry.view result.0.view self.entry.value result.0.value result.1 }
         ensures key { result.0.key ≡ self.entry.key }
     {
         let Permit { cell, marker: _ } = self;
@@ -105,6 +112,7 @@ impl<'a, T, V, E, S, P: Rule<T, V, Second = Trace<E, S>>> Permit<'a, T, V, P> {
         requires { MayKnow (P.holds self.key) (P.ways self.key) seen × Traces (P.holds self.key) (P.ways self.key) self.view self.value (λ n. (n + by) % 2 ^ 64) (M.told self.key by 0 self.view) }
         ensures moved { Moved (Watches (Named (P.holds self.entry.key) (P.ways self.entry.key) seen.name) seen result.2 (M.told self.entry.key by 0 self.entry.view) result.0) result.1.view }
         ensures kept { Keeps (P.ways self.entry.key) self.entry.view result.1.view self.entry.value result.1.value }
+        ensures found { Found (P.ways self.entry.key) self.entry.view result.1.view self.entry.value result.1.value result.2 }
         ensures key { result.1.key ≡ self.entry.key }
     {
         let Permit { cell, marker: _ } = self;
@@ -128,6 +136,7 @@ impl<'a, T, V, E, S, P: Rule<T, V, Second = Trace<E, S>>> Permit<'a, T, V, P> {
         requires { MayKnow (P.holds self.key) (P.ways self.key) seen × Traces (P.holds self.key) (P.ways self.key) self.view self.value (λ n. (n + (2 ^ 64 - by)) % 2 ^ 64) (M.told self.key by 0 self.view) }
         ensures moved { Moved (Watches (Named (P.holds self.entry.key) (P.ways self.entry.key) seen.name) seen result.2 (M.told self.entry.key by 0 self.entry.view) result.0) result.1.view }
         ensures kept { Keeps (P.ways self.entry.key) self.entry.view result.1.view self.entry.value result.1.value }
+        ensures found { Found (P.ways self.entry.key) self.entry.view result.1.view self.entry.value result.1.value result.2 }
         ensures key { result.1.key ≡ self.entry.key }
     {
         let Permit { cell, marker: _ } = self;
@@ -151,6 +160,7 @@ impl<'a, T, V, E, S, P: Rule<T, V, Second = Trace<E, S>>> Permit<'a, T, V, P> {
         requires { MayKnow (P.holds self.key) (P.ways self.key) seen × Traces (P.holds self.key) (P.ways self.key) self.view self.value (λ n. bit_or n mask) (M.told self.key mask 0 self.view) }
         ensures moved { Moved (Watches (Named (P.holds self.entry.key) (P.ways self.entry.key) seen.name) seen result.2 (M.told self.entry.key mask 0 self.entry.view) result.0) result.1.view }
         ensures kept { Keeps (P.ways self.entry.key) self.entry.view result.1.view self.entry.value result.1.value }
+        ensures found { Found (P.ways self.entry.key) self.entry.view result.1.view self.entry.value result.1.value result.2 }
         ensures key { result.1.key ≡ self.entry.key }
     {
         let Permit { cell, marker: _ } = self;
@@ -179,6 +189,7 @@ impl<'a, T, V, E, P: Rule<T, V, Second = Trace<E, u64>>> Permit<'a, T, V, P> {
         requires { MayKnow (P.holds self.key) (P.ways self.key) seen × TracesSecond (P.holds self.key) (P.ways self.key) self.view self.value (λ n. n) (M.told self.key 0 0 self.view) }
         ensures moved { Moved (Watches (Named (P.holds self.entry.key) (P.ways self.entry.key) seen.name) seen result.2 (M.told self.entry.key 0 0 self.entry.view) result.0) result.1.view }
         ensures kept { Keeps (P.ways self.entry.key) self.entry.view result.1.view self.entry.value result.1.value }
+        ensures found { Found (P.ways self.entry.key) self.entry.view result.1.view self.entry.value result.1.value result.2 }
         ensures key { result.1.key ≡ self.entry.key }
     {
         let Permit { cell, marker: _ } = self;
@@ -202,6 +213,7 @@ impl<'a, T, V, E, P: Rule<T, V, Second = Trace<E, u64>>> Permit<'a, T, V, P> {
         requires { MayKnow (P.holds self.key) (P.ways self.key) seen × TracesSecond (P.holds self.key) (P.ways self.key) self.view self.value (λ _. new) (λ log es _. M.told self.key 0 new self.view log es 0) }
         ensures moved { Moved (Watches (Named (P.holds self.entry.key) (P.ways self.entry.key) seen.name) seen result.1 (λ log es _. M.told self.entry.key 0 new self.entry.view log es 0) 0) result.0.view }
         ensures kept { Keeps (P.ways self.entry.key) self.entry.view result.0.view self.entry.value result.0.value }
+        ensures found { Found (P.ways self.entry.key) self.entry.view result.0.view self.entry.value result.0.value result.1 }
         ensures key { result.0.key ≡ self.entry.key }
     {
         let Permit { cell, marker: _ } = self;

@@ -46,6 +46,8 @@ impl<T> Rule<T, Party> for LatchRule<T> {
     ghost holds = { λ start. IsLatch start.name };
 
     ghost ways = { λ _. latch_ways };
+
+    ghost lent = { λ key. key };
 }
 
 pub(super) type LatchPermit<'a, T> = Permit<'a, T, Party, LatchRule<T>>;

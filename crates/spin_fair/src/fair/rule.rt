@@ -1,6 +1,6 @@
 //! What a party is to a `FairMutex`, and what the word of the lock says of its parties. Begin at [`FairRule`].
 ghost use Rattle.std.specs.Prelude.{refl};
-ghost use Rattle.spin_core.specs.Cell.{alone, use_of};
+ghost use Rattle.spin_core.specs.Cell.{alone, no_fact, use_of};
 ghost use Rattle.spin_core.specs.Own.{what};
 ghost use Rattle.spin_step_more.specs.declared.fair_calls.FairCall.TheVariants.{TryLock, TryLockStarver, StarverTryLockFair, StarverTryLock, StarverLock, StarverDrop, Release};
 ghost use Rattle.spin_fair.specs.Fair.{IsFair, Told, use_of_party, call_of, looks_by, tries_by, tried_by, looked_by, registers_by, alone_by, sets_by, awaits_by, served_by, ends_by};
@@ -54,7 +54,9 @@ impl<T> Rule<T, Party> for FairRule {
 
     ghost holds = { λ start. IsFair start.name };
 
-    ghost ways = { λ _. (alone, use_of_party) };
+    ghost ways = { λ _. (alone, use_of_party, no_fact) };
+
+    ghost lent = { λ key. key };
 }
 
 /// A party with its number.

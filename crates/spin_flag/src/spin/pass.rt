@@ -1,14 +1,15 @@
 //! The calls of a [`SpinMutex`] by a thread that keeps account of them. Begin at [`SpinMutex::pass`].
-ghost use Rattle.std.specs.Prelude.{◌≡◌, ◌⊎◌, Some, None, [], length, IfOk, IfErr};
+ghost use Rattle.std.specs.Prelude.{◌≡◌, ◌⊎◌, true, Some, None, [], length, IfOk, IfErr};
 ghost use mathlib.Core.List.{IsPrefix};
-ghost use Rattle.spin_core.specs.Guard.{IsHolder, guard_view};
+ghost use Rattle.spin_core.specs.Guard.{IsHolder, guard_view, guard_key, guard_value};
 ghost use Rattle.spin_core.specs.Passes.{mark_of};
-ghost use Rattle.spin_flag.specs.Flag.{use_of_party, stands, Called};
+ghost use Rattle.spin_core.specs.Values.{IsLast};
+ghost use Rattle.spin_flag.specs.Flag.{use_of_party, stands, Called, Left};
 ghost use Rattle.spin_flag.specs.Guards.{Holds};
 ghost use Rattle.spin_flag.specs.Waits.{GoesOn};
 ghost use Rattle.spin_flag.specs.declared.spin.rule.View.TheVariants.{Idle};
-ghost use Rattle.spin_model.specs.declared.answer.Answer.TheVariants.{Granted, Refused, Is, Done as Released};
-ghost use Rattle.spin_model.specs.declared.flag.FlagCall.TheVariants.{Lock, TryLock, IsLocked, Release};
+ghost use Rattle.spin_model.specs.declared.answer.Answer.TheVariants.{Granted, Refused, Is};
+ghost use Rattle.spin_model.specs.declared.flag.FlagCall.TheVariants.{Lock, TryLock, IsLocked};
 
 use super::rule::{Attempt, Entry, FlagRule, Frees, Load, Looks, Party, is_set, word};
 use super::waiting::{Grant, Waiting, try_with};
@@ -47,7 +48,7 @@ use std::sync::Wait;
 #[must_use = "a pass that is dropped ends: bind it, or write `drop(..)`"]
 pub struct Pass<'a, T, R> {
     permit: Permit<'a, T, Party, FlagRule>,
-    seen: Watch<Entry>,
+    seen: Watch<Entry<T>>,
     strategy: PhantomData<R>,
     ghost named: { permit.key.name ≡ seen.name },
     ghost rests: { stands permit.view ≡ Idle },
@@ -58,9 +59,10 @@ impl<T, R> SpinMutex<T, R> {
     /// Returns a pass that has made no call. It makes no operation on the lock.
     ///
     /// # Contract
-    /// The pass is of this lock, and knows nothing of its history yet (`new`).
+    /// The pass is of this lock, and knows nothing of its history yet (`new`, `lock`).
     pub fn pass(&self) -> Pass<'_, T, R>
         ensures new { (result.seen.name ≡ self.now.cell.name) × (result.seen.entries ≡ []) × (result.permit.view ≡ None) }
+        ensures lock { result.permit.key ≡ self.now.cell }
     {
         Pass {
             permit: self.cell.enter(),
@@ -74,12 +76,15 @@ impl<T, R> SpinMutex<T, R> {
     /// A guard that is dropped releases the lock too, and ends its pass.
     ///
     /// # Contract
-    /// `seen` has to be what [`Pass::lock`] or [`Pass::try_lock`] returned beside the guard (`Holds`). The call is in
-    /// the history, as the pass's next one (`made`).
-    pub fn unlock<'a>(guard: SpinMutexGuard<'a, T, R>, seen: Watch<Entry>) -> Pass<'a, T, R>
+    /// `seen` has to be what [`Pass::lock`] or [`Pass::try_lock`] returned beside the guard (`Holds`). The pass makes the
+    /// call, as its next one, behind a write (`made`): it writes the guard's value into the history (`wrote`). So that
+    /// value is the one written last (`left`).
+    pub fn unlock<'a>(guard: SpinMutexGuard<'a, T, R>, seen: Watch<Entry<T>>) -> Pass<'a, T, R>
         requires { Holds guard seen }
-        ensures made { Called Release Released (Some (guard_view guard.entry)) seen.entries result.permit.view result.seen.entries }
-        ensures same { result.seen.name ≡ seen.name }
+        ensures made { Left (guard_key guard.entry).value (λ x. Unit {0}) (Some (guard_view guard.entry)) seen.entries result.permit.view result.seen.entries }
+        ensures wrote { Left (guard_key guard.entry).value (λ x. (guard_key guard.entry).told ≡ true → x ≡ guard_value guard.entry) (Some (guard_view guard.entry)) seen.entries result.permit.view result.seen.entries }
+        ensures left { IsLast (guard_key guard.entry) result.seen.entries (guard_value guard.entry) }
+        ensures same { (result.seen.name ≡ seen.name) × (result.permit.key ≡ guard_key guard.entry) }
     {
         let free = flag::unlock(true);
         let permit = Guard::into_writer(guard).into_permit();
@@ -97,12 +102,14 @@ impl<'a, T, R: RelaxStrategy> Pass<'a, T, R> {
     ///
     /// # Contract
     /// The call is one `Lock` with the answer `Granted`, however often it looked and tried (`made`). The guard belongs
-    /// to a holder of the lock. Whether and when the call returns is not promised.
-    pub fn lock<W: Wait>(self, rt: &W) -> (SpinMutexGuard<'a, T, R>, Watch<Entry>)
+    /// to a holder of the lock, and its value is the one written last in the history (`found`). Whether and when the call
+    /// returns is not promised.
+    pub fn lock<W: Wait>(self, rt: &W) -> (SpinMutexGuard<'a, T, R>, Watch<Entry<T>>)
         ensures holder { IsHolder use_of_party result.0 }
         ensures holds { Holds result.0 result.1 }
-        ensures same { result.1.name ≡ self.entry.seen.name }
-        ensures made { Called Lock Granted self.entry.permit.view self.entry.seen.entries (Some (guard_view result.0)) result.1.entries }
+        ensures same { (result.1.name ≡ self.entry.seen.name) × (guard_key result.0 ≡ self.entry.permit.key) }
+        ensures found { IsLast (self.entry.permit.key) result.1.entries (guard_value result.0) }
+        ensures made { Called (self.entry.permit.key).value Lock Granted self.entry.permit.view self.entry.seen.entries (Some (guard_view result.0)) result.1.entries }
     {
         let Self {
             permit,
@@ -122,6 +129,7 @@ impl<'a, T, R> Pass<'a, T, R> {
     ///
     /// # Contract
     /// The call is one `TryLock`, with the answer `Granted` beside a guard (`granted`), and else `Refused` (`refused`).
+    /// The guard's value is the one written last in the history (`found`).
     ///
     /// # Examples
     /// ```
@@ -133,11 +141,12 @@ impl<'a, T, R> Pass<'a, T, R> {
     /// drop(guard);
     /// assert!(rt; pass.try_lock().is_ok());
     /// ```
-    pub fn try_lock(self) -> Result<(SpinMutexGuard<'a, T, R>, Watch<Entry>), Pass<'a, T, R>>
+    pub fn try_lock(self) -> Result<(SpinMutexGuard<'a, T, R>, Watch<Entry<T>>), Pass<'a, T, R>>
         ensures holder { IfOk result (λ held. IsHolder use_of_party held.0 × Holds held.0 held.1) }
-        ensures same { IfOk result (λ held. held.1.name ≡ self.entry.seen.name) }
-        ensures granted { IfOk result (λ held. Called TryLock Granted self.entry.permit.view self.entry.seen.entries (Some (guard_view held.0)) held.1.entries) }
-        ensures refused { IfErr result (λ pass. Called TryLock Refused self.entry.permit.view self.entry.seen.entries pass.permit.view pass.seen.entries × (pass.seen.name ≡ self.entry.seen.name)) }
+        ensures same { IfOk result (λ held. (held.1.name ≡ self.entry.seen.name) × (guard_key held.0 ≡ self.entry.permit.key)) }
+        ensures found { IfOk result (λ held. IsLast (self.entry.permit.key) held.1.entries (guard_value held.0)) }
+        ensures granted { IfOk result (λ held. Called (self.entry.permit.key).value TryLock Granted self.entry.permit.view self.entry.seen.entries (Some (guard_view held.0)) held.1.entries) }
+        ensures refused { IfErr result (λ pass. Called (self.entry.permit.key).value TryLock Refused self.entry.permit.view self.entry.seen.entries pass.permit.view pass.seen.entries × (pass.seen.name ≡ self.entry.seen.name) × (pass.permit.key ≡ self.entry.permit.key)) }
     {
         let Self {
             permit,
@@ -165,8 +174,8 @@ impl<'a, T, R> Pass<'a, T, R> {
     /// # Contract
     /// The call is one `IsLocked`, with the answer that is returned (`made`).
     pub fn is_locked(self) -> (bool, Pass<'a, T, R>)
-        ensures made { Called IsLocked (Is result.0) self.entry.permit.view self.entry.seen.entries result.1.permit.view result.1.seen.entries }
-        ensures same { result.1.seen.name ≡ self.entry.seen.name }
+        ensures made { Called (self.entry.permit.key).value IsLocked (Is result.0) self.entry.permit.view self.entry.seen.entries result.1.permit.view result.1.seen.entries }
+        ensures same { (result.1.seen.name ≡ self.entry.seen.name) × (result.1.permit.key ≡ self.entry.permit.key) }
     {
         let Self {
             permit,

@@ -1,13 +1,14 @@
 //! What a party is to a `SpinMutex`, and what the word of the lock says of its parties. Begin at [`FlagRule`].
 ghost use Rattle.std.specs.Prelude.{◌≡◌, ℕ, refl};
 ghost use Rattle.spin_step.specs.Steps.{bit};
-ghost use Rattle.spin_core.specs.Cell.{alone, use_of};
+ghost use Rattle.spin_core.specs.Cell.{use_of};
 ghost use Rattle.spin_core.specs.Own.{what};
-ghost use Rattle.spin_flag.specs.Flag.{IsFlag, Told, use_of_party, set, looks_by, tries_by, frees_by, tried_by, looked_by};
+ghost use Rattle.spin_core.specs.Values.{untold};
+ghost use Rattle.spin_flag.specs.Flag.{IsFlag, Told, flag_ways, use_of_party, set, looks_by, tries_by, frees_by, tried_by, looked_by};
 
 use spin_core::cell::{Play, Rule, WritePermit};
 use spin_core::guard::{self, Uses};
-use spin_core::tie;
+use spin_core::tie::{self, Opening};
 use spin_core::trace::{Trace, Watch};
 use spin_model::FlagCall;
 use spin_step::flag;
@@ -29,59 +30,61 @@ pub enum View {
 ///
 /// # Contract
 /// `IsFlag`: the word is that of a plain lock whose holders are the parties that hold. The trace is a schedule of the
-/// lock's model, which leads to this word, with each party in the seat that its view names.
+/// lock's model, which leads to this word, with each party in the seat that its view names. The value that nobody holds
+/// is the one that this schedule writes last (`IsLast`), until the owner borrows it.
 pub struct FlagRule;
 
 impl<T> Rule<T, Party> for FlagRule {
-    // What is known of the lock's trace at first: its name.
-    type Key = Watch<Entry>;
+    type Key = Opening<T>;
 
-    type Second = Trace<Entry>;
+    type Second = Trace<Entry<T>>;
 
-    ghost holds = { λ start. IsFlag start.name };
+    ghost holds = { IsFlag };
 
-    ghost ways = { λ _. (alone, use_of_party) };
+    ghost ways = { flag_ways };
+
+    ghost lent = { untold };
 }
 
 /// A party with its number.
 pub type Party = tie::Numbered<View>;
 
-/// An entry of the lock's trace.
-pub type Entry = tie::Entry<FlagCall>;
+/// An entry of the trace of a lock of values of type `T`.
+pub type Entry<T> = tie::Entry<FlagCall, T>;
 
 /// The load of `is_locked`.
 pub(super) struct Load;
 
-impl Play<Watch<Entry>, Party, Entry> for Load {
-    ghost told = { λ key old new before. Told looks_by before };
+impl<T> Play<Opening<T>, Party, Entry<T>> for Load {
+    ghost told = { λ key old new before. Told key.value looks_by before };
 }
 
 /// The compare-exchange of `try_lock`.
 pub(super) struct Attempt;
 
-impl Play<Watch<Entry>, Party, Entry> for Attempt {
-    ghost told = { λ key old new before. Told tries_by before };
+impl<T> Play<Opening<T>, Party, Entry<T>> for Attempt {
+    ghost told = { λ key old new before. Told key.value tries_by before };
 }
 
 /// The compare-exchange of `lock`.
 pub(super) struct Tries;
 
-impl Play<Watch<Entry>, Party, Entry> for Tries {
-    ghost told = { λ key old new before. Told (tried_by (what before)) before };
+impl<T> Play<Opening<T>, Party, Entry<T>> for Tries {
+    ghost told = { λ key old new before. Told key.value (tried_by (what before)) before };
 }
 
 /// The load of `lock`.
 pub(super) struct Looks;
 
-impl Play<Watch<Entry>, Party, Entry> for Looks {
-    ghost told = { λ key old new before. Told looked_by before };
+impl<T> Play<Opening<T>, Party, Entry<T>> for Looks {
+    ghost told = { λ key old new before. Told key.value looked_by before };
 }
 
 /// The store that releases the lock.
 pub(super) struct Frees;
 
-impl Play<Watch<Entry>, Party, Entry> for Frees {
-    ghost told = { λ key old new before. Told frees_by before };
+impl<T> Play<Opening<T>, Party, Entry<T>> for Frees {
+    ghost told = { λ key old new before. Told key.value frees_by before };
 }
 
 impl Uses<Party> for FlagRule {

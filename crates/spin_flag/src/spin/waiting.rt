@@ -3,6 +3,7 @@ ghost use Rattle.std.specs.Prelude.{◌≡◌, Some, None, length, IfOk, IfErr};
 ghost use Rattle.spin_core.specs.Cell.{writes};
 ghost use Rattle.spin_core.specs.Own.{what};
 ghost use Rattle.spin_core.specs.Passes.{mark_of, IsStep};
+ghost use Rattle.spin_core.specs.Values.{IsLast};
 ghost use Rattle.spin_flag.specs.Flag.{use_of_party, has_begun, MayTry, Moves};
 ghost use Rattle.spin_flag.specs.declared.spin.rule.View.TheVariants.{Looking};
 ghost use Rattle.spin_model.specs.declared.answer.Answer.TheVariants.{Granted};
@@ -17,7 +18,7 @@ use spin_step::flag;
 // A call of `lock` that goes on with a look.
 pub(super) struct Waiting<'a, T> {
     pub(super) permit: Permit<'a, T, Party, FlagRule>,
-    pub(super) seen: Watch<Entry>,
+    pub(super) seen: Watch<Entry<T>>,
     ghost named: { permit.key.name ≡ seen.name },
     ghost looks: { what permit.view ≡ Some Looking },
     ghost knows: { mark_of permit.view ≡ length seen.entries },
@@ -26,19 +27,20 @@ pub(super) struct Waiting<'a, T> {
 // A call of `lock` that is answered.
 pub(super) struct Grant<'a, T> {
     pub(super) writer: WritePermit<'a, T, Party, FlagRule>,
-    pub(super) seen: Watch<Entry>,
+    pub(super) seen: Watch<Entry<T>>,
     ghost named: { writer.key.name ≡ seen.name },
     ghost holds: { use_of_party writer.view ≡ writes },
     ghost knows: { writer.view.2 ≡ length seen.entries },
+    ghost finds: { IsLast writer.key seen.entries writer.value },
 }
 
 // The exchange of `lock`, of a call that comes or has found the flag clear.
 pub(super) fn try_with<'a, T>(
     permit: Permit<'a, T, Party, FlagRule>,
-    seen: Watch<Entry>,
+    seen: Watch<Entry<T>>,
 ) -> Result<Grant<'a, T>, Waiting<'a, T>>
     requires { MayTry (what permit.view) × (permit.key.name ≡ seen.name) × (mark_of permit.view ≡ length seen.entries) }
-    ensures { IfOk result (λ grant. (grant.seen.name ≡ seen.name) × Moves (IsStep (has_begun (what permit.entry.view)) Lock (Answered Granted None)) permit.entry.view seen.entries (Some grant.writer.view) grant.seen.entries) × IfErr result (λ next. (next.seen.name ≡ seen.name) × Moves (IsStep (has_begun (what permit.entry.view)) Lock GoingOn) permit.entry.view seen.entries next.permit.view next.seen.entries) }
+    ensures { IfOk result (λ grant. (grant.writer.key ≡ permit.entry.key) × Moves permit.entry.key.value (IsStep (has_begun (what permit.entry.view)) Lock (Answered Granted None)) permit.entry.view seen.entries (Some grant.writer.view) grant.seen.entries) × IfErr result (λ next. (next.permit.key ≡ permit.entry.key) × Moves permit.entry.key.value (IsStep (has_begun (what permit.entry.view)) Lock GoingOn) permit.entry.view seen.entries next.permit.view next.seen.entries) }
 {
     let free = false;
     let Some(taken) = flag::lock(free) else {

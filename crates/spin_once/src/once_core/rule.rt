@@ -101,6 +101,8 @@ impl<T, S: Seed<T>> Rule<Slot<T, S>, Party> for Stage<T, S> {
     ghost holds = { λ key. IsOnce key.given.value key.start.name };
 
     ghost ways = { λ key. once_ways S.makes key.seed };
+
+    ghost lent = { λ key. key };
 }
 
 pub(super) type SeedCell<T, S> = Cell<Slot<T, S>, Party, Stage<T, S>>;

@@ -68,6 +68,8 @@ impl<T> Rule<T, Party> for RwRule<T> {
     ghost holds = { λ start. IsRw start.name };
 
     ghost ways = { λ _. rw_ways };
+
+    ghost lent = { λ key. key };
 }
 
 /// A party with its number.

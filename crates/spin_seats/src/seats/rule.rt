@@ -40,6 +40,8 @@ impl<const N: usize> Rule<(), Party> for SeatsRule<N> {
     ghost holds = { λ start. IsSeats N start.name };
 
     ghost ways = { λ _. seat_ways };
+
+    ghost lent = { λ key. key };
 }
 
 /// The load of `count`. It finds that at most `N` sit.

@@ -1,6 +1,6 @@
 //! What a party is to a `TicketMutex`, and what the two words of the lock say of its parties. Begin at [`TicketRule`].
 ghost use Rattle.std.specs.Prelude.{true, false, refl};
-ghost use Rattle.spin_core.specs.Cell.{alone, use_of};
+ghost use Rattle.spin_core.specs.Cell.{alone, no_fact, use_of};
 ghost use Rattle.spin_core.specs.Own.{what};
 ghost use Rattle.spin_core.specs.Passes.{step_by};
 ghost use Rattle.spin_model.specs.declared.ticket.TicketCall.TheVariants.{Lock, TryLock, IsLocked, Release};
@@ -50,7 +50,9 @@ impl<T> Rule<T, Party> for TicketRule {
 
     ghost holds = { λ start. IsQueue start.0.name start.1 };
 
-    ghost ways = { λ _. (alone, use_of_party) };
+    ghost ways = { λ _. (alone, use_of_party, no_fact) };
+
+    ghost lent = { λ key. key };
 }
 
 /// What is known of the lock's trace at first, its name, and the number of the first ticket.

@@ -4,4 +4,4 @@ use Rattle.spin_threads.proofs.Between.{between}
 use Rattle.spin_threads.proofs.laws.between_any_two_steps_of_a_spin_mutex.Goals as goal
 
 pub returns : goal.returns
-returns g = λ name word trace parties is. between model seat_of words_of (flag_keeping tt) (flag_facts tt) trace.entries (word, trace.word) parties is.2
+returns g c = λ opening word trace parties is. between (model opening.value) seat_of words_of (flag_keeping opening.value) (flag_facts opening.value) trace.entries (word, trace.word) parties is.2

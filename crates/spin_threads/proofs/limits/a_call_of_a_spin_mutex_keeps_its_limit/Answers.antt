@@ -4,4 +4,4 @@ use Rattle.spin_threads.proofs.Counts.{keeps_limits}
 use Rattle.spin_threads.proofs.limits.a_call_of_a_spin_mutex_keeps_its_limit.Goals as goal
 
 pub returns : goal.returns
-returns g = keeps_limits model (flag_keeping tt) (flag_facts tt)
+returns g c = λ opening. keeps_limits (model opening) (flag_keeping opening) (flag_facts opening)

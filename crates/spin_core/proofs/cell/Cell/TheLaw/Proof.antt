@@ -31,13 +31,13 @@ use denote.Struct.Members.{Member, row_of}
 use denote.Struct.Lending.{Law}
 use Rattle.core.proofs.cell.Borrows.{by_one}
 use Rattle.atomic_table.specs.Seated.{halved}
-use Rattle.spin_core.specs.Cell.{Way, alone, lends, fixes, Ways, writes, Limits, Fixed, Meets, readers_of, writers_of}
-use Rattle.spin_core.specs.CellMemory.{offset, second_at, Known, Id, unused, roster, tag, idle, tracked, resting, state, core, core_at, standing, inner, kept, cell_shares}
+use Rattle.spin_core.specs.Cell.{Way, alone, lends, fixes, Ways, writes, Limits, Fixed, Meets, readers_of, writers_of, IsKnown, Knowing}
+use Rattle.spin_core.specs.CellMemory.{offset, second_at, Known, Id, unused, roster, tag, idle, tracked, resting, lying, state, core, core_at, standing, inner, kept, cell_shares}
 use Rattle.spin_core.specs.declared.cell.Rule.{Ghosts}
 use Rattle.spin_core.specs.contracts.cell.Cell as C
 use Rattle.spin_core.proofs.CellFields.{All, Rule, Written, written_out, written_in, standing_words, At, Joins, fields_out}
 use Rattle.spin_core.proofs.CellRoster.{enrols}
-use Rattle.spin_core.proofs.CellWays.{unknown}
+use Rattle.spin_core.proofs.CellWays.{unknown, knowing_at, knowing_known, knowing_rest, knowing_none}
 use Rattle.core.specs.Sync.RawAtomic.{word}
 use Rattle.atomic_table.specs.Seated.{fact}
 use Rattle.spin_core.proofs.CellRounds.{begun, held, readies, whole, renewed, rests_lent, rests_fixed}
@@ -57,7 +57,7 @@ module _ {M : Type 1} {𝓤 : Ura M} (𝓛 : Logic 𝓤) (m ms : Member) (V Y K 
   abbrev c : V.Denot → Gv
   c = V.coded.code
 
-  abbrev ways : Ways R.Denot V.Denot
+  abbrev ways : Ways R.Denot V.Denot S.Denot
   ways = g.ways key
 
   abbrev way : Way R.Denot
@@ -79,15 +79,15 @@ module _ {M : Type 1} {𝓤 : Ura M} (𝓛 : Logic 𝓤) (m ms : Member) (V Y K 
   Starting = Rule 𝓛 m ms V Y K g key b o
 
   -- what the words' borrow keeps of the value, under its name: the fact, or that somebody writes
-  abbrev found : Way R.Denot → GName → ℕ → ℕ → Option R.Denot → Fml
-  found way' ν r w None = fact (0 < w)
-  found way' ν r w (Some x) = fsep (fobs ν (R.coded.code x)) (fact (Fixed way' r w x))
+  abbrev found : S.Denot → Way R.Denot → GName → ℕ → ℕ → Option R.Denot → Fml
+  found k way' ν r w None = fact (0 < w)
+  found k way' ν r w (Some x) = fsep (fobs ν (R.coded.code x)) (fact (Knowing ways.2 k w x (Fixed way' r w x)))
 
-  abbrev IsFound : Way R.Denot → GName → ℕ → ℕ → Fml
-  IsFound way' ν r w = fex (Option R.Denot) (found way' ν r w)
+  abbrev IsFound : S.Denot → Way R.Denot → GName → ℕ → ℕ → Fml
+  IsFound k way' ν r w = fex (Option R.Denot) (found k way' ν r w)
 
   abbrev views_at : GName → ℕ × S.Denot → List V.Denot → Fml
-  views_at ν s vs = fsep (fact (Meets (g.holds key) ways s.0 s.1 vs)) (IsFound way ν (readers_of ways.1 vs) (writers_of ways.1 vs))
+  views_at ν s vs = fsep (fact (Meets (g.holds key) ways s.0 s.1 vs)) (IsFound s.1 way ν (readers_of ways.1 vs) (writers_of ways.1 vs))
 
   abbrev standing_at : GName → ℕ × S.Denot → Fml
   standing_at ν s = fsep (word b (o + 0) s.0) (fsep (part_at S full_share s.1 b (o + second_at S R)) (fex (List V.Denot) (views_at ν s)))
@@ -106,13 +106,13 @@ module _ {M : Type 1} {𝓤 : Ura M} (𝓛 : Logic 𝓤) (m ms : Member) (V Y K 
 
   -- ---- the borrow of the cell becomes one of the words and one of the value
   starts : (ν : GName) (s : ℕ × S.Denot) (vs : List V.Denot) (x : R.Denot) (v : Option R.Denot) → Meets (g.holds key) ways s.0 s.1 vs
-      → ⟦ found way ν (readers_of ways.1 vs) (writers_of ways.1 vs) v ⟧ ∗ A.auth ν (R.coded.code x) ⊢ ⟦ fact (Starting (s.0, s.1, x)) ⟧
+      → ⟦ found s.1 way ν (readers_of ways.1 vs) (writers_of ways.1 vs) v ⟧ ∗ A.auth ν (R.coded.code x) ⊢ ⟦ fact (Starting (s.0, s.1, x)) ⟧
   starts ν s vs x None meets = let w = writers_of ways.1 vs in qed 𝓛 (‵ (fact (0 < w)) ∷ ‵ (fauth ν (R.coded.code x)) ∷ []) ∵ fpick ! (λ writes. drop ! $
       drop ! $ nothing ! $
-      fpack ! (Starting (s.0, s.1, x)) (λ _. ftrue) (vs, meets, unknown way (readers_of ways.1 vs) w x meets.1 writes) $ done !)
+      fpack ! (Starting (s.0, s.1, x)) (λ _. ftrue) (vs, meets, knowing_none ways.2 s.1 w x writes (unknown way (readers_of ways.1 vs) w x meets.1 writes)) $ done !)
   starts ν s vs x (Some y) meets = let r = readers_of ways.1 vs in let w = writers_of ways.1 vs in
-      qed 𝓛 (‵ (found way ν r w (Some y)) ∷ ‵ (fauth ν (R.coded.code x)) ∷ []) ∵ fsplit ! $ move ! (1 ∷ []) $ fpick ! (λ known. drop ! $ name_agree ! R.coded (λ same. drop ! $ drop ! $ nothing ! $
-      fpack ! (Starting (s.0, s.1, x)) (λ _. ftrue) (vs, meets, subst (λ (z : R.Denot). Fixed way r w z) same known) $ done !))
+      qed 𝓛 (‵ (found s.1 way ν r w (Some y)) ∷ ‵ (fauth ν (R.coded.code x)) ∷ []) ∵ fsplit ! $ move ! (1 ∷ []) $ fpick ! (λ known. drop ! $ name_agree ! R.coded (λ same. drop ! $ drop ! $ nothing ! $
+      fpack ! (Starting (s.0, s.1, x)) (λ _. ftrue) (vs, meets, subst (λ (z : R.Denot). Knowing ways.2 s.1 w z (Fixed way r w z)) same known) $ done !))
 
   way_back : (ν : GName) → Back ⊢ ⟦ fwand (fsep (fdead κ) (fseps (Words ν ∷ Named ν ∷ []))) (fupd P) ⟧
   unfolding fseps
@@ -130,7 +130,7 @@ module _ {M : Type 1} {𝓤 : Ura M} (𝓛 : Logic 𝓤) (m ms : Member) (V Y K 
       pick ! (λ z. let x = z.1.2 in let s : ℕ × S.Denot = (z.1.0, z.1.1) in split ! $ move ! (1 ∷ []) $ split3 ! $ move ! (1 ∷ []) $ fpick ! (λ rule. drop ! $
       let vs = rule.0 in let r = readers_of ways.1 vs in let w = writers_of ways.1 vs in
       name_new ! tt (R.coded.code x) (λ ν. move ! (2 ∷ 1 ∷ []) $ fjoin ! $ fpack ! R.Denot (λ y. fsep (At 𝓛 m ms V Y K g key b o y) (fauth ν (R.coded.code y))) x $
-      nothing ! $ fpack ! (Fixed way r w x) (λ _. ftrue) rule.2 $ move ! (2 ∷ 0 ∷ []) $ fjoin ! $ fpack ! (Option R.Denot) (found way ν r w) (Some x) $
+      nothing ! $ fpack ! (Knowing ways.2 s.1 w x (Fixed way r w x)) (λ _. ftrue) rule.2 $ move ! (2 ∷ 0 ∷ []) $ fjoin ! $ fpack ! (Option R.Denot) (found s.1 way ν r w) (Some x) $
       nothing ! $ fpack ! (Meets (g.holds key) ways s.0 s.1 vs) (λ _. ftrue) rule.1 $ fjoin ! $ fpack ! (List V.Denot) (views_at ν s) vs $
       -- [the views; the value; the way back; the words; the open borrow]
       move ! (3 ∷ []) $ fsplit ! $ move ! (0 ∷ 1 ∷ 2 ∷ []) $ fjoin3 ! $ fpack ! (ℕ × S.Denot) (standing_at ν) s $ nothing ! $ move ! (1 ∷ 2 ∷ 0 ∷ []) $ fjoin3 ! $ move ! (1 ∷ []) $
@@ -143,38 +143,44 @@ module _ {M : Type 1} {𝓤 : Ura M} (𝓛 : Logic 𝓤) (m ms : Member) (V Y K 
     abbrev t : Id
     t = record { life = κ; round = γ; views = ρ; value = ν }
 
-    abbrev St : Way R.Denot → ℕ → ℕ → Fml
+    abbrev St : Way R.Denot → (R.Denot → Type 0) → ℕ → ℕ → Fml
     St = state R b o t
+
+    abbrev φ : S.Denot → R.Denot → Type 0
+    φ = IsKnown ways.2
 
     abbrev Ready : Way R.Denot → R.Denot → Fml
     Ready w x = held 𝓛 R b o t writes w (Some x)
 
-    rests : (w : Way R.Denot) (r : ℕ) (x : R.Denot) → ⟦ whole 𝓛 R b o t x ⟧ ⊢ ⟦ resting R b o t w r x ⟧
-        → ⟦ idle γ ⟧ ∗ ⟦ fex ℕ (begun 𝓛 R b o t x) ⟧ ⊢ upd 𝓤 ⟦ St w r 0 ⟧
-    rests w r x to = renewed 𝓛 R b o t x ⟦ St w r 0 ⟧ (qed 𝓛 (‵ (whole 𝓛 R b o t x) ∷ []) ∵
-        use1 𝓛 (‵ (resting R b o t w r x)) to $ fpack ! R.Denot (resting R b o t w r) x $ done !)
+    rests : (k : S.Denot) (w : Way R.Denot) (r : ℕ) (x : R.Denot) → φ k x → ⟦ whole 𝓛 R b o t x ⟧ ⊢ ⟦ resting R b o t w r x ⟧
+        → ⟦ idle γ ⟧ ∗ ⟦ fex ℕ (begun 𝓛 R b o t x) ⟧ ⊢ upd 𝓤 ⟦ St w (φ k) r 0 ⟧
+    rests k w r x known to = renewed 𝓛 R b o t x ⟦ St w (φ k) r 0 ⟧ (qed 𝓛 (‵ (whole 𝓛 R b o t x) ∷ []) ∵
+        use1 𝓛 (‵ (resting R b o t w r x)) to $ fpack ! (φ k x) (λ _. resting R b o t w r x) known $ fpack ! R.Denot (lying R b o t w (φ k) r) x $ done !)
 
-    away : (w : Way R.Denot) (r k : ℕ) → 0 < k → ⟦ idle γ ⟧ ⊢ ⟦ St w r k ⟧
-    away w r zero writer = absurd (omega (arith, writer))
-    away alone r (suc k) writer = qed 𝓛 (‵ (idle γ) ∷ []) ∵ drop ! $ nothing ! $ done !
-    away _ r (suc k) writer = id⊢ 𝓤 _
+    away : (k : S.Denot) (w : Way R.Denot) (r n : ℕ) → 0 < n → ⟦ idle γ ⟧ ⊢ ⟦ St w (φ k) r n ⟧
+    away k w r zero writer = absurd (omega (arith, writer))
+    away k alone r (suc n) writer = qed 𝓛 (‵ (idle γ) ∷ []) ∵ drop ! $ nothing ! $ done !
+    away k _ r (suc n) writer = id⊢ 𝓤 _
 
-    begins : (w : Way R.Denot) (r k : ℕ) (x : R.Denot) → Limits w r k → Fixed w r k x → ⟦ idle γ ⟧ ∗ ⟦ Ready w x ⟧ ⊢ upd 𝓤 ⟦ St w r k ⟧
-    begins alone r zero x lim known = qed 𝓛 (‵ (idle γ) ∷ ‵ (tracked R b o t x) ∷ []) ∵ drop ! $ fpack ! R.Denot (resting R b o t alone r) x $ by ! (upd_i 𝓤 ⟦ St alone r 0 ⟧)
-    begins lends r zero x lim known = rests lends r x (rests_lent 𝓛 R b o t r x (omega arith))
-    begins (fixes fact) r zero x lim known = rests (fixes fact) r x (rests_fixed 𝓛 R b o t fact r x known)
-    begins w r (suc k) x lim known = qed 𝓛 (‵ (idle γ) ∷ ‵ (Ready w x) ∷ []) ∵ keep ! (0 ∷ []) $ use1 𝓛 (‵ (St w r (suc k))) (away w r (suc k) (omega arith)) $ by ! (upd_i 𝓤 ⟦ St w r (suc k) ⟧)
+    begins : (k : S.Denot) (w : Way R.Denot) (r n : ℕ) (x : R.Denot) → Limits w r n → Knowing ways.2 k n x (Fixed w r n x) → ⟦ idle γ ⟧ ∗ ⟦ Ready w x ⟧ ⊢ upd 𝓤 ⟦ St w (φ k) r n ⟧
+    begins k alone r zero x lim known = qed 𝓛 (‵ (idle γ) ∷ ‵ (tracked R b o t x) ∷ []) ∵ drop ! $ fpack ! (φ k x) (λ _. resting R b o t alone r x) (knowing_known ways.2 k x (Fixed alone r 0 x) known) $
+        fpack ! R.Denot (lying R b o t alone (φ k) r) x $ by ! (upd_i 𝓤 ⟦ St alone (φ k) r 0 ⟧)
+    begins k lends r zero x lim known = rests k lends r x (knowing_known ways.2 k x (Fixed lends r 0 x) known) (rests_lent 𝓛 R b o t r x (omega arith))
+    begins k (fixes fact) r zero x lim known = rests k (fixes fact) r x (knowing_known ways.2 k x (Fixed (fixes fact) r 0 x) known) (rests_fixed 𝓛 R b o t fact r x (knowing_rest ways.2 k 0 x known))
+    begins k w r (suc n) x lim known = qed 𝓛 (‵ (idle γ) ∷ ‵ (Ready w x) ∷ []) ∵ keep ! (0 ∷ []) $ use1 𝓛 (‵ (St w (φ k) r (suc n))) (away k w r (suc n) (omega arith)) $ by ! (upd_i 𝓤 ⟦ St w (φ k) r (suc n) ⟧)
 
     -- ---- what is found of the value in each state
-    kept_found : (w : Way R.Denot) (r k : ℕ) (x : R.Denot) → Fixed w r k x → A.obs ν (R.coded.code x) ⊢ ⟦ IsFound w ν r k ⟧
-    kept_found w r k x known = qed 𝓛 (‵ (fobs ν (R.coded.code x)) ∷ []) ∵ nothing ! $ fpack ! (Fixed w r k x) (λ _. ftrue) known $ move ! (1 ∷ 0 ∷ []) $ fjoin ! $ fpack ! (Option R.Denot) (found w ν r k) (Some x) $ done !
+    kept_found : (k : S.Denot) (w : Way R.Denot) (r : ℕ) (x : R.Denot) → φ k x → Fixed w r 0 x → A.obs ν (R.coded.code x) ⊢ ⟦ IsFound k w ν r 0 ⟧
+    kept_found k w r x is known = qed 𝓛 (‵ (fobs ν (R.coded.code x)) ∷ []) ∵ nothing ! $ fpack ! (Knowing ways.2 k 0 x (Fixed w r 0 x)) (λ _. ftrue) (knowing_at ways.2 k x is known) $ move ! (1 ∷ 0 ∷ []) $ fjoin ! $
+        fpack ! (Option R.Denot) (found k w ν r 0) (Some x) $ done !
 
-    finds : (w : Way R.Denot) (r k : ℕ) → ⟦ St w r k ⟧ ⊢ ⟦ IsFound w ν r k ⟧
-    finds alone r zero = qed 𝓛 (‵ (St alone r 0) ∷ []) ∵ fpick ! (λ x. fsplit ! $ keep ! (0 ∷ []) $ by ! (kept_found alone r 0 x tt))
-    finds lends r zero = qed 𝓛 (‵ (St lends r 0) ∷ []) ∵ fpick ! (λ x. fpick ! (λ a. fsplit ! $ move ! (1 ∷ []) $ fsplit3 ! $ keep ! (0 ∷ []) $ by ! (kept_found lends r 0 x tt)))
-    finds (fixes fact) zero zero = qed 𝓛 (‵ (St (fixes fact) 0 0) ∷ []) ∵ fpick ! (λ x. fpick ! (λ a. fsplit ! $ fpick ! (λ known. drop ! $ fsplit3 ! $ keep ! (0 ∷ []) $ by ! (kept_found (fixes fact) 0 0 x known))))
-    finds (fixes fact) (suc r) zero = qed 𝓛 (‵ (St (fixes fact) (suc r) 0) ∷ []) ∵ fpick ! (λ x. fpick ! (λ a. fsplit ! $ fpick ! (λ e. fpick ! (λ known. drop ! $ fsplit3 ! $ keep ! (0 ∷ []) $ by ! (kept_found (fixes fact) (suc r) 0 x known)))))
-    finds w r (suc k) = qed 𝓛 (‵ (St w r (suc k)) ∷ []) ∵ drop ! $ nothing ! $ fpack ! (0 < suc k) (λ _. ftrue) (omega arith) $ fpack ! (Option R.Denot) (found w ν r (suc k)) None $ done !
+    finds : (k : S.Denot) (w : Way R.Denot) (r n : ℕ) → ⟦ St w (φ k) r n ⟧ ⊢ ⟦ IsFound k w ν r n ⟧
+    finds k alone r zero = qed 𝓛 (‵ (St alone (φ k) r 0) ∷ []) ∵ fpick ! (λ x. fpick ! (λ is. fsplit ! $ keep ! (0 ∷ []) $ by ! (kept_found k alone r x is tt)))
+    finds k lends r zero = qed 𝓛 (‵ (St lends (φ k) r 0) ∷ []) ∵ fpick ! (λ x. fpick ! (λ is. fpick ! (λ a. fsplit ! $ move ! (1 ∷ []) $ fsplit3 ! $ keep ! (0 ∷ []) $ by ! (kept_found k lends r x is tt))))
+    finds k (fixes fact) zero zero = qed 𝓛 (‵ (St (fixes fact) (φ k) 0 0) ∷ []) ∵ fpick ! (λ x. fpick ! (λ is. fpick ! (λ a. fsplit ! $ fpick ! (λ known. drop ! $ fsplit3 ! $ keep ! (0 ∷ []) $ by ! (kept_found k (fixes fact) 0 x is known)))))
+    finds k (fixes fact) (suc r) zero = qed 𝓛 (‵ (St (fixes fact) (φ k) (suc r) 0) ∷ []) ∵ fpick ! (λ x. fpick ! (λ is. fpick ! (λ a. fsplit ! $ fpick ! (λ e. fpick ! (λ known. drop ! $ fsplit3 ! $ keep ! (0 ∷ []) $
+        by ! (kept_found k (fixes fact) (suc r) x is known))))))
+    finds k w r (suc n) = qed 𝓛 (‵ (St w (φ k) r (suc n)) ∷ []) ∵ drop ! $ nothing ! $ fpack ! (0 < suc n) (λ _. ftrue) (omega arith) $ fpack ! (Option R.Denot) (found k w ν r (suc n)) None $ done !
 
     abbrev I : Fml
     I = inner R b o t c S (g.holds key) ways
@@ -186,19 +192,19 @@ module _ {M : Type 1} {𝓤 : Ura M} (𝓛 : Logic 𝓤) (m ms : Member) (V Y K 
     unfolding fseps
     words_back = qed 𝓛 [] ∵ assume ! (‵ (fsep (fdead κ) (fsep I ftrue))) $ suffices ! ⟦ Words ν ⟧ (upd_i 𝓤 ⟦ Words ν ⟧) $ fsplit3 ! $ keep ! (1 ∷ []) $ fpick ! (λ s. fsplit3 ! $ move ! (2 ∷ []) $
         fpick ! (λ vs. let r = readers_of ways.1 vs in let w = writers_of ways.1 vs in fsplit3 ! $ move ! (1 ∷ []) $ fpick ! (λ meets. drop ! $ drop ! $
-        use1 𝓛 (‵ (IsFound way ν r w)) (finds way r w) $ nothing ! $
+        use1 𝓛 (‵ (IsFound s.1 way ν r w)) (finds s.1 way r w) $ nothing ! $
         fpack ! (Meets (g.holds key) ways s.0 s.1 vs) (λ _. ftrue) meets $ fjoin ! $ fpack ! (List V.Denot) (views_at ν s) vs $ move ! (1 ∷ 2 ∷ 0 ∷ []) $ fjoin3 ! $ fpack ! (ℕ × S.Denot) (standing_at ν) s $ done !)))
 
     -- ---- the invariant is made: some views that meet the rule take their places
     module _ (l : Lft) (shares : Shares 𝓛 R l) (μ : Lft) (e f : Share) (i : Incl μ κ) (j : Incl μ l) where
-      stands : (vs : List V.Denot) (v : Option R.Denot) → Limits way (readers_of ways.1 vs) (writers_of ways.1 vs)
-          → ⟦ found way ν (readers_of ways.1 vs) (writers_of ways.1 vs) v ⟧ ∗ A.bor κ (Named ν) ∗ ⟦ idle γ ⟧ ∗ A.lft μ e ∗ A.lft μ f ⊢ H.⇛ (⟦ St way (readers_of ways.1 vs) (writers_of ways.1 vs) ⟧ ∗ A.lft μ e ∗ A.lft μ f)
-      stands vs None lim = let r = readers_of ways.1 vs in let w = writers_of ways.1 vs in
-          qed 𝓛 (‵ (found way ν r w None) ∷ ‵ (fbor κ (Named ν)) ∷ ‵ (idle γ) ∷ ‵ (flft μ e) ∷ ‵ (flft μ f) ∷ []) ∵ updating ! $ fpick ! (λ writes. drop ! $ drop ! $ use1 𝓛 (‵ (St way r w)) (away way r w writes) $ now ! $ done !)
-      stands vs (Some x) lim = let r = readers_of ways.1 vs in let w = writers_of ways.1 vs in
-          qed 𝓛 (‵ (found way ν r w (Some x)) ∷ ‵ (fbor κ (Named ν)) ∷ ‵ (idle γ) ∷ ‵ (flft μ e) ∷ ‵ (flft μ f) ∷ []) ∵ updating ! $ fsplit ! $ move ! (1 ∷ []) $ fpick ! (λ known. drop ! $ fjoin ! $ move ! (0 ∷ 2 ∷ 3 ∷ []) $
+      stands : (k : S.Denot) (vs : List V.Denot) (v : Option R.Denot) → Limits way (readers_of ways.1 vs) (writers_of ways.1 vs)
+          → ⟦ found k way ν (readers_of ways.1 vs) (writers_of ways.1 vs) v ⟧ ∗ A.bor κ (Named ν) ∗ ⟦ idle γ ⟧ ∗ A.lft μ e ∗ A.lft μ f ⊢ H.⇛ (⟦ St way (φ k) (readers_of ways.1 vs) (writers_of ways.1 vs) ⟧ ∗ A.lft μ e ∗ A.lft μ f)
+      stands k vs None lim = let r = readers_of ways.1 vs in let w = writers_of ways.1 vs in
+          qed 𝓛 (‵ (found k way ν r w None) ∷ ‵ (fbor κ (Named ν)) ∷ ‵ (idle γ) ∷ ‵ (flft μ e) ∷ ‵ (flft μ f) ∷ []) ∵ updating ! $ fpick ! (λ writes. drop ! $ drop ! $ use1 𝓛 (‵ (St way (φ k) r w)) (away k way r w writes) $ now ! $ done !)
+      stands k vs (Some x) lim = let r = readers_of ways.1 vs in let w = writers_of ways.1 vs in
+          qed 𝓛 (‵ (found k way ν r w (Some x)) ∷ ‵ (fbor κ (Named ν)) ∷ ‵ (idle γ) ∷ ‵ (flft μ e) ∷ ‵ (flft μ f) ∷ []) ∵ updating ! $ fsplit ! $ move ! (1 ∷ []) $ fpick ! (λ known. drop ! $ fjoin ! $ move ! (0 ∷ 2 ∷ 3 ∷ []) $
           use3 𝓛 (later (‵ (Ready way x) ⊛ ‵ (flft μ e) ⊛ ‵ (flft μ f))) (readies 𝓛 R b o t l shares writes way (Some x) μ e μ f i j) $ await ! tt $ split3 ! $ move ! (3 ∷ 0 ∷ []) $
-          use2 𝓛 (later (‵ (St way r w))) (via 𝓤 _ (begins way r w x lim known) (basic 𝓛 ⟦ St way r w ⟧)) $ await ! tt $ now ! $ done !)
+          use2 𝓛 (later (‵ (St way (φ k) r w))) (via 𝓤 _ (begins k way r w x lim known) (basic 𝓛 ⟦ St way (φ k) r w ⟧)) $ await ! tt $ now ! $ done !)
 
       abbrev Given : Gv → SProp 𝓤
       Given u = A.bor κ (Words ν) ∗ A.bor κ (Named ν) ∗ ⟦ unused ρ 0 u ⟧ ∗ ⟦ idle γ ⟧ ∗ A.lft μ e ∗ A.lft μ f
@@ -208,8 +214,8 @@ module _ {M : Type 1} {𝓤 : Ura M} (𝓛 : Logic 𝓤) (m ms : Member) (V Y K 
       guarded k u q = qed 𝓛 ((‵ (fbor κ (Words ν)) ⊛ ‵ (fbor κ (Named ν)) ⊛ ‵ (unused ρ 0 u) ⊛ ‵ (idle γ) ⊛ ‵ (flft μ e) ⊛ ‵ (flft μ f)) ∷ ‵ (flft κ q) ∷ []) ∵ updating ! $
           split ! $ move ! (1 ∷ []) $ split3 ! $ move ! (2 ∷ []) $ split3 ! $ move ! (5 ∷ 6 ∷ []) $ bor_open ! tt $ move ! (1 ∷ []) $ fpick ! (λ s. fsplit3 ! $ move ! (2 ∷ []) $ fpick ! (λ vs. fsplit ! $ fpick ! (λ meets. drop ! $ fpick ! (λ v.
           -- [what was found; the words; the open borrow; the round's name; two tokens; the value; the keys]
-          let Q = St way (readers_of ways.1 vs) (writers_of ways.1 vs) in move ! (0 ∷ 7 ∷ 4 ∷ 5 ∷ 6 ∷ []) $ group ! 5 $
-          use1 𝓛 (later (‵ Q ⊛ ‵ (flft μ e) ⊛ ‵ (flft μ f))) (stands vs v meets.1) $ await ! tt $ split3 ! $
+          let Q = St way (φ s.1) (readers_of ways.1 vs) (writers_of ways.1 vs) in move ! (0 ∷ 7 ∷ 4 ∷ 5 ∷ 6 ∷ []) $ group ! 5 $
+          use1 𝓛 (later (‵ Q ⊛ ‵ (flft μ e) ⊛ ‵ (flft μ f))) (stands s.1 vs v meets.1) $ await ! tt $ split3 ! $
           move ! (6 ∷ []) $ use1 𝓛 (later (‵ (roster c ρ 0 vs))) (via 𝓤 _ (enrols 𝓛 V.coded ρ vs 0 u) (basic 𝓛 ⟦ roster c ρ 0 vs ⟧)) $ await ! tt $ nothing ! $ fpack ! (Meets (g.holds key) ways s.0 s.1 vs) (λ _. ftrue) meets $
           move ! (1 ∷ 0 ∷ 2 ∷ []) $ fjoin3 ! $ fpack ! (List V.Denot) (core_at R b o t c S (g.holds key) ways s.0 s.1) vs $ move ! (3 ∷ 4 ∷ 0 ∷ []) $ fjoin3 ! $ fpack ! (ℕ × S.Denot) (standing R b o t c S (g.holds key) ways) s $
           nothing ! $ move ! (1 ∷ 0 ∷ []) $ fjoin ! $ use0 𝓛 (‵ (fwand (fsep (fdead κ) (fseps (I ∷ []))) (fupd (Words ν)))) words_back $ move ! (4 ∷ 1 ∷ 0 ∷ []) $ obor_alter ! tt (I ∷ []) $

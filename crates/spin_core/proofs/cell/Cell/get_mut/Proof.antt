@@ -1,4 +1,4 @@
--- `get_mut` lends the value, under a new name.
+-- `get_mut` lends the value, under a new name, and gives the cell the key that the rule names.
 use Rattle.spin_core.proofs.WalkNames.{◌+◌, [], ◌∷◌, refl, dcons, dnil, named, vptr, inst_fn, sep, Fml, flft, sem, ‵, raw, ◌⊛◌, some, later, ◌$◌, ◌∵◌, !, qed, by, move, keep, split, split3, join, fsplit, fsplit3, fjoin, pick, fpick, drop, use1, await, stop, fld, addr, returns, enter, alloc_all, pass_all, free_all, look_at, through, sets, no, owns, types_at, plain, RefMutOf, param, layout, bounded, param_laws, Stays, stay_dropped, walk_of, fact, nothing, heard, proved, leaves}
 use base.Fml.{GName}
 use types.Kit.{group}
@@ -10,10 +10,10 @@ use denote.Struct.Members.{Member}
 use denote.Triple.Walked.{Goes-spent_ref}
 use Rattle.spin_core.proofs.CellWays.{restarts}
 use Rattle.spin_core.proofs.CellStepWalks.{others}
-use Rattle.spin_core.specs.Cell.{Frees}
+use Rattle.spin_core.specs.Cell.{Frees, Freeing, Lends}
 use Rattle.atomic_table.specs.Seated.{fact as said}
 use Rattle.spin_core.specs.CellMemory.{offset}
-use Rattle.spin_core.proofs.CellFields.{Knows, All, Rule, Row, row_out, row_in, standing_words, At, Joins, fields_out, rejoined}
+use Rattle.spin_core.proofs.CellFields.{Knows, All, Rule, Row, row_out, row_in, standing_words, At, Joins, fields_out, rejoined, rekeyed}
 use Rattle.spin_core.specs.contracts.cell.Cell as cell
 use Rattle.spin_core.specs.contracts.cell.Cell.get_mut.{ended, clauses}
 use Rattle.spin_core.specs.contracts.cell.Cell.get_mut.Key.{name as #self}
@@ -34,17 +34,17 @@ get_mut_spec 𝓤 𝓛 𝓜 𝓡 wired X U P K S L _ _ _ LS g d _ =
     let b = a.0.ref_ptr.0 in let o = a.0.ref_ptr.1 in let κ = κs.0 in let q = qs.0 in let e = o + offset R in
     let y : (walk_of 𝓛 En hs c).Ghost = ((κs, qs, bounds, a, (vptr b o ∷ [], tt)), gh) in
     let os = others 5 κs.1 qs.1 in
-    let key = a.0.now in let γ = a.0.ghost_name in let at = vptr b e in let Free = Frees (g.ways key).0 in let Lent = MutRef (named 0) κ R in
+    let old = a.0.now in let key = g.lent old in let γ = a.0.ghost_name in let at = vptr b e in let Free = Freeing (g.ways key).2 (Frees (g.ways key).0) in let Same = Lends (g.holds old) (g.ways old) (g.holds key) (g.ways key) in let Lent = MutRef (named 0) κ R in
     let Cell : Fml = Row 𝓛 m ms V Y Kr g key b o in
     let words = standing_words 𝓛 m ms V Y Kr g key b o in let Lies = At 𝓛 m ms V Y Kr g key b o in let out = row_out 𝓛 m ms V Y Kr g key b o in
     let back = row_in 𝓛 m ms V Y Kr g key b o in let Joined = Joins 𝓛 m ms V Y Kr g key b o Lw Ls Cell out back in
-    qed 𝓛 (((‵ (flft κ q) ⊛ ‵ os) ⊛ ‵ (owns (types_at En.signature.params κs) a y.0.4)) ∷ raw (fact 𝓤 _) ∷ raw (fact 𝓤 _) ∷ raw (fact 𝓤 _) ∷ raw (fact 𝓤 _) ∷ raw (fact 𝓤 _) ∷ raw (fact 𝓤 Free) ∷ []) ∵ keep ! (6 ∷ 0 ∷ []) $ heard ! Free (λ free. split ! $ split ! $ move ! (2 ∷ []) $ fsplit ! $ fsplit3 ! $ keep ! (1 ∷ 2 ∷ 4 ∷ 5 ∷ []) $
-    enter ! _ _ _ _ _ $ alloc_all ! (λ l. pass_all ! refl ((tt, tt), tt) $ open_ref ! tt (in_memory Ty) $
+    qed 𝓛 (((‵ (flft κ q) ⊛ ‵ os) ⊛ ‵ (owns (types_at En.signature.params κs) a y.0.4)) ∷ raw (fact 𝓤 _) ∷ raw (fact 𝓤 _) ∷ raw (fact 𝓤 _) ∷ raw (fact 𝓤 _) ∷ raw (fact 𝓤 _) ∷ raw (fact 𝓤 Free) ∷ raw (fact 𝓤 Same) ∷ []) ∵ keep ! (6 ∷ 7 ∷ 0 ∷ []) $ heard ! Free (λ free. heard ! Same (λ same. split ! $ split ! $ move ! (2 ∷ []) $ fsplit ! $ fsplit3 ! $ keep ! (1 ∷ 2 ∷ 4 ∷ 5 ∷ []) $
+    enter ! _ _ _ _ _ $ alloc_all ! (λ l. pass_all ! refl ((tt, tt), tt) $ open_ref ! tt (in_memory Ty) $ use1 𝓛 (‵ Cell) (rekeyed 𝓛 m ms V Y Kr g old key b o same) $
     use1 𝓛 (some (λ (z : Knows 𝓛 m ms V Y Kr g key b o × All 𝓛 m ms V Y Kr g key b o). ‵ (words (z.1.0, z.1.1)) ⊛ ‵ (Lies z.1.2) ⊛ ‵ (said (Rule 𝓛 m ms V Y Kr g key b o z.1)) ⊛ raw Joined)) (fields_out 𝓛 m ms V Y Kr g key b o Lw Ls Cell out back) $
     pick ! (λ z. let n = z.1.0 in let k = z.1.1 in let x = z.1.2 in split ! $ move ! (1 ∷ []) $ split3 ! $ move ! (1 ∷ []) $ fpick ! (λ rule. drop ! $
     -- [the value; the way back; the words; the open borrow; its two names; the tokens]
     move ! (2 ∷ 1 ∷ []) $ join ! $ move ! (2 ∷ 3 ∷ 4 ∷ 1 ∷ 0 ∷ []) $ group ! 5 $
     use1 𝓛 (later (some (λ (δ : GName). ‵ (Lent.own_val (record { ref_ptr = (b, e); ghost_name = δ; now = x }) (at ∷ [])) ⊛ ‵ (flft κ q) ⊛ ‵ (follows Ty R γ δ (λ _. key)))))
-    (lends_Part 𝓛 Ty R (λ _. key) (named 0) κ q b o b e γ (sep 𝓤 (sem 𝓛 (words (n, k))) Joined) (λ v. rejoined 𝓛 m ms V Y Kr g key b o Lw Ls Cell out back (n, k, v) (restarts (g.holds key) (g.ways key) n k x v free rule)) (K.coded.code key) (K.coded.code key) x) $ await ! tt $ pick ! (λ δ. split3 ! $
+    (lends_Part 𝓛 Ty R (λ _. key) (named 0) κ q b o b e γ (sep 𝓤 (sem 𝓛 (words (n, k))) Joined) (λ v. rejoined 𝓛 m ms V Y Kr g key b o Lw Ls Cell out back (n, k, v) (restarts (g.holds key) (g.ways key) n k x v free rule)) (K.coded.code old) (K.coded.code old) x) $ await ! tt $ pick ! (λ δ. split3 ! $
     sets ! (addr ! (through ! refl (fld ! refl (stop !)))) refl (tt, tt) $ move ! (1 ∷ 3 ∷ []) $ join ! $ move ! (2 ∷ []) $ nothing ! $ nothing ! $ fjoin ! $
-    returns ! (look_at ! 0 refl) $ free_all ! refl $ keep ! (2 ∷ 0 ∷ 3 ∷ 1 ∷ []) $ by ! (leaves 𝓛 En hs c y at (record { ref_ptr = (b, e); ghost_name = δ; now = x }) (tt, tt) (tt, tt))))))))
+    returns ! (look_at ! 0 refl) $ free_all ! refl $ keep ! (2 ∷ 0 ∷ 3 ∷ 1 ∷ []) $ by ! (leaves 𝓛 En hs c y at (record { ref_ptr = (b, e); ghost_name = δ; now = x }) (tt, tt) (tt, tt)))))))))

@@ -2,4 +2,4 @@ use Rattle.spin_flag.proofs.Flags.{rests}
 use Rattle.spin_flag.proofs.spin.pass.Pass.drop.Goals as goal
 
 pub leave-requires : goal.leave-requires
-leave-requires g c = let me = c.args.self in rests me.permit.key.name me.permit.view me.rests
+leave-requires g c = let me = c.args.self in rests me.permit.key me.permit.view me.rests

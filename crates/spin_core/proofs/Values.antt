@@ -1,0 +1,89 @@
+-- Steps keep what is known of the value: moves that write nothing keep it, and the value that a holder writes is the one that it leaves.
+use Rattle.std.proofs.Common.{◌≡◌, ℕ, zero, suc, Bool, true, false, Option, Some, None, List, [], ◌∷◌, ◌++◌, refl, sym, ap, ◌∙◌, subst}
+use Rattle.spin_model.specs.declared.schedule.Move.{Move}
+use Rattle.spin_model.specs.declared.schedule.Outcome.{Outcome}
+use Rattle.spin_model.specs.Schedules.{Entry}
+use Rattle.spin_core.specs.Cell.{Use, off, reads, writes, Way, Owed, Learns, Knowing, Freeing, Fixed, readers_of, writers_of, Lends}
+use Rattle.spin_core.specs.Own.{by_party}
+use Rattle.spin_core.specs.Passes.{IsStep, Writes}
+use Rattle.spin_core.specs.Traced.{Learnt, grown_at}
+use Rattle.spin_core.specs.Values.{written, left, latest, IsLast, last, Leaves, untold}
+use Rattle.spin_core.specs.declared.tie.Opening.{Opening}
+use Rattle.spin_core.specs.declared.trace.Trace.{Trace}
+
+module _ {C V : Type 0} where
+  latest-append : (v : V) (xs ys : List (Entry C V)) → latest v (xs ++ ys) ≡ latest (latest v xs) ys
+  latest-append v [] ys = refl
+  latest-append v (x ∷ xs) ys = latest-append (written x.1 v) xs ys
+
+  latest-own : (v : V) (p : ℕ) (own : List (Move C V)) → latest v (by_party p own) ≡ left own v
+  latest-own v p [] = refl
+  latest-own v p (move ∷ own) = latest-own (written move v) p own
+
+  pub latest_left : (v : V) (log : List (Entry C V)) (p : ℕ) (own : List (Move C V)) → latest v (log ++ by_party p own) ≡ left own (latest v log)
+  latest_left v log p own = latest-append v log (by_party p own) ∙ latest-own (latest v log) p own
+
+  -- a step that begins a call or goes on with it writes nothing, and behind a write it leaves that
+  pub step_leaves : {A : Type 0} (goes_on : Bool) (c : C) (end : Outcome A V) (own : List (Move C V)) (outs : List (Outcome A V)) → IsStep goes_on c end own outs → (v : V) → left own v ≡ v
+  step_leaves true c end own outs is v = ap (λ o. left o v) is.0
+  step_leaves false c end own outs is v = ap (λ o. left o v) is.0
+
+  pub write_leaves : {A : Type 0} (x : V) (goes_on : Bool) (c : C) (end : Outcome A V) (own : List (Move C V)) (outs : List (Outcome A V)) → Writes x (IsStep goes_on c end) own outs → (v : V) → left own v ≡ x
+  write_leaves x goes_on c end own outs (rest, comes, is, came, step) v = ap (λ o. left o v) is ∙ step_leaves goes_on c end rest comes step x
+
+  -- so such a step of a party that does not use the value writes nothing
+  pub steps_leave : {A : Type 0} (u u' : Use) (shown : Option V) → u ≡ off → (goes_on : Bool) (c : C) (end : Outcome A V) (own : List (Move C V)) (outs : List (Outcome A V)) → IsStep goes_on c end own outs → Leaves u u' shown own
+  steps_leave u u' shown is goes_on c end own outs step = subst (λ z. Leaves z u' shown own) (sym is) (step_leaves goes_on c end own outs step)
+
+  module _ (opening : Opening V) where
+    module _ {S : Type 0} (own : List (Move C V)) (t : Trace (Entry C V) S) (word : S) (p : ℕ) where
+      keeps : ((v : V) → left own v ≡ v) → (x : V) → IsLast opening t.entries x → IsLast opening (t.entries ++ by_party p own) x
+      keeps same x is told = latest_left opening.value t.entries p own ∙ same (latest opening.value t.entries) ∙ is told
+
+      leaves : (x : V) → ((v : V) → left own v ≡ x) → IsLast opening (t.entries ++ by_party p own) x
+      leaves x all told = latest_left opening.value t.entries p own ∙ all (latest opening.value t.entries)
+
+      -- what such moves owe
+      pub owed : (u u' : Use) (shown : Option V) → Leaves u u' shown own → Owed (last opening) t (grown_at t word (by_party p own)) u u' shown
+      owed writes writes shown l = tt
+      owed writes off None l = tt
+      owed writes reads None l = tt
+      owed writes off (Some x) l = leaves x l
+      owed writes reads (Some x) l = leaves x l
+      owed off u' shown l = keeps l
+      owed reads u' shown l = keeps l
+
+    -- a lock opens with the value that lies in it
+    pub opens_last : (es : List (Entry C V)) (x : V) → es ≡ [] → opening.value ≡ x → IsLast opening es x
+    opens_last es x none is told = ap (latest opening.value) none ∙ is
+
+    -- what a party finds that comes to use the value, and what one leaves that has written it
+    module _ {S : Type 0} (u u' : Use) (before after : Option V) (es : List (Entry C V)) (x : V) (learnt : Learnt {S = S} (last opening) u u' before after es) where
+      pub found : u ≡ off → after ≡ Some x → IsLast opening es x
+      found is some = subst (λ l. IsLast opening l x) learnt.1 (subst (λ (z : Use × Option V). Learns (λ y. IsLast opening learnt.0.entries y) z.0 u' before z.1) (λ i. (is i, some i)) learnt.2)
+
+      pub gave : u ≡ writes → u' ≡ off → before ≡ Some x → IsLast opening es x
+      gave is is' some = subst (λ l. IsLast opening l x) learnt.1 (subst (λ (z : Use × Use × Option V). Learns (λ y. IsLast opening learnt.0.entries y) z.0 z.1 z.2 after) (λ i. (is i, is' i, some i)) learnt.2)
+
+    -- what a party wrote last is what it left
+    pub wrote : (log es now : List (Entry C V)) (p : ℕ) (own : List (Move C V)) (x y : V) → now ≡ log ++ es → es ≡ by_party p own → ((v : V) → left own v ≡ y) → IsLast opening now x → opening.told ≡ true → y ≡ x
+    wrote log es now p own x y is mine all so told =
+        let whole : now ≡ log ++ by_party p own = is ∙ ap (λ l. log ++ l) mine in
+        let here : latest opening.value now ≡ y = ap (latest opening.value) whole ∙ latest_left opening.value log p own ∙ all (latest opening.value log) in
+        subst (λ z. z ≡ x) here (so told)
+
+    -- what is read later is what was written since, or what was there before
+    pub read_on : (old new more : List (Entry C V)) (x y : V) → opening.told ≡ true → new ≡ old ++ more → IsLast opening old x → IsLast opening new y → latest x more ≡ y
+    read_on old new more x y told grew is is' = ap (λ z. latest z more) (sym (is told)) ∙ sym (latest-append opening.value old more) ∙ ap (latest opening.value) (sym grew) ∙ is' told
+
+    -- the owner may borrow the value: from then on nothing is known of it
+    module _ {S X : Type 0} (holds : ℕ → Trace (Entry C V) S → List X → Type 0) (way : Way V) (f : X → Use) where
+      less : (w : ℕ) (t : Trace (Entry C V) S) (x : V) (A : Type 0) → Knowing (last opening) t w x A → Knowing (last (untold opening)) t w x A
+      less zero t x A known = ((λ e. absurd (let no : false ≡ true = e in cc (no))), known.1)
+      less (suc w) t x A known = known
+
+      pub lends : Lends holds (way, f, last opening) holds (way, f, last (untold opening))
+      lends = ((λ shared. shared), (λ v. refl), λ n t x starts. (starts.0, starts.1, less (writers_of f starts.0) t x (Fixed way (readers_of f starts.0) (writers_of f starts.0) x) starts.2))
+
+    pub frees : {S A : Type 0} → A → Freeing {S = Trace (Entry C V) S} (last (untold opening)) A
+    frees a = ((λ t x e. absurd (let no : false ≡ true = e in cc (no))), a)
