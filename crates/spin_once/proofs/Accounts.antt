@@ -32,6 +32,15 @@ module _ {T S : Type 0} (makes : S → T → Type 0) (key : Key S) where
   pub may_know : (seen : Watch Made) → key.start.name ≡ seen.name → Of seen.name
   may_know seen named = passes.may_know (IsOnce key.given.value key.start.name) (once_ways makes key.seed) key.start.name (λ n t vs is. is.0) seen.name named
 
+  -- after any step it knows all again, by a watch of the same trace
+  pub keeps : (says : Says) (view view' : Option (Numbered View)) (before now : Watch Made) (key' : Key S) (found : ℕ) → mark_of view ≡ length before.entries → key.start.name ≡ before.name → key' ≡ key
+      → Moved (Watches (Of before.name) before now (Told key.given.value says view) found) view' → (key'.start.name ≡ now.name) × (mark_of view' ≡ length now.entries)
+  keeps says view None before now key' found knew named same moved = absurd moved
+  keeps says view (Some v) before now key' found knew named same moved = (
+    ap (λ k. k.start.name) same ∙ named ∙ sym (moved.0 (may_know before named)),
+    (passes.learns (model key.given.value) seat_of words_of says (Of before.name) view before now found v knew moved).1,
+  )
+
   module _ (says : Says) (to : ℕ → View) (course : ℕ → Moving) (means : (own : List OneMove) (outs : List Ending) (n : ℕ) (v : View) → says own outs n v → (v ≡ to n) × course n own outs)
       (view view' : Option (Numbered View)) (before now : Watch Made) (key' : Key S) (found : ℕ) (knew : mark_of view ≡ length before.entries) (named : key.start.name ≡ before.name)
       (moved : Moved (Watches (Of before.name) before now (Told key.given.value says view) found) view') where

@@ -248,6 +248,13 @@ module _ (name first : ℕ) where
   pub may_know : (before : Watch Made) → name ≡ before.name → Named (IsQueue name first) own_ways before.name
   may_know before = passes.may_know (IsQueue name first) own_ways name (λ n t vs is. is.0) before.name
 
+  -- after any step it knows all again, by a watch of the same trace
+  pub still_knows : (says : Says) (view view' : Option (Numbered View)) (before now : Watch Made) (name' found : ℕ) → mark_of view ≡ length before.entries → name ≡ before.name → name' ≡ name
+      → Moved (Watches (Named (IsQueue name first) own_ways before.name) before now (Told first says view) found) view' → (name' ≡ now.name) × (mark_of view' ≡ length now.entries)
+  still_knows says view None before now name' found knew named same moved = absurd moved
+  still_knows says view (Some v) before now name' found knew named same moved =
+      (same ∙ named ∙ sym (moved.0 (may_know before named)), (passes.learns (model first) seat_of words_of says (Named (IsQueue name first) own_ways before.name) view before now found v knew moved).1)
+
   -- what a step tells a party that knew all up to its last step
   pub learnt_by : (says : Says) (to : ℕ → View) (course : ℕ → Course (Unit {0}) TicketCall (Answer (Unit {0}))) → ((own : List OneMove) (outs : List Ending) (n : ℕ) (v : View) → says own outs n v → (v ≡ to n) × course n own outs)
       → (view view' : Option (Numbered View)) (before now : Watch Made) (found : ℕ) → mark_of view ≡ length before.entries → name ≡ before.name

@@ -4,10 +4,10 @@ use Rattle.spin_model.specs.declared.answer.Answer.TheVariants.{Value, NoValue}
 use Rattle.spin_model.specs.declared.once.OnceCall.TheVariants.{Get}
 use Rattle.spin_model.specs.declared.schedule.Outcome.TheVariants.{Answered}
 use Rattle.spin_once.specs.Accounts.{Place, here}
-use Rattle.spin_once.specs.Once.{Ending, finds, tells}
+use Rattle.spin_once.specs.Once.{Ending, finds, tells, gets_by}
 use Rattle.spin_once.specs.declared.once_core.rule.View.TheVariants.{Idle}
 use Rattle.spin_once.proofs.Kept.{gets_value}
-use Rattle.spin_once.proofs.Accounts.{may_know, stands, stepped, whole, comes_to, tells_value, tells_other, finds_other}
+use Rattle.spin_once.proofs.Accounts.{keeps, may_know, stands, stepped, whole, comes_to, tells_value, tells_other, finds_other}
 use Rattle.spin_once.proofs.once_core.account.Account.get.Goals as goal
 
 pub load-found-requires : goal.load-found-requires
@@ -26,3 +26,11 @@ returns-else-found-clause-none g c =
     let step = stepped g.S.Seed.makes me.party.key false Get (tells none) (finds Idle) me.party.view f.result.1.view me.seen f.result.2 f.result.1.key f.result.0 me.knows me.named f.ensures.moved f.ensures.key in
     let is = stands g.S.Seed.makes me.party.key false Get (tells none) (finds Idle) me.party.view f.result.1.view me.seen f.result.2 f.result.1.key f.result.0 me.knows me.named f.ensures.moved in
     (whole p q Get NoValue (comes_to p q false Get (tells none f.result.0) none (tells_other none f.result.0 c.if-found.false) step), is ∙ ap Some (finds_other Idle f.result.0 c.if-found.false))
+
+pub invariant_of-account : goal.invariant_of-account
+invariant_of-account g c = let me = c.args.self in let f = c.load-found in
+    let all = keeps g.S.Seed.makes me.party.key gets_by me.party.view f.result.1.view me.seen f.result.2 f.result.1.key f.result.0 me.knows me.named f.ensures.key f.ensures.moved in record { named = all.0; knows = all.1 }
+
+pub invariant_of-account-else-found : goal.invariant_of-account-else-found
+invariant_of-account-else-found g c = let me = c.args.self in let f = c.load-found in
+    let all = keeps g.S.Seed.makes me.party.key gets_by me.party.view f.result.1.view me.seen f.result.2 f.result.1.key f.result.0 me.knows me.named f.ensures.key f.ensures.moved in record { named = all.0; knows = all.1 }

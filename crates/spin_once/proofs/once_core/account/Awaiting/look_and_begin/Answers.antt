@@ -9,9 +9,9 @@ use Rattle.spin_once.specs.Accounts.{Place, here, running, Since, Attempts}
 use Rattle.spin_once.specs.declared.once_core.account.Awaiting.{Awaiting}
 use Rattle.spin_once.specs.declared.once_core.account.Claim.{Claim}
 use Rattle.spin_once.specs.declared.once_core.account.Claim.TheVariants.{Found, Init}
-use Rattle.spin_once.specs.Once.{looked, call_of, tells}
+use Rattle.spin_once.specs.Once.{looked, call_of, tells, looks_by}
 use Rattle.spin_once.proofs.Kept.{looks}
-use Rattle.spin_once.proofs.Accounts.{and_waits, and_ends, may_know, stepped, comes_to, goes, ends, tells_value, tells_other}
+use Rattle.spin_once.proofs.Accounts.{keeps, and_waits, and_ends, may_know, stepped, comes_to, goes, ends, tells_value, tells_other}
 use Rattle.spin_once.proofs.once_core.account.Awaiting.look_and_begin.Goals as goal
 
 pub load-found-requires : goal.load-found-requires
@@ -40,3 +40,15 @@ returns-clause-since g c =
     let me = c.args.self.account in let f = c.load-found in let p = here me in let q : Place g.row.S.Denot = (f.result.1.key, f.result.1.view, f.result.2) in let call = call_of (what me.party.view) in
     let step = stepped g.S.Seed.makes me.party.key true call (tells GoingOn) (looked call) me.party.view f.result.1.view me.seen f.result.2 f.result.1.key f.result.0 me.knows me.named f.ensures.moved f.ensures.key in
     attempts_on p q (goes p q call (comes_to p q true call (tells GoingOn f.result.0) GoingOn (tells_other GoingOn f.result.0 c.if-found.false) step)) c.begin.result c.begin.ensures.since
+
+pub invariant_of-account : goal.invariant_of-account
+invariant_of-account g c = let me = c.args.self.account in let f = c.load-found in
+    let all = keeps g.S.Seed.makes me.party.key (looks_by (call_of (what me.party.view))) me.party.view f.result.1.view me.seen f.result.2 f.result.1.key f.result.0 me.knows me.named f.ensures.key f.ensures.moved in record { named = all.0; knows = all.1 }
+
+pub invariant_of-account-then-found-2 : goal.invariant_of-account-then-found-2
+invariant_of-account-then-found-2 g c = let me = c.args.self.account in let f = c.load-found in
+    let all = keeps g.S.Seed.makes me.party.key (looks_by (call_of (what me.party.view))) me.party.view f.result.1.view me.seen f.result.2 f.result.1.key f.result.0 me.knows me.named f.ensures.key f.ensures.moved in record { named = all.0; knows = all.1 }
+
+pub invariant_of-account-2 : goal.invariant_of-account-2
+invariant_of-account-2 g c = let me = c.args.self.account in let f = c.load-found in
+    let all = keeps g.S.Seed.makes me.party.key (looks_by (call_of (what me.party.view))) me.party.view f.result.1.view me.seen f.result.2 f.result.1.key f.result.0 me.knows me.named f.ensures.key f.ensures.moved in record { named = all.0; knows = all.1 }

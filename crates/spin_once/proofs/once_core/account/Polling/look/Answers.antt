@@ -5,9 +5,9 @@ use Rattle.spin_model.specs.declared.answer.Answer.TheVariants.{Value, NoValue}
 use Rattle.spin_model.specs.declared.once.OnceCall.TheVariants.{Poll}
 use Rattle.spin_model.specs.declared.schedule.Outcome.TheVariants.{Answered, GoingOn}
 use Rattle.spin_once.specs.Accounts.{Place, here}
-use Rattle.spin_once.specs.Once.{has_begun, polled}
+use Rattle.spin_once.specs.Once.{has_begun, polled, polls_by}
 use Rattle.spin_once.proofs.Kept.{polls}
-use Rattle.spin_once.proofs.Accounts.{may_know, stands, stepped, comes_to, polls_to, polls_value, polls_none, polls_other, polled_other}
+use Rattle.spin_once.proofs.Accounts.{may_know, keeps, stands, stepped, comes_to, polls_to, polls_value, polls_none, polls_other, polled_other}
 use Rattle.spin_once.proofs.once_core.account.Polling.look.Goals as goal
 
 pub load-found-requires : goal.load-found-requires
@@ -33,3 +33,15 @@ returns g c =
     let step = stepped g.S.Seed.makes me.party.key on Poll polls_to polled me.party.view f.result.1.view me.seen f.result.2 f.result.1.key f.result.0 me.knows me.named f.ensures.moved f.ensures.key in
     let is = stands g.S.Seed.makes me.party.key on Poll polls_to polled me.party.view f.result.1.view me.seen f.result.2 f.result.1.key f.result.0 me.knows me.named f.ensures.moved in
     (comes_to (here me) q on Poll (polls_to f.result.0) (Answered NoValue None) (polls_none f.result.0 c.if-found-2.false) step, is ∙ ap (λ n. Some (polled n)) c.if-found-2.false)
+
+pub invariant_of-account : goal.invariant_of-account
+invariant_of-account g c = let me = c.args.self.account in let f = c.load-found in
+    let all = keeps g.S.Seed.makes me.party.key (polls_by (what me.party.view)) me.party.view f.result.1.view me.seen f.result.2 f.result.1.key f.result.0 me.knows me.named f.ensures.key f.ensures.moved in record { named = all.0; knows = all.1 }
+
+pub invariant_of-account-then-found-2 : goal.invariant_of-account-then-found-2
+invariant_of-account-then-found-2 g c = let me = c.args.self.account in let f = c.load-found in
+    let all = keeps g.S.Seed.makes me.party.key (polls_by (what me.party.view)) me.party.view f.result.1.view me.seen f.result.2 f.result.1.key f.result.0 me.knows me.named f.ensures.key f.ensures.moved in record { named = all.0; knows = all.1 }
+
+pub invariant_of-account-2 : goal.invariant_of-account-2
+invariant_of-account-2 g c = let me = c.args.self.account in let f = c.load-found in
+    let all = keeps g.S.Seed.makes me.party.key (polls_by (what me.party.view)) me.party.view f.result.1.view me.seen f.result.2 f.result.1.key f.result.0 me.knows me.named f.ensures.key f.ensures.moved in record { named = all.0; knows = all.1 }

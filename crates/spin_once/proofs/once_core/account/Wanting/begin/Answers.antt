@@ -7,9 +7,9 @@ use Rattle.spin_step.specs.Steps.{Decides}
 use Rattle.spin_model.specs.declared.answer.Answer.TheVariants.{Value}
 use Rattle.spin_model.specs.declared.schedule.Outcome.TheVariants.{Answered, GoingOn}
 use Rattle.spin_once.specs.Accounts.{Place, here}
-use Rattle.spin_once.specs.Once.{begun, call_of, tells}
+use Rattle.spin_once.specs.Once.{begun, call_of, tells, begins_by}
 use Rattle.spin_once.proofs.Kept.{begins}
-use Rattle.spin_once.proofs.Accounts.{same_since, may_know, stepped, comes_to, goes, ends, tells_value, tells_other}
+use Rattle.spin_once.proofs.Accounts.{keeps, same_since, may_know, stepped, comes_to, goes, ends, tells_value, tells_other}
 use Rattle.spin_once.proofs.once_core.account.Wanting.begin.Goals as goal
 
 pub exchange-found-requires : goal.exchange-found-requires
@@ -35,3 +35,11 @@ returns-clause-since g c =
     let on = goes p q call (comes_to p q true call (tells GoingOn f.result.0) GoingOn (tells_other GoingOn f.result.0 c.if-found.false) step) in
     let it = c.into_writer.ensures in let new = c.new.ensures in
     same_since p q (c.new.result.writer.key, Some c.new.result.writer.view, c.new.result.seen) Waits on (ap (λ w. w.key) new.0 ∙ it.key, ap (λ w. Some w.view) new.0 ∙ it.same.0, new.1)
+
+pub invariant_of-account : goal.invariant_of-account
+invariant_of-account g c = let me = c.args.self.account in let f = c.exchange-found in
+    let all = keeps g.S.Seed.makes me.party.key (begins_by (call_of (what me.party.view))) me.party.view f.result.1.view me.seen f.result.2 f.result.1.key f.result.0 me.knows me.named f.ensures.key f.ensures.moved in record { named = all.0; knows = all.1 }
+
+pub invariant_of-account-then-found-2 : goal.invariant_of-account-then-found-2
+invariant_of-account-then-found-2 g c = let me = c.args.self.account in let f = c.exchange-found in
+    let all = keeps g.S.Seed.makes me.party.key (begins_by (call_of (what me.party.view))) me.party.view f.result.1.view me.seen f.result.2 f.result.1.key f.result.0 me.knows me.named f.ensures.key f.ensures.moved in record { named = all.0; knows = all.1 }

@@ -2,14 +2,14 @@ use Rattle.std.proofs.Common.{◌≡◌, ℕ, false, true, None, Some, if◌then
 use Rattle.std.proofs.lemmas.Bool.{ne_eqb, eq-eqb}
 use mathlib.Core.Logic.{inr}
 use Rattle.spin_core.specs.Own.{what}
-use Rattle.spin_core.specs.Passes.{IsStep, mark_of}
+use Rattle.spin_core.specs.Passes.{IsStep, mark_of, step_by}
 use Rattle.spin_core.proofs.Passes.{begins, goes, ends, call_waits, call_ends}
 use Rattle.spin_model.specs.declared.answer.Answer.TheVariants.{Granted, Refused}
 use Rattle.spin_model.specs.declared.schedule.Outcome.TheVariants.{Answered, GoingOn}
 use Rattle.spin_model.specs.declared.ticket.TicketCall.TheVariants.{TryLock}
-use Rattle.spin_ticket.specs.Queue.{model, use_of_party, Moves, Called, goes_on, number_of, freed, answers_free, attempted, answers_attempt}
+use Rattle.spin_ticket.specs.Queue.{model, use_of_party, Moves, Called, goes_on, number_of, freed, tries_by, answers_free, attempted, answers_attempt}
 use Rattle.spin_ticket.specs.declared.ticket.rule.View.TheVariants.{Idle, Entered, LoadedNext, Trying}
-use Rattle.spin_ticket.proofs.Queue.{tries, tries_on, attempts, is_out, may_know, learnt, left_of, none_left, refused, not_served, not_left, served_and_left, stands_by, missed, entered_writes}
+use Rattle.spin_ticket.proofs.Queue.{tries, tries_on, attempts, is_out, may_know, still_knows, learnt, left_of, none_left, refused, not_served, not_left, served_and_left, stands_by, missed, entered_writes}
 use Rattle.spin_ticket.proofs.ticket.pass.Pass.try_lock.Goals as goal
 
 pub load-next-requires : goal.load-next-requires
@@ -213,3 +213,35 @@ returns-else-found-next-clause-refused g c =
       call_ends (model first) p.view r.view t.view old late last TryLock Refused goes_on (ends (model first) r.view t.view late last TryLock Refused (subst (λ o. Moves first (IsStep true TryLock o) r.view late t.view last) lost tried)),
       (three.named ∙ two.named ∙ one.named, ap (λ k. k.1) x.ensures.key ∙ ap (λ k. k.1) s.ensures.key ∙ ap (λ k. k.1) n.ensures.key),
     )
+
+pub invariant_of-result-clause-named : goal.invariant_of-result-clause-named
+invariant_of-result-clause-named g c =
+    let me = c.args.self in let p = me.permit in let n = c.load-next in let q = n.result.1 in let s = c.load_second-serving in let r = s.result.1 in
+    let one = still_knows p.key.0.name p.key.1 (step_by false TryLock goes_on LoadedNext) p.view q.view me.seen n.result.2 q.key.0.name n.result.0 me.knows me.named (ap (λ k. k.0.name) n.ensures.key) n.ensures.moved in
+    (still_knows q.key.0.name q.key.1 (tries_by (what q.view)) q.view r.view n.result.2 s.result.2 r.key.0.name s.result.0 one.1 one.0 (ap (λ k. k.0.name) s.ensures.key) s.ensures.moved).0
+
+pub invariant_of-result-clause-knows : goal.invariant_of-result-clause-knows
+invariant_of-result-clause-knows g c =
+    let me = c.args.self in let p = me.permit in let n = c.load-next in let q = n.result.1 in let s = c.load_second-serving in let r = s.result.1 in
+    let one = still_knows p.key.0.name p.key.1 (step_by false TryLock goes_on LoadedNext) p.view q.view me.seen n.result.2 q.key.0.name n.result.0 me.knows me.named (ap (λ k. k.0.name) n.ensures.key) n.ensures.moved in
+    (still_knows q.key.0.name q.key.1 (tries_by (what q.view)) q.view r.view n.result.2 s.result.2 r.key.0.name s.result.0 one.1 one.0 (ap (λ k. k.0.name) s.ensures.key) s.ensures.moved).1
+
+pub invariant_of-result-in_default-clause-named : goal.invariant_of-result-in_default-clause-named
+invariant_of-result-in_default-clause-named g c =
+    let me = c.args.self in let p = me.permit in let n = c.load-next in let q = n.result.1 in let s = c.load_second-serving in let r = s.result.1 in
+    let one = still_knows p.key.0.name p.key.1 (step_by false TryLock goes_on LoadedNext) p.view q.view me.seen n.result.2 q.key.0.name n.result.0 me.knows me.named (ap (λ k. k.0.name) n.ensures.key) n.ensures.moved in
+    (still_knows q.key.0.name q.key.1 (tries_by (what q.view)) q.view r.view n.result.2 s.result.2 r.key.0.name s.result.0 one.1 one.0 (ap (λ k. k.0.name) s.ensures.key) s.ensures.moved).0
+
+pub invariant_of-result-in_default-clause-knows : goal.invariant_of-result-in_default-clause-knows
+invariant_of-result-in_default-clause-knows g c =
+    let me = c.args.self in let p = me.permit in let n = c.load-next in let q = n.result.1 in let s = c.load_second-serving in let r = s.result.1 in
+    let one = still_knows p.key.0.name p.key.1 (step_by false TryLock goes_on LoadedNext) p.view q.view me.seen n.result.2 q.key.0.name n.result.0 me.knows me.named (ap (λ k. k.0.name) n.ensures.key) n.ensures.moved in
+    (still_knows q.key.0.name q.key.1 (tries_by (what q.view)) q.view r.view n.result.2 s.result.2 r.key.0.name s.result.0 one.1 one.0 (ap (λ k. k.0.name) s.ensures.key) s.ensures.moved).1
+
+pub invariant_of-result-else-found-next-clause-knows : goal.invariant_of-result-else-found-next-clause-knows
+invariant_of-result-else-found-next-clause-knows g c =
+    let me = c.args.self in let p = me.permit in let n = c.load-next in let q = n.result.1 in let s = c.load_second-serving in let r = s.result.1 in
+    let one = still_knows p.key.0.name p.key.1 (step_by false TryLock goes_on LoadedNext) p.view q.view me.seen n.result.2 q.key.0.name n.result.0 me.knows me.named (ap (λ k. k.0.name) n.ensures.key) n.ensures.moved in
+    let two = still_knows q.key.0.name q.key.1 (tries_by (what q.view)) q.view r.view n.result.2 s.result.2 r.key.0.name s.result.0 one.1 one.0 (ap (λ k. k.0.name) s.ensures.key) s.ensures.moved in
+    let x = c.exchange-found in let t = x.result.1 in
+    (still_knows r.key.0.name r.key.1 (step_by true TryLock (answers_attempt n.result.0) (attempted n.result.0)) r.view t.view s.result.2 x.result.2 t.key.0.name x.result.0 two.1 two.0 (ap (λ k. k.0.name) x.ensures.key) x.ensures.moved).1
