@@ -8,3 +8,4 @@ pub mod Consumed
 pub mod Headers
 pub mod Scripts
 pub mod Lines
+pub mod Putting
