@@ -20,7 +20,7 @@ use Rattle.spin_model.specs.declared.answer.Answer.TheVariants.{Granted}
 use Rattle.spin_step_more.specs.declared.fair.LockRejectReason.TheVariants.{Locked, Starved}
 use Rattle.spin_step_more.specs.declared.fair_calls.FairCall.{FairCall}
 use Rattle.spin_step_more.specs.declared.fair_calls.FairCall.TheVariants.{Lock, TryLockStarver, Starve, StarverTryLock, StarverLock}
-use Rattle.spin_fair.specs.Fair.{model, seat_of, words_of, Done, OneMove, Ending, IsFair, Told, steps_by, AreSteps, answered, in_call, call_of, IsOut, Comes, Moves, refusal, answer_of, tries_by, alone_by, alone_to, not_alone, missed_alone, looked, looks_of, patience, registered_end, no_room_end, loads, register_ends, registered_so, no_room_so, flag_set_end, flag_set_so, finds_no_room, finds_flag_set, goes_for, Registers, awaits, awaited_by, MaySet, MayAwait}
+use Rattle.spin_fair.specs.Fair.{model, seat_of, words_of, Done, OneMove, Ending, Says, IsFair, Told, steps_by, AreSteps, answered, in_call, call_of, IsOut, Comes, Moves, refusal, answer_of, tries_by, alone_by, alone_to, not_alone, missed_alone, looked, looks_of, patience, registered_end, no_room_end, loads, register_ends, registered_so, no_room_so, flag_set_end, flag_set_so, finds_no_room, finds_flag_set, goes_for, Registers, awaits, awaited_by, MaySet, MayAwait}
 use Rattle.spin_fair.specs.Waits.{view_of, Comes_by, Held}
 use Rattle.spin_fair.specs.declared.fair.account.Account.{Account}
 use Rattle.spin_fair.specs.declared.fair.rule.View.{View}
@@ -51,6 +51,13 @@ comes false c ends (Some a) (n, is) own outs are = (steps ends, ends, are.0, are
 
 pub may_know : (name : ℕ) (before : Watch Done) → name ≡ before.name → Named (IsFair name) own_ways before.name
 may_know name before = passes.may_know (IsFair name) own_ways name (λ n t vs is. is.0) before.name
+
+-- after any step a party that knew all knows all again, by a watch of the same trace
+pub still_knows : (name : ℕ) (says : Says) (view view' : Option (Numbered View)) (before now : Watch Done) (name' found : ℕ) → mark_of view ≡ length before.entries → name ≡ before.name → name' ≡ name
+    → Moved (Watches (Named (IsFair name) own_ways before.name) before now (Told says view) found) view' → (name' ≡ now.name) × (mark_of view' ≡ length now.entries)
+still_knows name says view None before now name' found knew named same moved = absurd moved
+still_knows name says view (Some v) before now name' found knew named same moved =
+    (same ∙ named ∙ sym (moved.0 (may_know name before named)), (passes.learns model seat_of words_of says (Named (IsFair name) own_ways before.name) view before now found v knew moved).1)
 
 -- what a step tells a party that knew all up to its last step: the moves of its call, and where it led
 module _ (name : ℕ) (goes_on : Bool) (c : FairCall) (ends : ℕ → List Ending) (to : ℕ → View) where

@@ -1,12 +1,13 @@
 use Rattle.std.proofs.Common.{◌≡◌, ℕ, [], ◌∷◌, ◌==◌, if◌then◌else◌, None, Some, refl, ap, eq-eqb, ne_eqb}
 use mathlib.Core.Logic.{inr}
+use Rattle.spin_core.specs.Own.{what}
 use Rattle.spin_model.specs.declared.answer.Answer.TheVariants.{Granted}
 use Rattle.spin_model.specs.declared.schedule.Outcome.TheVariants.{GoingOn}
 use Rattle.spin_step_more.specs.declared.fair_calls.FairCall.TheVariants.{Lock}
-use Rattle.spin_fair.specs.Fair.{answered, in_call, tried, Comes}
+use Rattle.spin_fair.specs.Fair.{answered, in_call, tried, Comes, tried_by}
 use Rattle.spin_fair.specs.Waits.{view_of}
 use Rattle.spin_fair.proofs.Steps.{tries}
-use Rattle.spin_fair.proofs.Takes.{may_know, took, as_held}
+use Rattle.spin_fair.proofs.Takes.{may_know, still_knows, took, as_held}
 use Rattle.spin_fair.proofs.fair.waiting.try_with.Goals as goal
 
 pub exchange-found-requires : goal.exchange-found-requires
@@ -28,3 +29,11 @@ returns-else-found-free g c =
     let so = took me.permit.key.name (in_call v) Lock (λ n. (if n == 0 then answered Granted else GoingOn) ∷ []) (tried v) None me.permit.view f.result.1.view me.seen f.result.2 n me.knows me.named f.ensures.moved
     (1, ap (λ b. (if b then answered Granted else GoingOn) ∷ []) (ne_eqb n 0 c.if-found-free.false)) in
     (tt, so.0)
+
+pub invariant_of-account : goal.invariant_of-account
+invariant_of-account g c = let me = c.args.account in let f = c.exchange-found in
+    let all = still_knows me.permit.key.name (tried_by (what me.permit.view)) me.permit.view f.result.1.view me.seen f.result.2 f.result.1.key.name f.result.0 me.knows me.named (ap (λ k. k.name) f.ensures.key) f.ensures.moved in record { named = all.0; knows = all.1 }
+
+pub invariant_of-account-else-found-free : goal.invariant_of-account-else-found-free
+invariant_of-account-else-found-free g c = let me = c.args.account in let f = c.exchange-found in
+    let all = still_knows me.permit.key.name (tried_by (what me.permit.view)) me.permit.view f.result.1.view me.seen f.result.2 f.result.1.key.name f.result.0 me.knows me.named (ap (λ k. k.name) f.ensures.key) f.ensures.moved in record { named = all.0; knows = all.1 }

@@ -1,13 +1,14 @@
-use Rattle.std.proofs.Common.{[], ◌∷◌, None, Some, true, refl, sym, subst}
+use Rattle.std.proofs.Common.{[], ◌∷◌, None, Some, true, refl, sym, subst, ap}
 use mathlib.Core.Logic.{inr}
 use Rattle.std.proofs.lemmas.Result.{IfOk-weaker, IfErr-weaker}
+use Rattle.spin_core.specs.Own.{what}
 use Rattle.spin_core.specs.Guard.{guard_view}
 use Rattle.spin_model.specs.declared.answer.Answer.TheVariants.{Granted}
 use Rattle.spin_model.specs.declared.schedule.Outcome.TheVariants.{GoingOn}
-use Rattle.spin_fair.specs.Fair.{call_of, awaited_by, MayAwait}
+use Rattle.spin_fair.specs.Fair.{call_of, awaited_by, MayAwait, awaits_by}
 use Rattle.spin_fair.specs.Waits.{view_of}
 use Rattle.spin_fair.proofs.Steps.{waits_on}
-use Rattle.spin_fair.proofs.Takes.{may_know, took, and_on, may_await}
+use Rattle.spin_fair.proofs.Takes.{may_know, still_knows, took, and_on, may_await}
 use Rattle.spin_fair.proofs.fair.account.Awaiting.look_and_try.Goals as goal
 
 pub load-found-requires : goal.load-found-requires
@@ -31,3 +32,11 @@ pub returns-then-is_locked : goal.returns-then-is_locked
 returns-then-is_locked g c =
     let me = c.args.self.account in let f = c.load-found in let v = view_of me in
     (tt, (took me.permit.key.name true (call_of v) (λ n. GoingOn ∷ []) (awaited_by v) None me.permit.view f.result.1.view me.seen f.result.2 f.result.0 me.knows me.named f.ensures.moved (1, refl)).0)
+
+pub invariant_of-account : goal.invariant_of-account
+invariant_of-account g c = let me = c.args.self.account in let f = c.load-found in
+    let all = still_knows me.permit.key.name (awaits_by (what me.permit.view)) me.permit.view f.result.1.view me.seen f.result.2 f.result.1.key.name f.result.0 me.knows me.named (ap (λ k. k.name) f.ensures.key) f.ensures.moved in record { named = all.0; knows = all.1 }
+
+pub invariant_of-account-else-is_locked : goal.invariant_of-account-else-is_locked
+invariant_of-account-else-is_locked g c = let me = c.args.self.account in let f = c.load-found in
+    let all = still_knows me.permit.key.name (awaits_by (what me.permit.view)) me.permit.view f.result.1.view me.seen f.result.2 f.result.1.key.name f.result.0 me.knows me.named (ap (λ k. k.name) f.ensures.key) f.ensures.moved in record { named = all.0; knows = all.1 }

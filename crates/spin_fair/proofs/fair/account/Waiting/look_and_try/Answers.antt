@@ -6,10 +6,10 @@ use Rattle.spin_core.specs.Own.{what}
 use Rattle.spin_model.specs.declared.answer.Answer.TheVariants.{Granted}
 use Rattle.spin_model.specs.declared.schedule.Outcome.TheVariants.{GoingOn}
 use Rattle.spin_step_more.specs.declared.fair_calls.FairCall.TheVariants.{Lock}
-use Rattle.spin_fair.specs.Fair.{in_call, looked, Comes, Moves, registered_so, no_room_so}
+use Rattle.spin_fair.specs.Fair.{in_call, looked, Comes, Moves, registered_so, no_room_so, looked_by}
 use Rattle.spin_fair.specs.Waits.{view_of}
 use Rattle.spin_fair.proofs.Steps.{looks_on}
-use Rattle.spin_fair.proofs.Takes.{may_know, took, and_on, looks_in, loading, turns}
+use Rattle.spin_fair.proofs.Takes.{may_know, still_knows, took, and_on, looks_in, loading, turns}
 use Rattle.spin_fair.proofs.fair.account.Waiting.look_and_try.Goals as goal
 
 pub load-found-requires : goal.load-found-requires
@@ -43,3 +43,15 @@ returns-in-Err g c =
     let so = took me.permit.key.name true Lock (λ n. GoingOn ∷ []) (looked v) None me.permit.view view me.seen seen f.result.0 me.knows me.named f.ensures.moved (1, refl) in
     let is = so.1 ∙ loading v c.args.self.spins f.result.0 c.args.self.looks c.if-not-is_locked.ensures.exact (grind (arith, c.if-spins-le-STARVATION_SPINS.false)) in
     (tt, and_on me view seen true Lock None next.permit.view next.seen so.0 (on.0, turns (what view) no_room_so view next.permit.view seen.entries next.seen.entries is refl on.1))
+
+pub invariant_of-account : goal.invariant_of-account
+invariant_of-account g c = let me = c.args.self.account in let f = c.load-found in
+    let all = still_knows me.permit.key.name (looked_by (what me.permit.view)) me.permit.view f.result.1.view me.seen f.result.2 f.result.1.key.name f.result.0 me.knows me.named (ap (λ k. k.name) f.ensures.key) f.ensures.moved in record { named = all.0; knows = all.1 }
+
+pub invariant_of-account-then-spins-le-STARVATION_SPINS : goal.invariant_of-account-then-spins-le-STARVATION_SPINS
+invariant_of-account-then-spins-le-STARVATION_SPINS g c = let me = c.args.self.account in let f = c.load-found in
+    let all = still_knows me.permit.key.name (looked_by (what me.permit.view)) me.permit.view f.result.1.view me.seen f.result.2 f.result.1.key.name f.result.0 me.knows me.named (ap (λ k. k.name) f.ensures.key) f.ensures.moved in record { named = all.0; knows = all.1 }
+
+pub invariant_of-account-2 : goal.invariant_of-account-2
+invariant_of-account-2 g c = let me = c.args.self.account in let f = c.load-found in
+    let all = still_knows me.permit.key.name (looked_by (what me.permit.view)) me.permit.view f.result.1.view me.seen f.result.2 f.result.1.key.name f.result.0 me.knows me.named (ap (λ k. k.name) f.ensures.key) f.ensures.moved in record { named = all.0; knows = all.1 }

@@ -5,7 +5,8 @@ use Rattle.spin_core.specs.Passes.{IsCall}
 use Rattle.spin_model.specs.declared.answer.Answer.TheVariants.{Granted}
 use Rattle.spin_step_more.specs.declared.fair_calls.FairCall.TheVariants.{TryLock}
 use Rattle.spin_fair.proofs.Steps.{attempts, is_out}
-use Rattle.spin_fair.proofs.Takes.{may_know, has_tried, is_refused, as_held}
+use Rattle.spin_fair.specs.Fair.{tries_by}
+use Rattle.spin_fair.proofs.Takes.{may_know, still_knows, has_tried, is_refused, as_held}
 use Rattle.spin_fair.proofs.fair.pass.Pass.try_lock.Goals as goal
 
 pub exchange-found-requires : goal.exchange-found-requires
@@ -36,3 +37,11 @@ returns-else-found-free-clause-refused g c =
     let me = c.args.self.account in let f = c.exchange-found in
     let so = is_refused me.permit.key.name TryLock me.permit.view f.result.1.view me.seen f.result.2 f.result.0 me.knows me.named f.ensures.moved c.if-found-free.false in
     (so.1, so.0)
+
+pub invariant_of-account : goal.invariant_of-account
+invariant_of-account g c = let me = c.args.self.account in let f = c.exchange-found in
+    let all = still_knows me.permit.key.name (tries_by TryLock) me.permit.view f.result.1.view me.seen f.result.2 f.result.1.key.name f.result.0 me.knows me.named (ap (λ k. k.name) f.ensures.key) f.ensures.moved in record { named = all.0; knows = all.1 }
+
+pub invariant_of-account-else-found-free : goal.invariant_of-account-else-found-free
+invariant_of-account-else-found-free g c = let me = c.args.self.account in let f = c.exchange-found in
+    let all = still_knows me.permit.key.name (tries_by TryLock) me.permit.view f.result.1.view me.seen f.result.2 f.result.1.key.name f.result.0 me.knows me.named (ap (λ k. k.name) f.ensures.key) f.ensures.moved in record { named = all.0; knows = all.1 }

@@ -4,9 +4,9 @@ use Rattle.spin_core.specs.Own.{what}
 use Rattle.spin_core.specs.Passes.{IsCall}
 use Rattle.spin_model.specs.declared.answer.Answer.TheVariants.{Granted}
 use Rattle.spin_step_more.specs.declared.fair_calls.FairCall.TheVariants.{TryLockStarver}
-use Rattle.spin_fair.specs.Fair.{answer_of, Called}
+use Rattle.spin_fair.specs.Fair.{answer_of, Called, tries_by}
 use Rattle.spin_fair.proofs.Steps.{attempts_to_know, is_out}
-use Rattle.spin_fair.proofs.Takes.{may_know, has_tried, is_refused, as_held, reason_so}
+use Rattle.spin_fair.proofs.Takes.{may_know, still_knows, has_tried, is_refused, as_held, reason_so}
 use Rattle.spin_fair.proofs.fair.pass.Pass.try_lock_starver.Goals as goal
 
 pub exchange-found-requires : goal.exchange-found-requires
@@ -38,3 +38,11 @@ returns-else-found-free-clause-refused g c =
     let so = is_refused me.permit.key.name TryLockStarver me.permit.view f.result.1.view me.seen f.result.2 f.result.0 me.knows me.named f.ensures.moved c.if-found-free.false in
     let is = reason_so f.result.0 ∙ ap answer_of (sym c.reject.ensures.exact) in
     (subst (λ a. Called TryLockStarver a me.permit.view me.seen.entries f.result.1.view f.result.2.entries) is so.1, so.0)
+
+pub invariant_of-account : goal.invariant_of-account
+invariant_of-account g c = let me = c.args.self.account in let f = c.exchange-found in
+    let all = still_knows me.permit.key.name (tries_by TryLockStarver) me.permit.view f.result.1.view me.seen f.result.2 f.result.1.key.name f.result.0 me.knows me.named (ap (λ k. k.name) f.ensures.key) f.ensures.moved in record { named = all.0; knows = all.1 }
+
+pub invariant_of-account-else-found-free : goal.invariant_of-account-else-found-free
+invariant_of-account-else-found-free g c = let me = c.args.self.account in let f = c.exchange-found in
+    let all = still_knows me.permit.key.name (tries_by TryLockStarver) me.permit.view f.result.1.view me.seen f.result.2 f.result.1.key.name f.result.0 me.knows me.named (ap (λ k. k.name) f.ensures.key) f.ensures.moved in record { named = all.0; knows = all.1 }

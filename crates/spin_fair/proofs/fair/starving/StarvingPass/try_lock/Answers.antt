@@ -4,9 +4,9 @@ use Rattle.spin_core.specs.Guard.{guard_view}
 use Rattle.spin_core.specs.Passes.{IsCall}
 use Rattle.spin_model.specs.declared.answer.Answer.TheVariants.{Granted, Refused}
 use Rattle.spin_step_more.specs.declared.fair_calls.FairCall.TheVariants.{StarverTryLock}
-use Rattle.spin_fair.specs.Fair.{MaySet, Moves, Comes, call_of, flag_set_so}
+use Rattle.spin_fair.specs.Fair.{MaySet, Moves, Comes, call_of, flag_set_so, alone_by}
 use Rattle.spin_fair.proofs.Steps.{tries_alone}
-use Rattle.spin_fair.proofs.Takes.{may_know, was_alone, was_not_alone, as_held, and_on}
+use Rattle.spin_fair.proofs.Takes.{may_know, still_knows, was_alone, was_not_alone, as_held, and_on}
 use Rattle.spin_fair.proofs.fair.starving.StarvingPass.try_lock.Goals as goal
 
 pub exchange-found-requires : goal.exchange-found-requires
@@ -43,3 +43,11 @@ returns-in-Err-clause-refused g c =
     let last = subst (λ v. Moves (Comes true (call_of v) (flag_set_so (call_of v))) view seen.entries next.permit.view next.seen.entries) so.1 on.1 in
     let whole = and_on me view seen false StarverTryLock (Some Refused) next.permit.view next.seen so.0 (on.0, last) in
     (whole.1, whole.0)
+
+pub invariant_of-account : goal.invariant_of-account
+invariant_of-account g c = let me = c.args.self.account in let f = c.exchange-found in
+    let all = still_knows me.permit.key.name (alone_by StarverTryLock) me.permit.view f.result.1.view me.seen f.result.2 f.result.1.key.name f.result.0 me.knows me.named (ap (λ k. k.name) f.ensures.key) f.ensures.moved in record { named = all.0; knows = all.1 }
+
+pub invariant_of-account-2 : goal.invariant_of-account-2
+invariant_of-account-2 g c = let me = c.args.self.account in let f = c.exchange-found in
+    let all = still_knows me.permit.key.name (alone_by StarverTryLock) me.permit.view f.result.1.view me.seen f.result.2 f.result.1.key.name f.result.0 me.knows me.named (ap (λ k. k.name) f.ensures.key) f.ensures.moved in record { named = all.0; knows = all.1 }
