@@ -11,11 +11,11 @@ module _ {T : Type 0} where
   -- it has its ticket; or it goes on, and has made no step where no ticket is left
   abbrev pub GoesFor : Going T → Result (Place T) (Going T) → Type 0
   GoesFor was r =
-      IfOk r (λ place. (place.seen.name ≡ was.seen.name) × (place.permit.key.1 ≡ was.permit.key.1) × Moves was.permit.key.1 Waits was.permit.view was.seen.entries place.permit.view place.seen.entries)
-      × IfErr r (λ next. ((next.permit ≡ was.permit) × (next.seen ≡ was.seen)) ⊎ ((next.seen.name ≡ was.seen.name) × (next.permit.key.1 ≡ was.permit.key.1) × Moves was.permit.key.1 Waits was.permit.view was.seen.entries next.permit.view next.seen.entries))
+      IfOk r (λ place. (place.seen.name ≡ was.seen.name) × (place.permit.key ≡ was.permit.key) × Moves was.permit.key Waits was.permit.view was.seen.entries place.permit.view place.seen.entries)
+      × IfErr r (λ next. ((next.permit ≡ was.permit) × (next.seen ≡ was.seen)) ⊎ ((next.seen.name ≡ was.seen.name) × (next.permit.key ≡ was.permit.key) × Moves was.permit.key Waits was.permit.view was.seen.entries next.permit.view next.seen.entries))
 
   -- it is granted, or waits on
   abbrev pub Enters : Place T → Result (Grant T) (Place T) → Type 0
   Enters was r =
-      IfOk r (λ grant. (grant.seen.name ≡ was.seen.name) × (grant.writer.key.1 ≡ was.permit.key.1) × Moves was.permit.key.1 (Ends Granted) was.permit.view was.seen.entries (Some grant.writer.view) grant.seen.entries)
-      × IfErr r (λ next. (next.seen.name ≡ was.seen.name) × (next.permit.key.1 ≡ was.permit.key.1) × Moves was.permit.key.1 Waits was.permit.view was.seen.entries next.permit.view next.seen.entries)
+      IfOk r (λ grant. (grant.seen.name ≡ was.seen.name) × (grant.writer.key ≡ was.permit.key) × Moves was.permit.key (Ends Granted) was.permit.view was.seen.entries (Some grant.writer.view) grant.seen.entries)
+      × IfErr r (λ next. (next.seen.name ≡ was.seen.name) × (next.permit.key ≡ was.permit.key) × Moves was.permit.key Waits was.permit.view was.seen.entries next.permit.view next.seen.entries)
