@@ -71,10 +71,24 @@ module _ (κ l : Lft) (within : κ ⊑ l) where
   abbrev thrice : Lft
   thrice = alone ++ (alone ++ (alone ++ []))
 
-  pub entries_within : κ ⊑ (thrice ++ []) ++ (thrice ++ [])
+  abbrev entries : Lft
+  entries = (thrice ++ []) ++ (thrice ++ [])
+
+  pub entries_within : κ ⊑ entries
   entries_within =
       let one = ⊑_meet _ _ _ within (⊑_static _) in let three = ⊑_meet _ _ _ one (⊑_meet _ _ _ one (⊑_meet _ _ _ one (⊑_static _))) in
       ⊑_meet _ _ _ (⊑_meet _ _ _ three (⊑_static _)) (⊑_meet _ _ _ three (⊑_static _))
 
-  pub permit_within : κ ⊑ alone ++ ((alone ++ []) ++ [])
+  -- a trace beside a word
+  pub trace_within : κ ⊑ (entries ++ []) ++ (((entries ++ []) ++ []) ++ [])
+  trace_within = let all = ⊑_meet _ _ _ entries_within (⊑_static _) in ⊑_meet _ _ _ all (⊑_meet _ _ _ (⊑_meet _ _ _ all (⊑_static _)) (⊑_static _))
+
+  abbrev permit : Lft
+  permit = alone ++ ((alone ++ []) ++ [])
+
+  pub permit_within : κ ⊑ permit
   permit_within = let one = ⊑_meet _ _ _ within (⊑_static _) in ⊑_meet _ _ _ one (⊑_meet _ _ _ (⊑_meet _ _ _ one (⊑_static _)) (⊑_static _))
+
+  -- what is settled of a lock, beside a number
+  pub key_within : κ ⊑ (permit ++ []) ++ (permit ++ [])
+  key_within = let all = ⊑_meet _ _ _ permit_within (⊑_static _) in ⊑_meet _ _ _ all all

@@ -140,3 +140,11 @@ module _ {W V C L A X S : Type 0} (m : Machine W V C L A) (seat_of : X → Seat 
       → Traces holds used view shown g (Tells m seat_of words_of says view) → Traces holds used view shown g (Tells m seat_of words_of says' view)
   tells_less holds used shown g traces id n t vs meets at small =
       let (w, es, going, (own, outs, is, mark, none, mine, said)) = traces id n t vs meets at small in (w, es, going, (own, outs, is, mark, none, mine, less own outs n w.0 said))
+
+-- a step on the second
+module _ {W V C L A X : Type 0} (m : Machine W V C L A) (seat_of : X → Seat C L) (words_of : W → ℕ × ℕ) (view : Option (Numbered X)) (says says' : List (Move C V) → List (Outcome A V) → ℕ → X → Type 0)
+    (less : (own : List (Move C V)) (outs : List (Outcome A V)) (n : ℕ) (u : X) → says own outs n u → says' own outs n u) where
+  pub tells_less_second : {Y : Type 0} (holds : ℕ → Trace (Entry C V) ℕ → List (Numbered X) → Type 0) (used : Ways Y (Numbered X) (Trace (Entry C V) ℕ)) (shown : Option Y) (g : ℕ → ℕ)
+      → TracesSecond holds used view shown g (Tells m seat_of words_of says view) → TracesSecond holds used view shown g (Tells m seat_of words_of says' view)
+  tells_less_second holds used shown g traces id n t vs meets at small =
+      let (w, es, going, (own, outs, is, mark, none, mine, said)) = traces id n t vs meets at small in (w, es, going, (own, outs, is, mark, none, mine, less own outs t.word w.0 said))

@@ -1,7 +1,7 @@
 //! `Mutex`, which uses only the contract of an inner lock, and three other mutexes by their own names. Begin at
 //! [`Mutex::lock`].
-ghost use Rattle.std.specs.Prelude.{◌≡◌, Some, None, [], IfSome};
-ghost use Rattle.spin_ticket.specs.TicketPasses.{history, party, lock_of, first_of, name_of, first_ticket};
+ghost use Rattle.std.specs.Prelude.{◌≡◌, Some, None, [], IfSome, true};
+ghost use Rattle.spin_ticket.specs.TicketPasses.{history, party, lock_of, name_of, opening, opening_of};
 ghost use Rattle.spin_mutex.specs.MutexGuard.{value_of, holds, held_value};
 
 use spin_core::lock::{Lock, with_guard};
@@ -102,13 +102,17 @@ impl<T, R> Mutex<T, R> {
     /// Creates an unlocked mutex that holds `value`.
     ///
     /// # Contract
-    /// No clause. The call returns.
-    pub fn new(value: T) -> Self {
+    /// The lock's history begins with this value (`opens`). The call returns.
+    pub fn new(value: T) -> Self
+        ensures opens { ((opening result.inner).0.value ≡ value) × ((opening result.inner).0.told ≡ true) }
+    {
         Self::over(TicketMutex::new(value))
     }
 
     // Wraps a lock that exists.
-    pub(crate) fn over(inner: TicketMutex<T, R>) -> Self {
+    pub(crate) fn over(inner: TicketMutex<T, R>) -> Self
+        ensures { result.inner ≡ inner }
+    {
         Mutex { inner }
     }
 
@@ -200,7 +204,7 @@ impl<T, R> Mutex<T, R> {
     /// The pass is of this mutex (`lock`), and knows nothing of its history yet (`new`).
     pub fn pass(&self) -> ticket::Pass<'_, T, R>
         ensures new { (history result ≡ []) × (party result ≡ None) }
-        ensures lock { (lock_of result ≡ name_of self.now.inner) × (first_of result ≡ first_ticket self.now.inner) }
+        ensures lock { (lock_of result ≡ name_of self.now.inner) × (opening_of result ≡ opening self.now.inner) }
     {
         self.inner.pass()
     }

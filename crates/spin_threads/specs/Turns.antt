@@ -7,24 +7,24 @@ use Rattle.spin_core.specs.Run.{IsPlayed}
 use Rattle.spin_model.specs.declared.place.Hold.TheVariants.{Ticket}
 use Rattle.spin_model.specs.declared.place.Seat.TheVariants.{Holding}
 use Rattle.spin_model.specs.Schedules.{after, at_first}
-use Rattle.spin_ticket.specs.Queue.{Made, model}
+use Rattle.spin_ticket.specs.Queue.{Key, Made, model}
 use Rattle.spin_world_core.specs.Runs.{opening}
 use Rattle.spin_world_core.specs.Users.{seen_after}
 use Rattle.spin_world.specs.Turns.{tickets_gone}
 
 -- A party has entered with a ticket since it knew `old`, and knows `new` now. It is of this view. From each moment on till it entered,
 -- exactly as many tickets went as stood between the number that was served then and its own
-pub record EntersInTurn {X : Type 0} (first : ℕ) (view : Option (Numbered X)) (old new : List Made) : Type 0 where
+pub record EntersInTurn {X T : Type 0} (key : Key T) (view : Option (Numbered X)) (old new : List (Made T)) : Type 0 where
   pub party : ℕ
   pub is_number : IsNumber party view
   -- the history is that of a world with this many parties, in which no move of it is passed over
   pub parties : ℕ
-  pub played : IsPlayed (model first) parties new
+  pub played : IsPlayed (model key) parties new
   -- it was so long as the party had entered
-  pub entered : List Made
+  pub entered : List (Made T)
   pub behind : IsPrefix old entered
   pub before : IsPrefix entered new
   pub number : ℕ
-  pub holds : slice_get (after (model first) (at_first (model first) parties) entered).seats party ≡ Some (Holding (Ticket number))
-  pub turn : (past further : List Made) → entered ≡ past ++ further
-      → (after (model first) (at_first (model first) parties) past).words.serving + tickets_gone (model first) (seen_after (model first) (opening (model first) parties) past) further ≡ number
+  pub holds : slice_get (after (model key) (at_first (model key) parties) entered).seats party ≡ Some (Holding (Ticket number))
+  pub turn : (past further : List (Made T)) → entered ≡ past ++ further
+      → (after (model key) (at_first (model key) parties) past).words.serving + tickets_gone (model key) (seen_after (model key) (opening (model key) parties) past) further ≡ number

@@ -54,8 +54,8 @@ pub fn a_look_at_a_spin_mutex_was_so_at_a_moment<T>()
 ///
 /// # Contract
 /// `Found`, of the lock's holders, tickets and starvers.
-pub fn a_refused_try_found_the_ticket_mutex_held_or_used_up()
-    ensures { (first : ℕ) → Found (ticket_mutex.model first) TicketMutexView ticket.TryLock Refused (λ s.
+pub fn a_refused_try_found_the_ticket_mutex_held_or_used_up<T>()
+    ensures { (key : ticket_mutex.Key T) → Found (ticket_mutex.model key) TicketMutexView ticket.TryLock Refused (λ s.
         (is_held s ≡ true) ⊎ (is_left s.next ≡ false)) }
 {}
 
@@ -63,9 +63,9 @@ pub fn a_refused_try_found_the_ticket_mutex_held_or_used_up()
 ///
 /// # Contract
 /// `Found`, of the lock's holders, tickets and starvers.
-pub fn a_look_at_a_ticket_mutex_was_so_at_a_moment()
-    ensures { (first : ℕ) (held : Bool) →
-        Found (ticket_mutex.model first) TicketMutexView ticket.IsLocked (Is held) (Was is_held held) }
+pub fn a_look_at_a_ticket_mutex_was_so_at_a_moment<T>()
+    ensures { (key : ticket_mutex.Key T) (held : Bool) →
+        Found (ticket_mutex.model key) TicketMutexView ticket.IsLocked (Is held) (Was is_held held) }
 {}
 
 /// If a pass tried once to acquire a `FairMutex` and failed, a party held the lock or was registered as a starver at a

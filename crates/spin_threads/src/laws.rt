@@ -33,8 +33,8 @@ pub fn between_any_two_steps_of_a_spin_mutex<T>()
 ///
 /// # Contract
 /// `Between`, of the moves that the lock's cell keeps, with the lock's words and parties.
-pub fn between_any_two_steps_of_a_ticket_mutex()
-    ensures { (name first next : ℕ) (trace : Trace ticket_mutex.Made ℕ) (parties : List (Numbered TicketMutexView)) → ticket_mutex.IsQueue name first next trace parties → Between (ticket_mutex.model first) ticket_mutex.seat_of ticket_mutex.words_of trace.entries (next, trace.word) parties }
+pub fn between_any_two_steps_of_a_ticket_mutex<T>()
+    ensures { (key : ticket_mutex.Key T) (next : ℕ) (trace : Trace (ticket_mutex.Made T) ℕ) (parties : List (Numbered TicketMutexView)) → ticket_mutex.IsQueue key next trace parties → Between (ticket_mutex.model key) ticket_mutex.seat_of ticket_mutex.words_of trace.entries (next, trace.word) parties }
 {}
 
 /// Between any two steps of the threads that use a `FairMutex`, its word encodes exactly its holders and its registered

@@ -34,8 +34,8 @@ pub fn a_call_of_a_spin_mutex_keeps_its_limit<T>()
 ///
 /// # Contract
 /// `KeepsLimits`, which says it of the steps that all threads made while the call ran.
-pub fn a_call_of_a_ticket_mutex_keeps_its_limit()
-    ensures { (first : ℕ) → KeepsLimits (ticket_mutex.model first) TicketMutexView }
+pub fn a_call_of_a_ticket_mutex_keeps_its_limit<T>()
+    ensures { (key : ticket_mutex.Key T) → KeepsLimits (ticket_mutex.model key) TicketMutexView }
 {}
 
 /// A try of a pass of a `FairMutex` takes one step, and one of a starver two at most. `starve` takes two at most, and
@@ -70,7 +70,7 @@ pub fn a_call_of_seats_keeps_its_limit()
 ///
 /// # Contract
 /// `EntersInTurn`, of the history that the pass knows after the call.
-pub fn a_lock_of_a_ticket_mutex_enters_in_turn()
-    ensures { (first : ℕ) (before now : Option (Numbered TicketMutexView)) (old new : List ticket_mutex.Made) →
-        ticket_mutex.Called first Lock Granted before old now new → EntersInTurn first now old new }
+pub fn a_lock_of_a_ticket_mutex_enters_in_turn<T>()
+    ensures { (key : ticket_mutex.Key T) (before now : Option (Numbered TicketMutexView)) (old new : List (ticket_mutex.Made T)) →
+        ticket_mutex.Called key Lock Granted before old now new → EntersInTurn key now old new }
 {}

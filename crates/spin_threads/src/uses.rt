@@ -47,13 +47,13 @@ pub fn look_at_a_spin_mutex<T, R>(pass: SpinPass<'_, T, R>) -> (bool, SpinPass<'
 /// Tries once to acquire a `TicketMutex`.
 pub fn try_a_ticket_mutex<'a, T, R>(
     pass: TicketPass<'a, T, R>,
-) -> Result<(TicketMutexGuard<'a, T, R>, Watch<Entry>), TicketPass<'a, T, R>>
+) -> Result<(TicketMutexGuard<'a, T, R>, Watch<Entry<T>>), TicketPass<'a, T, R>>
     ensures { IfErr result (λ now.
-        AtAMoment (ticket_mutex.model (ticket_passes.first_of pass.entry)) ticket.TryLock (ticket_passes.party now)
+        AtAMoment (ticket_mutex.model (ticket_passes.opening_of pass.entry)) ticket.TryLock (ticket_passes.party now)
         (ticket_passes.history pass.entry) (ticket_passes.history now)
         (λ s. (is_held s ≡ true) ⊎ (is_left s.next ≡ false))) }
 {
-    a_refused_try_found_the_ticket_mutex_held_or_used_up();
+    a_refused_try_found_the_ticket_mutex_held_or_used_up::<T>();
     pass.try_lock()
 }
 

@@ -1,4 +1,3 @@
 pub mod Queue
-pub mod Waiting
 pub mod TicketQueue
 pub mod Rows

@@ -7,13 +7,13 @@ use Rattle.spin_step.specs.Plain.{Plain, ticket_limit, gets, serves, to_take_tic
 use Rattle.spin_step.specs.Steps.{Decides, Gives}
 use Rattle.spin_step.specs.Tickets.{take}
 use Rattle.spin_step.proofs.Tickets.{serving-taken, serving-entered, entered_is_served, first-length, enters_in_turn}
-use Rattle.spin_core.specs.Cell.{Ways, alone, no_fact, reads, writes, Meets, Allows, AllowsSecond, Rests, Moved}
+use Rattle.spin_core.specs.Cell.{Use, off, alone, reads, writes, use_of, Meets, Allows, AllowsSecond, Rests, Moved, Preserves, Keeps as Keeps_value}
 use Rattle.spin_core.specs.Own.{Numbered, what}
-use Rattle.spin_core.specs.Passes.{Course, IsStep, step_by, mark_of}
+use Rattle.spin_core.specs.Passes.{Course, IsCall, IsStep, WritesSome, step_by, mark_of}
 use Rattle.spin_core.proofs.Passes as passes
 use Rattle.spin_core.proofs.Passes.{Learnt}
 use Rattle.spin_core.specs.Run.{AreMoves, on_first, on_second, first as first_word, second as second_word}
-use Rattle.spin_core.specs.Traced.{Traces, TracesSecond, Watches, Named}
+use Rattle.spin_core.specs.Traced.{Traces, TracesSecond, Watches, Named, Found}
 use Rattle.spin_core.specs.Views.{idle, entries_of, queues}
 use Rattle.spin_core.proofs.Views.{part_before}
 use Rattle.spin_core.specs.declared.trace.Trace.{Trace}
@@ -23,16 +23,18 @@ use Rattle.spin_core.proofs.Owners.{OfTickets, one_ticket}
 use Rattle.spin_core.proofs.Plays as plays
 use Rattle.spin_core.proofs.Plays.{Lock as CellLock, ways, Reaches, allows, allows_second, by_step, by_grant, by_none, by_exchange, allows_among, begins}
 use Rattle.spin_core.proofs.Ties as tie
+use Rattle.spin_core.proofs.Values.{steps_leave, write_leaves, owed, found, gave, wrote}
+use Rattle.spin_core.specs.Values.{Leaves, IsLast, last}
 use Rattle.spin_model.specs.declared.answer.Answer.{Answer}
 use Rattle.spin_model.specs.declared.answer.Answer.TheVariants.{Refused, Done}
-use Rattle.spin_model.specs.declared.schedule.Move.TheVariants.{Begin, Step}
-use Rattle.spin_model.specs.declared.schedule.Outcome.TheVariants.{Begun, GoingOn, Answered}
+use Rattle.spin_model.specs.declared.schedule.Move.TheVariants.{Begin, Step, Write}
+use Rattle.spin_model.specs.declared.schedule.Outcome.TheVariants.{Begun, GoingOn, Answered, Written}
 use Rattle.spin_model.specs.declared.ticket.TicketCall.{TicketCall}
 use Rattle.spin_model.specs.declared.ticket.TicketCall.TheVariants.{Lock, TryLock, IsLocked, Release}
 use Rattle.spin_model.specs.Ticket.{is_left, is_free}
 use Rattle.spin_ticket.specs.declared.ticket.rule.View.{View}
 use Rattle.spin_ticket.specs.declared.ticket.rule.View.TheVariants.{Idle, Coming, Going, Waiting, Entered, LoadedNext, Trying, LoadedServing}
-use Rattle.spin_ticket.specs.Queue.{part, Word, IsQueue, Told, use_of_view, use_of_party, seat_of, model, words_of, OneMove, Ending, Made, Says, IsOut, stands, goes_on, going, taken, entered, answers_turn, freed, answers_free, attempted, answers_attempt, gone, answers_look, compares_with, compares_by, finds, finds_by, awaits_by, tries_by, number_of, answers_release}
+use Rattle.spin_ticket.specs.Queue.{Key, part, Word, IsQueue, queue_ways, Told, Left, serves_with, serves_by, use_of_view, use_of_party, seat_of, model, words_of, OneMove, Ending, Made, Says, IsOut, stands, goes_on, going, taken, entered, answers_turn, freed, answers_free, attempted, answers_attempt, gone, answers_look, compares_with, compares_by, finds, finds_by, awaits_by, tries_by, number_of, answers_release}
 
 pub kind : (v : View) → OfTickets part v
 kind (Waiting n) = (refl, λ p. refl)
@@ -67,12 +69,12 @@ Finds number n v = (n ≡ number) × (number < ticket_limit) × (v ≡ Entered n
 
 -- The moves of each step: a call of the model and its first step, or the next step of a call that has begun
 
-module _ (first : ℕ) where
-  abbrev Moves : Option View → (ℕ → ℕ) → (ℕ → View → Type 0) → Says → Type 0
-  Moves view f = AreMoves (model first) seat_of words_of view (on_first f) first_word
+module _ {T : Type 0} (key : Key T) where
+  abbrev Moves : Option View → (ℕ → ℕ) → (ℕ → View → Type 0) → Says T → Type 0
+  Moves view f = AreMoves (model key) seat_of words_of view (on_first f) first_word
 
-  abbrev MovesSecond : Option View → (ℕ → ℕ) → (ℕ → View → Type 0) → Says → Type 0
-  MovesSecond view f = AreMoves (model first) seat_of words_of view (on_second f) second_word
+  abbrev MovesSecond : Option View → (ℕ → ℕ) → (ℕ → View → Type 0) → Says T → Type 0
+  MovesSecond view f = AreMoves (model key) seat_of words_of view (on_second f) second_word
 
   load_moves : (view : Option View) → IsOut view → Moves view (λ n. n) (Comes going) (step_by false Lock goes_on going)
   load_moves None out w value v is = rw is (Begin Lock ∷ Step ∷ [], Begun ∷ GoingOn ∷ [], (refl, (refl, refl)), refl, refl, w, value, grind arith, grind arith, refl)
@@ -108,8 +110,10 @@ module _ (first : ℕ) where
   find_moves : (n : ℕ) → MovesSecond (Some (Entered n)) (λ k. k) (Finds n) (finds n)
   find_moves n w value v is = rw is.2 ([], [], ((is.0, is.1, refl), refl, refl), refl, refl, w, value, refl, refl, refl)
 
-  serve_moves : (n : ℕ) → MovesSecond (Some (Entered n)) (λ _. n + 1) (Comes gone) (step_by false Release answers_release gone)
-  serve_moves n w value v is = rw is (Begin Release ∷ Step ∷ [], Begun ∷ Answered Done None ∷ [], (refl, (refl, refl)), refl, refl, record w { serving = n + 1 }, value, grind (arith, eq-eqb n n refl), grind (arith, eq-eqb n n refl), refl)
+  -- the holder writes the value x
+  serve_moves : (x : T) (n : ℕ) → MovesSecond (Some (Entered n)) (λ _. n + 1) (Comes gone) (serves_with (λ y. y ≡ x))
+  serve_moves x n w value v is =
+      rw is (Write x ∷ Begin Release ∷ Step ∷ [], Written ∷ Begun ∷ Answered Done None ∷ [], (refl, (x, refl, (Begin Release ∷ Step ∷ [], Begun ∷ Answered Done None ∷ [], refl, refl, (refl, refl)))), refl, refl, record w { serving = n + 1 }, Some x, grind (arith, eq-eqb n n refl), grind (arith, eq-eqb n n refl), refl)
 
 -- Each step keeps the rule, and appends its moves
 
@@ -137,147 +141,193 @@ pub is_out : (view : Option (Numbered View)) → stands view ≡ Idle → IsOut 
 is_out None is = tt
 is_out (Some v) is = subst (λ w. IsOut (Some w)) (sym is) tt
 
-abbrev own_ways : Ways (Unit {0}) (Numbered View) (Trace Made ℕ)
-own_ways = (alone, use_of_party, no_fact)
+pub out_off : (view : Option View) → IsOut view → use_of use_of_view view ≡ off
+out_off None out = refl
+out_off (Some Idle) out = refl
+out_off (Some _) out = absurd out
 
-module _ (name first : ℕ) where
-  abbrev Keeps : Option (Numbered View) → (ℕ → ℕ) → Says → Type 0
-  Keeps view f says = Traces (IsQueue name first) own_ways view None f (Told first says view)
+module _ {T : Type 0} (key : Key T) where
+  abbrev Keeps : Option (Numbered View) → Option T → (ℕ → ℕ) → Says T → Type 0
+  Keeps view shown f says = Traces (IsQueue key) (queue_ways key) view shown f (Told key says view)
 
-  abbrev KeepsSecond : Option (Numbered View) → (ℕ → ℕ) → Says → Type 0
-  KeepsSecond view f says = TracesSecond (IsQueue name first) own_ways view None f (Told first says view)
+  abbrev KeepsSecond : Option (Numbered View) → Option T → (ℕ → ℕ) → Says T → Type 0
+  KeepsSecond view shown f says = TracesSecond (IsQueue key) (queue_ways key) view shown f (Told key says view)
+
+  -- moves that keep what is known of the value, or leave it
+  abbrev Leaving : Option View → Option T → Says T → Type 0
+  Leaving view shown says = (own : List (OneMove T)) (outs : List (Ending T)) (n : ℕ) (u : View) → says own outs n u → Leaves (use_of use_of_view view) (use_of_view u) shown own
+
+  -- a step by which a party that does not use the value begins a call, or goes on with it
+  steps : (view : Option View) (shown : Option T) (goes_on : Bool) (c : TicketCall) (end : ℕ → Ending T) (to : ℕ → View) → use_of use_of_view view ≡ off → Leaving view shown (step_by goes_on c end to)
+  steps view shown goes_on c end to unused own outs n u said = steps_leave (use_of use_of_view view) (use_of_view u) shown unused goes_on c (end n) own outs said.1
 
   -- what the plain lock allows, and what the model does
-  keeps : (view : Option (Numbered View)) (f : ℕ → ℕ) (tells : ℕ → View → Type 0) (says : Says) → Moves first (what view) f tells says → Allows Word (ways queue) (what view) f tells → Keeps view f says
-  keeps view f tells says moves allows = tie.traces (model first) seat_of words_of Word name (Unit {0}) alone use_of_view no_fact view None f tells says moves (λ own outs n u said t word p. tt) allows
+  keeps : (view : Option (Numbered View)) (shown : Option T) (f : ℕ → ℕ) (tells : ℕ → View → Type 0) (says : Says T) → Leaving (what view) shown says → Moves key (what view) f tells says → Allows Word (ways queue) (what view) f tells → Keeps view shown f says
+  keeps view shown f tells says leaves moves allowed =
+      tie.traces (model key) seat_of words_of Word key.0.name T alone use_of_view (last key.0) view shown f tells says moves
+      (λ own outs n u said t word p. owed key.0 own t word p (use_of use_of_view (what view)) (use_of_view u) shown (leaves own outs n u said)) allowed
 
-  keeps_second : (view : Option (Numbered View)) (f : ℕ → ℕ) (tells : ℕ → View → Type 0) (says : Says) → MovesSecond first (what view) f tells says → AllowsSecond Word (ways queue) (what view) f tells → KeepsSecond view f says
-  keeps_second view f tells says moves allows = tie.traces_second (model first) seat_of words_of Word name (Unit {0}) alone use_of_view no_fact view None f tells says moves (λ own outs n u said t word p. tt) allows
+  keeps_second : (view : Option (Numbered View)) (shown : Option T) (f : ℕ → ℕ) (tells : ℕ → View → Type 0) (says : Says T) → Leaving (what view) shown says → MovesSecond key (what view) f tells says → AllowsSecond Word (ways queue) (what view) f tells
+      → KeepsSecond view shown f says
+  keeps_second view shown f tells says leaves moves allowed =
+      tie.traces_second (model key) seat_of words_of Word key.0.name T alone use_of_view (last key.0) view shown f tells says moves
+      (λ own outs n u said t word p. owed key.0 own t word p (use_of use_of_view (what view)) (use_of_view u) shown (leaves own outs n u said)) allowed
 
-  pub starts : (t : Trace Made ℕ) → t.name ≡ name → t.entries ≡ [] → t.word ≡ first → first ≤ ticket_limit → Meets (IsQueue name first) own_ways first t []
+  pub starts : (t : Trace (Made T) ℕ) → t.name ≡ key.0.name → t.entries ≡ [] → t.word ≡ key.1 → key.1 ≤ ticket_limit → Meets (IsQueue key) (queue_ways key) key.1 t []
   starts t named empty word small =
-      tie.opens (model first) seat_of words_of Word name (Unit {0}) alone use_of_view no_fact first t named empty (ap (λ k. (first, k)) word) (rw word (begins queue 0 first first first (omega (arith, small)) refl (omega arith)))
+      tie.opens (model key) seat_of words_of Word key.0.name T alone use_of_view (last key.0) key.1 t named empty (ap (λ k. (key.1, k)) word) (rw word (begins queue 0 key.1 key.1 key.1 (omega (arith, small)) refl (omega arith)))
 
   -- `lock`
 
-  pub loads : (view : Option (Numbered View)) → IsOut (what view) → Keeps view (λ n. n) (step_by false Lock goes_on going)
-  loads view out =
+  pub loads : (view : Option (Numbered View)) (shown : Option T) → IsOut (what view) → Keeps view shown (λ n. n) (step_by false Lock goes_on going)
+  loads view shown out =
       let v : Option View = what view in let none : (p : ℕ) → entries_of p (part_before part v) ≡ entries_of p idle = λ p. ap (entries_of p) (out_has_none v out) in
-      keeps view (λ n. n) (Comes going) (step_by false Lock goes_on going) (load_moves first v out)
+      keeps view shown (λ n. n) (Comes going) (step_by false Lock goes_on going) (steps v shown false Lock goes_on going (out_off v out)) (load_moves key v out)
       (allows queue v (λ n. n) (Comes going) (λ s p room order has. (going s.next, goes_if v s p (by_none queue v (Going s.next) s p (none p) tt) (by_none queue v Coming s p (none p) tt) (is_left s.next), refl)))
 
-  pub takes : (view : Option (Numbered View)) (next after : ℕ) → what view ≡ Some (Going next) → after ≡ next + 1 → is_left next ≡ true → ((s : Plain) (p : ℕ) → next_word s ≡ next → Decides s (gets p to_take_ticket) next_word (Some after))
-      → Keeps view (λ n. either (n == next) after n) (step_by true Lock goes_on (taken next))
-  takes view next after is more left plain =
+  pub takes : (view : Option (Numbered View)) (shown : Option T) (next after : ℕ) → what view ≡ Some (Going next) → after ≡ next + 1 → is_left next ≡ true → ((s : Plain) (p : ℕ) → next_word s ≡ next → Decides s (gets p to_take_ticket) next_word (Some after))
+      → Keeps view shown (λ n. either (n == next) after n) (step_by true Lock goes_on (taken next))
+  takes view shown next after is more left plain =
       let from : Option View = Some (Going next) in
-      keeps view (λ n. either (n == next) after n) (Comes (taken next)) (step_by true Lock goes_on (taken next)) (rw (is, more) (take_moves first next left))
+      keeps view shown (λ n. either (n == next) after n) (Comes (taken next)) (step_by true Lock goes_on (taken next)) (steps (what view) shown true Lock goes_on (taken next) (ap (use_of use_of_view) is)) (rw (is, more) (take_moves key next left))
       (rw is (allows_among queue from (λ n. either (n == next) after n) (Comes (taken next)) (λ s p vs room order among has small.
       by_exchange queue from (Waiting next) (going s.next) s p s.next (serving_word s) next after
       (λ e. by_grant queue from (Waiting next) s p to_take_ticket after (serving_word s) (plain s p e) (ap (λ n. entries_of p (queues n false)) e) tt (sym (serving-taken s p false order.numbered)))
       (goes_if from s p (by_none queue from (Going s.next) s p refl tt) (by_none queue from Coming s p refl tt) (is_left s.next)))))
 
   -- a party enters exactly where that is open to it
-  pub awaits : (view : Option (Numbered View)) (number : ℕ) → what view ≡ Some (Waiting number) → KeepsSecond view (λ k. k) (awaits_by (what view))
-  awaits view number is =
-      subst (λ k. KeepsSecond view (λ m. m) (step_by true Lock (answers_turn k) (entered k))) (sym (ap number_of is)) (keeps_second view (λ k. k) (Comes (entered number)) (step_by true Lock (answers_turn number) (entered number)) (rw is (await_moves first number))
+  pub awaits : (view : Option (Numbered View)) (shown : Option T) (number : ℕ) → what view ≡ Some (Waiting number) → KeepsSecond view shown (λ k. k) (awaits_by (what view))
+  awaits view shown number is =
+      subst (λ k. KeepsSecond view shown (λ m. m) (step_by true Lock (answers_turn k) (entered k))) (sym (ap number_of is)) (keeps_second view shown (λ k. k) (Comes (entered number)) (step_by true Lock (answers_turn number) (entered number)) (steps (what view) shown true Lock (answers_turn number) (entered number) (ap (use_of use_of_view) is)) (rw is (await_moves key number))
       (rw is (allows_second queue (Some (Waiting number)) (λ k. k) (Comes (entered number)) (λ s p room order has.
       (entered number (serving_word s), enters_if number s p (serving_word s == number) (enters_in_turn s p (serving_word s) number order.numbered refl (ap (λ e. e.tickets) has.0)), refl)))))
 
   -- `try_lock`
 
-  pub tries : (view : Option (Numbered View)) → IsOut (what view) → Keeps view (λ n. n) (step_by false TryLock goes_on LoadedNext)
-  tries view out =
+  pub tries : (view : Option (Numbered View)) (shown : Option T) → IsOut (what view) → Keeps view shown (λ n. n) (step_by false TryLock goes_on LoadedNext)
+  tries view shown out =
       let v : Option View = what view in
-      keeps view (λ n. n) (Comes LoadedNext) (step_by false TryLock goes_on LoadedNext) (try_moves first v out)
+      keeps view shown (λ n. n) (Comes LoadedNext) (step_by false TryLock goes_on LoadedNext) (steps v shown false TryLock goes_on LoadedNext (out_off v out)) (try_moves key v out)
       (allows queue v (λ n. n) (Comes LoadedNext) (λ s p room order has. (LoadedNext s.next, by_none queue v (LoadedNext s.next) s p (ap (entries_of p) (out_has_none v out)) tt, refl)))
 
-  pub tries_on : (view : Option (Numbered View)) (next : ℕ) → what view ≡ Some (LoadedNext next) → KeepsSecond view (λ k. k) (tries_by (what view))
-  tries_on view next is =
-      subst (λ k. KeepsSecond view (λ m. m) (step_by true TryLock (answers_free k) (freed k))) (sym (ap number_of is)) (keeps_second view (λ k. k) (Comes (freed next)) (step_by true TryLock (answers_free next) (freed next)) (rw is (try_look_moves first next))
+  pub tries_on : (view : Option (Numbered View)) (shown : Option T) (next : ℕ) → what view ≡ Some (LoadedNext next) → KeepsSecond view shown (λ k. k) (tries_by (what view))
+  tries_on view shown next is =
+      subst (λ k. KeepsSecond view shown (λ m. m) (step_by true TryLock (answers_free k) (freed k))) (sym (ap number_of is)) (keeps_second view shown (λ k. k) (Comes (freed next)) (step_by true TryLock (answers_free next) (freed next)) (steps (what view) shown true TryLock (answers_free next) (freed next) (ap (use_of use_of_view) is)) (rw is (try_look_moves key next))
       (rw is (allows_second queue (Some (LoadedNext next)) (λ k. k) (Comes (freed next)) (λ s p room order has. (freed next (serving_word s), frees_if next s p (is_free next (serving_word s)) refl, refl)))))
 
   -- a party that found the next number served finds nobody in the queue
-  pub attempts : (view : Option (Numbered View)) (next after : ℕ) → what view ≡ Some (Trying next) → after ≡ next + 1 → is_left next ≡ true
+  pub attempts : (view : Option (Numbered View)) (shown : Option T) (next after : ℕ) → what view ≡ Some (Trying next) → after ≡ next + 1 → is_left next ≡ true
       → ((s : Plain) (p : ℕ) → length s.tickets ≤ next_word s → next_word s ≡ next → serving_word s ≡ next → Decides s (gets p to_take_and_enter) next_word (Some after))
-      → Keeps view (λ n. either (n == next) after n) (step_by true TryLock (answers_attempt next) (attempted next))
-  attempts view next after is more left plain =
+      → Keeps view shown (λ n. either (n == next) after n) (step_by true TryLock (answers_attempt next) (attempted next))
+  attempts view shown next after is more left plain =
       let from : Option View = Some (Trying next) in
-      keeps view (λ n. either (n == next) after n) (Comes (attempted next)) (step_by true TryLock (answers_attempt next) (attempted next)) (rw (is, more) (try_take_moves first next left))
+      keeps view shown (λ n. either (n == next) after n) (Comes (attempted next)) (step_by true TryLock (answers_attempt next) (attempted next)) (steps (what view) shown true TryLock (answers_attempt next) (attempted next) (ap (use_of use_of_view) is)) (rw (is, more) (try_take_moves key next left))
       (rw is (plays.exchanged queue from Entered Idle next after (λ s p. (refl, tt)) (λ s p vs room order among has small e.
       by_grant queue from (Entered next) s p to_take_and_enter after (serving_word s) (plain s p order.numbered.0 e (omega (arith, has.1, e, order.numbered.0))) (ap (λ n. entries_of p (queues n true)) e) tt
       (sym (serving-taken s p true order.numbered)))))
 
   -- `is_locked`: the number that is served only grows, and is at most the next
 
-  pub looks : (view : Option (Numbered View)) → IsOut (what view) → KeepsSecond view (λ k. k) (step_by false IsLocked goes_on LoadedServing)
-  looks view out =
+  pub looks : (view : Option (Numbered View)) (shown : Option T) → IsOut (what view) → KeepsSecond view shown (λ k. k) (step_by false IsLocked goes_on LoadedServing)
+  looks view shown out =
       let v : Option View = what view in
-      keeps_second view (λ k. k) (Comes LoadedServing) (step_by false IsLocked goes_on LoadedServing) (look_moves first v out)
+      keeps_second view shown (λ k. k) (Comes LoadedServing) (step_by false IsLocked goes_on LoadedServing) (steps v shown false IsLocked goes_on LoadedServing (out_off v out)) (look_moves key v out)
       (allows_second queue v (λ k. k) (Comes LoadedServing) (λ s p room order has. (LoadedServing (serving_word s), by_none queue v (LoadedServing (serving_word s)) s p (ap (entries_of p) (out_has_none v out)) (omega arith), refl)))
 
-  pub compares : (view : Option (Numbered View)) (served : ℕ) → what view ≡ Some (LoadedServing served) → Keeps view (λ n. n) (compares_by (what view))
-  compares view served is =
-      subst (λ k. Keeps view (λ m. m) (compares_with k)) (sym (ap number_of is)) (keeps view (λ n. n) (Compares served) (compares_with served) (rw is (look_next_moves first served))
+  pub compares : (view : Option (Numbered View)) (shown : Option T) (served : ℕ) → what view ≡ Some (LoadedServing served) → Keeps view shown (λ n. n) (compares_by (what view))
+  compares view shown served is =
+      subst (λ k. Keeps view shown (λ m. m) (compares_with k)) (sym (ap number_of is)) (keeps view shown (λ n. n) (Compares served) (compares_with served) (λ own outs n u said. steps (what view) shown true IsLocked (answers_look served) gone (ap (use_of use_of_view) is) own outs n u said.1) (rw is (look_next_moves key served))
       (rw is (allows queue (Some (LoadedServing served)) (λ n. n) (Compares served) (λ s p room order has. (Idle, by_none queue (Some (LoadedServing served)) Idle s p refl tt, (omega (arith, has.1, order.numbered.0), refl))))))
 
   -- The release
 
-  pub finds_own : (view : Option (Numbered View)) (number : ℕ) → what view ≡ Some (Entered number) → KeepsSecond view (λ k. k) (finds_by (what view))
-  finds_own view number is =
-      subst (λ k. KeepsSecond view (λ m. m) (finds k)) (sym (ap number_of is)) (keeps_second view (λ k. k) (Finds number) (finds number) (rw is (find_moves first number))
+  pub finds_own : (view : Option (Numbered View)) (shown : Option T) (number : ℕ) → what view ≡ Some (Entered number) → KeepsSecond view shown (λ k. k) (finds_by (what view))
+  finds_own view shown number is =
+      subst (λ k. KeepsSecond view shown (λ m. m) (finds k)) (sym (ap number_of is)) (keeps_second view shown (λ k. k) (Finds number) (finds number) (λ own outs n u said. subst (λ (z : Use × Use). Leaves z.0 z.1 shown own) (λ i. (sym (ap (use_of use_of_view) is) i, sym (ap use_of_view said.0.2) i)) tt) (rw is (find_moves key number))
       (rw is (allows_second queue (Some (Entered number)) (λ k. k) (Finds number) (λ s p room order has.
       let served = entered_is_served s p number order.numbered order.exclusive.one_entered (ap (λ e. e.tickets) has.0) in
       (Entered number, by_none queue (Some (Entered number)) (Entered number) s p refl tt, (served.1, omega (arith, order.within_limit, order.numbered.0, first-length p true s.tickets served.0, served.1), refl))))))
 
-  pub serves_next : (view : Option (Numbered View)) (number next : ℕ) → what view ≡ Some (Entered number) → next ≡ number + 1 → ((s : Plain) (p : ℕ) → length s.tickets ≤ next_word s → serving_word s ≡ number → Gives s (serves p) serving_word next)
-      → KeepsSecond view (λ _. next) (step_by false Release answers_release gone)
-  serves_next view number next is more plain =
-      let from : Option View = Some (Entered number) in
-      keeps_second view (λ _. next) (Comes gone) (step_by false Release answers_release gone) (rw (is, more) (serve_moves first number))
+  -- the holder writes the value that it leaves
+  leaving : (view : Option View) (shown : Option T) (x : T) (number : ℕ) → view ≡ Some (Entered number) → shown ≡ Some x → Leaving view shown (serves_with (λ y. y ≡ x))
+  leaving view shown x number is here own outs n u (stays, (y, same, by)) =
+      subst (λ (z : Use × Use × Option T). Leaves z.0 z.1 z.2 own) (λ i. (sym (ap (use_of use_of_view) is) i, sym (ap use_of_view stays) i, sym here i)) (λ v. write_leaves y false Release (answers_release n) own outs by v ∙ same)
+
+  pub serves_next : (view : Option (Numbered View)) (shown : Option T) (x : T) (number next : ℕ) → what view ≡ Some (Entered number) → shown ≡ Some x → next ≡ number + 1
+      → ((s : Plain) (p : ℕ) → length s.tickets ≤ next_word s → serving_word s ≡ number → Gives s (serves p) serving_word next) → KeepsSecond view shown (λ _. next) serves_by
+  serves_next view shown x number next is here more plain =
+      let from : Option View = Some (Entered number) in let exact : Says T = serves_with (λ y. y ≡ x) in
+      tie.tells_less_second (model key) seat_of words_of view exact serves_by (λ own outs n u (stays, (y, same, by)). (stays, (y, tt, by))) (IsQueue key) (queue_ways key) shown (λ _. next)
+      (keeps_second view shown (λ _. next) (Comes gone) exact (leaving (what view) shown x number is here) (rw (is, more) (serve_moves key x number))
       (rw is (allows_second queue from (λ _. next) (Comes gone) (λ s p room order has.
       let served = entered_is_served s p number order.numbered order.exclusive.one_entered (ap (λ e. e.tickets) has.0) in
-      (Idle, by_step queue from Idle s (serves p) s.next next served.0 refl tt refl (plain s p order.numbered.0 served.1 served.0), refl))))
+      (Idle, by_step queue from Idle s (serves p) s.next next served.0 refl tt refl (plain s p order.numbered.0 served.1 served.0), refl)))))
 
 -- Who may go, and what a step tells its party
 
-module _ (name first : ℕ) where
-  pub rests : (view : Option (Numbered View)) → stands view ≡ Idle → Rests (IsQueue name first) use_of_party view
+module _ {T : Type 0} (key : Key T) where
+  pub rests : (view : Option (Numbered View)) → stands view ≡ Idle → Rests (IsQueue key) use_of_party view
   rests None is = tt
-  rests (Some v) is = tie.rests (model first) seat_of words_of Word name (Unit {0}) alone use_of_view no_fact v (ap seat_of is) (plays.idle_rests queue v.0 is)
+  rests (Some v) is = tie.rests (model key) seat_of words_of Word key.0.name T alone use_of_view (last key.0) v (ap seat_of is) (plays.idle_rests queue v.0 is)
 
-  pub may_know : (before : Watch Made) → name ≡ before.name → Named (IsQueue name first) own_ways before.name
-  may_know before = passes.may_know (IsQueue name first) own_ways name (λ n t vs is. is.0) before.name
-
-  -- after any step it knows all again, by a watch of the same trace
-  pub still_knows : (says : Says) (view view' : Option (Numbered View)) (before now : Watch Made) (name' found : ℕ) → mark_of view ≡ length before.entries → name ≡ before.name → name' ≡ name
-      → Moved (Watches (Named (IsQueue name first) own_ways before.name) before now (Told first says view) found) view' → (name' ≡ now.name) × (mark_of view' ≡ length now.entries)
-  still_knows says view None before now name' found knew named same moved = absurd moved
-  still_knows says view (Some v) before now name' found knew named same moved =
-      (same ∙ named ∙ sym (moved.0 (may_know before named)), (passes.learns (model first) seat_of words_of says (Named (IsQueue name first) own_ways before.name) view before now found v knew moved).1)
+  pub may_know : (before : Watch (Made T)) → key.0.name ≡ before.name → Named (IsQueue key) (queue_ways key) before.name
+  may_know before = passes.may_know (IsQueue key) (queue_ways key) key.0.name (λ n t vs is. is.0) before.name
 
   -- what a step tells a party that knew all up to its last step
-  pub learnt_by : (says : Says) (to : ℕ → View) (course : ℕ → Course (Unit {0}) TicketCall (Answer (Unit {0}))) → ((own : List OneMove) (outs : List Ending) (n : ℕ) (v : View) → says own outs n v → (v ≡ to n) × course n own outs)
-      → (view view' : Option (Numbered View)) (before now : Watch Made) (found : ℕ) → mark_of view ≡ length before.entries → name ≡ before.name
-      → Moved (Watches (Named (IsQueue name first) own_ways before.name) before now (Told first says view) found) view' → Learnt (model first) view view' before now (to found) (course found)
-  learnt_by says to course means view view' before now found knew same = passes.learnt (model first) seat_of words_of says to course means (Named (IsQueue name first) own_ways before.name) (may_know before same) view view' before now found knew
+  pub learnt_by : (says : Says T) (to : ℕ → View) (course : ℕ → Course T TicketCall (Answer T)) → ((own : List (OneMove T)) (outs : List (Ending T)) (n : ℕ) (v : View) → says own outs n v → (v ≡ to n) × course n own outs)
+      → (view view' : Option (Numbered View)) (before now : Watch (Made T)) (found : ℕ) → mark_of view ≡ length before.entries → key.0.name ≡ before.name
+      → Moved (Watches (Named (IsQueue key) (queue_ways key) before.name) before now (Told key says view) found) view' → Learnt (model key) view view' before now (to found) (course found)
+  learnt_by says to course means view view' before now found knew same = passes.learnt (model key) seat_of words_of says to course means (Named (IsQueue key) (queue_ways key) before.name) (may_know before same) view view' before now found knew
 
-  pub learnt : (goes_on : Bool) (c : TicketCall) (end : ℕ → Ending) (to : ℕ → View) (view view' : Option (Numbered View)) (before now : Watch Made) (found : ℕ) → mark_of view ≡ length before.entries → name ≡ before.name
-      → Moved (Watches (Named (IsQueue name first) own_ways before.name) before now (Told first (step_by goes_on c end to) view) found) view' → Learnt (model first) view view' before now (to found) (IsStep goes_on c (end found))
+  pub learnt : (goes_on : Bool) (c : TicketCall) (end : ℕ → Ending T) (to : ℕ → View) (view view' : Option (Numbered View)) (before now : Watch (Made T)) (found : ℕ) → mark_of view ≡ length before.entries → key.0.name ≡ before.name
+      → Moved (Watches (Named (IsQueue key) (queue_ways key) before.name) before now (Told key (step_by goes_on c end to) view) found) view' → Learnt (model key) view view' before now (to found) (IsStep goes_on c (end found))
   learnt on c end to = learnt_by (step_by on c end to) to (λ n. IsStep on c (end n)) (λ own outs n v said. said)
 
   -- the load of a party that releases is no move: it tells the party its own number
-  pub found_own : (number : ℕ) (view view' : Option (Numbered View)) (before now : Watch Made) (found : ℕ) (named : Type 0) → what view ≡ Some (Entered number)
-      → Moved (Watches named before now (Told first (finds_by (what view)) view) found) view' → (found < ticket_limit) × (what view' ≡ Some (Entered found))
+  pub found_own : (number : ℕ) (view view' : Option (Numbered View)) (before now : Watch (Made T)) (found : ℕ) (named : Type 0) → what view ≡ Some (Entered number)
+      → Moved (Watches named before now (Told key (finds_by (what view)) view) found) view' → (found < ticket_limit) × (what view' ≡ Some (Entered found))
   found_own number view None before now found named is moved = absurd moved
   found_own number view (Some v) before now found named is moved = let own = moved.1.4.6.0 in (omega (arith, own.0, own.1), ap Some (own.2 ∙ ap Entered (sym own.0)))
 
-  pub stood : (goes_on : Bool) (c : TicketCall) (end : ℕ → Ending) (to : ℕ → View) (view view' : Option (Numbered View)) (before now : Watch Made) (found : ℕ) (named : Type 0)
-      → Moved (Watches named before now (Told first (step_by goes_on c end to) view) found) view' → stands view' ≡ to found
-  stood on c end to view None before now found named moved = absurd moved
-  stood on c end to view (Some v) before now found named moved = moved.1.4.6.0
+  -- the load of a release keeps the value
+  pub same_shown : (view view' : Option (Numbered View)) (before after : Option T) (x : T) (n m : ℕ) → what view ≡ Some (Entered n) → what view' ≡ Some (Entered m) → before ≡ Some x → Keeps_value (queue_ways key) view view' before after → after ≡ Some x
+  same_shown view view' before after x n m is is' here kept =
+      (subst (λ (z : Use × Use × Option T). Preserves alone z.0 z.1 z.2 after) (λ i. ((sym (tie.same_use use_of_view view) ∙ ap (use_of use_of_view) is) i, (sym (tie.same_use use_of_view view') ∙ ap (use_of use_of_view) is') i, here i)) kept).0
+
+  -- the release: the value that is left is the one that the moves write
+  pub left_idle : (named : Type 0) (known now : Watch (Made T)) (before view : Option (Numbered View)) (found : ℕ) → Moved (Watches named known now (Told key serves_by before) found) view → stands view ≡ Idle
+  left_idle named known now before None found moved = absurd moved
+  left_idle named known now before (Some v) found moved = moved.1.4.6.0
+
+  module _ (view view' : Option (Numbered View)) (shown shown' : Option T) (before now : Watch (Made T)) (x : T) (moved : Moved (Watches (Named (IsQueue key) (queue_ways key) before.name) before now (Told key serves_by view) 0) view') where
+    pub leaves : (number : ℕ) → what view ≡ Some (Entered number) → shown ≡ Some x → Found (queue_ways key) view view' shown shown' now → IsLast key.0 now.entries x
+    leaves number is here known = gave key.0 (use_of use_of_party view) (use_of use_of_party view') shown shown' now.entries x known (sym (tie.same_use use_of_view view) ∙ ap (use_of use_of_view) is) (gone_off view' (left_idle (Named (IsQueue key) (queue_ways key) before.name) before now view view' 0 moved)) here where
+      gone_off : (w : Option (Numbered View)) → stands w ≡ Idle → use_of use_of_party w ≡ off
+      gone_off None e = refl
+      gone_off (Some w) e = ap use_of_view e
+
+    abbrev As : T → Type 0
+    As y = key.0.told ≡ true → y ≡ x
+
+    exactly : (w : Option (Numbered View)) → IsLast key.0 now.entries x → Moved (Watches (Named (IsQueue key) (queue_ways key) before.name) before now (Told key serves_by view) 0) w
+        → Moved (Watches (Named (IsQueue key) (queue_ways key) before.name) before now (Told key (serves_with As) view) 0) w
+    exactly None so made = absurd made
+    exactly (Some w) so (named, (log, es, known, grew, (own, outs, mine, mark, none, alike, (stays, (y, any, by))))) =
+        (named, (log, es, known, grew, (own, outs, mine, mark, none, alike, (stays, (y, wrote key.0 log es now.entries w.1 own x y grew mine (write_leaves y false Release (Answered Done None) own outs by) so, by)))))
+
+    pub released : mark_of view ≡ length before.entries → key.0.name ≡ before.name → IsLast key.0 now.entries x → Learnt (model key) view view' before now Idle (WritesSome As (IsStep false Release (Answered Done None)))
+    released knew same so = learnt_by (serves_with As) gone (λ n. WritesSome As (IsStep false Release (Answered Done None))) (λ own outs n u said. said) view view' before now 0 knew same (exactly view' so moved)
+
+  -- what a party finds that comes to hold
+  pub holder_finds : (view view' : Option (Numbered View)) (before after : Option T) (seen : Watch (Made T)) (x : T) → use_of use_of_view (what view) ≡ off → after ≡ Some x → Found (queue_ways key) view view' before after seen → IsLast key.0 seen.entries x
+  holder_finds view view' before after seen x unused is known = found key.0 (use_of use_of_party view) (use_of use_of_party view') before after seen.entries x known (sym (tie.same_use use_of_view view) ∙ unused) is
+
+-- what was written, whatever it was
+pub left_weaker : {T : Type 0} (key : Key T) (Q : T → Type 0) (view view' : Option (Numbered View)) (old new : List (Made T)) → Left key Q view old view' new → Left key (λ x. Unit {0}) view old view' new
+left_weaker key Q view view' old new = passes.weaker (model key) view view' old new (WritesSome Q (IsCall Release Done)) (WritesSome (λ x. Unit {0}) (IsCall Release Done)) (λ own outs (x, so, by). (x, tt, by))
 
 -- what a `try_lock` answers where the number that it found next is not served, or no ticket is left
-pub refused : (next n : ℕ) → is_free next n ≡ false → answers_free next n ≡ Answered Refused None
+pub refused : {T : Type 0} (next n : ℕ) → is_free next n ≡ false → answers_free {T = T} next n ≡ Answered Refused None
 refused next n busy = ap (λ b. if b then GoingOn else Answered Refused None) busy
 
 pub not_served : (next n : ℕ) → false ≡ (n == next) → is_free next n ≡ false

@@ -7,7 +7,7 @@ use denote.Param.Shared.{copy_shared}
 use denote.Struct.Field.{u64-field}
 use denote.Struct.Laws.{u64-laws, u64-copy}
 use denote.Struct.Tuple.{Tuple, tuple_laws}
-use Rattle.spin_core.proofs.TieLaws.{numbered, numbered_laws, watched, watch_laws, traced, trace_laws}
+use Rattle.spin_core.proofs.TieLaws.{numbered, numbered_laws, opened, opening_laws, traced_over, trace_over_laws}
 use Rattle.spin_model.specs.contracts.ticket.TicketCall as call
 use Rattle.spin_model.proofs.ticket.TicketCall.TheLaws as calls
 use Rattle.spin_ticket.specs.contracts.ticket.rule.View as view
@@ -20,17 +20,17 @@ words = of_field u64-field u64-laws refl (copy_shared u64-field u64-copy)
 abbrev pub Party : RattleType
 Party = numbered view.the_row
 
-abbrev pub Key : RattleType
-Key = Tuple (watched call.the_row ∷ u64 ∷ [])
+abbrev pub Key : RattleType → RattleType
+Key T = Tuple (opened T ∷ u64 ∷ [])
 
-abbrev pub Second : RattleType
-Second = traced call.the_row u64
+abbrev pub Second : RattleType → RattleType
+Second T = traced_over call.the_row T u64
 
 abbrev pub party_laws : Laws Party
 party_laws = numbered_laws view.the_row views.the_row_laws
 
-abbrev pub key_laws : Laws Key
-key_laws = tuple_laws (watched call.the_row ∷ u64 ∷ []) (watch_laws call.the_row calls.the_row_laws, (words, tt))
+abbrev pub key_laws : (T : RattleType) → Laws T → Laws (Key T)
+key_laws T laws = tuple_laws (opened T ∷ u64 ∷ []) (opening_laws T laws, (words, tt))
 
-abbrev pub second_laws : Laws Second
-second_laws = trace_laws call.the_row u64 calls.the_row_laws words
+abbrev pub second_laws : (T : RattleType) → Laws T → Laws (Second T)
+second_laws T laws = trace_over_laws call.the_row T u64 calls.the_row_laws laws words

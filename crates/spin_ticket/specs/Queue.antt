@@ -1,11 +1,13 @@
 -- The rule of a lock of tickets: its words are those of a plain lock whose tickets are those of the parties that stand, and its trace is a schedule of the lock's model, which leads there.
 use Rattle.std.specs.Prelude.{◌≡◌, ◌==◌, ℕ, ◌<◌, ◌≤◌, true, false, not, List, [], Option, Some, None, if◌then◌else◌, map}
 use Rattle.spin_step.specs.Plain.{ticket_limit, next_word, serving_word}
-use Rattle.spin_core.specs.Cell.{Use}
+use Rattle.spin_core.specs.Cell.{Use, alone, Ways}
 use Rattle.spin_core.specs.Views.{Part, idle, queues, knows_served, Encodes, used_by}
 use Rattle.spin_core.specs.Own.{Numbered, Runs, Tells}
 use Rattle.spin_core.specs.Passes as passes
-use Rattle.spin_core.specs.Passes.{Course, IsCall, step_by}
+use Rattle.spin_core.specs.Passes.{Course, IsCall, IsStep, WritesSome, Writes, step_by}
+use Rattle.spin_core.specs.Values.{last, untold}
+use Rattle.spin_core.specs.declared.tie.Opening.{Opening}
 use Rattle.spin_core.specs.declared.trace.Trace.{Trace}
 use Rattle.spin_model.specs.declared.answer.Answer.{Answer}
 use Rattle.spin_model.specs.declared.answer.Answer.TheVariants.{Granted, Refused, Is, Done}
@@ -16,7 +18,7 @@ use Rattle.spin_model.specs.declared.schedule.Move.{Move}
 use Rattle.spin_model.specs.declared.schedule.Outcome.{Outcome}
 use Rattle.spin_model.specs.declared.schedule.Outcome.TheVariants.{GoingOn, Answered}
 use Rattle.spin_model.specs.declared.ticket.TicketCall.{TicketCall}
-use Rattle.spin_model.specs.declared.ticket.TicketCall.TheVariants.{Lock, TryLock, IsLocked}
+use Rattle.spin_model.specs.declared.ticket.TicketCall.TheVariants.{Lock, TryLock, IsLocked, Release}
 use Rattle.spin_model.specs.declared.ticket.TicketPoint.{TicketPoint}
 use Rattle.spin_model.specs.declared.ticket.TicketPoint.TheVariants.{LoadNext, Take, Await, TryLoadServing, TryTake, LookNext}
 use Rattle.spin_model.specs.declared.ticket.TicketWords.{TicketWords}
@@ -51,45 +53,58 @@ seat_of (LoadedNext n) = seat.Calling TryLock (TryLoadServing n) None
 seat_of (Trying n) = seat.Calling TryLock (TryTake n) None
 seat_of (LoadedServing n) = seat.Calling IsLocked (LookNext n) None
 
--- of the lock whose first ticket has this number
-abbrev pub model : ℕ → Machine TicketWords (Unit {0}) TicketCall TicketPoint (Answer (Unit {0}))
-model first = ticket_machine tt first
-
 -- the lock's words, by the model's
 abbrev pub words_of : TicketWords → ℕ × ℕ
 words_of w = (w.next, w.serving)
 
-abbrev pub OneMove : Type 0
-OneMove = Move TicketCall (Unit {0})
+-- what is settled of a lock of values of type T when it is made: its history's name and its value, and the number of its first ticket
+abbrev pub Key : Type 0 → Type 0
+Key T = Opening T × ℕ
 
-abbrev pub Ending : Type 0
-Ending = Outcome (Answer (Unit {0})) (Unit {0})
+abbrev pub OneMove : Type 0 → Type 0
+OneMove T = Move TicketCall T
+
+abbrev pub Ending : Type 0 → Type 0
+Ending T = Outcome (Answer T) T
 
 -- an entry of the lock's trace
-abbrev pub Made : Type 0
-Made = Entry TicketCall (Unit {0})
+abbrev pub Made : Type 0 → Type 0
+Made T = Entry TicketCall T
 
 abbrev pub Word : ℕ → ℕ → List View → Type 0
 Word = Encodes part 0 next_word serving_word
-
--- of the next number, the trace with the served number, and the parties, under the name of the lock's trace and the number of its first ticket
-abbrev pub IsQueue : ℕ → ℕ → ℕ → Trace Made ℕ → List (Numbered View) → Type 0
-IsQueue name first = Runs (model first) seat_of words_of Word name
 
 -- the parties without their numbers
 abbrev pub views : List (Numbered View) → List View
 views vs = map (λ v. v.0) vs
 
-abbrev pub Says : Type 1
-Says = List OneMove → List Ending → ℕ → View → Type 0
+abbrev pub Says : Type 0 → Type 1
+Says T = List (OneMove T) → List (Ending T) → ℕ → View → Type 0
 
--- what a step tells of its moves, in the model of this first ticket
-abbrev pub Told : ℕ → Says → Option (Numbered View) → List Made → List Made → ℕ → Numbered View → Type 0
-Told first = Tells (model first) seat_of words_of
+module _ {T : Type 0} where
+  -- the model of the lock
+  abbrev pub model : Key T → Machine TicketWords T TicketCall TicketPoint (Answer T)
+  model key = ticket_machine key.0.value key.1
+
+  -- of the next number, the trace with the served number beside it, and the parties
+  abbrev pub IsQueue : Key T → ℕ → Trace (Made T) ℕ → List (Numbered View) → Type 0
+  IsQueue key = Runs (model key) seat_of words_of Word key.0.name
+
+  -- each holder has the value to itself; the value that nobody holds is the one written last
+  abbrev pub queue_ways : Key T → Ways T (Numbered View) (Trace (Made T) ℕ)
+  queue_ways key = (alone, use_of_party, last key.0)
+
+  -- the same key once the owner has borrowed the value
+  abbrev pub lent : Key T → Key T
+  lent key = (untold key.0, key.1)
+
+  -- what a step tells of its moves
+  abbrev pub Told : Key T → Says T → Option (Numbered View) → List (Made T) → List (Made T) → ℕ → Numbered View → Type 0
+  Told key = Tells (model key) seat_of words_of
 
 -- The steps: what each results in and where it leads, by the number found
 
-abbrev pub goes_on : ℕ → Ending
+abbrev pub goes_on : {T : Type 0} → ℕ → Ending T
 goes_on n = GoingOn
 
 -- the number that a view names
@@ -114,50 +129,50 @@ taken next n = if n == next then Waiting next else going n
 abbrev pub entered : ℕ → ℕ → View
 entered number n = if n == number then Entered number else Waiting number
 
-abbrev pub answers_turn : ℕ → ℕ → Ending
+abbrev pub answers_turn : {T : Type 0} → ℕ → ℕ → Ending T
 answers_turn number n = if n == number then Answered Granted None else GoingOn
 
-abbrev pub awaits_by : Option View → Says
+abbrev pub awaits_by : {T : Type 0} → Option View → Says T
 awaits_by view = let number : ℕ = number_of view in step_by true Lock (answers_turn number) (entered number)
 
 -- `try_lock` goes on where the number that it found next is served and left
 abbrev pub freed : ℕ → ℕ → View
 freed next n = if is_free next n then Trying next else Idle
 
-abbrev pub answers_free : ℕ → ℕ → Ending
+abbrev pub answers_free : {T : Type 0} → ℕ → ℕ → Ending T
 answers_free next n = if is_free next n then GoingOn else Answered Refused None
 
-abbrev pub tries_by : Option View → Says
+abbrev pub tries_by : {T : Type 0} → Option View → Says T
 tries_by view = let next : ℕ = number_of view in step_by true TryLock (answers_free next) (freed next)
 
 -- it has entered with the ticket that it expected to be next, or has none
 abbrev pub attempted : ℕ → ℕ → View
 attempted next n = if n == next then Entered next else Idle
 
-abbrev pub answers_attempt : ℕ → ℕ → Ending
+abbrev pub answers_attempt : {T : Type 0} → ℕ → ℕ → Ending T
 answers_attempt next n = if n == next then Answered Granted None else Answered Refused None
 
 abbrev pub gone : ℕ → View
 gone n = Idle
 
 -- `is_locked` found this number served, which is not above the next one
-abbrev pub answers_look : ℕ → ℕ → Ending
+abbrev pub answers_look : {T : Type 0} → ℕ → ℕ → Ending T
 answers_look served n = Answered (Is (not (n == served))) None
 
-abbrev pub compares_with : ℕ → Says
+abbrev pub compares_with : {T : Type 0} → ℕ → Says T
 compares_with served own outs n v = (served ≤ n) × step_by true IsLocked (answers_look served) gone own outs n v
 
-abbrev pub compares_by : Option View → Says
+abbrev pub compares_by : {T : Type 0} → Option View → Says T
 compares_by view = compares_with (number_of view)
 
 -- the load of a party that releases is no move: it finds the number of the party's own ticket, which the model's `release` knows
-abbrev pub finds : ℕ → Says
+abbrev pub finds : {T : Type 0} → ℕ → Says T
 finds number own outs n v = ((n ≡ number) × (number < ticket_limit) × (v ≡ Entered number)) × (own ≡ []) × (outs ≡ [])
 
-abbrev pub finds_by : Option View → Says
+abbrev pub finds_by : {T : Type 0} → Option View → Says T
 finds_by view = finds (number_of view)
 
-abbrev pub answers_release : ℕ → Ending
+abbrev pub answers_release : {T : Type 0} → ℕ → Ending T
 answers_release n = Answered Done None
 
 -- it is in no call, and holds nothing
@@ -171,10 +186,22 @@ abbrev pub stands : Option (Numbered View) → View
 stands None = Idle
 stands (Some v) = v.0
 
--- Of a pass of a lock with this first ticket: since it knew `old` it has made moves of this course, and no others
-abbrev pub Moves : ℕ → Course (Unit {0}) TicketCall (Answer (Unit {0})) → Option (Numbered View) → List Made → Option (Numbered View) → List Made → Type 0
-Moves first course view old view' new = passes.Made (model first) view old view' new course
+-- the store that releases the lock: the holder writes the value that it leaves, one of which this holds
+abbrev pub serves_with : {T : Type 0} → (T → Type 0) → Says T
+serves_with Q own outs n v = (v ≡ Idle) × WritesSome Q (IsStep false Release (answers_release n)) own outs
 
--- it has made exactly this call, with this answer
-abbrev pub Called : ℕ → TicketCall → Answer (Unit {0}) → Option (Numbered View) → List Made → Option (Numbered View) → List Made → Type 0
-Called first c a = Moves first (IsCall c a)
+abbrev pub serves_by : {T : Type 0} → Says T
+serves_by = serves_with (λ x. Unit {0})
+
+module _ {T : Type 0} where
+  -- Of a pass: since it knew `old` it has made moves of this course, and no others
+  abbrev pub Moves : Key T → Course T TicketCall (Answer T) → Option (Numbered View) → List (Made T) → Option (Numbered View) → List (Made T) → Type 0
+  Moves key course view old view' new = passes.Made (model key) view old view' new course
+
+  -- it has made exactly this call, with this answer
+  abbrev pub Called : Key T → TicketCall → Answer T → Option (Numbered View) → List (Made T) → Option (Numbered View) → List (Made T) → Type 0
+  Called key c a = Moves key (IsCall c a)
+
+  -- it has written a value of which this holds, and then made the release
+  abbrev pub Left : Key T → (T → Type 0) → Option (Numbered View) → List (Made T) → Option (Numbered View) → List (Made T) → Type 0
+  Left key Q = Moves key (WritesSome Q (IsCall Release Done))

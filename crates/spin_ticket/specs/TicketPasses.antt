@@ -1,16 +1,16 @@
 -- What a pass knows: the lock's history so far, and which moves in it are its own.
 use Rattle.std.specs.Prelude.{◌≡◌, ℕ, Bool, Option, List}
 use Rattle.spin_core.specs.Own.{Numbered}
-use Rattle.spin_model.specs.declared.answer.Answer.TheVariants.{Granted, Is, Done}
-use Rattle.spin_model.specs.declared.ticket.TicketCall.TheVariants.{Lock, IsLocked, Release}
-use Rattle.spin_ticket.specs.Queue.{Made, Called}
+use Rattle.spin_model.specs.declared.answer.Answer.TheVariants.{Granted, Is}
+use Rattle.spin_model.specs.declared.ticket.TicketCall.TheVariants.{Lock, IsLocked}
+use Rattle.spin_ticket.specs.Queue.{Key, Made, Called, Left}
 use Rattle.spin_ticket.specs.declared.ticket.TicketMutex.{TicketMutex}
 use Rattle.spin_ticket.specs.declared.ticket.pass.Pass.{Pass}
 use Rattle.spin_ticket.specs.declared.ticket.rule.View.{View}
 
 module _ {T R : Type 0} where
   -- all moves in the lock up to the pass's last step
-  abbrev pub history : Pass T R → List Made
+  abbrev pub history : Pass T R → List (Made T)
   history it = it.seen.entries
 
   -- the name of the history of a lock, and of the lock of a pass
@@ -27,6 +27,13 @@ module _ {T R : Type 0} where
   abbrev pub first_of : Pass T R → ℕ
   first_of it = it.permit.key.1
 
+  -- what was settled when a lock was made, and of the lock of a pass
+  abbrev pub opening : TicketMutex T R → Key T
+  opening lock = lock.cell
+
+  abbrev pub opening_of : Pass T R → Key T
+  opening_of it = it.permit.key
+
   -- the party of the pass: none before its first call
   abbrev pub party : Pass T R → Option (Numbered View)
   party it = it.permit.view
@@ -36,10 +43,10 @@ module _ {T R : Type 0} where
 
   -- since then the pass has looked once, and was told this
   abbrev pub Looked : Bool → Pass T R → Pass T R → Type 0
-  Looked set before now = Called (first_of before) IsLocked (Is set) (party before) (history before) (party now) (history now)
+  Looked set before now = Called (opening_of before) IsLocked (Is set) (party before) (history before) (party now) (history now)
 
-  -- since then the pass has acquired the lock and released it, once
+  -- since then the pass has acquired the lock and released it, once; it left a value
   abbrev pub HeldOnce : Pass T R → Pass T R → Type 0
   HeldOnce before now =
-      (view : Option (Numbered View)) × (seen : List Made) × (first : ℕ) × (first ≡ first_of before) × Called (first_of before) Lock Granted (party before) (history before) view seen
-      × Called first Release Done view seen (party now) (history now)
+      (view : Option (Numbered View)) × (seen : List (Made T)) × (key : Key T) × (key ≡ opening_of before) × Called (opening_of before) Lock Granted (party before) (history before) view seen
+      × Left key (λ x. Unit {0}) view seen (party now) (history now)

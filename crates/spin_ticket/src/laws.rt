@@ -5,7 +5,7 @@ ghost use Rattle.spin_step.specs.Plain.{Plain};
 ghost use Rattle.spin_core.specs.Own.{Numbered, IsRun};
 ghost use Rattle.spin_core.specs.declared.trace.Trace.{Trace};
 ghost use Rattle.spin_ticket.specs.declared.ticket.rule.View.{View};
-ghost use Rattle.spin_ticket.specs.Queue.{IsQueue, Made, views, model, seat_of, words_of};
+ghost use Rattle.spin_ticket.specs.Queue.{Key, IsQueue, Made, views, model, seat_of, words_of};
 ghost use Rattle.spin_ticket.specs.TicketQueue.{IsInTurn, IsPlainQueue};
 
 /// States that the two words of a `TicketMutex` encode a plain lock, whose tickets are those of its parties.
@@ -13,8 +13,8 @@ ghost use Rattle.spin_ticket.specs.TicketQueue.{IsInTurn, IsPlainQueue};
 /// # Contract
 /// Where the rule holds (`IsQueue`), there is a plain lock with that next number and that served number. In it each
 /// party has just the ticket that its view names (`IsPlainQueue`).
-pub fn the_words_of_a_ticket_mutex_are_its_queue()
-    ensures { (name first next : ℕ) (trace : Trace Made ℕ) (parties : List (Numbered View)) → IsQueue name first next trace parties → (s : Plain) × IsPlainQueue s next trace.word (views parties) }
+pub fn the_words_of_a_ticket_mutex_are_its_queue<T>()
+    ensures { (key : Key T) (next : ℕ) (trace : Trace (Made T) ℕ) (parties : List (Numbered View)) → IsQueue key next trace parties → (s : Plain) × IsPlainQueue s next trace.word (views parties) }
 {}
 
 /// States that the parties of a `TicketMutex` enter in the order of their tickets.
@@ -22,8 +22,8 @@ pub fn the_words_of_a_ticket_mutex_are_its_queue()
 /// # Contract
 /// Where the rule holds (`IsQueue`), one party has each number from the served one up to the next one. Only the party
 /// with the served number has entered (`IsInTurn`).
-pub fn the_parties_of_a_ticket_mutex_enter_in_turn()
-    ensures { (name first next : ℕ) (trace : Trace Made ℕ) (parties : List (Numbered View)) → IsQueue name first next trace parties → IsInTurn next trace.word (views parties) }
+pub fn the_parties_of_a_ticket_mutex_enter_in_turn<T>()
+    ensures { (key : Key T) (next : ℕ) (trace : Trace (Made T) ℕ) (parties : List (Numbered View)) → IsQueue key next trace parties → IsInTurn next trace.word (views parties) }
 {}
 
 /// Each run of a [`TicketMutex`](crate::ticket::TicketMutex) on threads is a schedule of its model.
@@ -35,6 +35,6 @@ pub fn the_parties_of_a_ticket_mutex_enter_in_turn()
 /// Whatever holds between any two steps of threads (`IsQueue`): no move of the list is passed over in the model, which
 /// opens with the lock's first ticket. After the list the model has the lock's two words, and has each party where the
 /// lock has it.
-pub fn every_run_of_a_ticket_mutex_is_a_schedule()
-    ensures { (name first next : ℕ) (trace : Trace Made ℕ) (parties : List (Numbered View)) → IsQueue name first next trace parties → IsRun (model first) seat_of words_of trace.entries (next, trace.word) parties }
+pub fn every_run_of_a_ticket_mutex_is_a_schedule<T>()
+    ensures { (key : Key T) (next : ℕ) (trace : Trace (Made T) ℕ) (parties : List (Numbered View)) → IsQueue key next trace parties → IsRun (model key) seat_of words_of trace.entries (next, trace.word) parties }
 {}

@@ -1,5 +1,5 @@
 //! A spinning mutex that serves the threads in the order of their tickets. Begin at [`TicketMutex::lock`].
-ghost use Rattle.std.specs.Prelude.{◌≤◌, Option, IfSome};
+ghost use Rattle.std.specs.Prelude.{◌≡◌, ◌≤◌, Option, IfSome, true};
 ghost use Rattle.std.specs.Fmt.{DisplaysOnOk};
 ghost use Rattle.spin_core.specs.Guard.{IsHolder};
 ghost use Rattle.spin_core.specs.Texts.{lock_text};
@@ -10,6 +10,7 @@ use spin_core::guard::{self, Guard};
 use spin_core::lock::{Lock, with_guard};
 use spin_core::relax::{RelaxStrategy, Spin, Strategy};
 use spin_core::texts::write_lock;
+use spin_core::tie::Opening;
 use spin_core::trace::Trace;
 use std::fmt::{self, Debug, Formatter};
 use std::sync::Wait;
@@ -68,15 +69,19 @@ impl<T, R> TicketMutex<T, R> {
     /// Creates an unlocked mutex that holds `value`.
     ///
     /// # Contract
-    /// No clause. The call returns.
-    pub fn new(value: T) -> Self {
+    /// The lock's history begins with this value (`opens`). The call returns.
+    pub fn new(value: T) -> Self
+        ensures opens { (result.cell.0.value ≡ value) × (result.cell.0.told ≡ true) }
+    {
         Self::starting_at(value, 0)
     }
 
     // Creates an unlocked mutex whose first ticket has the number `first`.
-    pub(crate) fn starting_at(value: T, first: u64) -> Self {
+    pub(crate) fn starting_at(value: T, first: u64) -> Self
+        ensures opens { (result.cell.0.value ≡ value) × (result.cell.0.told ≡ true) }
+    {
         let trace = Trace::new(first);
-        let start = (trace.watch(), first);
+        let start = (Opening::of(&trace, &value), first);
         TicketMutex {
             cell: Cell::new(value, first, trace, &start),
             strategy: Strategy::named(),

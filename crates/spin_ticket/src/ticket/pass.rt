@@ -1,15 +1,16 @@
 //! The calls of a [`TicketMutex`] by a thread that keeps account of them. Begin at [`TicketMutex::pass`].
-ghost use Rattle.std.specs.Prelude.{◌≡◌, ◌⊎◌, ◌≤◌, not, Some, None, [], ◌==◌, length, IfOk, IfErr};
+ghost use Rattle.std.specs.Prelude.{◌≡◌, ◌⊎◌, ◌≤◌, not, true, Some, None, [], ◌==◌, length, IfOk, IfErr};
 ghost use mathlib.Core.List.{IsPrefix};
-ghost use Rattle.spin_core.specs.Guard.{IsHolder, guard_view, guard_key};
+ghost use Rattle.spin_core.specs.Guard.{IsHolder, guard_view, guard_key, guard_value};
 ghost use Rattle.spin_core.specs.Own.{what};
 ghost use Rattle.spin_core.specs.Passes.{mark_of, Begins, Waits};
-ghost use Rattle.spin_ticket.specs.Queue.{use_of_party, stands, IsOut, Moves, Called};
+ghost use Rattle.spin_core.specs.Values.{IsLast};
+ghost use Rattle.spin_ticket.specs.Queue.{use_of_party, stands, IsOut, Moves, Called, Left};
 ghost use Rattle.spin_ticket.specs.Guards.{Holds};
-ghost use Rattle.spin_ticket.specs.Waits.{GoesFor, Queues, Enters, IsGranted};
+ghost use Rattle.spin_ticket.specs.Waits.{GoesFor, Enters};
 ghost use Rattle.spin_ticket.specs.declared.ticket.rule.View.TheVariants.{Idle};
-ghost use Rattle.spin_model.specs.declared.answer.Answer.TheVariants.{Granted, Refused, Is, Done as Released};
-ghost use Rattle.spin_model.specs.declared.ticket.TicketCall.TheVariants.{Lock, TryLock, IsLocked, Release};
+ghost use Rattle.spin_model.specs.declared.answer.Answer.TheVariants.{Granted, Refused, Is};
+ghost use Rattle.spin_model.specs.declared.ticket.TicketCall.TheVariants.{Lock, TryLock, IsLocked};
 
 use super::rule::{
     Await, Entry, FindOwn, LoadNext, LookNext, LookServing, Party, Serve, Take, TicketRule,
@@ -19,7 +20,7 @@ use super::waiting::{Going, Grant, Place};
 use super::{HINTS_EACH, TicketMutex, TicketMutexGuard};
 use spin_core::cell::Permit;
 use spin_core::guard::Guard;
-use spin_core::relax::{MAX_HINTS, RelaxStrategy};
+use spin_core::relax::{Loop, MAX_HINTS, RelaxStrategy};
 use spin_core::trace::Watch;
 use spin_step::ticket;
 use std::marker::PhantomData;
@@ -49,7 +50,7 @@ use std::sync::Wait;
 #[must_use = "a pass that is dropped ends: bind it, or write `drop(..)`"]
 pub struct Pass<'a, T, R> {
     permit: Permit<'a, T, Party, TicketRule>,
-    seen: Watch<Entry>,
+    seen: Watch<Entry<T>>,
     strategy: PhantomData<R>,
     ghost named: { permit.key.0.name ≡ seen.name },
     ghost rests: { stands permit.view ≡ Idle },
@@ -63,7 +64,7 @@ impl<T, R> TicketMutex<T, R> {
     /// The pass is of this lock (`lock`), and knows nothing of its history yet (`new`).
     pub fn pass(&self) -> Pass<'_, T, R>
         ensures new { (result.seen.entries ≡ []) × (result.permit.view ≡ None) }
-        ensures lock { (result.seen.name ≡ self.now.cell.0.name) × (result.permit.key.1 ≡ self.now.cell.1) }
+        ensures lock { (result.seen.name ≡ self.now.cell.0.name) × (result.permit.key ≡ self.now.cell) }
     {
         Pass {
             permit: self.cell.enter(),
@@ -77,12 +78,15 @@ impl<T, R> TicketMutex<T, R> {
     /// A guard that is dropped releases the lock too, and ends its pass.
     ///
     /// # Contract
-    /// `seen` has to be what [`Pass::lock`] or [`Pass::try_lock`] returned with the guard (`Holds`). The call is in
-    /// the history, as the pass's next one (`made`).
-    pub fn unlock<'a>(guard: TicketMutexGuard<'a, T, R>, seen: Watch<Entry>) -> Pass<'a, T, R>
+    /// `seen` has to be what [`Pass::lock`] or [`Pass::try_lock`] returned beside the guard (`Holds`). The pass makes the
+    /// call, as its next one, behind a write (`made`): it writes the guard's value into the history (`wrote`). So that
+    /// value is the one written last (`left`).
+    pub fn unlock<'a>(guard: TicketMutexGuard<'a, T, R>, seen: Watch<Entry<T>>) -> Pass<'a, T, R>
         requires { Holds guard seen }
-        ensures made { Called (guard_key guard.entry).1 Release Released (Some (guard_view guard.entry)) seen.entries result.permit.view result.seen.entries }
-        ensures same { (result.seen.name ≡ seen.name) × (result.permit.key.1 ≡ (guard_key guard.entry).1) }
+        ensures made { Left (guard_key guard.entry) (λ x. Unit {0}) (Some (guard_view guard.entry)) seen.entries result.permit.view result.seen.entries }
+        ensures wrote { Left (guard_key guard.entry) (λ x. (guard_key guard.entry).0.told ≡ true → x ≡ guard_value guard.entry) (Some (guard_view guard.entry)) seen.entries result.permit.view result.seen.entries }
+        ensures left { IsLast (guard_key guard.entry).0 result.seen.entries (guard_value guard.entry) }
+        ensures same { (result.seen.name ≡ seen.name) × (result.permit.key ≡ guard_key guard.entry) }
     {
         let permit = Guard::into_writer(guard).into_permit();
         let (number, permit, seen) = permit.load_second::<FindOwn>(seen);
@@ -100,12 +104,14 @@ impl<'a, T, R: RelaxStrategy> Pass<'a, T, R> {
     ///
     /// # Contract
     /// The call is one `Lock` with the answer `Granted`, however often it looked and tried (`made`). The guard belongs
-    /// to a holder of the lock. Whether and when the call returns is not promised.
-    pub fn lock<W: Wait>(self, rt: &W) -> (TicketMutexGuard<'a, T, R>, Watch<Entry>)
+    /// to a holder of the lock, and its value is the one written last in the history (`found`). Whether and when the call
+    /// returns is not promised.
+    pub fn lock<W: Wait>(self, rt: &W) -> (TicketMutexGuard<'a, T, R>, Watch<Entry<T>>)
         ensures holder { IsHolder use_of_party result.0 }
         ensures holds { Holds result.0 result.1 }
-        ensures same { (result.1.name ≡ self.entry.seen.name) × ((guard_key result.0).1 ≡ self.entry.permit.key.1) }
-        ensures made { Called self.entry.permit.key.1 Lock Granted self.entry.permit.view self.entry.seen.entries (Some (guard_view result.0)) result.1.entries }
+        ensures same { (result.1.name ≡ self.entry.seen.name) × (guard_key result.0 ≡ self.entry.permit.key) }
+        ensures found { IsLast self.entry.permit.key.0 result.1.entries (guard_value result.0) }
+        ensures made { Called self.entry.permit.key Lock Granted self.entry.permit.view self.entry.seen.entries (Some (guard_view result.0)) result.1.entries }
     {
         let Self {
             permit,
@@ -114,11 +120,11 @@ impl<'a, T, R: RelaxStrategy> Pass<'a, T, R> {
         } = self;
         let place = match go(permit, seen).take() {
             Ok(place) => place,
-            Err(going) => going.wait(rt),
+            Err(going) => Loop::retry(rt, going, Going::take),
         };
         let Grant { writer, seen } = match place.enter() {
             Ok(grant) => grant,
-            Err(place) => place.wait::<R, W>(rt),
+            Err(place) => R::retry_after(rt, place, Place::pause, Place::enter),
         };
         (Guard::new(writer), seen)
     }
@@ -128,12 +134,14 @@ impl<'a, T, R> Pass<'a, T, R> {
     /// Tries to acquire the lock as [`TicketMutex::try_lock`] does. Returns the pass at once if the lock is held.
     ///
     /// # Contract
-    /// The call is one `TryLock`, with the answer `Granted` and a guard (`granted`), or else `Refused` (`refused`).
-    pub fn try_lock(self) -> Result<(TicketMutexGuard<'a, T, R>, Watch<Entry>), Pass<'a, T, R>>
+    /// The call is one `TryLock`, with the answer `Granted` beside a guard (`granted`), and else `Refused` (`refused`).
+    /// The guard's value is the one written last in the history (`found`).
+    pub fn try_lock(self) -> Result<(TicketMutexGuard<'a, T, R>, Watch<Entry<T>>), Pass<'a, T, R>>
         ensures holder { IfOk result (λ held. IsHolder use_of_party held.0 × Holds held.0 held.1) }
-        ensures same { IfOk result (λ held. (held.1.name ≡ self.entry.seen.name) × ((guard_key held.0).1 ≡ self.entry.permit.key.1)) }
-        ensures granted { IfOk result (λ held. Called self.entry.permit.key.1 TryLock Granted self.entry.permit.view self.entry.seen.entries (Some (guard_view held.0)) held.1.entries) }
-        ensures refused { IfErr result (λ pass. Called self.entry.permit.key.1 TryLock Refused self.entry.permit.view self.entry.seen.entries pass.permit.view pass.seen.entries × ((pass.seen.name ≡ self.entry.seen.name) × (pass.permit.key.1 ≡ self.entry.permit.key.1))) }
+        ensures same { IfOk result (λ held. (held.1.name ≡ self.entry.seen.name) × (guard_key held.0 ≡ self.entry.permit.key)) }
+        ensures found { IfOk result (λ held. IsLast self.entry.permit.key.0 held.1.entries (guard_value held.0)) }
+        ensures granted { IfOk result (λ held. Called self.entry.permit.key TryLock Granted self.entry.permit.view self.entry.seen.entries (Some (guard_view held.0)) held.1.entries) }
+        ensures refused { IfErr result (λ pass. Called self.entry.permit.key TryLock Refused self.entry.permit.view self.entry.seen.entries pass.permit.view pass.seen.entries × ((pass.seen.name ≡ self.entry.seen.name) × (pass.permit.key ≡ self.entry.permit.key))) }
     {
         let Self {
             permit,
@@ -173,8 +181,8 @@ impl<'a, T, R> Pass<'a, T, R> {
     /// # Contract
     /// The call is one `IsLocked`, with the answer that is returned (`made`).
     pub fn is_locked(self) -> (bool, Pass<'a, T, R>)
-        ensures made { Called self.entry.permit.key.1 IsLocked (Is result.0) self.entry.permit.view self.entry.seen.entries result.1.permit.view result.1.seen.entries }
-        ensures same { (result.1.seen.name ≡ self.entry.seen.name) × (result.1.permit.key.1 ≡ self.entry.permit.key.1) }
+        ensures made { Called self.entry.permit.key IsLocked (Is result.0) self.entry.permit.view self.entry.seen.entries result.1.permit.view result.1.seen.entries }
+        ensures same { (result.1.seen.name ≡ self.entry.seen.name) × (result.1.permit.key ≡ self.entry.permit.key) }
     {
         let (serving, next, pass) = self.look();
         (!ticket::is_turn(serving, next), pass)
@@ -183,8 +191,8 @@ impl<'a, T, R> Pass<'a, T, R> {
     // Makes the steps of `is_locked`. Returns the number that is served, and then the next one.
     pub(super) fn look(self) -> (u64, u64, Pass<'a, T, R>)
         ensures order { result.0 ≤ result.1 }
-        ensures made { Called self.entry.permit.key.1 IsLocked (Is (not (result.1 == result.0))) self.entry.permit.view self.entry.seen.entries result.2.permit.view result.2.seen.entries }
-        ensures same { (result.2.seen.name ≡ self.entry.seen.name) × (result.2.permit.key.1 ≡ self.entry.permit.key.1) }
+        ensures made { Called self.entry.permit.key IsLocked (Is (not (result.1 == result.0))) self.entry.permit.view self.entry.seen.entries result.2.permit.view result.2.seen.entries }
+        ensures same { (result.2.seen.name ≡ self.entry.seen.name) × (result.2.permit.key ≡ self.entry.permit.key) }
     {
         let Self {
             permit,
@@ -221,11 +229,11 @@ impl<'a, T, R> Pass<'a, T, R> {
 // Begins a call of `lock`.
 pub(super) fn go<'a, T>(
     permit: Permit<'a, T, Party, TicketRule>,
-    seen: Watch<Entry>,
+    seen: Watch<Entry<T>>,
 ) -> Going<'a, T>
     requires { IsOut (what permit.view) × (permit.key.0.name ≡ seen.name) × (mark_of permit.view ≡ length seen.entries) }
-    ensures same { (result.seen.name ≡ seen.name) × (result.permit.key.1 ≡ permit.entry.key.1) }
-    ensures made { Moves permit.entry.key.1 (Begins Lock Waits) permit.entry.view seen.entries result.permit.view result.seen.entries }
+    ensures same { (result.seen.name ≡ seen.name) × (result.permit.key ≡ permit.entry.key) }
+    ensures made { Moves permit.entry.key (Begins Lock Waits) permit.entry.view seen.entries result.permit.view result.seen.entries }
 {
     let (number, permit, seen) = permit.load::<LoadNext>(seen);
     Going {
@@ -236,22 +244,6 @@ pub(super) fn go<'a, T>(
 }
 
 impl<'a, T> Going<'a, T> {
-    // Tries again until it has a ticket, as `retry` of `Loop` does.
-    #[cold]
-    #[inline(never)]
-    fn wait<W: Wait>(self, rt: &W) -> Place<'a, T>
-        ensures { Queues self.entry result }
-    {
-        let mut going = self;
-        for _ in rt.forever() {
-            match going.take() {
-                Ok(place) => return place,
-                Err(next) => going = next,
-            }
-        }
-        unreachable!()
-    }
-
     // Takes the ticket. `Err` goes for the number that was found in its place, which is the same once the tickets are
     // used up.
     pub(super) fn take(self) -> Result<Place<'a, T>, Going<'a, T>>
@@ -288,23 +280,6 @@ impl<'a, T> Going<'a, T> {
 }
 
 impl<'a, T> Place<'a, T> {
-    // Pauses and looks again until its number is served, as `retry_after` of `R` does.
-    #[cold]
-    #[inline(never)]
-    fn wait<R: RelaxStrategy, W: Wait>(self, rt: &W) -> Grant<'a, T>
-        ensures { IsGranted self.entry result }
-    {
-        let mut place = self;
-        for _ in rt.forever() {
-            R::pause(rt, place.pause());
-            match place.enter() {
-                Ok(grant) => return grant,
-                Err(next) => place = next,
-            }
-        }
-        unreachable!()
-    }
-
     // The next thread in turn looks again after one hint. One with others before it looks seldom, so that it does not
     // disturb them.
     pub(super) fn pause(&self) -> u32 {

@@ -1,15 +1,15 @@
 //! What a party is to a `TicketMutex`, and what the two words of the lock say of its parties. Begin at [`TicketRule`].
 ghost use Rattle.std.specs.Prelude.{true, false, refl};
-ghost use Rattle.spin_core.specs.Cell.{alone, no_fact, use_of};
+ghost use Rattle.spin_core.specs.Cell.{use_of};
 ghost use Rattle.spin_core.specs.Own.{what};
 ghost use Rattle.spin_core.specs.Passes.{step_by};
-ghost use Rattle.spin_model.specs.declared.ticket.TicketCall.TheVariants.{Lock, TryLock, IsLocked, Release};
-ghost use Rattle.spin_ticket.specs.Queue.{IsQueue, Told, use_of_party, goes_on, going, taken, awaits_by, tries_by, attempted, answers_attempt, gone, compares_by, finds_by, answers_release};
+ghost use Rattle.spin_model.specs.declared.ticket.TicketCall.TheVariants.{Lock, TryLock, IsLocked};
+ghost use Rattle.spin_ticket.specs.Queue.{IsQueue, Told, queue_ways, lent as lent_key, serves_by, use_of_party, goes_on, going, taken, awaits_by, tries_by, attempted, answers_attempt, compares_by, finds_by};
 ghost use Rattle.spin_ticket.specs.declared.ticket.rule.View.TheVariants.{Idle, LoadedNext, LoadedServing};
 
 use spin_core::cell::{Play, Rule, WritePermit};
 use spin_core::guard::{self, Uses};
-use spin_core::tie;
+use spin_core::tie::{self, Opening};
 use spin_core::trace::{Trace, Watch};
 use spin_model::TicketCall;
 use spin_step::ticket;
@@ -39,101 +39,102 @@ pub enum View {
 /// # Contract
 /// `IsQueue`: the words are those of a plain lock whose tickets are those of the parties that wait or have entered. The
 /// trace is a schedule of the lock's model, which leads to these words, with each party in the seat that its view
-/// names.
+/// names. The value that nobody holds is the one that this schedule writes last (`IsLast`), until the owner borrows it.
 pub struct TicketRule;
 
 impl<T> Rule<T, Party> for TicketRule {
-    type Key = Key;
+    type Key = Key<T>;
 
-    // The trace, and the number that is served.
-    type Second = Trace<Entry, u64>;
+    // The trace, and beside it the number that is served.
+    type Second = Trace<Entry<T>, u64>;
 
-    ghost holds = { λ start. IsQueue start.0.name start.1 };
+    ghost holds = { IsQueue };
 
-    ghost ways = { λ _. (alone, use_of_party, no_fact) };
+    ghost ways = { queue_ways };
 
-    ghost lent = { λ key. key };
+    ghost lent = { lent_key };
 }
 
-/// What is known of the lock's trace at first, its name, and the number of the first ticket.
-pub(super) type Key = (Watch<Entry>, u64);
+/// What is settled of a lock when it is made: the name of its trace and the value that it opens with, and the number of
+/// its first ticket.
+pub(super) type Key<T> = (Opening<T>, u64);
 
 /// A party with its number.
 pub type Party = tie::Numbered<View>;
 
-/// An entry of the lock's trace.
-pub type Entry = tie::Entry<TicketCall>;
+/// An entry of the trace of a lock of values of type `T`.
+pub type Entry<T> = tie::Entry<TicketCall, T>;
 
 /// The load of the next number with which `lock` begins.
 pub(super) struct LoadNext;
 
-impl Play<Key, Party, Entry> for LoadNext {
-    ghost told = { λ key old new before. Told key.1 (step_by false Lock goes_on going) before };
+impl<T> Play<Key<T>, Party, Entry<T>> for LoadNext {
+    ghost told = { λ key old new before. Told key (step_by false Lock goes_on going) before };
 }
 
 /// The compare-exchange of `lock`: the party takes the ticket that it expected to be next, and waits with it. Else it
 /// goes for the number that it found.
 pub(super) struct Take;
 
-impl Play<Key, Party, Entry> for Take {
-    ghost told = { λ key old new before. Told key.1 (step_by true Lock goes_on (taken old)) before };
+impl<T> Play<Key<T>, Party, Entry<T>> for Take {
+    ghost told = { λ key old new before. Told key (step_by true Lock goes_on (taken old)) before };
 }
 
 /// The load of the number that is served, of a party that waits. It has entered if that is its own.
 pub(super) struct Await;
 
-impl Play<Key, Party, Entry> for Await {
-    ghost told = { λ key old new before. Told key.1 (awaits_by (what before)) before };
+impl<T> Play<Key<T>, Party, Entry<T>> for Await {
+    ghost told = { λ key old new before. Told key (awaits_by (what before)) before };
 }
 
 /// The load of the next number with which `try_lock` begins.
 pub(super) struct TryLoadNext;
 
-impl Play<Key, Party, Entry> for TryLoadNext {
-    ghost told = { λ key old new before. Told key.1 (step_by false TryLock goes_on LoadedNext) before };
+impl<T> Play<Key<T>, Party, Entry<T>> for TryLoadNext {
+    ghost told = { λ key old new before. Told key (step_by false TryLock goes_on LoadedNext) before };
 }
 
 /// The load of the number that is served, of `try_lock`. It goes on if that is the one that it found next.
 pub(super) struct TryLoadServing;
 
-impl Play<Key, Party, Entry> for TryLoadServing {
-    ghost told = { λ key old new before. Told key.1 (tries_by (what before)) before };
+impl<T> Play<Key<T>, Party, Entry<T>> for TryLoadServing {
+    ghost told = { λ key old new before. Told key (tries_by (what before)) before };
 }
 
 /// The compare-exchange of `try_lock`: the party takes the ticket that it expected to be next, and has entered with it.
 pub(super) struct TryTake;
 
-impl Play<Key, Party, Entry> for TryTake {
-    ghost told = { λ key old new before. Told key.1 (step_by true TryLock (answers_attempt old) (attempted old)) before };
+impl<T> Play<Key<T>, Party, Entry<T>> for TryTake {
+    ghost told = { λ key old new before. Told key (step_by true TryLock (answers_attempt old) (attempted old)) before };
 }
 
 /// The load of the number that is served with which `is_locked` begins.
 pub(super) struct LookServing;
 
-impl Play<Key, Party, Entry> for LookServing {
-    ghost told = { λ key old new before. Told key.1 (step_by false IsLocked goes_on LoadedServing) before };
+impl<T> Play<Key<T>, Party, Entry<T>> for LookServing {
+    ghost told = { λ key old new before. Told key (step_by false IsLocked goes_on LoadedServing) before };
 }
 
 /// The load of the next number, of `is_locked`.
 pub(super) struct LookNext;
 
-impl Play<Key, Party, Entry> for LookNext {
-    ghost told = { λ key old new before. Told key.1 (compares_by (what before)) before };
+impl<T> Play<Key<T>, Party, Entry<T>> for LookNext {
+    ghost told = { λ key old new before. Told key (compares_by (what before)) before };
 }
 
 /// The load of a party that releases: it finds the number of its own ticket. It is no move of the model, whose parties
 /// know the numbers of their tickets.
 pub(super) struct FindOwn;
 
-impl Play<Key, Party, Entry> for FindOwn {
-    ghost told = { λ key old new before. Told key.1 (finds_by (what before)) before };
+impl<T> Play<Key<T>, Party, Entry<T>> for FindOwn {
+    ghost told = { λ key old new before. Told key (finds_by (what before)) before };
 }
 
 /// The store that releases the lock.
 pub(super) struct Serve;
 
-impl Play<Key, Party, Entry> for Serve {
-    ghost told = { λ key old new before. Told key.1 (step_by false Release answers_release gone) before };
+impl<T> Play<Key<T>, Party, Entry<T>> for Serve {
+    ghost told = { λ key old new before. Told key serves_by before };
 }
 
 impl Uses<Party> for TicketRule {

@@ -6,5 +6,5 @@ use Rattle.spin_threads.proofs.Moments.{found}
 use Rattle.spin_threads.proofs.answers.a_look_at_a_ticket_mutex_was_so_at_a_moment.Goals as goal
 
 pub returns : goal.returns
-returns g first held =
-    found (model first) (ticket_keeping tt first) (ticket_facts tt first) (λ p s. is_held s ≡ held) (λ h p span some. some) (λ p l h seen call is. is)
+returns g c = λ key held.
+    found (model key) (ticket_keeping key.0.value key.1) (ticket_facts key.0.value key.1) (λ p s. is_held s ≡ held) (λ h p span some. some) (λ p l h seen call is. is)

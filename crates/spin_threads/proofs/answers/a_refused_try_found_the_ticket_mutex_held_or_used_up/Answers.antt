@@ -11,5 +11,5 @@ kept_out : (s : Plain) (p : ℕ) → is_open_to s p to_take_and_enter ≡ false 
 kept_out s p closed = grind (arith, closed)
 
 pub returns : goal.returns
-returns g first =
-    found (model first) (ticket_keeping tt first) (ticket_facts tt first) (λ p s. is_open_to s p to_take_and_enter ≡ false) (λ h p span some. some) (λ p l h seen call closed. kept_out seen.plain p closed)
+returns g c = λ key.
+    found (model key) (ticket_keeping key.0.value key.1) (ticket_facts key.0.value key.1) (λ p s. is_open_to s p to_take_and_enter ≡ false) (λ h p span some. some) (λ p l h seen call closed. kept_out seen.plain p closed)

@@ -4,4 +4,4 @@ use Rattle.spin_threads.proofs.Between.{between}
 use Rattle.spin_threads.proofs.laws.between_any_two_steps_of_a_ticket_mutex.Goals as goal
 
 pub returns : goal.returns
-returns g = λ name first next trace parties is. between (model first) seat_of words_of (ticket_keeping tt first) (ticket_facts tt first) trace.entries (next, trace.word) parties is.2
+returns g c = λ key next trace parties is. between (model key) seat_of words_of (ticket_keeping key.0.value key.1) (ticket_facts key.0.value key.1) trace.entries (next, trace.word) parties is.2

@@ -4,4 +4,4 @@ use Rattle.spin_threads.proofs.Counts.{keeps_limits}
 use Rattle.spin_threads.proofs.limits.a_call_of_a_ticket_mutex_keeps_its_limit.Goals as goal
 
 pub returns : goal.returns
-returns g first = keeps_limits (model first) (ticket_keeping tt first) (ticket_facts tt first)
+returns g c = λ key. keeps_limits (model key) (ticket_keeping key.0.value key.1) (ticket_facts key.0.value key.1)

@@ -15,7 +15,7 @@ use Rattle.spin_model.specs.declared.ticket.TicketWords.{TicketWords}
 use Rattle.spin_model.specs.Schedules.{State, placed, goes_on, moves_at, after, at_first}
 use Rattle.spin_model.specs.declared.step.Next.TheVariants.{Answers}
 use Rattle.spin_model.proofs.Lists.{get-set_same}
-use Rattle.spin_ticket.specs.Queue.{Made, model}
+use Rattle.spin_ticket.specs.Queue.{Key, Made, model}
 use Rattle.spin_world_core.specs.Runs.{Seen, opening}
 use Rattle.spin_world_core.proofs.Reached.{state_is}
 use Rattle.spin_world.proofs.TicketOwed.{ticket_keeping, ticket_facts}
@@ -30,29 +30,29 @@ ticket_of (Await t) = t
 ticket_of (TryTake n) = n
 ticket_of _ = 0
 
-module _ (first : ℕ) where
-  grants : (w : TicketWords) (v : Option (Unit {0})) (s : State TicketWords (Unit {0}) TicketCall TicketPoint) (p : ℕ) (l : TicketPoint) (h : Option Hold) → (goes_on {A = Answer (Unit {0})} s p Lock h ((model first).step w v Lock l h).next).outcome ≡ Answered Granted None
-      → ((model first).step w v Lock l h).next ≡ Answers Granted (Some (hold.Ticket (ticket_of l)))
+module _ {T : Type 0} (key : Key T) where
+  grants : (w : TicketWords) (v : Option T) (s : State TicketWords T TicketCall TicketPoint) (p : ℕ) (l : TicketPoint) (h : Option Hold) → (goes_on {A = Answer T} s p Lock h ((model key).step w v Lock l h).next).outcome ≡ Answered Granted None
+      → ((model key).step w v Lock l h).next ≡ Answers Granted (Some (hold.Ticket (ticket_of l)))
   grants w v s p l h is = grind (arith, is)
 
-  seat_by : (s : State TicketWords (Unit {0}) TicketCall TicketPoint) (p : ℕ) (l : TicketPoint) (h : Option Hold) → slice_get s.seats p ≡ Some (Calling Lock l h) → (moves_at (model first) s p Step (Some (Calling Lock l h))).outcome ≡ Answered Granted None
-      → slice_get (moves_at (model first) s p Step (Some (Calling Lock l h))).next.seats p ≡ Some (Holding (hold.Ticket (ticket_of l)))
+  seat_by : (s : State TicketWords T TicketCall TicketPoint) (p : ℕ) (l : TicketPoint) (h : Option Hold) → slice_get s.seats p ≡ Some (Calling Lock l h) → (moves_at (model key) s p Step (Some (Calling Lock l h))).outcome ≡ Answered Granted None
+      → slice_get (moves_at (model key) s p Step (Some (Calling Lock l h))).next.seats p ≡ Some (Holding (hold.Ticket (ticket_of l)))
   seat_by s p l h there granted =
-      let st = (model first).step s.words s.value Lock l h in let next : State TicketWords (Unit {0}) TicketCall TicketPoint = record s { words = st.words; value = placed st.placed s.value } in
-      ap (λ x. slice_get (goes_on {A = Answer (Unit {0})} next p Lock h x).next.seats p) (grants s.words s.value next p l h granted) ∙ get-set_same s.seats p (Holding (hold.Ticket (ticket_of l))) (Calling Lock l h) there
+      let st = (model key).step s.words s.value Lock l h in let next : State TicketWords T TicketCall TicketPoint = record s { words = st.words; value = placed st.placed s.value } in
+      ap (λ x. slice_get (goes_on {A = Answer T} next p Lock h x).next.seats p) (grants s.words s.value next p l h granted) ∙ get-set_same s.seats p (Holding (hold.Ticket (ticket_of l))) (Calling Lock l h) there
 
-  seat_is : (s : State TicketWords (Unit {0}) TicketCall TicketPoint) (p : ℕ) (l : TicketPoint) (h : Option Hold) → slice_get s.seats p ≡ Some (Calling Lock l h) → (moves_at (model first) s p Step (slice_get s.seats p)).outcome ≡ Answered Granted None
-      → slice_get (moves_at (model first) s p Step (slice_get s.seats p)).next.seats p ≡ Some (Holding (hold.Ticket (ticket_of l)))
+  seat_is : (s : State TicketWords T TicketCall TicketPoint) (p : ℕ) (l : TicketPoint) (h : Option Hold) → slice_get s.seats p ≡ Some (Calling Lock l h) → (moves_at (model key) s p Step (slice_get s.seats p)).outcome ≡ Answered Granted None
+      → slice_get (moves_at (model key) s p Step (slice_get s.seats p)).next.seats p ≡ Some (Holding (hold.Ticket (ticket_of l)))
   seat_is s p l h there granted =
-      subst (λ o. slice_get (moves_at (model first) s p Step o).next.seats p ≡ Some (Holding (hold.Ticket (ticket_of l)))) (sym there) (seat_by s p l h there (subst (λ o. (moves_at (model first) s p Step o).outcome ≡ Answered Granted None) there granted))
+      subst (λ o. slice_get (moves_at (model key) s p Step o).next.seats p ≡ Some (Holding (hold.Ticket (ticket_of l)))) (sym there) (seat_by s p l h there (subst (λ o. (moves_at (model key) s p Step o).outcome ≡ Answered Granted None) there granted))
 
-  of_call : {X : Type 0} (view : Option (Numbered X)) (old new : List Made) → Call (model first) (ticket_keeping tt first) (ticket_facts tt first) Lock Granted view old new → EntersInTurn first view old new
+  of_call : {X : Type 0} (view : Option (Numbered X)) (old new : List (Made T)) → Call (model key) (ticket_keeping key.0.value key.1) (ticket_facts key.0.value key.1) Lock Granted view old new → EntersInTurn key view old new
   of_call view old new call =
-      let m = model first in let k = ticket_keeping tt first in let f = ticket_facts tt first in let it = call.answered in let p = call.party in let n = call.parties in
-      let entered : List Made = it.past ++ (p, Step) ∷ [] in
+      let m = model key in let k = ticket_keeping key.0.value key.1 in let f = ticket_facts key.0.value key.1 in let it = call.answered in let p = call.party in let n = call.parties in
+      let entered : List (Made T) = it.past ++ (p, Step) ∷ [] in
       let own = seat_is it.seen.state p it.point call.held it.there it.comes in
-      let state = ap (λ (z : Seen TicketWords (Unit {0}) TicketCall TicketPoint). z.state) (one_more m k f (opening m n) it.past (p, Step)) in
-      let there : slice_get (after m (at_first m n) entered).seats p ≡ Some (Holding (hold.Ticket (ticket_of it.point))) = ap (λ (s : State TicketWords (Unit {0}) TicketCall TicketPoint). slice_get s.seats p) (sym (state_is m k f n entered) ∙ state ∙ ap (λ z. (event m k f z (p, Step)).after.state) (sym it.leads)) ∙ own in
+      let state = ap (λ (z : Seen TicketWords T TicketCall TicketPoint). z.state) (one_more m k f (opening m n) it.past (p, Step)) in
+      let there : slice_get (after m (at_first m n) entered).seats p ≡ Some (Holding (hold.Ticket (ticket_of it.point))) = ap (λ (s : State TicketWords T TicketCall TicketPoint). slice_get s.seats p) (sym (state_is m k f n entered) ∙ state ∙ ap (λ z. (event m k f z (p, Step)).after.state) (sym it.leads)) ∙ own in
       record {
         party = p;
         is_number = call.is_number;
@@ -63,8 +63,8 @@ module _ (first : ℕ) where
         before = it.before;
         number = ticket_of it.point;
         holds = there;
-        turn = λ past further is. (in_turn tt first n past further).holds p (ticket_of it.point) (subst (λ es. slice_get (after m (at_first m n) es).seats p ≡ Some (Holding (hold.Ticket (ticket_of it.point)))) is there);
+        turn = λ past further is. (in_turn key.0.value key.1 n past further).holds p (ticket_of it.point) (subst (λ es. slice_get (after m (at_first m n) es).seats p ≡ Some (Holding (hold.Ticket (ticket_of it.point)))) is there);
       }
 
 pub returns : goal.returns
-returns g first view now old new made = of_call first now old new (call_of (model first) (ticket_keeping tt first) (ticket_facts tt first) Lock Granted view now old new made)
+returns g c = λ key view now old new made. of_call key now old new (call_of (model key) (ticket_keeping key.0.value key.1) (ticket_facts key.0.value key.1) Lock Granted view now old new made)

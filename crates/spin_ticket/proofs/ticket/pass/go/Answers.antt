@@ -7,10 +7,10 @@ use Rattle.spin_ticket.proofs.Queue.{loads, may_know, learnt}
 use Rattle.spin_ticket.proofs.ticket.pass.go.Goals as goal
 
 pub load-number-requires : goal.load-number-requires
-load-number-requires g c = let p = c.args.permit in (inr (may_know p.key.0.name p.key.1 c.args.seen c.requires.1), loads p.key.0.name p.key.1 p.view c.requires.0)
+load-number-requires g c = let p = c.args.permit in (inr (may_know p.key c.args.seen c.requires.1), loads p.key p.view p.value c.requires.0)
 
 pub returns-clause-made : goal.returns-clause-made
 returns-clause-made g c =
     let p = c.args.permit in let f = c.load-number in let seen = c.args.seen in
-    let told = learnt p.key.0.name p.key.1 false Lock goes_on going p.view f.result.1.view seen f.result.2 f.result.0 c.requires.2 c.requires.1 f.ensures.moved in
-    begins (model p.key.1) p.view f.result.1.view seen.entries f.result.2.entries Lock told.made
+    let told = learnt p.key false Lock goes_on going p.view f.result.1.view seen f.result.2 f.result.0 c.requires.2 c.requires.1 f.ensures.moved in
+    begins (model p.key) p.view f.result.1.view seen.entries f.result.2.entries Lock told.made

@@ -11,16 +11,16 @@ returns-in_default g c = (tt, inl (refl, refl))
 
 pub exchange-found-requires : goal.exchange-found-requires
 exchange-found-requires g c = let me = c.args.self in let p = me.permit in let left = left_of me.number c.in-Some.after c.in-Some.ensures.exact in
-    (inr (may_know p.key.0.name p.key.1 me.seen me.named), takes p.key.0.name p.key.1 p.view me.number c.in-Some.after (me.goes ∙ ap Some (goes_for me.number left.0)) left.1 left.0 c.in-Some.ensures.plain)
+    (inr (may_know p.key me.seen me.named), takes p.key p.view p.value me.number c.in-Some.after (me.goes ∙ ap Some (goes_for me.number left.0)) left.1 left.0 c.in-Some.ensures.plain)
 
 pub returns-then-found-number : goal.returns-then-found-number
 returns-then-found-number g c =
     let me = c.args.self in let p = me.permit in let f = c.exchange-found in
-    let told = learnt p.key.0.name p.key.1 true Lock goes_on (taken me.number) p.view f.result.1.view me.seen f.result.2 f.result.0 me.knows me.named f.ensures.moved in
-    ((told.named, ap (λ k. k.1) f.ensures.key, goes (model p.key.1) p.view f.result.1.view me.seen.entries f.result.2.entries Lock told.made), tt)
+    let told = learnt p.key true Lock goes_on (taken me.number) p.view f.result.1.view me.seen f.result.2 f.result.0 me.knows me.named f.ensures.moved in
+    ((told.named, f.ensures.key, goes (model p.key) p.view f.result.1.view me.seen.entries f.result.2.entries Lock told.made), tt)
 
 pub returns-else-found-number : goal.returns-else-found-number
 returns-else-found-number g c =
     let me = c.args.self in let p = me.permit in let f = c.exchange-found in
-    let told = learnt p.key.0.name p.key.1 true Lock goes_on (taken me.number) p.view f.result.1.view me.seen f.result.2 f.result.0 me.knows me.named f.ensures.moved in
-    (tt, inr (told.named, ap (λ k. k.1) f.ensures.key, goes (model p.key.1) p.view f.result.1.view me.seen.entries f.result.2.entries Lock told.made))
+    let told = learnt p.key true Lock goes_on (taken me.number) p.view f.result.1.view me.seen f.result.2 f.result.0 me.knows me.named f.ensures.moved in
+    (tt, inr (told.named, f.ensures.key, goes (model p.key) p.view f.result.1.view me.seen.entries f.result.2.entries Lock told.made))

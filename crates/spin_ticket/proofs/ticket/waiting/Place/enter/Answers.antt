@@ -11,19 +11,19 @@ use Rattle.spin_ticket.proofs.Queue.{awaits, may_know, learnt}
 use Rattle.spin_ticket.proofs.ticket.waiting.Place.enter.Goals as goal
 
 pub load_second-serving-requires : goal.load_second-serving-requires
-load_second-serving-requires g c = let me = c.args.self in let p = me.permit in (inr (may_know p.key.0.name p.key.1 me.seen me.named), awaits p.key.0.name p.key.1 p.view me.number me.waiting)
+load_second-serving-requires g c = let me = c.args.self in let p = me.permit in (inr (may_know p.key me.seen me.named), awaits p.key p.view p.value me.number me.waiting)
 
 pub returns-then-is_turn : goal.returns-then-is_turn
 returns-then-is_turn g c =
     let me = c.args.self in let p = me.permit in let f = c.load_second-serving in let k = number_of (what p.view) in let old = me.seen.entries in let new = f.result.2.entries in
-    let told = learnt p.key.0.name p.key.1 true Lock (answers_turn k) (entered k) p.view f.result.1.view me.seen f.result.2 f.result.0 me.knows me.named f.ensures.moved in
+    let told = learnt p.key true Lock (answers_turn k) (entered k) p.view f.result.1.view me.seen f.result.2 f.result.0 me.knows me.named f.ensures.moved in
     let granted : answers_turn k f.result.0 ≡ Answered Granted None = ap (λ v. answers_turn (number_of v) f.result.0) me.waiting ∙ ap (λ b. if b then Answered Granted None else GoingOn) (sym c.if-is_turn.ensures.exact) in
-    let made = ends (model p.key.1) p.view f.result.1.view old new Lock Granted (subst (λ o. Moves p.key.1 (IsStep true Lock o) p.view old f.result.1.view new) granted told.made) in
-    ((told.named, ap (λ k. k.1) c.into_writer.ensures.key ∙ ap (λ k. k.1) f.ensures.key, subst (λ o. Moves p.key.1 (Ends Granted) p.view old o new) (sym c.into_writer.ensures.same.0) made), tt)
+    let made = ends (model p.key) p.view f.result.1.view old new Lock Granted (subst (λ o. Moves p.key (IsStep true Lock o) p.view old f.result.1.view new) granted told.made) in
+    ((told.named, c.into_writer.ensures.key ∙ f.ensures.key, subst (λ o. Moves p.key (Ends Granted) p.view old o new) (sym c.into_writer.ensures.same.0) made), tt)
 
 pub returns-else-is_turn : goal.returns-else-is_turn
 returns-else-is_turn g c =
     let me = c.args.self in let p = me.permit in let f = c.load_second-serving in let k = number_of (what p.view) in let old = me.seen.entries in let new = f.result.2.entries in
-    let told = learnt p.key.0.name p.key.1 true Lock (answers_turn k) (entered k) p.view f.result.1.view me.seen f.result.2 f.result.0 me.knows me.named f.ensures.moved in
+    let told = learnt p.key true Lock (answers_turn k) (entered k) p.view f.result.1.view me.seen f.result.2 f.result.0 me.knows me.named f.ensures.moved in
     let waits : answers_turn k f.result.0 ≡ GoingOn = ap (λ v. answers_turn (number_of v) f.result.0) me.waiting ∙ ap (λ b. if b then Answered Granted None else GoingOn) (sym c.if-is_turn.ensures.exact) in
-    (tt, (told.named, ap (λ k. k.1) f.ensures.key, goes (model p.key.1) p.view f.result.1.view old new Lock (subst (λ o. Moves p.key.1 (IsStep true Lock o) p.view old f.result.1.view new) waits told.made)))
+    (tt, (told.named, f.ensures.key, goes (model p.key) p.view f.result.1.view old new Lock (subst (λ o. Moves p.key (IsStep true Lock o) p.view old f.result.1.view new) waits told.made)))
