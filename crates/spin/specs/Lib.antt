@@ -14,7 +14,6 @@ pub use Rattle.spin_once.specs.Lazy
 pub use Rattle.spin_once.specs.OncePasses
 pub use Rattle.spin_once.specs.LazyPasses
 pub use Rattle.spin_core.specs.Retries
-pub use Rattle.spin_history.specs.Entries
 pub use Rattle.spin_core.specs.Calls
 pub use Rattle.spin_step.specs.Plain
 pub use Rattle.spin_step.specs.Parties

@@ -10,11 +10,10 @@ pub use relax::{RelaxStrategy, Spin, Yield};
 pub use rwlock::RwLockReadGuard;
 pub use spin_barrier::barrier;
 pub use spin_core::{lock, relax};
-pub use spin_history::{growing, history, register, tally};
-pub use spin_mutex::mutex;
 pub use spin_once::{lazylock, once};
 pub use spin_rwlock::rwlock;
 
+pub mod mutex;
 pub mod step;
 
 /// A [`barrier::Barrier`] with the default strategy, [`Spin`].

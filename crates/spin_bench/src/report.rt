@@ -6,8 +6,11 @@ use crate::case::{
 use crate::team::Team;
 use spin_barrier::barrier::Barrier;
 use spin_core::relax::Yield;
-use spin_mutex::mutex::{FairMutex, Mutex, SpinMutex, TicketMutex};
+use spin_fair::fair::FairMutex;
+use spin_flag::spin::SpinMutex;
+use spin_mutex::mutex::Mutex;
 use spin_rwlock::rwlock::RwLock;
+use spin_ticket::ticket::TicketMutex;
 use std::sync::Wait;
 use std::thread::Threads;
 use std::time::{Clock, Duration};

@@ -1,11 +1,11 @@
 //! Values with logs beside one another: two registers that are written as often, and a tally with the log of its totals.
 ghost use Rattle.std.specs.Prelude.{◌≡◌, ◌<◌, [], Some, length};
-ghost use Rattle.spin.specs.Entries.{last};
+ghost use Rattle.spin_history.specs.Entries.{last};
 
-use spin::history::{BlankLog, History, Log, Snapshot, Work, open};
 use spin::mutex::SpinMutex;
-use spin::register::Register;
-use spin::tally::{self, Tally};
+use spin_history::history::{BlankLog, History, Log, Snapshot, Work, open};
+use spin_history::register::Register;
+use spin_history::tally::{self, Tally};
 use std::sync::Wait;
 use std::sync::ledger::{Ledger, Share};
 

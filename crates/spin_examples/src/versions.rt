@@ -1,11 +1,12 @@
 //! A version that threads raise, and that never falls for a reader.
 ghost use Rattle.std.specs.Prelude.{◌≡◌, ◌≤◌, Some};
-ghost use Rattle.spin.specs.Entries.{last};
+ghost use Rattle.spin_history.specs.Entries.{last};
 
-use spin::growing::{Ascending, Growing};
-use spin::history::{BlankLog, History, Snapshot, Work, open};
+use spin::RwLock;
 use spin::rwlock::RwLockReadGuard;
-use spin::{RwLock, register};
+use spin_history::growing::{Ascending, Growing};
+use spin_history::history::{BlankLog, History, Snapshot, Work, open};
+use spin_history::register;
 use std::marker::Brand;
 use std::sync::Wait;
 use std::thread::{Threads, join};

@@ -8,8 +8,8 @@ use crate::register::Register;
 ///
 /// # Examples
 /// ```
-/// use spin::growing::{Growing, Order};
-/// use spin::history::{BlankLog, History, Work, open};
+/// use spin_history::growing::{Growing, Order};
+/// use spin_history::history::{BlankLog, History, Work, open};
 ///
 /// struct Descending;
 ///
@@ -92,9 +92,10 @@ impl Order<u64> for Ascending {
 ///
 /// # Examples
 /// ```
-/// use spin::growing::{Ascending, Growing};
-/// use spin::history::{BlankLog, History, Work, open};
-/// use spin::{RwLock, register};
+/// use spin::RwLock;
+/// use spin_history::growing::{Ascending, Growing};
+/// use spin_history::history::{BlankLog, History, Work, open};
+/// use spin_history::register;
 /// use std::sync::Wait;
 ///
 /// #[derive(Drop)]

@@ -67,8 +67,8 @@ fn open_by<K: Work, H: History + Send + Sync>(work: K, blank: BlankLog) -> K::An
 ///
 /// # Examples
 /// ```
-/// use spin::history::{BlankLog, History, Work, open};
-/// use spin::register::Register;
+/// use spin_history::history::{BlankLog, History, Work, open};
+/// use spin_history::register::Register;
 ///
 /// #[derive(Drop)]
 /// struct WriteTwo;

@@ -5,8 +5,8 @@
 //! # Examples
 //! ```
 //! use spin::RwLock;
-//! use spin::history::{BlankLog, History, Work, open};
-//! use spin::register::{self, Register};
+//! use spin_history::history::{BlankLog, History, Work, open};
+//! use spin_history::register::{self, Register};
 //! use std::sync::Wait;
 //!
 //! #[derive(Drop)]
@@ -125,8 +125,8 @@ impl<T, H: History, P: Order<T>> Register<T, H, P> {
     ///
     /// # Examples
     /// ```
-    /// use spin::history::{BlankLog, History, Work, open};
-    /// use spin::register::Register;
+    /// use spin_history::history::{BlankLog, History, Work, open};
+    /// use spin_history::register::Register;
     ///
     /// #[derive(Drop)]
     /// struct AddInPlace;
@@ -196,8 +196,8 @@ impl<T, H: History, P: Order<T>> Register<T, H, P> {
     ///
     /// # Examples
     /// ```
-    /// use spin::history::{BlankLog, History, Work, open};
-    /// use spin::register::Register;
+    /// use spin_history::history::{BlankLog, History, Work, open};
+    /// use spin_history::register::Register;
     ///
     /// #[derive(Drop)]
     /// struct WriteAndClose;
@@ -582,8 +582,8 @@ pub fn update<
 /// # Examples
 /// ```
 /// use spin::RwLock;
-/// use spin::history::{BlankLog, History, Work, open};
-/// use spin::register::{self, Register};
+/// use spin_history::history::{BlankLog, History, Work, open};
+/// use spin_history::register::{self, Register};
 /// use std::sync::Wait;
 ///
 /// #[derive(Drop)]

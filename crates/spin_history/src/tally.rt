@@ -4,7 +4,7 @@
 //! # Examples
 //! ```
 //! use spin::mutex::SpinMutex;
-//! use spin::tally::{self, Tally, Work};
+//! use spin_history::tally::{self, Tally, Work};
 //! use std::sync::Wait;
 //! use std::sync::ledger::{Ledger, Share};
 //!
@@ -69,7 +69,7 @@ impl<L: Ledger> Tally<L> {
     ///
     /// # Examples
     /// ```
-    /// use spin::tally::{self, Tally, Work};
+    /// use spin_history::tally::{self, Tally, Work};
     /// use std::sync::ledger::{Ledger, Share};
     ///
     /// #[derive(Drop)]

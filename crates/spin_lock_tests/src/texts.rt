@@ -1,10 +1,13 @@
 //! The texts as they are printed, with options too, and that a lock is left as it was.
 use crate::equal::equal;
 use spin_core::relax::Yield;
-use spin_mutex::mutex::{FairMutex, Mutex, SpinMutex, TicketMutex};
+use spin_fair::fair::FairMutex;
+use spin_flag::spin::SpinMutex;
+use spin_mutex::mutex::Mutex;
 use spin_once::lazylock::LazyLock;
 use spin_once::once::Once;
 use spin_rwlock::rwlock::RwLock;
+use spin_ticket::ticket::TicketMutex;
 use std::fmt;
 use std::fmt::{Debug, Display, Write};
 use std::process::Abort;

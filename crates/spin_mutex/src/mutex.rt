@@ -1,26 +1,16 @@
-//! `Mutex`, which uses only the contract of an inner lock, and three other mutexes by their own names. Begin at
-//! [`Mutex::lock`].
+//! `Mutex`, which uses only the contract of an inner lock. Begin at [`Mutex::lock`].
 ghost use Rattle.std.specs.Prelude.{◌≡◌, Some, None, [], IfSome, true};
 ghost use Rattle.spin_ticket.specs.TicketPasses.{history, party, lock_of, name_of, opening, opening_of};
 ghost use Rattle.spin_mutex.specs.MutexGuard.{value_of, holds, held_value};
 
 use spin_core::lock::{Lock, with_guard};
 use spin_core::relax::{RelaxStrategy, Spin};
+use spin_ticket::ticket::{self, TicketMutex, TicketMutexGuard};
 use std::marker::PhantomData;
 use std::ops::{Deref, DerefMut};
 use std::sync::Wait;
 
 mod texts;
-
-pub use spin_fair::fair;
-pub use spin_fair::fair::{FairMutex, FairMutexGuard, Starvation};
-pub use spin_flag::spin;
-pub use spin_flag::spin::{SpinMutex, SpinMutexGuard};
-pub use spin_ticket::laws::{
-    the_parties_of_a_ticket_mutex_enter_in_turn, the_words_of_a_ticket_mutex_are_its_queue,
-};
-pub use spin_ticket::ticket;
-pub use spin_ticket::ticket::{TicketMutex, TicketMutexGuard};
 
 /// A mutual exclusion lock on which a waiting thread spins.
 ///

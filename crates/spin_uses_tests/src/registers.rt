@@ -1,11 +1,11 @@
 //! What no contract says of registers: that readers come beside one another, and which try is granted.
 use super::equal::equal;
 use spin::Yield;
-use spin::history::{BlankLog, History, Work, open};
 use spin::mutex::SpinMutex;
-use spin::register::{self, Register};
 use spin::rwlock::RwLock;
-use spin::tally::{self, Tally};
+use spin_history::history::{BlankLog, History, Work, open};
+use spin_history::register::{self, Register};
+use spin_history::tally::{self, Tally};
 use std::process::Abort;
 use std::sync::Wait;
 use std::sync::ledger::{Ledger, Share};

@@ -1,7 +1,8 @@
 //! The calls of the locks.
 use super::{Call, Case};
 use spin_core::lock::Lock;
-use spin_mutex::mutex::{FairMutex, SpinMutex};
+use spin_fair::fair::FairMutex;
+use spin_flag::spin::SpinMutex;
 use spin_rwlock::rwlock::RwLock;
 use std::sync;
 use std::sync::Wait;

@@ -1,11 +1,11 @@
 //! The ends of each lock by which threads take turns. A lock for readers ends in three ways, by who had it last.
 use crate::ends::counted::Counted;
 use crate::equal::equal;
-use spin_mutex::mutex::{
-    FairMutex, FairMutexGuard, Mutex, MutexGuard, SpinMutex, SpinMutexGuard, TicketMutex,
-    TicketMutexGuard,
-};
+use spin_fair::fair::{FairMutex, FairMutexGuard};
+use spin_flag::spin::{SpinMutex, SpinMutexGuard};
+use spin_mutex::mutex::{Mutex, MutexGuard};
 use spin_rwlock::rwlock::{RwLock, RwLockReadGuard, RwLockUpgradableGuard, RwLockWriteGuard};
+use spin_ticket::ticket::{TicketMutex, TicketMutexGuard};
 use std::cell::Cell;
 use std::sync::Wait;
 

@@ -1,10 +1,10 @@
 //! Which call is granted, and what frees a lock: the mutexes have the same calls, under the same names.
 use crate::equal::equal;
 use spin_core::relax::Loop;
-use spin_mutex::mutex::{
-    FairMutex, FairMutexGuard, Mutex, MutexGuard, SpinMutex, SpinMutexGuard, TicketMutex,
-    TicketMutexGuard,
-};
+use spin_fair::fair::{FairMutex, FairMutexGuard};
+use spin_flag::spin::{SpinMutex, SpinMutexGuard};
+use spin_mutex::mutex::{Mutex, MutexGuard};
+use spin_ticket::ticket::{TicketMutex, TicketMutexGuard};
 use std::process::Abort;
 use std::sync::Wait;
 

@@ -1,8 +1,7 @@
 //! What no contract says of starvers: which call is granted beside one.
 use crate::equal::equal;
 use spin_core::relax::{Loop, RelaxStrategy};
-use spin_mutex::mutex::fair::LockRejectReason;
-use spin_mutex::mutex::{FairMutex, Starvation};
+use spin_fair::fair::{FairMutex, LockRejectReason, Starvation};
 use std::mem::forget;
 use std::process::Abort;
 use std::sync::Wait;
