@@ -56,17 +56,19 @@ fn a_thread_reads_the_last_write(rt: HostRuntime) {
 }
 
 #[test]
-fn passes_know_one_history(rt: HostRuntime) {
+fn three_passes_of_a_spin_mutex_know_one_history(rt: HostRuntime) {
     let lock = SpinMutex::new(6);
-    let (counted, (_, looked)) = count_beside_look(&rt, &lock);
-    drop(counted);
-    drop(looked);
+    let (one, two, three) = (lock.pass(), lock.pass(), lock.pass());
+    let (first, (second, (_, third))) = count_beside_look(&rt, one, two, three);
+    drop(first);
+    drop(second);
+    drop(third);
     drop(try_once(&lock));
     let held = take(&rt, &lock);
     drop(try_once(&lock));
     give_back(held);
     drop(double_by_a_hold(&rt, lock.pass()));
-    equal(&rt, lock.into_inner(), 14);
+    equal(&rt, lock.into_inner(), 16);
 }
 
 #[test]
