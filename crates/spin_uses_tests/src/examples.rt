@@ -13,6 +13,7 @@ use spin_examples::registers::four_threads;
 use spin_examples::versions::{race, watch_one};
 use spin_examples::written::write_beside_read;
 use spin_examples::{any_lock, paired, passes_fair, passes_rw, totals};
+use spin_uses::relay::relay;
 use std::thread;
 
 #[test]
@@ -53,6 +54,15 @@ fn a_thread_reads_the_last_write(rt: HostRuntime) {
     drop(read);
     equal(&rt, found == 6 || found == 7, true);
     equal(&rt, lock.into_inner(), 7);
+}
+
+#[test]
+fn a_pass_reads_what_another_wrote(rt: HostRuntime) {
+    let lock: SpinMutex<u64> = SpinMutex::new(6);
+    let (writer, (found, reader)) = relay(&rt, lock.pass(), lock.pass(), 7);
+    drop(writer);
+    drop(reader);
+    equal(&rt, (found, lock.into_inner()), (7, 7));
 }
 
 #[test]
