@@ -1,10 +1,11 @@
--- What kind of lock the seats are: the word, the plain steps that it makes, its calls, and how soon a call is answered that nobody disturbs.
+-- What kind of lock the seats are: the word, the plain steps, the calls, and how many steps an undisturbed call
+-- takes.
 use Rattle.std.specs.Prelude.{Bool, true, false, Some, []}
 use Rattle.spin_step.specs.Plain.{reading, to_read, Change, gets, releases, flag_word}
 use Rattle.spin_model.specs.declared.place.Hold.TheVariants.{Read}
 use Rattle.spin_model.specs.Calls.{Asked, LockKind, steps_past_a_look, usual, waits, tries, counts_readers, gives_back}
 
--- a party that holds reads, and as many hold as the cap lets in
+-- the plain steps: every holder reads, and at most as many hold as the cap says
 abbrev pub seats_plain_steps : Change → Bool
 seats_plain_steps (gets p to_read) = true
 seats_plain_steps (releases p reading) = true
