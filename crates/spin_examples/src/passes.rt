@@ -50,7 +50,7 @@ pub fn try_once(lock: &SpinMutex<u64>) -> Pass<'_, u64, Spin> {
 /// One thread counts, and one looks whether the lock is held.
 ///
 /// # Contract
-/// What one of them knows of the lock's history is a beginning of what the other knows.
+/// One of them knows a prefix of the history that the other knows.
 pub fn count_beside_look<'a, W: Threads + Wait + Sync>(
     rt: &W,
     lock: &'a SpinMutex<u64>,
