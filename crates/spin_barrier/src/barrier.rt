@@ -12,8 +12,7 @@ use std::sync::Wait;
 /// A barrier at which the threads of a group wait for each other. It is reusable: after each group it gathers the
 /// next one.
 ///
-/// Groups are counted in 64 bits. If exactly a multiple of 2^64 groups fill up between two looks of a thread, it
-/// waits
+/// Groups are counted in 64 bits. If exactly a multiple of 2^64 groups fill up between two looks of a thread, it waits
 /// for one group more. No thread leaves early.
 ///
 /// # Examples
@@ -74,14 +73,12 @@ impl<R> Barrier<R> {
 impl<R: RelaxStrategy> Barrier<R> {
     /// Arrives at the barrier, and spins until the group is full.
     ///
-    /// The arrival is one [`State::arrive`] under the lock. The last thread of a group fills it, leads it, and does
-    /// not
+    /// The arrival is one [`State::arrive`] under the lock. The last thread of a group fills it, leads it, and does not
     /// wait. The others look again under the lock, and relax with strategy `R` between two looks.
     ///
     /// # Contract
-    /// Whether and when the call returns is not promised. The step functions promise that a thread waits for its
-    /// group and
-    /// that one thread leads ([`State::arrive`] and `may_leave`). Of this call a test shows it.
+    /// Whether and when the call returns is not promised. The step functions promise that a thread waits for its group
+    /// and that one thread leads ([`State::arrive`] and `may_leave`). Of this call a test shows it.
     pub fn wait<W: Wait>(&self, rt: &W) -> BarrierWaitResult {
         let mut state = self.state.lock(rt);
         let leads = state.arrive();

@@ -15,8 +15,7 @@ pub use rounds::Rounds;
 pub use seated::Seated;
 pub use world::{EVENTS, Plays};
 
-/// Calls that are made over and over, also by several threads at once. A call either adds 1 to the value, or reads
-/// a 1.
+/// Calls that are made over and over, also by several threads at once. A call either adds 1 to the value, or reads a 1.
 pub trait Case: Drop {
     /// Makes this many calls, in the worker with this number, and returns the sum of what they saw. This is what is
     /// measured: a loop by itself, with only the calls and their sum in it.
@@ -33,8 +32,7 @@ pub trait Case: Drop {
 
 /// One call.
 pub trait Call: Drop {
-    /// Makes the call, in the worker with this number. Returns what it saw, or 0 if it added. It should be inlined
-    /// into
+    /// Makes the call, in the worker with this number. Returns what it saw, or 0 if it added. It should be inlined into
     /// the loop of [`Calls`].
     fn call<W: Wait>(&self, rt: &W, worker: usize) -> u64;
 

@@ -56,8 +56,7 @@ const BESIDE: [&str; 13] = [
 #[derive(Clone, Copy)]
 enum Task {
     /// Measure rounds. For each round a line says how many calls there were, how many nanoseconds they took, and how
-    /// many
-    /// calls the slowest thread made. A thread makes this many calls before it checks again whether to stop.
+    /// many calls the slowest thread made. A thread makes this many calls before it checks again whether to stop.
     Measure(u64),
     /// Make this many calls in each thread.
     Try(u64),
@@ -185,8 +184,7 @@ fn report<R: Threads + Wait + Clock + Print + AllocGlobal + Sync>(
 
 /// Returns how many calls of this case a thread makes before it checks again whether to stop. For a thread by itself
 /// they are so many that the checks cost nothing; each play uses the whole schedule. With other threads each call is
-/// slow
-/// enough for few. If a thread that others wait for is not running, the round still ends soon after its time.
+/// slow enough for few. If a thread that others wait for is not running, the round still ends soon after its time.
 fn chunk(name: &str, threads: u8) -> u64 {
     if name == "world" {
         EVENTS
@@ -227,8 +225,8 @@ fn try_each<R: Threads + Wait + Clock + Print + AllocGlobal + Sync>(
     Ok(())
 }
 
-/// Tries each case. Barriers get few rounds: on a busy machine a round waits until each of its threads has had
-/// a processor.
+/// Tries each case. Barriers get few rounds: on a busy machine a round waits until each of its threads has had a
+/// processor.
 pub fn try_all<R: Threads + Wait + Clock + Print + AllocGlobal + Sync>(rt: &R) -> io::Result<()> {
     try_each(rt, 1000, 1, &ALONE)?;
     for threads in [1, 2, 4] {

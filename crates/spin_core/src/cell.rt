@@ -96,8 +96,7 @@ impl<'a, T, V, P: Rule<T, V>> Model for WritePermit<'a, T, V, P> {
 }
 
 impl<T, V, P: Rule<T, V>> Cell<T, V, P> {
-    /// Creates a cell that no party has used. In the way `fixes` it may have its value from the start, as if the
-    /// party
+    /// Creates a cell that no party has used. In the way `fixes` it may have its value from the start, as if the party
     /// that made it had left.
     ///
     /// # Contract
@@ -163,8 +162,7 @@ impl<T, V, P: Rule<T, V>> Cell<T, V, P> {
     ///
     /// # Contract
     /// The key becomes the one that the rule names (`lent`). Under that key the rule has to hold as before (`Lends`),
-    /// and
-    /// any value has to be allowed in place of one that nobody uses (`Frees`, `Freeing`).
+    /// and any value has to be allowed in place of one that nobody uses (`Frees`, `Freeing`).
     pub fn get_mut(&mut self) -> &mut T
         requires free { Freeing (P.ways (P.lent self.old)).2 (Frees (P.ways (P.lent self.old)).0) }
         requires lends { Lends (P.holds self.old) (P.ways self.old) (P.holds (P.lent self.old)) (P.ways (P.lent self.old)) }
@@ -195,8 +193,7 @@ impl<'a, T, V, P: Rule<T, V>> Permit<'a, T, V, P> {
     }
 
     /// Like [`see`](Permit::see), but returns the permit too. This is possible only in the way `fixes`, where a party
-    /// may
-    /// read for ever.
+    /// may read for ever.
     pub fn show(self) -> (&'a T, Permit<'a, T, V, P>)
         requires reads { use_of (P.ways self.key).1 self.view ≡ reads }
         requires fixed { Fixes (P.ways self.key).0 }
@@ -236,8 +233,7 @@ impl<'a, T, V, P: Rule<T, V>> Permit<'a, T, V, P> {
     }
 
     /// Ends the permit of a party that is at rest ([`leave`](Permit::leave)), or of one that uses the value and keeps
-    /// its use
-    /// for ever ([`leak`](Permit::leak)).
+    /// its use for ever ([`leak`](Permit::leak)).
     pub fn finish(self)
         requires { Rests (P.holds self.key) (P.ways self.key).1 self.view ⊎ (use_of (P.ways self.key).1 self.view ≢ off) }
     {
@@ -245,8 +241,7 @@ impl<'a, T, V, P: Rule<T, V>> Permit<'a, T, V, P> {
     }
 
     /// Ends the permit, and keeps its use of the value for ever: a lock that the party holds stays held. A party that
-    /// only
-    /// waits may not do so, since a queue would stop at it.
+    /// only waits may not do so, since a queue would stop at it.
     pub fn leak(self)
         requires { use_of (P.ways self.key).1 self.view ≢ off }
     {

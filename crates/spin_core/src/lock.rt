@@ -45,8 +45,7 @@ pub trait Lock<T> {
     ///
     /// # Contract
     /// The closure has to be always callable. `Ok` is an answer like that of `with`. `Err` is the closure, which was
-    /// not
-    /// called.
+    /// not called.
     ///
     /// # Examples
     /// ```
@@ -92,8 +91,7 @@ pub trait SharedLock<T>: Lock<T> {
     /// closure if access is refused, for example because a writer holds.
     ///
     /// # Contract
-    /// The closure has to be always callable. `Ok` is an answer like that of `with_shared`. `Err` is the closure,
-    /// which
+    /// The closure has to be always callable. `Ok` is an answer like that of `with_shared`. `Err` is the closure, which
     /// was not called. Whether and when the call returns is not promised.
     ///
     /// # Examples
@@ -112,8 +110,7 @@ pub trait SharedLock<T>: Lock<T> {
         ensures { MatchResult result (AnswersOfShared F.FnOnce by) (λ back. back ≡ by) };
 }
 
-/// Calls the closure with the value of a guard that a try returned. Without a guard it returns the closure. Locks
-/// with
+/// Calls the closure with the value of a guard that a try returned. Without a guard it returns the closure. Locks with
 /// guards use it for `try_with`.
 ///
 /// # Contract

@@ -102,10 +102,9 @@ pub trait RelaxStrategy {
         unreachable!()
     }
 
-    /// Like [`retry`](RelaxStrategy::retry), but with a [`pause`](RelaxStrategy::pause) before each attempt. Its
-    /// hints double
-    /// each time, up to [`MAX_HINTS`]. If any waiting thread may be next, a lock is quickest when few threads look at
-    /// it.
+    /// Like [`retry`](RelaxStrategy::retry), but with a [`pause`](RelaxStrategy::pause) before each attempt. Its hints
+    /// double each time, up to [`MAX_HINTS`]. If any waiting thread may be next, a lock is quickest when few threads
+    /// look at it.
     ///
     /// # Contract
     /// That of `retry`.

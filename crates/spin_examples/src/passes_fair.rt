@@ -48,8 +48,7 @@ fn count_starving<'a, W: Wait>(rt: &W, lock: &'a FairMutex<u64>) -> Pass<'a, u64
     }
 }
 
-/// Calls `is_locked`, and then tries to acquire the lock, as a newcomer and as a starver. If a try succeeds it
-/// releases
+/// Calls `is_locked`, and then tries to acquire the lock, as a newcomer and as a starver. If a try succeeds it releases
 /// at once.
 pub fn look_and_try<'a, W: Wait>(rt: &W, lock: &'a FairMutex<u64>) -> (bool, Pass<'a, u64, Spin>) {
     let pass = lock.pass();

@@ -33,11 +33,9 @@ fn read<'a, W: Wait>(rt: &W, pass: Pass<'a, u64, Spin>) -> (u64, Pass<'a, u64, S
 /// One thread writes a value, and one reads.
 ///
 /// # Contract
-/// One of them knows a prefix of the lock's history that the other knows (`one_history`). The value written is the
-/// last
+/// One of them knows a prefix of the lock's history that the other knows (`one_history`). The value written is the last
 /// one in the history that the writer knows (`left`). The value read is the last one in the history that the reader
-/// knows
-/// (`found`).
+/// knows (`found`).
 pub fn write_beside_read<'a, W: Threads + Wait + Sync>(
     rt: &W,
     lock: &'a SpinMutex<u64>,

@@ -94,8 +94,7 @@ module _ {K S C A H : Type 0} (m : Machine K S C A H) where
     pub steady : (p q : ℕ) (c : C) (s : S) → q ≢ p → m.holds p (m.next q c s) ≡ m.holds p s
 
   -- A pass has made a call. The history that it now knows is legal, extends what it knew before, and ends with this
-  -- call
-  -- and its answer. In between the pass made no other call.
+  -- call and its answer. In between the pass made no other call.
   pub record Made (x : Known K C A) (c : C) (a : A) (y : Known K C A) : Type 0 where
     pub opening : y.opening ≡ x.opening
     pub pass : y.pass ≡ x.pass
@@ -126,8 +125,7 @@ module _ {K S C A H : Type 0} (m : Machine K S C A H) where
   AllFit k log (x ∷ xs) = Fits k log x × AllFit k log xs
 
   -- The rule of the table. There is one legal history, and the words are those of its last state. What each seat
-  -- knows agrees with it,
-  -- and each pass is in at most one view.
+  -- knows agrees with it, and each pass is in at most one view.
   pub record OneHistory {X : Type 0} (k : K) (table : State X (List (Known K C A))) : Type 0 where
     pub log : List (Entry C A)
     pub words : table.words ≡ m.words (state k log)
@@ -158,8 +156,8 @@ module _ {K S C A H : Type 0} (m : Machine K S C A H) where
   Shows step before found after = Two (λ x y. Two (λ u v. (log : List (Entry C A)) × Met x log u × Met y log v) after.0) before.0 × (after.1 ≡ before.1)
 
   -- What a lock must show for a step that changes the word i by f, after this history. Either no word changes, and
-  -- there is no call. Or the call may be made,
-  -- the words become those of the next state, and the answer is the plain one.
+  -- there is no call. Or the call may be made, the words become those of the next state, and the answer is the plain
+  -- one.
   abbrev pub Owed : (p i : ℕ) → (ℕ → ℕ) → S → Option (C × A) → Type 0
   Owed p i f s None = slice_set (m.words s) i (f (slice_index (m.words s) i)) ≡ m.words s
   Owed p i f s (Some t) =

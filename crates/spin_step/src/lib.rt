@@ -1,5 +1,4 @@
-//! Every change of a lock's word, as a pure function from the word before to the word after. Also the plain lock:
-//! each
+//! Every change of a lock's word, as a pure function from the word before to the word after. Also the plain lock: each
 //! of these functions makes one step of it.
 //!
 //! Begin with [`flag`], the smallest lock. A function that may refuse returns `None` and gives no new word.

@@ -21,8 +21,7 @@ pub fn the_words_of_a_ticket_mutex_are_its_queue<T>()
 ///
 /// # Contract
 /// If the rule holds (`IsQueue`), each number from the served one up to the next one is the ticket of one party. Only
-/// the
-/// party with the served number has entered (`IsInTurn`).
+/// the party with the served number has entered (`IsInTurn`).
 pub fn the_parties_of_a_ticket_mutex_enter_in_turn<T>()
     ensures { (key : Key T) (next : ℕ) (trace : Trace (Made T) ℕ) (parties : List (Numbered View)) → IsQueue key next trace parties → IsInTurn next trace.word (views parties) }
 {}
@@ -33,11 +32,9 @@ pub fn the_parties_of_a_ticket_mutex_enter_in_turn<T>()
 /// move.
 ///
 /// # Contract
-/// The law holds between any two steps of threads (`IsQueue`): no move of the list is skipped in the model, which
-/// opens
+/// The law holds between any two steps of threads (`IsQueue`): no move of the list is skipped in the model, which opens
 /// with the lock's first ticket. After the list the model has the lock's two words, and each party is where the lock
-/// has
-/// it.
+/// has it.
 pub fn every_run_of_a_ticket_mutex_is_a_schedule<T>()
     ensures { (key : Key T) (next : ℕ) (trace : Trace (Made T) ℕ) (parties : List (Numbered View)) → IsQueue key next trace parties → IsRun (model key) seat_of words_of trace.entries (next, trace.word) parties }
 {}

@@ -26,8 +26,7 @@ pub use self::rule::{Entry, Party, TicketRule, View};
 ///
 /// Each call of [`lock`](Self::lock) takes a ticket with the next number, and enters when that number is served. With
 /// more spinning threads than cores it may wait for a thread that is not scheduled. Use `SpinMutex` then, or the
-/// strategy
-/// `Yield`. A waiting thread relaxes with strategy `R`.
+/// strategy `Yield`. A waiting thread relaxes with strategy `R`.
 ///
 /// # Contract
 /// While a guard or a hold of the lock lives, no other call acquires it. Threads enter in the order of their tickets

@@ -13,9 +13,8 @@ use std::sync::atomic::raw;
 
 /// A kind of step: what it appends to the trace, and what it tells its caller.
 pub trait Play<K, V, E> {
-    // By the rule's key, the operands (0 if there is none), the view before, the trace before, what the step
-    // appended, the
-    // number found, and the view after.
+    // By the rule's key, the operands (0 if there is none), the view before, the trace before, what the step appended,
+    // the number found, and the view after.
     ghost told: { K → ℕ → ℕ → Option V → List E → List E → ℕ → V → Type 0 };
 }
 
@@ -28,16 +27,13 @@ pub trait Play<K, V, E> {
 /// before the step, and what the step appended. A caller that knows nothing passes [`Watch::nothing`].
 ///
 /// # Contract
-/// Whatever the words, the trace and the other views are, a next view and entries have to exist that satisfy the
-/// `Play`
+/// Whatever the words, the trace and the other views are, a next view and entries have to exist that satisfy the `Play`
 /// and keep the rule (`Traces`). The watch has to be of the cell's trace, or to know nothing (`MayKnow`). After the
-/// step the
-/// `Play` holds (`Moved`), of the trace as the watch tells it (`Watches`).
+/// step the `Play` holds (`Moved`), of the trace as the watch tells it (`Watches`).
 ///
 /// If the rule knows a fact of a value that nobody writes, the step has to keep it (`Carrying`). A party that stops
-/// writing has to show the fact of the value that it leaves, with the trace after the step. A party that begins to
-/// use the
-/// value learns the fact of the value that it is shown (`Found`).
+/// writing has to show the fact of the value that it leaves, with the trace after the step. A party that begins to use
+/// the value learns the fact of the value that it is shown (`Found`).
 impl<'a, T, V, E, S, P: Rule<T, V, Second = Trace<E, S>>> Permit<'a, T, V, P> {
     /// Loads the first word.
     pub fn load<M: Play<P::Key, V, E>>(self, seen: Watch<E>) -> (u64, Permit<'a, T, V, P>, Watch<E>)

@@ -28,16 +28,13 @@ use std::sync::Wait;
 
 /// A thread's record of its calls of a [`TicketMutex`].
 ///
-/// The lock's cell keeps the list of all moves that threads have made in it (its history). A pass knows which of
-/// these
-/// moves are its own, and the whole list up to its own last move. Calls without a pass are in the history too, as
-/// calls of
-/// others. A pass is as large as a reference to the lock. It can be sent, and a lock can have any number of passes.
+/// The lock's cell keeps the list of all moves that threads have made in it (its history). A pass knows which of these
+/// moves are its own, and the whole list up to its own last move. Calls without a pass are in the history too, as calls
+/// of others. A pass is as large as a reference to the lock. It can be sent, and a lock can have any number of passes.
 ///
 /// # Contract
-/// Each call takes the pass and returns it. It ensures `Called`: among the new moves of the history, those of this
-/// pass are exactly one call with the returned answer. In the lock's model that call gets this answer, at its place
-/// among
+/// Each call takes the pass and returns it. It ensures `Called`: among the new moves of the history, those of this pass
+/// are exactly one call with the returned answer. In the lock's model that call gets this answer, at its place among
 /// the moves of all threads, and no move of the history is skipped.
 ///
 /// # Examples
@@ -81,11 +78,9 @@ impl<T, R> TicketMutex<T, R> {
     /// A guard that is dropped releases the lock too, and ends its pass.
     ///
     /// # Contract
-    /// `seen` has to be what [`Pass::lock`] or [`Pass::try_lock`] returned with the guard (`Holds`). The release is
-    /// the
-    /// next call of the pass (`made`). Just before it the history gets a write of the guard's value (`wrote`). So
-    /// that value is
-    /// the one written last (`left`).
+    /// `seen` has to be what [`Pass::lock`] or [`Pass::try_lock`] returned with the guard (`Holds`). The release is the
+    /// next call of the pass (`made`). Just before it the history gets a write of the guard's value (`wrote`). So that
+    /// value is the one written last (`left`).
     pub fn unlock<'a>(guard: TicketMutexGuard<'a, T, R>, seen: Watch<Entry<T>>) -> Pass<'a, T, R>
         requires { Holds guard seen }
         ensures made { Left (guard_key guard.entry) (λ x. Unit {0}) (Some (guard_view guard.entry)) seen.entries result.permit.view result.seen.entries }
@@ -140,8 +135,7 @@ impl<'a, T, R> Pass<'a, T, R> {
     ///
     /// # Contract
     /// The call is one `TryLock`. Its answer is `Granted` with a guard (`granted`), else `Refused` (`refused`). The
-    /// guard's
-    /// value is the one written last in the history (`found`).
+    /// guard's value is the one written last in the history (`found`).
     pub fn try_lock(self) -> Result<(TicketMutexGuard<'a, T, R>, Watch<Entry<T>>), Pass<'a, T, R>>
         ensures holder { IfOk result (λ held. IsHolder use_of_party held.0 × Holds held.0 held.1) }
         ensures same { IfOk result (λ held. (held.1.name ≡ self.entry.seen.name) × (guard_key held.0 ≡ self.entry.permit.key)) }
@@ -222,8 +216,7 @@ impl<'a, T, R> Pass<'a, T, R> {
     /// Compares what two passes of one lock know. It does nothing when it runs.
     ///
     /// # Contract
-    /// One of them knows a prefix of the history that the other knows. So both know one history. The longer one has
-    /// the
+    /// One of them knows a prefix of the history that the other knows. So both know one history. The longer one has the
     /// calls of both passes, each once, in the order in which each pass made them.
     pub fn compare(&self, other: &Pass<'_, T, R>)
         requires { self.now.seen.name ≡ other.now.seen.name }
@@ -251,8 +244,7 @@ pub(super) fn go<'a, T>(
 }
 
 impl<'a, T> Going<'a, T> {
-    // Takes the ticket. `Err` is a call that tries the number found instead. Once the tickets are used up, that is
-    // the
+    // Takes the ticket. `Err` is a call that tries the number found instead. Once the tickets are used up, that is the
     // same number.
     pub(super) fn take(self) -> Result<Place<'a, T>, Going<'a, T>>
         ensures { GoesFor self.entry result }
@@ -288,8 +280,7 @@ impl<'a, T> Going<'a, T> {
 }
 
 impl<'a, T> Place<'a, T> {
-    // The next thread in turn looks again after one hint. A thread with others before it looks seldom, so that it
-    // does
+    // The next thread in turn looks again after one hint. A thread with others before it looks seldom, so that it does
     // not disturb them.
     pub(super) fn pause(&self) -> u32 {
         if self.ahead <= 1 {

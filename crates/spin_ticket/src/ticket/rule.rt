@@ -37,11 +37,9 @@ pub enum View {
 /// Callers need not name it: it is a parameter of the guard's type.
 ///
 /// # Contract
-/// `IsQueue`: the words are those of a plain lock whose tickets are those of the parties that wait or have entered.
-/// The
+/// `IsQueue`: the words are those of a plain lock whose tickets are those of the parties that wait or have entered. The
 /// trace is a schedule of the lock's model, which leads to these words and to each party's view. A value that nobody
-/// holds
-/// is the one that this schedule writes last (`IsLast`), until the owner borrows it.
+/// holds is the one that this schedule writes last (`IsLast`), until the owner borrows it.
 pub struct TicketRule;
 
 impl<T> Rule<T, Party> for TicketRule {
