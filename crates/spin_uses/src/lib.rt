@@ -1,4 +1,4 @@
-//! Callers of the locks: a ledger, a cache, rounds of workers, settings. Each has a promise of its own, which rests on
+//! Callers of the locks: a ledger, a cache, rounds of workers, settings. Each makes a promise of its own, which uses
 //! the promises of the locks.
 //!
 //! Begin with [`ledger`].
