@@ -12,9 +12,9 @@ use Rattle.spin_world_core.specs.Runs.{opening}
 use Rattle.spin_world_core.specs.Users.{seen_after}
 use Rattle.spin_world.specs.Turns.{tickets_gone}
 
--- Since it knew `old`, a party has entered with a ticket. It now knows `new`, and has this view. Take any moment before
--- it entered:
--- from then on exactly as many tickets left as were between the served number and its own.
+-- Since it knew `old`, a party has entered with a ticket. It now knows `new`, and has this view.
+-- Take any moment before it entered. Until it did, exactly as many tickets left as were then between the served number
+-- and its own.
 pub record EntersInTurn {X T : Type 0} (key : Key T) (view : Option (Numbered X)) (old new : List (Made T)) : Type 0 where
   pub party : ℕ
   pub is_number : IsNumber party view
