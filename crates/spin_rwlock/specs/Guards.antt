@@ -13,7 +13,7 @@ use Rattle.spin_rwlock.specs.declared.rwlock.rule.View.{View}
 use Rattle.spin_rwlock.specs.Rw.{Done}
 
 module _ {T R : Type 0} where
-  -- of a guard there always is one
+  -- a guard always has one
   abbrev pub shared_value : {K : Type 0} {kind : Ghosts K} → SharedGuard T K R kind → Option T
   shared_value it = it.permit.value
 
@@ -27,7 +27,7 @@ module _ {T R : Type 0} where
   abbrev pub read_held_value : ReadHeld T R → Option T
   read_held_value it = it.permit.value
 
-  -- the value that is free when the hold is consumed
+  -- the value that the hold releases when it is consumed
   abbrev pub write_held_value : WriteHeld T R → Option T
   write_held_value it = it.permit.value
 

@@ -1,4 +1,4 @@
--- What a call that waits, or tries again, comes to by its next steps.
+-- What a call that waits, or tries again, does by its next steps.
 use Rattle.std.specs.Prelude.{◌≡◌, Some, Option, List, Result, IfOk, IfErr}
 use Rattle.spin_core.specs.Own.{Numbered}
 use Rattle.spin_core.specs.Passes.{Waits, Ends, IsCall}
