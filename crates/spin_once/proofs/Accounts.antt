@@ -1,4 +1,4 @@
--- What a step tells a party that keeps account, and how its account goes on from step to step.
+-- What a step tells a party that keeps a record of its calls, and how that record grows from step to step.
 use Rattle.std.proofs.Common.{◌≡◌, ℕ, ◌+◌, Bool, true, false, Option, Some, None, List, [], ◌∷◌, ◌++◌, replicate, length, ◌==◌, ◌≢◌, if◌then◌else◌, refl, sym, ap, ◌∙◌, subst, ne_eqb}
 use Rattle.std.proofs.lemmas.List.{append_assoc}
 use mathlib.Core.Logic.{◌⊎◌, inl, inr}
@@ -32,7 +32,7 @@ module _ {T S : Type 0} (makes : S → T → Type 0) (key : Key S) where
   pub may_know : (seen : Watch Made) → key.start.name ≡ seen.name → Of seen.name
   may_know seen named = passes.may_know (IsOnce key.given.value key.start.name) (once_ways makes key.seed) key.start.name (λ n t vs is. is.0) seen.name named
 
-  -- after any step it knows all again, by a watch of the same trace
+  -- after any step the party again knows everything, by a watch of the same trace
   pub keeps : (says : Says) (view view' : Option (Numbered View)) (before now : Watch Made) (key' : Key S) (found : ℕ) → mark_of view ≡ length before.entries → key.start.name ≡ before.name → key' ≡ key
       → Moved (Watches (Of before.name) before now (Told key.given.value says view) found) view' → (key'.start.name ≡ now.name) × (mark_of view' ≡ length now.entries)
   keeps says view None before now key' found knew named same moved = absurd moved
@@ -79,7 +79,7 @@ module _ {S : Type 0} (p q : Place S) where
   pub ends : (c : OnceCall (Unit {0})) (a : Answer (Unit {0})) → Since p (IsStep true c (Answered a None)) q → Since p (Ends a) q
   ends c a (same, named, made) = (same, named, passes.ends (model p.0.given.value) p.1 q.1 p.2.entries q.2.entries c a made)
 
-  -- by what the step came to
+  -- by the outcome of the step
   pub comes_to : (goes_on : Bool) (c : OnceCall (Unit {0})) (end end' : Ending) → end ≡ end' → Since p (IsStep goes_on c end) q → Since p (IsStep goes_on c end') q
   comes_to goes_on c end end' e made = subst (λ o. Since p (IsStep goes_on c o) q) e made
 

@@ -26,7 +26,7 @@ use Rattle.spin_once.proofs.Steps as steps
 use Rattle.spin_once.proofs.Steps.{ComesTo, finds_leads, looked_leads, polled_leads}
 use Rattle.spin_once.proofs.Moves.{Moves, get_moves, completed_moves, come_moves, begin_moves, look_moves, wait_moves, poll_moves, end_moves, fail_moves}
 
--- a party that goes on uses nothing
+-- a party whose call continues does not use the value
 unused_where_it_begins : (view : Option View) → may_begin view ≡ true → use_of use_of_view view ≡ off
 unused_where_it_begins (Some (InCall c TryBegin)) may = refl
 unused_where_it_begins _ may = absurd (cc (may))
@@ -35,7 +35,7 @@ unused_where_it_looks : (view : Option View) → may_look view ≡ true → use_
 unused_where_it_looks (Some (InCall c Await)) may = refl
 unused_where_it_looks _ may = absurd (cc (may))
 
--- where it runs it is in a call
+-- a party that runs a closure is in a call
 call_that_runs : (v : View) → is_running v ≡ true → v ≡ InCall (call_of (Some v)) Run
 call_that_runs (InCall c Run) may = refl
 call_that_runs _ may = absurd (cc (may))
@@ -141,7 +141,7 @@ module _ {T S : Type 0} (makes : S → T → Type 0) (seed : Snapshot S) (given 
   made_of_any any (Done value) done = any seed.value value
   made_of_any any _ done = absurd cc
 
-  -- where one reads the value it was made, and any that was made may take its place
+  -- if one reads the value it was made, and any made value may replace it
   pub stabilizes : ((it : S) (value : T) → makes it value) → StableAt (IsOnce given name) (once_ways makes seed) is_done 2
   stabilizes any t x lies =
       let vs = lies.0 in

@@ -1,4 +1,5 @@
--- The moves of each step of a value that is made once, by computation: a call of the model and its first step, or the next step of a call.
+-- The moves of each step of a value that is made once, by computation: a call of the model and its first step, or the
+-- next step of a call under way.
 use Rattle.std.proofs.Common.{◌≡◌, Bool, true, false, ℕ, zero, suc, ◌==◌, [], ◌∷◌, List, Option, Some, None, refl, arith}
 use prog.Atomic.{either}
 use Rattle.spin_core.specs.Run.{AreMoves, on_first, first}
@@ -17,7 +18,7 @@ module _ (given : Option (Unit {0})) where
   abbrev pub Moves : Option View → (ℕ → ℕ) → (ℕ → View → Type 0) → (List OneMove → List Ending → ℕ → View → Type 0) → Type 0
   Moves view f = AreMoves (model given) seat_of words_of view (on_first f) first
 
-  -- what a party does that has not come yet, one does that is in no call
+  -- a party that is in no call makes the moves of a new party
   out_moves : (view : Option View) → is_out view ≡ true → (to : ℕ → View) (says : Says) → Moves None (λ n. n) (ComesTo None to) says → Moves view (λ n. n) (ComesTo view to) says
   out_moves None out to says moves = moves
   out_moves (Some Idle) out to says moves = moves
@@ -131,6 +132,6 @@ module _ (given : Option (Unit {0})) where
   end_moves (InCall (TryCallOnceOk u) Run) may w value v is = rw is (Step ∷ [], Answered (Value tt) None ∷ [], (refl, (refl, refl)), refl, refl, 2, Some tt, refl, refl, refl)
   end_moves _ may w value v is = absurd (cc (may))
 
-  -- its closure has failed: the model's call goes on as one whose closure fails
+  -- its closure has failed: the model's call continues as one whose closure fails
   pub fail_moves : Moves (Some (InCall (TryCallOnceOk tt) Run)) (λ _. 0) (λ _ v. v ≡ Idle) fails_by
   fail_moves w value v is = rw is (Weak ∷ Step ∷ [], GoingOn ∷ Answered Failed None ∷ [], (refl, (refl, refl)), refl, refl, 0, value, refl, refl, refl)
