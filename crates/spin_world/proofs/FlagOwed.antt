@@ -1,4 +1,4 @@
--- What the flag's table owes.
+-- What the flag's table must show.
 use Rattle.std.proofs.Common.{◌≡◌, ℕ, Bool, Option, List, [], refl, arith}
 use Rattle.spin_step.specs.Plain.{Plain, writing}
 use Rattle.spin_step.proofs.Holders.{is_holder-from_entries, length-held}
@@ -33,7 +33,7 @@ module _ {V : Type 0} (v : V) where
   flag_pays =
       record {
         fits = λ p c l h. grind arith;
-        -- a lost exchange finds a set flag, and leaves it
+        -- an exchange that fails finds a set flag, and does not change it
         operates = λ c l h w one. grind arith;
         first = refl;
         shape_first = refl;
