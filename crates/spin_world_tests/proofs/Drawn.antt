@@ -38,11 +38,11 @@ joined a b c early late (i, first, to) (j, second, end) =
     ranges a (suc i) j b zero from sum = absurd (omega (arith, sum))
     ranges a (suc i) j b (suc n) from sum = ap (λ ns. a ∷ ns) (ranges (a + 1) i j b n (omega (arith, from)) (omega (arith, sum)))
 
--- what an event comes to draws so
+-- the event draws these numbers
 abbrev DrawsIn : Dispensed → Happened ℕ (Unit {0}) DispenserCall DispenserPoint DispenserAnswer → Type 0
 DrawsIn s h = Draws s.words (number_in h.outcome) h.next.words
 
--- either way
+-- in both cases
 by_test : (P : Bool → Type 0) (b : Bool) → P true → P false → P b
 by_test P true x y = x
 by_test P false x y = y
