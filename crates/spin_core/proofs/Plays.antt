@@ -20,8 +20,7 @@ use Rattle.spin_core.proofs.Views.{number, part_before, own_part, lock_after, re
 use Rattle.spin_core.proofs.CellViews.{came_to}
 
 -- A lock over the cell: what each view is in the plain lock, and how it uses the value; the view of a party that has
--- nothing;
--- the first word; the second word or nothing; and that parties use the value together only if they may.
+-- nothing; the first word; the second word or nothing; and that parties use the value together only if they may.
 pub record Lock (V S : Type 0) : Type 1 where
   pub part : V → Part
   pub uses : V → Use

@@ -39,9 +39,8 @@ module _ {W V C L A : Type 0} (t : Table W V C L A) (n : Notes t) (test : Entrie
   busy_so p o none reads sits = grind (arith, none, reads, sits)
 
 -- A party that waits: for an event that passes the test. Then its call and what it holds; the points of the call, and
--- what is known there; what holds at the end of the rounds;
--- its own load, by the plain lock and the point; and the load of each other party, which depends on that party's seat
--- too.
+-- what is known there; what holds at the end of the rounds; its own load, by the plain lock and the point; and the load
+-- of each other party, which depends on that party's seat too.
 pub record Wait (W V C L A : Type 0) : Type 1 where
   pub goal : Test V C L A
   pub party : ℕ
