@@ -37,7 +37,7 @@ latch_calls (gives_back (Some Read)) = true
 latch_calls (gives_back (Some Write)) = true
 latch_calls _ = false
 
--- a call that wants to read looks first; a call that wants to write does not
+-- one that wants to read looks first, and one that wants to write does not
 abbrev pub latch_undisturbed_steps : Asked → ℕ
 latch_undisturbed_steps (waits to_write) = 1
 latch_undisturbed_steps what = steps_past_a_look what

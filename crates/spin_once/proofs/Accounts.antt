@@ -32,7 +32,7 @@ module _ {T S : Type 0} (makes : S → T → Type 0) (key : Key S) where
   pub may_know : (seen : Watch Made) → key.start.name ≡ seen.name → Of seen.name
   may_know seen named = passes.may_know (IsOnce key.given.value key.start.name) (once_ways makes key.seed) key.start.name (λ n t vs is. is.0) seen.name named
 
-  -- after any step the party again knows everything, by a watch of the same trace
+  -- after any step it knows all again, by a watch of the same trace
   pub keeps : (says : Says) (view view' : Option (Numbered View)) (before now : Watch Made) (key' : Key S) (found : ℕ) → mark_of view ≡ length before.entries → key.start.name ≡ before.name → key' ≡ key
       → Moved (Watches (Of before.name) before now (Told key.given.value says view) found) view' → (key'.start.name ≡ now.name) × (mark_of view' ≡ length now.entries)
   keeps says view None before now key' found knew named same moved = absurd moved

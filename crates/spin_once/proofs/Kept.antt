@@ -35,7 +35,7 @@ unused_where_it_looks : (view : Option View) → may_look view ≡ true → use_
 unused_where_it_looks (Some (InCall c Await)) may = refl
 unused_where_it_looks _ may = absurd (cc (may))
 
--- a party that runs a closure is in a call
+-- where it runs it is in a call
 call_that_runs : (v : View) → is_running v ≡ true → v ≡ InCall (call_of (Some v)) Run
 call_that_runs (InCall c Run) may = refl
 call_that_runs _ may = absurd (cc (may))
@@ -141,7 +141,7 @@ module _ {T S : Type 0} (makes : S → T → Type 0) (seed : Snapshot S) (given 
   made_of_any any (Done value) done = any seed.value value
   made_of_any any _ done = absurd cc
 
-  -- if one reads the value it was made, and any made value may replace it
+  -- where one reads the value it was made, and any that was made may take its place
   pub stabilizes : ((it : S) (value : T) → makes it value) → StableAt (IsOnce given name) (once_ways makes seed) is_done 2
   stabilizes any t x lies =
       let vs = lies.0 in

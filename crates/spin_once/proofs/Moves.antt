@@ -132,6 +132,6 @@ module _ (given : Option (Unit {0})) where
   end_moves (InCall (TryCallOnceOk u) Run) may w value v is = rw is (Step ∷ [], Answered (Value tt) None ∷ [], (refl, (refl, refl)), refl, refl, 2, Some tt, refl, refl, refl)
   end_moves _ may w value v is = absurd (cc (may))
 
-  -- its closure has failed: the model's call continues as one whose closure fails
+  -- its closure has failed: the model's call goes on as one whose closure fails
   pub fail_moves : Moves (Some (InCall (TryCallOnceOk tt) Run)) (λ _. 0) (λ _ v. v ≡ Idle) fails_by
   fail_moves w value v is = rw is (Weak ∷ Step ∷ [], GoingOn ∷ Answered Failed None ∷ [], (refl, (refl, refl)), refl, refl, 0, value, refl, refl, refl)

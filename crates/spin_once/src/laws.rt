@@ -10,15 +10,14 @@ ghost use Rattle.spin_once.specs.declared.once_core.rule.View.{View};
 /// Each run of a [`Once`](crate::once::Once) or a [`LazyLock`](crate::lazylock::LazyLock) on threads is a schedule of
 /// its object.
 ///
-/// The cell keeps, without a byte, the list of all moves that threads have made in it: which party, and which move. The
-/// object's table names from the beginning whether the closure of a call fails; on threads that shows only at its end.
-/// So in the schedule each such call is named by how it ends, and the moves that report a failure are left out
-/// (`foretold`).
+/// The cell keeps, without a byte, the list of all moves that threads have made in it so far: who, and which move. The
+/// object's table names beforehand whether the closure of a call fails. On threads that shows where it ends. So the
+/// schedule is the list with each such call named by how it ends, and without the moves that say so (`foretold`).
 ///
 /// # Contract
-/// The law holds between any two steps of threads (`IsOnce`): no move of the schedule is skipped in the object. After
-/// it the object has the cell's word, and each party is where the cell has it. `given` is the cell's opening value, if
-/// it has one. The marks of the parties count the moves of the schedule (`counted`).
+/// Whatever holds between any two steps of threads (`IsOnce`): no move of the schedule is passed over in the object.
+/// After it the object has the cell's word, and has each party where the cell has it. `given` is the value that the cell
+/// was made with, or none. The marks of the parties count the moves of the schedule (`counted`).
 pub fn every_run_of_a_once_is_a_schedule()
     ensures { (given : Option (Unit {0})) (name word : ℕ) (trace : Trace Made (Unit {0})) (parties : List (Numbered View)) → IsOnce given name word trace parties → IsRun (once_machine given) place_of words_of (foretold trace.entries) (word, trace.word) (map (counted trace.entries) parties) }
 {}

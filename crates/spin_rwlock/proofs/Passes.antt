@@ -74,7 +74,7 @@ module _ {A : Type 0} (R : Option (Numbered View) → Type 0) (now : Watch Done)
   pub to_writer : name ≡ name' → Some v ≡ view → ((name' ≡ now.name) × (mark_of view ≡ length now.entries)) × A × R view → ((name ≡ now.name) × (v.2 ≡ length now.entries)) × A × R (Some v)
   to_writer same is (knows, a, r) = ((same ∙ knows.0, ap mark_of is ∙ knows.1), a, subst R (sym is) r)
 
--- two facts about a result
+-- two facts of what a result has
 pub both_ok : {X Y : Type 0} (r : Result X Y) (P Q R : X → Type 0) → ((x : X) → P x → Q x → R x) → IfOk r P → IfOk r Q → IfOk r R
 both_ok (Ok x) P Q R so p q = so x p q
 both_ok (Err y) P Q R so p q = tt

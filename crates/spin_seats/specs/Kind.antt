@@ -1,5 +1,4 @@
--- What kind of lock the seats are: the word, the plain steps, the calls, and how many steps an undisturbed call
--- takes.
+-- What kind of lock the seats are: the word, the plain steps that it makes, its calls, and how soon a call is answered that nobody disturbs.
 use Rattle.std.specs.Prelude.{Bool, true, false, Some, []}
 use Rattle.spin_step.specs.Plain.{reading, to_read, Change, gets, releases, flag_word}
 use Rattle.spin_model.specs.declared.place.Hold.TheVariants.{Read}

@@ -1,5 +1,4 @@
--- What kind of lock a fair lock is: its word, its plain steps, its calls, and how many steps an undisturbed call
--- takes.
+-- What kind of lock a fair lock is: its word, the plain steps that it makes, its calls, and how soon a call is answered that nobody disturbs.
 use Rattle.std.specs.Prelude.{Bool, true, false, Some, []}
 use Rattle.spin_step.specs.Plain.{writing, to_lock_unregistered, to_lock_starving, to_lock_starving_alone, to_starve, Change, gets, releases, stops_starving, fair_word}
 use Rattle.spin_model.specs.declared.place.Hold.TheVariants.{Write, Starver}

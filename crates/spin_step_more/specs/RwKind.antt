@@ -1,5 +1,4 @@
--- What kind of lock a read-write lock is: its word, its plain steps, its calls, and how many steps an undisturbed
--- call takes.
+-- What kind of lock a read-write lock is: its word, the plain steps that it makes, its calls, and how soon a call is answered that nobody disturbs.
 use Rattle.std.specs.Prelude.{ℕ, Bool, true, false, Some, []}
 use Rattle.spin_step.specs.Plain.{reading, upgradable, to_read, to_read_upgradable, to_write, to_upgrade, to_upgrade_asked, Change, gets, releases, turns, rw_word}
 use Rattle.spin_model.specs.declared.place.Hold.TheVariants.{Read, Upgradable, Write}
@@ -36,8 +35,7 @@ rw_calls (gives_back (Some Upgradable)) = true
 rw_calls (gives_back (Some Write)) = true
 rw_calls _ = false
 
--- A call that waits to write makes its exchange at once. A call that wants to read looks first. A call that upgrades
--- asks first.
+-- a party that waits to write makes its exchange without a look, one that wants to read looks first, and one that upgrades asks first
 abbrev pub rw_undisturbed_steps : Asked → ℕ
 rw_undisturbed_steps (waits to_write) = 1
 rw_undisturbed_steps what = steps_past_a_look what

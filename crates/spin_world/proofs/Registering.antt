@@ -29,7 +29,7 @@ MayBeBlind n p span = may_be_blind p n span ≡ true
 abbrev pub none_left : List Mark → Type 0
 none_left recent = ⊥
 
--- how many steps were made since that look when `lock` loads the word, and when it is about to exchange the word w
+-- so many steps since it when `lock` loads the word, and when it is about to make its exchange of the word w
 abbrev pub few_to_load : ℕ → List Mark → Type 0
 few_to_load p recent = own_count p recent ≤ changes fair p recent
 

@@ -1,5 +1,4 @@
--- What a lock of seats is: its first state, how many seats it has, and what each of its calls asks. What a call asks
--- decides where it begins.
+-- What a lock of seats is: how it opens, how many seats it has, and what each of its calls asks. Where a call begins follows from what it asks.
 use Rattle.std.specs.Prelude.{◌≡◌, ℕ, true, Option, Some, [], ◌∷◌}
 use Rattle.spin_step.specs.Plain.{to_read, fresh}
 use Rattle.spin_seats.specs.Seats.{seats}

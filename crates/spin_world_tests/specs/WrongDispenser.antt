@@ -48,7 +48,7 @@ wraps = draws_by 1 (λ k. Some (if nat_lt k 1 then k + 1 else 0)) drawn (λ k. g
 abbrev pub says_zero : DispenserMachine
 says_zero = draws_by 2 (next_after 2) (λ k. drawn 0) (λ k. goes_for)
 
--- its kind of lock has a call that returns a number
+-- its kind of lock takes numbers back
 abbrev with_return : Asked → Bool
 with_return (gives_back (Some Read)) = true
 with_return what = dispenser_calls what

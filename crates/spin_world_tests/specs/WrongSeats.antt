@@ -119,7 +119,7 @@ count_alone = (0, Begin call.Count) ∷ (0, Step) ∷ []
 abbrev pub slow_seats : LockKind
 slow_seats = record kind.seats { undisturbed_steps = λ what. 1000 }
 
--- `enter` looks again and again, and its kind of lock allows it a thousand steps
+-- `enter` looks again and again, and its kind of lock lets it take a thousand steps
 abbrev pub looks_on : SeatsMachine
 looks_on =
     let t : SeatsTable = seats_table 2 in
@@ -128,7 +128,7 @@ looks_on =
 abbrev pub enter_in_vain : Entries
 enter_in_vain = (0, Begin call.Enter) ∷ (0, Step) ∷ (0, Step) ∷ (0, Step) ∷ (0, Step) ∷ []
 
--- its kind of lock lacks a call, so a party that sits need not be able to leave
+-- its kind of lock has a call less, so that it owes none to a party that sits
 abbrev without_leave : Asked → Bool
 without_leave (gives_back h) = false
 without_leave what = kind.seats.calls what

@@ -27,7 +27,7 @@ impl<T: Stabilizes, V, P: Rule<MaybeStable<T>, V>> Cell<MaybeStable<T>, V, P> {
     /// Returns a mutable reference to the value if the first word is `first`. The borrow shows that there is no permit.
     ///
     /// # Contract
-    /// Whenever the rule holds of that word, the value has to be stable (`StableAt`). It stays stable.
+    /// Where the rule holds of that word the value has to be stable (`StableAt`). It stays so.
     pub fn get_stable(&mut self, first: u64) -> Option<&mut Stable<T>>
         requires { StableAt (P.holds self.old) (P.ways self.old) T.stable first }
     {

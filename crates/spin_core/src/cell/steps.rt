@@ -31,9 +31,9 @@ pub trait Play<K, V, E> {
 /// and keep the rule (`Traces`). The watch has to be of the cell's trace, or to know nothing (`MayKnow`). After the
 /// step the `Play` holds (`Moved`), of the trace as the watch tells it (`Watches`).
 ///
-/// If the rule knows a fact of a value that nobody writes, the step has to keep it (`Carrying`). A party that stops
-/// writing has to show the fact of the value that it leaves, with the trace after the step. A party that begins to use
-/// the value learns the fact of the value that it is shown (`Found`).
+/// Where the rule knows a fact of a value that nobody writes, the step has to keep it (`Carrying`). A party that has
+/// written leaves the fact of what it was shown, and the trace then. One that comes to use the value is told the fact of
+/// what it is shown (`Found`).
 impl<'a, T, V, E, S, P: Rule<T, V, Second = Trace<E, S>>> Permit<'a, T, V, P> {
     /// Loads the first word.
     pub fn load<M: Play<P::Key, V, E>>(self, seen: Watch<E>) -> (u64, Permit<'a, T, V, P>, Watch<E>)

@@ -1,4 +1,4 @@
-//! The calls of a [`Once`] by a thread that keeps track of them. Begin at [`Once::pass`].
+//! The calls of a [`Once`] by a thread that keeps account of them. Begin at [`Once::pass`].
 ghost use Rattle.std.specs.Prelude.{◌≡◌, ◌⊎◌, Some, None, Err, [], true, IfOk, IfErr};
 ghost use mathlib.Core.List.{IsPrefix};
 ghost use Rattle.spin_core.specs.Own.{what};
@@ -65,7 +65,7 @@ impl<'a, T, R> Pass<'a, T, R> {
     /// Returns the value, or `None` if there is none yet, as [`Once::get`] does.
     ///
     /// # Contract
-    /// The call is one `Get`. Its answer is `Value` with a reference, else `NoValue` (`made`).
+    /// The call is one `Get`, with the answer `Value` and a reference, or else `NoValue` (`made`).
     pub fn get(self) -> (Option<&'a T>, Pass<'a, T, R>)
         ensures made { Called Get (found_or_none result.0) self.entry result.1 }
     {
@@ -162,7 +162,7 @@ impl<'a, T, R: RelaxStrategy> Pass<'a, T, R> {
     /// Returns the value, or `None` if there is none and no closure runs, as [`Once::poll`] does.
     ///
     /// # Contract
-    /// The call is one `Poll`, however often it looked. Its answer is `Value` with a reference, else `NoValue`
+    /// The call is one `Poll`, however often it looked, with the answer `Value` and a reference, or else `NoValue`
     /// (`made`). Whether and when it returns is not promised.
     pub fn poll<W: Wait>(self, rt: &W) -> (Option<&'a T>, Pass<'a, T, R>)
         ensures made { Called Poll (found_or_none result.0) self.entry result.1 }
