@@ -1,4 +1,5 @@
--- Steps keep what is known of the value: moves that write nothing keep it, and the value that a holder writes is the one that it leaves.
+-- Steps keep what is known of the value. Moves that write nothing keep it, and a holder writes the value that it
+-- leaves.
 use Rattle.std.proofs.Common.{◌≡◌, ℕ, zero, suc, Bool, true, false, Option, Some, None, List, [], ◌∷◌, ◌++◌, refl, sym, ap, ◌∙◌, subst}
 use Rattle.spin_model.specs.declared.schedule.Move.{Move}
 use Rattle.spin_model.specs.declared.schedule.Outcome.{Outcome}

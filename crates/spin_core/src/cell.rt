@@ -22,7 +22,7 @@ pub use steps::Play;
 
 /// A rule: what holds of a cell's words and of its parties between any two steps.
 ///
-/// `V` is what a party is to the lock, a plain `Copy` enum of the lock's own, and `T` the value's type.
+/// `V` is the type of a party's view, a plain `Copy` enum of the lock's own. `T` is the value's type.
 pub trait Rule<T, V> {
     // What is fixed when a cell is made, such as the closure of a lazy value.
     type Key;
