@@ -48,9 +48,9 @@ fn texts<'a, A: Allocator>(
 /// a line about it on `errors`.
 ///
 /// # Contract
-/// The caller gives streams that have not failed. For some words the status means what it means for `program`. Or the
-/// fault, wrong usage or no memory, is from before the words are known (`IsWordless`). Then `input` and `output` are
-/// unchanged.
+/// The caller gives streams that have not failed. Either the status means what it means for `program`, for some words.
+/// Or the run failed before the words were known, by wrong usage or for lack of memory (`IsWordless`). Then `input` and
+/// `output` are unchanged.
 pub fn program_over_arguments<I: Source, O: Sink, E: Sink, R: Env + AllocGlobal>(
     rt: &R,
     input: &mut I,
