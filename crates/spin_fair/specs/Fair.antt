@@ -1,4 +1,5 @@
--- The rule of a fair mutex: its word is that of a plain lock whose holders and starvers are its parties, and its trace is a schedule of the lock's model, which leads there.
+-- The rule of a fair mutex. Its word is that of a plain lock whose holders and starvers are its parties. Its trace is a
+-- schedule of the lock's model, which leads there.
 use Rattle.std.specs.Prelude.{◌≡◌, ◌⊎◌, ℕ, ◌+◌, ◌++◌, Bool, true, false, List, [], ◌∷◌, map, Option, Some, None, if◌then◌else◌, ◌%◌, ◌==◌, nat_lt, is_some, ◌<◌, ◌≤◌, slice_get}
 use Rattle.spin_step.specs.Plain.{writing, fair_word}
 use Rattle.spin_step_more.specs.Starvers.{most_starvers, is_set, starve}
@@ -67,14 +68,14 @@ seat_of (Setting c) = seat.Calling c point.SetFlag (held_before c)
 seat_of (Awaiting c) = seat.Calling c point.Await (held_before c)
 seat_of (HoldingStarving c) = seat.Calling c point.Unregister (held_before c)
 
--- a `lock` registers by the next look that finds the flag set after so many
+-- a `lock` registers after this many looks that found the flag set
 abbrev pub patience : ℕ
 patience = 1025
 
 abbrev pub model : Machine ℕ (Unit {0}) FairCall FairPoint (Answer (Unit {0}))
 model = fair_machine tt most_starvers patience
 
--- the lock's words, by the model's
+-- the words of the lock, from those of the model
 abbrev pub words_of : ℕ → ℕ × Unit {0}
 words_of w = (w, tt)
 
@@ -327,7 +328,7 @@ awaits_by view = steps_by true (call_of view) (λ n. GoingOn ∷ []) (awaited_by
 abbrev pub served_by : Option View → Says
 served_by view = steps_by true (call_of view) (λ n. answered answer.Granted ∷ []) (λ n. Served)
 
--- what the parties are
+-- the views of the parties
 abbrev pub views_of : List (Numbered View) → List View
 views_of parties = map (λ v. v.0) parties
 

@@ -52,7 +52,7 @@ module _ {T P R S : Type 0} where
   abbrev pub Gets : Course (Unit {0}) FairCall (Answer (Unit {0})) → Account T → Held T P R S → Type 0
   Gets course was held = IsHolder use_of_party held.0 × Holds held.0 held.1 × Comes_by course was (Some (guard_view held.0)) held.1
 
-  -- an attempt of `lock`: it is granted, or goes on with a look
+  -- an attempt of `lock`: it is granted the lock, or continues with a look
   abbrev pub LocksOrWaits : Bool → Account T → Result (Held T P R S) (Waiting T) → Type 0
   LocksOrWaits goes_on was r = IfOk r (Gets (Comes goes_on Lock (Some Granted)) was) × IfErr r (λ next. Goes (Comes goes_on Lock None) was next.account)
 
