@@ -425,8 +425,8 @@ pub fn read_shared<T: Copy, P: Order<T>, H: History, L: SharedLock<Register<T, H
 /// Tries to read a register under a lock, and does not wait for it.
 ///
 /// # Contract
-/// A value is as [`read`] returns it. After `None` the caller knows what it knew before. `None` is returned only if the
-/// lock's `try_with` returns its closure; this a test shows.
+/// A value is as [`read`] returns it. After `None` the caller knows what it knew before. A test shows that `None` is
+/// returned only if the lock's `try_with` returns its closure.
 pub fn try_read<T: Copy, P: Order<T>, H: History, L: Lock<Register<T, H, P>>>(
     lock: &L,
     seen: &mut Snapshot<T, H>,
@@ -578,8 +578,8 @@ pub fn update<
 ///
 /// # Contract
 /// The value has to be one that may follow any other. After `true` it is written as by [`write`]. After `false` the
-/// caller knows what it knew before. `false` is returned only if the lock's `try_with` returns its closure; this a test
-/// shows.
+/// caller knows what it knew before. A test shows that `false` is returned only if the lock's `try_with` returns its
+/// closure.
 ///
 /// # Examples
 /// ```

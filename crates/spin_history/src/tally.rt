@@ -177,7 +177,7 @@ pub fn open<K: Work>(work: K) -> K::Answer
 ///
 /// # Contract
 /// The share must not be empty. If the answer is `true`, it counts `more`; otherwise it is unchanged. After `false`
-/// there is some number to which `more` cannot be added (`full`). That the tally held such a number, a test shows. If
+/// there is some number to which `more` cannot be added (`full`). A test shows that the tally held such a number. If
 /// the share has all parts of the ledger, the answer is `true` exactly if the sum fits (`whole`). Whether and when the
 /// call returns is not promised.
 pub fn add<L: Ledger, K: Lock<Tally<L>>, W: Wait>(
