@@ -1,4 +1,5 @@
--- An object as a table: for each point of a call the shape of its next step. From the shapes the machine is made, and what has to be proved of each step.
+-- An object as a table: the shape of the next step for each point of a call. The shapes determine the machine, and what
+-- has to be shown of each step.
 use Rattle.std.specs.Prelude.{ℕ, zero, suc, ◌+◌, ◌%◌, Bool, true, false, Option, Some, None, List, [], ◌∷◌, is_some, ◌==◌, if◌then◌else◌, get_or, unwrap_or}
 use Rattle.spin_step.specs.Plain.{Change, completes}
 use Rattle.spin_model.specs.declared.place.Hold.{Hold}

@@ -1,4 +1,4 @@
--- What a step of a call is: one operation on one word, as a processor makes it.
+-- What a step of a call is: one operation on one word, such as a processor makes.
 use Rattle.std.specs.Prelude.{◌≡◌, ℕ, ◌+◌, ◌-◌, ◌%◌, ◌==◌, Bool, true, false, Option, Some, is_some, if◌then◌else◌, get_or, slice_set}
 use Rattle.spin_model.specs.declared.place.Hold.{Hold}
 use Rattle.spin_model.specs.declared.step.Next.{Next}
