@@ -1,4 +1,4 @@
--- What a party's account of its calls says from one of its steps to another: which moves the party has made between.
+-- What a party's record of its calls says from one of its steps to a later one: which moves it has made in between.
 use Rattle.std.specs.Prelude.{◌≡◌, Bool, true, Option, Some, None, Result, Ok, Err, IfOk, IfErr}
 use Rattle.spin_core.specs.Own.{Numbered, what}
 use Rattle.spin_core.specs.Passes.{Ends, Waits, IsCall, IsStep}

@@ -40,7 +40,7 @@ use_of_view Idle = off
 use_of_view Reading = reads
 use_of_view (InCall c l) = used_at l
 
--- how a party uses what lies in the cell
+-- how a party uses the content of the cell
 abbrev pub use_of_party : Numbered View → Use
 use_of_party v = use_of_view v.0
 
@@ -79,7 +79,7 @@ abbrev pub Made : Type 0
 Made = Entry (OnceCall (Unit {0})) (Unit {0})
 
 module _ {T S : Type 0} (makes : S → T → Type 0) where
-  -- a value that somebody reads may be made from the seed, and what nobody uses is the seed itself
+  -- a value that somebody reads may be made from the seed; one that nobody uses is the seed itself
   abbrev pub IsMadeFrom : Snapshot S → Bool → Stage T S → Type 0
   IsMadeFrom seed true (Done value) = makes seed.value value
   IsMadeFrom seed false (Seed it) = it ≡ seed.value
@@ -94,7 +94,7 @@ seat_of Idle = seat.Idle
 seat_of Reading = seat.Idle
 seat_of (InCall c l) = seat.Calling c (at l) None
 
--- the lock's words, by the model's
+-- the words of the lock, from those of the model
 abbrev pub words_of : ℕ → ℕ × Unit {0}
 words_of w = (w, tt)
 
@@ -202,7 +202,7 @@ fails_by own outs n v = (v ≡ Idle) × IsFailure own outs
 abbrev pub Moving : Type 1
 Moving = Course (Unit {0}) (OnceCall (Unit {0})) (Answer (Unit {0}))
 
--- since it knew `old` it has made moves of this course, and no others
+-- since it knew `old` it has made exactly the moves of this course
 abbrev pub Moves : Option (Unit {0}) → Moving → Option (Numbered View) → List Made → Option (Numbered View) → List Made → Type 0
 Moves given course view old view' new = passes.Made (model given) view old view' new course
 

@@ -33,7 +33,7 @@ module _ {T R : Type 0} where
   abbrev pub given_of : Pass T R → Option (Unit {0})
   given_of it = it.account.party.key.given.value
 
-  -- the party of the pass: none before its first call
+  -- the party of the pass; there is none before its first call
   abbrev pub party : Pass T R → Option (Numbered View)
   party it = it.account.party.view
 
