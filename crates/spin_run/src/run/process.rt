@@ -49,9 +49,9 @@ fn texts<'a, A: Allocator>(
 /// a line about it on `errors`.
 ///
 /// # Contract
-/// The caller gives streams that have not failed. The status is 0, 1 or 2. For some words it means what it means for
-/// `program`. Or the fault, wrong usage or no memory, is from before the words are known. Then `input` and `output` are
-/// unchanged (`IsWordless`).
+/// The caller gives streams that have not failed. The status is 0, 1 or 2. Either it means what it means for `program`,
+/// for some words. Or the run failed before the words were known, by wrong usage or for lack of memory. Then `input`
+/// and `output` are unchanged (`IsWordless`).
 pub fn program_over_arguments<
     I: Source,
     O: Sink,
