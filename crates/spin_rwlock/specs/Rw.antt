@@ -1,4 +1,5 @@
--- The rule of a read-write lock: its word is that of a plain lock whose holders are its parties, and its trace is a schedule of the lock's model, which leads there.
+-- The rule of a read-write lock. Its word is that of a plain lock whose holders are its parties. Its trace is a
+-- schedule of the lock's model, which leads there.
 use Rattle.std.specs.Prelude.{◌≡◌, ◌≢◌, ◌⊎◌, ℕ, List, [], ◌∷◌, Bool, true, false, Option, Some, None, is_some, ◌==◌, if◌then◌else◌, map}
 use Rattle.spin_step.specs.Plain.{Plain, reading, upgradable, asking, writing, Ask, to_read, to_read_upgradable, rw_word}
 use Rattle.spin_step.specs.Orders.{IsInOrder}
@@ -95,7 +96,7 @@ Word = Encodes part reader_limit rw_word no_word
 abbrev pub IsRw : ℕ → ℕ → Trace Done (Unit {0}) → List (Numbered View) → Type 0
 IsRw = Runs model seat_of words_of Word
 
--- what the parties are
+-- the views of the parties
 abbrev pub views : List (Numbered View) → List View
 views vs = map (λ v. v.0) vs
 
@@ -126,7 +127,7 @@ is_out (Some v) = is_idle (seat_of v)
 abbrev pub IsOut : Option View → Type 0
 IsOut view = is_out view ≡ true
 
--- The courses of a call: its moves, and what they result in
+-- The courses of a call: its moves and their outcomes
 
 abbrev pub OneCourse : Type 1
 OneCourse = Course (Unit {0}) RwCall (Answer (Unit {0}))
@@ -227,7 +228,7 @@ call_of Upgradable false = TryUpgradeableRead
 call_of _ true = Read
 call_of _ false = TryRead
 
--- what it asks of the plain lock
+-- what the call asks of the plain lock
 abbrev pub asks : View → Ask
 asks Upgradable = to_read_upgradable
 asks _ = to_read
