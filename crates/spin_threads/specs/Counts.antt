@@ -34,7 +34,7 @@ pub record IsWithinLimit {W V C L A X : Type 0} (m : Machine W V C L A) (call : 
   -- they are at most as many as the model says, for a party that held this before
   pub held : Option Hold
   pub in_time : EndsWithin (limit m.lock_kind (m.asks call held)) m.lock_kind party (steps_since m parties party answered)
-  -- and the exchanges that the call makes again failed at most as often as others changed the word
+  -- and the exchanges that the call repeats failed at most as often as others changed the word
   pub retries : failures party (steps_since m parties party answered) ≤ changes m.lock_kind party (steps_since m parties party answered)
 
 -- this holds of each call of each pass with views of this type

@@ -1,9 +1,9 @@
 //! How many steps a call takes. Each law is the contract of a function that does nothing. A caller calls it to learn
 //! what it states.
 //!
-//! Each says of every call of every pass that it took no more steps than in the model (`limit` of `spin_model`), where
-//! changes of the lock's first word by others while the call ran count too. Exchanges that the call makes again failed at
-//! most as often as others changed that word (`KeepsLimits`, `IsWithinLimit`).
+//! Each law speaks of every call of every pass. The call took no more steps than in the model (`limit` of
+//! `spin_model`), where changes of the first word by others during the call count too. Exchanges that the call repeats
+//! failed at most as often as others changed that word (`KeepsLimits`, `IsWithinLimit`).
 ghost use Rattle.std.specs.Prelude.{ℕ, Option, List};
 ghost use Rattle.spin_core.specs.Own.{Numbered};
 ghost use Rattle.spin_fair.specs.Fair as fair_mutex;
