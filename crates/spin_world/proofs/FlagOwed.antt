@@ -16,7 +16,8 @@ use Rattle.spin_world_core.proofs.Shapes.{Notes, keeping_of, OwesAt, OwesSoon, P
 use Rattle.spin_world_core.proofs.Usual.{no_queue}
 use Rattle.spin_world_core.proofs.Paid.{facts_of}
 
--- Each point is as the call's beginning: nothing has changed yet, and only `Lock`, which has no limit, has made a step before another
+-- At each point the call is as at its beginning: it has made no plain step, and only `Lock`, which has no limit, makes
+-- more than one step.
 abbrev pub flag_notes : {V : Type 0} (v : V) → Notes (flag_table v)
 flag_notes v = record { Shape = λ s. s.tickets ≡ []; point = λ c l h. starts (begin_of (flag_table v) c h); Knows = λ c l h p s span. Unit {0} }
 

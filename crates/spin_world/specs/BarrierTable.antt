@@ -16,7 +16,7 @@ use Rattle.spin_model.specs.Machines.{Machine}
 use Rattle.spin_model.specs.Acts.{Memory, two_numbers, Act, load_if, section, either, Table, machine_of}
 use Rattle.spin_model.specs.Tables.{usual_table}
 
--- the words after one more arrival at a barrier whose groups have n, and whether that one leads
+-- the words after one more arrival, if groups have n arrivals; `leads`: whether that arrival leads
 abbrev pub arrive : ℕ → BarrierWords → BarrierWords
 arrive n w = let a = arrived n w.count w.generation in record { count = a.0.0; generation = a.0.1 }
 

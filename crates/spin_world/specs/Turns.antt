@@ -20,7 +20,7 @@ use Rattle.spin_model.specs.Schedules.{after, at_first}
 use Rattle.spin_world_core.specs.Runs.{Seen, opening, own_count}
 use Rattle.spin_world_core.specs.Users.{seen_after, outcome_after, steps_made}
 
--- a ticket goes
+-- the first ticket leaves the queue
 abbrev pub serves_one : Change → Bool
 serves_one (serves p) = true
 serves_one _ = false
