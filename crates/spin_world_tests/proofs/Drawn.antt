@@ -1,4 +1,4 @@
--- What each event draws: the number that the word is, or none.
+-- What each event draws: the number in the word, or no number.
 use Rattle.std.proofs.Common.{◌≡◌, ℕ, zero, suc, ◌+◌, ◌==◌, Bool, true, false, Option, Some, None, List, [], ◌∷◌, ◌++◌, is_some, if◌then◌else◌, nat_lt, slice_get, refl, ap, sym, ◌∙◌, arith}
 use Rattle.std.proofs.lemmas.Bool.{eqb-true}
 use Rattle.std.specs.List.{range_with_len}
