@@ -1,4 +1,5 @@
--- What the contracts of the locks and of their steps are written in, so that a crate which names `spin` alone can cite it.
+-- The names that the contracts of the locks and of their steps use. A crate that depends on `spin` alone can cite
+-- them here.
 pub use Rattle.spin_mutex.specs.MutexGuard
 pub use Rattle.spin_core.specs.Guard
 pub use Rattle.spin_core.specs.Values

@@ -1,7 +1,7 @@
 //! Spinning locks that are proved, under the names of the Rust crate `spin`: each change of a lock's word is a public
 //! pure function of [`step`]. A user of the locks names this crate alone.
 //!
-//! Begin at [`Mutex`], and look at [`RwLock`], [`Once`], [`LazyLock`] and [`Barrier`]. The module [`mutex`] has the
+//! Begin at [`Mutex`], then see [`RwLock`], [`Once`], [`LazyLock`] and [`Barrier`]. The module [`mutex`] has the
 //! mutexes [`SpinMutex`](mutex::SpinMutex), [`TicketMutex`](mutex::TicketMutex) and [`FairMutex`](mutex::FairMutex).
 #![tactic(auto)]
 

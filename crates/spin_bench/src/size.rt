@@ -7,7 +7,7 @@ use spin_ticket::ticket::{TicketMutex, TicketMutexGuard};
 use std::mem::size_of;
 use std::{io, sync};
 
-/// The bytes of each lock of a `u64` and of its guard, in the order in which `bench/compare` names them.
+/// Returns the size in bytes of each lock of a `u64` and of its guard, in the order that `bench/compare` uses.
 fn sizes() -> [usize; 14] {
     [
         size_of::<SpinMutex<u64>>(),

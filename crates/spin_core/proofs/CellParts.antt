@@ -1,4 +1,4 @@
--- The parts of a round: cut, glued and compared. Assumes `Logic`.
+-- The parts of a round: how they are split, joined and compared. Assumes `Logic`.
 use Rattle.std.proofs.Common.{◌≡◌, Bool, true, ℕ, zero, suc, ◌+◌, ◌-◌, ◌^◌, ◌<◌, ◌≤◌, [], ◌∷◌, refl, arith}
 use mathlib.Mathlib.Data.Part.{◌∈◌}
 use seplogic.Ra.Ura.{Ura}
@@ -46,7 +46,7 @@ module _ {M : Type 1} {𝓤 : Ura M} (𝓛 : Logic 𝓤) (R : RattleType) (γ : 
   parts_glue s i j some fits = let r = counts_some 63 (i + j) some fits in
       qed 𝓛 (‵ (parts R γ s i) ∷ ‵ (parts R γ s j) ∷ []) ∵ use2 𝓛 (‵ (share R γ s r.0)) (glued s i j r.0 r.1) $ by ! (parts_in s (i + j) r.0 r.1)
 
-  -- all parts but r
+  -- all parts except r
   pub parts_but : (s : Round R) (r : ℕ) → r < 2 ^ 63 → ⟦ parts R γ s (2 ^ 63) ⟧ ⊢ ⟦ parts R γ s (2 ^ 63 - r) ⟧
   parts_but s zero small = id⊢ 𝓤 _
   parts_but s (suc r) small =
@@ -65,7 +65,7 @@ module _ {M : Type 1} {𝓤 : Ura M} (𝓛 : Logic 𝓤) (R : RattleType) (γ : 
       let Z : SProp 𝓤 = ⟦ tag γ e g ⟧ ∗ ⟦ tag γ f h ⟧ in use2 𝓛 (given (s ≡ u) (‵ (tag γ e g) ⊛ ‵ (tag γ f h))) (own_sum 𝓛 halved γ (e, g) (f, h) (guard 𝓤 (s ≡ u) Z) (λ x m. guard_i 𝓤 (s ≡ u) Z ((coded× coded_ℕ R.coded).inj s u m.0.1))) $
       learn ! (λ same. check ! same $ split ! $ move ! (2 ∷ 1 ∷ []) $ fjoin ! $ use1 𝓛 (‵ (parts R γ u j)) (parts_in u j f cf) $ move ! (2 ∷ 1 ∷ []) $ fjoin ! $ use1 𝓛 (‵ (parts R γ s i)) (parts_in s i e ce) $ done !)))))
 
-  -- ---- some part of a round, where its readers read for good
+  -- ---- some part of a round whose readers may read for ever
   pub piece_in : (way : Way R.Denot) (s : Round R) (e : Share) → Part way s.1 e → ⟦ share R γ s e ⟧ ⊢ ⟦ piece R way γ s ⟧
   piece_in way s e known = qed 𝓛 (‵ (share R γ s e) ∷ []) ∵ fpack ! (Part way s.1 e) (λ _. share R γ s e) known $ fpack ! Share (λ r. fex (Part way s.1 r) (λ _. share R γ s r)) e $ done !
 

@@ -1,4 +1,5 @@
--- A party comes from one use of a cell's value to another: it gives back what it had of the value, and takes what it may use. Assumes `Logic`.
+-- A party changes its use of a cell's value: it gives back what it had of the value, and takes what it may use. Assumes
+-- `Logic`.
 use Rattle.std.proofs.Common.{◌≡◌, ◌≢◌, ℕ, suc, ◌+◌, ◌-◌, ◌^◌, ◌<◌, ◌≤◌, Bool, zero, true, [], ◌∷◌, refl, sym, subst, arith, Option, Some, None}
 use seplogic.Ra.Ura.{Ura}
 use base.Fraction.{full_share}
@@ -42,7 +43,7 @@ module _ {M : Type 1} {𝓤 : Ura M} (𝓛 : Logic 𝓤) (R : RattleType) (L : R
   abbrev lent : ℕ → Round R → Fml
   lent r s = fsep (parts R γ s (2 ^ 63 - r)) (shared R b o t s)
 
-  -- what a party knows of the value that it gives back, where φ is known of one that nobody writes
+  -- what a party knows of the value that it gives back, if φ is known of a value that nobody writes
   abbrev Had : (R.Denot → Type 0) → Use → R.Denot → Type 0
   Had φ reads x = φ x
   Had φ _ x = Unit {0}
@@ -76,7 +77,7 @@ module _ {M : Type 1} {𝓤 : Ura M} (𝓛 : Logic 𝓤) (R : RattleType) (L : R
   write_on x = qed 𝓛 (‵ (Rest lends 0 x) ∷ []) ∵ fpick ! (λ a. fsplit ! $ use1 𝓛 (‵ (share R γ (a, x) full_share)) (parts_whole 𝓛 R γ (a, x)) $ fsplit ! $ move ! (0 ∷ 2 ∷ []) $ fjoin ! $
       fpack ! ℕ (begun 𝓛 R b o t x) a $ move ! (1 ∷ []) $ fpack ! Gv (tag γ full_share) (round_code R (a, x)) $ done !)
 
-  -- ---- the same for either use, with what else stands there, where readers give back
+  -- ---- the same for both uses, with what else is there, in a way whose readers give back
   abbrev Returns : Way R.Denot → Type 0
   Returns (fixes fact) = ⊥
   Returns _ = Unit {0}
@@ -108,11 +109,11 @@ module _ {M : Type 1} {𝓤 : Ura M} (𝓛 : Logic 𝓤) (R : RattleType) (L : R
       subst (λ (k : ℕ). ⟦ Rest lends k x ⟧ ⊢ ⟦ St lends ψ (r + 0) (w + 1) ⟧ ∗ ⟦ Held writes lends (Some x) ⟧) (sym none)
       (qed 𝓛 (‵ (Rest lends 0 x) ∷ []) ∵ use1 𝓛 (‵ (idle γ) ⊛ ‵ (fex ℕ (begun 𝓛 R b o t x))) (write_on x) $ split ! $ rewrite ! 0 (λ (k : ℕ). ‵ (St lends ψ (r + 0) k)) one refl $ done !)
 
-  -- no writer stands where one may come, or where one has gone
+  -- nobody writes while a party may begin to use the value, or after one has stopped
   none_else : (u : Use) (way : Way R.Denot) (r w : ℕ) → u ≢ off → Limits way (r + reading u) (w + writing u) → w ≡ 0
   none_else u way r w on lim = grind arith
 
-  -- what a party has after it came from the use u to the use u'
+  -- what a party has after its use changed from u to u'
   abbrev pub got : Way R.Denot → (R.Denot → Type 0) → Use → Use → Option R.Denot → Option R.Denot → Fml
   got way ψ u u' v v' = fsep (fact (Preserves way u u' v v' × Learns ψ u u' v v')) (Held u' way v')
 
@@ -146,7 +147,7 @@ module _ {M : Type 1} {𝓤 : Ura M} (𝓛 : Logic 𝓤) (R : RattleType) (L : R
   nobody writes alone on = id⊢ 𝓤 _
   nobody _ _ on = id⊢ 𝓤 _
 
-  -- a party that comes takes its part
+  -- a party that begins to use the value takes its part
   arrives : (ψ : R.Denot → Type 0) (u : Use) (way : Way R.Denot) (x : R.Denot) (r w : ℕ) → ψ x → Returns way → u ≢ off → Limits way (r + reading u) (w + writing u) → Preserves way off u None (Some x)
       → ⟦ Rest way r x ⟧ ⊢ ⟦ St way ψ (r + reading u) (w + writing u) ⟧ ∗ ⟦ Got way ψ off u None ⟧
   arrives ψ u way x r w known is on lim kept = qed 𝓛 (‵ (Rest way r x) ∷ []) ∵ use1 𝓛 (‵ (St way ψ (r + reading u) (w + writing u)) ⊛ ‵ (Held u way (Some x))) (takes ψ u way x r w known is on lim) $ split ! $ move ! (1 ∷ []) $
@@ -157,7 +158,7 @@ module _ {M : Type 1} {𝓤 : Ura M} (𝓛 : Logic 𝓤) (R : RattleType) (L : R
   first_shown (fixes fact) u x is on = absurd is
   first_shown _ _ x is on = ((x, refl), tt)
 
-  -- what is known of a value that a party keeps, leaves, or comes to use
+  -- what is known of a value that a party keeps using, stops using, or begins to use
   goes_on : (way : Way R.Denot) (u u' : Use) (x : R.Denot) → u ≢ off → u' ≢ off → Preserves way u u' (Some x) (Some x)
   goes_on alone off u' x on on' = absurd (on refl)
   goes_on _ off u' x on on' = absurd (on refl)
@@ -168,9 +169,9 @@ module _ {M : Type 1} {𝓤 : Ura M} (𝓛 : Logic 𝓤) (R : RattleType) (L : R
   ends_at (fixes fact) off v = (refl, tt)
   ends_at _ _ v = (refl, tt)
 
-  -- φ is known of a value that nobody writes before the step, and ψ after it
+  -- before the step φ is known of a value that nobody writes, after it ψ
   module _ (φ ψ : R.Denot → Type 0) where
-    -- what nobody writes goes on lying there, and what somebody writes is away
+    -- a value that nobody writes stays there; one that somebody writes is away
     carried : (way : Way R.Denot) → ((x : R.Denot) → φ x → ψ x) → (r w : ℕ) → ⟦ St way φ r w ⟧ ⊢ ⟦ St way ψ r w ⟧
     carried way to r zero = qed 𝓛 (‵ (St way φ r 0) ∷ []) ∵ fpick ! (λ x. fpick ! (λ known. fpack ! (ψ x) (λ _. Rest way r x) (to x known) $ fpack ! R.Denot (Lie way ψ r) x $ done !))
     carried way to r (suc w) = id⊢ 𝓤 _
@@ -179,7 +180,7 @@ module _ {M : Type 1} {𝓤 : Ura M} (𝓛 : Logic 𝓤) (R : RattleType) (L : R
     away way r zero some = absurd (omega (arith, some))
     away way r (suc w) some = id⊢ 𝓤 _
 
-    -- a party that uses the value as it did
+    -- a party keeps its use of the value
     same_state : (way : Way R.Denot) (u : Use) (v : Option R.Denot) (r w : ℕ) → Carries φ ψ u u v → ⟦ St way φ (r + reading u) (w + writing u) ⟧ ⊢ ⟦ St way ψ (r + reading u) (w + writing u) ⟧
     same_state way off v r w owed = carried way owed (r + 0) (w + 0)
     same_state way reads v r w owed = carried way owed (r + 1) (w + 0)
@@ -206,7 +207,7 @@ module _ {M : Type 1} {𝓤 : Ura M} (𝓛 : Logic 𝓤) (R : RattleType) (L : R
       abbrev Turns : Use → Use → Option R.Denot → Type 1
       Turns u u' v = Lim u → Going way u u' v (r + reading u) (Lim u') → Carries φ ψ u u' v → ⟦ Before u ⟧ ∗ ⟦ Held u way v ⟧ ⊢ upd 𝓤 (⟦ After u' ⟧ ∗ ⟦ Got way ψ u u' v ⟧)
 
-      -- a party that goes on as it is
+      -- a party stays as it is
       stays : (u : Use) (v v' : Option R.Denot) → Carries φ ψ u u v → ⟦ Held u way v ⟧ ⊢ ⟦ Held u way v' ⟧ → Preserves way u u v v' → Learns ψ u u v v' → ⟦ Before u ⟧ ∗ ⟦ Held u way v ⟧ ⊢ upd 𝓤 (⟦ After u ⟧ ∗ ⟦ Got way ψ u u v ⟧)
       stays u v v' owed same kept learns = let Z : SProp 𝓤 = ⟦ After u ⟧ ∗ ⟦ Got way ψ u u v ⟧ in qed 𝓛 (‵ (Before u) ∷ ‵ (Held u way v) ∷ []) ∵ suffices ! Z (upd_i 𝓤 Z) $
           use1 𝓛 (‵ (After u)) (same_state way u v r w owed) $ move ! (1 ∷ []) $
@@ -220,7 +221,7 @@ module _ {M : Type 1} {𝓤 : Ura M} (𝓛 : Logic 𝓤) (R : RattleType) (L : R
       keeps u on None lim going owed = via 𝓤 _ (snd∗ 𝓤 ⟦ Before u ⟧ ⟦ Held u way None ⟧) (via 𝓤 _ (nobody u way on) (never_e 𝓤 _))
       keeps u on (Some x) lim going owed = stays u (Some x) (Some x) owed (id⊢ 𝓤 _) (goes_on way u u x on on) (learns_same ψ u x on)
 
-      -- ---- where readers give back
+      -- ---- a way whose readers give back
       comes : (u : Use) → Returns way → u ≢ off → (v : Option R.Denot) → Turns off u v
       comes u is on (Some x) lim lim' owed = qed 𝓛 (‵ (Before off) ∷ ‵ base.Fml.ffalse ∷ []) ∵ drop ! $ by ! (never_e 𝓤 _)
       comes u is on None lim going owed = let lim' : Lim u = going_rest way off u None (r + reading off) going in let Z : SProp 𝓤 = ⟦ After u ⟧ ∗ ⟦ Got way ψ off u None ⟧ in let none : w + 0 ≡ 0 = (let z = none_else u way r w on lim' in omega arith) in let same_r : r + 0 ≡ r = omega arith in
@@ -254,12 +255,12 @@ module _ {M : Type 1} {𝓤 : Ura M} (𝓛 : Logic 𝓤) (R : RattleType) (L : R
       lent_turns is writes reads v = passes writes reads is (λ e. absurd cc) (λ e. absurd cc) (λ e. absurd cc) v
       lent_turns is writes writes v = keeps writes (λ e. absurd cc) v
 
-    -- ---- where a reader reads for good
+    -- ---- the way in which a reader may read for ever
     module _ (fact : Bool → R.Denot → Type 0) where
       abbrev fixed : Way R.Denot
       fixed = fixes fact
 
-      -- a reader takes half of what the readers before it left
+      -- a reader takes half of what the earlier readers left
       reads_on : (k : ℕ) (x : R.Denot) → ψ x → ⟦ Rest fixed (suc k) x ⟧ ⊢ guard 𝓤 (fact true x) (⟦ St fixed ψ (suc (suc k)) 0 ⟧ ∗ ⟦ reader R b o t fixed x ⟧)
       reads_on k x is = let V : Lft → Fml = shown R b o x in qed 𝓛 (‵ (Rest fixed (suc k) x) ∷ []) ∵ fpick ! (λ a. fsplit ! $ let s : Round R = (a, x) in
           use1 𝓛 (given (fact true x) (‵ (piece R fixed γ s) ⊛ ‵ (piece R fixed γ s))) (piece_cut 𝓛 R γ fact s) $ learn ! (λ known. check ! known $ split ! $ move ! (2 ∷ []) $ fsplit3 ! $ move ! (1 ∷ []) $
@@ -275,7 +276,7 @@ module _ {M : Type 1} {𝓤 : Ura M} (𝓛 : Logic 𝓤) (R : RattleType) (L : R
           rewrite ! 0 (λ (i : ℕ × ℕ). ‵ (St fixed ψ i.0 i.1)) (λ i. (one i, same i)) refl $ move ! (1 ∷ []) $
           use1 𝓛 (‵ (Got fixed ψ off reads None)) (got_in fixed ψ off reads None (Some x) ((x, refl), known) is) $ move ! (1 ∷ 0 ∷ []) $ done !)
 
-      -- a party that comes to write takes the whole round
+      -- a party that begins to write takes the whole round
       comes_to_write : (r w : ℕ) (x : R.Denot) → r ≡ 0 → w ≡ 0 → ψ x → ⟦ Rest fixed r x ⟧ ⊢ ⟦ St fixed ψ (r + 0) (w + 1) ⟧ ∗ ⟦ Got fixed ψ off writes None ⟧
       comes_to_write (suc r) w x none none' is = absurd (omega (arith, none))
       comes_to_write zero (suc w) x none none' is = absurd (omega (arith, none'))

@@ -1,4 +1,5 @@
--- Steps keep what is known of the value: moves that write nothing keep it, and the value that a holder writes is the one that it leaves.
+-- Steps keep what is known of the value. Moves that write nothing keep it, and a holder writes the value that it
+-- leaves.
 use Rattle.std.proofs.Common.{◌≡◌, ℕ, zero, suc, Bool, true, false, Option, Some, None, List, [], ◌∷◌, ◌++◌, refl, sym, ap, ◌∙◌, subst}
 use Rattle.spin_model.specs.declared.schedule.Move.{Move}
 use Rattle.spin_model.specs.declared.schedule.Outcome.{Outcome}
@@ -23,7 +24,7 @@ module _ {C V : Type 0} where
   pub latest_left : (v : V) (log : List (Entry C V)) (p : ℕ) (own : List (Move C V)) → latest v (log ++ by_party p own) ≡ left own (latest v log)
   latest_left v log p own = latest-append v log (by_party p own) ∙ latest-own (latest v log) p own
 
-  -- a step that begins a call or goes on with it writes nothing, and behind a write it leaves that
+  -- a step that begins a call or continues it writes nothing; after a write it leaves the written value
   pub step_leaves : {A : Type 0} (goes_on : Bool) (c : C) (end : Outcome A V) (own : List (Move C V)) (outs : List (Outcome A V)) → IsStep goes_on c end own outs → (v : V) → left own v ≡ v
   step_leaves true c end own outs is v = ap (λ o. left o v) is.0
   step_leaves false c end own outs is v = ap (λ o. left o v) is.0
@@ -31,7 +32,7 @@ module _ {C V : Type 0} where
   pub write_leaves : {A : Type 0} (x : V) (goes_on : Bool) (c : C) (end : Outcome A V) (own : List (Move C V)) (outs : List (Outcome A V)) → Writes x (IsStep goes_on c end) own outs → (v : V) → left own v ≡ x
   write_leaves x goes_on c end own outs (rest, comes, is, came, step) v = ap (λ o. left o v) is ∙ step_leaves goes_on c end rest comes step x
 
-  -- so such a step of a party that does not use the value writes nothing
+  -- so such a step writes nothing, if its party does not use the value
   pub steps_leave : {A : Type 0} (u u' : Use) (shown : Option V) → u ≡ off → (goes_on : Bool) (c : C) (end : Outcome A V) (own : List (Move C V)) (outs : List (Outcome A V)) → IsStep goes_on c end own outs → Leaves u u' shown own
   steps_leave u u' shown is goes_on c end own outs step = subst (λ z. Leaves z u' shown own) (sym is) (step_leaves goes_on c end own outs step)
 
@@ -43,7 +44,7 @@ module _ {C V : Type 0} where
       leaves : (x : V) → ((v : V) → left own v ≡ x) → IsLast opening (t.entries ++ by_party p own) x
       leaves x all told = latest_left opening.value t.entries p own ∙ all (latest opening.value t.entries)
 
-      -- what such moves owe
+      -- what such moves must show
       pub owed : (u u' : Use) (shown : Option V) → Leaves u u' shown own → Owed (last opening) t (grown_at t word (by_party p own)) u u' shown
       owed writes writes shown l = tt
       owed writes off None l = tt
@@ -53,7 +54,7 @@ module _ {C V : Type 0} where
       owed off u' shown l = keeps l
       owed reads u' shown l = keeps l
 
-    -- a lock opens with the value that lies in it
+    -- a lock opens with the value that is in it
     pub opens_last : (es : List (Entry C V)) (x : V) → es ≡ [] → opening.value ≡ x → IsLast opening es x
     opens_last es x none is told = ap (latest opening.value) none ∙ is
 
@@ -72,11 +73,11 @@ module _ {C V : Type 0} where
         let here : latest opening.value now ≡ y = ap (latest opening.value) whole ∙ latest_left opening.value log p own ∙ all (latest opening.value log) in
         subst (λ z. z ≡ x) here (so told)
 
-    -- what is read later is what was written since, or what was there before
+    -- what is read later was written since, or was there before
     pub read_on : (old new more : List (Entry C V)) (x y : V) → opening.told ≡ true → new ≡ old ++ more → IsLast opening old x → IsLast opening new y → latest x more ≡ y
     read_on old new more x y told grew is is' = ap (λ z. latest z more) (sym (is told)) ∙ sym (latest-append opening.value old more) ∙ ap (latest opening.value) (sym grew) ∙ is' told
 
-    -- the owner may borrow the value: from then on nothing is known of it
+    -- the owner may borrow the value; from then on nothing is known of it
     module _ {S X : Type 0} (holds : ℕ → Trace (Entry C V) S → List X → Type 0) (way : Way V) (f : X → Use) where
       less : (w : ℕ) (t : Trace (Entry C V) S) (x : V) (A : Type 0) → Knowing (last opening) t w x A → Knowing (last (untold opening)) t w x A
       less zero t x A known = ((λ e. absurd (let no : false ≡ true = e in cc (no))), known.1)

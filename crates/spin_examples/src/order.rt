@@ -1,4 +1,4 @@
-//! An order of one's own, for the values of a `Growing`.
+//! A caller's own order for the values of a `Growing`.
 use spin_history::growing::Order;
 
 /// A version of a program, and its size.

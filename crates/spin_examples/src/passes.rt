@@ -51,7 +51,7 @@ pub fn try_once(lock: &SpinMutex<u64>) -> Pass<'_, u64, Spin> {
 ///
 /// # Contract
 /// Each of the first two passes has acquired the lock and released it, once (`first`, `second`). The third one has looked
-/// once, and returns the answer (`looked`). Of each two of them, one knows a beginning of the lock's history that the
+/// once, and returns the answer (`looked`). Of each two of them, one knows a prefix of the lock's history that the
 /// other knows (`one_history`).
 pub fn count_beside_look<'a, W: Threads + Wait + Sync>(
     rt: &W,

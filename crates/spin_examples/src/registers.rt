@@ -1,4 +1,4 @@
-//! What callers of a register know of one another's writes.
+//! What callers of a register know of each other's writes.
 ghost use Rattle.std.specs.Prelude.{◌≡◌, ◌⊎◌};
 ghost use mathlib.Core.List.{IsPrefix};
 ghost use Rattle.spin_history.specs.Entries.{Reads, Writes, Updates};

@@ -8,14 +8,14 @@ use Rattle.spin_explore_run.specs.declared.faults.Fault.{Fault}
 use Rattle.spin_explore_run.specs.Faults.{line_of}
 use Rattle.spin_text.proofs.Appended.{Appends-append}
 
--- a beginning of the first piece is one of both
+-- a beginning of the first piece is a beginning of both
 begins_first : (old new : Option (List ℕ)) (a b : List ℕ) → AppendsBeginning old new a → AppendsBeginning old new (a ++ b)
 begins_first old new a b begins =
     let P : List ℕ → Type 0 = Appends old new in
     let same : take begins.0 a ≡ take begins.0 (a ++ b) = grind (arith, common_steps, begins.1) in
     (begins.0, omega (arith, begins.1, length-append a b), subst P same begins.2)
 
--- the line of a fault, by which fault it is
+-- the line of a fault, by the fault
 
 pub told_whole : {E : Type 0} → (r : Result (Unit {0}) E) (old new : Option (List ℕ)) (fault f : Fault) → fault ≡ f → OnOk r (Appends old new (line_of f)) → OnOk r (Appends old new (line_of fault))
 told_whole r old new fault f is told = let P : Fault → Type 0 = λ k. OnOk r (Appends old new (line_of k)) in subst P (sym is) told
@@ -29,7 +29,7 @@ begins_second old mid new a b first begins =
     let P : List ℕ → Type 0 = Appends old new in
     (length a + begins.0, omega (arith, begins.1, length-append a b), subst P (sym (take-append-add a b begins.0)) (Appends-append old mid new a (take begins.0 b) first begins.2))
 
--- the same, of what a call answers
+-- the same for what a call answers
 pub begins_second_if : {E : Type 0} → (r : Result (Unit {0}) E) (old mid new : Option (List ℕ)) (a b : List ℕ) → Appends old mid a → OnErr r (AppendsBeginning mid new b) → OnErr r (AppendsBeginning old new (a ++ b))
 begins_second_if (Ok x) old mid new a b first begins = tt
 begins_second_if (Err e) old mid new a b first begins = begins_second old mid new a b first begins

@@ -12,8 +12,8 @@ use crate::options::{Options, options_of};
 use spin_text::{Sink, Source, read_all, write_whole};
 use std::alloc::Global;
 
-/// Reads a text from `input`, and writes all that may result from it to `output`. Returns `true` if that tells that a
-/// run can get stuck.
+/// Reads a text from `input`, and writes all that it may result in to `output`. Returns `true` if the output says that
+/// a run can get stuck.
 fn run<I: Source, O: Sink>(
     alloc: Global,
     options: Options,

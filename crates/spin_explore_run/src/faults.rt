@@ -14,19 +14,19 @@ use std::alloc::AllocError;
 /// The reason why a run fails.
 #[derive(Clone, Copy, Drop)]
 pub enum Fault {
-    /// The words are those of no command.
+    /// The words are no command.
     Usage,
     /// An allocation failed.
     Memory,
     /// A read of standard input failed.
     Read,
-    /// The first line of standard input that is none of a text, counted from 1.
+    /// The first line of standard input that does not belong to a text, counted from 1.
     BadLine(usize),
-    /// There are more states than the limit. So many were seen.
+    /// There are more states than the limit; this many were seen.
     TooMany(usize),
     /// There is no outcome with the number that was asked for.
     NoOutcome,
-    /// The search did not settle from which states a run can end. No text is known for which that is so.
+    /// The search did not settle from which states a run can end. No text is known for which this happens.
     Unsettled,
     /// A write to standard output failed.
     Write,

@@ -10,7 +10,7 @@ use spin_text::{is_word, only_number};
 pub struct Options {
     /// The number of the outcome whose schedule is asked for.
     pub schedule: Option<u64>,
-    /// The most states.
+    /// The most states that a search may see.
     pub limit: Option<u64>,
 }
 

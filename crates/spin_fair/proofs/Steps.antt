@@ -37,7 +37,7 @@ use Rattle.spin_fair.specs.Fair.{part, use_of_view, use_of_party, seat_of, model
 use Rattle.spin_fair.proofs.First.{first_after, first_without, marks_within, viewed}
 use Rattle.spin_fair.proofs.Moves.{Moves, Takes, load_moves, attempt_moves, attempt_to_know_moves, try_moves, look_moves, starve_moves, turn_moves, again_moves, turn_again_moves, alone_moves, try_alone_moves, lock_alone_moves, set_is, try_set_moves, lock_set_moves, starver_set_moves, await_moves, unregister_moves, give_up_moves, release_moves}
 
--- there is one holder or none, a holder writes, nobody reads, and each that uses the value holds
+-- There is at most one holder. A holder writes, nobody reads, and each party that uses the value holds.
 facts : (v : View) → OfHolders part v × Writes part (part v) × (reading (use_of_view v) ≡ 0) × (writer (use_of_view v) ≤ writer (used_by part v))
 facts Idle = ((refl, λ p. refl), λ p. refl, refl, omega arith)
 facts _ = ((refl, λ p. refl), λ p. refl, refl, omega arith)
@@ -73,7 +73,7 @@ Leads view f says = Allows Word (ways fair) view f says
 allows : (view : Option View) (f : ℕ → ℕ) (says : ℕ → View → Type 0) → Each view (λ s p. (w : View) × Reaches fair view w s p (f (fair_word s)) tt × says (fair_word s) w) → Leads view f says
 allows view f says makes = allows_among fair view f says (of_each view (λ s p. (w : View) × Reaches fair view w s p (f (fair_word s)) tt × says (fair_word s) w) makes)
 
--- what a party gets by an exchange where it finds the word of which the step function was asked
+-- what a party gets by an exchange if it finds the word given to the step function
 gets_at : (view : Option View) (ask : Ask) (won : View) (lost : ℕ → View) (old new : ℕ) → ((s : Plain) (p : ℕ) → entries_after s (Some (gets p ask)) (entries_of p (part_before part view)) ≡ entries_of p (part won)) → ((s : Plain) → Knows s (part won))
     → ((n : ℕ) → part_before part view ≡ part (lost n)) → ((s : Plain) (n : ℕ) → Knows s (part (lost n))) → Each view (λ s p. fair_word s ≡ old → Decides s (gets p ask) fair_word (Some new))
     → Leads view (λ n. either (n == old) new n) (λ n v. v ≡ (if n == old then won else lost n))
@@ -91,7 +91,7 @@ attempts_plain : (view : Option View) (lost : View) → part_before part view �
 attempts_plain view lost nothing none taken plain =
     gets_at view to_lock_unregistered Holding (λ n. lost) 0 taken (λ s p. rw nothing refl) (λ s. tt) (λ n. nothing ∙ sym none) (λ s n. knows_none s lost) (λ s p room order one has small e. plain s p e)
 
--- it becomes a starver in this call, or goes for the word that it found
+-- it becomes a starver in this call, or tries the word that it found
 part_of_next : (c : FairCall) (n : ℕ) → part (goes_for c n) ≡ idle
 part_of_next c n = at c (is_some (starve most_starvers n))
   where
@@ -114,7 +114,7 @@ registers_plain view nothing word more plain = let c = call_of view in
 less : (n by : ℕ) → 0 < by → by ≤ n → n < words → (n + (2 ^ 64 - by)) % 2 ^ 64 ≡ n - by
 less n by some least small = omega (arith, some, least, small)
 
--- it sets the flag where it finds that clear
+-- it sets the flag if it finds it clear
 sets_plain : (v won lost : View) → part v ≡ starves → part won ≡ holds_starving → part lost ≡ starves → Leads (Some v) (λ n. bit_or n 1) (λ n u. u ≡ (if n % 2 == 0 then won else lost))
 sets_plain v won lost is wins loses = allows (Some v) (λ n. bit_or n 1) (λ n u. u ≡ (if n % 2 == 0 then won else lost)) (λ s p room order one has small.
     let n : ℕ = fair_word s in
@@ -182,7 +182,7 @@ frees_plain v holder = allows (Some v) (λ n. (n + (2 ^ 64 - 1)) % 2 ^ 64) (λ n
       (refl, is),
     ))
 
--- An addition does not see the word
+-- An addition does not depend on the word
 
 within : (s : Plain) → s.cap ≡ most_starvers → IsInOrder s → OneHolds s → fair_word s < words
 within s room order one = omega (arith, room, order.starvers_fit, one)
@@ -212,7 +212,7 @@ sets_as_step word = set_is word ∙ by_parity (word % 2 == 0)
     by_parity true = refl
     by_parity _ = refl
 
--- Starvers come first
+-- Starvers go first
 
 starves_in : (p : ℕ) (v : View) → 0 < starver v → (entries_of p (part v)).starvers ≡ p ∷ []
 starves_in p Starving some = refl
@@ -222,7 +222,7 @@ starves_in p (HoldingStarving c) some = refl
 starves_in p Idle some = absurd (omega (arith, some))
 starves_in p _ some = absurd (omega (arith, some))
 
--- where the word is 0 nobody starves
+-- if the word is 0 nobody starves
 nobody_starves : (word : ℕ) (second : Unit {0}) (vs : List (Numbered View)) → Word word second (views_of vs) → word ≡ 0 → (j : ℕ) (u : Numbered View) → slice_get vs j ≡ Some u → 0 < starver u.0 → ⊥
 nobody_starves word second vs rule free j u at some =
     let least = starver_goes word second (views_of vs) j rule (ap (λ e. e.starvers) ((rule.3 j).0 ∙ ap (entries_of j) (part-there part j u.0 (views_of vs) (viewed vs j u at))) ∙ starves_in j u.0 some) in
@@ -298,12 +298,12 @@ out_has_none None out = refl
 out_has_none (Some Idle) out = refl
 out_has_none (Some _) out = absurd out
 
--- it comes, or made its last call to the end
+-- the party is new, or its last call has ended
 pub is_out : (view : Option (Numbered View)) → stands view ≡ Idle → IsOut (what view)
 is_out None is = tt
 is_out (Some v) is = subst (λ w. IsOut (Some w)) (sym is) tt
 
--- who may try has nothing, and was counted
+-- a party that may try has nothing, and its looks were counted
 may_try : (n : ℕ) (view : Option View) → MayTry n view → (part_before part view ≡ idle) × (n ≡ looks_of view)
 may_try n None may = (refl, may)
 may_try n (Some Idle) may = (refl, may)
@@ -345,7 +345,7 @@ module _ (name : ℕ) where
   looks view out = let now = what view in
       keeps view (λ n. n) (λ n v. v ≡ Idle) looks_by (frees_none false IsLocked _ (λ n. Idle) (λ n. refl)) (load_moves now out) (stays_at fair now (λ n. Idle) (λ n. out_has_none now out) (λ s n. tt))
 
-  -- the step function's own lemma says that the lock is free where it grants
+  -- the lemma of the step function says that the lock is free if it grants
   abbrev Attempts : FairCall → Type 0
   Attempts c = (view : Option (Numbered View)) → IsOut (what view) → (taken : ℕ) → taken ≡ 1 → ((s : Plain) (p : ℕ) → fair_word s ≡ 0 → Decides s (gets p to_lock_unregistered) fair_word (Some taken)) → Keeps view (λ n. either (n == 0) taken n) (tries_by c)
 
@@ -447,7 +447,7 @@ module _ (name : ℕ) where
       ready_of Served e = (release_moves Served refl, frees_plain Served refl)
       ready_of _ e = absurd cc
 
--- Who may go
+-- Who may leave
 
 module _ (name : ℕ) where
   pub idle_rests : (v : Numbered View) → v.0 ≡ Idle → Rests (IsFair name) use_of_party (Some v)

@@ -1,4 +1,5 @@
--- The rule of a fair mutex: its word is that of a plain lock whose holders and starvers are its parties, and its trace is a schedule of the lock's model, which leads there.
+-- The rule of a fair mutex. Its word is that of a plain lock whose holders and starvers are its parties. Its trace is a
+-- schedule of the lock's model, which leads there.
 use Rattle.std.specs.Prelude.{◌≡◌, ◌⊎◌, ℕ, ◌+◌, ◌++◌, Bool, true, false, List, [], ◌∷◌, map, Option, Some, None, if◌then◌else◌, ◌%◌, ◌==◌, nat_lt, is_some, ◌<◌, ◌≤◌, slice_get}
 use Rattle.spin_step.specs.Plain.{writing, fair_word}
 use Rattle.spin_step_more.specs.Starvers.{most_starvers, is_set, starve}
@@ -38,7 +39,7 @@ part (Awaiting c) = starves
 part (HoldingStarving c) = holds_starving
 part _ = idle
 
--- a party that has the flag and starves still does not use the value yet
+-- a party that has the flag but still starves does not use the value yet
 abbrev pub use_of_view : View → Use
 use_of_view Holding = writes
 use_of_view Served = writes
@@ -48,7 +49,7 @@ use_of_view _ = off
 abbrev pub use_of_party : Numbered View → Use
 use_of_party v = use_of_view v.0
 
--- what a starver held as its call began
+-- what a starver held when its call began
 abbrev pub held_before : FairCall → Option Hold
 held_before Lock = None
 held_before _ = Some Starver
@@ -67,14 +68,14 @@ seat_of (Setting c) = seat.Calling c point.SetFlag (held_before c)
 seat_of (Awaiting c) = seat.Calling c point.Await (held_before c)
 seat_of (HoldingStarving c) = seat.Calling c point.Unregister (held_before c)
 
--- a `lock` registers by the next look that finds the flag set after so many
+-- a `lock` registers after this many looks that found the flag set
 abbrev pub patience : ℕ
 patience = 1025
 
 abbrev pub model : Machine ℕ (Unit {0}) FairCall FairPoint (Answer (Unit {0}))
 model = fair_machine tt most_starvers patience
 
--- the lock's words, by the model's
+-- the words of the lock, from those of the model
 abbrev pub words_of : ℕ → ℕ × Unit {0}
 words_of w = (w, tt)
 
@@ -90,7 +91,7 @@ Done = Entry FairCall (Unit {0})
 abbrev pub Word : ℕ → Unit {0} → List View → Type 0
 Word = Encodes part most_starvers fair_word no_word
 
--- a newcomer that holds, and a party that is registered
+-- 1 for a newcomer that holds; `starver`: 1 for a registered party
 abbrev pub newcomer : View → ℕ
 newcomer Holding = 1
 newcomer _ = 0
@@ -102,7 +103,8 @@ starver (Awaiting c) = 1
 starver (HoldingStarving c) = 1
 starver _ = 0
 
--- a newcomer that holds made its last move, by which it acquired the lock, before each registered starver made its last
+-- a newcomer that holds made its last move, by which it acquired the lock, before the last move of each registered
+-- starver
 abbrev pub StarversFirst : List (Numbered View) → Type 0
 StarversFirst parties = (i j : ℕ) (v w : Numbered View) → slice_get parties i ≡ Some v → slice_get parties j ≡ Some w → v.0 ≡ Holding → 0 < starver w.0 → v.2 ≤ w.2
 
@@ -130,7 +132,7 @@ steps_by goes_on c ends to own outs n v = (v ≡ to n) × AreSteps goes_on c (en
 abbrev pub answered : Answer (Unit {0}) → Ending
 answered a = Answered a None
 
--- it is in a call
+-- the party is in a call
 abbrev pub in_call : Option View → Bool
 in_call (Some (Trying n)) = true
 in_call (Some (Looking n)) = true
@@ -141,7 +143,7 @@ in_call (Some (Awaiting c)) = true
 in_call (Some (HoldingStarving c)) = true
 in_call _ = false
 
--- in which call it is; one that is in none begins `starve`
+-- the call that the party is in; without one it begins `starve`
 abbrev pub call_of : Option View → FairCall
 call_of (Some (Trying n)) = Lock
 call_of (Some (Looking n)) = Lock
@@ -152,13 +154,13 @@ call_of (Some (Awaiting c)) = c
 call_of (Some (HoldingStarving c)) = c
 call_of _ = Starve
 
--- it is in no call, and holds nothing
+-- the party is in no call, and holds nothing
 abbrev pub IsOut : Option View → Type 0
 IsOut None = Unit {0}
 IsOut (Some Idle) = Unit {0}
 IsOut _ = ⊥
 
--- what the party is; one that has not come yet is idle
+-- the party's view; a party that is new is idle
 abbrev pub stands : Option (Numbered View) → View
 stands None = Idle
 stands (Some v) = v.0
@@ -200,20 +202,20 @@ alone_by c = steps_by false c (λ n. if n == 2 then GoingOn ∷ answered answer.
 abbrev pub ends_by : FairCall → Says
 ends_by c = steps_by false c (λ n. answered answer.Done ∷ []) (λ n. Idle)
 
--- how many looks have found the lock held
+-- how many looks have found the lock held so far
 abbrev pub looks_of : Option View → ℕ
 looks_of (Some (Trying n)) = n
 looks_of (Some (Looking n)) = n
 looks_of _ = 0
 
--- where the exchange of `lock` leads, by the number found
+-- the view after the exchange of `lock`, by the number found
 abbrev pub tried : Option View → ℕ → View
 tried view n = if n == 0 then Holding else Looking (looks_of view)
 
 abbrev pub tried_by : Option View → Says
 tried_by view = steps_by (in_call view) Lock (λ n. (if n == 0 then answered answer.Granted else GoingOn) ∷ []) (tried view)
 
--- where a look of `lock` leads: it is counted where it finds the flag set, until the party has looked often enough
+-- the view after a look of `lock`; a look that found the flag set is counted, until there are enough to register
 abbrev pub looked : Option View → ℕ → View
 looked view n = if is_set n then (if nat_lt (looks_of view) patience then Looking (looks_of view + 1) else Loading) else Trying (looks_of view)
 
@@ -224,16 +226,16 @@ abbrev pub registered : FairCall → View
 registered Lock = Setting Lock
 registered _ = Starving
 
--- at the cap `lock` looks again, and `starve` gives up
+-- if no more may starve, `lock` looks again, and `starve` fails
 abbrev pub finds_no_room : FairCall → View
 finds_no_room Lock = Looking patience
 finds_no_room _ = Idle
 
--- a party that found this word tries to exchange it for the next one, if there is one
+-- a party that found this word tries to exchange it for the one after it has registered, if there is one
 abbrev pub goes_for : FairCall → ℕ → View
 goes_for c n = if is_some (starve most_starvers n) then Registering c n else finds_no_room c
 
--- where an exchange leads that is to register
+-- the view after an exchange that would register
 abbrev pub registered_by : Option View → ℕ → ℕ → View
 registered_by view old n = if n == old then registered (call_of view) else goes_for (call_of view) n
 
@@ -257,16 +259,16 @@ register_ends view old n = if n == old then loads view ++ registered_end (call_o
 abbrev pub registers_by : Option View → ℕ → Says
 registers_by view old = steps_by (in_call view) (call_of view) (register_ends view old) (registered_by view old)
 
--- a party comes to register, or goes on from a word that it found
+-- the call begins to register, or continues with a word that it found
 abbrev pub Registers : Option View → ℕ → Option View → Type 0
 Registers first word view = ((view ≡ first) × (word ≡ 0)) ⊎ (view ≡ Some (goes_for (call_of first) word))
 
--- it comes, or has looked often enough
+-- the call has just begun, or has looked often enough
 abbrev pub MayRegister : Option View → Type 0
 MayRegister (Some Loading) = Unit {0}
 MayRegister view = IsOut view
 
--- it comes, or goes on with its exchange, after so many looks
+-- the call has just begun, or continues with its exchange, after n looks
 abbrev pub MayTry : ℕ → Option View → Type 0
 MayTry n None = n ≡ 0
 MayTry n (Some Idle) = n ≡ 0
@@ -277,7 +279,7 @@ abbrev pub finds_flag_set : FairCall → View
 finds_flag_set StarverTryLock = Starving
 finds_flag_set c = Awaiting c
 
--- where the operation leads that sets the flag in this call
+-- the view after the operation that sets the flag in this call
 abbrev pub set_by : FairCall → ℕ → View
 set_by c n = if n % 2 == 0 then HoldingStarving c else finds_flag_set c
 
@@ -288,13 +290,13 @@ flag_set_end c = GoingOn
 abbrev pub sets_by : FairCall → Says
 sets_by c = steps_by true c (λ n. (if n % 2 == 0 then GoingOn else flag_set_end c) ∷ []) (set_by c)
 
--- a starver waits in this call
+-- in this call a starver waits
 abbrev pub waits : FairCall → Bool
 waits Lock = true
 waits StarverLock = true
 waits _ = false
 
--- a starver sets the flag in this call
+-- in this call a starver sets the flag
 abbrev pub sets : FairCall → Bool
 sets StarverTryLock = true
 sets c = waits c
@@ -303,7 +305,7 @@ abbrev pub MaySet : Option View → Type 0
 MaySet (Some (Setting c)) = sets c ≡ true
 MaySet _ = ⊥
 
--- the same in a call that waits
+-- in a call that waits, the party's next step sets the flag
 abbrev pub MayAwait : Option View → Type 0
 MayAwait (Some (Setting c)) = waits c ≡ true
 MayAwait _ = ⊥
@@ -326,11 +328,11 @@ awaits_by view = steps_by true (call_of view) (λ n. GoingOn ∷ []) (awaited_by
 abbrev pub served_by : Option View → Says
 served_by view = steps_by true (call_of view) (λ n. answered answer.Granted ∷ []) (λ n. Served)
 
--- what the parties are
+-- the views of the parties
 abbrev pub views_of : List (Numbered View) → List View
 views_of parties = map (λ v. v.0) parties
 
--- the party with this number holds the lock, and starves no more
+-- the party with this number holds the lock, and no longer starves
 abbrev pub HoldsAt : List View → ℕ → Type 0
 HoldsAt vs p = part_at part vs p ≡ holds writing
 
@@ -338,7 +340,7 @@ HoldsAt vs p = part_at part vs p ≡ holds writing
 abbrev pub StarvesAt : List View → ℕ → Type 0
 StarvesAt vs p = (part_at part vs p ≡ starves) ⊎ (part_at part vs p ≡ holds_starving)
 
--- What becomes of a party that keeps its number
+-- What a party that keeps its number does
 
 -- moves of a call that goes on (true), or of this one from its beginning: it goes on, or is answered so
 abbrev pub Comes : Bool → FairCall → Option (Answer (Unit {0})) → Course (Unit {0}) FairCall (Answer (Unit {0}))

@@ -15,7 +15,7 @@ module _ {T R : Type 0} where
   abbrev pub history : Pass T R → List Done
   history it = it.account.seen.entries
 
-  -- the name of the history of a lock, and of the lock of a pass
+  -- the name of a lock's history; also by a pass of the lock
   abbrev pub name_of : FairMutex T R → ℕ
   name_of lock = lock.cell.name
 
@@ -36,7 +36,7 @@ module _ {T R : Type 0} where
   abbrev pub starving_party : StarvingPass T R → Option (Numbered View)
   starving_party it = it.account.permit.view
 
-  -- since then the pass has looked once, and was told this
+  -- since then the pass has called `is_locked` once, with this answer
   abbrev pub Looked : Bool → Pass T R → Pass T R → Type 0
   Looked set before now = Called IsLocked (Is set) (party before) (history before) (party now) (history now)
 

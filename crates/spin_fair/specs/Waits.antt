@@ -1,4 +1,4 @@
--- What a party that knows the lock's history comes to between two of its steps.
+-- What a party that knows the lock's history has done between two of its steps.
 use Rattle.std.specs.Prelude.{◌≡◌, Bool, true, Option, Some, None, Result, IfOk, IfErr}
 use Rattle.spin_core.specs.Guard.{IsHolder, guard_view}
 use Rattle.spin_core.specs.Own.{Numbered, what}
@@ -31,11 +31,11 @@ module _ {T : Type 0} where
   abbrev pub GoesOn : FairCall → Option (Answer (Unit {0})) → Account T → Account T → Type 0
   GoesOn c answer was = Goes (Comes (in_call (view_of was)) c answer) was
 
-  -- it starves now
+  -- the party is now registered
   abbrev pub IsRegistered : Account T → Account T → Type 0
   IsRegistered was now = let c = call_of (view_of was) in (view_of now ≡ Some (registered c)) × GoesOn c (registered_so c) was now
 
-  -- it found the most starvers registered
+  -- the party found that no more may starve
   abbrev pub FindsNoRoom : Account T → Account T → Type 0
   FindsNoRoom was now = let c = call_of (view_of was) in (view_of now ≡ Some (finds_no_room c)) × GoesOn c (no_room_so c) was now
 
@@ -52,14 +52,14 @@ module _ {T P R S : Type 0} where
   abbrev pub Gets : Course (Unit {0}) FairCall (Answer (Unit {0})) → Account T → Held T P R S → Type 0
   Gets course was held = IsHolder use_of_party held.0 × Holds held.0 held.1 × Comes_by course was (Some (guard_view held.0)) held.1
 
-  -- an attempt of `lock`: it is granted, or goes on with a look
+  -- an attempt of `lock`: it is granted the lock, or continues with a look
   abbrev pub LocksOrWaits : Bool → Account T → Result (Held T P R S) (Waiting T) → Type 0
   LocksOrWaits goes_on was r = IfOk r (Gets (Comes goes_on Lock (Some Granted)) was) × IfErr r (λ next. Goes (Comes goes_on Lock None) was next.account)
 
-  -- a starver that goes on is granted the lock
+  -- a starver that continues is granted the lock
   abbrev pub IsServed : Account T → Held T P R S → Type 0
   IsServed = Gets (Ends Granted)
 
-  -- an attempt of a starver that waits: it is granted the lock, or goes on with a look
+  -- an attempt of a waiting starver: it is granted the lock, or continues with a look
   abbrev pub Awaits : Account T → Result (Held T P R S) (Awaiting T) → Type 0
   Awaits was r = IfOk r (IsServed was) × IfErr r (λ next. Goes Waits was next.account)

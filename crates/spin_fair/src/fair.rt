@@ -1,4 +1,4 @@
-//! A spinning mutex in which starvers come before newcomers. Begin at [`FairMutex::lock`] and [`FairMutex::starve`].
+//! A spinning mutex in which starvers go before newcomers. Begin at [`FairMutex::lock`] and [`FairMutex::starve`].
 ghost use Rattle.std.specs.Prelude.{◌≡◌, Some, None, [], true, IfSome, IfOk};
 ghost use Rattle.spin_core.specs.Guard.{IsHolder};
 ghost use Rattle.spin_fair.specs.Fair.{use_of_party};
@@ -28,18 +28,17 @@ pub use self::starvation::Starvation;
 pub use self::starving::StarvingPass;
 pub use spin_step_more::fair::LockRejectReason;
 
-/// The patience of [`FairMutex::lock`]: after more looks than this that found the lock held, it starves.
+/// The patience of [`FairMutex::lock`]. After more looks than this that found the lock held, it starves.
 pub const STARVATION_SPINS: usize = 1024;
 
-/// A spinning mutual exclusion lock in which a thread that has waited for long comes before newcomers.
+/// A spinning mutual exclusion lock in which a thread that has waited for long goes before newcomers.
 ///
 /// A thread that waits for long registers as a starver. While a starver is registered, only starvers acquire the lock.
 /// Starvers may overtake each other, and so may newcomers. A waiting thread passes the time with the strategy `R`.
 ///
-/// # Contract
-/// While a guard or a hold of the lock lives, no other call acquires it. A newcomer that holds the lock came before
-/// each registered starver (`no_newcomer_holds_that_came_behind_a_starver`). A guard gives a value of `T`, with all
-/// that the invariant of `T` says. Nothing else is promised of what other threads wrote.
+/// While a guard or a hold of the lock lives, no other call acquires it. A newcomer that holds the lock acquired it
+/// before the last move of each registered starver (`no_newcomer_holds_that_came_behind_a_starver`). A guard gives a value of
+/// `T`, with all that the invariant of `T` says. Nothing else is promised of what other threads wrote.
 ///
 /// # Examples
 /// ```
@@ -117,7 +116,7 @@ impl<T, R: RelaxStrategy> FairMutex<T, R> {
     pub fn lock<W: Wait>(&self, rt: &W) -> FairMutexGuard<'_, T, R>
         ensures { IsHolder use_of_party result }
     {
-        // As `Pass::lock`: through it, the path of a free lock would be longer.
+        // Not by `Pass::lock`: that would make the path for a free lock longer.
         let (guard, _) = match try_with(self.account(), 0) {
             Ok(held) => held,
             Err(waiting) => waiting.wait(rt),
@@ -173,8 +172,8 @@ impl<T, R> FairMutex<T, R> {
     /// Registers the caller as a starver. Returns `None` if [`fair::MAX_STARVERS`] are registered.
     ///
     /// From then on no newcomer acquires the lock, until the starver has the lock or is dropped. The first
-    /// compare-exchange takes the word for 0. If it is another, a second one is of the word found, and more follow only
-    /// while other threads change it.
+    /// compare-exchange expects the word to be 0. If it fails, a second one expects the word found. More follow only
+    /// while other threads change the word.
     ///
     /// # Contract
     /// `Some` is registered, as each `Starvation` is. `None` promises nothing. Whether and when the call returns is not

@@ -11,7 +11,7 @@ ghost use Rattle.spin_fair.specs.Fair.{Done, IsFair, model, seat_of, words_of, s
 
 /// Each run of a [`FairMutex`](crate::fair::FairMutex) on threads is a schedule of its model.
 ///
-/// The lock's cell keeps, without a byte, the list of all moves that threads have made in it so far: who, and which
+/// The lock's cell keeps, without a byte, the list of all moves that threads have made in it: which party, and which
 /// move.
 ///
 /// # Contract
@@ -34,8 +34,8 @@ pub fn no_newcomer_holds_that_came_behind_a_starver()
 
 /// States that the blind operations on the word of a `FairMutex` do what its step functions say.
 ///
-/// The holder leaves and a starver stops starving by a subtraction; a starver sets the flag by a bit operation. None of
-/// them sees the word first.
+/// The holder releases and a starver stops starving by a subtraction; a starver sets the flag by a bit operation. None
+/// of them loads the word first.
 ///
 /// # Contract
 /// On each word that the rule allows, the operation makes the word that the step function gives (`unlocked`,

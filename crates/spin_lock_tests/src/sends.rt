@@ -1,6 +1,6 @@
-//! The locks are as strict as a `&mut` to their value, or as a `&` to it, whatever the strategy is. These tests show the
-//! "if"; the edits of the crates show that a wider `Send` or `Sync` cannot be used, but for the `Sync` of a `Held`, which
-//! is stricter than it has to be.
+//! The locks ask of their value as much as a `&mut` to it, or a `&` to it, whatever the strategy is. These tests show
+//! that this is enough. The edits of the crates show that less is not, except for the `Sync` of a `Held`, which asks
+//! more than it needs.
 use spin_core::relax::Spin;
 use spin_fair::fair::{FairMutex, FairMutexGuard, Starvation};
 use spin_flag::spin::{SpinMutex, SpinMutexGuard};
@@ -49,7 +49,7 @@ fn are_shared<'a, T: Sync + 'a, R: 'a>() {
     is_sync::<RwLockWriteGuard<'a, T, R>>();
 }
 
-// What lends its value to several threads. An initialiser need not be shared, since nobody reads it through a `&`.
+// These lend their value to several threads. An initialiser need not be shared, since nobody reads it through a `&`.
 fn travel_and_are_shared<'a, T: Send + Sync + 'a, F: Send, R: 'a>() {
     is_sync::<RwLock<T, R>>();
     is_send::<RwLockReadGuard<'a, T, R>>();

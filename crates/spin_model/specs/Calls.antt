@@ -263,9 +263,9 @@ first_word kind s = kind.word s
 pub data Limit : Type 0 where
   unlimited : Limit
   within : ℕ → Limit
-  within_changes : ℕ → Limit  -- and one more for each change of the first word by another party in the call's span
-  gets_within : Ask → ℕ → Limit  -- a call that waits has got this by then, the changes counted too, or has found it closed
-  changes_within : ℕ → Limit  -- a call that waits has made a plain step by then
+  within_changes : ℕ → Limit  -- and one more for each change of the first word by another party during the call
+  gets_within : Ask → ℕ → Limit  -- by then a call that waits has got this, or has found it closed; others' changes count too
+  changes_within : ℕ → Limit  -- by then a call that waits has made a plain step
   registers_after : ℕ → ℕ → Limit  -- from each look on that finds the lock held after so many others, a call that waits registers as a starver by so many steps, others' changes since that look counted too, or finds the cap
 
 -- A look takes one step for each word. A try, a count, a downgrade or a release takes one step, and a try on the two words of a queue three; a starver's try takes a second step to leave the starvers.

@@ -4,7 +4,7 @@ use Rattle.spin_step.specs.Plain.{writing, to_write, Change, gets, releases, fla
 use Rattle.spin_model.specs.declared.place.Hold.TheVariants.{Write}
 use Rattle.spin_model.specs.Calls.{Asked, LockKind, steps_past_a_look, usual, waits, tries, tries_weakly, looks, gives_back}
 
--- a party that holds writes
+-- every holder writes
 abbrev pub flag_plain_steps : Change → Bool
 flag_plain_steps (gets p to_write) = true
 flag_plain_steps (releases p writing) = true

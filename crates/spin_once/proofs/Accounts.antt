@@ -1,4 +1,4 @@
--- What a step tells a party that keeps account, and how its account goes on from step to step.
+-- What a step tells a party that keeps a record of its calls, and how that record grows from step to step.
 use Rattle.std.proofs.Common.{◌≡◌, ℕ, ◌+◌, Bool, true, false, Option, Some, None, List, [], ◌∷◌, ◌++◌, replicate, length, ◌==◌, ◌≢◌, if◌then◌else◌, refl, sym, ap, ◌∙◌, subst, ne_eqb}
 use Rattle.std.proofs.lemmas.List.{append_assoc}
 use mathlib.Core.Logic.{◌⊎◌, inl, inr}
@@ -79,7 +79,7 @@ module _ {S : Type 0} (p q : Place S) where
   pub ends : (c : OnceCall (Unit {0})) (a : Answer (Unit {0})) → Since p (IsStep true c (Answered a None)) q → Since p (Ends a) q
   ends c a (same, named, made) = (same, named, passes.ends (model p.0.given.value) p.1 q.1 p.2.entries q.2.entries c a made)
 
-  -- by what the step came to
+  -- by the outcome of the step
   pub comes_to : (goes_on : Bool) (c : OnceCall (Unit {0})) (end end' : Ending) → end ≡ end' → Since p (IsStep goes_on c end) q → Since p (IsStep goes_on c end') q
   comes_to goes_on c end end' e made = subst (λ o. Since p (IsStep goes_on c o) q) e made
 

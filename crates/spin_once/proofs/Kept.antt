@@ -26,7 +26,7 @@ use Rattle.spin_once.proofs.Steps as steps
 use Rattle.spin_once.proofs.Steps.{ComesTo, finds_leads, looked_leads, polled_leads}
 use Rattle.spin_once.proofs.Moves.{Moves, get_moves, completed_moves, come_moves, begin_moves, look_moves, wait_moves, poll_moves, end_moves, fail_moves}
 
--- a party that goes on uses nothing
+-- a party whose call continues does not use the value
 unused_where_it_begins : (view : Option View) → may_begin view ≡ true → use_of use_of_view view ≡ off
 unused_where_it_begins (Some (InCall c TryBegin)) may = refl
 unused_where_it_begins _ may = absurd (cc (may))

@@ -1,4 +1,5 @@
--- The moves of each step of a value that is made once, by computation: a call of the model and its first step, or the next step of a call.
+-- The moves of each step of a value that is made once, by computation: a call of the model and its first step, or the
+-- next step of a call under way.
 use Rattle.std.proofs.Common.{◌≡◌, Bool, true, false, ℕ, zero, suc, ◌==◌, [], ◌∷◌, List, Option, Some, None, refl, arith}
 use prog.Atomic.{either}
 use Rattle.spin_core.specs.Run.{AreMoves, on_first, first}
@@ -17,7 +18,7 @@ module _ (given : Option (Unit {0})) where
   abbrev pub Moves : Option View → (ℕ → ℕ) → (ℕ → View → Type 0) → (List OneMove → List Ending → ℕ → View → Type 0) → Type 0
   Moves view f = AreMoves (model given) seat_of words_of view (on_first f) first
 
-  -- what a party does that has not come yet, one does that is in no call
+  -- a party that is in no call makes the moves of a new party
   out_moves : (view : Option View) → is_out view ≡ true → (to : ℕ → View) (says : Says) → Moves None (λ n. n) (ComesTo None to) says → Moves view (λ n. n) (ComesTo view to) says
   out_moves None out to says moves = moves
   out_moves (Some Idle) out to says moves = moves

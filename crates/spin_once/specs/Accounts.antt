@@ -1,4 +1,4 @@
--- What a party's account of its calls says from one of its steps to another: which moves the party has made between.
+-- What a party's record of its calls says from one of its steps to a later one: which moves it has made in between.
 use Rattle.std.specs.Prelude.{◌≡◌, Bool, true, Option, Some, None, Result, Ok, Err, IfOk, IfErr}
 use Rattle.spin_core.specs.Own.{Numbered, what}
 use Rattle.spin_core.specs.Passes.{Ends, Waits, IsCall, IsStep}
@@ -42,7 +42,7 @@ module _ {T S : Type 0} where
   abbrev pub running : InitPermit T S → Place S
   running it = (it.writer.key, Some it.writer.view, it.seen)
 
-  -- it is a call with a closure that may fail, or with one that does not
+  -- it is a call with a closure that may fail (true), or with one that does not
   abbrev pub Wants : Bool → Wanting T S → Type 0
   Wants may_fail wanting = what wanting.account.party.view ≡ Some (trying may_fail)
 
@@ -50,11 +50,11 @@ module _ {T S : Type 0} where
   abbrev pub seed_of : Account T S → S
   seed_of it = it.party.key.seed.value
 
-  -- the seed lies there
+  -- the cell has the seed
   abbrev pub HasSeed : InitPermit T S → Type 0
   HasSeed permit = permit.writer.value ≡ maybe_stable (Seed permit.writer.key.seed.value)
 
-  -- where there is no value: the right of this call to make one
+  -- the value, or this call's right to make it
   abbrev pub IsClaimOf : OnceCall (Unit {0}) → Claim T S → Type 0
   IsClaimOf call (claim.Found found) = Unit {0}
   IsClaimOf call (claim.Init permit) = HasSeed permit × (permit.writer.view.0 ≡ InCall call Run)
@@ -69,7 +69,7 @@ module _ {T S : Type 0} where
   Attempts p (Ok claim) = Claims p claim
   Attempts p (Err awaiting) = Since p Waits (here awaiting.account)
 
-  -- what a look of `wait` comes to, and one of `poll`; the first one begins the call
+  -- the result of a look of `wait`; below, of `poll`; the first look begins the call
   abbrev pub WaitsOn : Waiting T S → Result (Found T S) (Waiting T S) → Type 0
   WaitsOn was (Ok found) = Since (here was.account) (IsStep (has_begun (what was.account.party.view)) ForValue (Answered (Value tt) None)) (here found.account)
   WaitsOn was (Err next) = Since (here was.account) (IsStep (has_begun (what was.account.party.view)) ForValue GoingOn) (here next.account) × (has_begun (what next.account.party.view) ≡ true)

@@ -1,4 +1,4 @@
--- What a pass of a `LazyLock` knows: its history so far, and which moves in it are its own.
+-- What a pass of a `LazyLock` knows: its history so far, and which of its moves are the pass's own.
 use Rattle.std.specs.Prelude.{ℕ, List}
 use Rattle.spin_core.specs.Passes.{IsCall}
 use Rattle.spin_model.specs.declared.answer.Answer.TheVariants.{Value}
@@ -13,7 +13,7 @@ module _ {T F R M : Type 0} where
   abbrev pub history : Pass T F R M → List Made
   history it = it.account.seen.entries
 
-  -- the name of the history of a `LazyLock`, and of the `LazyLock` of a pass
+  -- the name of a `LazyLock`'s history; also by a pass of it
   abbrev pub name_of : LazyLock T F R M → ℕ
   name_of lazy = lazy.core.cell.start.name
 

@@ -40,11 +40,11 @@ use_of_view Idle = off
 use_of_view Reading = reads
 use_of_view (InCall c l) = used_at l
 
--- how a party uses what lies in the cell
+-- how a party uses the content of the cell
 abbrev pub use_of_party : Numbered View → Use
 use_of_party v = use_of_view v.0
 
--- so many parties read the value, and so many run
+-- how many parties read the value, and how many run a closure
 abbrev pub readers : List View → ℕ
 readers = readers_of use_of_view
 
@@ -57,14 +57,14 @@ IsPhaseOf vs nothing = (readers vs ≡ 0) × (runs vs ≡ 0)
 IsPhaseOf vs (plain.running p) = (readers vs ≡ 0) × (runs vs ≡ 1) × ((c : OnceCall (Unit {0})) × (get_elem? vs p ≡ some (InCall c Run)))
 IsPhaseOf vs complete = (0 < readers vs) × (runs vs ≡ 0)
 
--- a plain lock of which nothing but the phase is used
+-- a plain lock that uses only its phase
 abbrev pub in_phase : Phase → Plain
 in_phase s = record (fresh 0 0 0) { phase = s }
 
 abbrev pub Word : ℕ → Unit {0} → List View → Type 0
 Word n m vs = (s : Phase) × IsPhaseOf vs s × (n ≡ once_word (in_phase s)) × (m ≡ no_word (in_phase s))
 
--- it was made
+-- the value was made
 abbrev pub is_done : {T S : Type 0} → Stage T S → Bool
 is_done (Done value) = true
 is_done _ = false
@@ -79,7 +79,7 @@ abbrev pub Made : Type 0
 Made = Entry (OnceCall (Unit {0})) (Unit {0})
 
 module _ {T S : Type 0} (makes : S → T → Type 0) where
-  -- a value that somebody reads may be made from the seed, and what nobody uses is the seed itself
+  -- a value that somebody reads may be made from the seed; one that nobody uses is the seed itself
   abbrev pub IsMadeFrom : Snapshot S → Bool → Stage T S → Type 0
   IsMadeFrom seed true (Done value) = makes seed.value value
   IsMadeFrom seed false (Seed it) = it ≡ seed.value
@@ -94,7 +94,7 @@ seat_of Idle = seat.Idle
 seat_of Reading = seat.Idle
 seat_of (InCall c l) = seat.Calling c (at l) None
 
--- the lock's words, by the model's
+-- the words of the lock, from those of the model
 abbrev pub words_of : ℕ → ℕ × Unit {0}
 words_of w = (w, tt)
 
@@ -106,30 +106,30 @@ IsOnce given = Runs (model given) seat_of words_of Word
 abbrev pub Told : Option (Unit {0}) → (List OneMove → List Ending → ℕ → View → Type 0) → Option (Numbered View) → List Made → List Made → ℕ → Numbered View → Type 0
 Told given = Tells (model given) seat_of words_of
 
--- The steps: what each results in and where it leads, by the number found
+-- The steps: the outcome and the next view of each, by the number found
 
 abbrev pub Says : Type 1
 Says = List OneMove → List Ending → ℕ → View → Type 0
 
--- there is a value, and the party reads it; or else it is this
+-- if there is a value the party reads it, otherwise its view is `other`
 abbrev pub finds : View → ℕ → View
 finds other n = if n == 2 then Reading else other
 
--- what the call answers at once, or that it goes on
+-- if there is a value it is the answer, otherwise the outcome is `other`
 abbrev pub tells : Ending → ℕ → Ending
 tells other n = if n == 2 then Answered (Value tt) None else other
 
--- it is in no call: it comes, or made its last call to the end
+-- the party is in no call: it is new, or its last call has ended
 abbrev pub is_out : Option View → Bool
 is_out (Some (InCall c l)) = false
 is_out _ = true
 
--- it has begun its call
+-- the party has begun its call
 abbrev pub has_begun : Option View → Bool
 has_begun (Some (InCall c l)) = true
 has_begun _ = false
 
--- a party that reads the value reads it for good
+-- a party that reads the value reads it for ever
 abbrev pub at_rest : Option View → View
 at_rest (Some Reading) = Reading
 at_rest _ = Idle
@@ -140,7 +140,8 @@ gets_by = step_by false Get (tells (Answered NoValue None)) (finds Idle)
 abbrev pub completes_by : Option View → Says
 completes_by view = step_by false IsCompleted (λ n. Answered (Is (n == 2)) None) (λ n. at_rest view)
 
--- a call with a closure; where that may fail the model names the call as one that does not, until it has failed
+-- A call with a closure. If the closure may fail, the model names the call as one whose closure does not, until it has
+-- failed.
 abbrev pub closure_call : Bool → OnceCall (Unit {0})
 closure_call may_fail = if may_fail then TryCallOnceOk tt else CallOnce tt
 
@@ -158,7 +159,8 @@ abbrev pub call_of : Option View → OnceCall (Unit {0})
 call_of (Some (InCall c l)) = c
 call_of _ = Get
 
--- where the exchange of a call with a closure leads, where its next look leads, and where the looks of `wait` and `poll` lead
+-- The view after the exchange of a call with a closure; below, after its next look, and after the looks of `wait` and
+-- `poll`.
 abbrev pub begun : OnceCall (Unit {0}) → ℕ → View
 begun c n = if n == 0 then InCall c Run else finds (InCall c Await) n
 
@@ -200,19 +202,19 @@ fails_by own outs n v = (v ≡ Idle) × IsFailure own outs
 abbrev pub Moving : Type 1
 Moving = Course (Unit {0}) (OnceCall (Unit {0})) (Answer (Unit {0}))
 
--- since it knew `old` it has made moves of this course, and no others
+-- since it knew `old` it has made exactly the moves of this course
 abbrev pub Moves : Option (Unit {0}) → Moving → Option (Numbered View) → List Made → Option (Numbered View) → List Made → Type 0
 Moves given course view old view' new = passes.Made (model given) view old view' new course
 
--- steps by which a call goes on, and the end of a closure that fails
+-- steps after which the call still waits, and then the end of a closure that fails
 abbrev pub Fails : Moving
 Fails own outs = (n : ℕ) × (own ≡ replicate n Step ++ Weak ∷ Step ∷ []) × (outs ≡ replicate n GoingOn ++ GoingOn ∷ Answered Failed None ∷ [])
 
--- A whole call whose closure fails. The model names it as one whose closure does not, until it has failed
+-- A whole call whose closure fails. Until the failure the model names it as one whose closure does not fail.
 abbrev pub IsFailedCall : Moving
 IsFailedCall = Begins (TryCallOnceOk tt) Fails
 
--- at which views these steps are taken
+-- at which views these steps are made
 
 abbrev pub has_closure : OnceCall (Unit {0}) → Bool
 has_closure (CallOnce v) = true

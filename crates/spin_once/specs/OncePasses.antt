@@ -1,4 +1,4 @@
--- What a pass knows: the history of its `Once` so far, and which moves in it are its own.
+-- What a pass knows: the history of its `Once` so far, and which of its moves are the pass's own.
 use Rattle.std.specs.Prelude.{ℕ, Bool, Option, Some, None, List, Result, Ok, Err}
 use Rattle.spin_core.specs.Own.{Numbered}
 use Rattle.spin_core.specs.Passes.{IsCall}
@@ -33,7 +33,7 @@ module _ {T R : Type 0} where
   abbrev pub given_of : Pass T R → Option (Unit {0})
   given_of it = it.account.party.key.given.value
 
-  -- the party of the pass: none before its first call
+  -- the party of the pass; there is none before its first call
   abbrev pub party : Pass T R → Option (Numbered View)
   party it = it.account.party.view
 
@@ -41,7 +41,7 @@ module _ {T R : Type 0} where
   abbrev pub Called : OnceCall (Unit {0}) → Answer (Unit {0}) → Pass T R → Pass T R → Type 0
   Called c a before now = Since (here before.account) (IsCall c a) (here now.account)
 
-  -- since then it has made one call with a closure that may fail, which got the value, or whose closure failed
+  -- since then it has made one call with a closure that may fail; it got the value, or its closure failed
   abbrev pub Tried : {X E : Type 0} → Result X E → Pass T R → Pass T R → Type 0
   Tried (Ok value) before now = Called (TryCallOnceOk tt) (Value tt) before now
   Tried (Err e) before now = Since (here before.account) IsFailedCall (here now.account)
@@ -50,6 +50,6 @@ module _ {T R : Type 0} where
   abbrev pub CalledOnce : Pass T R → Pass T R → Type 0
   CalledOnce before now = Called (CallOnce tt) (Value tt) before now
 
-  -- since then it has looked once, and was told this
+  -- since then it has asked once whether there is a value, with this answer
   abbrev pub Looked : Bool → Pass T R → Pass T R → Type 0
   Looked there before now = Called IsCompleted (Is there) before now

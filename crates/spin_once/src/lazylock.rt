@@ -1,5 +1,5 @@
 //! A value that its own initialiser makes when a thread first asks for it. Begin with [`LazyLock::new`] and
-//! [`LazyLock::force`]; [`LazyLock::promising`] tells callers more of the value than its type does.
+//! [`LazyLock::force`]. [`LazyLock::promising`] tells callers more of the value than its type does.
 ghost use Rattle.std.specs.Prelude.{◌≡◌, true};
 ghost use Rattle.spin_core.specs.Own.{what};
 ghost use Rattle.spin_core.specs.Passes.{Ends, IsCall};
@@ -26,15 +26,14 @@ pub trait Promise<T> {
     ghost keeps: { Self → T → Type 0 };
 }
 
-/// The promise of nothing.
+/// The promise that says nothing.
 impl<T> Promise<T> for () {
     ghost keeps = { λ _ _. Unit {0} };
 }
 
-/// An initialiser: it makes a value that keeps a promise. Each closure is one, and so may be a struct of the caller's
-/// own.
+/// An initialiser: it makes a value that keeps a promise. Each closure is one, and a caller's own struct may be one.
 ///
-/// A struct may always make its value, unless its `can` asks for more. It may hold borrowed data.
+/// A struct may always make its value, unless its `can` asks for more. It may have borrowed data.
 ///
 /// # Examples
 /// ```
@@ -158,7 +157,7 @@ impl<T, F, R, M: Promise<T>> LazyLock<T, F, R, M> {
 }
 
 impl<T, F: Makes<T, M>, R: RelaxStrategy, M: Promise<T>> LazyLock<T, F, R, M> {
-    /// Returns the value, and runs the initialiser first if no caller has.
+    /// Returns the value. If no caller has run the initialiser yet, it runs it first.
     ///
     /// While another caller runs the initialiser, the thread waits with strategy `R` until that has ended. The call
     /// never returns if the initialiser asks for the value of this `LazyLock`.
@@ -192,7 +191,7 @@ impl<T, F: Makes<T, M>, R: RelaxStrategy, M: Promise<T>> LazyLock<T, F, R, M> {
         }
     }
 
-    // Kept out of line: inlined, it would lengthen the path of each caller that finds a value.
+    // It is not inlined, since that would lengthen the path of each caller that finds a value.
     #[cold]
     #[inline(never)]
     fn make<'a, W: Wait>(
@@ -212,9 +211,9 @@ impl<T, F: Makes<T, M>, R: RelaxStrategy, M: Promise<T>> LazyLock<T, F, R, M> {
     }
 }
 
-// SAFETY: it owns its cell, and that owns the initialiser, the promise and the value.
+// SAFETY: it owns its cell, which owns the initialiser, the promise and the value.
 unsafe impl<T: Send, F: Send, R, M: Promise<T> + Send> Send for LazyLock<T, F, R, M> {}
 
-// SAFETY: any thread may run the initialiser, and does so alone. Then all threads read the value, at the same time.
+// SAFETY: any thread may run the initialiser, and does so alone. Then all threads may read the value at once.
 unsafe impl<T: Send + Sync, F: Send, R, M: Promise<T> + Send + Sync> Sync
     for LazyLock<T, F, R, M> {}

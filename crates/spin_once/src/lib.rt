@@ -1,6 +1,6 @@
-//! `Once` and `LazyLock`: a value that is made once, and then read at the price of a load.
+//! `Once` and `LazyLock`: a value that is made once, and then read at the cost of a load.
 //!
-//! Begin with [`once::Once`]. A [`lazylock::LazyLock`] brings its own initialiser.
+//! Begin with [`once::Once`]. A [`lazylock::LazyLock`] has its own initialiser.
 #![tactic(auto)]
 
 mod exclusive;

@@ -13,17 +13,17 @@ mod texts;
 
 pub use self::pass::Pass;
 
-/// A `Once` starts from nothing, so the closure of a caller may give any value.
+/// A `Once` starts without anything, so a caller's closure may give any value.
 impl<T> Seed<T> for () {
     ghost makes = { λ _ _. Unit {0} };
 }
 
-/// A value that is made at most once, by a closure that one of its callers brings.
+/// A value that is made at most once, by a closure of one of its callers.
 ///
 /// Once there is a value it stays, and reading it costs one load. At most one closure runs at a time, and none runs
 /// once there is a value. A caller that finds one running spins until it has ended.
 ///
-/// A closure that waits for the value of its own `Once` never returns. A call that does not wait, as
+/// A closure that waits for the value of its own `Once` never returns. A call that does not wait, such as
 /// [`get`](Once::get), finds that there is no value yet.
 ///
 /// # Examples
@@ -116,7 +116,8 @@ impl<T, R: RelaxStrategy> Once<T, R> {
 
     /// Like [`call_once`](Once::call_once), with a closure that may fail.
     ///
-    /// If `f` fails, the call returns its `Err`, and there is no value still: another caller's closure may give one.
+    /// If `f` fails, the call returns its `Err`, and there is still no value. Another caller's closure may then give
+    /// one.
     ///
     /// # Contract
     /// The precondition of `f` has to hold. An `Err` is one that this caller's own `f` may return. Whether and when
@@ -227,8 +228,8 @@ impl<T, R> From<T> for Once<T, R> {
     }
 }
 
-// SAFETY: it owns its cell, and that owns the value.
+// SAFETY: it owns its cell, which owns the value.
 unsafe impl<T: Send, R> Send for Once<T, R> {}
 
-// SAFETY: all threads read the value that one of them made, at the same time, and any of them may drop it.
+// SAFETY: all threads may read the value at once, and any of them may drop it.
 unsafe impl<T: Send + Sync, R> Sync for Once<T, R> {}

@@ -13,8 +13,8 @@ pub(crate) use self::rule::{Seed, Sure, Unsure};
 
 /// A cell that holds a seed, and later the value made from it.
 ///
-/// A thread that begins has the seed alone. It gives a value, or leaves the seed for the next. Once there is a value,
-/// all threads see that one.
+/// A thread that begins has the seed to itself. It gives a value, or leaves the seed for the next thread. Once there is
+/// a value, all threads see it.
 #[derive(Drop)]
 pub(crate) struct OnceCore<T, S: Seed<T>> {
     cell: SeedCell<T, S>,
@@ -61,7 +61,7 @@ impl<T, S: Seed<T>> OnceCore<T, S> {
         }
     }
 
-    /// Returns the value. It reads no word, since the cell is not shared any more.
+    /// Returns the value. It loads no word, since the cell is no longer shared.
     pub(crate) fn into_inner(self) -> Option<T>
     where
         S: Drop,

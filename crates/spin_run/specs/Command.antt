@@ -1,4 +1,4 @@
--- What the program's words ask for, and what it writes.
+-- What the words of the command line ask for, and what the program writes.
 use Rattle.std.specs.Prelude.{◌≡◌, ℕ, ◌*◌, ◌≤◌, ◌++◌, ◌⊎◌, List, [], ◌∷◌, Bool, false, MatchBool, Option, map, codes, decimal}
 use Rattle.std.specs.Borrow.{Bor}
 use Rattle.std.specs.Io.KnownBytes.{Appends}
@@ -27,7 +27,7 @@ AsksWorld words = words ≡ codes "world" ∷ []
 abbrev pub AsksNothing : List (List ℕ) → Type 0
 AsksNothing words = ((workers times : ℕ) → ¬ (AsksCount words workers times)) × (¬ (AsksWorld words))
 
--- what a count of this many workers, each this many times, writes
+-- what a count writes, with so many workers that each count so many times
 abbrev pub total_text : ℕ → ℕ → List ℕ
 total_text workers times = decimal (workers * times) ++ 10 ∷ []
 
@@ -36,7 +36,7 @@ abbrev pub Counts : List (List ℕ) → Streams → Type 0
 Counts words t =
     (t.sink_failed ≡ false) × ((workers : ℕ) × (times : ℕ) × AsksCount words workers times × Appends t.written t.written_after (total_text workers times))
 
--- what was asked for was written, and no read and no write failed. Only a world reads
+-- the program wrote what the words ask for, and no read or write failed; only a world reads
 abbrev pub Does : List (List ℕ) → Type 0 → Streams → Type 0
 Does words Unread t = (Unread × Counts words t) ⊎ (AsksWorld words × (t.source_failed ≡ false) × (t.sink_failed ≡ false) × Plays t)
 
@@ -59,6 +59,6 @@ refused_line = codes "count refused\n"
 abbrev pub bad_line : ℕ → List ℕ
 bad_line n = codes "bad line " ++ decimal n ++ codes "\n"
 
--- a line was written whole, or, where the sink has failed, a beginning of it
+-- a line was written whole, or a beginning of it if the sink failed
 abbrev pub Tells : Bool → Option (List ℕ) → Option (List ℕ) → List ℕ → Type 0
 Tells failed old new line = MatchBool failed (AppendsBeginning old new line) (Appends old new line)

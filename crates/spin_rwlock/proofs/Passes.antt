@@ -1,4 +1,4 @@
--- What the steps of a read-write lock tell a pass, and how those of a call that comes to read follow one another.
+-- What the steps of a read-write lock tell a pass, and how the steps of a call that wants to read follow one another.
 use Rattle.std.proofs.Common.{◌≡◌, ◌≢◌, ℕ, eq-eqb, ne_eqb, Bool, true, false, List, [], ◌∷◌, ◌++◌, length, Option, Some, None, if◌then◌else◌, refl, sym, ap, ◌∙◌, subst}
 use Rattle.std.specs.Prelude.{◌⊎◌, Result, Ok, Err, IfOk, IfErr}
 use mathlib.Core.Logic.{inl, inr}
@@ -83,7 +83,7 @@ pub both_err : {X Y : Type 0} (r : Result X Y) (P Q R : Y → Type 0) → ((y : 
 both_err (Ok x) P Q R so p q = tt
 both_err (Err y) P Q R so p q = so y p q
 
--- A call that comes to read
+-- A call that wants to read
 
 missed_is : (call : RwCall) (n : ℕ) → missed call n ≡ (if still call n then GoingOn else Answered Refused None)
 missed_is TryRead n = refl
@@ -98,7 +98,7 @@ waits_left : (b : Bool) (own own' : List OneMove) (outs outs' : List Ending) →
 waits_left true = waits_on
 waits_left false = waits_out Refused
 
--- while the word that it found lets it in, a call goes on; and so does one that waits
+-- while the word that it found admits it, a call continues; so does a call that waits
 pub lets_in : (won : View) (waits : Bool) → Comes won → (n next : ℕ) → grants (call_of won waits) n ≡ Some next → still (call_of won waits) n ≡ true
 lets_in Reading true cm n next grant = refl
 lets_in Reading false cm n next grant = rw grant refl

@@ -1,4 +1,5 @@
--- The steps of a read-write lock keep its rule: each is the plain step that its step function makes, and moves of the lock's model.
+-- The steps of a read-write lock keep its rule. Each is the plain step that its step function makes, and moves of the
+-- lock's model.
 use Rattle.std.proofs.Common.{◌≡◌, ◌≢◌, ℕ, ◌+◌, ◌-◌, ◌%◌, ◌^◌, ◌<◌, ◌≤◌, Bool, true, false, List, [], ◌∷◌, length, ◌==◌, Option, Some, None, if◌then◌else◌, refl, sym, ap, ◌∙◌, subst, arith, eq-eqb, ne_eqb}
 use Rattle.std.proofs.lemmas.List.Sums.{count_by-le-length}
 use Rattle.std.specs.List.{list_all}
@@ -61,7 +62,7 @@ rw-lock = record {
   names_nobody = (rw_word-up, no_word-up);
 }
 
--- What the rule says of the word and of the party where it steps
+-- What the rule says of the word and of the party when the party steps
 
 -- no sum wraps below the cap
 pub bounded : (hs : List Holder) → length hs ≤ reader_limit → word_of hs < 2 ^ 63
@@ -70,11 +71,11 @@ bounded hs within = omega (arith, by_kinds weight hs, all_kinds hs, within)
 pub fits_cap : (s : Plain) → s.cap ≡ reader_limit → IsInOrder s → length s.holders ≤ reader_limit
 fits_cap s room order = omega (arith, order.holders_fit, room)
 
--- so many read in a lock whose holders are within its cap
+-- if the holders are within the cap, so are the readers
 pub readers_fit : (word count : ℕ) → IsRwWord word → ((s : Plain) → OneOfEach s → rw_word s ≡ word → count ≡ reader_count s.holders) → count ≤ reader_limit
 readers_fit word count (s, room, order, e) plain = omega (arith, plain s (one_of_each s order.exclusive) (sym e), count_by-le-length (λ (h : Holder). is_reader h.kind) s.holders, fits_cap s room order)
 
--- The party comes to a view by the number found, where this holds of the number
+-- The party gets a view by the number found, and this holds of the number
 abbrev To : (ℕ → Type 0) → (ℕ → View) → ℕ → View → Type 0
 To P to n v = P n × (v ≡ to n)
 
@@ -117,7 +118,7 @@ turns_by v w k l by was now knows down less = allows rw-lock (Some v) (λ n. (n 
 goes : (v : View) (k : Kind) → ((p : ℕ) → entries_of p (part v) ≡ entries_of p (holds k)) → Allows Word (ways rw-lock) (Some v) (λ n. (n + (2 ^ 64 - weight k)) % 2 ^ 64) (To (Weighs (weight k)) (λ n. Idle))
 goes v k was = leaves_at rw-lock weight (λ s. refl) (λ s room order. bounded s.holders (fits_cap s room order)) v k was
 
--- a free lock lets each in
+-- a free lock admits everyone
 pub opens_free : (won : View) → Comes won → (waits : Bool) → grants (call_of won waits) 0 ≡ None → ⊥
 opens_free Reading cm true none = absurd cc
 opens_free Reading cm false none = absurd cc
@@ -125,7 +126,7 @@ opens_free Upgradable cm true none = absurd cc
 opens_free Upgradable cm false none = absurd cc
 opens_free _ cm waits none = absurd cm
 
--- a reader comes, of the kind of this view
+-- a reader of this view's kind acquires the lock
 abbrev Admits : View → ℕ → ℕ → Type 0
 Admits won old new = (s : Plain) (p : ℕ) → OneOfEach s → s.cap ≡ reader_limit → rw_word s ≡ old → Decides s (gets p (asks won)) rw_word (Some new)
 
@@ -417,7 +418,7 @@ module _ (name : ℕ) where
     pub writer_leaves : Keeps (Some v) (λ n. (n + (2 ^ 64 - 1)) % 2 ^ 64) (ends_by call.Release (λ n. Done) (λ n. Idle))
     writer_leaves = leaves (Some v) writing v.0 refl (one_of_writers v.0 e) (writes_as v.0 e)
 
-  -- Who may go
+  -- Who may leave
 
   rests_at : (v : View) → seat_of v ≡ seat.Idle → part v ≡ part Idle → (m k : ℕ) → Rests (IsRw name) use_of_party (Some (v, m, k))
   rests_at v sits is m k = tie.rests model seat_of words_of Word name (Unit {0}) lends use_of_view no_fact (v, m, k) sits (plays.rests rw-lock v (rw is refl) (λ p. rw is refl))
@@ -434,6 +435,6 @@ module _ (name : ℕ) where
   pub missed_rests : (won : View) (old found : ℕ) → found ≢ old → (v : Numbered View) → v.0 ≡ either_at old won Idle found → Rests (IsRw name) use_of_party (Some v)
   missed_rests won old found other v is = idle_rests v (is ∙ ap (λ b. if b then won else Idle) (ne_eqb found old other))
 
--- a try that is kept out has been refused, and is out
+-- a try whose word does not admit it has failed, and its party is out
 pub refused_out : (won : View) → Comes won → (n : ℕ) → grants (call_of won false) n ≡ None → (view : Option View) → view ≡ Some (Coming (call_of won false) n) → IsOut view
 refused_out won cm n none view is = rw is (ap rws.is_idle (sits_idle won cm n none))

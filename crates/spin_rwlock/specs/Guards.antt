@@ -13,7 +13,7 @@ use Rattle.spin_rwlock.specs.declared.rwlock.rule.View.{View}
 use Rattle.spin_rwlock.specs.Rw.{Done}
 
 module _ {T R : Type 0} where
-  -- of a guard there always is one
+  -- a guard always has one
   abbrev pub shared_value : {K : Type 0} {kind : Ghosts K} → SharedGuard T K R kind → Option T
   shared_value it = it.permit.value
 
@@ -23,11 +23,11 @@ module _ {T R : Type 0} where
   abbrev pub write_with : RwLockWriteGuard T R → T → RwLockWriteGuard T R
   write_with it x = record { writer = with_value it.writer x; strategy = it.strategy }
 
-  -- the value that nobody writes until the hold is consumed
+  -- the value, which nobody writes until the hold is consumed
   abbrev pub read_held_value : ReadHeld T R → Option T
   read_held_value it = it.permit.value
 
-  -- the value that is free when the hold is consumed
+  -- the value that the hold releases when it is consumed
   abbrev pub write_held_value : WriteHeld T R → Option T
   write_held_value it = it.permit.value
 
@@ -38,7 +38,7 @@ module _ {T R : Type 0} where
   abbrev pub write_party : RwLockWriteGuard T R → Option (Numbered View)
   write_party it = Some it.writer.view
 
-  -- and of a hold
+  -- the party of a hold
   abbrev pub read_held_party : ReadHeld T R → Option (Numbered View)
   read_held_party it = it.permit.view
 

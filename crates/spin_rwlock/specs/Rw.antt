@@ -1,4 +1,5 @@
--- The rule of a read-write lock: its word is that of a plain lock whose holders are its parties, and its trace is a schedule of the lock's model, which leads there.
+-- The rule of a read-write lock. Its word is that of a plain lock whose holders are its parties. Its trace is a
+-- schedule of the lock's model, which leads there.
 use Rattle.std.specs.Prelude.{◌≡◌, ◌≢◌, ◌⊎◌, ℕ, List, [], ◌∷◌, Bool, true, false, Option, Some, None, is_some, ◌==◌, if◌then◌else◌, map}
 use Rattle.spin_step.specs.Plain.{Plain, reading, upgradable, asking, writing, Ask, to_read, to_read_upgradable, rw_word}
 use Rattle.spin_step.specs.Orders.{IsInOrder}
@@ -55,7 +56,7 @@ grants TryUpgradeableRead n = read_upgradable reader_limit n
 grants UpgradeableRead n = read_upgradable reader_limit n
 grants _ n = None
 
--- where such a call stands in the model that found a word which keeps it out: at its first step again, or it has been refused
+-- where such a call sits in the model after a word that does not admit it: at its first step again, or it has failed
 abbrev pub kept_out : RwCall → Seat RwCall RwPoint
 kept_out Read = seat.Calling Read point.First None
 kept_out UpgradeableRead = seat.Calling UpgradeableRead point.First None
@@ -95,7 +96,7 @@ Word = Encodes part reader_limit rw_word no_word
 abbrev pub IsRw : ℕ → ℕ → Trace Done (Unit {0}) → List (Numbered View) → Type 0
 IsRw = Runs model seat_of words_of Word
 
--- what the parties are
+-- the views of the parties
 abbrev pub views : List (Numbered View) → List View
 views vs = map (λ v. v.0) vs
 
@@ -103,9 +104,9 @@ views vs = map (λ v. v.0) vs
 abbrev pub IsRwWord : ℕ → Type 0
 IsRwWord word = (s : Plain) × (s.cap ≡ reader_limit) × IsInOrder s × (word ≡ rw_word s)
 
--- Where a party stands in its calls
+-- Where a party is in its calls
 
--- a party that sits so is in a call
+-- a party with this seat is in a call
 abbrev pub is_calling : Seat RwCall RwPoint → Bool
 is_calling (seat.Calling call point held) = true
 is_calling _ = false
@@ -114,7 +115,7 @@ abbrev pub in_call : Option View → Bool
 in_call None = false
 in_call (Some v) = is_calling (seat_of v)
 
--- it is in no call, and holds nothing
+-- the party is in no call, and holds nothing
 abbrev pub is_idle : Seat RwCall RwPoint → Bool
 is_idle seat.Idle = true
 is_idle _ = false
@@ -126,12 +127,12 @@ is_out (Some v) = is_idle (seat_of v)
 abbrev pub IsOut : Option View → Type 0
 IsOut view = is_out view ≡ true
 
--- The courses of a call: its moves, and what they result in
+-- The courses of a call: its moves and their outcomes
 
 abbrev pub OneCourse : Type 1
 OneCourse = Course (Unit {0}) RwCall (Answer (Unit {0}))
 
--- a call that wants to read goes on after an exchange that found this word
+-- after an exchange that found this word, a call that wants to read continues
 abbrev pub still : RwCall → ℕ → Bool
 still TryRead n = is_some (grants TryRead n)
 still TryUpgradeableRead n = is_some (grants TryUpgradeableRead n)
@@ -220,33 +221,34 @@ peeks_by old own outs n v = (v ≡ either_at old Reading Idle n) × IsPeek (n ==
 
 -- Who wants to read
 
--- the call by which a reader of this view comes: it waits, or tries
+-- the call of a reader of this view: it waits, or tries
 abbrev pub call_of : View → Bool → RwCall
 call_of Upgradable true = UpgradeableRead
 call_of Upgradable false = TryUpgradeableRead
 call_of _ true = Read
 call_of _ false = TryRead
 
--- what it asks of the plain lock
+-- what the call asks of the plain lock
 abbrev pub asks : View → Ask
 asks Upgradable = to_read_upgradable
 asks _ = to_read
 
--- a reader of this view comes
+-- a reader acquires with this view
 abbrev pub Comes : View → Type 0
 Comes Reading = Unit {0}
 Comes Upgradable = Unit {0}
 Comes _ = ⊥
 
--- it comes, and its exchange is that of a free lock's word; or it is in the call, and found this word
+-- The call has just begun, and its exchange is that of a free lock's word. Or the call is under way, and found this
+-- word.
 abbrev pub MayCome : RwCall → ℕ → Option View → Type 0
 MayCome call n view = (IsOut view × (n ≡ 0)) ⊎ (view ≡ Some (Coming call n))
 
--- it comes to write, or waits for that
+-- the call to write has just begun, or waits
 abbrev pub MayWrite : Option View → Type 0
 MayWrite view = IsOut view ⊎ (view ≡ Some WaitingToWrite)
 
--- a party with this view, which is shown a value
+-- a party with this view, to which a value is shown
 abbrev pub IsLent : {T P K S : Type 0} → Permit T (Numbered View) P K S → View → Type 0
 IsLent it v = (what it.view ≡ Some v) × (it.value ≢ None)
 

@@ -27,11 +27,11 @@ module _ {T R : Type 0} where
   abbrev pub party : Pass T R → Option (Numbered View)
   party it = it.permit.view
 
-  -- since then the pass has counted the readers once, and was told this
+  -- since then the pass has counted the readers once, with this answer
   abbrev pub CountedReaders : ℕ → Pass T R → Pass T R → Type 0
   CountedReaders readers before now = Called ReaderCount (Count readers) (party before) (history before) (party now) (history now)
 
-  -- since then the pass has counted the writers once, and was told this
+  -- since then the pass has counted the writers once, with this answer
   abbrev pub CountedWriters : ℕ → Pass T R → Pass T R → Type 0
   CountedWriters writers before now = Called WriterCount (Count writers) (party before) (history before) (party now) (history now)
 
@@ -46,7 +46,7 @@ module _ {T R : Type 0} where
   abbrev pub WroteOnce : Pass T R → Pass T R → Type 0
   WroteOnce = HeldOnceBy Write
 
-  -- since then the pass has come as an upgradable reader, has become the writer, and has released the lock, once
+  -- since then the pass has acquired the lock as an upgradable reader, become the writer, and released the lock, once
   abbrev pub RaisedOnce : Pass T R → Pass T R → Type 0
   RaisedOnce before now =
       (reader : Option (Numbered View)) × (seen : List rws.Done) × Called UpgradeableRead Granted (party before) (history before) reader seen

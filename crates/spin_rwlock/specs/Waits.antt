@@ -1,4 +1,4 @@
--- What a call that waits, or tries again, comes to by its next steps.
+-- What a call that waits, or tries again, does by its next steps.
 use Rattle.std.specs.Prelude.{◌≡◌, Some, Option, List, Result, IfOk, IfErr}
 use Rattle.spin_core.specs.Own.{Numbered}
 use Rattle.spin_core.specs.Passes.{Waits, Ends, IsCall}
@@ -18,13 +18,13 @@ use Rattle.spin_rwlock.specs.declared.rwlock.rule.View.TheVariants.{Writing, Wri
 use Rattle.spin_rwlock.specs.declared.rwlock.rule.Waiting.{Waiting}
 use Rattle.spin_rwlock.specs.declared.rwlock.upgradable.AsksOn.{AsksOn}
 
--- Of a call that wants to read: whatever it has made so far, by its next steps it has made moves of a course
+-- For a call that wants to read: after what it has done so far, its next steps make its moves those of this course
 module _ {T K M R : Type 0} {k : kind.Ghosts K} {m : mode.Ghosts M} (call : RwCall) (was : Coming T K M R k m) where
   abbrev pub LeadsOn : OneCourse → Option (Numbered View) → Watch Done → Type 0
   LeadsOn course party seen =
       (seen.name ≡ was.seen.name) × ((first : Option (Numbered View)) (old : List Done) → Moves (Seeks call was.word) first old was.permit.view was.seen.entries → Moves course first old party seen.entries)
 
-  -- it goes on, or is kept out, by the word that it has found since
+  -- it waits, or has failed, by the word that it has found since
   abbrev pub SeeksOn : Coming T K M R k m → Type 0
   SeeksOn now = LeadsOn (Seeks call now.word) now.permit.view now.seen
 
@@ -38,14 +38,14 @@ module _ {T K M R : Type 0} {k : kind.Ghosts K} {m : mode.Ghosts M} (call : RwCa
   abbrev pub TriesOn : Result (Result (SharedGuard T K R k × Watch Done) (Pass T R)) (Coming T K M R k m) → Type 0
   TriesOn r = IfOk r (λ answer. IfOk answer IsLetIn × IfErr answer IsRefused) × IfErr r SeeksOn
 
--- a waiting `write` is granted, or waits on
+-- a waiting `write` is granted, or continues to wait
 module _ {T P S : Type 0} where
   abbrev pub WritesOn : Waiting T → Result (Writer T P S × Watch Done) (Waiting T) → Type 0
   WritesOn was r =
       IfOk r (λ held. (held.0.view.0 ≡ Writing) × KnowsWriter held.0 held.1 × (held.1.name ≡ was.seen.name) × Moves (Ends Granted) was.permit.view was.seen.entries (Some held.0.view) held.1.entries)
       × IfErr r (λ next. (next.seen.name ≡ was.seen.name) × Moves Waits was.permit.view was.seen.entries next.permit.view next.seen.entries)
 
--- a waiting `upgrade` is granted, or waits on
+-- a waiting `upgrade` is granted, or continues to wait
 module _ {T P S : Type 0} where
   abbrev pub IsUpgraded : AsksOn T → Writer T P S × Watch Done → Type 0
   IsUpgraded was held =

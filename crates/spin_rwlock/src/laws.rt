@@ -11,7 +11,7 @@ ghost use Rattle.spin_rwlock.specs.Standing.{readers, upgradables, askers, write
 
 /// Each run of an [`RwLock`](crate::rwlock::RwLock) on threads is a schedule of its model.
 ///
-/// The lock's cell keeps, without a byte, the list of all moves that threads have made in it so far: who, and which
+/// The lock's cell keeps, without a byte, the list of all moves that threads have made in it: which party, and which
 /// move.
 ///
 /// # Contract
@@ -29,7 +29,7 @@ pub fn the_word_of_a_rwlock_counts_its_parties()
     ensures { (name word : ℕ) (trace : Trace Done (Unit {0})) (parties : List (Numbered View)) → IsRw name word trace parties → word ≡ ((weight reading * readers (views parties) + weight upgradable * upgradables (views parties)) + weight asking * askers (views parties)) + weight writing * writers (views parties) }
 {}
 
-/// States that many parties read an `RwLock`, or one writes it alone.
+/// States that several parties read an `RwLock`, or one writes it alone.
 ///
 /// # Contract
 /// Where the rule holds (`IsRw`), at most one holder is upgradable, whether it has asked or not. Where a party writes,
@@ -48,7 +48,7 @@ pub fn the_word_of_a_rwlock_is_zero_when_nobody_holds()
 
 /// States that the blind operations on the word of an `RwLock` do what its step functions say.
 ///
-/// A holder releases by a subtraction, and downgrades or asks to upgrade by an addition. Neither sees the word first.
+/// A holder releases by a subtraction, and downgrades or asks to upgrade by an addition. Neither loads the word first.
 ///
 /// # Contract
 /// On each word that the rule allows, the operation makes the word that the step function gives (`released`, `turned`).

@@ -4,7 +4,7 @@ use Rattle.spin_step.specs.Plain.{reading, to_read, Change, gets, releases, flag
 use Rattle.spin_model.specs.declared.place.Hold.TheVariants.{Read}
 use Rattle.spin_model.specs.Calls.{Asked, LockKind, steps_past_a_look, usual, waits, tries, counts_readers, gives_back}
 
--- a party that holds reads, and as many hold as the cap lets in
+-- the plain steps: every holder reads, and at most as many hold as the cap says
 abbrev pub seats_plain_steps : Change → Bool
 seats_plain_steps (gets p to_read) = true
 seats_plain_steps (releases p reading) = true

@@ -40,7 +40,7 @@ module _ {C : Type 0} (calls : Calls C) where
   are_calls [] = true
   are_calls (row ∷ rows) = (calls.fits row.1 && is_word (calls.words row.1) row.0) && are_calls rows
 
-  -- a word that such a table names is that call
+  -- a word in such a table is the call of its row
   pub named_takes : (rows : List (List ℕ × C)) → are_calls rows ≡ true → (w : List ℕ) (c : C) → named rows w ≡ Some c → IsCall (w ∷ []) c
   unfolding named
   named_takes [] each w c = λ is. absurd (cc)
@@ -51,13 +51,13 @@ module _ {C : Type 0} (calls : Calls C) where
       let this = and_true _ _ all.0 in
       subst P (some_is is) (this.0, ap (λ x. x ∷ []) (is_text w row.0 same) ∙ word_is (calls.words row.1) row.0 this.1)) (λ _. named_takes rows all.1 w c)
 
-  -- where all calls are of one word
+  -- if all calls have one word
   pub word_takes : (rows : List (List ℕ × C)) → are_calls rows ≡ true → (ws : List (List ℕ)) (c : C) → (last_word ws >>= named rows) ≡ Some c → IsCall ws c
   word_takes rows each ws c =
       bound (last_word ws) (named rows) c (IsCall ws c) (λ w one is.
       let call = named_takes rows each w c is in (call.0, last_word_takes ws w one ∙ call.1))
 
-  -- a call that is found is the one that is told
+  -- the call found is the one that the words spell
   pub told : (ws : List (List ℕ)) (this c : C) → IsCall ws this → Some this ≡ Some c → IsCall ws c
   told ws this c call is = let P : C → Type 0 = IsCall ws in subst P (some_is is) call
 

@@ -1,4 +1,4 @@
-//! A whole text: it is read, checked, played, and its transcript written. Begin with [`world_text`].
+//! A whole text: reads it, checks it, plays it, and writes its transcript. Begin with [`world_text`].
 ghost use Rattle.std.specs.Prelude.{◌≡◌, ◌<◌, ◌^◌, false, true, length, OnOk, IfOk, IfErr};
 ghost use Rattle.spin_text.specs.Ends.{AppendsSome, AppendsSomeBeginning};
 ghost use Rattle.spin_text.specs.Lines.{words_by_line, header_line, entry_lines};
@@ -23,8 +23,7 @@ pub enum RunError {
     Read,
     /// An allocation failed.
     Memory,
-    /// The first line that is no line of a schedule, counted from 1. A text without bytes has one line, which is
-    /// empty.
+    /// The first line that does not belong to a schedule, counted from 1. An empty text has one line, which is empty.
     BadLine(usize),
     /// A write failed. A beginning of the text may have been written.
     Write,
@@ -50,7 +49,7 @@ impl<T: Drop> From<AllocFailed<T>> for RunError {
     }
 }
 
-/// The number of bytes that one read asks for.
+/// How many bytes one read asks for.
 const CHUNK: usize = 65_536;
 
 /// Reads all bytes of a source, one chunk at a time.
@@ -82,7 +81,7 @@ pub fn read_all<I: Source>(alloc: Global, input: &mut I) -> Result<Vec<u8>, RunE
     read_by(alloc, input, &mut chunk)
 }
 
-/// Plays the lines after the header, and writes their transcript.
+/// Plays the lines behind the header, and writes their transcript.
 fn play_lines<O: Spelled, K: Sink>(
     alloc: Global,
     object: O,
@@ -179,19 +178,19 @@ fn play<K: Sink>(alloc: Global, bytes: &[u8], output: &mut K) -> Result<(), RunE
 /// `owner set VALUE`. A call without a closure is spelled as its variant in snake case. Those with one are
 /// `call_once VALUE`, `init_from_ref VALUE`, `try_call_once ok VALUE` and `try_call_once err`.
 ///
-/// A line ends at a line feed, which the last line may lack. One space stands between two words. A number is decimal
-/// digits without a sign and without leading zeros, at most `u64::MAX`. Parties are numbered from 0. A move of a party
-/// that does not exist makes no bad line: it is skipped.
+/// A line ends at a line feed, which may be missing after the last line. One space separates two words. A number is
+/// decimal digits without a sign and without leading zeros, at most `u64::MAX`. Parties are numbered from 0. A line may
+/// name a party that does not exist: its move is skipped.
 ///
-/// It writes a line `LINE PARTY OUTCOME: WORDS` for each move, and at last `end: WORDS value VALUE`. An answer ends with
-/// ` from LINE`, the line at which its call began.
+/// It writes a line `LINE PARTY OUTCOME: WORDS` for each move, and finally `end: WORDS value VALUE`. An answer ends
+/// with ` from LINE`, the line at which its call began.
 ///
 /// # Contract
 /// The caller gives streams that have not failed. On `Ok` neither has failed, the source is at its end, and the known
 /// output grows by the transcript of what was read (`Plays`).
 ///
-/// The call reads and checks all lines before the world runs, and takes all memory before the first write. So an
-/// `Err` other than `Write` leaves the output as it was, and `Write` leaves a beginning of the text (`Stops`).
+/// The call reads and checks all lines before the world runs, and allocates all memory before the first write. So an
+/// `Err` other than `Write` leaves the output unchanged, and `Write` leaves a beginning of the text (`Stops`).
 ///
 /// # Examples
 /// ```

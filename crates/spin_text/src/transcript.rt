@@ -1,4 +1,4 @@
-//! The text of a transcript. Begin with [`write_transcript`]; it makes each line from its end, in a buffer.
+//! The text of a transcript. Begin with [`write_transcript`]. It makes each line from its end, in a buffer.
 ghost use Rattle.std.specs.Prelude.{◌≡◌, ◌≤◌, ◌<◌, ◌++◌, ◌+◌, ◌^◌, OnOk, OnErr, IfOk, IfErr, ℕ, None, true, take, drop, length};
 ghost use Rattle.std.specs.Io.KnownBytes.{Appends};
 ghost use Rattle.spin_model.specs.Schedules.{after, begin_of};
@@ -32,7 +32,7 @@ fn put_value(value: Option<u64>, buffer: &mut [u8], end: usize) -> usize
     }
 }
 
-/// Returns the words at the beginning of an answer's text, and the number after them.
+/// Returns the words at the beginning of an answer's text, and the number behind them.
 fn parts_of(answer: Answer<u64>) -> (&'static [u8], Option<u64>)
     ensures parts { result.0.now ++ number_text result.1 ≡ answer_text answer }
     ensures short { length result.0.now ≤ 8 }
@@ -164,7 +164,7 @@ fn put_end(numbers: (u64, Option<u64>), value: Option<u64>, buffer: &mut [u8]) -
     put(b"end: ", buffer, end)
 }
 
-/// Plays the entries in lines, and writes the line of each event. Returns how many bytes the piece then has.
+/// Plays the entries in lines, and writes a line for each event. Returns how many bytes the piece then has.
 fn write_events<O: Spelled, K: Sink>(
     world: &mut World<O>,
     begins: &mut [Option<usize>],
@@ -260,8 +260,8 @@ fn play<O: Spelled, K: Sink>(
 
 /// Plays the entries in lines in a world of their own, and writes the text of the transcript.
 ///
-/// It reads each entry, plays it and writes its line, without a list of entries or events. All memory is there before
-/// that. A line that spells no entry is left out, so the caller checks the lines first.
+/// It reads each entry, plays it and writes its line, without a list of entries or events. All memory is allocated
+/// before. A line that spells no entry is left out, so the caller checks the lines first.
 pub fn write_transcript<O: Spelled, K: Sink>(
     alloc: Global,
     object: O,

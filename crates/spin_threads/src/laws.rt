@@ -1,4 +1,5 @@
-//! One law for each lock. Each is the contract of a function that does nothing: a caller calls it for what it states.
+//! One law for each lock. Each is the contract of a function that does nothing. A caller calls it to learn what it
+//! states.
 ghost use Rattle.std.specs.Prelude.{ℕ, List, Option};
 ghost use Rattle.spin_core.specs.Own.{Numbered};
 ghost use Rattle.spin_core.specs.declared.tie.Opening.{Opening};
@@ -19,8 +20,8 @@ ghost use Rattle.spin_ticket.specs.Queue as ticket_mutex;
 ghost use Rattle.spin_ticket.specs.declared.ticket.rule.View.{View as TicketMutexView};
 ghost use Rattle.spin_threads.specs.Between.{Between};
 
-/// Between any two steps of the threads that use a `SpinMutex`, its word is 1 if a party holds it, and else 0. At most
-/// one party holds it. Each guard and each call has in it what its type says.
+/// Between any two steps of the threads that use a `SpinMutex`, its word is 1 if a party holds it, else 0. At most one
+/// party holds it. Each guard and each call has in the plain lock what its type says.
 ///
 /// # Contract
 /// `Between`, of the moves that the lock's cell keeps, with the lock's word and parties.
@@ -29,7 +30,7 @@ pub fn between_any_two_steps_of_a_spin_mutex<T>()
 {}
 
 /// Between any two steps of the threads that use a `TicketMutex`, its words are the numbers of a queue of tickets. At
-/// most one of them is served. Each guard and each call has in it what its type says.
+/// most one ticket is served. Each guard and each call has in the plain lock what its type says.
 ///
 /// # Contract
 /// `Between`, of the moves that the lock's cell keeps, with the lock's words and parties.
@@ -38,7 +39,7 @@ pub fn between_any_two_steps_of_a_ticket_mutex<T>()
 {}
 
 /// Between any two steps of the threads that use a `FairMutex`, its word encodes exactly its holders and its registered
-/// starvers. At most one party holds it. Each guard and each call has in it what its type says.
+/// starvers. At most one party holds it. Each guard and each call has in the plain lock what its type says.
 ///
 /// # Contract
 /// `Between`, of the moves that the lock's cell keeps, with the lock's word and parties.
@@ -47,7 +48,7 @@ pub fn between_any_two_steps_of_a_fair_mutex()
 {}
 
 /// Between any two steps of the threads that use a `Seats`, its word is the number of parties that sit. Each guard and
-/// each call has in it what its type says.
+/// each call has in the plain lock what its type says.
 ///
 /// # Contract
 /// `Between`, of the moves that the lock's cell keeps, with the lock's word and parties.
@@ -55,8 +56,8 @@ pub fn between_any_two_steps_of_seats()
     ensures { (n name word : ℕ) (trace : Trace seats.Done (Unit {0})) (parties : List (Numbered SeatsView)) → seats.IsSeats n name word trace parties → Between (seats.model n) seats.seat_of seats.words_of trace.entries (word, trace.word) parties }
 {}
 
-/// Between any two steps of the threads that use an `RwLock`, its word counts exactly its holders. A writer stands alone,
-/// and at most one reader may upgrade. Each guard and each call has in it what its type says.
+/// Between any two steps of the threads that use an `RwLock`, its word counts exactly its holders. A writer holds
+/// alone, and at most one reader may upgrade. Each guard and each call has in the plain lock what its type says.
 ///
 /// # Contract
 /// `Between`, of the moves that the lock's cell keeps, with the lock's word and parties.
@@ -64,13 +65,13 @@ pub fn between_any_two_steps_of_a_rwlock()
     ensures { (name word : ℕ) (trace : Trace rwlock.Done (Unit {0})) (parties : List (Numbered RwLockView)) → rwlock.IsRw name word trace parties → Between rwlock.model rwlock.seat_of rwlock.words_of trace.entries (word, trace.word) parties }
 {}
 
-/// Between any two steps of the threads that use a `Once` or a `LazyLock`, its word is 0 where there is nothing, 1 while
-/// one closure runs, and 2 where there is a value. At most one closure runs, and none where there is a value. Each call
-/// has in it what its type says.
+/// Between any two steps of the threads that use a `Once` or a `LazyLock`, its word is 0 without a value, 1 while a
+/// closure runs, and 2 with a value. At most one closure runs, and none once there is a value. Each call has in the
+/// plain lock what its type says.
 ///
 /// # Contract
-/// `Between`, of the schedule of the object that the moves are which the cell keeps (`foretold`), with the cell's word
-/// and parties. `given` is the value that the cell was made with, or none.
+/// `Between`, for the object's schedule that corresponds to the moves kept by the cell (`foretold`), with the cell's
+/// word and parties. `given` is the cell's opening value, if it has one.
 pub fn between_any_two_steps_of_a_once()
     ensures { (given : Option (Unit {0})) (name word : ℕ) (trace : Trace once.Made (Unit {0})) (parties : List (Numbered OnceView)) → once.IsOnce given name word trace parties → Between (once_machine given) place_of once.words_of (foretold trace.entries) (word, trace.word) parties }
 {}

@@ -1,4 +1,5 @@
--- The steps of a lock of tickets keep its rule: each is the plain step that its step function makes, and moves of the lock's model.
+-- The steps of a lock of tickets keep its rule. Each is the plain step that its step function makes, and moves of the
+-- lock's model.
 use Rattle.std.proofs.Common.{◌≡◌, ℕ, ◌+◌, ◌<◌, ◌≤◌, ◌&&◌, Bool, true, false, if◌then◌else◌, ◌==◌, List, [], ◌∷◌, length, Option, Some, None, refl, sym, ap, ◌∙◌, subst, arith}
 use Rattle.std.specs.Prelude.{◌≢◌}
 use Rattle.std.proofs.lemmas.Bool.{eqb-true, eq-eqb, ne_eqb, and_parts}
@@ -56,18 +57,19 @@ queue = record {
   names_nobody = (next_word-up, serving_word-up);
 }
 
--- it comes to this view by the number found
+-- the party gets this view, by the number found
 abbrev Comes : (ℕ → View) → ℕ → View → Type 0
 Comes to n v = v ≡ to n
 
--- what a load of the next number tells `is_locked`, and one of the served number a party that releases, beside its view
+-- what a load of the next number tells `is_locked`, and a load of the served number tells a party that releases,
+-- besides the view
 abbrev Compares : ℕ → ℕ → View → Type 0
 Compares served n v = (served ≤ n) × (v ≡ Idle)
 
 abbrev Finds : ℕ → ℕ → View → Type 0
 Finds number n v = (n ≡ number) × (number < ticket_limit) × (v ≡ Entered number)
 
--- The moves of each step: a call of the model and its first step, or the next step of a call that has begun
+-- The moves of each step: a call of the model and its first step, or the next step of a call under way
 
 module _ {T : Type 0} (key : Key T) where
   abbrev Moves : Option View → (ℕ → ℕ) → (ℕ → View → Type 0) → Says T → Type 0
@@ -136,7 +138,7 @@ out_has_none None out = refl
 out_has_none (Some Idle) out = refl
 out_has_none (Some _) out = absurd out
 
--- it comes, or made its last call to the end
+-- the party is new, or its last call has ended
 pub is_out : (view : Option (Numbered View)) → stands view ≡ Idle → IsOut (what view)
 is_out None is = tt
 is_out (Some v) is = subst (λ w. IsOut (Some w)) (sym is) tt
@@ -157,7 +159,7 @@ module _ {T : Type 0} (key : Key T) where
   abbrev Leaving : Option View → Option T → Says T → Type 0
   Leaving view shown says = (own : List (OneMove T)) (outs : List (Ending T)) (n : ℕ) (u : View) → says own outs n u → Leaves (use_of use_of_view view) (use_of_view u) shown own
 
-  -- a step by which a party that does not use the value begins a call, or goes on with it
+  -- a step by which a party that does not use the value begins a call, or continues it
   steps : (view : Option View) (shown : Option T) (goes_on : Bool) (c : TicketCall) (end : ℕ → Ending T) (to : ℕ → View) → use_of use_of_view view ≡ off → Leaving view shown (step_by goes_on c end to)
   steps view shown goes_on c end to unused own outs n u said = steps_leave (use_of use_of_view view) (use_of_view u) shown unused goes_on c (end n) own outs said.1
 
@@ -195,7 +197,7 @@ module _ {T : Type 0} (key : Key T) where
       (λ e. by_grant queue from (Waiting next) s p to_take_ticket after (serving_word s) (plain s p e) (ap (λ n. entries_of p (queues n false)) e) tt (sym (serving-taken s p false order.numbered)))
       (goes_if from s p (by_none queue from (Going s.next) s p refl tt) (by_none queue from Coming s p refl tt) (is_left s.next)))))
 
-  -- a party enters exactly where that is open to it
+  -- a party enters exactly if that is open to it
   pub awaits : (view : Option (Numbered View)) (shown : Option T) (number : ℕ) → what view ≡ Some (Waiting number) → KeepsSecond view shown (λ k. k) (awaits_by (what view))
   awaits view shown number is =
       subst (λ k. KeepsSecond view shown (λ m. m) (step_by true Lock (answers_turn k) (entered k))) (sym (ap number_of is)) (keeps_second view shown (λ k. k) (Comes (entered number)) (step_by true Lock (answers_turn number) (entered number)) (steps (what view) shown true Lock (answers_turn number) (entered number) (ap (use_of use_of_view) is)) (rw is (await_moves key number))
@@ -226,7 +228,7 @@ module _ {T : Type 0} (key : Key T) where
       by_grant queue from (Entered next) s p to_take_and_enter after (serving_word s) (plain s p order.numbered.0 e (omega (arith, has.1, e, order.numbered.0))) (ap (λ n. entries_of p (queues n true)) e) tt
       (sym (serving-taken s p true order.numbered)))))
 
-  -- `is_locked`: the number that is served only grows, and is at most the next
+  -- `is_locked`: the served number only grows, and is at most the next one
 
   pub looks : (view : Option (Numbered View)) (shown : Option T) → IsOut (what view) → KeepsSecond view shown (λ k. k) (step_by false IsLocked goes_on LoadedServing)
   looks view shown out =
@@ -263,7 +265,7 @@ module _ {T : Type 0} (key : Key T) where
       let served = entered_is_served s p number order.numbered order.exclusive.one_entered (ap (λ e. e.tickets) has.0) in
       (Idle, by_step queue from Idle s (serves p) s.next next served.0 refl tt refl (plain s p order.numbered.0 served.1 served.0), refl)))))
 
--- Who may go, and what a step tells its party
+-- Who may leave, and what a step tells its party
 
 module _ {T : Type 0} (key : Key T) where
   pub rests : (view : Option (Numbered View)) → stands view ≡ Idle → Rests (IsQueue key) use_of_party view
@@ -273,7 +275,7 @@ module _ {T : Type 0} (key : Key T) where
   pub may_know : (before : Watch (Made T)) → key.0.name ≡ before.name → Named (IsQueue key) (queue_ways key) before.name
   may_know before = passes.may_know (IsQueue key) (queue_ways key) key.0.name (λ n t vs is. is.0) before.name
 
-  -- what a step tells a party that knew all up to its last step
+  -- what a step tells a party that knew everything up to its last step
   pub learnt_by : (says : Says T) (to : ℕ → View) (course : ℕ → Course T TicketCall (Answer T)) → ((own : List (OneMove T)) (outs : List (Ending T)) (n : ℕ) (v : View) → says own outs n v → (v ≡ to n) × course n own outs)
       → (view view' : Option (Numbered View)) (before now : Watch (Made T)) (found : ℕ) → mark_of view ≡ length before.entries → key.0.name ≡ before.name
       → Moved (Watches (Named (IsQueue key) (queue_ways key) before.name) before now (Told key says view) found) view' → Learnt (model key) view view' before now (to found) (course found)
@@ -318,15 +320,15 @@ module _ {T : Type 0} (key : Key T) where
     pub released : mark_of view ≡ length before.entries → key.0.name ≡ before.name → IsLast key.0 now.entries x → Learnt (model key) view view' before now Idle (WritesSome As (IsStep false Release (Answered Done None)))
     released knew same so = learnt_by (serves_with As) gone (λ n. WritesSome As (IsStep false Release (Answered Done None))) (λ own outs n u said. said) view view' before now 0 knew same (exactly view' so moved)
 
-  -- what a party finds that comes to hold
+  -- what a party finds when it begins to hold
   pub holder_finds : (view view' : Option (Numbered View)) (before after : Option T) (seen : Watch (Made T)) (x : T) → use_of use_of_view (what view) ≡ off → after ≡ Some x → Found (queue_ways key) view view' before after seen → IsLast key.0 seen.entries x
   holder_finds view view' before after seen x unused is known = found key.0 (use_of use_of_party view) (use_of use_of_party view') before after seen.entries x known (sym (tie.same_use use_of_view view) ∙ unused) is
 
--- what was written, whatever it was
+-- the same without saying which value was written
 pub left_weaker : {T : Type 0} (key : Key T) (Q : T → Type 0) (view view' : Option (Numbered View)) (old new : List (Made T)) → Left key Q view old view' new → Left key (λ x. Unit {0}) view old view' new
 left_weaker key Q view view' old new = passes.weaker (model key) view view' old new (WritesSome Q (IsCall Release Done)) (WritesSome (λ x. Unit {0}) (IsCall Release Done)) (λ own outs (x, so, by). (x, tt, by))
 
--- what a `try_lock` answers where the number that it found next is not served, or no ticket is left
+-- the answer of a `try_lock` if the number that it found next is not served, or no ticket is left
 pub refused : {T : Type 0} (next n : ℕ) → is_free next n ≡ false → answers_free {T = T} next n ≡ Answered Refused None
 refused next n busy = ap (λ b. if b then GoingOn else Answered Refused None) busy
 
@@ -339,7 +341,7 @@ not_left next n e = grind (arith, e)
 pub served_and_left : (next n : ℕ) → true ≡ (n == next) → is_left next ≡ true → is_free next n ≡ true
 served_and_left next n e left = ap (λ b. b && is_left next) (sym e) ∙ left
 
--- the view of a party that was so answered
+-- the view of a party with this answer
 pub stands_by : (view : Option (Numbered View)) (v : View) → what view ≡ Some v → v ≡ Idle → stands view ≡ Idle
 stands_by None v is rests = absurd cc
 stands_by (Some u) v is rests = let same : u.0 ≡ v = cc (is) in same ∙ rests

@@ -11,7 +11,7 @@ zero_when_free w s encodes free = grind (arith, encodes, free)
 is_one_of : (p : ℕ) (qs : List ℕ) → is_only_starver p qs ≡ true → is_starver p qs ≡ true
 is_one_of p qs only = grind arith
 
--- whoever holds after another has let go held before
+-- a party that holds after another's release held before it
 held_before : (p q : ℕ) (k : Kind) (hs : List Holder) → is_holder p writing (without_holder q k hs) ≡ true → is_holder p writing hs ≡ true
 held_before p q k [] held = held
 held_before p q k (h ∷ hs) held = grind (arith, held_before p q k hs)

@@ -13,7 +13,7 @@ use Rattle.spin_step_more.specs.FairKind.{fair}
 use Rattle.spin_model.specs.Machines.{Machine}
 use Rattle.spin_world_core.specs.Kinds.{HasCalls}
 
--- with this cap; and its `lock` registers by its next look that finds the flag set after so many
+-- with this cap; its `lock` registers after `patience` looks that found the flag set, at the next such look
 pub record IsFairLock {V : Type 0} (given : V) (cap patience : ℕ) (m : Machine ℕ V FairCall FairPoint (Answer V)) : Type 0 where
   pub lock_kind : m.lock_kind ≡ fair
   pub most_starve : m.cap ≡ min cap most_starvers

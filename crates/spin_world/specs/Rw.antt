@@ -19,7 +19,7 @@ pub record IsRw {V : Type 0} (given : V) (cap : ℕ) (m : Machine ℕ V RwCall R
   pub number : (w : ℕ) → m.numbers w ≡ w ∷ []
   pub value : m.value ≡ Some given
   pub owned : m.owned ≡ true
-  -- as many may hold as it was given as its cap, up to the limit, and nobody does
+  -- as many parties may hold as its cap says, up to the limit, and at first nobody does
   pub plain : opening_plain m ≡ fresh (min cap reader_limit) 0 0
   pub try_read : (h : Option Hold) → m.asks TryRead h ≡ tries to_read
   pub read : (h : Option Hold) → m.asks Read h ≡ waits to_read

@@ -7,7 +7,8 @@ use Rattle.spin_world_core.proofs.Spans.{nil_left, own-mine, own-other, own_coun
 
 -- The count of its steps
 
--- an own step makes its way, finds that a plain step is open, is a retry that failed, or finds that a plain step is closed
+-- an own step is on its way, finds that a plain step is open, is a retry that failed, or finds that a plain step is
+-- closed
 pub data Branch : Type 0 where
   goes : Branch
   finds_open : Branch
@@ -20,7 +21,7 @@ Branched finds_open s step r = Unit {0}
 Branched loses s step r = (is_again r ≡ true) × (step ≡ None)
 Branched (misses c) s step r = is_open s c ≡ false
 
--- at most k steps are spent of what the limit counts
+-- of what the limit counts, at most k steps are spent
 abbrev pub Spends : Limit → ℕ → ℕ → List Mark → Type 0
 Spends (within n) k p span = own_count p span ≤ k
 Spends (within_changes n) k p span = own_count p span ≤ failures p span + k
@@ -55,7 +56,7 @@ may_spend what branch step p s span Spend may = grind arith
 pub tries_open : (ask : Ask) (p : ℕ) (span : List Mark) (s : Plain) → is_open_to s p ask ≡ true → MayTryOn ask p span s
 tries_open ask p span s may = grind arith
 
--- with so many spent a call may go on
+-- with so many steps spent a call may continue
 abbrev pub is_timely : Limit → List Change → ℕ → Bool
 is_timely (within n) cs k = nat_lt k n
 is_timely (within_changes n) cs k = nat_lt k n
@@ -68,12 +69,12 @@ module _ (p : ℕ) (s : Plain) (step : Option Change) (r : StepKind) (span : Lis
   spent-mine what kind t cs j k how is may spent =
       grind (arith, nil_left (own p span), own-mine p step r s span, own_count-mine p step r s span, failures-mine p step r s span, spent)
 
--- a call may go on so, and be answered by the next step
+-- a call may continue like this, and be answered by the next step
 
 pub goes_within : (what : Limit) (kind : LockKind) (t : Branch) (cs : List Change) (j k p : ℕ) (span : List Mark) → own p span ≡ cs → is_timely what cs k ≡ true → failures p span ≤ changes kind p span → MaySpend what t cs j k p kind span → Spends what k p span → ContinuesWithin what kind p span
 goes_within what kind t cs j k p span is timely retries may spent = grind (arith, spent)
 
--- what an answer owes of its call's time where that is shown by what the party knows
+-- what an answer must show of its call's time, if what the party knows shows it
 abbrev pub OwesEnd : Limit → LockKind → ℕ → List Mark → Type 0
 OwesEnd (registers_after n i) kind p span = EndsWithin (registers_after n i) kind p span
 OwesEnd _ kind p span = Unit {0}
@@ -84,7 +85,7 @@ ends_within what kind cs k p s step r span timely retries spent owed = grind (ar
 
 -- Its plain steps, and the moment of a grant
 
--- every plain step of the span was its party's, and open
+-- every plain step of the span was its party's own, and open
 abbrev pub Opened : List Mark → Type 0
 Opened [] = Unit {0}
 Opened (m ∷ ms) = IsOpenStep m.before m.party m.change × Opened ms
@@ -214,7 +215,7 @@ pub data Need : Type 0 where
   undue : Need
   never : Need
 
--- a load, or an exchange that may fail though its plain step is open
+-- a load, or an exchange that may fail although its plain step is open
 abbrev pub rests : {W L A : Type 0} → Act W L A → Bool
 rests (load next) = true
 rests (load_if test a b) = true
@@ -227,7 +228,7 @@ abbrev pub peeks : {W L A : Type 0} → Act W L A → Bool
 peeks (load_if test a b) = true
 peeks _ = false
 
--- by whether the next step rests, and whether it is a look
+-- by whether the next step is such a step, and whether it is a look
 abbrev pub need : Option Ask → Way → Bool → Bool → Need
 need None way resting peeking = free
 need (Some ask) by_looks true true = undue
@@ -245,7 +246,7 @@ Needs due p span = is_due p span ≡ true
 Needs undue p span = is_due p span ≡ false
 Needs never p span = ⊥
 
--- what is owed of that by a step before it
+-- what a step before it must show of that
 abbrev pub makes_due : Option Change → StepKind → Plain → Bool
 makes_due step r s = is_some step || (is_look r && not (is_held s))
 
@@ -255,7 +256,7 @@ FoundBy due Finds step r s = Finds × (makes_due step r s ≡ true)
 FoundBy undue Finds step r s = Finds × (makes_due step r s ≡ false)
 FoundBy never Finds step r s = ⊥
 
--- and by a beginning
+-- and what a beginning must show
 abbrev pub NoRetry : {W L A : Type 0} → Act W L A → Type 0
 NoRetry (retry k f step won found missed) = ⊥
 NoRetry _ = Unit {0}
@@ -287,7 +288,7 @@ module _ (p : ℕ) (s : Plain) (step : Option Change) (r : StepKind) (span : Lis
 pub needs_first : (needed : Need) (Begins : Type 0) (p : ℕ) → BeginsBy needed Begins → Needs needed p [] × Begins
 needs_first needed Begins p begins = grind (arith, begins)
 
--- as a call begins
+-- when a call begins
 
 pub none_spent : (what : Limit) (k p : ℕ) → Spends what k p []
 none_spent what k p = grind arith
@@ -297,7 +298,7 @@ none_expected kind act p s none = grind arith
 
 -- after another party's step
 
--- a change of the first word makes one more change by others
+-- a change of the first word is one more change by others
 pub moved : (a b n x y : ℕ) → a + bit (not (x == n)) ≤ b → a + bit (not (y == n)) ≤ b + bit (not (y == x))
 moved a b n x y le = grind arith
 

@@ -5,7 +5,8 @@ use Rattle.spin_world_core.proofs.Operating.{fits_act, Operates}
 use Rattle.spin_world_core.proofs.Stands.{stand_of, stand_after}
 use Rattle.spin_world_core.proofs.Rows.{Branch, goes, finds_open, loses, misses, MaySpend, MayContinue, OwesRight, Row, Point, row_at, SoundAt, RetryOwes, need_of, FoundBy, NoRetry, BeginsBy, Known}
 
--- what table and notes say of a call. Its debts read nothing else, so calls of which they say the same owe the same
+-- What table and notes say of a call. What has to be shown depends on nothing else, so it is the same for calls of
+-- which they say the same.
 pub record CallOf (W L A : Type 0) : Type 1 where
   pub asks : Option Hold → Asked
   pub act : L → Option Hold → Act W L A
@@ -17,12 +18,12 @@ abbrev pub FindsAnother : Limit → Bool → Bool → Type 0
 FindsAnother (registers_after n i) same some = (same ≡ false) × (some ≡ true)
 FindsAnother _ same some = some ≡ true
 
--- an exchange whose refusal shows nothing is the last step of its call
+-- an exchange that shows nothing when it fails is the last step of its call
 abbrev pub is_answer : {L A : Type 0} → Next L A → Bool
 is_answer (Continue l) = false
 is_answer (Answers a after) = true
 
--- the plain step that a step makes wherever it is open
+-- the plain step that a step makes whenever it is open
 abbrev pub sure_by : {W L A : Type 0} → Act W L A → ℕ → Option Change
 sure_by (enter test step won lost) p = Some (step p)
 sure_by (exchange operation step won lost) p = Some (step p)
@@ -51,19 +52,20 @@ abbrev pub aimed_at : ℕ → Asked → Option Row → Option Change → Option 
 aimed_at p what None step = step
 aimed_at p what (Some row) step = aimed p (aim_of what (row.made p)) step
 
--- how a call goes on by its next point, if it does
+-- how a call continues by its next point, if it does
 abbrev pub goes_by : {L A X : Type 0} → Next L A → X → (L → X) → X
 goes_by (Continue l) x f = f l
 goes_by (Answers a after) x f = x
 
 module _ {W V C L A : Type 0} (t : Table W V C L A) where
-  -- what an object notes beside its table: the shape of its plain lock, the row of each point, and what else a party knows there
+  -- what an object notes with its table: the shape of its plain lock, the row of each point, and what else a party
+  -- knows there
   pub record Notes : Type 1 where
     pub Shape : Plain → Type 0
     pub point : C → L → Option Hold → Point
     pub Knows : C → L → Option Hold → ℕ → Plain → List Mark → Type 0
 
-  -- run on the words alone, the table answers the call by its k-th step from here
+  -- if the table runs on the words alone, it answers the call by its k-th step from here
   abbrev pub answers_by : ℕ → W → C → L → Option Hold → Bool
   answers_by zero w c l h = false
   answers_by (suc k) w c l h =
@@ -84,7 +86,7 @@ module _ {W V C L A : Type 0} (t : Table W V C L A) where
     abbrev pub call_of : C → CallOf W L A
     call_of c = record { asks = λ h. t.asks c h; act = λ l h. t.act c l h; point = λ l h. n.point c l h; Knows = λ l h p s span. n.Knows c l h p s span }
 
-    -- what holds where a party is about to step
+    -- what holds when a party is about to step
     pub record AtPoint (p : ℕ) (k : CallOf W L A) (l : L) (h : Option Hold) (s : Plain) (w : W) (span : List Mark) (row : Row) : Type 0 where
       pub encodes : t.memory.numbers w ≡ encoded t.lock_kind s
       pub shape : n.Shape s
@@ -96,7 +98,7 @@ module _ {W V C L A : Type 0} (t : Table W V C L A) where
     abbrev pub At : ℕ → C → L → Option Hold → Plain → W → List Mark → Row → Type 0
     At p c l h s w span row = AtPoint p (call_of c) l h s w span row
 
-    -- The debts
+    -- What has to be shown
 
     -- what the step function gives makes the words after the plain step, which is open and the party's own; its refusal says that the step is closed
     abbrev pub Means : {X : Type 0} → ℕ → Plain → Change → (X → W) → Option X → Type 0
@@ -104,7 +106,7 @@ module _ {W V C L A : Type 0} (t : Table W V C L A) where
     Means p s c put (Some x) = IsOpenStep s p (Some c) × (t.memory.numbers (put x) ≡ encoded t.lock_kind (apply s c)) × n.Shape (apply s c)
 
     module _ (p : ℕ) (k : CallOf W L A) (h : Option Hold) (s : Plain) (w : W) (span : List Mark) (row : Row) where
-      -- the next point's row is this one after the step
+      -- the row of the next point is this one after the step
       abbrev pub FollowsRow : Option Change → StepKind → Branch → L → Option Row → Type 0
       FollowsRow step r branch l None = ⊥
       FollowsRow step r branch l (Some to) =
@@ -114,7 +116,7 @@ module _ {W V C L A : Type 0} (t : Table W V C L A) where
           × FoundBy (need_of t.lock_kind (k.asks h) (to.made p) (k.act l h)) (RetryOwes (k.act l h) (number_at t.memory 0 w) step) step r s
           × k.Knows l h p (apply_some s step) (mark_of p step r s ∷ span)
 
-      -- how a call goes on is right, by this step and this branch
+      -- by this step and this branch the call continues correctly
       abbrev pub Follows : Bool → Option Change → StepKind → Branch → Next L A → Type 0
       Follows weakly step r branch (Continue l) = FollowsRow step r branch l (row_at (k.asks h) h (k.point l h))
       Follows weakly step r branch (Answers a after) =
@@ -165,7 +167,7 @@ module _ {W V C L A : Type 0} (t : Table W V C L A) where
     abbrev pub OwesAt : ℕ → C → L → Option Hold → Plain → W → List Mark → Type 0
     OwesAt p c l h s w span = OwesRow p (call_of c) l h s w span (row_of c l h)
 
-    -- a call that may wait is answered by so many steps, where what it asks is open to it and nobody else steps
+    -- a call that may wait is answered in so many steps, if what it asks is open and nobody else steps in between
     abbrev pub AnswersRow : ℕ → CallOf W L A → L → Option Hold → Plain → W → List Mark → Bool → Bool → Option Row → Type 0
     AnswersRow p k l h s w span soon true (Some row) =
         AtPoint p k l h s w span row → is_open_next (k.asks h) (is_empty (row.made p)) (arrived p span) p s ≡ true → soon ≡ true
@@ -175,7 +177,7 @@ module _ {W V C L A : Type 0} (t : Table W V C L A) where
     OwesSoon p c l h s w span =
         AnswersRow p (call_of c) l h s w span (answers_by (steps_alone t.lock_kind (t.asks c h)) w c l h) (is_waiting (t.asks c h)) (row_of c l h)
 
-    -- a call begins with a row that says so
+    -- a call begins with a row that says this
     abbrev pub BeginsRow : C → L → Option Hold → ℕ → Plain → Option Row → Type 0
     BeginsRow c l h p s None = ⊥
     BeginsRow c l h p s (Some row) =

@@ -18,7 +18,7 @@ pub record IsSeats (n : ℕ) (m : SeatsMachine) : Type 0 where
   pub number : (w : ℕ) → m.numbers w ≡ w ∷ []
   pub value : m.value ≡ Some tt
   pub owned : m.owned ≡ true
-  -- it has as many seats as it was asked to have, up to the limit, and nobody sits
+  -- the number of seats is the one asked for, up to the limit, and nobody sits
   pub plain : opening_plain m ≡ fresh (seats n) 0 0
   pub try_enter : (h : Option Hold) → m.asks call.TryEnter h ≡ tries to_read
   pub enter : (h : Option Hold) → m.asks call.Enter h ≡ waits to_read

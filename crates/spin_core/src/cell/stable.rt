@@ -1,21 +1,21 @@
-//! What a cell lends its owner of a value that has to stay what it has become. Begin with [`Stabilizes`].
+//! What a cell lends its owner if the value has to stay as it is. Begin with [`Stabilizes`].
 ghost use Rattle.std.specs.Prelude.{◌≡◌, Bool, true};
 
 use super::{Cell, Rule};
 
-/// What a value may become, and then has to stay.
+/// A type some of whose values are stable: they have to stay so.
 pub trait Stabilizes {
-    // Whether it has become that.
+    // Whether a value is stable.
     ghost stable: { Self → Bool };
 }
 
-/// A value as it lies in a cell, stable or not.
+/// The value of a cell, stable or not.
 #[derive(Drop)]
 pub struct MaybeStable<T> {
     pub value: T,
 }
 
-/// A value that is stable. Only a stable one can take its place.
+/// A value that is stable. Only another stable value can replace it.
 pub struct Stable<T: Stabilizes> {
     pub value: T,
     ghost stable: { T.stable value ≡ true },

@@ -22,15 +22,15 @@ pub struct Account<'a, T> {
     ghost knows: { mark_of permit.view ≡ length seen.entries },
 }
 
-/// A call of `lock` that goes on with a look.
+/// A call of `lock` whose next step is a look.
 pub struct Waiting<'a, T> {
-    // The looks that found the lock held, until there are enough to starve.
+    // How many looks have found the lock held, until there are enough to starve.
     pub(crate) spins: usize,
     pub(super) account: Account<'a, T>,
     ghost looks: { what account.permit.view ≡ Some (Looking spins) },
 }
 
-// A starver in a call that waits, which goes on with a look.
+// A starver in a waiting call, whose next step is a look.
 pub(super) struct Awaiting<'a, T> {
     pub(super) account: Account<'a, T>,
     ghost awaits: { awaits (what account.permit.view) ≡ true },

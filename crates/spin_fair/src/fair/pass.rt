@@ -1,4 +1,4 @@
-//! The calls of a [`FairMutex`] by a thread that keeps account of them. Begin at [`FairMutex::pass`].
+//! The calls of a [`FairMutex`] by a thread that keeps track of them. Begin at [`FairMutex::pass`].
 ghost use Rattle.std.specs.Prelude.{◌≡◌, ◌⊎◌, Some, None, [], true, IfOk, IfErr};
 ghost use mathlib.Core.List.{IsPrefix};
 ghost use Rattle.spin_core.specs.Guard.{IsHolder, guard_view};
@@ -20,16 +20,16 @@ use spin_step_more::fair;
 use std::marker::PhantomData;
 use std::sync::Wait;
 
-/// A thread's account of its calls of a [`FairMutex`].
+/// A thread's record of its calls of a [`FairMutex`].
 ///
 /// The lock's cell keeps the list of all moves that threads have made in it (its history). A pass knows which of these
-/// moves are its own, and the whole list up to its last one. Calls without a pass are in the history too, as calls of
-/// others. A pass is as large as a reference to the lock. It can be sent, and a lock has any number of them.
+/// moves are its own, and the whole list up to its own last move. Calls without a pass are in the history too, as calls
+/// of others. A pass is as large as a reference to the lock. It can be sent, and a lock can have any number of passes.
 ///
 /// # Contract
-/// Each call takes the pass and returns it. It ensures `Called`: of the moves by which the history grew, those of this
-/// pass are exactly one call, with the answer that is returned. In the lock's model that call has this answer, at its
-/// place among the moves of all threads, and no move of the history is passed over.
+/// Each call takes the pass and returns it. It ensures `Called`: among the new moves of the history, those of this pass
+/// are exactly one call with the returned answer. In the lock's model that call gets this answer, at its place among
+/// the moves of all threads, and no move of the history is skipped.
 #[must_use = "a pass that is dropped ends: bind it, or write `drop(..)`"]
 pub struct Pass<'a, T, R> {
     pub(super) account: Account<'a, T>,
@@ -70,7 +70,7 @@ impl<T, R> FairMutex<T, R> {
 }
 
 impl<'a, T, R: RelaxStrategy> Pass<'a, T, R> {
-    /// Acquires the lock as [`FairMutex::lock`] does. Returns the guard, and what the pass knows then.
+    /// Acquires the lock as [`FairMutex::lock`] does. Returns the guard, and what the pass then knows.
     ///
     /// # Contract
     /// The call is one `Lock` with the answer `Granted`, however often it looked and tried, and also where it starved
@@ -94,7 +94,7 @@ impl<'a, T, R: RelaxStrategy> Pass<'a, T, R> {
     /// Registers the caller as a starver, as [`FairMutex::starve`] does. Returns the pass if too many starve.
     ///
     /// # Contract
-    /// The call is one `Starve`, with the answer `Granted` and a pass that starves (`granted`), or else `Refused`
+    /// The call is one `Starve`. Its answer is `Granted` with a pass that starves (`granted`), else `Refused`
     /// (`refused`). Whether and when the call returns is not promised.
     pub fn starve<W: Wait>(self, rt: &W) -> Result<StarvingPass<'a, T, R>, Pass<'a, T, R>>
         ensures granted { IfOk result (λ pass. Called Starve Granted self.entry.account.permit.view self.entry.account.seen.entries pass.account.permit.view pass.account.seen.entries × (pass.account.seen.name ≡ self.entry.account.seen.name)) }
@@ -188,10 +188,10 @@ impl<'a, T, R> Pass<'a, T, R> {
         }
     }
 
-    /// Looks whether the lock is held, as [`FairMutex::is_locked`] does.
+    /// Returns whether the lock is held, as [`FairMutex::is_locked`] does.
     ///
     /// # Contract
-    /// The call is one `IsLocked`, with the answer that is returned (`made`).
+    /// The call is one `IsLocked`, with the returned answer (`made`).
     pub fn is_locked(self) -> (bool, Pass<'a, T, R>)
         ensures made { Called IsLocked (Is result.0) self.entry.account.permit.view self.entry.account.seen.entries result.1.account.permit.view result.1.account.seen.entries }
         ensures same { result.1.account.seen.name ≡ self.entry.account.seen.name }
@@ -206,8 +206,8 @@ impl<'a, T, R> Pass<'a, T, R> {
     /// Compares what two passes of one lock know. It does nothing when it runs.
     ///
     /// # Contract
-    /// What one of them knows of the history is a beginning of what the other knows. So both know one history, and the
-    /// one that knows more has the calls of both in it, each once, in the order in which each pass made them.
+    /// One of them knows a prefix of the history that the other knows. So both know one history. The longer one has the
+    /// calls of both passes, each once, in the order in which each pass made them.
     pub fn compare(&self, other: &Pass<'_, T, R>)
         requires { self.now.account.seen.name ≡ other.now.account.seen.name }
         ensures { IsPrefix self.now.account.seen.entries other.now.account.seen.entries ⊎ IsPrefix other.now.account.seen.entries self.now.account.seen.entries }

@@ -17,29 +17,29 @@ pub enum View {
     Idle,
     /// It is registered as a starver, and in no call.
     Starving,
-    /// It holds the lock, and came as a newcomer.
+    /// It holds the lock, and acquired it as a newcomer.
     Holding,
-    /// It holds the lock, and starved for it.
+    /// It holds the lock, and acquired it as a starver.
     Served,
-    /// It is in `lock`, and goes on with the exchange, after this many looks that found the lock held.
+    /// It is in `lock`, and its next step is the exchange. This many looks have found the lock held.
     Trying(usize),
-    /// It is in `lock`, and goes on with a look, after this many that found the lock held.
+    /// It is in `lock`, and its next step is a look. This many looks have found the lock held.
     Looking(usize),
     /// It is in `lock`, and has looked often enough to register.
     Loading,
-    /// It goes on to register in this call, by an exchange of this word.
+    /// It is in this call, and its next step is the exchange of this word, which registers.
     Registering(FairCall, usize),
-    /// It is a starver, and goes on to set the flag in this call.
+    /// It is a starver in this call, and its next step sets the flag.
     Setting(FairCall),
-    /// It is a starver, and goes on with a look in this call.
+    /// It is a starver in this call, and its next step is a look.
     Awaiting(FairCall),
-    /// It has set the flag in this call, and is still registered: it uses the value once it has stopped starving.
+    /// It has set the flag in this call, and is still registered. It uses the value once it has stopped starving.
     HoldingStarving(FairCall),
 }
 
 /// The rule of a [`FairMutex`](super::FairMutex): its word is the sum of what its holder and its starvers weigh.
 ///
-/// No caller names it: it is a parameter of the type of the guard.
+/// Callers need not name it: it is a parameter of the guard's type.
 ///
 /// # Contract
 /// `IsFair`: the word is that of a plain lock of these parties. The trace is a schedule of the lock's model, which leads
@@ -106,7 +106,7 @@ impl Play<Watch<Entry>, Party, Entry> for Looks {
     ghost told = { λ key old new before. Told (looked_by (what before)) before };
 }
 
-/// A compare-exchange: the party registers as a starver if it found the word that it expected.
+/// A compare-exchange: if it finds the word expected, the party registers as a starver.
 pub(super) struct Register;
 
 impl Play<Watch<Entry>, Party, Entry> for Register {
@@ -134,14 +134,14 @@ impl Play<Watch<Entry>, Party, Entry> for LockAlone {
     ghost told = { λ key old new before. Told (alone_by StarverLock) before };
 }
 
-/// The bit operation: a starver holds if it found the flag clear.
+/// The bit operation: if it finds the flag clear, the starver holds the lock.
 pub(super) struct SetFlag;
 
 impl Play<Watch<Entry>, Party, Entry> for SetFlag {
     ghost told = { λ key old new before. Told (sets_by (call_of (what before))) before };
 }
 
-/// A load: a starver looks whether the flag is clear.
+/// A load by which a starver looks whether the flag is clear.
 pub(super) struct Await;
 
 impl Play<Watch<Entry>, Party, Entry> for Await {
@@ -155,7 +155,7 @@ impl Play<Watch<Entry>, Party, Entry> for Unregister {
     ghost told = { λ key old new before. Told (served_by (what before)) before };
 }
 
-/// A subtraction: a starver gives up.
+/// A subtraction: a starver ends its registration.
 pub(super) struct GivesUp;
 
 impl Play<Watch<Entry>, Party, Entry> for GivesUp {

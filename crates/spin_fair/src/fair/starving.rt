@@ -1,4 +1,4 @@
-//! The calls of a starver that keeps account of them. Begin with [`StarvingPass`].
+//! The calls of a starver that keeps track of them. Begin with [`StarvingPass`].
 ghost use Rattle.std.specs.Prelude.{◌≡◌, ℕ, Some, None, true, false, IfOk, IfErr};
 ghost use Rattle.spin_step.specs.Plain.{Plain, gets, to_lock_starving_alone, is_starver, fair_word};
 ghost use Rattle.spin_step.specs.Parties.{OneHolds};
@@ -28,7 +28,7 @@ use std::sync::Wait;
 
 /// A pass of a [`FairMutex`](super::FairMutex) while it is registered as a starver. Dropping it ends the registration.
 ///
-/// It is what a [`Starvation`](super::Starvation) is, and keeps account of its calls too.
+/// It is a [`Starvation`](super::Starvation) that also keeps track of its calls.
 ///
 /// # Contract
 /// Its party is registered (its view is `Starving`). Each call ensures `Called`, as those of a [`Pass`].
@@ -92,7 +92,8 @@ impl<'a, T, R> StarvingPass<'a, T, R> {
     {
         let Self { account, strategy } = self;
         let Account { permit, seen } = account;
-        // First as the only starver, which is one instruction: to set a bit and see the word compiles to a loop.
+        // First it tries as the only starver, by one instruction. Setting a bit and reading the word compiles to a
+        // loop.
         let (found, permit, seen) = permit.exchange::<TryAlone>(STARVER, taken_alone(), seen);
         let account = Account { permit, seen };
         if found == STARVER {
@@ -132,7 +133,7 @@ impl<'a, T, R> StarvingPass<'a, T, R> {
         }
     }
 
-    // Begins a `lock`: as the only starver it acquires the lock at once.
+    // Begins a `lock`. The only starver acquires the lock at once.
     pub(super) fn begin_lock(self) -> Result<Got<'a, T, R>, Account<'a, T>>
         ensures got { IfOk result (Gets (IsCall StarverLock Granted) self.entry.account) }
         ensures begun { IfErr result (λ next. MayAwait (view_of next) × Goes (Comes false StarverLock None) self.entry.account next) }
@@ -205,8 +206,7 @@ impl<'a, T> Awaiting<'a, T> {
     }
 }
 
-// Sets the flag. It tries no exchange as the only starver first: with others that fails though the flag is clear, and
-// a starver that waits goes for each clear flag.
+// Sets the flag. It does not try as the only starver first: while others starve that fails though the flag is clear.
 fn set_flag<'a, T, R>(account: Account<'a, T>) -> Result<Got<'a, T, R>, Account<'a, T>>
     requires { MaySet (view_of account) }
     ensures served { IfOk result (IsServed account.entry) }
@@ -257,8 +257,8 @@ fn stop_starving<'a, T, R>(account: Account<'a, T>) -> Got<'a, T, R>
     Account { permit, seen }.into_guard()
 }
 
-// Returns the word by which the only starver acquires the lock and stops starving. Both at once, so that no thread sees
-// a holder that is still registered.
+// Returns the word after the only starver has acquired the lock and stopped starving. It does both at once, so no
+// thread sees a holder that is still registered.
 fn taken_alone() -> u64
     ensures exact { result ≡ 1 }
     ensures plain { (s : Plain) (party : ℕ) → OneHolds s → is_starver party s.starvers ≡ true → fair_word s ≡ 2 → Decides s (gets party to_lock_starving_alone) fair_word (Some 3) }

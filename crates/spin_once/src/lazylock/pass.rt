@@ -1,4 +1,4 @@
-//! The calls of a [`LazyLock`] by a thread that keeps account of them. Begin at [`LazyLock::pass`].
+//! The calls of a [`LazyLock`] by a thread that keeps track of them. Begin at [`LazyLock::pass`].
 ghost use Rattle.std.specs.Prelude.{◌≡◌, ◌⊎◌, None, [], true};
 ghost use mathlib.Core.List.{IsPrefix};
 ghost use Rattle.spin_core.specs.Own.{what};
@@ -11,7 +11,7 @@ use spin_core::relax::RelaxStrategy;
 use std::marker::PhantomData;
 use std::sync::Wait;
 
-/// A thread's account of its calls of a [`LazyLock`], as a [`Pass`](crate::once::Pass) of a `Once` is one of its calls.
+/// A thread's record of its calls of a [`LazyLock`]. It is like a [`Pass`](crate::once::Pass) of a `Once`.
 ///
 /// # Examples
 /// ```
@@ -52,7 +52,7 @@ impl<'a, T, F, R, M: Promise<T>> Pass<'a, T, F, R, M> {
     /// Compares what two passes of one `LazyLock` know. It does nothing when it runs.
     ///
     /// # Contract
-    /// What one of them knows of the history is a beginning of what the other knows.
+    /// One of them knows a prefix of the history that the other knows.
     pub fn compare(&self, other: &Pass<'_, T, F, R, M>)
         requires { self.now.account.seen.name ≡ other.now.account.seen.name }
         ensures { IsPrefix self.now.account.seen.entries other.now.account.seen.entries ⊎ IsPrefix other.now.account.seen.entries self.now.account.seen.entries }

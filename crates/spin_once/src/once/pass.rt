@@ -14,16 +14,16 @@ use spin_core::relax::RelaxStrategy;
 use std::marker::PhantomData;
 use std::sync::Wait;
 
-/// A thread's account of its calls of a [`Once`].
+/// A thread's record of its calls of a [`Once`].
 ///
 /// The cell of the `Once` keeps the list of all moves that threads have made in it (its history). A pass knows which of
-/// these moves are its own, and the whole list up to its last one. Calls without a pass are in the history too, as
-/// calls of others. A pass is as large as a reference. It can be sent, and a `Once` has any number of them.
+/// these moves are its own, and the whole list up to its own last move. Calls without a pass are in the history too, as
+/// calls of others. A pass is as large as a reference. It can be sent, and a `Once` can have any number of passes.
 ///
 /// # Contract
-/// Each call takes the pass and returns it. It ensures `Called`: of the moves by which the history grew, those of this
-/// pass are exactly one call, with the answer that is returned. In the model of a `Once` on threads that call has this
-/// answer, at its place among the moves of all threads, and no move of the history is passed over.
+/// Each call takes the pass and returns it. It ensures `Called`: among the new moves of the history, those of this pass
+/// are exactly one call with the returned answer. In the model of a `Once` on threads that call gets this answer, at
+/// its place among the moves of all threads, and no move of the history is skipped.
 ///
 /// # Examples
 /// ```
@@ -82,7 +82,7 @@ impl<'a, T, R> Pass<'a, T, R> {
     /// Returns whether there is a value, as [`Once::is_completed`] does.
     ///
     /// # Contract
-    /// The call is one `IsCompleted`, with the answer that is returned (`made`).
+    /// The call is one `IsCompleted`, with the returned answer (`made`).
     pub fn is_completed(self) -> (bool, Pass<'a, T, R>)
         ensures made { Called IsCompleted (Is result.0) self.entry result.1 }
     {
@@ -94,8 +94,8 @@ impl<'a, T, R> Pass<'a, T, R> {
     /// Compares what two passes of one `Once` know. It does nothing when it runs.
     ///
     /// # Contract
-    /// What one of them knows of the history is a beginning of what the other knows. So both know one history, and the
-    /// one that knows more has the calls of both in it, each once, in the order in which each pass made them.
+    /// One of them knows a prefix of the history that the other knows. So both know one history. The longer one has the
+    /// calls of both passes, each once, in the order in which each pass made them.
     pub fn compare(&self, other: &Pass<'_, T, R>)
         requires { self.now.account.seen.name ≡ other.now.account.seen.name }
         ensures { IsPrefix self.now.account.seen.entries other.now.account.seen.entries ⊎ IsPrefix other.now.account.seen.entries self.now.account.seen.entries }

@@ -21,7 +21,7 @@ use spin_core::trace::Watch;
 use spin_step::once;
 use std::sync::Wait;
 
-/// A party that knows which moves in the trace are its own, and the whole trace up to its last one.
+/// A party that knows which moves in the trace are its own, and the whole trace up to its own last move.
 pub(crate) struct Account<'a, T, S: Seed<T>> {
     party: Caller<'a, T, S>,
     seen: Watch<Entry>,
@@ -65,7 +65,7 @@ impl<'a, T, S: Seed<T>> Found<'a, T, S> {
         (value, Account { party, seen })
     }
 
-    /// Returns the value to a caller that keeps no account.
+    /// Returns the value to a caller that keeps no record of its calls.
     pub(crate) fn value(self) -> &'a T
         ensures { S.makes self.entry.account.party.key.seed.value result.now }
     {
@@ -128,7 +128,7 @@ impl<'a, T, S: Seed<T>> Account<'a, T, S> {
         (found == COMPLETE as u64, Account { party, seen })
     }
 
-    /// Finds the value by its one load, or begins a call that goes on, with a closure of this kind.
+    /// Finds the value by its one load, or begins a call with a closure of this kind, which then continues.
     pub(crate) fn come<C: Closure>(self) -> Result<Found<'a, T, S>, Wanting<'a, T, S>>
         requires { is_out (what self.party.view) ≡ true }
         ensures found { IfOk result (λ found. Since (here self.entry) (IsCall (closure_call C.may_fail) (Value tt)) (here found.account)) }
@@ -173,13 +173,13 @@ impl<'a, T, S: Seed<T>> Account<'a, T, S> {
     }
 }
 
-/// A call with a closure that goes on with its exchange.
+/// A call with a closure, whose next step is its exchange.
 pub(crate) struct Wanting<'a, T, S: Seed<T>> {
     account: Account<'a, T, S>,
     ghost wants: { may_begin (what account.party.view) ≡ true },
 }
 
-// A call with a closure that goes on with a look, since another closure runs.
+// A call with a closure, whose next step is a look, since another closure runs.
 struct Awaiting<'a, T, S: Seed<T>> {
     account: Account<'a, T, S>,
     ghost awaits: { may_look (what account.party.view) ≡ true },
@@ -262,7 +262,7 @@ impl<'a, T, S: Seed<T>> Awaiting<'a, T, S> {
     }
 }
 
-// A call of `wait` that comes or goes on.
+// A call of `wait` that begins or continues.
 struct Waiting<'a, T, S: Seed<T>> {
     account: Account<'a, T, S>,
     ghost waits: { may_wait (what account.party.view) ≡ true },
@@ -304,7 +304,7 @@ impl<'a, T, S: Seed<T>> Waiting<'a, T, S> {
     }
 }
 
-// A call of `poll` that comes or goes on.
+// A call of `poll` that begins or continues.
 struct Polling<'a, T, S: Seed<T>> {
     account: Account<'a, T, S>,
     ghost polls: { may_poll (what account.party.view) ≡ true },

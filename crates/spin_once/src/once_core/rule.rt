@@ -1,5 +1,5 @@
-//! The rule of a [`OnceCore`](super::OnceCore): what each party is to the value (`View`), what the word says of all of
-//! them, and each kind of step.
+//! The rule of a [`OnceCore`](super::OnceCore): what each party is to the value (`View`), what the word says of all
+//! parties, and each kind of step.
 ghost use Rattle.std.specs.Prelude.{◌≡◌, Bool, Option, Some, None, true, false, IsSomeAnd};
 ghost use Rattle.spin_core.specs.Own.{what};
 ghost use Rattle.spin_core.specs.Stable.{maybe_stable};
@@ -33,7 +33,7 @@ pub trait Seed<T> {
 #[derive(Clone, Copy)]
 pub enum View {
     Idle,
-    /// It reads the value for good.
+    /// It reads the value for ever.
     Reading,
     /// It is in this call, at this point. At `Run` it runs its closure.
     InCall(OnceCall<()>, OncePoint),
@@ -45,7 +45,7 @@ pub type Party = tie::Numbered<View>;
 /// An entry of the trace.
 pub type Entry = tie::Entry<OnceCall<()>>;
 
-/// What is settled when the cell is made.
+/// What is fixed when the cell is made.
 #[derive(Drop)]
 pub struct Key<S> {
     /// What the value is made from.
@@ -56,11 +56,11 @@ pub struct Key<S> {
     pub start: Watch<Entry>,
 }
 
-/// What lies in the cell.
+/// The content of the cell.
 #[derive(Drop)]
 pub enum Stage<T, S> {
     Seed(S),
-    /// The party that runs has the seed.
+    /// The party that runs its closure has the seed.
     Taken,
     Done(T),
 }
@@ -71,7 +71,7 @@ impl<T, S> Stage<T, S> {
     ghost use Rattle.std.specs.Borrow.{sem, follows};
     ghost use Rattle.spin_once.specs.Made.{made_row, made_of};
 
-    /// Returns the value that was made. Another that is written over it counts as made too.
+    /// Returns the value that was made. Any value written over it counts as made too.
     pub(super) fn made(stable: &mut Stable<Self>) -> &mut T
         ensures* writes_back { sem 𝓛 (follows (made_row T.row S.row) T.row stable.entry.ghost_name result.ghost_name made_of) }
     {
@@ -195,7 +195,7 @@ impl<S> Play<Key<S>, Party, Entry> for Fail {
     ghost told = { λ key old new before. Told key.given.value fails_by before };
 }
 
-/// Creates a cell with a seed, to which no party has come.
+/// Creates a cell with a seed, which no party has used.
 pub(super) fn with_seed<T, S: Seed<T>>(seed: S) -> SeedCell<T, S>
     ensures { result.seed.value ≡ seed }
 {
@@ -211,7 +211,7 @@ pub(super) fn with_seed<T, S: Seed<T>>(seed: S) -> SeedCell<T, S>
     Cell::new(slot, NOTHING as u64, trace, &key)
 }
 
-/// Creates a cell with a value, which a party has read.
+/// Creates a cell with a value, as if a party had read it.
 pub(super) fn completed<T, S: Seed<T>>(value: T, seed: &S) -> SeedCell<T, S>
     requires { S.makes seed.now value }
     ensures { result.seed.value ≡ seed.now }
@@ -228,7 +228,7 @@ pub(super) fn completed<T, S: Seed<T>>(value: T, seed: &S) -> SeedCell<T, S>
     Cell::new(slot, COMPLETE as u64, trace, &key)
 }
 
-/// Returns the value to a party that reads it, for as long as the cell is borrowed. The party goes on reading it.
+/// Returns the value to a party that reads it, for as long as the cell is borrowed. The party keeps reading it.
 pub(super) fn show_value<'a, T, S: Seed<T>>(party: Caller<'a, T, S>) -> (&'a T, Caller<'a, T, S>)
     requires { what party.view ≡ Some Reading }
     ensures value { party.entry.value ≡ Some (maybe_stable (Done result.0.now)) }

@@ -136,7 +136,7 @@ pub fn program<I: Source, O: Sink, E: Sink, R: AllocGlobal + Threads + Wait + Sy
     requires errors { E.failed errors.old ≡ false }
     ensures status { result ≤ 2 }
 
-    // 0: what the words ask for was done, and nothing is on standard error.
+    // 0: the program did what the words ask for, and wrote nothing on standard error.
     ensures done { result ≡ 0 → Does (texts_of words.now) (input.new ≡ input.old) (record {
       left = I.remaining input.old;
       left_after = I.remaining input.new;
@@ -147,7 +147,7 @@ pub fn program<I: Source, O: Sink, E: Sink, R: AllocGlobal + Threads + Wait + Sy
     }) }
     ensures silent { result ≡ 0 → errors.new ≡ errors.old }
 
-    // Any other: a fault that has this status, and its line is on standard error.
+    // Any other status is that of a fault, whose line is on standard error.
     ensures fault { 0 < result → (fault : Fault) × (result ≡ status_of fault)
         × Stops (texts_of words.now) (input.new ≡ input.old) (output.new ≡ output.old) (record {
           left = I.remaining input.old;
@@ -159,7 +159,7 @@ pub fn program<I: Source, O: Sink, E: Sink, R: AllocGlobal + Threads + Wait + Sy
         }) fault
         × Tells (E.failed errors.new) (E.written errors.old) (E.written errors.new) (line_of fault) }
 
-    // Where the words ask for nothing that the program does.
+    // If the words ask for nothing that the program does.
     ensures usage { AsksNothing (texts_of words.now) → (result ≡ 2)
         × Tells (E.failed errors.new) (E.written errors.old) (E.written errors.new) usage_line }
     ensures nothing_written { result ≡ 2 → output.new ≡ output.old }

@@ -15,7 +15,7 @@ use std::alloc::AllocError;
 /// The reason why a run of the program fails.
 #[derive(Clone, Copy)]
 pub(crate) enum Fault {
-    /// The words are those of no command.
+    /// The words are no command.
     Usage,
     /// A thread was refused, or memory for the threads.
     Refused,
@@ -23,7 +23,7 @@ pub(crate) enum Fault {
     Memory,
     /// A read of standard input failed.
     Read,
-    /// The first line of standard input that is no line of a schedule, counted from 1.
+    /// The first line of standard input that is not a line of a schedule, counted from 1.
     BadLine(usize),
     /// A write to standard output failed.
     Write,

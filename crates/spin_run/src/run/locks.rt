@@ -2,6 +2,5 @@
 use spin_core::relax::Yield;
 use spin_flag::spin::SpinMutex;
 
-/// A mutex whose waiting threads yield. There may be many more workers than cores, so a worker that waits lets others
-/// run.
+/// A mutex whose waiting threads yield. There may be many more workers than cores, so a waiting worker lets others run.
 pub(crate) type Lock<T> = SpinMutex<T, Yield>;

@@ -13,9 +13,9 @@ use std::sync::Wait;
 use std::thread::Threads;
 use std::{env, io};
 
-/// Returns the arguments after the program's name. Arguments that are not text are those of no command.
+/// Returns the arguments after the program's name. Arguments that are not text are treated as no command.
 ///
-/// It asks for the room first. `collect` would answer a failed allocation with a smaller request, and tell nothing.
+/// It reserves the room first. If an allocation failed, `collect` would try a smaller one and report nothing.
 fn arguments<R: Env + Alloc>(rt: &R) -> Result<Vec<String<R::A>, R::A>, Fault>
     ensures { IfErr result IsWordless }
 {
@@ -45,13 +45,13 @@ fn texts<'a, A: Allocator>(
 
 /// Runs [`program`] on the arguments of the process.
 ///
-/// Arguments that are not text are those of no command. If there is no memory for the arguments, the call only writes
+/// Arguments that are not text are treated as no command. If there is no memory for the arguments, the call only writes
 /// a line about it on `errors`.
 ///
 /// # Contract
-/// The caller gives streams that have not failed. The status is 0, 1 or 2, and means what it means for `program`, for
-/// some words. Or the fault is wrong usage or no memory, from before the words are known. Then `input` and `output`
-/// are as before (`IsWordless`).
+/// The caller gives streams that have not failed. The status is 0, 1 or 2. Either it means what it means for `program`,
+/// for some words. Or the run failed before the words were known, by wrong usage or for lack of memory. Then `input`
+/// and `output` are unchanged (`IsWordless`).
 pub fn program_over_arguments<
     I: Source,
     O: Sink,

@@ -1,4 +1,4 @@
-//! A reader on its way in. Begin at [`Coming`].
+//! A call that wants to read. Begin at [`Coming`].
 ghost use Rattle.std.specs.Prelude.{◌≡◌, ℕ, Bool, true, false, Some, None, IfOk, IfErr};
 ghost use Rattle.spin_step.specs.Plain.{Plain, gets, rw_word};
 ghost use Rattle.spin_step.specs.Steps.{Decides};
@@ -21,7 +21,8 @@ use spin_step_more::rw;
 use std::marker::PhantomData;
 use std::sync::Wait;
 
-// How often a reader that was too late twice spins. Readers that try again at once keep each other from succeeding.
+// How many hints a reader waits whose exchange has failed twice. Readers that try again at once keep each other from
+// succeeding.
 const STAND_BACK: u32 = 512;
 
 /// Whether a call waits or tries.
@@ -61,7 +62,7 @@ impl<K: Kind> Play<Watch<Entry>, Party, Entry> for Looks<K> {
     ghost told = { λ key old new before. Told (looks_by (call_of K.view true)) before };
 }
 
-// The one exchange of `{:?}`.
+// The only exchange of `{:?}`.
 struct Peeks;
 
 impl Play<Watch<Entry>, Party, Entry> for Peeks {
@@ -71,7 +72,7 @@ impl Play<Watch<Entry>, Party, Entry> for Peeks {
 /// What a call that wants to read has with the guard, or in its place: a watch of the lock's history.
 pub(super) type Lent<'a, T, K, R> = (SharedGuard<'a, T, K, R>, Watch<Entry>);
 
-/// A party in a call that wants to read, as a reader of kind `K`, and the word that it found last.
+/// A party in a call that wants to read, as a reader of kind `K`, with the word that it found last.
 pub(super) struct Coming<'a, T, K: Kind, M: Mode, R> {
     permit: RwPermit<'a, T>,
     seen: Watch<Entry>,
@@ -84,8 +85,8 @@ pub(super) struct Coming<'a, T, K: Kind, M: Mode, R> {
 impl<'a, T, K: Kind, M: Mode, R> Coming<'a, T, K, M, R> {
     ghost use Rattle.spin_rwlock.specs.Waits.{SeeksOn, IsLetIn};
 
-    /// Begins the call. It takes the lock for free, and then tries at the word that it found in its place. To begin so
-    /// saves a load if the lock is free. If it is not, the failed exchange is the load.
+    /// Begins the call. It expects a free lock, and then tries at the word found instead. This saves a load if the lock
+    /// is free. If it is not, the failed exchange serves as the load.
     pub(super) fn begin(
         permit: RwPermit<'a, T>,
         seen: Watch<Entry>,
@@ -126,7 +127,7 @@ impl<'a, T, K: Kind, M: Mode, R> Coming<'a, T, K, M, R> {
         }
     }
 
-    // Whether the word that it found lets no such reader in.
+    // Returns `true` if the word that it found does not admit such a reader.
     fn is_kept_out(&self) -> bool
         ensures { result ≡ true → grants (call_of K.view M.waits) self.now.word ≡ None }
     {
@@ -199,9 +200,9 @@ impl<'a, T, K: Kind, R> Coming<'a, T, K, Tries, R> {
 impl<'a, T, K: Kind, R: RelaxStrategy> Coming<'a, T, K, Waits, R> {
     ghost use Rattle.spin_rwlock.specs.Waits.{SeeksOn, IsLetIn};
 
-    /// Waits until it is let in.
-    // Kept out of line: inlined, it would lengthen the path of every caller that does not wait. Its pause depends on
-    // what it found, which `retry` does not offer.
+    /// Waits until the lock admits it.
+    // It is not inlined, since that would lengthen the path of every caller that does not wait. Its pause depends on the
+    // word found, which `retry` does not offer.
     #[cold]
     #[inline(never)]
     pub(super) fn wait<W: Wait>(self, rt: &W) -> Lent<'a, T, K, R>

@@ -1,4 +1,4 @@
-//! The calls of an [`RwLock`] by a thread that keeps account of them. Begin at [`RwLock::pass`].
+//! The calls of an [`RwLock`] by a thread that keeps track of them. Begin at [`RwLock::pass`].
 ghost use Rattle.std.specs.Prelude.{◌≡◌, ◌⊎◌, ◌≤◌, true, false, Some, None, [], IfOk, IfErr};
 ghost use mathlib.Core.List.{IsPrefix};
 ghost use Rattle.spin_core.specs.Calls.{AnswersOf, AnswersOfShared};
@@ -26,17 +26,16 @@ use spin_step_more::rw;
 use std::marker::PhantomData;
 use std::sync::Wait;
 
-/// A thread's account of its calls of an [`RwLock`].
+/// A thread's record of its calls of an [`RwLock`].
 ///
 /// The lock's cell keeps the list of all moves that threads have made in it (its history). A pass knows which of these
-/// moves are its own, and the whole list up to its last one. Calls without a pass are in the history too, as calls of
-/// others. A pass is as large as a reference to the lock. It can be sent, and a lock has any number of them.
+/// moves are its own, and the whole list up to its own last move. Calls without a pass are in the history too, as calls
+/// of others. A pass is as large as a reference to the lock. It can be sent, and a lock can have any number of passes.
 ///
 /// # Contract
-/// Each call takes the pass, or a guard and what the pass knew with it, and returns it. It ensures `Called`: of the
-/// moves by which the history grew, those of this pass are exactly one call, with the answer that is returned. In the
-/// lock's model that call has this answer, at its place among the moves of all threads, and no move of the history is
-/// passed over.
+/// Each call takes the pass, or a guard and what the pass knew with it, and returns it. It ensures `Called`: among the
+/// new moves of the history, those of this pass are exactly one call with the returned answer. In the lock's model that
+/// call gets this answer, at its place among the moves of all threads, and no move of the history is skipped.
 ///
 /// # Examples
 /// ```
@@ -73,8 +72,8 @@ impl<T, R> RwLock<T, R> {
     /// A guard that is dropped releases the lock too, and ends its pass.
     ///
     /// # Contract
-    /// `seen` has to be what the pass knew with the guard (`ReadsWith`). The call is in the history, as the pass's
-    /// next one (`made`).
+    /// `seen` has to be what the pass knew with the guard (`ReadsWith`). The release is the next call of the pass in
+    /// the history (`made`).
     pub fn unlock_shared<'a, K: Kind>(
         guard: SharedGuard<'a, T, K, R>,
         seen: Watch<Entry>,
@@ -105,7 +104,7 @@ impl<T, R> RwLock<T, R> {
 }
 
 impl<'a, T, R: RelaxStrategy> Pass<'a, T, R> {
-    /// Acquires shared access as [`RwLock::read`] does. Returns the guard, and what the pass knows then.
+    /// Acquires shared access as [`RwLock::read`] does. Returns the guard, and what the pass then knows.
     ///
     /// # Contract
     /// The call is one `Read` with the answer `Granted`, however often it looked and tried (`made`). Whether and when
@@ -118,7 +117,7 @@ impl<'a, T, R: RelaxStrategy> Pass<'a, T, R> {
     }
 
     /// Acquires upgradable shared access as [`RwLock::upgradeable_read`] does. Returns the guard, and what the pass
-    /// knows then.
+    /// then knows.
     ///
     /// # Contract
     /// The call is one `UpgradeableRead` with the answer `Granted`, however often it looked and tried (`made`). Whether
@@ -133,7 +132,7 @@ impl<'a, T, R: RelaxStrategy> Pass<'a, T, R> {
         self.lend::<Upgrader, _>(rt)
     }
 
-    /// Acquires exclusive access as [`RwLock::write`] does. Returns the guard, and what the pass knows then.
+    /// Acquires exclusive access as [`RwLock::write`] does. Returns the guard, and what the pass then knows.
     ///
     /// # Contract
     /// The call is one `Write` with the answer `Granted`, however often it tried (`made`). Whether and when the call
@@ -168,7 +167,7 @@ impl<'a, T, R: RelaxStrategy> Pass<'a, T, R> {
         (RwLockWriteGuard::new(writer), seen)
     }
 
-    // Admits a reader of this kind, and waits until it may.
+    // Waits until it may admit a reader of this kind, and admits it.
     fn lend<K: Kind, W: Wait>(self, rt: &W) -> Lent<'a, T, K, R>
         ensures reads { ReadsWith result.0 result.1 × (result.1.name ≡ self.entry.seen.name) }
         ensures made { Called (call_of K.view true) Granted self.entry.permit.view self.entry.seen.entries (shared_party result.0) result.1.entries }
@@ -317,8 +316,8 @@ impl<'a, T, R> Pass<'a, T, R> {
     /// Counts the readers, as [`RwLock::reader_count`] does.
     ///
     /// # Contract
-    /// The call is one `ReaderCount`, with the answer that is returned (`made`). The answer is at most
-    /// `rw::MAX_READERS` (`reader_limit`).
+    /// The call is one `ReaderCount`, with the returned answer (`made`), which is at most `rw::MAX_READERS`
+    /// (`reader_limit`).
     pub fn reader_count(self) -> (usize, Pass<'a, T, R>)
         ensures limit { result.0 ≤ reader_limit }
         ensures made { Called ReaderCount (Count result.0) self.entry.permit.view self.entry.seen.entries result.1.permit.view result.1.seen.entries }
@@ -336,7 +335,7 @@ impl<'a, T, R> Pass<'a, T, R> {
     /// Counts the writers, as [`RwLock::writer_count`] does.
     ///
     /// # Contract
-    /// The call is one `WriterCount`, with the answer that is returned, 0 or 1 (`made`).
+    /// The call is one `WriterCount`, with the returned answer, 0 or 1 (`made`).
     pub fn writer_count(self) -> (usize, Pass<'a, T, R>)
         ensures limit { result.0 ≤ 1 }
         ensures made { Called WriterCount (Count result.0) self.entry.permit.view self.entry.seen.entries result.1.permit.view result.1.seen.entries }
@@ -354,8 +353,8 @@ impl<'a, T, R> Pass<'a, T, R> {
     /// Compares what two passes of one lock know. It does nothing when it runs.
     ///
     /// # Contract
-    /// What one of them knows of the history is a beginning of what the other knows. So both know one history, and the
-    /// one that knows more has the calls of both in it, each once, in the order in which each pass made them.
+    /// One of them knows a prefix of the history that the other knows. So both know one history. The longer one has the
+    /// calls of both passes, each once, in the order in which each pass made them.
     pub fn compare(&self, other: &Pass<'_, T, R>)
         requires { self.now.seen.name ≡ other.now.seen.name }
         ensures { IsPrefix self.now.seen.entries other.now.seen.entries ⊎ IsPrefix other.now.seen.entries self.now.seen.entries }

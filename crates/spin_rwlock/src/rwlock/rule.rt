@@ -43,14 +43,14 @@ pub enum View {
     WritingAsked,
     /// It is in this call, which wants to read, and found this word last.
     Coming(RwCall, usize),
-    /// It is in `write`, and goes on with its exchange.
+    /// It is in `write`, and its next step is the exchange.
     WaitingToWrite,
 }
 
 /// The rule of an [`RwLock`](super::RwLock): its word is the sum of the weights of its holders.
 ///
-/// No value of this type is made, and no caller names it. It has a `T` since several parties read a `T` at once:
-/// whatever may share the one may share the other.
+/// No value of this type is made, and no caller names it. It has a `T` because several parties read a `T` at once: a
+/// thread that may share one may share the other.
 ///
 /// # Contract
 /// `IsRw`: the word is that of a plain lock of these parties. The trace is a schedule of the lock's model, which leads
@@ -230,7 +230,7 @@ impl Kind for Upgrader {
     ghost comes = { tt };
 }
 
-/// A party in `write` that goes on with its exchange.
+/// A party in `write` whose next step is the exchange.
 pub(super) struct Waiting<'a, T> {
     pub(super) permit: RwPermit<'a, T>,
     pub(super) seen: Watch<Entry>,
@@ -250,7 +250,7 @@ impl<'a, T> Waiting<'a, T> {
     }
 }
 
-/// Tries once to admit a writer that comes or waits. If the lock has a holder, it waits.
+/// Tries once to acquire exclusive access, for a call that begins or waits. If anybody holds the lock, it waits.
 pub(super) fn write<'a, T>(
     permit: RwPermit<'a, T>,
     seen: Watch<Entry>,

@@ -1,4 +1,4 @@
-//! The guard of the upgradable reader: what it can do besides reading. Begin at `upgrade`.
+//! The guard of the upgradable reader, and what it can do besides reading. Begin at `upgrade`.
 ghost use Rattle.std.specs.Prelude.{◌≡◌, Some, IfOk, IfErr};
 ghost use Rattle.spin_model.specs.declared.answer.Answer.TheVariants.{Granted, Refused, Done};
 ghost use Rattle.spin_step_more.specs.declared.rw_calls.RwCall.TheVariants.{TryUpgrade, Upgrade, Downgrade};
@@ -18,7 +18,7 @@ use std::sync::Wait;
 
 /// The guard of the upgradable reader of an [`RwLock`](super::RwLock). Dropping it releases the shared access.
 ///
-/// Other readers come and go meanwhile, until its `upgrade` asks.
+/// Meanwhile other readers may acquire and release, until its `upgrade` asks.
 ///
 /// # Contract
 /// That of [`SharedGuard`]. The value stays the same when the reader becomes the writer.
@@ -198,7 +198,7 @@ impl<'a, T, R: RelaxStrategy> SharedGuard<'a, T, Upgrader, R> {
     }
 }
 
-/// A party in `upgrade` that has asked, and goes on with its exchange.
+/// A party in `upgrade` that has asked, and whose next step is the exchange.
 pub(super) struct AsksOn<'a, T> {
     permit: RwPermit<'a, T>,
     seen: Watch<Entry>,

@@ -21,7 +21,7 @@ use std::ops::{Deref, DerefMut};
 /// It gives access to the value by `Deref` and `DerefMut`.
 ///
 /// # Contract
-/// `write_value` is the value behind the guard. What is written through the guard is read through it.
+/// `write_value` is the lock's value. What is written through the guard is read through it.
 #[must_use = "dropping the guard at once releases the lock: bind it, or write `drop(..)`"]
 pub struct RwLockWriteGuard<'a, T, R = Spin> {
     writer: WritePermit<'a, T, Party, RwRule<T>>,
@@ -56,7 +56,7 @@ impl<'a, T, R> RwLockWriteGuard<'a, T, R> {
 
     /// Becomes a reader. Other readers are then admitted too. It never fails.
     ///
-    /// It makes one atomic addition, so no other writer comes in between.
+    /// It makes one atomic addition, so no other writer acquires the lock in between.
     ///
     /// # Contract
     /// The reader's guard has the value that this one had. The call returns.
@@ -96,7 +96,7 @@ impl<'a, T, R> RwLockWriteGuard<'a, T, R> {
 
     /// Becomes the upgradable reader. It never fails.
     ///
-    /// It makes one atomic addition, so no other writer comes in between.
+    /// It makes one atomic addition, so no other writer acquires the lock in between.
     ///
     /// # Contract
     /// The upgradable reader's guard has the value that this one had. The call returns.
@@ -190,7 +190,7 @@ impl<'a, T, R> WriteHeld<'a, T, R> {
 
     /// Turns the hold into a guard again.
     ///
-    /// So a hold of a pass is released by that pass.
+    /// If a pass acquired the lock, that pass can then release it.
     ///
     /// # Contract
     /// The guard has the hold's value and its party (`value`, `party`). The call returns.
@@ -259,13 +259,13 @@ impl<T, R> Drop for WriteHeld<'_, T, R> {
     }
 }
 
-// SAFETY: its new thread has the value to itself, and may become one reader among others.
+// SAFETY: the new thread has the value to itself, and may become one reader among others.
 unsafe impl<T: Send + Sync, R> Send for RwLockWriteGuard<'_, T, R> {}
 
 // SAFETY: a shared guard lends a `&T` and no more.
 unsafe impl<T: Sync, R> Sync for RwLockWriteGuard<'_, T, R> {}
 
-// SAFETY: its new thread passes the value on to the next user: what a guard asks.
+// SAFETY: the new thread releases the lock, and so passes the value to its next user. That asks what a guard asks.
 unsafe impl<T: Send + Sync, R> Send for WriteHeld<'_, T, R> {}
 
 // SAFETY: a shared hold lends nothing. It asks what the lock asks.

@@ -1,4 +1,4 @@
-//! The calls of a [`TicketMutex`] by a thread that keeps account of them. Begin at [`TicketMutex::pass`].
+//! The calls of a [`TicketMutex`] by a thread that keeps track of them. Begin at [`TicketMutex::pass`].
 ghost use Rattle.std.specs.Prelude.{◌≡◌, ◌⊎◌, ◌≤◌, not, true, Some, None, [], ◌==◌, length, IfOk, IfErr};
 ghost use mathlib.Core.List.{IsPrefix};
 ghost use Rattle.spin_core.specs.Guard.{IsHolder, guard_view, guard_key, guard_value};
@@ -26,16 +26,16 @@ use spin_step::ticket;
 use std::marker::PhantomData;
 use std::sync::Wait;
 
-/// A thread's account of its calls of a [`TicketMutex`].
+/// A thread's record of its calls of a [`TicketMutex`].
 ///
 /// The lock's cell keeps the list of all moves that threads have made in it (its history). A pass knows which of these
-/// moves are its own, and the whole list up to its last one. Calls without a pass are in the history too, as calls of
-/// others. A pass is as large as a reference to the lock. It can be sent, and a lock has any number of them.
+/// moves are its own, and the whole list up to its own last move. Calls without a pass are in the history too, as calls
+/// of others. A pass is as large as a reference to the lock. It can be sent, and a lock can have any number of passes.
 ///
 /// # Contract
-/// Each call takes the pass and returns it. It ensures `Called`: of the moves by which the history grew, those of this
-/// pass are exactly one call, with the answer that is returned. In the lock's model that call has this answer, at its
-/// place among the moves of all threads, and no move of the history is passed over.
+/// Each call takes the pass and returns it. It ensures `Called`: among the new moves of the history, those of this pass
+/// are exactly one call with the returned answer. In the lock's model that call gets this answer, at its place among
+/// the moves of all threads, and no move of the history is skipped.
 ///
 /// # Examples
 /// ```
@@ -78,8 +78,8 @@ impl<T, R> TicketMutex<T, R> {
     /// A guard that is dropped releases the lock too, and ends its pass.
     ///
     /// # Contract
-    /// `seen` has to be what [`Pass::lock`] or [`Pass::try_lock`] returned beside the guard (`Holds`). The pass makes the
-    /// call, as its next one, behind a write (`made`): it writes the guard's value into the history (`wrote`). So that
+    /// `seen` has to be what [`Pass::lock`] or [`Pass::try_lock`] returned with the guard (`Holds`). The release is the
+    /// next call of the pass (`made`). Just before it the history gets a write of the guard's value (`wrote`). So that
     /// value is the one written last (`left`).
     pub fn unlock<'a>(guard: TicketMutexGuard<'a, T, R>, seen: Watch<Entry<T>>) -> Pass<'a, T, R>
         requires { Holds guard seen }
@@ -100,7 +100,7 @@ impl<T, R> TicketMutex<T, R> {
 }
 
 impl<'a, T, R: RelaxStrategy> Pass<'a, T, R> {
-    /// Acquires the lock as [`TicketMutex::lock`] does. Returns the guard, and what the pass knows then.
+    /// Acquires the lock as [`TicketMutex::lock`] does. Returns the guard, and what the pass then knows.
     ///
     /// # Contract
     /// The call is one `Lock` with the answer `Granted`, however often it looked and tried (`made`). The guard belongs
@@ -134,8 +134,8 @@ impl<'a, T, R> Pass<'a, T, R> {
     /// Tries to acquire the lock as [`TicketMutex::try_lock`] does. Returns the pass at once if the lock is held.
     ///
     /// # Contract
-    /// The call is one `TryLock`, with the answer `Granted` beside a guard (`granted`), and else `Refused` (`refused`).
-    /// The guard's value is the one written last in the history (`found`).
+    /// The call is one `TryLock`. Its answer is `Granted` with a guard (`granted`), else `Refused` (`refused`). The
+    /// guard's value is the one written last in the history (`found`).
     pub fn try_lock(self) -> Result<(TicketMutexGuard<'a, T, R>, Watch<Entry<T>>), Pass<'a, T, R>>
         ensures holder { IfOk result (λ held. IsHolder use_of_party held.0 × Holds held.0 held.1) }
         ensures same { IfOk result (λ held. (held.1.name ≡ self.entry.seen.name) × (guard_key held.0 ≡ self.entry.permit.key)) }
@@ -176,10 +176,10 @@ impl<'a, T, R> Pass<'a, T, R> {
         }
     }
 
-    /// Looks whether the lock is held, as [`TicketMutex::is_locked`] does.
+    /// Returns whether the lock is held, as [`TicketMutex::is_locked`] does.
     ///
     /// # Contract
-    /// The call is one `IsLocked`, with the answer that is returned (`made`).
+    /// The call is one `IsLocked`, with the returned answer (`made`).
     pub fn is_locked(self) -> (bool, Pass<'a, T, R>)
         ensures made { Called self.entry.permit.key IsLocked (Is result.0) self.entry.permit.view self.entry.seen.entries result.1.permit.view result.1.seen.entries }
         ensures same { (result.1.seen.name ≡ self.entry.seen.name) × (result.1.permit.key ≡ self.entry.permit.key) }
@@ -188,7 +188,7 @@ impl<'a, T, R> Pass<'a, T, R> {
         (!ticket::is_turn(serving, next), pass)
     }
 
-    // Makes the steps of `is_locked`. Returns the number that is served, and then the next one.
+    // Makes the steps of `is_locked`. Returns the served number and the next number.
     pub(super) fn look(self) -> (u64, u64, Pass<'a, T, R>)
         ensures order { result.0 ≤ result.1 }
         ensures made { Called self.entry.permit.key IsLocked (Is (not (result.1 == result.0))) self.entry.permit.view self.entry.seen.entries result.2.permit.view result.2.seen.entries }
@@ -199,7 +199,7 @@ impl<'a, T, R> Pass<'a, T, R> {
             seen,
             strategy,
         } = self;
-        // In this order, so that tickets stood between the two numbers.
+        // In this order: the tickets between the two numbers exist at the second load.
         let (serving, permit, seen) = permit.load_second::<LookServing>(seen);
         let (next, permit, seen) = permit.load::<LookNext>(seen);
         (
@@ -216,8 +216,8 @@ impl<'a, T, R> Pass<'a, T, R> {
     /// Compares what two passes of one lock know. It does nothing when it runs.
     ///
     /// # Contract
-    /// What one of them knows of the history is a beginning of what the other knows. So both know one history, and the
-    /// one that knows more has the calls of both in it, each once, in the order in which each pass made them.
+    /// One of them knows a prefix of the history that the other knows. So both know one history. The longer one has the
+    /// calls of both passes, each once, in the order in which each pass made them.
     pub fn compare(&self, other: &Pass<'_, T, R>)
         requires { self.now.seen.name ≡ other.now.seen.name }
         ensures { IsPrefix self.now.seen.entries other.now.seen.entries ⊎ IsPrefix other.now.seen.entries self.now.seen.entries }
@@ -244,8 +244,8 @@ pub(super) fn go<'a, T>(
 }
 
 impl<'a, T> Going<'a, T> {
-    // Takes the ticket. `Err` goes for the number that was found in its place, which is the same once the tickets are
-    // used up.
+    // Takes the ticket. `Err` is a call that tries the number found instead. Once the tickets are used up, that is the
+    // same number.
     pub(super) fn take(self) -> Result<Place<'a, T>, Going<'a, T>>
         ensures { GoesFor self.entry result }
     {
@@ -280,8 +280,8 @@ impl<'a, T> Going<'a, T> {
 }
 
 impl<'a, T> Place<'a, T> {
-    // The next thread in turn looks again after one hint. One with others before it looks seldom, so that it does not
-    // disturb them.
+    // The next thread in turn looks again after one hint. A thread with others before it looks seldom, so that it does
+    // not disturb them.
     pub(super) fn pause(&self) -> u32 {
         if self.ahead <= 1 {
             return 1;

@@ -1,4 +1,4 @@
-//! What a call of `lock` has in hand between two of its steps. Begin at [`Going`].
+//! The state of a call of `lock` between two of its steps. Begin at [`Going`].
 ghost use Rattle.std.specs.Prelude.{◌≡◌, Some, length};
 ghost use Rattle.spin_core.specs.Cell.{writes};
 ghost use Rattle.spin_core.specs.Own.{what};
@@ -11,7 +11,7 @@ use super::rule::{Entry, Party, TicketRule};
 use spin_core::cell::{Permit, WritePermit};
 use spin_core::trace::Watch;
 
-// A call that tries to take the ticket of this number, the next one when it last looked.
+// A call that tries to take the ticket with this number, which was next when it last looked.
 pub(super) struct Going<'a, T> {
     pub(super) number: u64,
     pub(super) permit: Permit<'a, T, Party, TicketRule>,
@@ -32,7 +32,7 @@ pub(super) struct Place<'a, T> {
     ghost knows: { mark_of permit.view ≡ length seen.entries },
 }
 
-// A call that is answered.
+// A call that has acquired the lock.
 pub(super) struct Grant<'a, T> {
     pub(super) writer: WritePermit<'a, T, Party, TicketRule>,
     pub(super) seen: Watch<Entry<T>>,

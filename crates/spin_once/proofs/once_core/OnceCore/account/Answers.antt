@@ -3,7 +3,7 @@ use contract.BorrowLft.{◌⊑◌, ⊑_meet, ⊑_static}
 use Rattle.std.proofs.Common.{[], ◌++◌}
 use Rattle.spin_once.proofs.once_core.OnceCore.account.Goals as goal
 
--- a lifetime within those of the value's type and of the seed's is within those of what the two make up
+-- a lifetime within those of the value's type and of the seed's is within those of both together
 module _ (κ : Lft) where
   and : {l r : Lft} → κ ⊑ l → κ ⊑ r → κ ⊑ l ++ r
   and {l} {r} p q = ⊑_meet κ l r p q
