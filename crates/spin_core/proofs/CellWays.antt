@@ -13,7 +13,7 @@ module _ {X : Type 0} where
   going_map (fixes fact) u v shown r f going = (going.0, going.1, f going.2)
   going_map _ u v shown r f going = f going
 
-  -- what any value may replace
+  -- in a way in which any value may replace an unused one, the fact is known of every value
   freed : (way : Way X) → Frees way → (r w : ℕ) (x : X) → Fixed way r w x
   freed (fixes fact) frees (suc r) w x = frees true x
   freed (fixes fact) frees zero zero x = frees false x

@@ -223,7 +223,7 @@ module _ {W V C L A X S : Type 0} (m : Machine W V C L A) (seat_of : X → Seat 
   are_own log w value front o back own outs all is fine leads played =
       (length (seats front), length (front ++ o ∷ back), refl, played_with log w value front o back own outs all is fine leads played, own_outcomes log w value front o back own outs all is leads)
 
-  -- with as many others as there were
+  -- whether a schedule is played depends on the number of parties, not on what this party is
   pub plays_on : (schedule : Schedule) (front : List (Option X)) (o u : Option X) (back : List (Option X)) → IsPlayed m (length (front ++ o ∷ back)) schedule → IsPlayed m (length (front ++ u ∷ back)) schedule
   plays_on schedule front o u back = subst (λ k. IsPlayed m k schedule) (as_many front o u back)
 

@@ -204,8 +204,8 @@ module _ {V : Type 0} where
   Rests holds f None = Unit {0}
   Rests {S} holds f (Some v) = (f v ≡ off) × ((n : ℕ) (m : S) (before behind : List V) → holds n m (before ++ v ∷ behind) → holds n m (before ++ behind))
 
--- What a step needs of a party that is shown a value, or nothing. Whatever the words and the views are, the word
--- becomes f of itself, and the party has a next view that keeps the rule.
+-- What a step needs of a party that is shown a value, or nothing. The step applies f to the word. Whatever the words
+-- and the views are, the party has a next view that keeps the rule.
 module _ {X V S : Type 0} (holds : ℕ → S → List V → Type 0) (ways : Ways X V S) (view : Option V) where
   -- a step on the first word
   abbrev pub AllowsAt : Option X → (ℕ → ℕ) → (ℕ → V → Type 0) → Type 0

@@ -39,7 +39,7 @@ module _ {X V E S : Type 0} (holds : ℕ → Trace E S → List V → Type 0) (w
   abbrev pub MayKnow : Watch E → Type 0
   MayKnow seen = (seen.entries ≡ []) ⊎ Named seen.name
 
-  -- Whatever the words, the trace and the views are, the first word becomes f of itself. The party has a next view,
+  -- Whatever the words, the trace and the views are, the step applies f to the first word. The party has a next view,
   -- and entries to append, that keep the rule.
   abbrev pub Traces : Option V → Option X → (ℕ → ℕ) → (List E → List E → ℕ → V → Type 0) → Type 0
   Traces view shown f told = (id n : ℕ) (t : Trace E S) (vs : List V) → Meets holds ways n t vs → Stands id view vs → n < words

@@ -8,7 +8,7 @@ use std::alloc::{AllocError, Global};
 /// The longest line: six numbers of up to 20 digits, and the words between them.
 pub const LONGEST_LINE: usize = 160;
 
-/// How many bytes a piece has at least when it is written.
+/// A piece that has more bytes than this is written.
 const FULL: usize = 65_536;
 
 /// The size of the buffer for a piece.

@@ -41,8 +41,8 @@ may_be_blind p n [] = true
 may_be_blind p n (m ∷ ms) =
     if m.party == p then is_some m.change || (is_look m.step_kind && (not (is_held m.before) || not (nat_lt (held_looks p ms) n))) else may_be_blind p n ms
 
--- it makes such a step at no other time: until n looks have found the lock held, each step while it is held is a look
--- that counts
+-- The party makes a blind step at no other time. After a look that found the lock held, its next step is not blind,
+-- unless n looks have found it held.
 abbrev pub keeps_looking : ℕ → ℕ → List Mark → Bool
 keeps_looking p n [] = true
 keeps_looking p n (m ∷ ms) = keeps_looking p n ms && (not ((m.party == p) && is_blind m) || may_be_blind p n ms)
