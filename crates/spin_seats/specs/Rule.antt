@@ -102,12 +102,12 @@ has_begun _ = false
 abbrev pub counts_by : ℕ → Says
 counts_by n own outs found v = step_by false call.Count (λ w. Answered (Count w) None) (λ w. Idle) own outs found v × (found ≤ seats n)
 
--- the call that takes a seat, by whether it waits for one
+-- the call that takes a seat: `enter` if it waits for one, else `try_enter`
 abbrev pub call_of : Bool → SeatsCall
 call_of true = call.Enter
 call_of false = call.TryEnter
 
--- the outcome of the call's look if it finds this word
+-- the outcome of a step that finds this word and takes no seat
 abbrev pub met : ℕ → Bool → ℕ → Ending
 met n true found = GoingOn
 met n false found = if nat_lt found (seats n) then GoingOn else Answered Refused None
@@ -115,7 +115,7 @@ met n false found = if nat_lt found (seats n) then GoingOn else Answered Refused
 abbrev pub looks_by : ℕ → Bool → Option View → Says
 looks_by n waits view = step_by (has_begun view) (call_of waits) (met n waits) (at_word n waits)
 
--- the call that tries to take a seat waits for one
+-- whether the call of this view waits for a seat
 abbrev pub waits_in : Option View → Bool
 waits_in (Some (Coming waits word)) = waits
 waits_in _ = true

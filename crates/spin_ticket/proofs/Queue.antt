@@ -61,11 +61,11 @@ queue = record {
 abbrev Comes : (ℕ → View) → ℕ → View → Type 0
 Comes to n v = v ≡ to n
 
--- what a load of the next number tells `is_locked`, and a load of the served number tells a party that releases,
--- besides the view
+-- the load of the next number in `is_locked` finds at least the number served, and leaves the party idle
 abbrev Compares : ℕ → ℕ → View → Type 0
 Compares served n v = (served ≤ n) × (v ≡ Idle)
 
+-- the load of the served number in a release finds the party's ticket
 abbrev Finds : ℕ → ℕ → View → Type 0
 Finds number n v = (n ≡ number) × (number < ticket_limit) × (v ≡ Entered number)
 

@@ -36,7 +36,7 @@ none_from start p k found (x ∷ xs) le none =
     let b = (x.party == p) && is_begun x.outcome in
     grind (arith, none_from start p (k + 1) (if b then Some k else found) xs)
 
--- and of one that began later, its place counted from there
+-- a call that began later is told with its place counted from the start
 last_from : {W V A : Type 0} (start p k : ℕ) (found here : Option ℕ) (xs : List (Event W V A)) → began_from start found ≡ here
     → began_from start (last_begin p (start + k) found xs) ≡ last_begin p k here xs
 last_from start p k found here [] is = is

@@ -37,12 +37,12 @@ stays_empty : (s : Plain) (q : ℕ) (step : Option Change) → is_empty s.ticket
 stays_empty s q None none opens same = empty_is s.tickets none
 stays_empty s q (Some c) none opens same = grind (arith, none, opens, same, empty_is s.tickets none)
 
--- the first ticket's party has it
+-- the party of the first ticket has a ticket
 first_own : (ts : List Queued) → is_empty ts ≡ false → is_empty (own (first_party ts) ts) ≡ false
 first_own [] some = some
 first_own (t ∷ ts) some = grind (arith, eqb_self)
 
--- and if it has only that ticket, which has not entered, it is its turn
+-- if the first party's only ticket has not entered, it is that ticket's turn
 first_turn : (p n : ℕ) (ts : List Queued) → own p ts ≡ queued p n false ∷ [] → p ≡ first_party ts → is_first p false ts ≡ true
 first_turn p n [] mine is = absurd (cc (mine))
 first_turn p n (t ∷ ts) mine is = grind (arith, eqb_self, mine, is)

@@ -14,7 +14,7 @@ use Rattle.spin_model.specs.Acts.{either, stays}
 use Rattle.spin_world.specs.BarrierTable.{BarrierMachine, arrive, leads, is_past, barrier_machine}
 use Rattle.spin_world.specs.Groups.{Entries}
 
--- how an arrival continues, and a look of a follower, by the words that they find
+-- how a call continues after an arrival, or after a look of a follower, by the words found
 abbrev Goes : Type 0
 Goes = BarrierWords → Next BarrierPoint (Answer ℕ)
 
