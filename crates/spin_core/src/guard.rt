@@ -1,5 +1,4 @@
-//! The guard of a party that writes, and its hold without a guard, for every lock over a `Cell`. Begin at
-//! [`Release`]:
+//! The guard of a party that writes, and its hold without a guard, for every lock over a `Cell`. Begin at [`Release`]:
 //! a lock implements it, and has an alias for [`Guard`] and [`Held`].
 ghost use Rattle.std.specs.Prelude.{◌≡◌, Option, Some};
 ghost use Rattle.spin_core.specs.Cell.{Use, writes, use_of};

@@ -1,4 +1,4 @@
-//! What the contracts of the cell leave to a run: each step returns and stores the words that it should.
+//! Tests of what the contracts of the cell do not say: each step returns and stores the right words.
 ghost use Rattle.std.specs.Prelude.{◌≡◌, ◌+◌, ◌≤◌, length};
 
 use super::equal::equal;

@@ -15,7 +15,7 @@ begins_first old new a b begins =
     let same : take begins.0 a ≡ take begins.0 (a ++ b) = grind (arith, common_steps, begins.1) in
     (begins.0, omega (arith, begins.1, length-append a b), subst P same begins.2)
 
--- the line of a fault, by the fault
+-- Equal faults have the same line
 
 pub told_whole : {E : Type 0} → (r : Result (Unit {0}) E) (old new : Option (List ℕ)) (fault f : Fault) → fault ≡ f → OnOk r (Appends old new (line_of f)) → OnOk r (Appends old new (line_of fault))
 told_whole r old new fault f is told = let P : Fault → Type 0 = λ k. OnOk r (Appends old new (line_of k)) in subst P (sym is) told

@@ -76,12 +76,12 @@ pub fn add_some(lock: &SeatedMutex, mut pass: Pass, turns: u64) -> (Pass, u64)
 
 /// Reads the lock's value after two passes have added.
 ///
-/// The passes meet, so that the first pass's next call follows all calls of the second. After that call they meet
-/// again, which shows that no other call was in between. The first pass holds the lock afterwards.
+/// First the passes meet, so the next call of the first pass follows all calls of the second. After that call they meet
+/// again. This shows that no other call was in between. The first pass holds the lock afterwards.
 ///
 /// # Contract
-/// The lock has to have two passes, and these have to be both, each outside its critical section. The answer is the
-/// opening value plus the additions of both.
+/// The lock has to have two passes: `a` is the first, and `b` is the second. Each has to be outside its critical
+/// section. The answer is the opening value plus the additions of both.
 pub fn read_sum(lock: &SeatedMutex, a: &mut Pass, b: &mut Pass) -> u64
     requires own { IsPassOf lock.now a.old × IsPassOf lock.now b.old }
     requires two { (opening_of lock.now).passes ≡ 2 }

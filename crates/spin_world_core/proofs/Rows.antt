@@ -29,7 +29,8 @@ Spends (gets_within ask n) k p span = own p span ≡ [] → (own_count p span �
 Spends (changes_within n) k p span = own p span ≡ [] → own_count p span ≤ k
 Spends _ k p span = Unit {0}
 
--- after j steps and this branch, k are spent; the list is of the plain steps that are made then, and the span has this step. That a call registers in time an object shows by what it knows
+-- A step by this branch may raise the steps that are spent from j to k. The list has the plain steps made by then, and
+-- the span includes this step. That a call registers in time, an object shows from what its party knows.
 abbrev pub MaySpend : Limit → Branch → List Change → ℕ → ℕ → ℕ → LockKind → List Mark → Type 0
 MaySpend (within n) t cs j k p kind span = nat_lt j k ≡ true
 MaySpend (within_changes n) loses cs j k p kind span = nat_lt j (suc k) ≡ true
@@ -74,7 +75,7 @@ module _ (p : ℕ) (s : Plain) (step : Option Change) (r : StepKind) (span : Lis
 pub goes_within : (what : Limit) (kind : LockKind) (t : Branch) (cs : List Change) (j k p : ℕ) (span : List Mark) → own p span ≡ cs → is_timely what cs k ≡ true → failures p span ≤ changes kind p span → MaySpend what t cs j k p kind span → Spends what k p span → ContinuesWithin what kind p span
 goes_within what kind t cs j k p span is timely retries may spent = grind (arith, spent)
 
--- what an answer must show of its call's time, if what the party knows shows it
+-- what an answer must show of its call's time: a call that registers in time shows it from what its party knows
 abbrev pub OwesEnd : Limit → LockKind → ℕ → List Mark → Type 0
 OwesEnd (registers_after n i) kind p span = EndsWithin (registers_after n i) kind p span
 OwesEnd _ kind p span = Unit {0}
@@ -142,13 +143,14 @@ pub record Row : Type 0 where
   pub said : Said
   pub spent : ℕ  -- of the call's limit
 
--- a point where a party has what it had as its call began, and has made no plain step: so many of the limit's steps are spent; or one with a row of its own
+-- A point of a call. At `looked k` the party holds what it held when the call began. It has made no plain step, and has
+-- spent k of the limit's steps. A point `onward` has a row of its own, and `nowhere` has no row.
 pub data Point : Type 0 where
   nowhere : Point
   looked : ℕ → Point
   onward : Row → Point
 
--- a call begins where it may, with that hold
+-- the point at which a call begins, if it may begin
 abbrev pub starts : {L : Type 0} → Option L → Point
 starts None = nowhere
 starts (Some l) = looked 0
@@ -185,7 +187,7 @@ abbrev pub IsSound : LockKind → Asked → ℕ → Option Row → Type 0
 IsSound kind what p None = Unit {0}
 IsSound kind what p (Some row) = (is_timely (limit kind what) (row.made p) row.spent ≡ true) × AnyOf (λ steps. row.made p ++ row.rest p ≡ steps) (own_steps what row.said p)
 
--- what is left to show of it
+-- what has to be shown so that the row of a point is sound
 abbrev pub SoundAt : LockKind → Asked → ℕ → Point → Type 0
 SoundAt kind what p nowhere = Unit {0}
 SoundAt kind what p (looked k) = is_timely (limit kind what) [] k ≡ true
@@ -198,17 +200,18 @@ sound_at kind what h p point sound = grind arith
 pub starts_sound : {L : Type 0} (kind : LockKind) (what : Asked) (p : ℕ) (o : Option L) → SoundAt kind what p (starts o)
 starts_sound kind what p o = grind arith
 
--- where the next step is a retry: no more retries have failed than others have changed the first word, it not counted if it has changed since; and what was found is enough
+-- Where the next step is a retry that expects k: others have changed the first word at least as often as retries have
+-- failed, and once more if the word is no longer k. The step function admits k.
 abbrev pub Expects : {W L A : Type 0} → LockKind → Act W L A → ℕ → Plain → List Mark → Type 0
 Expects kind (retry k f step won found missed) p s span = (failures p span + bit (not (first_word kind s == k)) ≤ changes kind p span) × (is_some (f k) ≡ true)
 Expects kind _ p s span = Unit {0}
 
--- what is owed of it by a step that finds n in the first word
+-- what a step must show if a retry follows: it finds n in the first word, and the retry expects n
 abbrev pub RetryOwes : {W L A : Type 0} → Act W L A → ℕ → Option Change → Type 0
 RetryOwes (retry k f step won found missed) n made = (made ≡ None) × (n ≡ k) × (is_some (f k) ≡ true)
 RetryOwes _ n made = Unit {0}
 
--- what a point needs of what is due there
+-- whether a try has to be due at a point: either way is fine, it is due, it is not due, or no such point exists
 pub data Need : Type 0 where
   free : Need
   due : Need
@@ -228,7 +231,7 @@ abbrev pub peeks : {W L A : Type 0} → Act W L A → Bool
 peeks (load_if test a b) = true
 peeks _ = false
 
--- by whether the next step is such a step, and whether it is a look
+-- the need of a point, by whether its next step is such a load or exchange, and whether it is a look
 abbrev pub need : Option Ask → Way → Bool → Bool → Need
 need None way resting peeking = free
 need (Some ask) by_looks true true = undue
@@ -246,7 +249,7 @@ Needs due p span = is_due p span ≡ true
 Needs undue p span = is_due p span ≡ false
 Needs never p span = ⊥
 
--- what a step before it must show of that
+-- after such a step a try is due: it makes a plain step, or it is a look that finds the lock free
 abbrev pub makes_due : Option Change → StepKind → Plain → Bool
 makes_due step r s = is_some step || (is_look r && not (is_held s))
 
@@ -256,7 +259,7 @@ FoundBy due Finds step r s = Finds × (makes_due step r s ≡ true)
 FoundBy undue Finds step r s = Finds × (makes_due step r s ≡ false)
 FoundBy never Finds step r s = ⊥
 
--- and what a beginning must show
+-- a call does not begin with a retry
 abbrev pub NoRetry : {W L A : Type 0} → Act W L A → Type 0
 NoRetry (retry k f step won found missed) = ⊥
 NoRetry _ = Unit {0}

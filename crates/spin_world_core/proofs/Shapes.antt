@@ -5,15 +5,15 @@ use Rattle.spin_world_core.proofs.Operating.{fits_act, Operates}
 use Rattle.spin_world_core.proofs.Stands.{stand_of, stand_after}
 use Rattle.spin_world_core.proofs.Rows.{Branch, goes, finds_open, loses, misses, MaySpend, MayContinue, OwesRight, Row, Point, row_at, SoundAt, RetryOwes, need_of, FoundBy, NoRetry, BeginsBy, Known}
 
--- What table and notes say of a call. What has to be shown depends on nothing else, so it is the same for calls of
--- which they say the same.
+-- What the table and the notes say of a call. What has to be shown of the call depends on nothing else.
 pub record CallOf (W L A : Type 0) : Type 1 where
   pub asks : Option Hold → Asked
   pub act : L → Option Hold → Act W L A
   pub point : L → Option Hold → Point
   pub Knows : L → Option Hold → ℕ → Plain → List Mark → Type 0
 
--- an exchange that is made again goes on by another number, by which there are new words. That it is another matters only to a call that registers in time
+-- An exchange that is repeated expects another number, and the step function admits that number. Only a call that
+-- registers in time has to show that the number is another one.
 abbrev pub FindsAnother : Limit → Bool → Bool → Type 0
 FindsAnother (registers_after n i) same some = (same ≡ false) × (some ≡ true)
 FindsAnother _ same some = some ≡ true
@@ -52,7 +52,7 @@ abbrev pub aimed_at : ℕ → Asked → Option Row → Option Change → Option 
 aimed_at p what None step = step
 aimed_at p what (Some row) step = aimed p (aim_of what (row.made p)) step
 
--- how a call continues by its next point, if it does
+-- what the next point gives, or x if the call ends
 abbrev pub goes_by : {L A X : Type 0} → Next L A → X → (L → X) → X
 goes_by (Continue l) x f = f l
 goes_by (Answers a after) x f = x
@@ -100,7 +100,8 @@ module _ {W V C L A : Type 0} (t : Table W V C L A) where
 
     -- What has to be shown
 
-    -- what the step function gives makes the words after the plain step, which is open and the party's own; its refusal says that the step is closed
+    -- If the step function gives a number, the plain step is open and the party's own, and the number makes the words
+    -- after it. If the function refuses, the plain step is closed.
     abbrev pub Means : {X : Type 0} → ℕ → Plain → Change → (X → W) → Option X → Type 0
     Means p s c put None = is_open s c ≡ false
     Means p s c put (Some x) = IsOpenStep s p (Some c) × (t.memory.numbers (put x) ≡ encoded t.lock_kind (apply s c)) × n.Shape (apply s c)

@@ -261,7 +261,7 @@ alone_some c room l a reader out mine theirs = grind (arith, mine, theirs)
 base_some : (k : Option Kind) → 1 ≤ base k
 base_some k = grind arith
 
--- while a reader stands beside it
+-- while another reader holds
 reader_long : (w room : Bool) (k : Option Kind) (b out : Bool) (n : ℕ) → theirs_of w room k b false true out ≤ suc n → base k ≤ n
 reader_long w room k b out n few = grind (arith, few)
 

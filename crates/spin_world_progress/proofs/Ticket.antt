@@ -121,7 +121,9 @@ next_grows : (s : Plain) (step : Option Change) → s.next ≤ (apply_some s ste
 next_grows s None = omega arith
 next_grows s (Some c) = grind arith
 
--- How long a party at the doorway waits for others' tickets at most, if so many are taken still, its own too: by whether it goes for the next number. Where its own alone comes, the queue moves on beside it
+-- How many rounds a party at the doorway waits for the tickets of others at most. `taken` is how many tickets are still
+-- to be taken, its own included. `next` says whether its next step goes for the next number. If only its own ticket is
+-- still to be taken, the queue moves on in the meantime.
 abbrev doorway : ℕ → ℕ → Bool → ℕ
 doorway n taken next = (if nat_lt taken 2 then 2 else max 2 (3 * n - 2)) + taken - (if next then 1 else 0)
 
