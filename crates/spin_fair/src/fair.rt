@@ -37,8 +37,8 @@ pub const STARVATION_SPINS: usize = 1024;
 /// Starvers may overtake each other, and so may newcomers. A waiting thread passes the time with the strategy `R`.
 ///
 /// While a guard or a hold of the lock lives, no other call acquires it. A newcomer that holds the lock acquired it
-/// before the last move of each registered starver (`no_newcomer_holds_that_came_behind_a_starver`). A guard gives a value of
-/// `T`, with all that the invariant of `T` says. Nothing else is promised of what other threads wrote.
+/// before the last move of each registered starver (`no_newcomer_holds_that_came_behind_a_starver`). A guard gives a
+/// value of `T`, with all that the invariant of `T` says. Nothing else is promised of what other threads wrote.
 ///
 /// # Examples
 /// ```

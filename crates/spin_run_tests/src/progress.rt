@@ -201,8 +201,8 @@ fn a_lock_alone_is_granted_in_the_third_round(rt: HostRuntime) {
     assert_eq!(&rt; first_goal(&rt, &mut world, 1, &past, &rounds, 0), 3);
 }
 
-/// Two tickets are taken in the rounds, so the bound is 4 rounds and 2 more. The other party's ticket costs this one an exchange.
-/// It gets its own in the same round.
+/// Two tickets are taken in the rounds, so the bound is 4 rounds and 2 more. The other party's ticket costs this one an
+/// exchange. It gets its own in the same round.
 #[test]
 fn a_lock_of_two_parties_is_granted_four_rounds_after_the_tickets(rt: HostRuntime) {
     let mut world = World::new(rt.alloc(), Ticket::new(5, 0), 2).expect(&rt, "memory");

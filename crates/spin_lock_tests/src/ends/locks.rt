@@ -9,8 +9,8 @@ use spin_ticket::ticket::{TicketMutex, TicketMutexGuard};
 use std::cell::Cell;
 use std::sync::Wait;
 
-/// How many values are dropped so far: after an unused lock was dropped; after one with a leaked guard; after one with a
-/// dropped hold; after a lock was opened; and after the opened value was dropped.
+/// How many values are dropped so far: after an unused lock was dropped; after one with a leaked guard; after one with
+/// a dropped hold; after a lock was opened; and after the opened value was dropped.
 type Ends = [u32; 5];
 
 const ONCE: Ends = [1, 2, 3, 3, 4];

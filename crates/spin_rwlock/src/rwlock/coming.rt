@@ -201,8 +201,8 @@ impl<'a, T, K: Kind, R: RelaxStrategy> Coming<'a, T, K, Waits, R> {
     ghost use Rattle.spin_rwlock.specs.Waits.{SeeksOn, IsLetIn};
 
     /// Waits until the lock admits it.
-    // It is not inlined, since that would lengthen the path of every caller that does not wait. Its pause depends on the
-    // word found, which `retry` does not offer.
+    // It is not inlined, since that would lengthen the path of every caller that does not wait. Its pause depends on
+    // the word found, which `retry` does not offer.
     #[cold]
     #[inline(never)]
     pub(super) fn wait<W: Wait>(self, rt: &W) -> Lent<'a, T, K, R>
