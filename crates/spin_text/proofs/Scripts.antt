@@ -194,7 +194,7 @@ stops_so B C U P Q before at_write (errors.BadLine n) stops = (before (errors.Ba
 stops_so B C U P Q before at_write errors.Write stops = at_write stops
 
 module _ {X : Type 0} (r : Result X RunError) (P Q : List ℕ → Type 0) (each : (text : List ℕ) → P text → Q text) (a b : Option (List ℕ)) where
-  -- if every text with one property has another, some text with the first is some text with the second
+  -- if every text of which P holds has the property Q, some text with P is some text with Q
   pub some_so : OnOk r (AppendsSome P a b) → OnOk r (AppendsSome Q a b)
   some_so = on_ok r _ _ (λ t. (t.0, each t.0 t.1, t.2))
 

@@ -18,5 +18,5 @@ pub record Lawful {W V C L A : Type 0} (m : Machine W V C L A) : Type 0 where
   pub counts : Always m (CountsAll m)
   -- two looks under one guard find the same value
   pub agree : Always m (ReadsAgree m)
-  -- a value that a closure makes is that of its call, and is the one that answers give
+  -- the value that a closure makes is the one that its call brings, and answers give this value
   pub values : Always m (ValuesAll m)

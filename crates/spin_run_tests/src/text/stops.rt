@@ -1,5 +1,5 @@
-//! Every stop of every call: each beginning of each worked schedule in a new world, and each schedule in two runs, cut
-//! at each place.
+//! Tests of every stop of every call. Each beginning of each worked schedule is played in a new world. Each schedule is
+//! played in two runs, cut at each place.
 ghost use Rattle.std.specs.Prelude.{◌≤◌, length};
 
 use super::objects::{OfHeader, Standing, are_words_of, parties_of};

@@ -21,8 +21,8 @@ use spin_step_more::rw;
 use std::marker::PhantomData;
 use std::sync::Wait;
 
-// How many hints a reader waits whose exchange has failed twice. Readers that try again at once keep each other from
-// succeeding.
+// A reader whose exchange has failed twice waits for this many hints. Readers that try again at once keep each other
+// from succeeding.
 const STAND_BACK: u32 = 512;
 
 /// Whether a call waits or tries.
