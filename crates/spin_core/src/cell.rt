@@ -30,8 +30,8 @@ pub trait Rule<T, V> {
     type Second;
     // What holds of the first word, of what is behind the value, and of the views of all parties.
     ghost holds: { Self.Key → ℕ → Self.Second → List V → Type 0 };
-    // Whether several parties may read the value at once, how a party with a given view may use it, and what is known
-    // of a value that nobody writes.
+    // Whether several parties may read the value at once; how a party with a given view may use it; what is known of a
+    // value that nobody writes.
     ghost ways: { Self.Key → Ways T V Self.Second };
     // The key once the owner has borrowed the value to write it. From then on less may be known of the value.
     ghost lent: { Self.Key → Self.Key };

@@ -49,8 +49,8 @@ pub fn a_look_at_a_spin_mutex_was_so_at_a_moment<T>()
     ensures { (opening : T) (held : Bool) → Found (spin_mutex.model opening) SpinMutexView flag.IsLocked (Is held) (Was is_held held) }
 {}
 
-/// If a pass tried once to acquire a `TicketMutex` and failed, then at a moment of the call a party held the lock or
-/// waited for it, or all tickets had been taken.
+/// If a pass tried once to acquire a `TicketMutex` and failed, the failure was right at a moment of the call. A party
+/// held the lock then or waited for it, or all tickets had been taken.
 ///
 /// # Contract
 /// `Found`, of the lock's holders, tickets and starvers.
@@ -68,8 +68,8 @@ pub fn a_look_at_a_ticket_mutex_was_so_at_a_moment<T>()
         Found (ticket_mutex.model key) TicketMutexView ticket.IsLocked (Is held) (Was is_held held) }
 {}
 
-/// If a pass tried once to acquire a `FairMutex` and failed, then at a moment of the call a party held the lock or was
-/// registered as a starver.
+/// If a pass tried once to acquire a `FairMutex` and failed, the failure was right at a moment of the call. A party
+/// held the lock then, or was registered as a starver.
 ///
 /// # Contract
 /// `Found`, of the lock's holders, tickets and starvers.
@@ -97,8 +97,8 @@ pub fn a_look_at_a_fair_mutex_was_so_at_a_moment()
     ensures { (held : Bool) → Found fair_mutex.model FairMutexView fair.IsLocked (Is held) (Was is_held held) }
 {}
 
-/// If a pass tried once to register as a starver of a `FairMutex` and failed, then at a moment of the call as many were
-/// registered as may be.
+/// If a pass tried once to register as a starver of a `FairMutex` and failed, the failure was right at a moment of the
+/// call. As many starvers were registered then as may be.
 ///
 /// # Contract
 /// `Found`, of the lock's holders, tickets and starvers.
@@ -117,8 +117,8 @@ pub fn a_refused_starver_was_kept_out_at_a_moment()
         (is_held s ≡ true) ⊎ (1 < length s.starvers)) }
 {}
 
-/// If a pass tried once to acquire shared access to an `RwLock` and failed, then at a moment of the call a writer held
-/// the lock, or a reader that had asked to upgrade did, or as many parties held it as may.
+/// If a pass tried once to acquire shared access to an `RwLock` and failed, the failure was right at a moment of the
+/// call. A writer held the lock then, or a reader that had asked to upgrade did, or as many parties held it as may.
 ///
 /// # Contract
 /// `Found`, of the lock's holders, tickets and starvers.
@@ -127,8 +127,8 @@ pub fn a_refused_try_read_was_kept_out_at_a_moment()
         (0 < writers s) ⊎ (0 < count_kind asking s.holders) ⊎ (length s.holders ≡ reader_limit)) }
 {}
 
-/// If a pass tried once to acquire upgradable access to an `RwLock` and failed, then at a moment of the call a writer
-/// held the lock, or an upgradable reader did, or as many parties held it as may.
+/// If a pass tried once to acquire upgradable access to an `RwLock` and failed, the failure was right at a moment of
+/// the call. A writer held the lock then, or an upgradable reader did, or as many parties held it as may.
 ///
 /// # Contract
 /// `Found`, of the lock's holders, tickets and starvers.

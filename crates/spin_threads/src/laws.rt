@@ -65,9 +65,9 @@ pub fn between_any_two_steps_of_a_rwlock()
     ensures { (name word : ℕ) (trace : Trace rwlock.Done (Unit {0})) (parties : List (Numbered RwLockView)) → rwlock.IsRw name word trace parties → Between rwlock.model rwlock.seat_of rwlock.words_of trace.entries (word, trace.word) parties }
 {}
 
-/// Between any two steps of the threads that use a `Once` or a `LazyLock`, its word is 0 without a value, 1 while a
-/// closure runs, and 2 with a value. At most one closure runs, and none once there is a value. Each call has in the
-/// plain lock what its type says.
+/// Between any two steps of the threads that use a `Once` or a `LazyLock`, its word tells its phase: 0 without a value,
+/// 1 while a closure runs, 2 with a value. At most one closure runs, and none once there is a value. Each call has in
+/// the plain lock what its type says.
 ///
 /// # Contract
 /// `Between`, for the object's schedule that corresponds to the moves kept by the cell (`foretold`), with the cell's

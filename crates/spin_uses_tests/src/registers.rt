@@ -14,8 +14,8 @@ use std::sync::ledger::{Ledger, Share};
 #[derive(Drop)]
 struct ReadBeside<'r, W>(&'r W);
 
-// What was found by `read_shared`, by a try of each kind while a reader holds, by a shared try while a writer holds,
-// and by the last read.
+// What was found: by `read_shared`; by a try of each kind while a reader holds; by a shared try while a writer holds;
+// by the last read.
 type Found = (u64, Option<u64>, Option<u64>, Option<u64>, u64);
 
 impl<W: Abort + Wait> Work for ReadBeside<'_, W> {

@@ -86,8 +86,8 @@ abbrev pub stretch : {X : Type 0} → (ℕ → X) → ℕ → ℕ → List X
 stretch schedule start zero = []
 stretch schedule start (suc n) = schedule start ∷ stretch schedule (suc start) n
 
--- Fair: from each place on, each party in a call takes a step of it at some time, each party that holds the lock begins
--- to release it, and none has leaked it
+-- Fair, from each place on: each party in a call takes a step of it at some time. Each party that holds the lock begins
+-- to release it, and none has leaked it.
 abbrev pub IsFair : {W V C L A : Type 0} → Machine W V C L A → State W V C L → (ℕ → ℕ × Move C V) → Type 0
 IsFair m s schedule =
     (place p : ℕ) → let there = after m s (stretch schedule 0 place) in (n : ℕ) × MovesOn m there (stretch schedule place n) p (slice_get there.seats p)

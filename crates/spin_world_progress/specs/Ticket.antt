@@ -22,16 +22,16 @@ use Rattle.spin_world.specs.Turns.{waits_with}
 abbrev pub TicketMachine : Type 0 → Type 0
 TicketMachine V = Machine TicketWords V TicketCall TicketPoint (Answer V)
 
--- If s is served, a party that waits with ticket t is granted the lock in three rounds for each of the t - s tickets
--- before its own, and one more
+-- While s is served, a party waits with ticket t. It is granted the lock in three rounds for each of the t - s tickets
+-- before its own, and one more.
 abbrev pub EntersInRounds : {V : Type 0} → TicketMachine V → ℕ → List (ℕ × Move TicketCall V) → List (List (ℕ × Move TicketCall V)) → Type 0
 EntersInRounds m n past rounds =
     let s = after m (at_first m n) past in
     (p t : ℕ) (c : TicketCall) (l : TicketPoint) (h : Option Hold) → slice_get s.seats p ≡ Some (Calling c l h) → entries p (seen_after m (opening m n) past).plain ≡ waits_with p t
     → AreRounds m s rounds → 3 * (t - s.words.serving) + 1 ≤ length rounds → occurs m (grants m p) s (joined rounds) ≡ true
 
--- In a `lock` a party, one of n, is granted the lock in 3 n - 2 rounds, or 2 if it is alone, and one more for each
--- ticket taken in them, including its own. Some number has to be left at the end.
+-- One of n parties is in a `lock`. It is granted the lock in 3 n - 2 rounds, or 2 if it is alone, and one more for each
+-- ticket taken in them. Its own ticket counts too. Some number has to be left at the end.
 abbrev pub LocksInRounds : {V : Type 0} → TicketMachine V → ℕ → List (ℕ × Move TicketCall V) → List (List (ℕ × Move TicketCall V)) → Type 0
 LocksInRounds m n past rounds =
     let s = after m (at_first m n) past in

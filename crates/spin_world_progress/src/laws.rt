@@ -36,22 +36,22 @@ use spin_world_core::Object;
 use spin_world_seats::Seats;
 
 /// States that a call of any object is obstruction-free while what it asks is open. In as many rounds as its kind of
-/// lock says, at most four, the call is answered, or another party changes a word, or its own exchange fails
-/// spuriously.
+/// lock says, at most four, one of three things happens: the call is answered, another party changes a word, or the
+/// call's own exchange fails spuriously.
 pub fn an_open_call_is_answered_or_disturbed<O: Object>()
     ensures { (object : O) (n : ℕ) (past : List (ℕ × Move O.Call O.Value)) (rounds : List (List (ℕ × Move O.Call O.Value))) → AnsweredOrDisturbed (O.machine object) n past rounds }
 {
     O::laws();
 }
 
-/// States that while a party waits in a `lock` of a flag, some party is granted the lock in every four rounds, unless
-/// the waiting party's own exchange fails spuriously. Each time it may be another party that is granted.
+/// States that while a party waits in a `lock` of a flag, some party is granted the lock in every four rounds. Each
+/// time it may be another party. Instead of a grant, the waiting party's own exchange may fail spuriously.
 pub fn somebody_is_granted_in_four_rounds<V: Copy>()
     ensures { (object : Flag V) (n : ℕ) (past : List (ℕ × Move FlagCall V)) (rounds : List (List (ℕ × Move FlagCall V))) → LocksInFour (⟦<Flag<V> as Object>⟧.machine object) n past rounds }
 {}
 
 /// States that a flag is free of deadlock. In each endless fair schedule, while a party waits in a `lock`, some party
-/// is granted the lock some time later, unless the waiting party's own exchange fails spuriously.
+/// is granted the lock some time later. Instead of a grant, the waiting party's own exchange may fail spuriously.
 pub fn a_flag_is_free_of_deadlock<V: Copy>()
     ensures { (object : Flag V) (n : ℕ) (past : List (ℕ × Move FlagCall V)) (schedule : ℕ → ℕ × Move FlagCall V) → IsDeadlockFree (⟦<Flag<V> as Object>⟧.machine object) n past schedule }
 {}
@@ -73,8 +73,8 @@ pub fn a_ticket_is_never_starved<V: Copy>()
     ensures { (object : Ticket V) (n : ℕ) (past : List (ℕ × Move TicketCall V)) (schedule : ℕ → ℕ × Move TicketCall V) → IsNeverStarved (⟦<Ticket<V> as Object>⟧.machine object) n past schedule }
 {}
 
-/// States that a `lock` of one of `n` parties is granted in 3 n - 2 rounds, or 2 if it is alone, and one more for each
-/// ticket taken meanwhile, including its own. Some number has to be left at the end.
+/// States how soon a `lock` of one of `n` parties is granted: in 3 n - 2 rounds, or 2 if it is alone, and one more for
+/// each ticket taken meanwhile, its own included. Some number has to be left at the end.
 ///
 /// As long as the party has no ticket, each ticket that another party takes may cost it an exchange.
 pub fn a_lock_is_granted_in_rounds<V: Copy>()

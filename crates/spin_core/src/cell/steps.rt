@@ -13,8 +13,8 @@ use std::sync::atomic::raw;
 
 /// A kind of step: what it appends to the trace, and what it tells its caller.
 pub trait Play<K, V, E> {
-    // By the rule's key, the operands (0 if there is none), the view before, the trace before, what the step appended,
-    // the number found, and the view after.
+    // The arguments: the rule's key, the operands (0 if there is none), the view and the trace before, what the step
+    // appended, the number found, and the view after.
     ghost told: { K → ℕ → ℕ → Option V → List E → List E → ℕ → V → Type 0 };
 }
 

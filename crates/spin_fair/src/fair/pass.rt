@@ -29,7 +29,7 @@ use std::sync::Wait;
 /// # Contract
 /// Each call takes the pass and returns it. It ensures `Called`: among the new moves of the history, those of this pass
 /// are exactly one call with the returned answer. In the lock's model that call gets this answer, at its place among
-/// the moves of all threads, and no move of the history is skipped.
+/// the moves of all threads. No move of the history is skipped.
 #[must_use = "a pass that is dropped ends: bind it, or write `drop(..)`"]
 pub struct Pass<'a, T, R> {
     pub(super) account: Account<'a, T>,
