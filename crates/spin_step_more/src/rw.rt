@@ -1,5 +1,5 @@
-//! Readers, one of which may upgrade, or one writer in one word: the sum of what each holder weighs. Begin with
-//! [`read`] and [`write`].
+//! A read-write lock in one word, which is the sum of the weights of its holders. They are readers, one of which may
+//! upgrade, or one writer. Begin with [`read`] and [`write`].
 //!
 //! The upgradable reader admits other readers until it asks to upgrade. From then on readers only leave.
 //!

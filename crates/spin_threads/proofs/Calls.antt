@@ -46,12 +46,12 @@ module _ {W V C L A : Type 0} (m : Machine W V C L A) (k : LocalInvariant V C L)
   longer old xs x (rest, is) = (rest ++ x ∷ [], sym (append_assoc old rest (x ∷ [])) ∙ ap (λ z. z ++ x ∷ []) is)
 
   module _ (p : ℕ) (start : Seen W V C L) (old new : Schedule) where
-    -- the step was made after a beginning of `new` that contains `old`, and the party was then in this call
+    -- the step was made after a prefix of `new` that has `old` as a prefix, and the party was then in this call
     abbrev pub IsBetween : C → Option Hold → Mark → Type 0
     IsBetween c h mark =
         (past : Schedule) × IsPrefix old past × IsPrefix past new × (mark.before ≡ (seen_after m start past).plain) × ((l : L) × (slice_get (seen_after m start past).state.seats p ≡ Some (Calling c l h)))
 
-    -- The call gets this answer by a step of the party after a beginning of `new`. Its span has n steps of its own.
+    -- The call gets this answer by a step of the party after a prefix of `new`. Its span has n steps of its own.
     pub record IsAnswered (c : C) (h : Option Hold) (a : A) (n : ℕ) : Type 0 where
       pub past : Schedule
       pub seen : Seen W V C L
