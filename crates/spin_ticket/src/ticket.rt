@@ -15,6 +15,7 @@ use spin_core::trace::Trace;
 use std::fmt::{self, Debug, Formatter};
 use std::sync::Wait;
 
+mod account;
 mod pass;
 mod rule;
 mod waiting;

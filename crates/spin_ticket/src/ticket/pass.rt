@@ -3,20 +3,18 @@ ghost use Rattle.std.specs.Prelude.{◌≡◌, ◌⊎◌, ◌≤◌, not, true, 
 ghost use mathlib.Core.List.{IsPrefix};
 ghost use Rattle.spin_core.specs.Guard.{IsHolder, guard_view, guard_key, guard_value};
 ghost use Rattle.spin_core.specs.Own.{what};
-ghost use Rattle.spin_core.specs.Passes.{mark_of, Begins, Waits};
+ghost use Rattle.spin_core.specs.Passes.{mark_of};
 ghost use Rattle.spin_core.specs.Values.{IsLast};
-ghost use Rattle.spin_ticket.specs.Queue.{use_of_party, stands, IsOut, Moves, Called, Left};
+ghost use Rattle.spin_ticket.specs.Queue.{use_of_party, stands, IsOut, Called, Left};
 ghost use Rattle.spin_ticket.specs.Guards.{Holds};
-ghost use Rattle.spin_ticket.specs.Waits.{GoesFor, Enters};
+ghost use Rattle.spin_ticket.specs.Accounts.{Spot, here, IsIn, HasCalled, GoesFor, Enters, Tries, Gets};
 ghost use Rattle.spin_ticket.specs.declared.ticket.rule.View.TheVariants.{Idle};
 ghost use Rattle.spin_model.specs.declared.answer.Answer.TheVariants.{Granted, Refused, Is};
+ghost use Rattle.spin_model.specs.declared.ticket.TicketCall.{TicketCall};
 ghost use Rattle.spin_model.specs.declared.ticket.TicketCall.TheVariants.{Lock, TryLock, IsLocked};
 
-use super::rule::{
-    Await, Entry, FindOwn, LoadNext, LookNext, LookServing, Party, Serve, Take, TicketRule,
-    TryLoadNext, TryLoadServing, TryTake,
-};
-use super::waiting::{Going, Grant, Place};
+use super::rule::{Await, Entry, LoadNext, Party, Take, TicketRule};
+use super::waiting::{Account, Going, Grant, Place};
 use super::{HINTS_EACH, TicketMutex, TicketMutexGuard};
 use spin_core::cell::Permit;
 use spin_core::guard::Guard;
@@ -89,8 +87,8 @@ impl<T, R> TicketMutex<T, R> {
         ensures same { (result.seen.name ≡ seen.name) × (result.permit.key ≡ guard_key guard.entry) }
     {
         let permit = Guard::into_writer(guard).into_permit();
-        let (number, permit, seen) = permit.load_second::<FindOwn>(seen);
-        let (permit, seen) = permit.store_second::<Serve>(ticket::serve(number), seen);
+        let (number, account) = Account { permit, seen }.find_own();
+        let Account { permit, seen } = account.serve(number);
         Pass {
             permit,
             seen,
@@ -118,15 +116,15 @@ impl<'a, T, R: RelaxStrategy> Pass<'a, T, R> {
             seen,
             strategy: _,
         } = self;
-        let place = match go(permit, seen).take() {
+        let place = match go(Account { permit, seen }).take() {
             Ok(place) => place,
             Err(going) => Loop::retry(rt, going, Going::take),
         };
-        let Grant { writer, seen } = match place.enter() {
+        let grant = match place.enter() {
             Ok(grant) => grant,
             Err(place) => R::retry_after(rt, place, Place::pause, Place::enter),
         };
-        (Guard::new(writer), seen)
+        grant.into_guard()
     }
 }
 
@@ -148,31 +146,16 @@ impl<'a, T, R> Pass<'a, T, R> {
             seen,
             strategy,
         } = self;
-        let (next, permit, seen) = permit.load::<TryLoadNext>(seen);
-        let (serving, permit, seen) = permit.load_second::<TryLoadServing>(seen);
-        if !ticket::is_turn(serving, next) {
-            return Err(Pass {
-                permit,
-                seen,
-                strategy,
-            });
-        }
-        let Some(after) = ticket::take(next) else {
-            return Err(Pass {
-                permit,
-                seen,
-                strategy,
-            });
-        };
-        let (found, permit, seen) = permit.exchange::<TryTake>(next, after, seen);
-        if found == next {
-            Ok((Guard::new(permit.into_writer()), seen))
-        } else {
-            Err(Pass {
-                permit,
-                seen,
-                strategy,
-            })
+        match try_once(Account { permit, seen }) {
+            Ok(grant) => Ok(grant.into_guard()),
+            Err(account) => {
+                let Account { permit, seen } = account;
+                Err(Pass {
+                    permit,
+                    seen,
+                    strategy,
+                })
+            }
         }
     }
 
@@ -200,8 +183,9 @@ impl<'a, T, R> Pass<'a, T, R> {
             strategy,
         } = self;
         // In this order: the tickets between the two numbers exist at the second load.
-        let (serving, permit, seen) = permit.load_second::<LookServing>(seen);
-        let (next, permit, seen) = permit.load::<LookNext>(seen);
+        let (serving, account) = Account { permit, seen }.look_served();
+        let (next, account) = account.look_next(serving);
+        let Account { permit, seen } = account;
         (
             serving,
             next,
@@ -227,19 +211,41 @@ impl<'a, T, R> Pass<'a, T, R> {
 }
 
 // Begins a call of `lock`.
-pub(super) fn go<'a, T>(
-    permit: Permit<'a, T, Party, TicketRule>,
-    seen: Watch<Entry<T>>,
-) -> Going<'a, T>
-    requires { IsOut (what permit.view) × (permit.key.0.name ≡ seen.name) × (mark_of permit.view ≡ length seen.entries) }
-    ensures same { (result.seen.name ≡ seen.name) × (result.permit.key ≡ permit.entry.key) }
-    ensures made { Moves permit.entry.key (Begins Lock Waits) permit.entry.view seen.entries result.permit.view result.seen.entries }
+pub(super) fn go<'a, T>(account: Account<'a, T>) -> Going<'a, T>
+    requires { IsOut (what account.permit.view) }
+    ensures { IsIn Lock (here account.entry) (here result.account) }
 {
+    let Account { permit, seen } = account;
     let (number, permit, seen) = permit.load::<LoadNext>(seen);
     Going {
         number,
-        permit,
-        seen,
+        account: Account { permit, seen },
+    }
+}
+
+// Makes a call of `try_lock`.
+fn try_once<'a, T>(account: Account<'a, T>) -> Result<Grant<'a, T>, Account<'a, T>>
+    requires { IsOut (what account.permit.view) }
+    ensures { Tries (here account.entry) result }
+{
+    let (next, account) = account.find_next();
+    let (serving, account) = account.find_served(next);
+    if !ticket::is_turn(serving, next) {
+        return Err(account);
+    }
+    let Some(after) = ticket::take(next) else {
+        return Err(account);
+    };
+    account.take_and_enter(next, after)
+}
+
+impl<'a, T> Grant<'a, T> {
+    fn into_guard<R>(self) -> (TicketMutexGuard<'a, T, R>, Watch<Entry<T>>)
+        ensures { (call : TicketCall) (p : Spot T) → HasCalled call Granted p (here self.entry.account) → Gets call p result }
+    {
+        let Self { account } = self;
+        let Account { permit, seen } = account;
+        (Guard::new(permit.into_writer()), seen)
     }
 }
 
@@ -249,31 +255,23 @@ impl<'a, T> Going<'a, T> {
     pub(super) fn take(self) -> Result<Place<'a, T>, Going<'a, T>>
         ensures { GoesFor self.entry result }
     {
-        let Self {
-            number,
-            permit,
-            seen,
-        } = self;
+        let Self { number, account } = self;
         let Some(after) = ticket::take(number) else {
-            return Err(Going {
-                number,
-                permit,
-                seen,
-            });
+            return Err(Going { number, account });
         };
+        let Account { permit, seen } = account;
         let (found, permit, seen) = permit.exchange::<Take>(number, after, seen);
+        let account = Account { permit, seen };
         if found == number {
             Ok(Place {
                 number,
                 ahead: 0,
-                permit,
-                seen,
+                account,
             })
         } else {
             Err(Going {
                 number: found,
-                permit,
-                seen,
+                account,
             })
         }
     }
@@ -296,21 +294,18 @@ impl<'a, T> Place<'a, T> {
         let Self {
             number,
             ahead: _,
-            permit,
-            seen,
+            account,
         } = self;
+        let Account { permit, seen } = account;
         let (serving, permit, seen) = permit.load_second::<Await>(seen);
+        let account = Account { permit, seen };
         if ticket::is_turn(serving, number) {
-            Ok(Grant {
-                writer: permit.into_writer(),
-                seen,
-            })
+            Ok(Grant { account })
         } else {
             Err(Place {
                 number,
                 ahead: number.saturating_sub(serving),
-                permit,
-                seen,
+                account,
             })
         }
     }
