@@ -13,8 +13,7 @@ use Rattle.spin_model.specs.declared.schedule.Outcome.{Outcome}
 use Rattle.spin_model.specs.declared.schedule.Outcome.TheVariants as outcome
 use Rattle.spin_model.specs.StepKinds.{StepKind, is_again, is_look, by_step}
 use Rattle.spin_model.specs.StepKinds as step_kind
-use Rattle.spin_model.specs.Calls.{LockKind, encoded, BelongsTo, Asked, Said, own_steps, Mark, AnyOf, HasMoment, HasWeakMoment, Limit, unlimited, within, within_changes, gets_within, changes_within, registers_after, FindsClosed, Registers, TriesToStarve, limit, may_be_weak, before_weakly}
-use Rattle.spin_model.specs.Begins.{fits}
+use Rattle.spin_model.specs.Calls.{AnyOf, Asked, BelongsTo, FindsClosed, Limit, LockKind, Mark, Registers, Said, TriesToStarve, changes_within, encoded, gets_within, HasMoment, HasWeakMoment, limit, own_steps, registers_after, unlimited, within, within_changes}
 pub use Rattle.spin_world_core.specs.Spans.{own, own_count, failures, changes, held_looks, keeps_looking, IsBeginning}
 use Rattle.spin_world_core.specs.Undisturbed.{AnsweredSoon}
 use Rattle.spin_world_core.specs.Order.{GetsWhenDue, TriesOn}
@@ -185,8 +184,8 @@ MayTouch seen p _ _ = Unit {0}
 -- Which moves are skipped, by the plain lock and by how far the party has come: only a move that nobody could make of a party that has this in the lock
 
 abbrev pub MaySkip : {W V C L A : Type 0} → Machine W V C L A → Seen W V C L → ℕ → Move C V → Option (Seat C L) → Type 0
-MaySkip m seen p (Begin c) (Some Idle) = fits m.lock_kind (m.asks c None) None ≡ false
-MaySkip m seen p (Begin c) (Some (Holding h)) = fits m.lock_kind (m.asks c (Some h)) (Some h) ≡ false
+MaySkip m seen p (Begin c) (Some Idle) = (m.asks c None).begins None ≡ false
+MaySkip m seen p (Begin c) (Some (Holding h)) = (m.asks c (Some h)).begins (Some h) ≡ false
 MaySkip m seen p Step (Some (Calling c l h)) = ⊥
 MaySkip m seen p Read (Some (Holding h)) = is_reader (entries p seen.plain) ≡ false
 MaySkip m seen p Read (Some (Leaked h)) = is_reader (entries p seen.plain) ≡ false
@@ -237,7 +236,7 @@ ComesTo (OwnerSet v) step (Some u) new o = (o ≡ outcome.Written) × (new ≡ S
 
 -- only a call that may be refused without cause is so, where it has made no plain step but those that go before its weak exchange
 abbrev pub IsWeakCall : {V C : Type 0} → Move C V → ℕ → List Mark → Option Asked → Type 0
-IsWeakCall Weak p span (Some what) = (may_be_weak what ≡ true) × (own p span ≡ before_weakly what p)
+IsWeakCall Weak p span (Some what) = (what.is_weak ≡ true) × (own p span ≡ what.before_weakly p)
 IsWeakCall Weak p span None = ⊥
 IsWeakCall _ p span what = Unit {0}
 
@@ -250,9 +249,9 @@ asked m _ = None
 
 -- a call that is answered has made the steps that its answer says, and one that goes on a beginning of them
 abbrev pub OwnSteps : {W V C L A : Type 0} → Machine W V C L A → ℕ → List Mark → Outcome A V → Option Asked → Type 0
-OwnSteps m p span (outcome.Answered a b) (Some what) = AnyOf (λ steps. own p span ≡ steps) (own_steps what (m.says a) p)
+OwnSteps m p span (outcome.Answered a b) (Some what) = AnyOf (λ steps. own p span ≡ steps) (own_steps (what.answers (m.says a)) p)
 OwnSteps m p span (outcome.Answered a b) None = ⊥
-OwnSteps m p span outcome.GoingOn (Some what) = (said : Said) × AnyOf (λ steps. IsBeginning (own p span) steps) (own_steps what said p)
+OwnSteps m p span outcome.GoingOn (Some what) = (said : Said) × AnyOf (λ steps. IsBeginning (own p span) steps) (own_steps (what.answers said) p)
 OwnSteps m p span outcome.GoingOn None = ⊥
 OwnSteps m p span _ _ = Unit {0}
 
@@ -367,7 +366,7 @@ pub record IsInTime {W V C L A : Type 0} (m : Machine W V C L A) (s : Scene W V 
   pub counted : IsCounted m s.party s.outcome s.move s.seat s.change s.step_kind s.before.plain
   -- an exchange that is made again fails only where another party has changed its word since the call looked, and once for each change
   pub retries : (q : ℕ) → failures q (s.after.span q) ≤ changes m.lock_kind q (s.after.span q)
-  -- a call that may wait is answered by so many own steps as its kind of lock says, from the moment on at which it is open and nobody disturbs it
+  -- a call that may wait is answered by so many own steps as it promises, from the moment on at which it is open and nobody disturbs it
   pub undisturbed : AnsweredSoon m.lock_kind s.party (s.after.span s.party) s.outcome (asked m s.seat)
   -- a call that waits for its turn without a look goes for it by its first step, and after a look that found the lock free, and looks else
   pub due : GetsWhenDue m.lock_kind s.party s.outcome s.move (asked m s.seat) (s.before.span s.party) s.before.plain s.change s.step_kind
