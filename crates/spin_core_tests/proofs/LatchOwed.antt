@@ -68,6 +68,8 @@ latch_pays =
       shape_first = record { no_queue = refl; room = refl };
       numbers_tell = λ v w e. cc (e);
       one_list = λ s shape. no_queue s shape.no_queue;
+      calls = λ c h. (0, grind arith);
+      own = λ c h said p. grind arith;
       sound = λ p c l h. grind arith;
       aims = λ p c l h. grind arith;
       begins = λ p c h s. grind arith;

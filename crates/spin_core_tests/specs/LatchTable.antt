@@ -1,5 +1,5 @@
 -- The calls of a latch, step by step, what each step is in the plain lock, and what kind of lock a latch is.
-use Rattle.std.specs.Prelude.{ℕ, Bool, true, false, ◌==◌, Option, Some, None, [], is_some, nat_lt}
+use Rattle.std.specs.Prelude.{ℕ, Bool, true, false, ◌==◌, Option, Some, None, List, [], ◌∷◌, is_some, nat_lt}
 use Rattle.spin_step.specs.Plain.{reading, writing, Change, gets, releases, to_read, to_write}
 use Rattle.spin_model.specs.declared.place.Hold.{Hold}
 use Rattle.spin_model.specs.declared.place.Hold.TheVariants.{Read, Write}
@@ -8,7 +8,8 @@ use Rattle.spin_model.specs.declared.step.Next.TheVariants.{Continue, Answers}
 use Rattle.spin_model.specs.declared.step.Stepped.{Stepped}
 use Rattle.spin_model.specs.declared.answer.Answer.{Answer}
 use Rattle.spin_model.specs.declared.answer.Answer.TheVariants.{Granted, Refused, Done}
-use Rattle.spin_model.specs.Calls.{Asked, LockKind, steps_past_a_look, usual, waits, tries, gives_back}
+use Rattle.spin_model.specs.Calls.{Asked, LockKind, usual}
+use Rattle.spin_model.specs.Asks.{gives_back, is_read, is_write, looks_and_tries, spins_to_write, tries, waits}
 use Rattle.spin_model.specs.Machines.{Machine}
 use Rattle.spin_model.specs.Acts.{one_number, Act, load_for, exchange, weak_exchange, retry, store, swap, either, stays, retried, Table, machine_of}
 use Rattle.spin_model.specs.Tables.{usual_table}
@@ -28,22 +29,13 @@ latch_plain_steps (releases p reading) = true
 latch_plain_steps (releases p writing) = true
 latch_plain_steps _ = false
 
-abbrev pub latch_calls : Asked → Bool
-latch_calls (tries to_read) = true
-latch_calls (waits to_read) = true
-latch_calls (tries to_write) = true
-latch_calls (waits to_write) = true
-latch_calls (gives_back (Some Read)) = true
-latch_calls (gives_back (Some Write)) = true
-latch_calls _ = false
-
--- one that wants to read looks first, and one that wants to write does not
-abbrev pub latch_undisturbed_steps : Asked → ℕ
-latch_undisturbed_steps (waits to_write) = 1
-latch_undisturbed_steps what = steps_past_a_look what
+abbrev pub latch_calls : ℕ → Option Hold → List Asked
+latch_calls n h =
+    looks_and_tries to_read ∷ waits to_read ∷ tries to_write ∷ spins_to_write
+    ∷ gives_back is_read (Some Read) ∷ gives_back is_write (Some Write) ∷ []
 
 abbrev pub latch : LockKind
-latch = record (usual latch_word [] latch_plain_steps latch_calls) { undisturbed_steps = latch_undisturbed_steps; spins_on_exchange = true }
+latch = record (usual latch_word [] latch_plain_steps latch_calls) { spins_on_exchange = true }
 
 -- The table
 
@@ -72,13 +64,14 @@ act_of call.Write l h = weak_exchange 0 taken (λ p. gets p to_write) (granted W
 act_of call.ReleaseRead l h = store (λ w. nat_lt 1 w) (subtracts 2) (λ p. releases p reading) (Answers Done None)
 act_of call.ReleaseWrite l h = store (λ w. nat_lt 0 w) (subtracts 1) (λ p. releases p writing) (Answers Done None)
 
+-- a call that wants to read looks first, and one that wants to write does not
 abbrev pub asks_of : LatchCall → Option Hold → Asked
-asks_of call.TryRead h = tries to_read
+asks_of call.TryRead h = looks_and_tries to_read
 asks_of call.Read h = waits to_read
 asks_of call.TryWrite h = tries to_write
-asks_of call.Write h = waits to_write
-asks_of call.ReleaseRead h = gives_back (Some Read)
-asks_of call.ReleaseWrite h = gives_back (Some Write)
+asks_of call.Write h = spins_to_write
+asks_of call.ReleaseRead h = gives_back is_read (Some Read)
+asks_of call.ReleaseWrite h = gives_back is_write (Some Write)
 
 abbrev pub LatchTable : Type 0
 LatchTable = Table ℕ (Unit {0}) LatchCall LatchPoint (Answer (Unit {0}))

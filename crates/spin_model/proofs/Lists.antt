@@ -1,5 +1,5 @@
 -- Lists that are read and written by place.
-use Rattle.std.proofs.Common.{◌≡◌, ℕ, suc, pred, ◌<◌, Option, Some, List, [], ◌∷◌, length, slice_get, slice_set, arith}
+use Rattle.std.proofs.Common.{◌≡◌, ℕ, pred, ◌<◌, Some, List, [], ◌∷◌, length, slice_get, slice_set, arith}
 use Rattle.std.proofs.lemmas.Option.{slice_get_within}
 
 pub get-set_within : {X : Type 0} (xs : List X) (p : ℕ) (x : X) → p < length xs → slice_get (slice_set xs p x) p ≡ Some x

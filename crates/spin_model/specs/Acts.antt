@@ -1,7 +1,7 @@
 -- An object as a table: the shape of the next step for each point of a call. The shapes determine the machine, and what
 -- has to be shown of each step.
 use Rattle.std.specs.Prelude.{ℕ, zero, suc, ◌+◌, ◌%◌, Bool, true, false, Option, Some, None, List, [], ◌∷◌, is_some, ◌==◌, if◌then◌else◌, get_or, unwrap_or}
-use Rattle.spin_step.specs.Plain.{Change, completes}
+use Rattle.spin_step.specs.Plain.{Change}
 use Rattle.spin_model.specs.declared.place.Hold.{Hold}
 use Rattle.spin_model.specs.declared.answer.Answer.{Answer}
 use Rattle.spin_model.specs.declared.answer.Answer.TheVariants.{Granted, Refused, Locked, Starved, Done, Is, Count, Value, NoValue, Failed, Leader, Follower}
@@ -9,8 +9,8 @@ use Rattle.spin_model.specs.declared.step.Next.{Next}
 use Rattle.spin_model.specs.declared.step.Next.TheVariants.{Continue, Answers}
 use Rattle.spin_model.specs.declared.step.Stepped.{Stepped}
 use Rattle.spin_model.specs.StepKinds.{StepKind, plain, again, look}
-use Rattle.spin_model.specs.Calls.{LockKind, Asked, waits, waits_or_starves, initializes, fails_to_initialize, waits_for_value, polls, meets, Said, says_of}
-use Rattle.spin_model.specs.Begins.{fits}
+use Rattle.spin_model.specs.Calls.{Asked, LockKind, Said, says_of}
+use Rattle.spin_model.specs.Asks.{is_completion}
 use Rattle.spin_model.specs.Machines.{Machine}
 use Rattle.spin_model.specs.Operations.{Operation, loads, exchanges, sets_lowest_bit, performed}
 use Rattle.spin_model.specs.Schedules.{placed}
@@ -170,23 +170,9 @@ abbrev pub is_section : {W L A : Type 0} → Act W L A → Bool
 is_section (section can f step won lost) = true
 is_section _ = false
 
-abbrev pub is_completion : Change → Bool
-is_completion (completes p) = true
-is_completion _ = false
-
--- which calls wait for another party
-abbrev pub is_waiting : Asked → Bool
-is_waiting (waits ask) = true
-is_waiting (waits_or_starves n) = true
-is_waiting initializes = true
-is_waiting fails_to_initialize = true
-is_waiting waits_for_value = true
-is_waiting polls = true
-is_waiting meets = true
-is_waiting _ = false
-
+-- a call that waits for another party looks
 abbrev pub look_kind : Asked → StepKind
-look_kind what = either (is_waiting what) look plain
+look_kind what = either what.waits look plain
 
 abbrev pub step_kind_by : {W L A : Type 0} → Asked → Act W L A → StepKind
 step_kind_by what (load_if test a b) = look_kind what
@@ -212,7 +198,7 @@ pub record Table (W V C L A : Type 0) : Type 0 where
   pub says : A → Said
 
 abbrev pub begin_of : {W V C L A : Type 0} → Table W V C L A → C → Option Hold → Option L
-begin_of t c h = passing (fits t.lock_kind (t.asks c h) h) (t.start c h)
+begin_of t c h = passing ((t.asks c h).begins h) (t.start c h)
 
 -- The machine of a table, with its own results of a weak refusal and of a step, and with what its answers say and give.
 -- The answers may be others than the table's.

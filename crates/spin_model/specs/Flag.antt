@@ -14,7 +14,8 @@ use Rattle.spin_model.specs.declared.flag.FlagPoint.{FlagPoint}
 use Rattle.spin_model.specs.declared.flag.FlagPoint.TheVariants.{First, Second}
 use Rattle.spin_model.specs.declared.answer.Answer.{Answer}
 use Rattle.spin_model.specs.declared.answer.Answer.TheVariants.{Granted, Refused, Done, Is}
-use Rattle.spin_model.specs.Calls.{Asked, waits, tries, tries_weakly, looks, gives_back}
+use Rattle.spin_model.specs.Calls.{Asked}
+use Rattle.spin_model.specs.Asks.{is_write, waits_to_write, tries, tries_weakly, looks, gives_back}
 use Rattle.spin_model.specs.FlagKind.{flag}
 use Rattle.spin_model.specs.Machines.{Machine}
 use Rattle.spin_model.specs.Acts.{Memory, Act, load, load_if, exchange, weak_exchange, store, swap, Table, machine_of}
@@ -45,11 +46,11 @@ act_of IsLocked l h = load (λ n. Answers (Is (is_set n)) h)
 act_of Release l h = store is_set (stores 0) (λ p. releases p writing) (Answers Done None)
 
 abbrev pub asks_of : FlagCall → Option Hold → Asked
-asks_of Lock h = waits to_write
+asks_of Lock h = waits_to_write
 asks_of TryLock h = tries to_write
 asks_of TryLockWeak h = tries_weakly to_write
 asks_of IsLocked h = looks
-asks_of Release h = gives_back h
+asks_of Release h = gives_back is_write h
 
 abbrev pub flag_table : {V : Type 0} → V → Table Bool V FlagCall FlagPoint (Answer V)
 flag_table v = usual_table (Some v) flag false flag_memory (λ c h. First) act_of asks_of

@@ -1,6 +1,6 @@
 pub mod StepKinds
 pub mod Calls
-pub mod Begins
+pub mod Asks
 pub mod Machines
 pub mod Operations
 pub mod Schedules

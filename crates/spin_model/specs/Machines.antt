@@ -5,7 +5,7 @@ use Rattle.spin_model.specs.declared.place.Hold.{Hold}
 use Rattle.spin_model.specs.declared.step.Next.{Next}
 use Rattle.spin_model.specs.declared.step.Stepped.{Stepped}
 use Rattle.spin_model.specs.StepKinds.{StepKind}
-use Rattle.spin_model.specs.Calls.{LockKind, Asked, Said}
+use Rattle.spin_model.specs.Calls.{Asked, LockKind, Said}
 
 -- over the types of its words, its value, its calls, the points of its calls, and its answers
 pub record Machine (W V C L A : Type 0) : Type 0 where

@@ -11,12 +11,13 @@ use Rattle.spin_model.specs.declared.once.OnceCall.{OnceCall}
 use Rattle.spin_model.specs.declared.once.OnceCall.TheVariants.{CallOnce, TryCallOnceOk, TryCallOnceErr, InitFromRef, Wait, Poll, Get, IsCompleted}
 use Rattle.spin_model.specs.declared.once.OncePoint.{OncePoint}
 use Rattle.spin_model.specs.declared.once.OncePoint.TheVariants.{Look, TryBegin, Await, Run}
-use Rattle.spin_model.specs.Calls.{Asked, initializes, fails_to_initialize, waits_for_value, polls, looks_for_value, looks_complete}
+use Rattle.spin_model.specs.Calls.{Asked}
 use Rattle.spin_model.specs.OnceKind.{once}
 use Rattle.spin_model.specs.Machines.{Machine}
 use Rattle.spin_model.specs.Acts.{one_number, Act, load, load_if, exchange, store, swap, either, Table, machine_with}
 use Rattle.spin_model.specs.Tables.{usual_table}
 use Rattle.spin_model.specs.Operations.{stores}
+use Rattle.spin_model.specs.Asks.{initializes, fails_to_initialize, waits_for_value, polls, looks_for_value, looks_complete}
 
 -- there is a value
 abbrev pub is_there : ℕ → Bool

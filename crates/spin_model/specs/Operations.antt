@@ -1,11 +1,11 @@
 -- What a step of a call is: one operation on one word, such as a processor makes.
 use Rattle.std.specs.Prelude.{◌≡◌, ℕ, ◌+◌, ◌-◌, ◌%◌, ◌==◌, Bool, true, false, Option, Some, is_some, if◌then◌else◌, get_or, slice_set}
+use Rattle.std.specs.List.{list_all}
 use Rattle.spin_model.specs.declared.place.Hold.{Hold}
 use Rattle.spin_model.specs.declared.step.Next.{Next}
 use Rattle.spin_model.specs.StepKinds.{is_look}
 use Rattle.spin_step.specs.Plain.{Change}
-use Rattle.spin_model.specs.Calls.{is_got_weakly}
-use Rattle.spin_model.specs.Begins.{fits}
+use Rattle.spin_model.specs.Calls.{AnyOf, Said, is_step_of, own_steps}
 use Rattle.spin_model.specs.Machines.{Machine}
 
 pub data Operation : Type 0 where
@@ -46,9 +46,13 @@ RefusesAsLost {W} {V} m c l h next =
 -- what holds of the calls and steps of an object, whatever the schedule
 pub record Stepwise {W V C L A : Type 0} (m : Machine W V C L A) : Type 0 where
   -- its calls are those of its kind of lock, and each begins just where its party holds what it is for
-  pub begins : (c : C) (h : Option Hold) → is_some (m.begin c h) ≡ fits m.lock_kind (m.asks c h) h
+  pub calls : (c : C) (h : Option Hold) → (n : ℕ) × AnyOf (λ what. m.asks c h ≡ what) (m.lock_kind.calls n h)
+  pub begins : (c : C) (h : Option Hold) → is_some (m.begin c h) ≡ (m.asks c h).begins h
+  -- a call that begins makes the plain steps of its kind of lock
+  pub fits : (c : C) (h : Option Hold) (said : Said) (p : ℕ) → (m.asks c h).begins h ≡ true
+      → list_all (list_all (is_step_of m.lock_kind)) (own_steps ((m.asks c h).answers said) p) ≡ true
   -- what a call gets by a weak exchange it gets by no other step
-  pub weak : (p : ℕ) (c : C) (l : L) (h : Option Hold) (w : W) (d : Change) → m.change p w c l h ≡ Some d → is_got_weakly (m.asks c h) d ≡ true → is_some (m.refuse c l h) ≡ true
+  pub weak : (p : ℕ) (c : C) (l : L) (h : Option Hold) (w : W) (d : Change) → m.change p w c l h ≡ Some d → (m.asks c h).gets_weakly d ≡ true → is_some (m.refuse c l h) ≡ true
   pub operates : (c : C) (l : L) (h : Option Hold) → IsOneOperation m.lock_kind.steps_in_sections m c l h
   pub refuses : (c : C) (l : L) (h : Option Hold) (next : Next L A) → m.refuse c l h ≡ Some next → RefusesAsLost m c l h next
   -- a look changes no word

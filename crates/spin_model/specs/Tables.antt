@@ -2,7 +2,7 @@
 use Rattle.std.specs.Prelude.{true, Option}
 use Rattle.spin_model.specs.declared.place.Hold.{Hold}
 use Rattle.spin_model.specs.declared.answer.Answer.{Answer}
-use Rattle.spin_model.specs.Calls.{LockKind, Asked, says_of}
+use Rattle.spin_model.specs.Calls.{Asked, LockKind, says_of}
 use Rattle.spin_model.specs.Acts.{Memory, Act, Table}
 
 -- With this value, kind of lock and words. It has an owner, no cap and no groups. Its first ticket is 0, and each step

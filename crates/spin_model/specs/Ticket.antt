@@ -13,7 +13,8 @@ use Rattle.spin_model.specs.declared.ticket.TicketCall.{TicketCall}
 use Rattle.spin_model.specs.declared.ticket.TicketCall.TheVariants.{Lock, TryLock, IsLocked, Release}
 use Rattle.spin_model.specs.declared.ticket.TicketPoint.{TicketPoint}
 use Rattle.spin_model.specs.declared.ticket.TicketPoint.TheVariants.{LoadNext, Take, Await, TryLoadNext, TryLoadServing, TryTake, LookServing, LookNext, Serve}
-use Rattle.spin_model.specs.Calls.{Asked, waits, tries, looks, gives_back}
+use Rattle.spin_model.specs.Calls.{Asked}
+use Rattle.spin_model.specs.Asks.{is_ticket, tries_in, waits_to_enter, looks, gives_back}
 use Rattle.spin_model.specs.TicketKind.{ticket}
 use Rattle.spin_model.specs.Machines.{Machine}
 use Rattle.spin_model.specs.Acts.{Memory, two_numbers, Act, load, load_if, load_for, enter, attempt, retry, store, Table, machine_of}
@@ -66,10 +67,10 @@ act_of (LookNext k) h = load (λ n. Answers (Is (not (n == k))) h)
 act_of (Serve t) h = store (λ k. is_left t) (stores (served t)) (λ p. serves p) (Answers Done None)
 
 abbrev pub asks_of : TicketCall → Option Hold → Asked
-asks_of Lock h = waits to_enter
-asks_of TryLock h = tries to_take_and_enter
+asks_of Lock h = waits_to_enter
+asks_of TryLock h = tries_in 3 to_take_and_enter
 asks_of IsLocked h = looks
-asks_of Release h = gives_back h
+asks_of Release h = gives_back is_ticket h
 
 abbrev pub ticket_table : {V : Type 0} → V → ℕ → Table TicketWords V TicketCall TicketPoint (Answer V)
 ticket_table v first =

@@ -1,8 +1,9 @@
--- What kind of lock the seats are: the word, the plain steps that it makes, its calls, and how soon a call is answered that nobody disturbs.
-use Rattle.std.specs.Prelude.{Bool, true, false, Some, []}
+-- What kind of lock the seats are: the word, the plain steps that it makes, and its calls.
+use Rattle.std.specs.Prelude.{ℕ, Bool, true, false, [], Option, List, ◌∷◌}
 use Rattle.spin_step.specs.Plain.{reading, to_read, Change, gets, releases, flag_word}
-use Rattle.spin_model.specs.declared.place.Hold.TheVariants.{Read}
-use Rattle.spin_model.specs.Calls.{Asked, LockKind, steps_past_a_look, usual, waits, tries, counts_readers, gives_back}
+use Rattle.spin_model.specs.declared.place.Hold.{Hold}
+use Rattle.spin_model.specs.Calls.{Asked, LockKind, usual}
+use Rattle.spin_model.specs.Asks.{counts_readers, gives_back, is_read, looks_and_tries, waits}
 
 -- the plain steps: every holder reads, and at most as many hold as the cap says
 abbrev pub seats_plain_steps : Change → Bool
@@ -10,12 +11,8 @@ seats_plain_steps (gets p to_read) = true
 seats_plain_steps (releases p reading) = true
 seats_plain_steps _ = false
 
-abbrev pub seats_calls : Asked → Bool
-seats_calls (tries to_read) = true
-seats_calls (waits to_read) = true
-seats_calls counts_readers = true
-seats_calls (gives_back (Some Read)) = true
-seats_calls _ = false
+abbrev pub seats_calls : ℕ → Option Hold → List Asked
+seats_calls n h = looks_and_tries to_read ∷ waits to_read ∷ counts_readers ∷ gives_back is_read h ∷ []
 
 abbrev pub seats : LockKind
-seats = record (usual flag_word [] seats_plain_steps seats_calls) { undisturbed_steps = steps_past_a_look }
+seats = usual flag_word [] seats_plain_steps seats_calls

@@ -13,7 +13,8 @@ use Rattle.spin_seats.specs.declared.calls.SeatsCall.{SeatsCall}
 use Rattle.spin_seats.specs.declared.calls.SeatsCall.TheVariants as call
 use Rattle.spin_seats.specs.declared.calls.SeatsPoint.{SeatsPoint}
 use Rattle.spin_seats.specs.declared.calls.SeatsPoint.TheVariants.{First, Exchange}
-use Rattle.spin_model.specs.Calls.{Asked, waits, tries, counts_readers, gives_back}
+use Rattle.spin_model.specs.Calls.{Asked}
+use Rattle.spin_model.specs.Asks.{is_read, looks_and_tries, waits, counts_readers, gives_back}
 use Rattle.spin_seats.specs.Kind as kind
 use Rattle.spin_model.specs.Machines.{Machine}
 use Rattle.spin_model.specs.Acts.{one_number, Act, load, load_for, retry, store, either, stays, retried, Table, machine_of}
@@ -47,10 +48,10 @@ act_of n call.Count l h = load (λ w. Answers (Count w) h)
 act_of n call.Leave l h = store (λ w. nat_lt 0 w) (subtracts 1) (λ p. releases p reading) (Answers Done None)
 
 abbrev pub asks_of : SeatsCall → Option Hold → Asked
-asks_of call.TryEnter h = tries to_read
+asks_of call.TryEnter h = looks_and_tries to_read
 asks_of call.Enter h = waits to_read
 asks_of call.Count h = counts_readers
-asks_of call.Leave h = gives_back h
+asks_of call.Leave h = gives_back is_read h
 
 abbrev pub SeatsTable : Type 0
 SeatsTable = Table ℕ (Unit {0}) SeatsCall SeatsPoint (Answer (Unit {0}))

@@ -12,7 +12,8 @@ use Rattle.spin_step_more.specs.declared.fair_calls.FairCall.{FairCall}
 use Rattle.spin_step_more.specs.declared.fair_calls.FairCall.TheVariants.{Lock, TryLock, TryLockStarver, IsLocked, Starve, StarverTryLockFair, StarverTryLock, StarverLock, StarverDrop, Release}
 use Rattle.spin_step_more.specs.declared.fair_calls.FairPoint.{FairPoint}
 use Rattle.spin_step_more.specs.declared.fair_calls.FairPoint.TheVariants.{First, Attempt, Look, Load, Register, SetFlag, Await, Unregister}
-use Rattle.spin_model.specs.Calls.{Asked, waits, waits_or_starves, tries, tries_to_know, looks, gives_back}
+use Rattle.spin_model.specs.Calls.{Asked}
+use Rattle.spin_model.specs.Asks.{gives_back, is_registered, is_write, looks, looks_and_tries, tries, tries_in, tries_to_know, waits_or_starves, waits_starving}
 use Rattle.spin_step_more.specs.FairKind.{fair}
 use Rattle.spin_model.specs.Machines.{Machine}
 use Rattle.spin_model.specs.Acts.{one_number, Act, either, load, load_if, load_for, exchange, weak_exchange, retry, store, swap, Table, machine_of}
@@ -78,12 +79,12 @@ asks_of patience Lock h = waits_or_starves patience
 asks_of patience TryLock h = tries to_lock_unregistered
 asks_of patience TryLockStarver h = tries_to_know to_lock_unregistered
 asks_of patience IsLocked h = looks
-asks_of patience Starve h = tries to_starve
-asks_of patience StarverTryLockFair h = tries to_lock_starving_alone
-asks_of patience StarverTryLock h = tries to_lock_starving
-asks_of patience StarverLock h = waits to_lock_starving
-asks_of patience StarverDrop h = gives_back (Some Starver)
-asks_of patience Release h = gives_back (Some Write)
+asks_of patience Starve h = looks_and_tries to_starve
+asks_of patience StarverTryLockFair h = tries_in 2 to_lock_starving_alone
+asks_of patience StarverTryLock h = tries_in 2 to_lock_starving
+asks_of patience StarverLock h = waits_starving
+asks_of patience StarverDrop h = gives_back is_registered (Some Starver)
+asks_of patience Release h = gives_back is_write (Some Write)
 
 -- the fair lock that opens with v and has this cap of starvers; `lock` registers after `patience` looks at a set flag
 abbrev pub fair_table : {V : Type 0} → V → ℕ → ℕ → Table ℕ V FairCall FairPoint (Answer V)

@@ -13,7 +13,8 @@ use Rattle.spin_step_more.specs.declared.rw_calls.RwCall.{RwCall}
 use Rattle.spin_step_more.specs.declared.rw_calls.RwCall.TheVariants.{TryRead, Read, TryUpgradeableRead, UpgradeableRead, TryWrite, TryWriteWeak, Write, ReaderCount, WriterCount, TryUpgrade, TryUpgradeWeak, Upgrade, Downgrade, DowngradeToUpgradeable, Release}
 use Rattle.spin_step_more.specs.declared.rw_calls.RwPoint.{RwPoint}
 use Rattle.spin_step_more.specs.declared.rw_calls.RwPoint.TheVariants.{First, Exchange, Asking}
-use Rattle.spin_model.specs.Calls.{Asked, waits, tries, tries_weakly, counts_readers, counts_writers, turns_to, gives_back}
+use Rattle.spin_model.specs.Calls.{Asked}
+use Rattle.spin_model.specs.Asks.{is_above_read, is_held_some, is_write, looks_and_tries, spins_to_write, waits_to_upgrade, waits, tries, tries_weakly, counts_readers, counts_writers, turns_to, gives_back}
 use Rattle.spin_step_more.specs.RwKind.{rw}
 use Rattle.spin_model.specs.Machines.{Machine}
 use Rattle.spin_model.specs.Acts.{one_number, Act, load, load_for, exchange, weak_exchange, retry, store, swap, either, stays, retried, Table, machine_of}
@@ -61,21 +62,21 @@ act_of cap Release l (Some hold.Upgradable) = store (tells upgradable) (subtract
 act_of cap Release l h = store (tells writing) (subtracts (weight writing)) (λ p. releases p writing) (Answers Done None)
 
 abbrev pub asks_of : RwCall → Option Hold → Asked
-asks_of TryRead h = tries to_read
+asks_of TryRead h = looks_and_tries to_read
 asks_of Read h = waits to_read
-asks_of TryUpgradeableRead h = tries to_read_upgradable
+asks_of TryUpgradeableRead h = looks_and_tries to_read_upgradable
 asks_of UpgradeableRead h = waits to_read_upgradable
 asks_of TryWrite h = tries to_write
 asks_of TryWriteWeak h = tries_weakly to_write
-asks_of Write h = waits to_write
+asks_of Write h = spins_to_write
 asks_of ReaderCount h = counts_readers
 asks_of WriterCount h = counts_writers
 asks_of TryUpgrade h = tries to_upgrade
 asks_of TryUpgradeWeak h = tries_weakly to_upgrade
-asks_of Upgrade h = waits to_upgrade_asked
-asks_of Downgrade h = turns_to h reading
-asks_of DowngradeToUpgradeable h = turns_to h upgradable
-asks_of Release h = gives_back h
+asks_of Upgrade h = waits_to_upgrade
+asks_of Downgrade h = turns_to is_above_read h reading
+asks_of DowngradeToUpgradeable h = turns_to is_write h upgradable
+asks_of Release h = gives_back is_held_some h
 
 abbrev pub rw_table : {V : Type 0} → V → ℕ → Table ℕ V RwCall RwPoint (Answer V)
 rw_table v cap = record (usual_table (Some v) rw 0 one_number (λ c h. First) (act_of cap) asks_of) { cap = min cap reader_limit }

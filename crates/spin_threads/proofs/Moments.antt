@@ -1,11 +1,13 @@
 -- The moment of an answer: what the model's laws say of the steps of a call is so of a state of the history while the call ran.
-use Rattle.std.proofs.Common.{◌≡◌, ℕ, Option, Some, None, List, [], ◌∷◌, subst}
-use mathlib.Core.Logic.{inl, inr}
-use Rattle.std.specs.List.{All}
+use Rattle.std.proofs.Common.{◌≡◌, ℕ, Bool, true, false, ◌||◌, Option, Some, None, List, [], ◌∷◌, refl, ap, sym, ◌∙◌, subst, arith}
+use Rattle.std.specs.List.{All, list_any}
+use Rattle.std.proofs.lemmas.Bool.{false≢true}
 use Rattle.std.proofs.lemmas.List.Elements.{All-head, All-tail}
 use Rattle.spin_step.specs.Plain.{Plain}
 use Rattle.spin_core.specs.Own.{Numbered}
-use Rattle.spin_model.specs.Calls.{Mark, AnyOf, HasMoment}
+use Rattle.spin_model.specs.Calls.{HasMoment, Mark, moment}
+use Rattle.spin_model.specs.Calls as meaning
+use Rattle.spin_model.specs.Asks.{same}
 use Rattle.spin_model.specs.declared.place.Hold.{Hold}
 use Rattle.spin_model.specs.declared.place.Seat.{Seat}
 use Rattle.spin_model.specs.declared.place.Seat.TheVariants.{Calling}
@@ -23,11 +25,17 @@ use Rattle.spin_world_core.proofs.Reached.{good}
 use Rattle.spin_threads.specs.Moments.{AtAMoment, Found}
 use Rattle.spin_threads.proofs.Calls.{event, span_of, IsBetween, IsAnswered, Call, call_of}
 
--- it holds of one, and that one is of a moment between
-pick : (P Q : Mark → Type 0) (span : List Mark) → All Q span → AnyOf P span → (mark : Mark) × P mark × Q mark
-pick P Q [] all some = absurd some
-pick P Q (x ∷ xs) all (inl is) = (x, is, All-head Q x xs all)
-pick P Q (x ∷ xs) all (inr some) = pick P Q xs (All-tail Q x xs all) some
+pub same_is : (there said : Bool) → same said there ≡ true → there ≡ said
+same_is there said is = grind (arith, is)
+
+-- one passes the test, and that one is of a moment between
+pick : (test : Mark → Bool) (Q : Mark → Type 0) (span : List Mark) → All Q span → list_any test span ≡ true → (mark : Mark) × (test mark ≡ true) × Q mark
+pick test Q [] all some = absurd (false≢true some)
+pick test Q (x ∷ xs) all some = by (test x) refl
+  where
+    by : (b : Bool) → test x ≡ b → (mark : Mark) × (test mark ≡ true) × Q mark
+    by true is = (x, is, All-head Q x xs all)
+    by false is = pick test Q xs (All-tail Q x xs all) (ap (λ b. b || list_any test xs) (sym is) ∙ some)
 
 module _ {W V C L A : Type 0} (m : Machine W V C L A) (k : LocalInvariant V C L) (facts : Facts m k) {c : C} {a : A} where
   right_by : (p : ℕ) (l : L) (h : Option Hold) (span : List Mark) (o : Outcome A V) (seat : Option (Seat C L)) → seat ≡ Some (Calling c l h) → o ≡ Answered a None → RightAnswer m p span o (asked m seat) Step → HasMoment (m.asks c h) (m.says a) p span
@@ -36,13 +44,16 @@ module _ {W V C L A : Type 0} (m : Machine W V C L A) (k : LocalInvariant V C L)
   right : (p : ℕ) (start : Seen W V C L) (old new : List (Entry C V)) (h : Option Hold) (n : ℕ) (it : IsAnswered m k facts p start old new c h a n) → HasMoment (m.asks c h) (m.says a) p (span_of m k facts p it.seen)
   right p start old new h n it = right_by p it.point h (span_of m k facts p it.seen) (event m k facts it.seen (p, Step)).outcome (event m k facts it.seen (p, Step)).seat it.there it.comes (kept m k facts it.seen p Step it.fine).right
 
-  -- What such an answer says of a state, P, was so at a moment; and so was Q, where it follows for the party in its call
-  module _ (P : ℕ → Plain → Type 0) (says : (h : Option Hold) (p : ℕ) (span : List Mark) → HasMoment (m.asks c h) (m.says a) p span → AnyOf (λ mark. P p mark.before) span) {Q : Plain → Type 0}
-      (so : (p : ℕ) (l : L) (h : Option Hold) (seen : Seen W V C L) → InCall m k p c l h seen.plain seen.state.value seen.state.words (seen.span p) → P p seen.plain → Q seen.plain) where
+  -- Such an answer says that a state passed this test, so one did at a moment; and so was Q, where it follows for the party in its call
+  module _ (test : ℕ → Plain → Bool) (says : (h : Option Hold) → (m.asks c h).answers (m.says a) ≡ meaning.found test) {Q : Plain → Type 0}
+      (so : (p : ℕ) (l : L) (h : Option Hold) (seen : Seen W V C L) → InCall m k p c l h seen.plain seen.state.value seen.state.words (seen.span p) → test p seen.plain ≡ true → Q seen.plain) where
+    right_so : (p : ℕ) (h : Option Hold) (span : List Mark) → HasMoment (m.asks c h) (m.says a) p span → list_any (λ mark. test p mark.before) span ≡ true
+    right_so p h span is = subst (λ what. moment what p span ≡ true) (says h) is
+
     of_call : {X : Type 0} (view : Option (Numbered X)) (old new : List (Entry C V)) → Call m k facts c a view old new → AtAMoment m c view old new Q
     of_call view old new call =
         let it = call.answered in let p = call.party in let h = call.held in let start = opening m call.parties in
-        let (mark, found, (past, from, to, before, (l, there))) = pick (λ mark. P p mark.before) (IsBetween m k facts p start old new c h) (span_of m k facts p it.seen) it.span (says h p (span_of m k facts p it.seen) (right p start old new h call.steps it)) in
+        let (mark, found, (past, from, to, before, (l, there))) = pick (λ mark. test p mark.before) (IsBetween m k facts p start old new c h) (span_of m k facts p it.seen) it.span (right_so p h (span_of m k facts p it.seen) (right p start old new h call.steps it)) in
         record {
           party = p;
           is_number = call.is_number;
@@ -52,7 +63,7 @@ module _ {W V C L A : Type 0} (m : Machine W V C L A) (k : LocalInvariant V C L)
           behind = from;
           before = to;
           in_call = (l, h, there);
-          so = so p l h (seen_after m start past) (in_call m k (seen_after m start past) p c l h (good m k facts call.parties past) there) (subst (P p) before found);
+          so = so p l h (seen_after m start past) (in_call m k (seen_after m start past) p c l h (good m k facts call.parties past) there) (subst (λ s. test p s ≡ true) before found);
         }
 
     pub found : {X : Type 0} → Found m X c a Q

@@ -10,7 +10,7 @@ use Rattle.spin_core.specs.Own.{Numbered, by_party, entries_by}
 use Rattle.spin_core.specs.Passes.{IsCall, outcomes_by}
 use Rattle.spin_core.specs.Passes as passes
 use Rattle.spin_core.specs.Run.{is_played, outcomes}
-use Rattle.spin_model.specs.Calls.{Mark, AnyOf, HasMoment}
+use Rattle.spin_model.specs.Calls as meaning
 use Rattle.spin_model.specs.declared.answer.Answer.{Answer}
 use Rattle.spin_model.specs.declared.answer.Answer.TheVariants.{Value}
 use Rattle.spin_model.specs.declared.once.OnceCall.{OnceCall}
@@ -267,10 +267,10 @@ module _ (given : Option (Unit {0})) where
       )
 
   -- so what is so of its answers is so here
-  pub found_in : (c : OnceCall (Unit {0})) (a : Answer (Unit {0})) (P : Plain → Type 0) → ((h : Option Hold) (p : ℕ) (span : List Mark) → HasMoment ((t given).asks c h) ((t given).says a) p span → AnyOf (λ mark. P mark.before) span)
+  pub found_in : (c : OnceCall (Unit {0})) (a : Answer (Unit {0})) (test : Plain → Bool) (P : Plain → Type 0) → ((h : Option Hold) → ((t given).asks c h).answers ((t given).says a) ≡ meaning.found (λ p s. test s)) → ((s : Plain) → test s ≡ true → P s)
       → (before now : Option (Numbered View)) (old new : List Made) → Called given c a before old now new → AtAMoment (t given) c now (foretold_till old new) (foretold new) P
-  found_in c a P says before now old new made =
-      found (t given) (once_keeping given) (once_facts given) (λ p s. P s) says (λ p l h seen call is. is) before now (foretold_till old new) (foretold new) (called c a before now old new made)
+  found_in c a test P says so before now old new made =
+      found (t given) (once_keeping given) (once_facts given) (λ p s. test s) says (λ p l h seen call is. so seen.plain is) before now (foretold_till old new) (foretold new) (called c a before now old new made)
 
   -- after a step that gives a value there is one
   given_there : (seen : Seen ℕ (Unit {0}) (OnceCall (Unit {0})) OncePoint) (p : ℕ) → Invariant (t given) (once_keeping given) seen → (event (t given) (once_keeping given) (once_facts given) seen (p, Step)).outcome ≡ Answered (Value tt) None
@@ -299,8 +299,9 @@ module _ (given : Option (Unit {0})) where
             (given_there it.seen p it.fine it.comes);
       }
 
-pub found_once : (c : OnceCall (Unit {0})) (a : Answer (Unit {0})) (P : Plain → Type 0) → ((given : Option (Unit {0})) (h : Option Hold) (p : ℕ) (span : List Mark) → HasMoment ((t given).asks c h) ((t given).says a) p span → AnyOf (λ mark. P mark.before) span) → FoundOnce c a P
-found_once c a P says given = found_in given c a P (says given)
+pub found_once : (c : OnceCall (Unit {0})) (a : Answer (Unit {0})) (test : Plain → Bool) (P : Plain → Type 0) → ((given : Option (Unit {0})) (h : Option Hold) → ((t given).asks c h).answers ((t given).says a) ≡ meaning.found (λ p s. test s)) → ((s : Plain) → test s ≡ true → P s)
+    → FoundOnce c a P
+found_once c a test P says so given = found_in given c a test P (says given) so
 
 pub gave_once : GaveOnce
 gave_once c given = gave_in given c

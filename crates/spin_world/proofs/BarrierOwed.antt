@@ -1,10 +1,11 @@
 -- What the barrier's table owes.
-use Rattle.spin_world.proofs.BarrierNames.{◌≡◌, ℕ, ◌+◌, ◌/◌, ◌%◌, ◌^◌, ◌≤◌, ◌==◌, false, ◌&&◌, is_some, Option, Some, None, List, [], ◌∷◌, refl, sym, subst, arith, inr, max, Plain, Change, arrives, apply, count_word, generation_word, IsBarrier, is_leading, generation_at, barrier_arrive-words, barrier_count-below, barrier_may_leave-tells, barrier_may_leave-full, Hold, BarrierWords, BarrierCall, BarrierPoint, Arrive, Leave, arrived, mark_of, passes, is_arrival, barrier_table, barrier_machine}
+use Rattle.spin_world.proofs.BarrierNames.{◌≡◌, ℕ, ◌+◌, ◌/◌, ◌%◌, ◌^◌, ◌≤◌, ◌==◌, false, ◌&&◌, is_some, Option, Some, None, List, ◌∷◌, refl, sym, subst, arith, inr, max, Plain, Change, arrives, apply, count_word, generation_word, IsBarrier, is_leading, generation_at, barrier_arrive-words, barrier_count-below, barrier_may_leave-tells, barrier_may_leave-full, Hold, BarrierWords, BarrierCall, BarrierPoint, Arrive, Leave, arrived, mark_of, passes, is_arrival, barrier_table, barrier_machine, []}
 use Rattle.std.proofs.Math.Bool.{and-false}
 use Rattle.std.proofs.Math.Nat.{mod-le, div-le_self}
 use Rattle.spin_step.specs.Parties.{apply_some}
 use Rattle.spin_model.specs.StepKinds.{StepKind, plain, look}
-use Rattle.spin_model.specs.Calls.{BelongsTo, Mark, follows, AnyOf, Arrives}
+use Rattle.spin_model.specs.Calls.{AnyOf, BelongsTo, Mark, follows}
+use Rattle.spin_model.specs.Asks.{arrives_leading, finds_full}
 use Rattle.spin_world.specs.BarrierKind.{barrier}
 use Rattle.spin_step.specs.Steps.{bit}
 use Rattle.spin_world_core.proofs.Facts.{LocalInvariant, Facts}
@@ -14,11 +15,35 @@ use Rattle.spin_world_core.proofs.Shapes.{Notes, keeping_of, OwesAt, OwesSoon, P
 use Rattle.spin_world_core.proofs.Usual.{two, no_holders, two_places}
 use Rattle.spin_world_core.proofs.Operating.{operates_by}
 use Rattle.spin_world_core.proofs.Paid.{facts_of}
+use Rattle.std.specs.List.{list_any}
+use Rattle.std.specs.Prelude.{nat_le}
+use Rattle.std.proofs.Common.{true}
+use Rattle.spin_step.specs.Barriers.{filled_by}
+use Rattle.spin_world_core.proofs.Lists.{eqb_self}
 
 abbrev pub point_of : BarrierPoint → Option Hold → Point
 point_of Arrive None = looked 0
 point_of (Leave g) None = onward (record { stand = absent; made = λ p. arrives p ∷ []; rest = λ p. []; said = follows; spent = 0 })
 point_of l (Some h) = nowhere
+
+-- the party's own step is this arrival
+abbrev Arrives : ℕ → ℕ → Mark → Type 0
+Arrives p k m = (m.party ≡ p) × (m.change ≡ Some (arrives p)) × (m.after.arrivals ≡ k)
+
+-- it follows where its group is full
+abbrev IsFull : ℕ → List Mark → Type 0
+IsFull k span = list_any (λ m. nat_le (filled_by m.before k) m.before.arrivals) span ≡ true
+
+follows_here : (p k : ℕ) (all : List Mark) (m : Mark) → Arrives p k m → is_leading m.before k ≡ false → IsFull k all → (arrives_leading p false m && list_any (finds_full m) all) ≡ true
+follows_here p k all m is behind full =
+    let led = subst (λ k. is_leading m.before k ≡ false) (sym is.2) behind in
+    let filled = subst (λ k. IsFull k all) (sym is.2) full in
+    grind (arith, is.0, is.1, led, filled, eqb_self p)
+
+follows_right : (p k : ℕ) (all span : List Mark) → AnyOf (λ m. Arrives p k m × (is_leading m.before k ≡ false)) span → IsFull k all
+    → list_any (λ m. arrives_leading p false m && list_any (finds_full m) all) span ≡ true
+follows_right p k all [] made full = absurd made
+follows_right p k all (m ∷ ms) made full = grind (arith, follows_here p k all m, follows_right p k all ms)
 
 -- a party that has arrived knows by the number of its arrival, which leads no group, what generation it found with it
 pub record Waits (g p : ℕ) (s : Plain) (span : List Mark) : Type 0 where
@@ -70,7 +95,8 @@ module _ (n : ℕ) where
   owes p c (Leave g) None s w span = λ at.
       let full = barrier_may_leave-full s (arrived p span) n w.count w.generation g (is_barrier s w at.encodes at.shape) in
       let waits = waits-on g p p s None look span (and-false (p == p)) tt at.knows in
-      grind (arith, full, at.knows, waits)
+      let right = follows_right p (arrived p span) (mark_of p None look s ∷ span) span at.knows.made in
+      grind (arith, full, at.knows, waits, right)
   owes p c (Leave g) (Some h) s w span = tt
 
   soon : (p : ℕ) (c : BarrierCall) (l : BarrierPoint) (h : Option Hold) (s : Plain) (w : BarrierWords) (span : List Mark)
@@ -88,6 +114,8 @@ module _ (n : ℕ) where
         shape_first = record { no_holders = refl; group = refl };
         numbers_tell = λ u w e. grind arith;
         one_list = λ s of. no_holders s of.no_holders;
+        calls = λ c h. (0, grind arith);
+        own = λ c h said p. grind arith;
         sound = λ p c l h. grind arith;
         aims = λ p c l h. grind arith;
         begins = λ p c h s. grind arith;

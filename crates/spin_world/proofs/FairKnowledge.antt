@@ -1,5 +1,5 @@
 -- The shape of a fair lock, that its steps keep it, and what a party finds there.
-use Rattle.spin_world.proofs.FairNames.{◌≡◌, ℕ, ◌%◌, ◌==◌, true, false, not, ◌&&◌, ◌||◌, [], ◌∷◌, ◌++◌, length, refl, ap, sym, ◌∙◌, arith, length-append, min, eq-eqb, Plain, holder, writing, is_empty, is_starver, is_holder, fair_word, releases, apply, Entries, entries, is_held, most_starvers, OneHolds, empty_is, is_empty-none, is_empty-some, length-without_holder, is_starver-from_entries, flag_is, is_starved, starves, holds_and_starves, entries_at, only_left, is_holder-own}
+use Rattle.spin_world.proofs.FairNames.{◌≡◌, ℕ, ◌%◌, ◌==◌, true, false, not, ◌&&◌, ◌||◌, ◌∷◌, ◌++◌, length, refl, ap, sym, ◌∙◌, arith, length-append, min, eq-eqb, Plain, holder, writing, is_empty, is_starver, is_holder, fair_word, releases, apply, Entries, entries, is_held, most_starvers, OneHolds, empty_is, is_empty-none, is_empty-some, length-without_holder, is_starver-from_entries, flag_is, starves, holds_and_starves, entries_at, only_left, is_holder-own, []}
 
 -- the shape of the lock: at most one holder, no queue, and the cap
 pub record IsFair (cap : ℕ) (s : Plain) : Type 0 where
@@ -37,8 +37,8 @@ flag_clear w s is free = omega (arith, sym is, ap length (empty_is s.holders fre
 
 -- why a newcomer is refused
 
-pub word_locked : (w : ℕ) (s : Plain) → OneHolds s → fair_word s ≡ w → w ≡ 1 → (is_held s && not (is_starved s)) ≡ true
+pub word_locked : (w : ℕ) (s : Plain) → OneHolds s → fair_word s ≡ w → w ≡ 1 → (is_held s && is_empty s.starvers) ≡ true
 word_locked w s one is e = rw (is_empty-some s.holders (omega (arith, (flag_is s w one is).0, e)), is_empty-none s.starvers (omega (arith, (flag_is s w one is).1, e))) refl
 
-pub word_starved : (w : ℕ) (s : Plain) → OneHolds s → fair_word s ≡ w → (w == 1) ≡ false → (is_empty s.holders && is_empty s.starvers) ≡ false → is_starved s ≡ true
+pub word_starved : (w : ℕ) (s : Plain) → OneHolds s → fair_word s ≡ w → (w == 1) ≡ false → (is_empty s.holders && is_empty s.starvers) ≡ false → not (is_empty s.starvers) ≡ true
 word_starved w s one is other closed = grind (arith, eq-eqb w 1, is_empty-none s.holders, empty_is s.starvers)

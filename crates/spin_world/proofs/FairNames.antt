@@ -5,7 +5,7 @@ pub use Rattle.std.proofs.Math.Bool.{or-true}
 pub use Rattle.spin_step.specs.Plain.{Plain, Kind, writing, Holder, to_lock_unregistered, to_lock_starving, to_lock_starving_alone, to_starve, Change, gets, releases, stops_starving, is_empty, is_holder, is_starver, is_only_starver, without_holder, fair_word, holder, apply, is_open, is_open_to}
 pub use Rattle.spin_step.specs.Parties.{apply_some, IsOpenStep, Entries, entries, is_held}
 pub use Rattle.spin_step.proofs.Exclusive.{empty_is}
-pub use Rattle.spin_model.specs.Calls.{BelongsTo, is_starved, Mark, granted, AnyOf, Registers, TriesToStarve, first_word}
+pub use Rattle.spin_model.specs.Calls.{AnyOf, BelongsTo, Mark, Registers, TriesToStarve, first_word, granted}
 pub use Rattle.spin_step_more.specs.FairKind.{fair}
 pub use Rattle.spin_world.specs.Fairness.{IsFree, IsGrantedNext, SetsAClearFlag, GoesForAClearFlag}
 pub use Rattle.std.specs.Prelude.{min}
@@ -21,7 +21,7 @@ pub use Rattle.spin_model.specs.declared.place.Hold.TheVariants.{Starver, Write}
 pub use Rattle.spin_model.specs.declared.step.Next.TheVariants.{Continue}
 pub use Rattle.spin_model.specs.declared.answer.Answer.{Answer}
 pub use Rattle.spin_world_core.specs.Runs.{opening, mark_of, own_count, changes, RegistersInTime, own, held_looks, IsLateLook}
-pub use Rattle.spin_model.specs.Acts.{is_waiting, tried}
+pub use Rattle.spin_model.specs.Acts.{tried}
 pub use Rattle.spin_world_core.proofs.Shapes.{row_of, Notes, keeping_of, Means, OwesAt, OwesSoon, Pays}
 pub use Rattle.spin_step_more.specs.declared.fair_calls.FairCall.{FairCall}
 pub use Rattle.spin_step_more.specs.declared.fair_calls.FairCall.TheVariants.{Lock, TryLock, TryLockStarver, IsLocked, Starve, StarverTryLockFair, StarverTryLock, StarverLock, StarverDrop, Release}

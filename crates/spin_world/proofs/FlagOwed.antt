@@ -15,6 +15,7 @@ use Rattle.spin_world_core.proofs.Rows.{starts_sound, starts}
 use Rattle.spin_world_core.proofs.Shapes.{Notes, keeping_of, OwesAt, OwesSoon, Pays}
 use Rattle.spin_world_core.proofs.Usual.{no_queue}
 use Rattle.spin_world_core.proofs.Paid.{facts_of}
+use Rattle.spin_model.specs.declared.flag.FlagCall.TheVariants.{Release}
 
 -- At each point the call is as at its beginning: it has made no plain step, and only `Lock`, which has no limit, makes
 -- more than one step.
@@ -23,8 +24,8 @@ flag_notes v = record { Shape = λ s. s.tickets ≡ []; point = λ c l h. starts
 
 module _ {V : Type 0} (v : V) where
   owes : (p : ℕ) (c : FlagCall) (l : FlagPoint) (h : Option Hold) (s : Plain) (w : Bool) (span : List Mark) → OwesAt (flag_table v) (flag_notes v) p c l h s w span
-  owes p c l h s w span =
-      grind (arith, flag_lock-grants s p w, flag_unlock-gives s p writing w, is_holder-from_entries p writing s.holders, length-held p writing s.holders)
+  owes p Release l h s w span = grind (arith, flag_unlock-gives s p writing w, is_holder-from_entries p writing s.holders, length-held p writing s.holders)
+  owes p c l h s w span = grind (arith, flag_lock-grants s p w)
 
   soon : (p : ℕ) (c : FlagCall) (l : FlagPoint) (h : Option Hold) (s : Plain) (w : Bool) (span : List Mark)
       → OwesSoon (flag_table v) (flag_notes v) p c l h s w span
@@ -40,7 +41,9 @@ module _ {V : Type 0} (v : V) where
         shape_first = refl;
         numbers_tell = λ v w e. grind arith;
         one_list = no_queue;
-        sound = λ p c l h. starts_sound flag (asks_of c h) p (begin_of (flag_table v) c h);
+        calls = λ c h. (0, grind arith);
+        own = λ c h said p. grind arith;
+        sound = λ p c l h. starts_sound flag (asks_of c h) p (begin_of (flag_table v) c h) (grind arith);
         aims = λ p c l h. grind arith;
         begins = λ p c h s. grind arith;
         others = λ p q c l h s step r span ne shape may belongs knows. tt;

@@ -1,5 +1,5 @@
 -- A party that has set the flag as a starver stands where its next step is granted, and a party that waits for it stands where it sets a clear one.
-use Rattle.spin_world.proofs.FairNames.{◌≡◌, ℕ, ◌+◌, ◌%◌, ◌==◌, ◌⊎◌, Bool, true, not, ◌&&◌, Option, Some, List, refl, ap, sym, ◌∙◌, arith, inl, inr, ⊎_elim, eq-eqb, and_from, is_empty, fair_word, Entries, Hold, Continue, Answer, opening, is_waiting, entries_at, row_of, FairCall, FairPoint, SetFlag, Await, Unregister, asks_of, fair_table, fair_machine, IsGrantedNext, SetsAClearFlag, GoesForAClearFlag}
+use Rattle.spin_world.proofs.FairNames.{◌≡◌, ℕ, ◌+◌, ◌%◌, ◌==◌, ◌⊎◌, Bool, true, not, ◌&&◌, Option, Some, List, refl, ap, sym, ◌∙◌, arith, inl, inr, ⊎_elim, eq-eqb, and_from, is_empty, fair_word, Entries, Hold, Continue, Answer, opening, entries_at, row_of, FairCall, FairPoint, SetFlag, Await, Unregister, asks_of, fair_table, fair_machine, IsGrantedNext, SetsAClearFlag, GoesForAClearFlag}
 use Rattle.spin_model.specs.declared.place.Seat.TheVariants.{Calling}
 use Rattle.spin_model.specs.declared.schedule.Move.{Move}
 use Rattle.spin_model.specs.declared.schedule.Move.TheVariants.{Step}
@@ -43,7 +43,7 @@ module _ {V : Type 0} (v : V) (cap patience : ℕ) where
   abbrev WaitsAt : ℕ → FairCall → FairPoint → Option Hold → Type 0
   WaitsAt p c l h =
       let row = row_of (fair_table v cap patience) (fair_notes v cap patience) c l h in
-      (passes_some (λ row. starves_alone (entries_at p row.stand)) row && is_waiting (asks_of patience c h)) ≡ true
+      (passes_some (λ row. starves_alone (entries_at p row.stand)) row && (asks_of patience c h).waits) ≡ true
 
   goes_for : (p w : ℕ) → w % 2 ≡ 0 → (c : FairCall) (l : FairPoint) (h : Option Hold) → WaitsAt p c l h → GoesFor w c l h
   goes_for p w clear c SetFlag = λ h both. inl (λ value. sets c h w value clear)

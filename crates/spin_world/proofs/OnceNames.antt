@@ -8,7 +8,7 @@ pub use Rattle.spin_model.specs.declared.place.Seat.TheVariants.{Calling}
 pub use Rattle.spin_model.specs.declared.schedule.Move.TheVariants.{Step}
 pub use Rattle.spin_step.specs.Plain.{Plain, to_begin, gets, running, Change, completes, once_word, fails}
 pub use Rattle.spin_world_core.specs.Runs.{Seen, step_at, scene, opening, last_written, placed_at, MayTouch}
-pub use Rattle.spin_model.specs.Calls.{Mark, Said, gives_value, failed}
+pub use Rattle.spin_model.specs.Calls.{Mark, Said, failed, gives_value}
 pub use Rattle.spin_model.specs.Schedules.{happens, after, at_first, State}
 pub use Rattle.spin_model.specs.declared.once.OnceCall.{OnceCall}
 pub use Rattle.spin_model.specs.declared.once.OnceCall.TheVariants.{CallOnce, TryCallOnceOk, TryCallOnceErr, InitFromRef, Wait, Poll, Get, IsCompleted}

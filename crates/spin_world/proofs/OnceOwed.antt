@@ -1,5 +1,5 @@
 -- What the table of a `Once` owes.
-use Rattle.spin_world.proofs.OnceNames.{◌≡◌, ℕ, true, Option, Some, None, List, [], ◌∷◌, refl, arith, Plain, running, to_begin, Change, gets, completes, fails, runs-others, Hold, OnceCall, CallOnce, TryCallOnceOk, TryCallOnceErr, InitFromRef, Wait, Poll, Get, IsCompleted, OncePoint, Look, TryBegin, Run, Mark, Said, gives_value, failed, brings_of, once_table, once_machine, has_just_looked, LocalInvariant, Facts, Point, nowhere, looked, onward, Notes, no_holders}
+use Rattle.spin_world.proofs.OnceNames.{◌≡◌, ℕ, true, Option, Some, None, List, ◌∷◌, refl, arith, Plain, running, to_begin, Change, gets, completes, fails, runs-others, Hold, OnceCall, CallOnce, TryCallOnceOk, TryCallOnceErr, InitFromRef, Wait, Poll, Get, IsCompleted, OncePoint, Look, TryBegin, Run, Mark, Said, gives_value, failed, brings_of, once_table, once_machine, has_just_looked, LocalInvariant, Facts, Point, nowhere, looked, onward, Notes, no_holders, []}
 use Rattle.spin_world_core.proofs.Stands.{absent}
 use Rattle.spin_world_core.proofs.Operating.{one_place, operates_by}
 use Rattle.spin_world_core.proofs.Filled.{PaysWith, keeping_with, facts_with}
@@ -45,6 +45,8 @@ module _ {V : Type 0} (value : Option V) where
           shape_first = (refl, refl);
           numbers_tell = λ u w e. cc (e);
           one_list = λ s free. no_holders s free.0;
+          calls = λ c h. (0, grind arith);
+          own = λ c h said p. grind arith;
           sound = λ p c l h. grind arith;
           aims = λ p c l h. grind arith;
           begins = λ p c h s. grind arith;
@@ -52,7 +54,7 @@ module _ {V : Type 0} (value : Option V) where
           owes = λ p c l h s w span. grind arith;
           soon = λ p c l h s w span. grind arith;
         };
-        strong = λ c h. grind arith;
+        strong = λ c h d. grind arith;
         says = λ a. refl;
         phase_first = grind arith;
         none_writes = λ s p free. grind arith;

@@ -1,14 +1,13 @@
 -- What the table of the read-write lock owes.
-use Rattle.spin_world.proofs.RwNames.{◌≡◌, ℕ, ◌+◌, ◌/◌, ◌≤◌, true, false, Option, Some, None, List, [], ◌∷◌, ◌++◌, length, nat_lt, refl, ap, sym, ◌∙◌, arith, eq-eqb, length-append, Plain, Kind, reading, upgradable, asking, writing, weight, Holder, holder, to_read, to_read_upgradable, to_write, to_upgrade, to_upgrade_asked, Change, gets, releases, turns, may_come, is_empty, is_holder, may_turn, with_kind, rw_word, Entries, entries, IsExclusive, reader_limit, tells, read, read_upgradable, write, upgrade, upgrade_asked, released, turned_to, is_holder-from_entries, is_holder-own, length-without_holder, empty_is, room_to_come, one_of_each, read-word, upgradable_read-word, upgradable-word, tells-holder, readers-word, writers-word, only_upgradable-word, only_asking-word, empty-word, Hold, RwCall, TryRead, Read, TryUpgradeableRead, UpgradeableRead, TryWrite, TryWriteWeak, Write, ReaderCount, WriterCount, TryUpgrade, TryUpgradeWeak, Upgrade, Downgrade, DowngradeToUpgradeable, Release, RwPoint, Exchange, Asking, Mark, begin_of, holds, entries_at, Notes, keeping_of, Means, OwesAt, OwesSoon, Pays, no_queue}
+use Rattle.spin_world.proofs.RwNames.{◌≡◌, ℕ, ◌+◌, ◌/◌, ◌≤◌, true, false, Option, Some, None, List, ◌∷◌, ◌++◌, length, nat_lt, refl, ap, sym, ◌∙◌, arith, eq-eqb, length-append, Plain, Kind, reading, upgradable, asking, writing, weight, Holder, holder, to_read, to_read_upgradable, to_write, to_upgrade, to_upgrade_asked, Change, gets, releases, turns, may_come, is_empty, is_holder, may_turn, with_kind, rw_word, Entries, entries, IsExclusive, reader_limit, tells, read, read_upgradable, write, upgrade, upgrade_asked, released, is_holder-from_entries, is_holder-own, length-without_holder, empty_is, room_to_come, one_of_each, read-word, upgradable_read-word, upgradable-word, tells-holder, readers-word, writers-word, only_upgradable-word, only_asking-word, empty-word, Hold, RwCall, TryRead, Read, TryUpgradeableRead, UpgradeableRead, TryWrite, TryWriteWeak, Write, ReaderCount, WriterCount, TryUpgrade, TryUpgradeWeak, Upgrade, Downgrade, DowngradeToUpgradeable, Release, RwPoint, Exchange, Asking, Mark, begin_of, holds, entries_at, Notes, keeping_of, Means, OwesAt, OwesSoon, Pays, no_queue, [], turned_to}
 use Rattle.std.specs.Prelude.{min, max}
 use Rattle.spin_step.proofs.Sums.{length-with_kind}
 use Rattle.spin_step_more.proofs.ReaderSteps.{rw_read-grants, rw_upgradable-grants, rw_write-grants, rw_upgrade-grants, rw_upgrade_asked-grants, rw_release-gives, rw_turn-gives}
 use Rattle.spin_model.specs.declared.place.Hold.TheVariants as hold
 use Rattle.spin_model.specs.Calls as calls
-use Rattle.spin_step_more.specs.RwKind as kind
-use Rattle.spin_step_more.specs.RwCalls.{asks_of, rw_table, rw_machine}
+use Rattle.spin_step_more.specs.RwCalls.{rw_table, rw_machine}
 use Rattle.spin_world_core.proofs.Facts.{LocalInvariant, Facts}
-use Rattle.spin_world_core.proofs.Rows.{starts_sound, Row, Point, starts, looked, onward}
+use Rattle.spin_world_core.proofs.Rows.{Row, Point, starts, looked, onward}
 use Rattle.spin_world_core.proofs.Operating.{one_place, operates_by}
 use Rattle.spin_world_core.proofs.Paid.{facts_of}
 
@@ -144,7 +143,9 @@ module _ {V : Type 0} (v : V) (cap : ℕ) where
         shape_first = record { no_queue = refl; room = refl; few = omega arith };
         numbers_tell = λ v w e. cc (e);
         one_list = λ s shape. no_queue s shape.no_queue;
-        sound = λ p c l h. grind (arith, starts_sound kind.rw (asks_of c h) p (begin_of (rw_table v cap) c h));
+        calls = λ c h. (0, grind arith);
+        own = λ c h said p. grind arith;
+        sound = λ p c l h. grind arith;
         aims = λ p c l h. grind arith;
         begins = λ p c h s. grind arith;
         others = λ p q c l h s step r span ne shape may belongs knows. tt;

@@ -1,6 +1,8 @@
 -- What a party finds of a queue of tickets, and what it comes to.
-use Rattle.spin_world.proofs.TicketNames.{◌≡◌, ℕ, ◌==◌, ◌≤◌, ◌⊎◌, Bool, true, false, not, None, List, [], ◌∷◌, arith, Plain, ticket_limit, to_take_and_enter, is_empty, is_open_to, serving_word, is_held, Numbered, nobody_stands, somebody_stands, plain, mark_of, is_left, any_map}
-use Rattle.spin_model.specs.Calls.{Mark, AnyOf}
+use Rattle.spin_world.proofs.TicketNames.{any_passes, ◌≡◌, ℕ, ◌==◌, ◌≤◌, ◌⊎◌, Bool, true, false, not, None, List, ◌∷◌, arith, Plain, ticket_limit, to_take_and_enter, is_empty, is_open_to, serving_word, is_held, Numbered, nobody_stands, somebody_stands, plain, mark_of, is_left, []}
+use Rattle.spin_model.specs.Calls.{AnyOf, Mark}
+use Rattle.spin_model.specs.Asks.{same}
+use Rattle.std.specs.List.{list_any}
 
 -- the shape of the lock: a queue, and no other holders
 pub record Queue (s : Plain) : Type 0 where
@@ -23,13 +25,13 @@ Rises k s span = (k ≤ serving_word s) × Stays k s span
 -- what a try and a look find
 
 -- a refused try
-pub try_refused : (p n : ℕ) (s : Plain) (span : List Mark) → Stays n s span → (serving_word s ≡ n → s.next ≡ n → is_left s.next ≡ false) → AnyOf (λ m. is_open_to m.before p to_take_and_enter ≡ false) (mark_of p None plain s ∷ span)
+pub try_refused : (p n : ℕ) (s : Plain) (span : List Mark) → Stays n s span → (serving_word s ≡ n → s.next ≡ n → is_left s.next ≡ false) → list_any (λ m. not (is_open_to m.before p to_take_and_enter)) (mark_of p None plain s ∷ span) ≡ true
 try_refused p n s span stays up =
-    grind (arith, up, any_map (λ m. is_empty m.before.tickets ≡ false) (λ m. is_open_to m.before p to_take_and_enter ≡ false) span)
+    grind (arith, up, any_passes (λ m. is_empty m.before.tickets ≡ false) (λ m. not (is_open_to m.before p to_take_and_enter)) span)
 
 -- a load of the next number, after k was found served
 pub look_right : (b : Bool) (p k : ℕ) (s : Plain) (span : List Mark) → Queue s → Rises k s span → (s.next == k) ≡ b
-    → AnyOf (λ m. is_held m.before ≡ not b) (mark_of p None plain s ∷ span)
+    → list_any (λ m. same (not b) (is_held m.before)) (mark_of p None plain s ∷ span) ≡ true
 look_right true p k s span queue found is = grind (arith, nobody_stands s.next s.tickets, queue)
 look_right false p k s span queue found is =
-    grind (arith, somebody_stands s.next s.tickets, any_map (λ m. is_empty m.before.tickets ≡ false) (λ m. is_held m.before ≡ true) span)
+    grind (arith, somebody_stands s.next s.tickets, any_passes (λ m. is_empty m.before.tickets ≡ false) (λ m. same true (is_held m.before)) span)

@@ -1,13 +1,13 @@
 -- The names that these proofs share, in one place.
 pub use Rattle.std.proofs.Common.{◌≡◌, ℕ, ◌+◌, ◌<◌, ◌-◌, ◌≤◌, ◌⊎◌, Bool, true, false, not, Option, Some, None, List, [], ◌∷◌, ◌++◌, refl, ap, sym, ◌∙◌, arith, zero, get_or, ◌==◌, filter, slice_get}
-pub use Rattle.spin_step.specs.Plain.{Plain, ticket as queued, Ticket as Queued, ticket_limit, to_take_and_enter, Change, is_empty, is_open_to, serving_word, is_first, effect, to_take_ticket, to_enter, gets, serves, next_word}
+pub use Rattle.spin_step.specs.Plain.{Plain, ticket_limit, to_take_and_enter, Change, is_empty, is_open_to, serving_word, is_first, effect, to_take_ticket, to_enter, gets, serves, next_word, ticket as queued, Ticket as Queued}
 pub use Rattle.spin_step.specs.Parties.{apply_some, IsOpenStep, is_held, Entries, entries}
 pub use Rattle.spin_step.specs.Tickets.{Numbered, take}
 pub use Rattle.spin_step.proofs.Tickets.{serving-advances, nobody_stands, somebody_stands, enters_in_turn, numbered-given, numbered-serves, serving-taken, serving-entered, entered_is_served, stands, serving-moves}
 pub use Rattle.spin_model.specs.StepKinds.{plain}
 pub use Rattle.spin_world_core.specs.Runs.{mark_of, own_count, Seen, scene, opening}
 pub use Rattle.spin_model.specs.Ticket.{is_left, asks_of, ticket_table, ticket_machine}
-pub use Rattle.spin_world_core.proofs.Rows.{any_map, Point, nowhere, looked, onward}
+pub use Rattle.spin_world_core.proofs.Rows.{any_map, Point, nowhere, looked, onward, any_passes}
 pub use Rattle.spin_model.specs.declared.ticket.TicketWords.{TicketWords}
 pub use Rattle.spin_step.specs.Steps.{bit}
 pub use Rattle.spin_model.specs.declared.answer.Answer.{Answer}

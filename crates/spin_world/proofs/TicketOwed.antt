@@ -1,9 +1,9 @@
 -- What the ticket lock's table owes.
-use Rattle.spin_world.proofs.TicketNames.{serving-advances, ◌≡◌, ℕ, ◌+◌, ◌-◌, ◌≤◌, ◌==◌, true, false, filter, Option, Some, None, List, [], ◌∷◌, refl, ap, sym, ◌∙◌, arith, Plain, Queued, queued, is_first, effect, to_take_ticket, to_enter, to_take_and_enter, Change, gets, serves, next_word, serving_word, Entries, entries, take, enters_in_turn, numbered-given, numbered-serves, serving-taken, serving-entered, entered_is_served, stands, Hold, TicketWords, TicketCall, Lock, TryLock, IsLocked, Release, TicketPoint, LoadNext, Take, Await, TryLoadNext, TryLoadServing, TryTake, LookServing, LookNext, Serve, own_count, plain, passing, is_left, ticket_table, ticket_machine, LocalInvariant, Facts, queues, entries_at, any_map, Point, nowhere, looked, onward, Notes, keeping_of, Means, OwesAt, OwesSoon, Pays, two, no_holders, two_places}
+use Rattle.spin_world.proofs.TicketNames.{serving-advances, ◌≡◌, ℕ, ◌+◌, ◌-◌, ◌≤◌, ◌==◌, true, false, filter, Option, Some, None, List, ◌∷◌, refl, ap, sym, ◌∙◌, arith, Plain, is_first, effect, to_take_ticket, to_enter, to_take_and_enter, Change, gets, serves, next_word, serving_word, Entries, entries, take, enters_in_turn, numbered-given, numbered-serves, serving-taken, serving-entered, entered_is_served, stands, Hold, TicketWords, TicketCall, Lock, TryLock, IsLocked, Release, TicketPoint, LoadNext, Take, Await, TryLoadNext, TryLoadServing, TryTake, LookServing, LookNext, Serve, own_count, plain, passing, is_left, ticket_table, ticket_machine, LocalInvariant, Facts, queues, entries_at, any_map, Point, nowhere, looked, onward, Notes, keeping_of, Means, OwesAt, OwesSoon, Pays, two, no_holders, two_places, [], Queued, queued}
 use Rattle.spin_step.specs.Parties.{first_alone_entered}
 use Rattle.spin_step.proofs.TicketSteps.{ticket_take-grants_alone, ticket_serve-gives}
 use Rattle.spin_model.specs.declared.place.Hold.TheVariants as hold
-use Rattle.spin_model.specs.Calls.{Mark, AnyOf, granted}
+use Rattle.spin_model.specs.Calls.{AnyOf, Mark, granted}
 use Rattle.spin_world_core.proofs.Lists.{eqb_self}
 use Rattle.spin_world_core.proofs.Operating.{operates_by}
 use Rattle.spin_world_core.proofs.Spans.{own_count-mine, own_count-other}
@@ -94,6 +94,8 @@ module _ {V : Type 0} (v : V) (first : ℕ) where
         shape_first = record { no_holders = refl; numbered = (omega arith, tt); in_range = λ some. absurd (cc (some)) };
         numbers_tell = λ u w e. grind arith;
         one_list = λ s queue. no_holders s queue.no_holders;
+        calls = λ c h. (0, grind arith);
+        own = λ c h said p. grind arith;
         sound = λ p c l h. grind arith;
         aims = λ p c l h. grind arith;
         begins = λ p c h s. grind (arith, eqb_self);

@@ -5,10 +5,11 @@ use Rattle.spin_model.specs.declared.place.Hold.{Hold}
 use Rattle.spin_model.specs.declared.answer.Answer.{Answer}
 use Rattle.spin_world.specs.declared.barrier.BarrierWords.{BarrierWords}
 use Rattle.spin_world.specs.declared.barrier.BarrierCall.TheVariants.{Wait}
-use Rattle.spin_model.specs.Calls.{meets, says_of}
+use Rattle.spin_model.specs.Calls.{says_of}
+use Rattle.spin_model.specs.Asks.{meets}
 use Rattle.spin_world.specs.BarrierKind.{barrier}
 use Rattle.spin_world.specs.BarrierTable.{BarrierMachine}
-use Rattle.spin_world_core.specs.Kinds.{HasCalls}
+use Rattle.spin_world_core.specs.Kinds.{BeginAt}
 
 -- groups of n
 pub record IsBarrierOf (n : ℕ) (m : BarrierMachine) : Type 0 where
@@ -23,4 +24,4 @@ pub record IsBarrierOf (n : ℕ) (m : BarrierMachine) : Type 0 where
   pub owned : m.owned ≡ false
   pub wait : (h : Option Hold) → m.asks Wait h ≡ meets
   pub says : (a : Answer ℕ) → m.says a ≡ says_of a
-  pub calls : HasCalls m.lock_kind (meets ∷ [])
+  pub calls : BeginAt m ((Wait, None) ∷ [])

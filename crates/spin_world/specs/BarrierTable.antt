@@ -10,11 +10,11 @@ use Rattle.spin_world.specs.declared.barrier.BarrierWords.{BarrierWords}
 use Rattle.spin_world.specs.declared.barrier.BarrierCall.{BarrierCall}
 use Rattle.spin_world.specs.declared.barrier.BarrierPoint.{BarrierPoint}
 use Rattle.spin_world.specs.declared.barrier.BarrierPoint.TheVariants.{Arrive, Leave}
-use Rattle.spin_model.specs.Calls.{meets}
 use Rattle.spin_world.specs.BarrierKind.{barrier}
 use Rattle.spin_model.specs.Machines.{Machine}
 use Rattle.spin_model.specs.Acts.{Memory, two_numbers, Act, load_if, section, either, Table, machine_of}
 use Rattle.spin_model.specs.Tables.{usual_table}
+use Rattle.spin_model.specs.Asks.{meets}
 
 -- the words after one more arrival, if groups have n arrivals; `leads`: whether that arrival leads
 abbrev pub arrive : ℕ → BarrierWords → BarrierWords

@@ -1,5 +1,5 @@
 -- What a fair lock is: how it opens, how many may starve, and what each of its calls asks. Where a call begins follows from what it asks.
-use Rattle.std.specs.Prelude.{◌≡◌, ℕ, true, min, Option, Some, [], ◌∷◌}
+use Rattle.std.specs.Prelude.{◌≡◌, ℕ, true, min, Option, Some, None, [], ◌∷◌}
 use Rattle.spin_step.specs.Plain.{to_lock_unregistered, to_lock_starving, to_lock_starving_alone, to_starve}
 use Rattle.spin_step_more.specs.Starvers.{most_starvers}
 use Rattle.spin_model.specs.declared.place.Hold.{Hold}
@@ -8,10 +8,11 @@ use Rattle.spin_model.specs.declared.answer.Answer.{Answer}
 use Rattle.spin_step_more.specs.declared.fair_calls.FairCall.{FairCall}
 use Rattle.spin_step_more.specs.declared.fair_calls.FairCall.TheVariants.{Lock, TryLock, TryLockStarver, IsLocked, Starve, StarverTryLockFair, StarverTryLock, StarverLock, StarverDrop, Release}
 use Rattle.spin_step_more.specs.declared.fair_calls.FairPoint.{FairPoint}
-use Rattle.spin_model.specs.Calls.{waits, waits_or_starves, tries, tries_to_know, looks, gives_back, says_of}
+use Rattle.spin_model.specs.Calls.{says_of}
+use Rattle.spin_model.specs.Asks.{gives_back, is_registered, is_write, looks, looks_and_tries, tries, tries_in, tries_to_know, waits_or_starves, waits_starving}
 use Rattle.spin_step_more.specs.FairKind.{fair}
 use Rattle.spin_model.specs.Machines.{Machine}
-use Rattle.spin_world_core.specs.Kinds.{HasCalls}
+use Rattle.spin_world_core.specs.Kinds.{BeginAt}
 
 -- with this cap; its `lock` registers after `patience` looks that found the flag set, at the next such look
 pub record IsFairLock {V : Type 0} (given : V) (cap patience : ℕ) (m : Machine ℕ V FairCall FairPoint (Answer V)) : Type 0 where
@@ -25,12 +26,13 @@ pub record IsFairLock {V : Type 0} (given : V) (cap patience : ℕ) (m : Machine
   pub try_lock : (h : Option Hold) → m.asks TryLock h ≡ tries to_lock_unregistered
   pub try_lock_starver : (h : Option Hold) → m.asks TryLockStarver h ≡ tries_to_know to_lock_unregistered
   pub is_locked : (h : Option Hold) → m.asks IsLocked h ≡ looks
-  pub starve : (h : Option Hold) → m.asks Starve h ≡ tries to_starve
-  pub starver_try_lock_fair : (h : Option Hold) → m.asks StarverTryLockFair h ≡ tries to_lock_starving_alone
-  pub starver_try_lock : (h : Option Hold) → m.asks StarverTryLock h ≡ tries to_lock_starving
-  pub starver_lock : (h : Option Hold) → m.asks StarverLock h ≡ waits to_lock_starving
-  pub starver_drop : (h : Option Hold) → m.asks StarverDrop h ≡ gives_back (Some Starver)
-  pub release : (h : Option Hold) → m.asks Release h ≡ gives_back (Some Write)
+  pub starve : (h : Option Hold) → m.asks Starve h ≡ looks_and_tries to_starve
+  pub starver_try_lock_fair : (h : Option Hold) → m.asks StarverTryLockFair h ≡ tries_in 2 to_lock_starving_alone
+  pub starver_try_lock : (h : Option Hold) → m.asks StarverTryLock h ≡ tries_in 2 to_lock_starving
+  pub starver_lock : (h : Option Hold) → m.asks StarverLock h ≡ waits_starving
+  pub starver_drop : (h : Option Hold) → m.asks StarverDrop h ≡ gives_back is_registered (Some Starver)
+  pub release : (h : Option Hold) → m.asks Release h ≡ gives_back is_write (Some Write)
   pub says : (a : Answer V) → m.says a ≡ says_of a
-  pub calls : HasCalls m.lock_kind (waits_or_starves patience ∷ tries to_lock_unregistered ∷ tries_to_know to_lock_unregistered ∷ looks ∷ gives_back (Some Write) ∷ [])
-  pub starving : HasCalls m.lock_kind (tries to_starve ∷ tries to_lock_starving_alone ∷ tries to_lock_starving ∷ waits to_lock_starving ∷ gives_back (Some Starver) ∷ [])
+  pub calls : BeginAt m ((Lock, None) ∷ (TryLock, None) ∷ (TryLockStarver, None) ∷ (IsLocked, None) ∷ (Starve, None) ∷ (Release, Some Write) ∷ [])
+  pub starving : BeginAt m ((StarverTryLockFair, Some Starver) ∷ (StarverTryLock, Some Starver) ∷ [])
+  pub starvers : BeginAt m ((StarverLock, Some Starver) ∷ (StarverDrop, Some Starver) ∷ [])

@@ -10,7 +10,6 @@ use Rattle.spin_model.specs.declared.schedule.Move.{Move}
 use Rattle.spin_model.specs.declared.schedule.Move.TheVariants.{Step}
 use Rattle.spin_model.specs.declared.schedule.Outcome.TheVariants.{Answered}
 use Rattle.spin_model.specs.declared.step.Next.TheVariants.{Continue}
-use Rattle.spin_model.specs.Acts.{is_waiting}
 use Rattle.spin_model.specs.Machines.{Machine}
 use Rattle.spin_model.specs.Schedules.{after, at_first}
 use Rattle.spin_world_core.specs.Runs.{opening, scene}
@@ -51,5 +50,5 @@ abbrev pub GoesForAClearFlag : {V : Type 0} → Machine ℕ V FairCall FairPoint
 GoesForAClearFlag m n past =
     (p : ℕ) (c : FairCall) (l : FairPoint) (h : Option Hold) → let s = after m (at_first m n) past in
     let plain = (seen_after m (opening m n) past).plain in
-    slice_get s.seats p ≡ Some (Calling c l h) → is_waiting (m.asks c h) ≡ true → entries p plain ≡ only_starves p → plain.holders ≡ []
+    slice_get s.seats p ≡ Some (Calling c l h) → (m.asks c h).waits ≡ true → entries p plain ≡ only_starves p → plain.holders ≡ []
     → ((m.step s.words s.value c l h).words ≡ s.words + 1) ⊎ ((to : FairPoint) × ((m.step s.words s.value c l h).next ≡ Continue to) × SetsAClearFlag m c to h)

@@ -1,5 +1,5 @@
 -- What a flag is: how it opens, and what each of its calls asks. Where a call begins follows from what it asks.
-use Rattle.std.specs.Prelude.{◌≡◌, Bool, true, false, Option, Some, [], ◌∷◌}
+use Rattle.std.specs.Prelude.{◌≡◌, Bool, true, false, Option, Some, None, [], ◌∷◌}
 use Rattle.spin_step.specs.Plain.{to_write}
 use Rattle.spin_step.specs.Steps.{bit}
 use Rattle.spin_model.specs.declared.place.Hold.{Hold}
@@ -8,10 +8,11 @@ use Rattle.spin_model.specs.declared.answer.Answer.{Answer}
 use Rattle.spin_model.specs.declared.flag.FlagCall.{FlagCall}
 use Rattle.spin_model.specs.declared.flag.FlagCall.TheVariants.{Lock, TryLock, TryLockWeak, IsLocked, Release}
 use Rattle.spin_model.specs.declared.flag.FlagPoint.{FlagPoint}
-use Rattle.spin_model.specs.Calls.{waits, tries, tries_weakly, looks, gives_back, says_of}
+use Rattle.spin_model.specs.Calls.{says_of}
+use Rattle.spin_model.specs.Asks.{gives_back, is_write, looks, tries, tries_weakly, waits_to_write}
 use Rattle.spin_model.specs.FlagKind.{flag}
 use Rattle.spin_model.specs.Machines.{Machine}
-use Rattle.spin_world_core.specs.Kinds.{HasCalls, AnswersIn}
+use Rattle.spin_world_core.specs.Kinds.{BeginAt, AnswersIn}
 
 pub record IsFlag {V : Type 0} (given : V) (m : Machine Bool V FlagCall FlagPoint (Answer V)) : Type 0 where
   pub lock_kind : m.lock_kind ≡ flag
@@ -19,11 +20,11 @@ pub record IsFlag {V : Type 0} (given : V) (m : Machine Bool V FlagCall FlagPoin
   pub number : (w : Bool) → m.numbers w ≡ bit w ∷ []
   pub value : m.value ≡ Some given
   pub owned : m.owned ≡ true
-  pub lock : (h : Option Hold) → m.asks Lock h ≡ waits to_write
+  pub lock : (h : Option Hold) → m.asks Lock h ≡ waits_to_write
   pub try_lock : (h : Option Hold) → m.asks TryLock h ≡ tries to_write
   pub try_lock_weak : (h : Option Hold) → m.asks TryLockWeak h ≡ tries_weakly to_write
   pub is_locked : (h : Option Hold) → m.asks IsLocked h ≡ looks
-  pub release : (h : Option Hold) → m.asks Release h ≡ gives_back h
+  pub release : (h : Option Hold) → m.asks Release h ≡ gives_back is_write h
   pub says : (a : Answer V) → m.says a ≡ says_of a
-  pub calls : HasCalls m.lock_kind (waits to_write ∷ tries to_write ∷ tries_weakly to_write ∷ looks ∷ gives_back (Some Write) ∷ [])
-  pub soon : AnswersIn m.lock_kind 2 (waits to_write)
+  pub calls : BeginAt m ((Lock, None) ∷ (TryLock, None) ∷ (TryLockWeak, None) ∷ (IsLocked, None) ∷ (Release, Some Write) ∷ [])
+  pub soon : AnswersIn m 2 Lock

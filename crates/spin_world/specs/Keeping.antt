@@ -1,6 +1,6 @@
 -- What users of a `Once` rely on.
-use Rattle.std.specs.Prelude.{◌≡◌, ℕ, ◌⊎◌, Bool, true, false, ◌&&◌, Option, Some, None, is_some, List, [], ◌∷◌, ◌++◌, ◌==◌, if◌then◌else◌, slice_get}
-use Rattle.spin_step.specs.Plain.{to_begin, gets, is_complete}
+use Rattle.std.specs.Prelude.{◌≡◌, ℕ, ◌⊎◌, Bool, true, false, ◌&&◌, Option, Some, None, is_some, List, [], ◌∷◌, ◌++◌, ◌==◌, if◌then◌else◌, slice_get, not, ◌||◌}
+use Rattle.spin_step.specs.Plain.{to_begin, gets, is_complete, Change, is_empty}
 use Rattle.spin_model.specs.declared.answer.Answer.{Answer}
 use Rattle.spin_model.specs.declared.answer.Answer.TheVariants.{Value, NoValue, Failed}
 use Rattle.spin_model.specs.declared.place.Hold.{Hold}
@@ -11,12 +11,14 @@ use Rattle.spin_model.specs.declared.schedule.Outcome.TheVariants.{Answered}
 use Rattle.spin_model.specs.declared.once.OnceCall.{OnceCall}
 use Rattle.spin_model.specs.declared.once.OnceCall.TheVariants.{Get}
 use Rattle.spin_model.specs.declared.once.OncePoint.{OncePoint}
-use Rattle.spin_model.specs.Calls.{Mark, Asked, initializes, fails_to_initialize, waits_for_value, polls, looks_for_value}
+use Rattle.spin_model.specs.Calls.{Asked, Mark, failed, gives_value, is_for, own_steps}
 use Rattle.spin_model.specs.StepKinds.{is_look}
 use Rattle.spin_model.specs.Schedules.{State, after, at_first}
 use Rattle.spin_world_core.specs.Runs.{Seen, scene, opening, own}
 use Rattle.spin_world_core.specs.Users.{seen_after, outcome_after}
 use Rattle.spin_model.specs.Once.{OnceMachine}
+use Rattle.spin_model.specs.declared.once.OnceCall.TheVariants.{Poll}
+use Rattle.std.specs.List.{list_any}
 
 abbrev pub Entries : Type 0 → Type 0
 Entries V = List (ℕ × Move (OnceCall V) V)
@@ -64,24 +66,21 @@ pub record OneRuns {V : Type 0} (m : OnceMachine V) (n : ℕ) (past : Entries V)
 
 -- which calls answer the value if there is one, and which run a closure if there is none
 abbrev pub wants_value : Asked → Bool
-wants_value initializes = true
-wants_value fails_to_initialize = true
-wants_value waits_for_value = true
-wants_value polls = true
-wants_value looks_for_value = true
-wants_value _ = false
+wants_value what = not (is_empty (own_steps (what.answers gives_value) 0))
+
+abbrev pub is_begun : List Change → Bool
+is_begun [] = false
+is_begun (c ∷ cs) = is_for to_begin c
 
 abbrev pub has_closure : Asked → Bool
-has_closure initializes = true
-has_closure fails_to_initialize = true
-has_closure _ = false
+has_closure what = list_any is_begun (own_steps (what.answers gives_value) 0) || list_any is_begun (own_steps (what.answers failed) 0)
 
 -- If there is a value, the next step of each call that wants it answers it. If there is none and no closure runs, the
 -- next step of a `poll` says so.
 pub record AnswersAtOnce {V : Type 0} (m : OnceMachine V) (n : ℕ) (past : Entries V) : Type 0 where
   pub value : (p : ℕ) (v : V) (c : OnceCall V) (l : OncePoint) (h : Option Hold) → (once_after m n past).value ≡ Some v → slice_get (once_after m n past).seats p ≡ Some (Calling c l h) → wants_value (m.asks c h) ≡ true
       → outcome_after m n past p Step ≡ Answered (Value v) None
-  pub none : (p : ℕ) (c : OnceCall V) (l : OncePoint) (h : Option Hold) → (once_after m n past).words ≡ 0 → slice_get (once_after m n past).seats p ≡ Some (Calling c l h) → m.asks c h ≡ polls
+  pub none : (p : ℕ) (l : OncePoint) (h : Option Hold) → (once_after m n past).words ≡ 0 → slice_get (once_after m n past).seats p ≡ Some (Calling Poll l h)
       → outcome_after m n past p Step ≡ Answered NoValue None
 
 -- after an answer with a value, a later `get` answers the same value, unless an owner replaces it

@@ -5,11 +5,12 @@ use Rattle.spin_step.specs.Plain.{nothing, complete}
 use Rattle.spin_model.specs.declared.place.Hold.{Hold}
 use Rattle.spin_model.specs.declared.answer.Answer.{Answer}
 use Rattle.spin_model.specs.declared.once.OnceCall.TheVariants.{CallOnce, TryCallOnceOk, TryCallOnceErr, InitFromRef, Wait, Poll, Get, IsCompleted}
-use Rattle.spin_model.specs.Calls.{initializes, fails_to_initialize, waits_for_value, polls, looks_for_value, looks_complete, says_of}
+use Rattle.spin_model.specs.Calls.{says_of}
+use Rattle.spin_model.specs.Asks.{fails_to_initialize, initializes, looks_complete, looks_for_value, polls, waits_for_value}
 use Rattle.spin_model.specs.OnceKind.{once}
 use Rattle.spin_model.specs.Machines.{opening_plain}
 use Rattle.spin_model.specs.Acts.{gives_of}
-use Rattle.spin_world_core.specs.Kinds.{HasCalls}
+use Rattle.spin_world_core.specs.Kinds.{BeginAt}
 use Rattle.spin_model.specs.Once.{OnceMachine}
 
 -- with this value, or with none
@@ -33,4 +34,5 @@ pub record IsOnceOf {V : Type 0} (given : Option V) (m : OnceMachine V) : Type 0
   pub says : (a : Answer V) → m.says a ≡ says_of a
   -- only an answer that is a value gives one
   pub gives : (a : Answer V) → m.gives a ≡ gives_of a
-  pub calls : HasCalls m.lock_kind (initializes ∷ fails_to_initialize ∷ waits_for_value ∷ polls ∷ looks_for_value ∷ looks_complete ∷ [])
+  pub closures : (v : V) → BeginAt m ((CallOnce v, None) ∷ (TryCallOnceOk v, None) ∷ (TryCallOnceErr, None) ∷ (InitFromRef v, None) ∷ [])
+  pub calls : BeginAt m ((Wait, None) ∷ (Poll, None) ∷ (Get, None) ∷ (IsCompleted, None) ∷ [])

@@ -1,6 +1,6 @@
 -- What a ticket lock is: how it opens, and what each of its calls asks. Where a call begins follows from what it asks.
-use Rattle.std.specs.Prelude.{◌≡◌, ℕ, true, Option, Some, [], ◌∷◌}
-use Rattle.spin_step.specs.Plain.{to_enter, to_take_and_enter}
+use Rattle.std.specs.Prelude.{◌≡◌, ℕ, true, Option, Some, None, [], ◌∷◌}
+use Rattle.spin_step.specs.Plain.{to_take_and_enter}
 use Rattle.spin_model.specs.declared.place.Hold.{Hold}
 use Rattle.spin_model.specs.declared.place.Hold.TheVariants.{Ticket}
 use Rattle.spin_model.specs.declared.answer.Answer.{Answer}
@@ -8,10 +8,11 @@ use Rattle.spin_model.specs.declared.ticket.TicketWords.{TicketWords}
 use Rattle.spin_model.specs.declared.ticket.TicketCall.{TicketCall}
 use Rattle.spin_model.specs.declared.ticket.TicketCall.TheVariants.{Lock, TryLock, IsLocked, Release}
 use Rattle.spin_model.specs.declared.ticket.TicketPoint.{TicketPoint}
-use Rattle.spin_model.specs.Calls.{waits, tries, looks, gives_back, says_of}
+use Rattle.spin_model.specs.Calls.{says_of}
+use Rattle.spin_model.specs.Asks.{gives_back, is_ticket, looks, tries_in, waits_to_enter}
 use Rattle.spin_model.specs.TicketKind.{ticket}
 use Rattle.spin_model.specs.Machines.{Machine}
-use Rattle.spin_world_core.specs.Kinds.{HasCalls}
+use Rattle.spin_world_core.specs.Kinds.{BeginAt}
 
 pub record IsTicketLock {V : Type 0} (given : V) (first : ℕ) (m : Machine TicketWords V TicketCall TicketPoint (Answer V)) : Type 0 where
   pub lock_kind : m.lock_kind ≡ ticket
@@ -20,10 +21,10 @@ pub record IsTicketLock {V : Type 0} (given : V) (first : ℕ) (m : Machine Tick
   pub numbers : (w : TicketWords) → m.numbers w ≡ w.next ∷ w.serving ∷ []
   pub value : m.value ≡ Some given
   pub owned : m.owned ≡ true
-  pub lock : (h : Option Hold) → m.asks Lock h ≡ waits to_enter
-  pub try_lock : (h : Option Hold) → m.asks TryLock h ≡ tries to_take_and_enter
+  pub lock : (h : Option Hold) → m.asks Lock h ≡ waits_to_enter
+  pub try_lock : (h : Option Hold) → m.asks TryLock h ≡ tries_in 3 to_take_and_enter
   pub is_locked : (h : Option Hold) → m.asks IsLocked h ≡ looks
-  pub release : (h : Option Hold) → m.asks Release h ≡ gives_back h
+  pub release : (h : Option Hold) → m.asks Release h ≡ gives_back is_ticket h
   pub says : (a : Answer V) → m.says a ≡ says_of a
-  pub calls : HasCalls m.lock_kind (waits to_enter ∷ tries to_take_and_enter ∷ looks ∷ [])
-  pub releases : (t : ℕ) → HasCalls m.lock_kind (gives_back (Some (Ticket t)) ∷ [])
+  pub calls : BeginAt m ((Lock, None) ∷ (TryLock, None) ∷ (IsLocked, None) ∷ [])
+  pub releases : (t : ℕ) → BeginAt m ((Release, Some (Ticket t)) ∷ [])

@@ -14,11 +14,12 @@ use Rattle.spin_model.specs.declared.schedule.Outcome.TheVariants.{GoingOn, Answ
 use Rattle.spin_model.specs.declared.ticket.TicketCall.{TicketCall}
 use Rattle.spin_model.specs.declared.ticket.TicketPoint.{TicketPoint}
 use Rattle.spin_model.specs.declared.ticket.TicketWords.{TicketWords}
-use Rattle.spin_model.specs.Calls.{Mark, AnyOf, tries}
+use Rattle.spin_model.specs.Calls.{AnyOf, Mark}
 use Rattle.spin_model.specs.Machines.{Machine}
 use Rattle.spin_model.specs.Schedules.{after, at_first}
 use Rattle.spin_world_core.specs.Runs.{Seen, opening, own_count}
 use Rattle.spin_world_core.specs.Users.{seen_after, outcome_after, steps_made}
+use Rattle.spin_world_core.specs.Order.{tries_of}
 
 -- the first ticket leaves the queue
 abbrev pub serves_one : Change → Bool
@@ -62,6 +63,6 @@ FoundNext p k span = AnyOf (λ m. (m.party ≡ p) × (next_word m.before ≡ k))
 abbrev pub TriesByTwoLoads : {V : Type 0} → Machine TicketWords V TicketCall TicketPoint (Answer V) → ℕ → List (ℕ × Move TicketCall V) → Type 0
 TriesByTwoLoads m n past =
     let seen = seen_after m (opening m n) past in
-    (p : ℕ) (c : TicketCall) (l : TicketPoint) (h : Option Hold) → slice_get (after m (at_first m n) past).seats p ≡ Some (Calling c l h) → m.asks c h ≡ tries to_take_and_enter
+    (p : ℕ) (c : TicketCall) (l : TicketPoint) (h : Option Hold) → slice_get (after m (at_first m n) past).seats p ≡ Some (Calling c l h) → tries_of (m.asks c h) ≡ Some to_take_and_enter
     → (own_count p (seen.span p) ≡ 0 → outcome_after m n past p Step ≡ GoingOn)
     × (own_count p (seen.span p) ≡ 1 → FoundNext p (serving_word seen.plain) (seen.span p) → serving_word seen.plain < ticket_limit → outcome_after m n past p Step ≡ GoingOn)

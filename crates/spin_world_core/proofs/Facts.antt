@@ -1,5 +1,5 @@
 -- What an object shows of itself: local facts, without a word of schedules.
-use Rattle.spin_world_core.proofs.Names.{◌≡◌, ℕ, zero, suc, ◌<◌, ◌≤◌, true, false, ◌||◌, Option, Some, None, List, [], ◌∷◌, Plain, Ask, Change, completes, is_open, is_empty, apply_some, IsOpenStep, entries, is_held, IsExclusive, Hold, Seat, Calling, Next, Continue, Answers, Stepped, Move, Step, Weak, StepKind, is_again, by_step, tries, encoded, BelongsTo, Said, own_steps, Mark, AnyOf, limit, may_be_weak, before_weakly, Gets, MayTryOn, is_open_now, steps_alone, Machine, opening_plain, Stepwise, placed, HasPhase, Gives, mark_of, if_completed, entries_held, is_writer, own, failures, changes, IsBeginning, RightAnswer, EndsWithin, ContinuesWithin}
+use Rattle.spin_world_core.proofs.Names.{◌≡◌, ℕ, zero, suc, ◌<◌, ◌≤◌, true, false, ◌||◌, Option, Some, None, List, [], ◌∷◌, Plain, Ask, Change, completes, is_open, is_empty, apply_some, IsOpenStep, entries, is_held, IsExclusive, Hold, Seat, Calling, Next, Continue, Answers, Stepped, Move, Step, Weak, StepKind, is_again, by_step, encoded, BelongsTo, Said, own_steps, Mark, AnyOf, Gets, MayTryOn, is_open_now, steps_alone, Machine, opening_plain, Stepwise, placed, HasPhase, Gives, mark_of, if_completed, entries_held, is_writer, own, failures, changes, IsBeginning, RightAnswer, EndsWithin, ContinuesWithin, tries_of, limit}
 use Rattle.spin_model.specs.declared.schedule.Outcome.TheVariants as outcome
 use Rattle.spin_model.specs.StepKinds as step_kind
 
@@ -27,7 +27,7 @@ module _ {W V C L A : Type 0} (m : Machine W V C L A) where
   -- how a call ends
   pub record Ends (move : Move C V) (p : ℕ) (c : C) (h : Option Hold) (s : Plain) (span : List Mark) (a : A) (after : Option Hold) : Type 0 where
     pub stands : entries p s ≡ entries_held p after
-    pub own_steps_are : AnyOf (λ steps. own p span ≡ steps) (own_steps (m.asks c h) (m.says a) p)
+    pub own_steps_are : AnyOf (λ steps. own p span ≡ steps) (own_steps ((m.asks c h).answers (m.says a)) p)
     pub right : RightAnswer m p span (outcome.Answered a None) (Some (m.asks c h)) move
     pub in_time : EndsWithin (limit m.lock_kind (m.asks c h)) m.lock_kind p span
 
@@ -49,7 +49,7 @@ module _ {W V C L A : Type 0} (m : Machine W V C L A) where
     -- how a call continues, by this step of its span
     pub record Continues (p : ℕ) (c : C) (l : L) (h : Option Hold) (s : Plain) (span : List Mark) : Type 0 where
       pub knows : k.Knows c l h p s span
-      pub own_so_far : (said : Said) × AnyOf (λ steps. IsBeginning (own p span) steps) (own_steps (m.asks c h) said p)
+      pub own_so_far : (said : Said) × AnyOf (λ steps. IsBeginning (own p span) steps) (own_steps ((m.asks c h).answers said) p)
       pub in_time : ContinuesWithin (limit m.lock_kind (m.asks c h)) m.lock_kind p span
 
     abbrev pub NextIs : Move C V → ℕ → C → Option Hold → Plain → List Mark → Next L A → Type 0
@@ -87,15 +87,15 @@ module _ {W V C L A : Type 0} (m : Machine W V C L A) where
         -- a call whose next step is due gets what it tries for, if that is open
         pub due : Gets m.lock_kind p (m.asks c h) span s (m.change p w c l h) (by_step (m.step_kind c l h))
         -- a try goes on only where it may
-        pub tries_on : (ask : Ask) → m.asks c h ≡ tries ask → own p span ≡ [] → GoesOnOpen ask p span s (m.step w v c l h).next (m.change p w c l h)
+        pub tries_on : (ask : Ask) → tries_of (m.asks c h) ≡ Some ask → own p span ≡ [] → GoesOnOpen ask p span s (m.step w v c l h).next (m.change p w c l h)
         -- where what a call that may wait asks is open to it, it is answered by so many steps, if no other party steps
-        pub undisturbed : is_open_now p (m.asks c h) span s ≡ true → AnswersWithin (steps_alone m.lock_kind (m.asks c h)) w c l h
+        pub undisturbed : is_open_now p (m.asks c h) span s ≡ true → AnswersWithin (steps_alone (m.asks c h)) w c l h
         -- a closure completes only where nobody holds the lock
         pub completes_alone : (q : ℕ) → m.change p w c l h ≡ Some (completes q) → is_held s ≡ false
         -- a weak exchange that fails makes no plain step
         pub refuses : (next : Next L A) → m.refuse c l h ≡ Some next → NextIs Weak p c h s (mark_of p None step_kind.weak s ∷ span) next
         -- and is made by a call that may be weak, before it has made a plain step
-        pub weakly : (next : Next L A) → m.refuse c l h ≡ Some next → (may_be_weak (m.asks c h) ≡ true) × (own p span ≡ before_weakly (m.asks c h) p)
+        pub weakly : (next : Next L A) → m.refuse c l h ≡ Some next → ((m.asks c h).is_weak ≡ true) × (own p span ≡ (m.asks c h).before_weakly p)
         -- values that closures make
         pub values : ValueIs c v (m.step w v c l h) (m.change p w c l h)
         pub refusal_gives : (next : Next L A) → m.refuse c l h ≡ Some next → NextGives v next

@@ -1,5 +1,5 @@
 -- An object whose closures make its value: what its table owes, and that it then shows all local facts.
-use Rattle.spin_world_core.proofs.Names.{◌≡◌, ℕ, zero, suc, Bool, true, false, is_some, Option, Some, None, List, ◌∷◌, sym, ◌∙◌, arith, false≢true, Plain, Phase, Change, completes, is_complete, apply_some, IsOpenStep, entries, is_held, Answer, Hold, Next, Continue, Answers, Stepped, Step, StepKind, by_step, encoded, says_of, Mark, may_be_weak, Machine, opening_phase, placed, mark_of, if_completed, is_writer, Memory, Act, store, step_by, change_at, change_by, makes_by, is_completion, step_kind_by, Table, machine_of, completes_by, brought, filled, machine_with, steps_alone}
+use Rattle.spin_world_core.proofs.Names.{◌≡◌, ℕ, zero, suc, Bool, true, false, is_some, Option, Some, None, List, ◌∷◌, sym, ◌∙◌, arith, false≢true, Plain, Phase, Change, completes, is_complete, apply_some, IsOpenStep, entries, is_held, Answer, Hold, Next, Continue, Answers, Stepped, Step, StepKind, by_step, encoded, says_of, Mark, Machine, opening_phase, placed, mark_of, if_completed, is_writer, Memory, Act, store, step_by, change_at, change_by, makes_by, is_completion, step_kind_by, Table, machine_of, completes_by, brought, filled, machine_with, steps_alone}
 use Rattle.spin_model.specs.declared.answer.Answer.TheVariants.{Value}
 use Rattle.spin_world_core.proofs.Facts.{LocalInvariant, AnswersWithin, InCall, NextIs, NextGives, StepIs, PointFacts, Facts}
 use Rattle.spin_world_core.proofs.Operating.{change_is, open_filled, counted_filled, stepwise_with}
@@ -30,7 +30,7 @@ TellsBy V m i act p s w = TellsOf (apply_some s (change_by m i act p w)).phase (
 -- what an object shows of its table
 pub record PaysWith {W V C L : Type 0} (t : Table W V C L (Answer (Unit {0}))) (n : Notes t) (brings : C → Option V) : Type 0 where
   pub pays : Pays t n
-  pub strong : (c : C) (h : Option Hold) → may_be_weak (t.asks c h) ≡ false
+  pub strong : (c : C) (h : Option Hold) (d : Change) → (t.asks c h).gets_weakly d ≡ false
   pub says : (a : Answer (Unit {0})) → t.says a ≡ says_of a
   pub phase_first : is_complete (opening_phase t.lock_kind.makes_value t.value) ≡ is_some t.value
   -- nobody holds it
@@ -114,7 +114,7 @@ module _ {W V C L : Type 0} (t : Table W V C L (Answer (Unit {0}))) (n : Notes t
           counted = counted_filled _ s _ st.next _ _ shown.counted;
           due = shown.due;
           tries_on = λ ask is none. open_filled ask p span s _ st.next _ (shown.tries_on ask is none);
-          undisturbed = λ may. answers_with (steps_alone t.lock_kind (t.asks c h)) w c l h (shown.soon may);
+          undisturbed = λ may. answers_with (steps_alone (t.asks c h)) w c l h (shown.soon may);
           completes_alone = λ q is. pays.none_holds s here.shape.0;
           refuses = λ next is. absurd (cc (is));
           weakly = λ next is. absurd (cc (is));
@@ -125,7 +125,7 @@ module _ {W V C L : Type 0} (t : Table W V C L (Answer (Unit {0}))) (n : Notes t
   pub facts_with : Facts m keeping_with
   facts_with =
       record {
-        stepwise = stepwise_with t brings pays.pays.fits pays.pays.operates pays.strong;
+        stepwise = stepwise_with t brings pays.pays.fits pays.pays.operates pays.pays.calls pays.pays.own pays.strong;
         first = pays.pays.first;
         shape_first = (pays.pays.shape_first, pays.phase_first);
         numbers_tell = pays.pays.numbers_tell;

@@ -1,6 +1,6 @@
 -- The steps of a table as operations, and what its shapes show by themselves.
 use Rattle.std.proofs.lemmas.Bool.{not-true}
-use Rattle.spin_world_core.proofs.Names.{◌≡◌, ℕ, Bool, true, false, not, ◌&&◌, ◌||◌, Option, Some, None, is_some, slice_set, unwrap_or, refl, ap, subst, arith, List, and_parts, Plain, Ask, Change, is_open, Hold, Answer, Next, StepKind, is_again, LockKind, is_step_of, Asked, may_be_weak, is_got_weakly, Mark, performed, Performs, IsOneOperation, RefusesAsLost, Stepwise, Memory, one_number, number_at, Act, weak_exchange, place_of, made_if, change_at, refusal_by, makes_by, operation_by, is_section, step_by, Table, machine_of, filled, machine_with}
+use Rattle.spin_world_core.proofs.Names.{AnyOf, own_steps, list_all, Said, ◌≡◌, ℕ, Bool, true, false, not, ◌&&◌, ◌||◌, Option, Some, None, is_some, slice_set, unwrap_or, refl, ap, subst, arith, List, and_parts, Plain, Ask, Change, is_open, Hold, Answer, Next, StepKind, is_again, LockKind, is_step_of, Asked, Mark, performed, Performs, IsOneOperation, RefusesAsLost, Stepwise, Memory, one_number, number_at, Act, weak_exchange, place_of, made_if, change_at, refusal_by, makes_by, operation_by, is_section, step_by, Table, machine_of, filled, machine_with}
 use Rattle.spin_world_core.proofs.Facts.{GoesOnOpen, ContinuesCounted}
 
 -- What has to be shown
@@ -9,7 +9,16 @@ use Rattle.spin_world_core.proofs.Facts.{GoesOnOpen, ContinuesCounted}
 -- step. And a step is a section only in a kind of lock that has sections.
 abbrev pub fits_step : LockKind → Asked → Bool → Option Change → Bool
 fits_step kind what weakly None = true
-fits_step kind what weakly (Some c) = is_step_of kind c && (weakly || not (is_got_weakly what c))
+fits_step kind what weakly (Some c) = is_step_of kind c && (weakly || not (what.gets_weakly c))
+
+-- its calls are those of its kind of lock
+abbrev pub CallsFit : {W V C L A : Type 0} → Table W V C L A → Type 0
+CallsFit {C = C} t = (c : C) (h : Option Hold) → (n : ℕ) × AnyOf (λ what. t.asks c h ≡ what) (t.lock_kind.calls n h)
+
+-- a call that begins makes the plain steps of its kind of lock
+abbrev pub OwnFits : {W V C L A : Type 0} → Table W V C L A → Type 0
+OwnFits {C = C} t =
+    (c : C) (h : Option Hold) (said : Said) (p : ℕ) → (t.asks c h).begins h ≡ true → list_all (list_all (is_step_of t.lock_kind)) (own_steps ((t.asks c h).answers said) p) ≡ true
 
 abbrev pub may_be_section : Bool → Bool → Bool
 may_be_section true is = true
@@ -41,7 +50,7 @@ pub change_is : {W L A : Type 0} (n : ℕ) (act : Act W L A) (p : ℕ) (w : W) (
 change_is n act p w d is = grind arith
 
 -- so it is one that the lock makes, and what is got weakly is got by a weak exchange
-pub fits_made : (kind : LockKind) (what : Asked) (weakly : Bool) (o : Option Change) (d : Change) → fits_step kind what weakly o ≡ true → o ≡ Some d → (is_step_of kind d ≡ true) × (is_got_weakly what d ≡ true → weakly ≡ true)
+pub fits_made : (kind : LockKind) (what : Asked) (weakly : Bool) (o : Option Change) (d : Change) → fits_step kind what weakly o ≡ true → o ≡ Some d → (is_step_of kind d ≡ true) × (what.gets_weakly d ≡ true → weakly ≡ true)
 fits_made kind what weakly o d fit is = grind arith
 
 -- a step that continues the call without its plain step is counted, if that step is open
@@ -62,7 +71,7 @@ pub operates_by : {W V C L A : Type 0} (t : Table W V C L A) → ((i : ℕ) → 
 operates_by t places c l h w one = let place = places (place_of (t.word l) (t.act c l h)) in grind (arith, one, place.stays w, place.put)
 
 module _ {W V C L A : Type 0} (t : Table W V C L A) (fit : (p : ℕ) (c : C) (l : L) (h : Option Hold) → fits_act t.lock_kind (t.asks c h) (t.act c l h) p ≡ true) (operates : Operates t) where
-  pub fits_change : (p : ℕ) (c : C) (l : L) (h : Option Hold) (n : ℕ) (w : W) (d : Change) → change_at n (t.act c l h) p w ≡ Some d → (is_step_of t.lock_kind d ≡ true) × (is_got_weakly (t.asks c h) d ≡ true → is_some (refusal_by (t.act c l h)) ≡ true)
+  pub fits_change : (p : ℕ) (c : C) (l : L) (h : Option Hold) (n : ℕ) (w : W) (d : Change) → change_at n (t.act c l h) p w ≡ Some d → (is_step_of t.lock_kind d ≡ true) × ((t.asks c h).gets_weakly d ≡ true → is_some (refusal_by (t.act c l h)) ≡ true)
   fits_change p c l h n w d is = fits_made t.lock_kind (t.asks c h) _ (makes_by (t.act c l h) p) d (and_parts _ _ (fit p c l h)).0 (change_is n (t.act c l h) p w d is)
 
   performs_of : (c : C) (l : L) (h : Option Hold) → is_section (t.act c l h) ≡ false → Performs (machine_of t) c l h (place_of (t.word l) (t.act c l h)) (operation_by (t.act c l h))
@@ -80,10 +89,12 @@ module _ {W V C L A : Type 0} (t : Table W V C L A) (fit : (p : ℕ) (c : C) (l 
       (i, k, unwrap_or (f k) k, performs, λ w v other. grind (arith, same, is), λ p w found. grind (arith, same))
   lost_of c l h _ next same is = absurd (cc (is))
 
-  pub stepwise_of : Stepwise (machine_of t)
-  stepwise_of =
+  pub stepwise_of : CallsFit t → OwnFits t → Stepwise (machine_of t)
+  stepwise_of calls own =
       record {
+        calls = calls;
         begins = λ c h. grind arith;
+        fits = own;
         refuses = λ c l h next is. lost_of c l h (t.act c l h) next refl is;
         weak = λ p c l h w d is. (fits_change p c l h (number_at t.memory (place_of (t.word l) (t.act c l h)) w) w d is).1;
         operates = λ c l h. operation_of t.lock_kind.steps_in_sections c l h (and_parts _ _ (fit 0 c l h)).1;
@@ -96,13 +107,15 @@ module _ {W V C L : Type 0} (t : Table W V C L (Answer (Unit {0}))) (brings : C 
   operation_with false c l h o =
       (o.0, o.1, record { words = o.2.words; next = λ w u v can may same. grind (arith, o.2.next w u v can may same); placed = λ w u v. refl })
 
-  pub stepwise_with : ((c : C) (h : Option Hold) → may_be_weak (t.asks c h) ≡ false) → Stepwise (machine_with t brings)
-  stepwise_with strong =
-      let is = stepwise_of t fit operates in
+  pub stepwise_with : CallsFit t → OwnFits t → ((c : C) (h : Option Hold) (d : Change) → (t.asks c h).gets_weakly d ≡ false) → Stepwise (machine_with t brings)
+  stepwise_with calls own strong =
+      let is = stepwise_of t fit operates calls own in
       record {
+        calls = calls;
         begins = is.begins;
+        fits = is.fits;
         refuses = λ c l h next is. absurd (cc (is));
-        weak = λ p c l h w d is got. grind (arith, strong c h);
+        weak = λ p c l h w d is got. grind (arith, strong c h d);
         operates = λ c l h. operation_with t.lock_kind.steps_in_sections c l h (is.operates c l h);
         looks = is.looks;
       }

@@ -60,20 +60,20 @@ module _ {W V C L A : Type 0} (m : Machine W V C L A) where
       pub owner_get_kept : (y : Seat C L) → is_owners m seen.state ≡ true
           → Preserved m k (scene_of seen p OwnerGet (Some y) (owner_gets seen.state true) None step_kind.plain None)
       owner_get_kept y may =
-          kept_aside m k f _ (good_let_go seen.state.value seen.written good.shape good.written) (tt, tt, tt, tt, tt, tt, tt, tt, tt, tt)
+          kept_aside m k f _ (good_let_go seen.state.value seen.written good.shape good.written) (search)
           (λ r e. cc (e, good.written)) (owns may)
           (λ e. cc (e)) may (and_parts m.owned (list_all yields_to_owner seen.state.seats) may).0 (refl, refl) tt (leaves_calls seen.state.seats)
 
       owner_writes_kept : (v : V) (y : Seat C L) (o : Option V) → is_owners m seen.state ≡ true → seen.state.value ≡ o
           → Preserved m k (scene_of seen p (OwnerSet v) (Some y) (owner_writes seen.state v o) None step_kind.plain None)
       owner_writes_kept v y None may found =
-          kept_aside m k f _ (good_let_go seen.state.value seen.written good.shape good.written) (tt, tt, tt, tt, tt, tt, tt, tt, tt, tt)
+          kept_aside m k f _ (good_let_go seen.state.value seen.written good.shape good.written) (search)
           (λ r e. cc (e, good.written, found)) (owns may)
           (λ e. cc (e)) may (and_parts m.owned (list_all yields_to_owner seen.state.seats) may).0 (subst (λ old. ComesTo {C = C} {A = A} (OwnerSet v) None old seen.state.value (outcome.Value None)) (sym found)
           (refl, found)) tt (leaves_calls seen.state.seats)
       owner_writes_kept v y (Some old) may found =
           kept_aside m k f _ (good_let_go (Some v) (Some v) (f.shape_set seen.plain old v (subst (k.Shape seen.plain) found good.shape)) refl)
-          (tt, tt, tt, tt, tt, tt, tt, tt, tt, tt) (λ r e. absurd (cc (e))) (owns may) (λ e. cc (e)) may (and_parts m.owned (list_all yields_to_owner seen.state.seats) may).0
+          (search) (λ r e. absurd (cc (e))) (owns may) (λ e. cc (e)) may (and_parts m.owned (list_all yields_to_owner seen.state.seats) may).0
           (subst (λ o. ComesTo {C = C} {A = A} (OwnerSet v) None o (Some v) outcome.Written) (sym found) (refl, refl)) tt (leaves_calls seen.state.seats)
 
       pub owner_set_kept : (v : V) (y : Seat C L) → is_owners m seen.state ≡ true

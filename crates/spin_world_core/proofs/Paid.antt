@@ -1,28 +1,28 @@
 -- An object that pays what its table owes shows all local facts.
-use Rattle.spin_world_core.proofs.Names.{◌≡◌, ℕ, zero, suc, ◌+◌, ◌<◌, ◌≤◌, ◌==◌, Bool, true, false, not, is_some, Option, Some, None, List, [], ◌∷◌, ◌++◌, option_to_list, get_or, if◌then◌else◌, refl, ap, sym, ◌∙◌, subst, arith, and_parts, false≢true, true≢false, eqb-true, Plain, is_empty, Ask, Change, gets, completes, is_open, is_open_to, apply_some, IsOpenStep, entries, IsExclusive, bit, Hold, Next, Continue, Answers, Stepped, Move, Step, Weak, StepKind, plain, again, look, weak, is_again, by_step, Asked, tries, encoded, is_step_of, BelongsTo, Said, own_steps, AnyOf, Mark, first_word, Limit, limit, may_be_weak, before_weakly, arrived, is_open_next, is_open_now, steps_alone, goes_for, Way, way_of, is_due_by, LooksElse, Gets, mark_of, if_completed, entries_held, own, failures, changes, IsBeginning, RightAnswer, ContinuesWithin, number_at, Act, load, load_if, load_for, enter, exchange, weak_exchange, attempt, retry, store, section, swap, tried, guessed, either, stays, passing, becomes, retried, step_by, made_if, change_by, can_by, refusal_by, makes_by, is_waiting, look_kind, step_kind_by, Table, begin_of, machine_of, performed, placed, HasPhase}
+use Rattle.spin_world_core.proofs.Names.{◌≡◌, ℕ, zero, suc, ◌+◌, ◌<◌, ◌≤◌, ◌==◌, Bool, true, false, not, is_some, Option, Some, None, List, [], ◌∷◌, ◌++◌, option_to_list, get_or, if◌then◌else◌, refl, ap, sym, ◌∙◌, subst, arith, and_parts, false≢true, true≢false, eqb-true, Plain, is_empty, Ask, Change, gets, completes, is_open, is_open_to, apply_some, IsOpenStep, entries, IsExclusive, bit, Hold, Next, Continue, Answers, Stepped, Move, Step, Weak, StepKind, plain, again, look, weak, is_again, by_step, Asked, encoded, is_step_of, BelongsTo, Said, own_steps, AnyOf, Mark, first_word, Limit, arrived, is_open_now, steps_alone, Way, way_of, is_due_by, LooksElse, Gets, mark_of, if_completed, entries_held, own, failures, changes, IsBeginning, RightAnswer, ContinuesWithin, number_at, Act, load, load_if, load_for, enter, exchange, weak_exchange, attempt, retry, store, section, swap, tried, guessed, either, stays, passing, becomes, retried, step_by, made_if, change_by, can_by, refusal_by, makes_by, look_kind, step_kind_by, Table, begin_of, machine_of, performed, placed, HasPhase, tries_of, goes_of, limit}
 use Rattle.spin_model.specs.declared.schedule.Outcome.TheVariants as outcome
 use Rattle.spin_world_core.proofs.Facts.{AnswersWithin, InCall, NextIs, NextGives, GoesOnOpen, ContinuesCounted, PointFacts, Facts}
 use Rattle.spin_world_core.proofs.Operating.{made_named, fits_change, fits_made, counted_of, stepwise_of}
 use Rattle.spin_world_core.proofs.Spans.{own-mine, retries-mine}
 use Rattle.spin_world_core.proofs.Stands.{entries_at, stand_of, held_at, stand-mine}
-use Rattle.spin_world_core.proofs.Rows.{Opened, OwesRight, Branch, goes, finds_open, loses, misses, Branched, may_spend, tries_open, need, need_of, Needs, rests, peeks, needs-mine, needs_first, spent-mine, goes_within, ends_within, ends_owed, any_map, moment_of, weak_moment_of, Row, IsSound, sound_at, Expects, expects-mine, none_spent, none_expected, known-other, SoundAt}
+use Rattle.spin_world_core.proofs.Rows.{Opened, OwesRight, Branch, goes, finds_open, loses, misses, Branched, may_spend, tries_open, need, need_of, Needs, rests, peeks, needs-mine, needs_first, spent-mine, goes_within, ends_within, any_map, moment_of, weakly_right, Row, IsSound, sound_at, Expects, expects-mine, none_spent, none_expected, known-other, SoundAt}
 use Rattle.spin_world_core.proofs.Shapes.{Notes, is_answer, row_of, KnowsRow, keeping_of, call_of, At, Means, FindsAnother, FollowsRow, Follows, Owes, OwesRow, goes_by, answers_by, AnswersRow, BeginsRow, BeginsAt, sure_by, aim_by, aim_of, aimed, aimed_at, Pays}
 
 -- a step that completes no closure does not change the value last written
 pub uncompleted : {V : Type 0} (old put : Option V) (step : Option Change) → ((q : ℕ) → step ≡ Some (completes q) → ⊥) → old ≡ if_completed old put step
 uncompleted old put step none = grind (arith, none)
 
-abbrev Aimed : {W L A : Type 0} → Asked → Act W L A → List Change → ℕ → Type 0
-Aimed what act made p = aim_by what act p ≡ aimed p (aim_of what made) (aim_by what act p)
+abbrev Aimed : {W L A : Type 0} → Option Ask → Option Ask → Act W L A → List Change → ℕ → Type 0
+Aimed tries due act made p = aim_by tries act p ≡ aimed p (aim_of tries due made) (aim_by tries act p)
 
-aims_sure : {W L A : Type 0} (what : Asked) (act : Act W L A) (made : List Change) (ask : Ask) (p : ℕ) → goes_for what made ≡ Some ask → Aimed what act made p → sure_by act p ≡ aimed p (Some ask) (sure_by act p)
-aims_sure what act made ask p is aims = grind arith
+aims_sure : {W L A : Type 0} (tries due : Option Ask) (act : Act W L A) (made : List Change) (ask : Ask) (p : ℕ) → tries ≡ None → due ≡ Some ask → Aimed tries due act made p → sure_by act p ≡ aimed p (Some ask) (sure_by act p)
+aims_sure tries due act made ask p none is aims = grind arith
 
-aims_try : {W L A : Type 0} (what : Asked) (act : Act W L A) (made : List Change) (ask : Ask) (p : ℕ) → what ≡ tries ask → made ≡ [] → Aimed what act made p → aim_by (tries ask) act p ≡ aimed p (Some ask) (aim_by (tries ask) act p)
-aims_try what act made ask p is none aims = subst (λ cs. Aimed (tries ask) act cs p) none (subst (λ k. Aimed k act made p) is aims)
+aims_try : {W L A : Type 0} (tries due : Option Ask) (act : Act W L A) (made : List Change) (ask : Ask) (p : ℕ) → tries ≡ Some ask → made ≡ [] → Aimed tries due act made p → aim_by (Some ask) act p ≡ aimed p (Some ask) (aim_by (Some ask) act p)
+aims_try tries due act made ask p is none aims = subst (λ cs. Aimed (Some ask) due act cs p) none (subst (λ k. Aimed k due act made p) is aims)
 
--- only a call that waits goes for anything so
-goes_waiting : (what : Asked) (made : List Change) (ask : Ask) → goes_for what made ≡ Some ask → is_waiting what ≡ true
+-- only a call that waits goes for anything so, and it is no try
+goes_waiting : (what : Asked) (made : List Change) (ask : Ask) → goes_of what made ≡ Some ask → (what.waits ≡ true) × (tries_of what ≡ None)
 goes_waiting what made ask is = grind arith
 
 -- the result of a step of such a shape; by itself it stores no value
@@ -34,10 +34,6 @@ pub record Went {W V C L A : Type 0} (t : Table W V C L A) (n : Notes t) (p : �
   pub unplaced : st.placed ≡ None
   pub next : NextIs (machine_of t) (keeping_of t n) Step p c h (apply_some s step) (mark_of p step r s ∷ span) st.next
   pub fails : is_again r ≡ true → step ≡ None → failures p span < changes t.lock_kind p span
-
--- only a call that waits has what it asks open in its present state
-waits_where : (what : Asked) (first : Bool) (k p : ℕ) (s : Plain) → is_open_next what first k p s ≡ true → is_waiting what ≡ true
-waits_where what first k p s may = grind arith
 
 finds_another : (what : Limit) (some : Bool) → some ≡ true → FindsAnother what false some
 finds_another what some is = grind arith
@@ -57,23 +53,23 @@ pub record Shown {W V C L A : Type 0} (t : Table W V C L A) (n : Notes t) (p : �
   pub went : Went t n p c h s span (step_by t.memory (t.word l) (t.act c l h) w) (change_by t.memory (t.word l) (t.act c l h) p w)
       (by_step (step_kind_by (t.asks c h) (t.act c l h)))
   pub refusal : (next : Next L A) → refusal_by (t.act c l h) ≡ Some next
-      → NextIs (machine_of t) (keeping_of t n) Weak p c h s (mark_of p None weak s ∷ span) next × (may_be_weak (t.asks c h) ≡ true)
-      × (own p span ≡ before_weakly (t.asks c h) p)
+      → NextIs (machine_of t) (keeping_of t n) Weak p c h s (mark_of p None weak s ∷ span) next × ((t.asks c h).is_weak ≡ true)
+      × (own p span ≡ (t.asks c h).before_weakly p)
   pub counted : ContinuesCounted (λ u. change_by t.memory (t.word l) (t.act c l h) p u) s (step_by {V = V} t.memory (t.word l) (t.act c l h) w).next
       (change_by t.memory (t.word l) (t.act c l h) p w) (by_step (step_kind_by (t.asks c h) (t.act c l h)))
   pub due : Gets t.lock_kind p (t.asks c h) span s (change_by t.memory (t.word l) (t.act c l h) p w) (by_step (step_kind_by (t.asks c h) (t.act c l h)))
-  pub tries_on : (ask : Ask) → t.asks c h ≡ tries ask → own p span ≡ []
+  pub tries_on : (ask : Ask) → tries_of (t.asks c h) ≡ Some ask → own p span ≡ []
       → GoesOnOpen ask p span s (step_by {V = V} t.memory (t.word l) (t.act c l h) w).next (change_by t.memory (t.word l) (t.act c l h) p w)
-  pub soon : is_open_now p (t.asks c h) span s ≡ true → answers_by t (steps_alone t.lock_kind (t.asks c h)) w c l h ≡ true
+  pub soon : is_open_now p (t.asks c h) span s ≡ true → answers_by t (steps_alone (t.asks c h)) w c l h ≡ true
 
 module _ {W V C L A : Type 0} (t : Table W V C L A) (n : Notes t) (sound_all : (p : ℕ) (c : C) (l : L) (h : Option Hold) → SoundAt t.lock_kind (t.asks c h) p (n.point c l h)) where
   first_is : (w : W) (s : Plain) → t.memory.numbers w ≡ encoded t.lock_kind s → number_at t.memory 0 w ≡ first_word t.lock_kind s
   first_is w s encodes = ap (λ numbers. get_or numbers 0 0) encodes
 
-  right_by : (weakly : Bool) (p : ℕ) (c : C) (h : Option Hold) (a : A) (span : List Mark) → Opened span → AnyOf (λ steps. own p span ≡ steps) (own_steps (t.asks c h) (t.says a) p) → OwesRight weakly (t.asks c h) (t.says a) p span
+  right_by : (weakly : Bool) (p : ℕ) (c : C) (h : Option Hold) (a : A) (span : List Mark) → Opened span → AnyOf (λ steps. own p span ≡ steps) (own_steps ((t.asks c h).answers (t.says a)) p) → OwesRight weakly (t.asks c h) (t.says a) p span
       → RightAnswer (machine_of t) p span (outcome.Answered a None) (Some (t.asks c h)) (move_of {C = C} {V = V} weakly)
-  right_by true p c h a span opened is owed = weak_moment_of (t.asks c h) (t.says a) p span opened is owed
-  right_by false p c h a span opened is owed = moment_of (t.asks c h) (t.says a) p span opened is owed
+  right_by true p c h a span opened is owed = weakly_right ((t.asks c h).needs_no_cause (t.says a)) _ _ (moment_of ((t.asks c h).answers (t.says a)) p span opened is) owed
+  right_by false p c h a span opened is owed = moment_of ((t.asks c h).answers (t.says a)) p span opened is owed
 
   pub answers_within : (k : ℕ) (w : W) (c : C) (l : L) (h : Option Hold) → answers_by t k w c l h ≡ true → AnswersWithin (machine_of t) k w c l h
   answers_within zero w c l h soon = absurd (false≢true soon)
@@ -116,12 +112,12 @@ module _ {W V C L A : Type 0} (t : Table W V C L A) (n : Notes t) (sound_all : (
     goes_to : (step : Option Change) (r : StepKind) (branch : Branch) (m : L) (o : Option Row) → IsOpenStep s p step → Branched branch s step r → (is_again r ≡ true → step ≡ None → failures p span < changes t.lock_kind p span)
         → IsSound t.lock_kind (t.asks c h) p o → ComesRow step r branch m o
         → KnowsRow t n c m h p (apply_some s step) (spanned step r) o
-        × ((said : Said) × AnyOf (λ steps. IsBeginning (own p (spanned step r)) steps) (own_steps (t.asks c h) said p))
+        × ((said : Said) × AnyOf (λ steps. IsBeginning (own p (spanned step r)) steps) (own_steps ((t.asks c h).answers said) p))
         × ContinuesWithin limited t.lock_kind p (spanned step r)
     goes_to step r branch m None may branched lost sound follows = absurd follows
     goes_to step r branch m (Some to) may branched lost sound follows =
         let retries = retries-mine t.lock_kind p step r s span at.retries lost in
-        let spends = may_spend (t.asks c h) branch step p s span _ follows.2 in
+        let spends = may_spend (tries_of (t.asks c h)) branch step p s span _ follows.2 in
         let found = needs-mine p s step r span (need_of t.lock_kind (t.asks c h) (to.made p) (t.act c m h)) _ follows.3 in
         let made = made_now step r (to.made p) follows.1 in
         let spent = spent-mine p s step r span limited t.lock_kind branch (to.made p) row.spent to.spent branched made spends at.known.spent in (
@@ -138,7 +134,7 @@ module _ {W V C L A : Type 0} (t : Table W V C L A) (n : Notes t) (sound_all : (
           ),
           (
             to.said,
-            any_map (λ steps. to.made p ++ to.rest p ≡ steps) (λ steps. IsBeginning (own p (spanned step r)) steps) (own_steps (t.asks c h) to.said p)
+            any_map (λ steps. to.made p ++ to.rest p ≡ steps) (λ steps. IsBeginning (own p (spanned step r)) steps) (own_steps ((t.asks c h).answers to.said) p)
                 (λ steps e. (to.rest p, ap (λ cs. cs ++ to.rest p) made ∙ e)) sound.1,
           ),
           goes_within limited t.lock_kind branch (to.made p) row.spent to.spent p (spanned step r) made sound.0 retries spends spent,
@@ -151,14 +147,14 @@ module _ {W V C L A : Type 0} (t : Table W V C L A) (n : Notes t) (sound_all : (
         record { knows = there.0; own_so_far = there.1; in_time = there.2 }
     followed weakly step r branch (Answers a after) may branched lost follows =
         let made = any_map (λ steps. row.made p ++ option_to_list step ≡ steps) (λ steps. own p (spanned step r) ≡ steps)
-        (own_steps (t.asks c h) (t.says a) p) (λ steps e. made_now step r steps e) follows.1 in
+        (own_steps ((t.asks c h).answers (t.says a)) p) (λ steps e. made_now step r steps e) follows.1 in
         record {
           stands = stand-mine s p step row.stand (stand_of after) may at.known.stand follows.0 ∙ sym (held_at p after);
           own_steps_are = made;
           right = right_by weakly p c h a (spanned step r) (may, at.known.opened) made follows.2;
           in_time =
               ends_within limited t.lock_kind (row.made p) row.spent p s step r span sound.0 at.retries at.known.spent
-              (ends_owed t.lock_kind weakly (t.asks c h) (t.says a) p (spanned step r) made follows.2);
+              follows.3;
         }
 
     abbrev Is : Stepped W V L A → Option Change → StepKind → Type 0
@@ -199,7 +195,7 @@ module _ {W V C L A : Type 0} (t : Table W V C L A) (n : Notes t) (sound_all : (
     made_on : (ask : Ask) (next : Next L A) (d : Change) → GoesOnOpen ask p span s next (Some d)
     made_on ask next d = grind arith
 
-    module _ (ask : Ask) (is : t.asks c h ≡ tries ask) where
+    module _ (ask : Ask) (is : tries_of (t.asks c h) ≡ Some ask) where
       open_on : (next : Next L A) → is_open_to s p ask ≡ true → GoesOnOpen ask p span s next None
       open_on next may = grind (arith, tries_open ask p span s)
 
@@ -216,7 +212,7 @@ module _ {W V C L A : Type 0} (t : Table W V C L A) (n : Notes t) (sound_all : (
       went : Is st step r
       counted : ContinuesCounted change s st.next step r
       got : (e : Change) → sure ≡ Some e → is_open s e ≡ true → step ≡ Some e
-      tried : (ask : Ask) → t.asks c h ≡ tries ask → aim ask ≡ aimed p (Some ask) (aim ask) → GoesOnOpen ask p span s st.next step
+      tried : (ask : Ask) → tries_of (t.asks c h) ≡ Some ask → aim ask ≡ aimed p (Some ask) (aim ask) → GoesOnOpen ask p span s st.next step
 
     stayed : (r : StepKind) (next : Next L A) → is_again r ≡ false → Comes false None r goes next → Done (stays w next) None r (λ u. None) None (λ ask. None)
     stayed r next single follows =
@@ -316,15 +312,15 @@ module _ {W V C L A : Type 0} (t : Table W V C L A) (n : Notes t) (sound_all : (
         → OwesHere i act
         → Done (step_by t.memory i act w) (change_by t.memory i act p w) (by_step (step_kind_by (t.asks c h) act)) (λ u. change_by t.memory i act p u)
         (sure_by act p)
-        (λ ask. aim_by (tries ask) act p)
+        (λ ask. aim_by (Some ask) act p)
     done i (load next) own expects owes = stayed plain (next (number i)) refl owes
-    done i (load_if test a b) own expects owes = tested looking (test (number i)) _ _ (no_retry (is_waiting (t.asks c h))) owes.0 owes.1
+    done i (load_if test a b) own expects owes = tested looking (test (number i)) _ _ (no_retry ((t.asks c h).waits)) owes.0 owes.1
     done i (load_for f step found missed) own expects owes =
         looked (put_at i) plain finds_open (f (number i)) (step p) _ missed (λ u. None) tt (unretried refl) owes.0 owes.1 owes.2
         (λ next. counted_of _ s next None plain (λ u e is may none. absurd (cc (is))))
     done i (enter test step won lost) own expects owes =
         exchanged (λ k. w) looking (passing (test (number i)) (number i)) (step p) won lost _ (λ u e is. made_named _ (step p) e is)
-        (no_retry (is_waiting (t.asks c h)))
+        (no_retry ((t.asks c h).waits))
         (own (step p) refl) owes.0 owes.1 owes.2
     done i (exchange operation step won lost) own expects owes =
         exchanged (put_at i) plain (tried operation (number i)) (step p) won _ _ (λ u e is. made_named _ (step p) e is) refl
@@ -350,7 +346,7 @@ module _ {W V C L A : Type 0} (t : Table W V C L A) (n : Notes t) (sound_all : (
 
     -- a weak exchange is its call's first plain step
     refusal_is : (i : ℕ) (act : Act W L A) (next : Next L A) → OwesHere i act → refusal_by act ≡ Some next
-        → NextIs (machine_of t) (keeping_of t n) Weak p c h s (mark_of p None weak s ∷ span) next × (may_be_weak (t.asks c h) ≡ true) × (own p span ≡ before_weakly (t.asks c h) p)
+        → NextIs (machine_of t) (keeping_of t n) Weak p c h s (mark_of p None weak s ∷ span) next × ((t.asks c h).is_weak ≡ true) × (own p span ≡ (t.asks c h).before_weakly p)
     refusal_is i (weak_exchange k f step won lost) next owes is =
         let same : lost ≡ next = cc (is) in (
           subst (λ x. NextIs (machine_of t) (keeping_of t n) Weak p c h s (mark_of p None weak s ∷ span) x) same (followed true None weak goes lost tt tt (λ e none. unretried refl e) owes.3),
@@ -366,35 +362,35 @@ module _ {W V C L A : Type 0} (t : Table W V C L A) (n : Notes t) (sound_all : (
     due_is act ask way step needs aim got is may = grind (arith, got (gets p ask))
 
     -- and else it looks
-    looks_else : (act : Act W L A) (what : Asked) (ask : Ask) (way : Way) → is_waiting what ≡ true → Needs (need (Some ask) way (rests act) (peeks act)) p span → LooksElse way p span (by_step (step_kind_by what act))
+    looks_else : (act : Act W L A) (what : Asked) (ask : Ask) (way : Way) → what.waits ≡ true → Needs (need (Some ask) way (rests act) (peeks act)) p span → LooksElse way p span (by_step (step_kind_by what act))
     looks_else act what ask way waiting needs = grind arith
 
     abbrev Soon : Option Row → Type 0
-    Soon o = AnswersRow t n p (call_of t n c) l h s w span (answers_by t (steps_alone t.lock_kind (t.asks c h)) w c l h) (is_waiting (t.asks c h)) o
+    Soon o = AnswersRow t n p (call_of t n c) l h s w span (answers_by t (steps_alone (t.asks c h)) w c l h) ((t.asks c h).waits) o
 
-    soon_is : Soon (Some row) → is_open_now p (t.asks c h) span s ≡ true → answers_by t (steps_alone t.lock_kind (t.asks c h)) w c l h ≡ true
+    soon_is : Soon (Some row) → is_open_now p (t.asks c h) span s ≡ true → answers_by t (steps_alone (t.asks c h)) w c l h ≡ true
     soon_is soon may =
-        let waits = waits_where (t.asks c h) (is_empty (own p span)) (arrived p span) p s may in
-        let owed = subst (λ b. AnswersRow t n p (call_of t n c) l h s w span (answers_by t (steps_alone t.lock_kind (t.asks c h)) w c l h) b (Some row)) waits soon in
-        owed at (subst (λ (cs : List Change). is_open_next (t.asks c h) (is_empty cs) (arrived p span) p s ≡ true) at.known.made may)
+        let waits = and_parts _ _ may in
+        let owed = subst (λ b. AnswersRow t n p (call_of t n c) l h s w span (answers_by t (steps_alone (t.asks c h)) w c l h) b (Some row)) waits.0 soon in
+        owed at (subst (λ (cs : List Change). (t.asks c h).is_open_next (is_empty cs) (arrived p span) p s ≡ true) at.known.made waits.1)
 
-    due_at : Aimed (t.asks c h) (t.act c l h) (row.made p) p → (step : Option Change)
+    due_at : Aimed (tries_of (t.asks c h)) (goes_of (t.asks c h) (row.made p)) (t.act c l h) (row.made p) p → (step : Option Change)
         → ((e : Change) → sure_by (t.act c l h) p ≡ Some e → is_open s e ≡ true → step ≡ Some e)
         → Gets t.lock_kind p (t.asks c h) span s step (by_step (step_kind_by (t.asks c h) (t.act c l h)))
     due_at aims step got ask aim =
         let act = t.act c l h in
-        let is = subst (λ cs. goes_for (t.asks c h) cs ≡ Some ask) at.known.made aim in
+        let is = subst (λ cs. goes_of (t.asks c h) cs ≡ Some ask) at.known.made aim in
+        let waits = goes_waiting (t.asks c h) (row.made p) ask is in
         let way = way_of t.lock_kind (t.asks c h) (row.made p) in
         let needs = subst (λ o. Needs (need o way (rests act) (peeks act)) p span) is at.known.needs in
         subst (λ cs. let way = way_of t.lock_kind (t.asks c h) cs in (is_due_by way p span ≡ true → is_open_to s p ask ≡ true → step ≡ Some (gets p ask))
         × LooksElse way p span (by_step (step_kind_by (t.asks c h) act))) (sym at.known.made) (
-          due_is act ask way step needs (aims_sure (t.asks c h) act (row.made p) ask p is aims) got,
-          looks_else act (t.asks c h) ask way
-              (goes_waiting (t.asks c h) (row.made p) ask is) needs,
+          due_is act ask way step needs (aims_sure (tries_of (t.asks c h)) _ act (row.made p) ask p waits.1 is aims) got,
+          looks_else act (t.asks c h) ask way waits.0 needs,
         )
 
     shown : ((d : Change) → makes_by (t.act c l h) p ≡ Some d → is_step_of t.lock_kind d ≡ true) → OwesHere (t.word l) (t.act c l h)
-        → Aimed (t.asks c h) (t.act c l h) (row.made p) p → Soon (Some row) → Shown t n p c l h s w span
+        → Aimed (tries_of (t.asks c h)) (goes_of (t.asks c h) (row.made p)) (t.act c l h) (row.made p) p → Soon (Some row) → Shown t n p c l h s w span
     shown fits owes aims soon =
         let is = done (t.word l) (t.act c l h) fits at.known.expects owes in
         record {
@@ -403,7 +399,7 @@ module _ {W V C L A : Type 0} (t : Table W V C L A) (n : Notes t) (sound_all : (
           refusal = λ next same. refusal_is (t.word l) (t.act c l h) next owes same;
           counted = is.counted;
           due = due_at aims _ is.got;
-          tries_on = λ ask asks none. is.tried ask asks (aims_try (t.asks c h) (t.act c l h) (row.made p) ask p asks (sym at.known.made ∙ none) aims);
+          tries_on = λ ask asks none. is.tried ask asks (aims_try (tries_of (t.asks c h)) _ (t.act c l h) (row.made p) ask p asks (sym at.known.made ∙ none) aims);
           soon = soon_is soon;
         }
 
@@ -431,8 +427,8 @@ module _ {W V C L A : Type 0} (t : Table W V C L A) (n : Notes t) (pays : Pays t
   module _ (w : W) (span : List Mark) (encodes : t.memory.numbers w ≡ encoded t.lock_kind s) (shape : n.Shape s) (exclusive : IsExclusive s)
       (retries : failures p span ≤ changes t.lock_kind p span) where
     shown_at : (o : Option Row) → KnowsRow t n c l h p s span o → IsSound t.lock_kind (t.asks c h) p o → OwesRow t n p (call_of t n c) l h s w span o
-        → aim_by (t.asks c h) (t.act c l h) p ≡ aimed_at p (t.asks c h) o (aim_by (t.asks c h) (t.act c l h) p)
-        → AnswersRow t n p (call_of t n c) l h s w span (answers_by t (steps_alone t.lock_kind (t.asks c h)) w c l h) (is_waiting (t.asks c h)) o
+        → aim_by (tries_of (t.asks c h)) (t.act c l h) p ≡ aimed_at p (t.asks c h) o (aim_by (tries_of (t.asks c h)) (t.act c l h) p)
+        → AnswersRow t n p (call_of t n c) l h s w span (answers_by t (steps_alone (t.asks c h)) w c l h) ((t.asks c h).waits) o
         → Shown t n p c l h s w span
     shown_at None knows sound owes aims soon = absurd knows
     shown_at (Some row) knows sound owes aims soon =
@@ -487,7 +483,7 @@ module _ {W V C L A : Type 0} (t : Table W V C L A) (n : Notes t) (pays : Pays t
         counted = is.counted;
         due = is.due;
         tries_on = is.tries_on;
-        undisturbed = λ may. answers_within t n pays.sound (steps_alone t.lock_kind (t.asks c h)) w c l h (is.soon may);
+        undisturbed = λ may. answers_within t n pays.sound (steps_alone (t.asks c h)) w c l h (is.soon may);
         completes_alone = λ q is. absurd (no_completion p c l h w q is);
         refuses = λ next e. (is.refusal next e).0;
         weakly = λ next e. let may = is.refusal next e in (may.1, may.2);
@@ -498,7 +494,7 @@ module _ {W V C L A : Type 0} (t : Table W V C L A) (n : Notes t) (pays : Pays t
   pub facts_of : Facts (machine_of t) (keeping_of t n)
   facts_of =
       record {
-        stepwise = stepwise_of t pays.fits pays.operates;
+        stepwise = stepwise_of t pays.fits pays.operates pays.calls pays.own;
         first = pays.first;
         shape_first = pays.shape_first;
         numbers_tell = pays.numbers_tell;

@@ -1,5 +1,5 @@
 -- One event keeps all that is promised, of any object that shows its local facts.
-use Rattle.spin_world_core.proofs.Names.{slice_get_within, ◌≡◌, ℕ, ◌<◌, ◌≤◌, ◌==◌, Bool, true, false, Option, Some, None, List, [], ◌∷◌, ◌++◌, suc, if◌then◌else◌, is_some, slice_get, slice_set, refl, ap, sym, ◌∙◌, subst, arith, ne_eqb, true≢false, false≢true, Plain, Ask, Change, apply_some, IsOpenStep, Entries, entries, IsExclusive, entries-other, entries-own, exclusive-kept, Hold, Seat, Calling, Holding, Leaked, Next, Continue, Answers, Move, Begin, Step, Weak, Read, Write, Leak, Outcome, StepKind, is_again, is_weak, by_step, encoded, BelongsTo, tries, Mark, Machine, State, skipped, seated, begun, goes_on, placed, resting, read_by, written_by, may_read, may_write, InItsCall, LeavesCalls, Seen, Scene, scene_at, scene_of, mark_of, own, own_count, failures, changes, if_completed, is_open_move, entries_of, entries_held, entries_so_far, StandsFor, is_reader, is_writer, MayTouch, MaySkip, is_in_place, ComesTo, IsWeakCall, StepLeaves, OwnSteps, asked, Keeps, IsRight, InTime, IsCounted, IsInTime, UndisturbedTakes, AnsweredSoon, Gets, GetsWhenDue, TriesOn}
+use Rattle.spin_world_core.proofs.Names.{slice_get_within, ◌≡◌, ℕ, ◌<◌, ◌≤◌, ◌==◌, Bool, true, false, Option, Some, None, List, [], ◌∷◌, ◌++◌, suc, if◌then◌else◌, is_some, slice_get, slice_set, refl, ap, sym, ◌∙◌, subst, arith, ne_eqb, true≢false, false≢true, Plain, Ask, Change, apply_some, IsOpenStep, Entries, entries, IsExclusive, entries-other, entries-own, exclusive-kept, Hold, Seat, Calling, Holding, Leaked, Next, Continue, Answers, Move, Begin, Step, Weak, Read, Write, Leak, Outcome, StepKind, is_again, is_weak, by_step, encoded, BelongsTo, Mark, Machine, State, skipped, seated, begun, goes_on, placed, resting, read_by, written_by, may_read, may_write, InItsCall, LeavesCalls, Seen, Scene, scene_at, scene_of, mark_of, own, own_count, failures, changes, if_completed, is_open_move, entries_of, entries_held, entries_so_far, StandsFor, is_reader, is_writer, MayTouch, MaySkip, is_in_place, ComesTo, IsWeakCall, StepLeaves, OwnSteps, asked, Keeps, IsRight, InTime, IsCounted, IsInTime, UndisturbedTakes, AnsweredSoon, Gets, GetsWhenDue, TriesOn, tries_of}
 use Rattle.spin_model.specs.declared.schedule.Outcome.TheVariants as outcome
 use Rattle.spin_model.specs.StepKinds as step_kind
 use Rattle.spin_model.proofs.Lists.{get-set_same}
@@ -134,15 +134,17 @@ module _ {W V C L A : Type 0} (m : Machine W V C L A) (k : LocalInvariant V C L)
         }
 
     -- what is promised of a call's step, which no other event makes
-    abbrev pub Aside : Scene W V C L A → Type 0
-    Aside s =
-        IsOpenStep s.before.plain s.party s.change × BelongsTo m.lock_kind s.change × OwnSteps m s.party (s.after.span s.party) s.outcome (asked m s.seat)
-        × IsWeakCall s.move s.party (s.before.span s.party) (asked m s.seat) × IsRight m s
-        × InTime m.lock_kind s.party (s.after.span s.party) s.outcome (asked m s.seat)
-        × IsCounted m s.party s.outcome s.move s.seat s.change s.step_kind s.before.plain
-        × AnsweredSoon m.lock_kind s.party (s.after.span s.party) s.outcome (asked m s.seat)
-        × GetsWhenDue m.lock_kind s.party s.outcome s.move (asked m s.seat) (s.before.span s.party) s.before.plain s.change s.step_kind
-        × TriesOn s.party s.outcome s.move (asked m s.seat) (s.before.span s.party) s.before.plain s.change
+    pub record Aside (s : Scene W V C L A) : Type 0 where
+      pub opens : IsOpenStep s.before.plain s.party s.change
+      pub belongs : BelongsTo m.lock_kind s.change
+      pub own : OwnSteps m s.party (s.after.span s.party) s.outcome (asked m s.seat)
+      pub weak : IsWeakCall s.move s.party (s.before.span s.party) (asked m s.seat)
+      pub right : IsRight m s
+      pub in_time : InTime m.lock_kind s.party (s.after.span s.party) s.outcome (asked m s.seat)
+      pub counted : IsCounted m s.party s.outcome s.move s.seat s.change s.step_kind s.before.plain
+      pub undisturbed : AnsweredSoon m.lock_kind s.party (s.after.span s.party) s.outcome (asked m s.seat)
+      pub due : GetsWhenDue m.lock_kind s.party s.outcome s.move (asked m s.seat) (s.before.span s.party) s.before.plain s.change s.step_kind
+      pub tries_on : TriesOn s.party s.outcome s.move (asked m s.seat) (s.before.span s.party) s.before.plain s.change
 
     -- any other event
     pub kept_aside : (s : Scene W V C L A) → Invariant s.after → Aside s → ((r : Option V) → s.outcome ≡ outcome.Value r → r ≡ s.before.written)
@@ -151,15 +153,15 @@ module _ {W V C L A : Type 0} (m : Machine W V C L A) (k : LocalInvariant V C L)
         → InItsCall s.outcome s.move s.seat (slice_get s.after.state.seats s.party) → LeavesCalls s.party s.before s.after → Preserved s
     kept_aside s good aside reads touches happened is_open placed comes in_call calls =
         record {
-          keeps = keeps_from s good aside.0 aside.1 reads touches happened is_open placed aside.2 comes aside.3 in_call calls;
-          right = aside.4;
+          keeps = keeps_from s good aside.opens aside.belongs reads touches happened is_open placed aside.own comes aside.weak in_call calls;
+          right = aside.right;
           in_time = record {
-            in_time = aside.5;
-            counted = aside.6;
+            in_time = aside.in_time;
+            counted = aside.counted;
             retries = λ q. (good.parties q).retries;
-            undisturbed = aside.7;
-            due = aside.8;
-            tries_on = aside.9;
+            undisturbed = aside.undisturbed;
+            due = aside.due;
+            tries_on = aside.tries_on;
           };
           good = good;
         }
@@ -320,7 +322,7 @@ module _ {W V C L A : Type 0} (m : Machine W V C L A) (k : LocalInvariant V C L)
         step_timed : (s : State W V C L) (step : Option Change) (r : StepKind) (v value : Option V) (next : Next L A)
             → v ≡ if_completed seen.state.value value step
             → ContinuesCounted (λ u. m.change p u c l h) seen.plain next step r → Gets m.lock_kind p (m.asks c h) (seen.span p) seen.plain step r
-            → ((ask : Ask) → m.asks c h ≡ tries ask → own p (seen.span p) ≡ [] → GoesOnOpen ask p (seen.span p) seen.plain next step)
+            → ((ask : Ask) → tries_of (m.asks c h) ≡ Some ask → own p (seen.span p) ≡ [] → GoesOnOpen ask p (seen.span p) seen.plain next step)
             → Timed Step step r v (goes_on s p c h next).outcome
         step_timed s None r v value (Continue l') is counted due may = ((tt, is), counted, due, may)
         step_timed s (Some d) r v value (Continue l') is counted due may = ((tt, leaves seen.state.value v value (Some d) is), tt, due, tt)
@@ -360,7 +362,7 @@ module _ {W V C L A : Type 0} (m : Machine W V C L A) (k : LocalInvariant V C L)
             retries = omega arith;
             undisturbed = runs_fresh m seen.state.words p c l h;
           })) in
-          kept_aside _ after (tt, tt, tt, tt, tt, tt, tt, tt, tt, tt) (λ r e. absurd (cc (e))) tt (λ e. cc (e)) (grind (arith, is)) (grind arith)
+          kept_aside _ after (search) (λ r e. absurd (cc (e))) tt (λ e. cc (e)) (grind (arith, is)) (grind arith)
           (refl, refl)
           (l, get-set_same seen.state.seats p (Calling c l h) (resting h) there ∙ grind arith)
           (still_calling seen.state.seats p (Calling c l h))
@@ -369,7 +371,7 @@ module _ {W V C L A : Type 0} (m : Machine W V C L A) (k : LocalInvariant V C L)
           → Preserved (scene_of seen p Read (Some (seat_with b h)) (read_by seen.state true) None step_kind.plain None)
       read_kept b h there may =
           let reads = ap is_reader (with_hold seen p b h good there) ∙ (reader_of p h ∙ may) in
-          kept_aside _ good (tt, tt, tt, tt, tt, tt, tt, tt, tt, tt) (λ r e. cc (e, good.written)) reads (λ e. cc (e)) (grind arith) (grind arith)
+          kept_aside _ good (search) (λ r e. cc (e, good.written)) reads (λ e. cc (e)) (grind arith) (grind arith)
           (refl, refl) tt (λ q c l h ne is. is)
 
       pub write_kept : (v : V) (b : Bool) (h : Hold) → slice_get seen.state.seats p ≡ Some (seat_with b h) → may_write h ≡ true
@@ -378,12 +380,12 @@ module _ {W V C L A : Type 0} (m : Machine W V C L A) (k : LocalInvariant V C L)
           let writes = ap is_writer (with_hold seen p b h good there) ∙ (writer_of p h ∙ may) in
           let shape = f.shape_written seen.plain p seen.state.value v writes good.shape in
           kept_aside _ (record { encodes = good.encodes; shape = shape; exclusive = good.exclusive; written = refl; parties = good.parties })
-          (tt, tt, tt, tt, tt, tt, tt, tt, tt, tt) (λ r e. absurd (cc (e))) writes (λ e. cc (e)) (grind arith) (grind arith) (refl, refl) tt
+          (search) (λ r e. absurd (cc (e))) writes (λ e. cc (e)) (grind arith) (grind arith) (refl, refl) tt
           (λ q c l h ne is. is)
 
       pub leak_kept : (h : Hold) → slice_get seen.state.seats p ≡ Some (Holding h) → Preserved (scene_at m seen p Leak (Some (Holding h)))
       leak_kept h there =
           let after = good_seated seen p (Leaked h) (Holding h) seen.span good there (λ q ne. refl)
           (record { stands = standing seen p (Holding h) good there; knows = tt; retries = (good.parties p).retries; undisturbed = tt }) in
-          kept_aside _ after (tt, tt, tt, tt, tt, tt, tt, tt, tt, tt) (λ r e. absurd (cc (e))) tt (λ e. cc (e)) refl refl (refl, refl) tt
+          kept_aside _ after (search) (λ r e. absurd (cc (e))) tt (λ e. cc (e)) refl refl (refl, refl) tt
           (still_calling seen.state.seats p (Leaked h))

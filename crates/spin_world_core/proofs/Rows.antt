@@ -1,9 +1,12 @@
 -- What a party in a call knows of itself and of its span, and that its own steps and those of others keep it.
-use Rattle.spin_world_core.proofs.Names.{◌≡◌, ℕ, suc, ◌+◌, ◌≤◌, ◌⊎◌, ◌==◌, Bool, true, false, not, ◌&&◌, ◌||◌, is_some, Option, Some, None, List, [], ◌∷◌, ◌++◌, option_to_list, nat_lt, if◌then◌else◌, refl, ◌∙◌, arith, inl, inr, ⊎_elim, Plain, upgradable, writing, Ask, to_lock_unregistered, to_lock_starving, to_begin, Change, gets, turns, completes, fails, arrives, is_open, is_open_to, apply_some, IsOpenStep, entries, is_held, bit, entries-other, Hold, Upgradable, StepKind, is_again, is_look, LockKind, Asked, waits, waits_or_starves, tries, tries_weakly, tries_to_know, looks, counts_readers, counts_writers, turns_to, gives_back, initializes, fails_to_initialize, waits_for_value, polls, looks_for_value, looks_complete, meets, Said, granted, refused, done, tells, counted, gives_value, failed, leads, grant, let_go_of, own_steps, Mark, AnyOf, Grants, HasMoment, HasWeakMoment, FindsClosed, first_word, Limit, within, within_changes, gets_within, changes_within, registers_after, limit, mark_of, own, own_count, failures, changes, RegistersInTime, EndsWithin, ContinuesWithin, goes_for, is_due, Way, by_looks, past_looks, way_of, MayTryOn, Act, load, load_if, load_for, attempt, retry}
-use Rattle.spin_model.specs.declared.place.Hold.TheVariants.{Write}
+use Rattle.spin_world_core.proofs.Names.{◌≡◌, ℕ, suc, ◌+◌, ◌≤◌, ◌⊎◌, ◌==◌, Bool, true, false, not, ◌&&◌, ◌||◌, is_some, Option, Some, None, List, [], ◌∷◌, ◌++◌, option_to_list, nat_lt, if◌then◌else◌, refl, ◌∙◌, arith, inl, inr, ⊎_elim, Plain, Ask, Change, gets, is_open, is_open_to, apply_some, IsOpenStep, entries, is_held, bit, entries-other, Hold, StepKind, is_again, is_look, LockKind, Asked, Said, grant, Mark, AnyOf, FindsClosed, first_word, Limit, within, within_changes, gets_within, changes_within, registers_after, mark_of, own, own_count, failures, changes, EndsWithin, ContinuesWithin, is_due, Way, by_looks, past_looks, way_of, MayTryOn, Act, load, load_if, load_for, attempt, retry, true≢false, Meaning, got, ap, list_any, grants, same_ask, goes_of}
 use Rattle.spin_world_core.proofs.Lists.{eqb_self}
 use Rattle.spin_world_core.proofs.Stands.{Stand, entries_at, stand_of}
 use Rattle.spin_world_core.proofs.Spans.{nil_left, own-mine, own-other, own_count-mine, own_count-other, failures-mine, failures-other, changes-mine, changes-other}
+use Rattle.std.proofs.lemmas.Bool.{or_right}
+use Rattle.spin_step.specs.Plain.{is_empty}
+use Rattle.spin_model.specs.Calls.{got_or_starved, means, moment, own_steps, limit}
+use Rattle.spin_model.specs.Calls as meaning
 
 -- The count of its steps
 
@@ -44,15 +47,15 @@ MaySpend (registers_after n i) t cs j k p kind span = ContinuesWithin (registers
 MaySpend _ t cs j k p kind span = Unit {0}
 
 -- a try that has found its plain step closed goes on no more, and by a look alone only where it may
-abbrev pub MayContinue : Asked → Branch → Option Change → ℕ → Plain → List Mark → Type 0 → Type 0
-MayContinue (tries ask) (misses c) step p s span Spend = ⊥
-MayContinue (tries ask) goes None p s span Spend = Spend × MayTryOn ask p span s
-MayContinue what branch step p s span Spend = Spend
+abbrev pub MayContinue : Option Ask → Branch → Option Change → ℕ → Plain → List Mark → Type 0 → Type 0
+MayContinue (Some ask) (misses c) step p s span Spend = ⊥
+MayContinue (Some ask) goes None p s span Spend = Spend × MayTryOn ask p span s
+MayContinue tries branch step p s span Spend = Spend
 
-pub may_spend : (what : Asked) (branch : Branch) (step : Option Change) (p : ℕ) (s : Plain) (span : List Mark) (Spend : Type 0)
-    → MayContinue what branch step p s span Spend
+pub may_spend : (tries : Option Ask) (branch : Branch) (step : Option Change) (p : ℕ) (s : Plain) (span : List Mark) (Spend : Type 0)
+    → MayContinue tries branch step p s span Spend
     → Spend
-may_spend what branch step p s span Spend may = grind arith
+may_spend tries branch step p s span Spend may = grind arith
 
 pub tries_open : (ask : Ask) (p : ℕ) (span : List Mark) (s : Plain) → is_open_to s p ask ≡ true → MayTryOn ask p span s
 tries_open ask p span s may = grind arith
@@ -99,40 +102,52 @@ pub any_map : {X : Type 0} (P Q : X → Type 0) (xs : List X) → ((x : X) → P
 any_map P Q [] f any = any
 any_map P Q (x ∷ xs) f any = grind (arith, f, any_map P Q xs f)
 
-granted_here : (p : ℕ) (ask : Ask) (m : Mark) (b : Bool) (step : Option Change) → (m.party == p) ≡ b → m.change ≡ step → IsOpenStep m.before m.party step → AnyOf (λ c. c ≡ gets p ask) (if b then option_to_list step else []) → Grants p ask m
-granted_here p ask m b step mine is may any = grind arith
+same_ask_self : (ask : Ask) → same_ask ask ask ≡ true
+same_ask_self ask = grind arith
 
-granted_at : (p : ℕ) (ask : Ask) (span : List Mark) → Opened span → AnyOf (λ c. c ≡ gets p ask) (own p span) → AnyOf (Grants p ask) span
-granted_at p ask [] opened any = any
+pub any_passes : {X : Type 0} (P : X → Type 0) (test : X → Bool) (xs : List X) → ((x : X) → P x → test x ≡ true) → AnyOf P xs → list_any test xs ≡ true
+any_passes P test [] f any = absurd any
+any_passes P test (x ∷ xs) f any = grind (arith, f, any_passes P test xs f)
+
+granted_here : (p : ℕ) (ask : Ask) (m : Mark) (b : Bool) (step : Option Change) → (m.party == p) ≡ b → m.change ≡ step → IsOpenStep m.before m.party step → AnyOf (λ c. c ≡ gets p ask) (if b then option_to_list step else []) → grants p ask m ≡ true
+granted_here p ask m b step mine is may any = grind (arith, same_ask_self ask)
+
+-- a grant has its moment by the steps that the call has made
+pub granted_at : (p : ℕ) (ask : Ask) (span : List Mark) → Opened span → AnyOf (λ c. c ≡ gets p ask) (own p span) → list_any (grants p ask) span ≡ true
+granted_at p ask [] opened any = absurd any
 granted_at p ask (m ∷ ms) opened any =
     ⊎_elim
-    (λ (earlier : AnyOf (λ c. c ≡ gets p ask) (own p ms)). inr (granted_at p ask ms opened.1 earlier))
-    (λ (here : AnyOf (λ c. c ≡ gets p ask) (if m.party == p then option_to_list m.change else [])). inl (granted_here p ask m (m.party == p) m.change refl refl opened.0 here))
+    (λ (earlier : AnyOf (λ c. c ≡ gets p ask) (own p ms)). or_right (grants p ask m) _ (granted_at p ask ms opened.1 earlier))
+    (λ (here : AnyOf (λ c. c ≡ gets p ask) (if m.party == p then option_to_list m.change else [])). ap (λ b. b || list_any (grants p ask) ms) (granted_here p ask m (m.party == p) m.change refl refl opened.0 here))
     (any_split (λ c. c ≡ gets p ask) (own p ms) (if m.party == p then option_to_list m.change else []) any)
 
-granted_moment : (p : ℕ) (ask : Ask) (span : List Mark) → Opened span → AnyOf (λ steps. own p span ≡ steps) (grant p ask ∷ []) → AnyOf (Grants p ask) span
+pub granted_moment : (p : ℕ) (ask : Ask) (span : List Mark) → Opened span → AnyOf (λ steps. own p span ≡ steps) (grant p ask ∷ []) → list_any (grants p ask) span ≡ true
 granted_moment p ask span opened is = grind (arith, granted_at p ask span opened)
 
--- what an answer owes of its moment: a grant has it by the steps that the call has made. That of a call that may starve owes that it has registered in time
-abbrev pub OwesMoment : Asked → Said → ℕ → List Mark → Type 0
-OwesMoment (waits_or_starves n) granted p span = RegistersInTime (λ recent. ⊥) p n span
-OwesMoment what granted p span = Unit {0}
-OwesMoment what said p span = HasMoment what said p span
+-- what an answer owes of its moment: a grant has it by the steps that the call has made
+abbrev pub OwesMoment : Meaning → ℕ → List Mark → Type 0
+OwesMoment (got ask) p span = Unit {0}
+OwesMoment (got_or_starved a b) p span = Unit {0}
+OwesMoment meaning p span = moment meaning p span ≡ true
 
-pub moment_of : (what : Asked) (said : Said) (p : ℕ) (span : List Mark) → Opened span → AnyOf (λ steps. own p span ≡ steps) (own_steps what said p) → OwesMoment what said p span → HasMoment what said p span
-moment_of what said p span opened is owed =
-    grind (arith, granted_moment p, granted_at p to_lock_unregistered span opened, granted_at p to_lock_starving span opened)
+pub moment_of : (meaning : Meaning) (p : ℕ) (span : List Mark) → Opened span → AnyOf (λ steps. own p span ≡ steps) (own_steps meaning p) → OwesMoment meaning p span → moment meaning p span ≡ true
+moment_of (got ask) p span opened is owed = granted_moment p ask span opened is
+moment_of (got_or_starved a b) p span opened is owed = grind (arith, granted_at p a span opened, granted_at p b span opened)
+moment_of meaning.never p span opened is owed = owed
+moment_of (meaning.found test) p span opened is owed = owed
+moment_of (means steps right) p span opened is owed = owed
 
 -- only a weak try may be refused without cause
+abbrev pub OwesUnless : Bool → Type 0 → Type 0
+OwesUnless true Owed = Unit {0}
+OwesUnless false Owed = Owed
+
 abbrev pub OwesRight : Bool → Asked → Said → ℕ → List Mark → Type 0
-OwesRight true (tries_weakly ask) refused p span = Unit {0}
-OwesRight weakly what said p span = OwesMoment what said p span
+OwesRight weakly what said p span = OwesUnless (weakly && what.needs_no_cause said) (OwesMoment (what.answers said) p span)
 
-pub weak_moment_of : (what : Asked) (said : Said) (p : ℕ) (span : List Mark) → Opened span → AnyOf (λ steps. own p span ≡ steps) (own_steps what said p) → OwesRight true what said p span → HasWeakMoment what said p span
-weak_moment_of what said p span opened is owed = grind (arith, moment_of what said p span opened is)
-
-pub ends_owed : (kind : LockKind) (weakly : Bool) (what : Asked) (said : Said) (p : ℕ) (span : List Mark) → AnyOf (λ steps. own p span ≡ steps) (own_steps what said p) → OwesRight weakly what said p span → OwesEnd (limit kind what) kind p span
-ends_owed kind weakly what said p span is owed = grind arith
+pub weakly_right : (free right : Bool) (Owed : Type 0) → (Owed → right ≡ true) → OwesUnless free Owed → (free || right) ≡ true
+weakly_right true right Owed shown owed = refl
+weakly_right false right Owed shown owed = shown owed
 
 -- What a row says of a point
 
@@ -158,47 +173,39 @@ starts (Some l) = looked 0
 abbrev pub row_looked : Option Hold → ℕ → (ℕ → List Change) → Said → Row
 row_looked h k rest said = record { stand = stand_of h; made = λ p. []; rest = rest; said = said; spent = k }
 
+abbrev pub first_of : List (List Change) → List Change
+first_of [] = []
+first_of (steps ∷ more) = steps
+
 abbrev pub row_at : Asked → Option Hold → Point → Option Row
 row_at what h nowhere = None
 row_at what h (onward row) = Some row
-row_at (waits ask) h (looked k) = Some (row_looked h k (λ p. grant p ask) granted)
-row_at (waits_or_starves n) h (looked k) = Some (row_looked h k (λ p. grant p to_lock_unregistered) granted)
-row_at (tries ask) h (looked k) = Some (row_looked h k (λ p. grant p ask) granted)
-row_at (tries_weakly ask) h (looked k) = Some (row_looked h k (λ p. grant p ask) granted)
-row_at (tries_to_know ask) h (looked k) = Some (row_looked h k (λ p. grant p ask) granted)
-row_at looks h (looked k) = Some (row_looked h k (λ p. []) (tells true))
-row_at counts_readers h (looked k) = Some (row_looked h k (λ p. []) (counted 0))
-row_at counts_writers h (looked k) = Some (row_looked h k (λ p. []) (counted 0))
-row_at (turns_to (Some Write) kind) h (looked k) = Some (row_looked h k (λ p. turns p writing kind ∷ []) done)
-row_at (turns_to (Some Upgradable) kind) h (looked k) = Some (row_looked h k (λ p. turns p upgradable kind ∷ []) done)
-row_at (turns_to _ kind) h (looked k) = None
-row_at (gives_back (Some hold)) h (looked k) = Some (row_looked h k (λ p. let_go_of p hold ∷ []) done)
-row_at (gives_back None) h (looked k) = None
-row_at initializes h (looked k) = Some (row_looked h k (λ p. gets p to_begin ∷ completes p ∷ []) gives_value)
-row_at fails_to_initialize h (looked k) = Some (row_looked h k (λ p. gets p to_begin ∷ fails p ∷ []) failed)
-row_at waits_for_value h (looked k) = Some (row_looked h k (λ p. []) gives_value)
-row_at polls h (looked k) = Some (row_looked h k (λ p. []) gives_value)
-row_at looks_for_value h (looked k) = Some (row_looked h k (λ p. []) gives_value)
-row_at looks_complete h (looked k) = Some (row_looked h k (λ p. []) (tells true))
-row_at meets h (looked k) = Some (row_looked h k (λ p. arrives p ∷ []) leads)
+row_at what h (looked k) = Some (row_looked h k (λ p. first_of (own_steps (what.answers what.most) p)) what.most)
 
 -- a row leaves time for a step, and leads to an answer
 abbrev pub IsSound : LockKind → Asked → ℕ → Option Row → Type 0
 IsSound kind what p None = Unit {0}
-IsSound kind what p (Some row) = (is_timely (limit kind what) (row.made p) row.spent ≡ true) × AnyOf (λ steps. row.made p ++ row.rest p ≡ steps) (own_steps what row.said p)
+IsSound kind what p (Some row) = (is_timely (limit kind what) (row.made p) row.spent ≡ true) × AnyOf (λ steps. row.made p ++ row.rest p ≡ steps) (own_steps (what.answers row.said) p)
 
 -- what has to be shown so that the row of a point is sound
 abbrev pub SoundAt : LockKind → Asked → ℕ → Point → Type 0
 SoundAt kind what p nowhere = Unit {0}
-SoundAt kind what p (looked k) = is_timely (limit kind what) [] k ≡ true
+SoundAt kind what p (looked k) = (is_timely (limit kind what) [] k ≡ true) × (is_empty (own_steps (what.answers what.most) p) ≡ false)
 SoundAt kind what p (onward row) = IsSound kind what p (Some row)
 
-pub sound_at : (kind : LockKind) (what : Asked) (h : Option Hold) (p : ℕ) (point : Point) → SoundAt kind what p point → IsSound kind what p (row_at what h point)
-sound_at kind what h p point sound = grind arith
+first_is : (all : List (List Change)) → is_empty all ≡ false → AnyOf (λ steps. first_of all ≡ steps) all
+first_is [] some = absurd (true≢false some)
+first_is (steps ∷ more) some = inl refl
 
--- so is each call's beginning
-pub starts_sound : {L : Type 0} (kind : LockKind) (what : Asked) (p : ℕ) (o : Option L) → SoundAt kind what p (starts o)
-starts_sound kind what p o = grind arith
+pub sound_at : (kind : LockKind) (what : Asked) (h : Option Hold) (p : ℕ) (point : Point) → SoundAt kind what p point → IsSound kind what p (row_at what h point)
+sound_at kind what h p nowhere sound = tt
+sound_at kind what h p (looked k) sound = (sound.0, first_is _ sound.1)
+sound_at kind what h p (onward row) sound = sound
+
+-- so is the beginning of a call that has a step and an answer
+pub starts_sound : {L : Type 0} (kind : LockKind) (what : Asked) (p : ℕ) (o : Option L) → SoundAt kind what p (looked 0) → SoundAt kind what p (starts o)
+starts_sound kind what p None sound = tt
+starts_sound kind what p (Some l) sound = sound
 
 -- Where the next step is a retry that expects k: others have changed the first word at least as often as retries have
 -- failed, and once more if the word is no longer k. The step function admits k.
@@ -241,7 +248,7 @@ need (Some ask) way false peeking = free
 need (Some ask) way resting peeking = never
 
 abbrev pub need_of : {W L A : Type 0} → LockKind → Asked → List Change → Act W L A → Need
-need_of kind what made act = need (goes_for what made) (way_of kind what made) (rests act) (peeks act)
+need_of kind what made act = need (goes_of what made) (way_of kind what made) (rests act) (peeks act)
 
 abbrev pub Needs : Need → ℕ → List Mark → Type 0
 Needs free p span = Unit {0}

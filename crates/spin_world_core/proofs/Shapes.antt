@@ -1,9 +1,9 @@
 -- What the table of an object owes, point by point, and that its machine then shows all local facts.
-use Rattle.spin_world_core.proofs.Names.{◌≡◌, ℕ, zero, suc, ◌≤◌, Bool, true, false, ◌||◌, ◌==◌, is_some, Option, Some, None, List, [], ◌∷◌, ◌++◌, option_to_list, Plain, Ask, Change, gets, apply, is_open, is_empty, apply_some, IsOpenStep, IsExclusive, Hold, Next, Continue, Answers, StepKind, plain, again, weak, by_step, Asked, tries, encoded, BelongsTo, own_steps, Mark, AnyOf, Limit, registers_after, limit, may_be_weak, before_weakly, arrived, is_open_next, steps_alone, goes_for, opening_plain, mark_of, failures, changes, number_at, Act, load, load_if, load_for, enter, exchange, weak_exchange, attempt, retry, store, section, swap, tried, guessed, passing, place_of, step_by, makes_by, is_waiting, look_kind, Table, begin_of, machine_of, performed}
+use Rattle.spin_world_core.proofs.Names.{own_steps, tries_of, goes_of, ◌≡◌, ℕ, zero, suc, ◌≤◌, Bool, true, false, ◌||◌, ◌==◌, is_some, Option, Some, None, List, [], ◌∷◌, ◌++◌, option_to_list, Plain, Ask, Change, gets, apply, is_open, is_empty, apply_some, IsOpenStep, IsExclusive, Hold, Next, Continue, Answers, StepKind, plain, again, weak, by_step, Asked, encoded, BelongsTo, Mark, AnyOf, Limit, registers_after, arrived, steps_alone, opening_plain, mark_of, failures, changes, number_at, Act, load, load_if, load_for, enter, exchange, weak_exchange, attempt, retry, store, section, swap, tried, guessed, passing, place_of, step_by, makes_by, look_kind, Table, begin_of, machine_of, performed, limit}
 use Rattle.spin_world_core.proofs.Facts.{LocalInvariant}
-use Rattle.spin_world_core.proofs.Operating.{fits_act, Operates}
+use Rattle.spin_world_core.proofs.Operating.{fits_act, CallsFit, OwnFits, Operates}
 use Rattle.spin_world_core.proofs.Stands.{stand_of, stand_after}
-use Rattle.spin_world_core.proofs.Rows.{Branch, goes, finds_open, loses, misses, MaySpend, MayContinue, OwesRight, Row, Point, row_at, SoundAt, RetryOwes, need_of, FoundBy, NoRetry, BeginsBy, Known}
+use Rattle.spin_world_core.proofs.Rows.{Branch, goes, finds_open, loses, misses, MaySpend, MayContinue, OwesRight, OwesEnd, Row, Point, row_at, SoundAt, RetryOwes, need_of, FoundBy, NoRetry, BeginsBy, Known}
 
 -- What the table and the notes say of a call. What has to be shown of the call depends on nothing else.
 pub record CallOf (W L A : Type 0) : Type 1 where
@@ -33,16 +33,16 @@ sure_by (section can f step won lost) p = Some (step p)
 sure_by _ p = None
 
 -- and of a try also the one that it looks for
-abbrev pub aim_by : {W L A : Type 0} → Asked → Act W L A → ℕ → Option Change
-aim_by (tries ask) (load_for f step found missed) p = Some (step p)
-aim_by (tries ask) act p = makes_by act p
-aim_by what act p = sure_by act p
+abbrev pub aim_by : {W L A : Type 0} → Option Ask → Act W L A → ℕ → Option Change
+aim_by (Some ask) (load_for f step found missed) p = Some (step p)
+aim_by (Some ask) act p = makes_by act p
+aim_by None act p = sure_by act p
 
 -- what a call gets next that tries, or goes for it without a look: its steps are for that and nothing else
-abbrev pub aim_of : Asked → List Change → Option Ask
-aim_of (tries ask) [] = Some ask
-aim_of (tries ask) (c ∷ cs) = None
-aim_of what made = goes_for what made
+abbrev pub aim_of : Option Ask → Option Ask → List Change → Option Ask
+aim_of (Some ask) due [] = Some ask
+aim_of (Some ask) due (c ∷ cs) = None
+aim_of None due made = due
 
 abbrev pub aimed : ℕ → Option Ask → Option Change → Option Change
 aimed p (Some ask) (Some c) = Some (gets p ask)
@@ -50,7 +50,7 @@ aimed p _ step = step
 
 abbrev pub aimed_at : ℕ → Asked → Option Row → Option Change → Option Change
 aimed_at p what None step = step
-aimed_at p what (Some row) step = aimed p (aim_of what (row.made p)) step
+aimed_at p what (Some row) step = aimed p (aim_of (tries_of what) (goes_of what (row.made p)) (row.made p)) step
 
 -- what the next point gives, or x if the call ends
 abbrev pub goes_by : {L A X : Type 0} → Next L A → X → (L → X) → X
@@ -112,7 +112,7 @@ module _ {W V C L A : Type 0} (t : Table W V C L A) where
       FollowsRow step r branch l None = ⊥
       FollowsRow step r branch l (Some to) =
           (stand_after s.next step row.stand ≡ Some to.stand) × (row.made p ++ option_to_list step ≡ to.made p)
-          × MayContinue (k.asks h) branch step p s span
+          × MayContinue (tries_of (k.asks h)) branch step p s span
           (MaySpend (limit t.lock_kind (k.asks h)) branch (to.made p) row.spent to.spent p t.lock_kind (mark_of p step r s ∷ span))
           × FoundBy (need_of t.lock_kind (k.asks h) (to.made p) (k.act l h)) (RetryOwes (k.act l h) (number_at t.memory 0 w) step) step r s
           × k.Knows l h p (apply_some s step) (mark_of p step r s ∷ span)
@@ -122,8 +122,9 @@ module _ {W V C L A : Type 0} (t : Table W V C L A) where
       Follows weakly step r branch (Continue l) = FollowsRow step r branch l (row_at (k.asks h) h (k.point l h))
       Follows weakly step r branch (Answers a after) =
           (stand_after s.next step row.stand ≡ Some (stand_of after))
-          × AnyOf (λ steps. row.made p ++ option_to_list step ≡ steps) (own_steps (k.asks h) (t.says a) p)
+          × AnyOf (λ steps. row.made p ++ option_to_list step ≡ steps) (own_steps ((k.asks h).answers (t.says a)) p)
           × OwesRight weakly (k.asks h) (t.says a) p (mark_of p step r s ∷ span)
+          × OwesEnd (limit t.lock_kind (k.asks h)) t.lock_kind p (mark_of p step r s ∷ span)
 
       -- on the i-th word, which is n
       abbrev pub OwesOn : ℕ → ℕ → Act W L A → Type 0
@@ -144,7 +145,7 @@ module _ {W V C L A : Type 0} (t : Table W V C L A) where
       OwesOn i n (weak_exchange j f step won lost) =
           Means p s (step p) (λ j. t.memory.put i j w) (tried (swap j f) n) × Follows false (Some (step p)) plain goes won
           × (is_open s (step p) ≡ false → Follows false None plain (misses (step p)) lost) × Follows true None weak goes lost
-          × (may_be_weak (k.asks h) ≡ true) × (row.made p ≡ before_weakly (k.asks h) p)
+          × ((k.asks h).is_weak ≡ true) × (row.made p ≡ (k.asks h).before_weakly p)
       OwesOn i n (attempt j f step won lost) =
           ((to : ℕ) → guessed j f n ≡ Some to → Means p s (step p) (λ j. t.memory.put i j w) (Some to) × Follows false (Some (step p)) plain goes won)
           × (guessed j f n ≡ None → Follows false None plain goes lost) × (is_answer lost ≡ true)
@@ -171,12 +172,12 @@ module _ {W V C L A : Type 0} (t : Table W V C L A) where
     -- a call that may wait is answered in so many steps, if what it asks is open and nobody else steps in between
     abbrev pub AnswersRow : ℕ → CallOf W L A → L → Option Hold → Plain → W → List Mark → Bool → Bool → Option Row → Type 0
     AnswersRow p k l h s w span soon true (Some row) =
-        AtPoint p k l h s w span row → is_open_next (k.asks h) (is_empty (row.made p)) (arrived p span) p s ≡ true → soon ≡ true
+        AtPoint p k l h s w span row → (k.asks h).is_open_next (is_empty (row.made p)) (arrived p span) p s ≡ true → soon ≡ true
     AnswersRow p k l h s w span soon _ _ = Unit {0}
 
     abbrev pub OwesSoon : ℕ → C → L → Option Hold → Plain → W → List Mark → Type 0
     OwesSoon p c l h s w span =
-        AnswersRow p (call_of c) l h s w span (answers_by (steps_alone t.lock_kind (t.asks c h)) w c l h) (is_waiting (t.asks c h)) (row_of c l h)
+        AnswersRow p (call_of c) l h s w span (answers_by (steps_alone (t.asks c h)) w c l h) (t.asks c h).waits (row_of c l h)
 
     -- a call begins with a row that says this
     abbrev pub BeginsRow : C → L → Option Hold → ℕ → Plain → Option Row → Type 0
@@ -190,11 +191,13 @@ module _ {W V C L A : Type 0} (t : Table W V C L A) where
     BeginsAt c h p s (Some l) = BeginsRow c l h p s (row_of c l h)
 
     abbrev pub AimsAt : ℕ → C → L → Option Hold → Type 0
-    AimsAt p c l h = aim_by (t.asks c h) (t.act c l h) p ≡ aimed_at p (t.asks c h) (row_of c l h) (aim_by (t.asks c h) (t.act c l h) p)
+    AimsAt p c l h = aim_by (tries_of (t.asks c h)) (t.act c l h) p ≡ aimed_at p (t.asks c h) (row_of c l h) (aim_by (tries_of (t.asks c h)) (t.act c l h) p)
 
     -- what an object shows of its table
     pub record Pays : Type 0 where
       pub fits : (p : ℕ) (c : C) (l : L) (h : Option Hold) → fits_act t.lock_kind (t.asks c h) (t.act c l h) p ≡ true
+      pub calls : CallsFit t
+      pub own : OwnFits t
       pub operates : Operates t
       pub first : t.memory.numbers t.words ≡ encoded t.lock_kind (opening_plain (machine_of t))
       pub shape_first : n.Shape (opening_plain (machine_of t))

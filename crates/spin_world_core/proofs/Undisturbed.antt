@@ -1,4 +1,4 @@
--- An undisturbed call is answered within its kind's number of own steps.
+-- An undisturbed call is answered by so many own steps as it promises.
 use Rattle.spin_world_core.proofs.Names.{◌≡◌, ℕ, zero, suc, ◌+◌, ◌<◌, ◌≤◌, true, false, Option, Some, List, [], ◌∷◌, ◌++◌, refl, ap, sym, subst, arith, Plain, Change, apply_some, Hold, Seat, Calling, Next, Continue, StepKind, is_weak, encoded, LockKind, Asked, Mark, Machine, mark_of, is_open_now, Leaves, UndisturbedTakes, steps_alone, if◌then◌else◌, ◌==◌, ne_eqb}
 use Rattle.spin_world_core.specs.Spans.{own_count}
 use Rattle.spin_world_core.proofs.Facts.{AnswersWithin}
@@ -24,7 +24,7 @@ module _ {W V C L A : Type 0} (m : Machine W V C L A) where
   -- what is left of a call after the steps that it has taken undisturbed
   pub record Left (w : W) (p : ℕ) (c : C) (l : L) (h : Option Hold) (taken : ℕ) : Type 0 where
     pub steps : ℕ
-    pub few : taken + steps ≤ steps_alone m.lock_kind (m.asks c h)
+    pub few : taken + steps ≤ steps_alone (m.asks c h)
     pub answers : AnswersWithin m steps w c l h
 
   abbrev pub RunsOn : W → ℕ → List Mark → Option (Seat C L) → Type 0
@@ -38,22 +38,22 @@ module _ {W V C L A : Type 0} (m : Machine W V C L A) where
   -- what is left after a step of its own
   pub record LeftBy (w : W) (p : ℕ) (c : C) (h : Option Hold) (next : Next L A) (taken : ℕ) : Type 0 where
     pub steps : ℕ
-    pub few : taken + steps ≤ steps_alone m.lock_kind (m.asks c h)
+    pub few : taken + steps ≤ steps_alone (m.asks c h)
     pub goes : GoesWithin steps w c h next
 
   module _ (w w' : W) (p : ℕ) (c : C) (l : L) (h : Option Hold) where
     -- nothing has been taken at first
-    begun_by : AnswersWithin m (steps_alone m.lock_kind (m.asks c h)) w c l h → Left w p c l h 0
-    begun_by answers = record { steps = steps_alone m.lock_kind (m.asks c h); few = omega arith; answers = answers }
+    begun_by : AnswersWithin m (steps_alone (m.asks c h)) w c l h → Left w p c l h 0
+    begun_by answers = record { steps = steps_alone (m.asks c h); few = omega arith; answers = answers }
 
     -- a step of its own, which takes one of those that are left
-    one_taken : (next : Next L A) (taken now k : ℕ) → taken + k ≤ steps_alone m.lock_kind (m.asks c h) → now ≡ taken + 1 → AnswersWithin m k w c l h
+    one_taken : (next : Next L A) (taken now k : ℕ) → taken + k ≤ steps_alone (m.asks c h) → now ≡ taken + 1 → AnswersWithin m k w c l h
         → ((j : ℕ) → AnswersWithin m (suc j) w c l h → GoesWithin j w' c h next) → LeftBy w' p c h next now
     one_taken next taken now zero few is answers steps = absurd answers
     one_taken next taken now (suc j) few is answers steps = record { steps = j; few = omega (arith, few, is); goes = steps j answers }
 
     pub stepped : (s : Plain) (step : Option Change) (r : StepKind) (span : List Mark) (next : Next L A) → RunsOn w p span (Some (Calling c l h))
-        → (is_open_now p (m.asks c h) span s ≡ true → AnswersWithin m (steps_alone m.lock_kind (m.asks c h)) w c l h)
+        → (is_open_now p (m.asks c h) span s ≡ true → AnswersWithin m (steps_alone (m.asks c h)) w c l h)
         → (is_weak r ≡ false → (j : ℕ) → AnswersWithin m (suc j) w c l h → GoesWithin j w' c h next)
         → UndisturbedTakes (LeftBy w' p c h next) m.lock_kind p (m.asks c h) (mark_of p step r s ∷ span)
     stepped s step r span next runs begins steps =
@@ -64,7 +64,7 @@ module _ {W V C L A : Type 0} (m : Machine W V C L A) where
   pub beside : (w w' : W) (p q : ℕ) (s : Plain) (step : Option Change) (r : StepKind) (span : List Mark) (o : Option (Seat C L)) → (p ≡ q → ⊥)
       → (encoded m.lock_kind (apply_some s step) ≡ encoded m.lock_kind s → w' ≡ w)
       → ((c : C) (l : L) (h : Option Hold) → o ≡ Some (Calling c l h) → is_open_now q (m.asks c h) span s ≡ true
-      → AnswersWithin m (steps_alone m.lock_kind (m.asks c h)) w c l h)
+      → AnswersWithin m (steps_alone (m.asks c h)) w c l h)
       → RunsOn w q span o → RunsOn w' q (mark_of p step r s ∷ span) o
   beside w w' p q s step r span (Some (Calling c l h)) ne same begins runs =
       takes_on m.lock_kind q (m.asks c h) (mark_of p step r s) span (Left w q c l h) (Left w' q c l h) (λ may. begun_by w w q c l h (begins c l h refl may))
@@ -81,6 +81,6 @@ module _ {W V C L A : Type 0} (m : Machine W V C L A) where
   runs_fresh w p c l h = λ recent first older is may leaves. absurd (no_split recent older first is)
 
   -- a call that goes on has a step left
-  pub more_left : (w : W) (c : C) (l : L) (h : Option Hold) (taken k : ℕ) → taken + k ≤ steps_alone m.lock_kind (m.asks c h) → AnswersWithin m k w c l h
-      → taken < steps_alone m.lock_kind (m.asks c h)
+  pub more_left : (w : W) (c : C) (l : L) (h : Option Hold) (taken k : ℕ) → taken + k ≤ steps_alone (m.asks c h) → AnswersWithin m k w c l h
+      → taken < steps_alone (m.asks c h)
   more_left w c l h taken k few answers = grind arith

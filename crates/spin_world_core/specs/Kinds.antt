@@ -1,12 +1,13 @@
--- What an object by name is sure of, whatever its kind of lock is defined to be: which calls it has, and how soon a waiting one is answered.
-use Rattle.std.specs.Prelude.{◌≡◌, ℕ, true, List, [], ◌∷◌, ⊤}
-use Rattle.spin_model.specs.Calls.{Asked, LockKind}
+-- What an object by name is sure of, whatever its calls are defined to promise: where they begin, and how soon a waiting one is answered.
+use Rattle.std.specs.Prelude.{◌≡◌, ℕ, true, is_some, Option, List, [], ◌∷◌, ⊤}
+use Rattle.spin_model.specs.declared.place.Hold.{Hold}
+use Rattle.spin_model.specs.Machines.{Machine}
 
--- a call that asks any of these begins where its party holds what it is for
-abbrev pub HasCalls : LockKind → List Asked → Type 0
-HasCalls kind [] = ⊤
-HasCalls kind (what ∷ more) = (kind.calls what ≡ true) × HasCalls kind more
+-- each of these calls begins where its party holds this
+abbrev pub BeginAt : {W V C L A : Type 0} → Machine W V C L A → List (C × Option Hold) → Type 0
+BeginAt m [] = ⊤
+BeginAt m (call ∷ more) = (is_some (m.begin call.0 call.1) ≡ true) × BeginAt m more
 
--- what such a call asks is open and nobody disturbs it: so many steps of its own, and it is answered
-abbrev pub AnswersIn : LockKind → ℕ → Asked → Type 0
-AnswersIn kind n what = kind.undisturbed_steps what ≡ n
+-- what this call asks is open and nobody disturbs it: so many steps of its own, and it is answered
+abbrev pub AnswersIn : {W V C L A : Type 0} → Machine W V C L A → ℕ → C → Type 0
+AnswersIn m n c = (h : Option Hold) → (m.asks c h).undisturbed_steps ≡ n

@@ -1,23 +1,21 @@
 -- Which step of a call follows which.
 use Rattle.std.specs.Prelude.{◌≡◌, ℕ, ◌⊎◌, ◌==◌, ◌&&◌, ◌||◌, Bool, true, false, not, Option, Some, None, is_some, List, [], ◌∷◌, if◌then◌else◌}
-use Rattle.spin_step.specs.Plain.{Plain, Ask, to_write, to_upgrade_asked, to_take_and_enter, to_lock_unregistered, to_lock_starving, Change, gets, is_open_to, next_word, serving_word}
+use Rattle.spin_step.specs.Plain.{Plain, Ask, to_take_and_enter, Change, gets, is_open_to, next_word, serving_word}
 use Rattle.spin_step.specs.Parties.{is_held}
 use Rattle.spin_model.specs.declared.schedule.Move.{Move}
 use Rattle.spin_model.specs.declared.schedule.Move.TheVariants.{Step}
 use Rattle.spin_model.specs.declared.schedule.Outcome.{Outcome}
 use Rattle.spin_model.specs.declared.schedule.Outcome.TheVariants as outcome
 use Rattle.spin_model.specs.StepKinds.{StepKind, is_look}
-use Rattle.spin_model.specs.Calls.{LockKind, Asked, waits, waits_or_starves, tries, Mark, AnyOf}
+use Rattle.spin_model.specs.Calls.{AnyOf, Asked, LockKind, Mark}
 use Rattle.spin_world_core.specs.Spans.{own, own_count}
 
--- what a call that waits for its turn without a look goes for, by the plain steps that it has made. A call that wants to read, or to enter a queue, looks first
-abbrev pub goes_for : Asked → List Change → Option Ask
-goes_for (waits to_write) [] = Some to_write
-goes_for (waits to_lock_starving) [] = Some to_lock_starving
-goes_for (waits to_upgrade_asked) (c ∷ []) = Some to_upgrade_asked
-goes_for (waits_or_starves n) [] = Some to_lock_unregistered
-goes_for (waits_or_starves n) (c ∷ []) = Some to_lock_starving
-goes_for _ _ = None
+-- only a call that waits goes for anything without a look, and such a call is no try
+abbrev pub goes_of : Asked → List Change → Option Ask
+goes_of what made = if what.waits then what.goes_for made else None
+
+abbrev pub tries_of : Asked → Option Ask
+tries_of what = if what.waits then None else what.tries
 
 -- the call should now try: at its first step, after a plain step, and after a look that found the lock free
 abbrev pub is_due : ℕ → List Mark → Bool
@@ -30,13 +28,13 @@ pub data Way : Type 0 where
   by_looks : Way  -- by each that is due; by the others it looks
   past_looks : Way  -- by each that is due; a newcomer that may starve may also register
 
-abbrev pub way_by : Bool → Asked → List Change → Way
-way_by true what made = always
-way_by false (waits_or_starves n) [] = past_looks
-way_by false what made = by_looks
+abbrev pub way_by : Bool → Bool → Way
+way_by true may_register = always
+way_by false true = past_looks
+way_by false false = by_looks
 
 abbrev pub way_of : LockKind → Asked → List Change → Way
-way_of kind what made = way_by kind.spins_on_exchange what made
+way_of kind what made = way_by kind.spins_on_exchange (what.may_register made)
 
 abbrev pub is_due_by : Way → ℕ → List Mark → Bool
 is_due_by always p span = true
@@ -49,7 +47,7 @@ LooksElse way p span r = Unit {0}
 -- by a step that should get what the call asks, the call gets it if it is open
 abbrev pub Gets : LockKind → ℕ → Asked → List Mark → Plain → Option Change → StepKind → Type 0
 Gets kind p what span s step r =
-    (ask : Ask) → goes_for what (own p span) ≡ Some ask
+    (ask : Ask) → goes_of what (own p span) ≡ Some ask
     → let way = way_of kind what (own p span) in (is_due_by way p span ≡ true → is_open_to s p ask ≡ true → step ≡ Some (gets p ask)) × LooksElse way p span r
 
 abbrev pub GetsWhenDue : {C V A : Type 0} → LockKind → ℕ → Outcome A V → Move C V → Option Asked → List Mark → Plain → Option Change → StepKind → Type 0
@@ -64,5 +62,5 @@ MayTryOn to_take_and_enter p span s = (is_open_to s p to_take_and_enter ≡ true
 MayTryOn ask p span s = is_open_to s p ask ≡ true
 
 abbrev pub TriesOn : {C V A : Type 0} → ℕ → Outcome A V → Move C V → Option Asked → List Mark → Plain → Option Change → Type 0
-TriesOn p outcome.GoingOn Step (Some what) span s None = (ask : Ask) → what ≡ tries ask → own p span ≡ [] → MayTryOn ask p span s
+TriesOn p outcome.GoingOn Step (Some what) span s None = (ask : Ask) → tries_of what ≡ Some ask → own p span ≡ [] → MayTryOn ask p span s
 TriesOn p _ _ _ span s step = Unit {0}

@@ -14,8 +14,7 @@ use Rattle.spin_model.specs.declared.schedule.Outcome.{Outcome}
 use Rattle.spin_model.specs.declared.schedule.Outcome.TheVariants as outcome
 use Rattle.spin_model.specs.StepKinds.{StepKind, is_again, is_look, by_step}
 use Rattle.spin_model.specs.StepKinds as step_kind
-use Rattle.spin_model.specs.Calls.{LockKind, encoded, BelongsTo, Asked, Said, own_steps, Mark, AnyOf, HasMoment, HasWeakMoment, Limit, unlimited, within, within_changes, gets_within, changes_within, registers_after, FindsClosed, Registers, TriesToStarve, limit, may_be_weak, before_weakly}
-use Rattle.spin_model.specs.Begins.{fits}
+use Rattle.spin_model.specs.Calls.{AnyOf, Asked, BelongsTo, FindsClosed, Limit, LockKind, Mark, Registers, Said, TriesToStarve, changes_within, encoded, gets_within, HasMoment, HasWeakMoment, limit, own_steps, registers_after, unlimited, within, within_changes}
 pub use Rattle.spin_world_core.specs.Spans.{own, own_count, failures, changes, held_looks, keeps_looking, IsBeginning}
 use Rattle.spin_world_core.specs.Undisturbed.{AnsweredSoon}
 use Rattle.spin_world_core.specs.Order.{GetsWhenDue, TriesOn}
@@ -188,8 +187,8 @@ MayTouch seen p _ _ = Unit {0}
 -- party with these entries could make.
 
 abbrev pub MaySkip : {W V C L A : Type 0} → Machine W V C L A → Seen W V C L → ℕ → Move C V → Option (Seat C L) → Type 0
-MaySkip m seen p (Begin c) (Some Idle) = fits m.lock_kind (m.asks c None) None ≡ false
-MaySkip m seen p (Begin c) (Some (Holding h)) = fits m.lock_kind (m.asks c (Some h)) (Some h) ≡ false
+MaySkip m seen p (Begin c) (Some Idle) = (m.asks c None).begins None ≡ false
+MaySkip m seen p (Begin c) (Some (Holding h)) = (m.asks c (Some h)).begins (Some h) ≡ false
 MaySkip m seen p Step (Some (Calling c l h)) = ⊥
 MaySkip m seen p Read (Some (Holding h)) = is_reader (entries p seen.plain) ≡ false
 MaySkip m seen p Read (Some (Leaked h)) = is_reader (entries p seen.plain) ≡ false
@@ -241,7 +240,7 @@ ComesTo (OwnerSet v) step (Some u) new o = (o ≡ outcome.Written) × (new ≡ S
 -- A step fails spuriously only in a call that may. Before it that call has made only the plain steps that precede its
 -- weak exchange.
 abbrev pub IsWeakCall : {V C : Type 0} → Move C V → ℕ → List Mark → Option Asked → Type 0
-IsWeakCall Weak p span (Some what) = (may_be_weak what ≡ true) × (own p span ≡ before_weakly what p)
+IsWeakCall Weak p span (Some what) = (what.is_weak ≡ true) × (own p span ≡ what.before_weakly p)
 IsWeakCall Weak p span None = ⊥
 IsWeakCall _ p span what = Unit {0}
 
@@ -255,9 +254,9 @@ asked m _ = None
 -- a call that is answered has made the plain steps that its answer implies; a call that continues has made a beginning
 -- of such steps
 abbrev pub OwnSteps : {W V C L A : Type 0} → Machine W V C L A → ℕ → List Mark → Outcome A V → Option Asked → Type 0
-OwnSteps m p span (outcome.Answered a b) (Some what) = AnyOf (λ steps. own p span ≡ steps) (own_steps what (m.says a) p)
+OwnSteps m p span (outcome.Answered a b) (Some what) = AnyOf (λ steps. own p span ≡ steps) (own_steps (what.answers (m.says a)) p)
 OwnSteps m p span (outcome.Answered a b) None = ⊥
-OwnSteps m p span outcome.GoingOn (Some what) = (said : Said) × AnyOf (λ steps. IsBeginning (own p span) steps) (own_steps what said p)
+OwnSteps m p span outcome.GoingOn (Some what) = (said : Said) × AnyOf (λ steps. IsBeginning (own p span) steps) (own_steps (what.answers said) p)
 OwnSteps m p span outcome.GoingOn None = ⊥
 OwnSteps m p span _ _ = Unit {0}
 
@@ -378,8 +377,7 @@ pub record IsInTime {W V C L A : Type 0} (m : Machine W V C L A) (s : Scene W V 
   -- A repeated exchange fails only if another party has changed its word since the call looked. It fails at most once
   -- for each change.
   pub retries : (q : ℕ) → failures q (s.after.span q) ≤ changes m.lock_kind q (s.after.span q)
-  -- A call that may wait is answered within its kind's number of own steps, counted from when what it asks is open and
-  -- nobody disturbs it.
+  -- a call that may wait is answered by so many own steps as it promises, from the moment on at which it is open and nobody disturbs it
   pub undisturbed : AnsweredSoon m.lock_kind s.party (s.after.span s.party) s.outcome (asked m s.seat)
   -- A call that waits and does not look first tries by its first step, and after each look that found the lock free. By
   -- its other steps it looks.

@@ -50,7 +50,7 @@ module _ {W V C L A : Type 0} (m : Machine W V C L A) (p : ℕ) (c : C) (h : Opt
 
   module _ (start : Plain) (older : List Mark) (opens : is_open_now p (m.asks c h) older start ≡ true) where
     abbrev most : ℕ
-    most = steps_alone m.lock_kind (m.asks c h)
+    most = steps_alone (m.asks c h)
 
     -- the marks since the call was open: the first was made in that state, and none disturbs the call
     abbrev Since : List Mark → ℕ → Type 0

@@ -1,7 +1,7 @@
 -- While a starver waits, a fair lock is granted within five rounds. Its holder leaves within two. The starver takes
 -- three: it finds the flag clear, sets it, and stops starving. A party that sets the flag before it is granted the lock
 -- by its next step.
-use Rattle.spin_world_progress.proofs.Names.{cases_eq, Next, suc, Bool, entries, entries-other, empty_is, if◌then◌else◌, ◌-◌, resting, ◌≡◌, ℕ, ◌==◌, true, false, Option, Some, None, List, [], ◌∷◌, length, refl, ap, ◌∙◌, arith, not, ◌≤◌, ◌⊎◌, inl, inr, ⊎_elim, Plain, Kind, writing, Holder, is_empty, is_holder, is_starver, without_holder, holder, IsOpenStep, is_set, Hold, filter, slice_get, subst, is_waiting, Answer, Seat, Calling, Holding, Move, Step, Machine, after, at_first, get-set_same, Seen, Scene, scene_at, opening, seen_after, eqb_self, LocalInvariant, Facts, Invariant, in_call, row_tells, calls_so, StandsSo, fair_table, fair_machine}
+use Rattle.spin_world_progress.proofs.Names.{cases_eq, Next, suc, Bool, entries, entries-other, empty_is, if◌then◌else◌, ◌-◌, resting, ◌≡◌, ℕ, ◌==◌, true, false, Option, Some, None, List, [], ◌∷◌, length, refl, ap, ◌∙◌, arith, not, ◌≤◌, ◌⊎◌, inl, inr, ⊎_elim, Plain, Kind, writing, Holder, is_empty, is_holder, is_starver, without_holder, holder, IsOpenStep, is_set, Hold, filter, slice_get, subst, Answer, Seat, Calling, Holding, Move, Step, Machine, after, at_first, get-set_same, Seen, Scene, scene_at, opening, seen_after, eqb_self, LocalInvariant, Facts, Invariant, in_call, row_tells, calls_so, StandsSo, fair_table, fair_machine}
 use Rattle.spin_world.proofs.FairNames.{fair, fair_is_locked-tells, Write, Starver, FairCall, Lock, StarverLock, Release, FairPoint, First, SetFlag, Await, Unregister, asks_of}
 use Rattle.spin_world.proofs.FairOwed.{fair_notes, fair_keeping, fair_facts}
 use Rattle.spin_world_progress.specs.Fair.{grants_lock, LocksInFive, StarversAreDeadlockFree}
@@ -221,7 +221,7 @@ module _ {V : Type 0} (v : V) (cap patience : ℕ) where
           some = λ seen l w none. some seen w.3 l w.0 w.1 none;
         }
 
-  its_call_is : (p : ℕ) (c : FairCall) (l : FairPoint) (h : Option Hold) → is_waiting (asks_of patience c h) ≡ true → StandsSo (fair_table v cap patience) (fair_notes v cap patience) (λ e. not (is_empty e.starvers)) p c l h → its_call c h × its_point l
+  its_call_is : (p : ℕ) (c : FairCall) (l : FairPoint) (h : Option Hold) → (asks_of patience c h).waits ≡ true → StandsSo (fair_table v cap patience) (fair_notes v cap patience) (λ e. not (is_empty e.starvers)) p c l h → its_call c h × its_point l
   its_call_is p c l h asks stands = grind (arith, asks, stands)
 
   pub locks_in_five : (n : ℕ) (past : List (ℕ × Move FairCall V)) (rounds : List (List (ℕ × Move FairCall V))) → LocksInFive m n past rounds

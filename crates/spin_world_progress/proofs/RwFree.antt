@@ -1,6 +1,6 @@
 -- A read-write lock is free of deadlock. The readers leave in the same two rounds. A holder that does more than read is
 -- then alone, and each round takes a move from it.
-use Rattle.spin_world_progress.proofs.Names.{good, cases_eq, scene, eqb-true, empty_is, ◌<◌, one_of, eq-eqb, row_tells, in_call, StandsFor, ne_eqb, entries-other, Holding, Upgrade, Asking, max, suc, not, resting, ◌≡◌, ℕ, ◌+◌, ◌≤◌, ◌==◌, Bool, true, false, Option, Some, None, List, [], ◌∷◌, length, slice_get, refl, ap, sym, ◌∙◌, arith, Plain, Kind, reading, upgradable, asking, writing, Holder, Change, releases, turns, count_kind, weight, rw_word, apply_some, IsOpenStep, IsExclusive, ◌-◌, ◌⊎◌, ◌||◌, ◌&&◌, subst, inl, inr, ⊎_elim, nat_lt, min, if◌then◌else◌, lt-ltb, sum_by-cons, same_kind, may_turn, upgrader, all_kinds, by_kinds, read, read_upgradable, reader_limit, is_waiting, Answer, Hold, Seat, Idle, Calling, Next, Continue, Answers, Move, Step, Weak, Mark, Machine, after, at_first, goes_on, get-set_same, Seen, Scene, scene_at, opening, seen_after, eqb_self, LocalInvariant, Facts, Invariant, calls, RwCall, Read, UpgradeableRead, RwPoint, rw_table, rw_machine, rw_notes, rw_keeping, rw_facts, Test, grants_any, refuses_any, leading, rounds_by, rounds_beside, GrantsSomebody, RwIsDeadlockFree, without_holder, with_kind, filter, list_any, list_all, entries, is_empty}
+use Rattle.spin_world_progress.proofs.Names.{good, cases_eq, scene, eqb-true, empty_is, ◌<◌, one_of, eq-eqb, row_tells, in_call, StandsFor, ne_eqb, entries-other, Holding, Upgrade, Asking, max, suc, not, resting, ◌≡◌, ℕ, ◌+◌, ◌≤◌, ◌==◌, Bool, true, false, Option, Some, None, List, [], ◌∷◌, length, slice_get, refl, ap, sym, ◌∙◌, arith, Plain, Kind, reading, upgradable, asking, writing, Holder, Change, releases, turns, count_kind, weight, rw_word, apply_some, IsOpenStep, IsExclusive, ◌-◌, ◌⊎◌, ◌||◌, ◌&&◌, subst, inl, inr, ⊎_elim, nat_lt, min, if◌then◌else◌, lt-ltb, sum_by-cons, same_kind, may_turn, upgrader, all_kinds, by_kinds, read, read_upgradable, reader_limit, Answer, Hold, Seat, Idle, Calling, Next, Continue, Answers, Move, Step, Weak, Mark, Machine, after, at_first, goes_on, get-set_same, Seen, Scene, scene_at, opening, seen_after, eqb_self, LocalInvariant, Facts, Invariant, calls, RwCall, Read, UpgradeableRead, RwPoint, rw_table, rw_machine, rw_notes, rw_keeping, rw_facts, Test, grants_any, refuses_any, leading, rounds_by, rounds_beside, GrantsSomebody, RwIsDeadlockFree, without_holder, with_kind, filter, list_any, list_all, entries, is_empty}
 use Rattle.spin_world.proofs.RwNames.{Write, Exchange, Release, Entries}
 use Rattle.spin_model.specs.declared.place.Hold.TheVariants as hold
 use Rattle.spin_step_more.specs.RwCalls.{asks_of}
@@ -692,7 +692,7 @@ module _ {V : Type 0} (v : V) (cap : ℕ) (some : 1 ≤ cap) where
         }
 
   -- an upgrade holds
-  come_at : (c : RwCall) (l : RwPoint) (p : ℕ) (s : Plain) (span : List Mark) → is_waiting (asks_of c None) ≡ true → k.Knows c l None p s span → at_come c
+  come_at : (c : RwCall) (l : RwPoint) (p : ℕ) (s : Plain) (span : List Mark) → (asks_of c None).waits ≡ true → k.Knows c l None p s span → at_come c
   come_at c l p s span asks knows = grind (arith, asks, knows)
 
   pub grants_somebody : (n : ℕ) (past : List (ℕ × Move RwCall V)) (rounds : List (List (ℕ × Move RwCall V))) → GrantsSomebody m n past rounds

@@ -1,8 +1,9 @@
 -- Turns in which a call starves.
-use Rattle.spin_world_progress.proofs.Names.{◌≡◌, ℕ, zero, suc, ◌≤◌, nat_lt, min, Bool, true, Option, Some, None, [], ◌∷◌, refl, arith, lt-ltb, to_write, to_read, to_read_upgradable, to_lock_starving, reader_limit, most_starvers, Idle, Calling, Holding, Begin, Step, flag_machine, waits, waits_or_starves, initializes, waits_for_value, polls, meets, rw_machine, fair_machine, seats, seats_machine, once_machine, MayStarve}
+use Rattle.spin_world_progress.proofs.Names.{◌≡◌, ℕ, zero, suc, ◌≤◌, nat_lt, min, Bool, true, Option, Some, None, [], ◌∷◌, refl, arith, lt-ltb, to_read, to_read_upgradable, reader_limit, most_starvers, Idle, Calling, Holding, Begin, Step, flag_machine, rw_machine, fair_machine, seats, seats_machine, once_machine, MayStarve}
 use Rattle.spin_world.specs.BarrierTable.{barrier_machine}
 use Rattle.spin_world_progress.specs.Starving.{MayDeadlock, grants_or_weak}
 use Rattle.spin_world_progress.proofs.Around.{starves, forever}
+use Rattle.spin_model.specs.Asks.{initializes, meets, polls, spins_to_write, waits, waits_for_value, waits_or_starves, waits_starving, waits_to_write}
 use Rattle.spin_model.specs.declared.place.Hold.TheVariants as hold
 use Rattle.spin_model.specs.declared.flag.FlagCall.TheVariants as flag
 use Rattle.spin_model.specs.declared.flag.FlagPoint.TheVariants as flag_point
@@ -18,7 +19,7 @@ use Rattle.spin_world.specs.declared.barrier.BarrierCall.TheVariants as barrier
 use Rattle.spin_world.specs.declared.barrier.BarrierPoint.TheVariants as barrier_point
 
 -- party 0 makes its exchange while the other holds, and looks after it has gone
-pub flag_starves : {V : Type 0} (v : V) → MayStarve (flag_machine v) 2 (waits to_write)
+pub flag_starves : {V : Type 0} (v : V) → MayStarve (flag_machine v) 2 waits_to_write
 flag_starves v =
     starves (flag_machine v) 2 ((0, Begin flag.Lock) ∷ []) _ refl (1, Begin flag.Lock) ((1, Step) ∷ (0, Step) ∷ (1, Begin flag.Release) ∷ (1, Step) ∷ (0, Step) ∷ []) 0 flag.Lock flag_point.First None refl
     (record { fair = refl; back = refl; none = refl })
@@ -36,7 +37,7 @@ module _ {V : Type 0} (v : V) (cap : ℕ) where
       rw_point.First None refl (record { fair = refl; back = refl; none = refl })
 
   -- party 0 makes its exchange while the other reads
-  pub write_starves : 1 ≤ cap → MayStarve (rw_machine v cap) 2 (waits to_write)
+  pub write_starves : 1 ≤ cap → MayStarve (rw_machine v cap) 2 spins_to_write
   write_starves some =
       let room : nat_lt 0 (min cap reader_limit) ≡ true = lt-ltb 0 (min cap reader_limit) (omega (arith, some)) in
       starves (rw_machine v cap) 2 ((0, Begin rw_call.Write) ∷ []) _ refl (1, Begin rw_call.Read) ((1, Step) ∷ (1, Step) ∷ (0, Step) ∷ (1, Begin rw_call.Release) ∷ (1, Step) ∷ []) 0 rw_call.Write rw_point.First None refl
@@ -60,7 +61,7 @@ module _ {V : Type 0} (v : V) (cap patience : ℕ) where
       (record { fair = refl; back = refl; none = refl })
 
   -- two starvers: the other takes the lock whenever party 0 looks
-  pub starver_starves : 2 ≤ cap → MayStarve (fair_machine v cap patience) 2 (waits to_lock_starving)
+  pub starver_starves : 2 ≤ cap → MayStarve (fair_machine v cap patience) 2 waits_starving
   starver_starves two =
       let room : nat_lt 0 (min cap most_starvers) ≡ true = lt-ltb 0 (min cap most_starvers) (omega (arith, two)) in
       let more : nat_lt 1 (min cap most_starvers) ≡ true = lt-ltb 1 (min cap most_starvers) (omega (arith, two)) in

@@ -28,11 +28,11 @@ abbrev pub ends_or_fails : {V C L A : Type 0} → ℕ → Test V C L A
 ends_or_fails p q move (outcome.Answered a b) x = q == p
 ends_or_fails p q move o x = refuses_weakly p q move o x
 
--- Where what a party's call asks is open to it, the call is answered in as many rounds as its kind of lock says (at most four), or another party changes a word in them, or its own exchange is refused without cause
+-- Where what a party's call asks is open to it, the call is answered in as many rounds as it promises (at most four), or another party changes a word in them, or its own exchange is refused without cause
 abbrev pub AnsweredOrDisturbed : {W V C L A : Type 0} → Machine W V C L A → ℕ → List (ℕ × Move C V) → List (List (ℕ × Move C V)) → Type 0
 AnsweredOrDisturbed {C = C} {L = L} m n past rounds =
     let seen = seen_after m (opening m n) past in
     let s = after m (at_first m n) past in
     (p : ℕ) (c : C) (l : L) (h : Option Hold) → slice_get s.seats p ≡ Some (Calling c l h) → is_open_now p (m.asks c h) (seen.span p) seen.plain ≡ true
-    → AreRounds m s rounds → 1 ≤ length rounds → steps_alone m.lock_kind (m.asks c h) ≤ length rounds
+    → AreRounds m s rounds → 1 ≤ length rounds → steps_alone (m.asks c h) ≤ length rounds
     → (occurs m (ends_or_fails p) s (joined rounds) ≡ true) ⊎ (disturbs m p s (joined rounds) ≡ true)

@@ -1,7 +1,6 @@
 -- Progress of a fair lock: in how many rounds somebody is granted the lock while a starver waits.
 use Rattle.std.specs.Prelude.{◌≡◌, ℕ, ◌≤◌, ◌&&◌, true, false, Option, Some, List, length, slice_get}
 use Rattle.spin_step.specs.Plain.{is_starver}
-use Rattle.spin_model.specs.Acts.{is_waiting}
 use Rattle.spin_model.specs.Machines.{Machine}
 use Rattle.spin_model.specs.Schedules.{after, at_first, may_read}
 use Rattle.spin_model.specs.declared.answer.Answer.{Answer}
@@ -25,12 +24,12 @@ grants_lock m q move _ _ = false
 abbrev pub LocksInFive : {V : Type 0} → Machine ℕ V FairCall FairPoint (Answer V) → ℕ → List (ℕ × Move FairCall V) → List (List (ℕ × Move FairCall V)) → Type 0
 LocksInFive m n past rounds =
     let s = after m (at_first m n) past in
-    (p : ℕ) (c : FairCall) (l : FairPoint) (h : Option Hold) → slice_get s.seats p ≡ Some (Calling c l h) → is_waiting (m.asks c h) ≡ true → is_starver p (seen_after m (opening m n) past).plain.starvers ≡ true
+    (p : ℕ) (c : FairCall) (l : FairPoint) (h : Option Hold) → slice_get s.seats p ≡ Some (Calling c l h) → (m.asks c h).waits ≡ true → is_starver p (seen_after m (opening m n) past).plain.starvers ≡ true
     → AreRounds m s rounds → 5 ≤ length rounds → occurs m (grants_lock m) s (joined rounds) ≡ true
 
 -- Deadlock freedom: while a starver waits, in an endless fair schedule some party is granted the lock
 abbrev pub StarversAreDeadlockFree : {V : Type 0} → Machine ℕ V FairCall FairPoint (Answer V) → ℕ → List (ℕ × Move FairCall V) → (ℕ → ℕ × Move FairCall V) → Type 0
 StarversAreDeadlockFree m n past schedule =
     let s = after m (at_first m n) past in
-    (p : ℕ) (c : FairCall) (l : FairPoint) (h : Option Hold) → slice_get s.seats p ≡ Some (Calling c l h) → is_waiting (m.asks c h) ≡ true → is_starver p (seen_after m (opening m n) past).plain.starvers ≡ true
+    (p : ℕ) (c : FairCall) (l : FairPoint) (h : Option Hold) → slice_get s.seats p ≡ Some (Calling c l h) → (m.asks c h).waits ≡ true → is_starver p (seen_after m (opening m n) past).plain.starvers ≡ true
     → IsFair m s schedule → (place : ℕ) × (occurs m (grants_lock m) s (stretch schedule 0 place) ≡ true)

@@ -1,7 +1,6 @@
 -- Progress of a flag: in how many rounds somebody is granted the lock.
 use Rattle.std.specs.Prelude.{◌≡◌, ℕ, ◌≤◌, ◌||◌, Bool, true, Option, Some, List, length, slice_get}
 use Rattle.spin_step.specs.Plain.{to_write}
-use Rattle.spin_model.specs.Calls.{waits}
 use Rattle.spin_model.specs.Machines.{Machine}
 use Rattle.spin_model.specs.Schedules.{after, at_first}
 use Rattle.spin_model.specs.declared.answer.Answer.{Answer}
@@ -18,7 +17,7 @@ use Rattle.spin_world_progress.specs.Rounds.{occurs, AreRounds, grants_any, refu
 abbrev pub LocksInFour : {V : Type 0} → Machine Bool V FlagCall FlagPoint (Answer V) → ℕ → List (ℕ × Move FlagCall V) → List (List (ℕ × Move FlagCall V)) → Type 0
 LocksInFour m n past rounds =
     let s = after m (at_first m n) past in
-    (p : ℕ) (c : FlagCall) (l : FlagPoint) (h : Option Hold) → slice_get s.seats p ≡ Some (Calling c l h) → m.asks c h ≡ waits to_write
+    (p : ℕ) (c : FlagCall) (l : FlagPoint) (h : Option Hold) → slice_get s.seats p ≡ Some (Calling c l h) → (m.asks c h).waits ≡ true
     → AreRounds m s rounds → 4 ≤ length rounds → occurs m (λ q move o x. grants_any m q move o x || refuses_weakly p q move o x) s (joined rounds) ≡ true
 
 -- Deadlock freedom: in an endless fair schedule some party is granted the lock, or the waiting party's exchange fails
@@ -26,5 +25,5 @@ LocksInFour m n past rounds =
 abbrev pub IsDeadlockFree : {V : Type 0} → Machine Bool V FlagCall FlagPoint (Answer V) → ℕ → List (ℕ × Move FlagCall V) → (ℕ → ℕ × Move FlagCall V) → Type 0
 IsDeadlockFree m n past schedule =
     let s = after m (at_first m n) past in
-    (p : ℕ) (c : FlagCall) (l : FlagPoint) (h : Option Hold) → slice_get s.seats p ≡ Some (Calling c l h) → m.asks c h ≡ waits to_write
+    (p : ℕ) (c : FlagCall) (l : FlagPoint) (h : Option Hold) → slice_get s.seats p ≡ Some (Calling c l h) → (m.asks c h).waits ≡ true
     → IsFair m s schedule → (place : ℕ) × (occurs m (λ q move o x. grants_any m q move o x || refuses_weakly p q move o x) s (stretch schedule 0 place) ≡ true)

@@ -1,6 +1,8 @@
 -- Rounds: stretches of a schedule. In each of them every party moves on that others may wait for.
 use Rattle.std.specs.Prelude.{◌≡◌, ℕ, zero, suc, ◌==◌, ◌&&◌, ◌||◌, Bool, true, false, Option, Some, List, [], ◌∷◌, slice_get}
-use Rattle.spin_model.specs.Calls.{Asked, gives_back, Said, granted}
+use Rattle.std.specs.List.{list_any}
+use Rattle.spin_step.specs.Plain.{Change, releases, serves, stops_starving}
+use Rattle.spin_model.specs.Calls.{Asked, Said, granted, done, own_steps}
 use Rattle.spin_model.specs.Machines.{Machine}
 use Rattle.spin_model.specs.Schedules.{State, happens, after, may_read}
 use Rattle.spin_model.specs.declared.place.Hold.{Hold}
@@ -26,9 +28,16 @@ is_step outcome.GoingOn = true
 is_step (outcome.Answered a b) = true
 is_step _ = false
 
+-- a plain step by which a party gives up what it has in the lock
+abbrev pub gives_up : Change → Bool
+gives_up (releases p kind) = true
+gives_up (serves p) = true
+gives_up (stops_starving p) = true
+gives_up _ = false
+
+-- a call that is for such a step
 abbrev pub is_release : Asked → Bool
-is_release (gives_back held) = true
-is_release _ = false
+is_release what = list_any (list_any gives_up) (own_steps (what.answers done) 0)
 
 -- the event begins a call that releases what the party holds
 abbrev pub begins_release : {W V C L A : Type 0} → Machine W V C L A → Hold → Move C V → Outcome A V → Bool

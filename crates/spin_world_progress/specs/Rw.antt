@@ -4,7 +4,6 @@ use Rattle.std.specs.Prelude.{◌≡◌, ℕ, ◌≤◌, Bool, false, None, ◌|
 use Rattle.spin_step.specs.Plain.{Kind, Holder, reading, upgradable, asking, writing, same_kind, is_holder}
 use Rattle.spin_step_more.specs.declared.rw_calls.RwCall.{RwCall}
 use Rattle.spin_step_more.specs.declared.rw_calls.RwPoint.{RwPoint}
-use Rattle.spin_model.specs.Acts.{is_waiting}
 use Rattle.spin_model.specs.Machines.{Machine}
 use Rattle.spin_model.specs.Schedules.{after, at_first}
 use Rattle.spin_model.specs.declared.answer.Answer.{Answer}
@@ -56,7 +55,7 @@ rounds_beside hs = rounds_by (leading hs) (list_any (λ h. same_kind reading h.k
 abbrev pub GrantsSomebody : {V : Type 0} → Machine ℕ V RwCall RwPoint (Answer V) → ℕ → List (ℕ × Move RwCall V) → List (List (ℕ × Move RwCall V)) → Type 0
 GrantsSomebody m n past rounds =
     let s = after m (at_first m n) past in
-    (p : ℕ) (c : RwCall) (l : RwPoint) → slice_get s.seats p ≡ Some (Calling c l None) → is_waiting (m.asks c None) ≡ true
+    (p : ℕ) (c : RwCall) (l : RwPoint) → slice_get s.seats p ≡ Some (Calling c l None) → (m.asks c None).waits ≡ true
     → AreRounds m s rounds → rounds_beside (seen_after m (opening m n) past).plain.holders ≤ length rounds
     → occurs m (λ q move o x. grants_any m q move o x || refuses_any q move o x) s (joined rounds) ≡ true
 
@@ -64,5 +63,5 @@ GrantsSomebody m n past rounds =
 abbrev pub RwIsDeadlockFree : {V : Type 0} → Machine ℕ V RwCall RwPoint (Answer V) → ℕ → List (ℕ × Move RwCall V) → (ℕ → ℕ × Move RwCall V) → Type 0
 RwIsDeadlockFree m n past schedule =
     let s = after m (at_first m n) past in
-    (p : ℕ) (c : RwCall) (l : RwPoint) → slice_get s.seats p ≡ Some (Calling c l None) → is_waiting (m.asks c None) ≡ true
+    (p : ℕ) (c : RwCall) (l : RwPoint) → slice_get s.seats p ≡ Some (Calling c l None) → (m.asks c None).waits ≡ true
     → IsFair m s schedule → (place : ℕ) × (occurs m (λ q move o x. grants_any m q move o x || refuses_any q move o x) s (stretch schedule 0 place) ≡ true)

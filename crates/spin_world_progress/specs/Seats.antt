@@ -1,7 +1,6 @@
 -- Progress of a lock of seats: in how many rounds somebody is granted a seat.
 use Rattle.std.specs.Prelude.{◌≡◌, ℕ, ◌≤◌, true, Option, Some, List, length, slice_get}
 use Rattle.spin_step.specs.Plain.{to_read}
-use Rattle.spin_model.specs.Calls.{waits}
 use Rattle.spin_model.specs.Schedules.{after, at_first}
 use Rattle.spin_model.specs.declared.place.Hold.{Hold}
 use Rattle.spin_model.specs.declared.place.Seat.TheVariants.{Calling}
@@ -16,12 +15,12 @@ use Rattle.spin_world_progress.specs.Rounds.{occurs, AreRounds, grants_any, stre
 abbrev pub SeatsSomebodyInFour : SeatsMachine → ℕ → List (ℕ × Move SeatsCall (Unit {0})) → List (List (ℕ × Move SeatsCall (Unit {0}))) → Type 0
 SeatsSomebodyInFour m n past rounds =
     let s = after m (at_first m n) past in
-    (p : ℕ) (c : SeatsCall) (l : SeatsPoint) (h : Option Hold) → slice_get s.seats p ≡ Some (Calling c l h) → m.asks c h ≡ waits to_read
+    (p : ℕ) (c : SeatsCall) (l : SeatsPoint) (h : Option Hold) → slice_get s.seats p ≡ Some (Calling c l h) → (m.asks c h).waits ≡ true
     → AreRounds m s rounds → 4 ≤ length rounds → occurs m (grants_any m) s (joined rounds) ≡ true
 
 -- Deadlock freedom: in an endless fair schedule some party is granted a seat
 abbrev pub SeatsAreDeadlockFree : SeatsMachine → ℕ → List (ℕ × Move SeatsCall (Unit {0})) → (ℕ → ℕ × Move SeatsCall (Unit {0})) → Type 0
 SeatsAreDeadlockFree m n past schedule =
     let s = after m (at_first m n) past in
-    (p : ℕ) (c : SeatsCall) (l : SeatsPoint) (h : Option Hold) → slice_get s.seats p ≡ Some (Calling c l h) → m.asks c h ≡ waits to_read
+    (p : ℕ) (c : SeatsCall) (l : SeatsPoint) (h : Option Hold) → slice_get s.seats p ≡ Some (Calling c l h) → (m.asks c h).waits ≡ true
     → IsFair m s schedule → (place : ℕ) × (occurs m (grants_any m) s (stretch schedule 0 place) ≡ true)

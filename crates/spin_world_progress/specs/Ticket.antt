@@ -1,7 +1,6 @@
 -- Progress of a ticket lock: in how many rounds a `lock` is granted.
 use Rattle.std.specs.Prelude.{◌≡◌, ℕ, ◌+◌, ◌-◌, ◌*◌, ◌<◌, ◌≤◌, true, false, Option, Some, None, List, length, slice_get, max}
 use Rattle.spin_step.specs.Plain.{ticket_limit, to_enter}
-use Rattle.spin_model.specs.Calls.{waits}
 use Rattle.spin_model.specs.Machines.{Machine}
 use Rattle.spin_model.specs.Schedules.{after, at_first}
 use Rattle.spin_model.specs.declared.answer.Answer.{Answer}
@@ -36,7 +35,7 @@ abbrev pub LocksInRounds : {V : Type 0} → TicketMachine V → ℕ → List (�
 LocksInRounds m n past rounds =
     let s = after m (at_first m n) past in
     let end = after m s (joined rounds) in
-    (p : ℕ) (c : TicketCall) (l : TicketPoint) (h : Option Hold) → slice_get s.seats p ≡ Some (Calling c l h) → m.asks c h ≡ waits to_enter
+    (p : ℕ) (c : TicketCall) (l : TicketPoint) (h : Option Hold) → slice_get s.seats p ≡ Some (Calling c l h) → (m.asks c h).waits ≡ true
     → AreRounds m s rounds → end.words.next < ticket_limit → max 2 (3 * n - 2) + (end.words.next - s.words.next) ≤ length rounds → occurs m (grants m p) s (joined rounds) ≡ true
 
 -- Starvation freedom with a ticket: in an endless fair schedule a party that waits with its ticket is granted the lock

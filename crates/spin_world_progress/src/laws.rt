@@ -6,7 +6,7 @@
 //! scheduled.
 ghost use Rattle.std.specs.Prelude.{◌≡◌, ◌≤◌, ℕ, List, None};
 ghost use Rattle.spin_step.specs.Plain.{to_write, to_read, to_read_upgradable, to_lock_starving};
-ghost use Rattle.spin_model.specs.Calls.{waits, waits_or_starves, initializes, waits_for_value, polls, meets};
+ghost use Rattle.spin_model.specs.Asks.{waits, waits_to_write, spins_to_write, waits_or_starves, waits_starving, initializes, waits_for_value, polls, meets};
 ghost use Rattle.spin_model.specs.declared.schedule.Move.{Move};
 ghost use Rattle.spin_model.specs.declared.flag.FlagCall.{FlagCall};
 ghost use Rattle.spin_world.specs.declared.flag.Flag.{Flag};
@@ -59,7 +59,7 @@ pub fn a_flag_is_free_of_deadlock<V: Copy>()
 /// States that a flag is not free of starvation: in some endless fair schedule of two parties a `lock` is never
 /// answered.
 pub fn a_lock_of_a_flag_may_starve<V: Copy>()
-    ensures { (object : Flag V) → MayStarve (⟦<Flag<V> as Object>⟧.machine object) 2 (waits to_write) }
+    ensures { (object : Flag V) → MayStarve (⟦<Flag<V> as Object>⟧.machine object) 2 waits_to_write }
 {}
 
 /// States that a party with a ticket is granted the lock in three rounds for each ticket before its own, and one more.
@@ -116,7 +116,7 @@ pub fn newcomers_may_deadlock_beside_an_idle_starver<V: Copy>()
 /// States that starvers are not served in order: in some endless fair schedule one is passed over by another without
 /// end.
 pub fn a_starver_may_starve<V: Copy>()
-    ensures { (object : Fair V) → 2 ≤ object.cap → MayStarve (⟦<Fair<V> as Object>⟧.machine object) 2 (waits to_lock_starving) }
+    ensures { (object : Fair V) → 2 ≤ object.cap → MayStarve (⟦<Fair<V> as Object>⟧.machine object) 2 waits_starving }
 {}
 
 /// States that an upgrade that has asked is granted in three rounds, however many readers hold with it, or its exchange
@@ -157,7 +157,7 @@ pub fn an_upgradable_reader_may_starve<V: Copy>()
 
 /// States that readers may starve a writer: in some endless fair schedule a `write` is never answered.
 pub fn a_writer_may_starve<V: Copy>()
-    ensures { (object : Rw V) → 1 ≤ object.cap → MayStarve (⟦<Rw<V> as Object>⟧.machine object) 2 (waits to_write) }
+    ensures { (object : Rw V) → 1 ≤ object.cap → MayStarve (⟦<Rw<V> as Object>⟧.machine object) 2 spins_to_write }
 {}
 
 /// States that a call with a closure is answered in four rounds, or some closure fails in them. A closure ends by one

@@ -1,16 +1,17 @@
 -- What a lock of seats is: how it opens, how many seats it has, and what each of its calls asks. Where a call begins follows from what it asks.
-use Rattle.std.specs.Prelude.{◌≡◌, ℕ, true, Option, Some, [], ◌∷◌}
+use Rattle.std.specs.Prelude.{◌≡◌, ℕ, true, Option, Some, None, [], ◌∷◌}
 use Rattle.spin_step.specs.Plain.{to_read, fresh}
 use Rattle.spin_seats.specs.Seats.{seats}
 use Rattle.spin_model.specs.declared.place.Hold.{Hold}
 use Rattle.spin_model.specs.declared.place.Hold.TheVariants.{Read}
 use Rattle.spin_model.specs.declared.answer.Answer.{Answer}
 use Rattle.spin_seats.specs.declared.calls.SeatsCall.TheVariants as call
-use Rattle.spin_model.specs.Calls.{waits, tries, counts_readers, gives_back, says_of}
+use Rattle.spin_model.specs.Calls.{says_of}
+use Rattle.spin_model.specs.Asks.{counts_readers, gives_back, is_read, looks_and_tries, waits}
 use Rattle.spin_seats.specs.Kind as kind
 use Rattle.spin_model.specs.Machines.{opening_plain}
 use Rattle.spin_seats.specs.Table.{SeatsMachine}
-use Rattle.spin_world_core.specs.Kinds.{HasCalls, AnswersIn}
+use Rattle.spin_world_core.specs.Kinds.{BeginAt, AnswersIn}
 
 pub record IsSeats (n : ℕ) (m : SeatsMachine) : Type 0 where
   pub lock_kind : m.lock_kind ≡ kind.seats
@@ -20,10 +21,10 @@ pub record IsSeats (n : ℕ) (m : SeatsMachine) : Type 0 where
   pub owned : m.owned ≡ true
   -- the number of seats is the one asked for, up to the limit, and nobody sits
   pub plain : opening_plain m ≡ fresh (seats n) 0 0
-  pub try_enter : (h : Option Hold) → m.asks call.TryEnter h ≡ tries to_read
+  pub try_enter : (h : Option Hold) → m.asks call.TryEnter h ≡ looks_and_tries to_read
   pub enter : (h : Option Hold) → m.asks call.Enter h ≡ waits to_read
   pub count : (h : Option Hold) → m.asks call.Count h ≡ counts_readers
-  pub leave : (h : Option Hold) → m.asks call.Leave h ≡ gives_back h
+  pub leave : (h : Option Hold) → m.asks call.Leave h ≡ gives_back is_read h
   pub says : (a : Answer (Unit {0})) → m.says a ≡ says_of a
-  pub calls : HasCalls m.lock_kind (tries to_read ∷ waits to_read ∷ counts_readers ∷ gives_back (Some Read) ∷ [])
-  pub soon : AnswersIn m.lock_kind 2 (waits to_read)
+  pub calls : BeginAt m ((call.TryEnter, None) ∷ (call.Enter, None) ∷ (call.Count, None) ∷ (call.Leave, Some Read) ∷ [])
+  pub soon : AnswersIn m 2 call.Enter

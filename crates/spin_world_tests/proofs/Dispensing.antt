@@ -17,11 +17,17 @@ use Rattle.spin_world_core.proofs.Shapes.{Notes, keeping_of, Means, OwesAt, Pays
 use Rattle.spin_world_core.proofs.Operating.{one_place, operates_by}
 use Rattle.spin_world_core.proofs.Usual.{no_queue}
 use Rattle.spin_world_core.proofs.Paid.{facts_of}
+use Rattle.spin_world_core.proofs.Lists.{eqb_self}
 
 -- a call that has looked has made one step; at any other point it is as at its beginning
 abbrev pub point_of : ℕ → DispenserCall → DispenserPoint → Option Hold → Point
 point_of cap call.Draw (Exchange k) None = looked 1
 point_of cap c l h = starts (begin_of (dispenser_table cap) c h)
+
+-- the number that a call brings
+abbrev pub number_of : DispenserCall → ℕ
+number_of (call.DrawThis k) = k
+number_of c = 0
 
 -- the shape of the lock: nobody queues, and a party that has drawn reads
 pub record Drawing (cap : ℕ) (s : Plain) : Type 0 where
@@ -46,6 +52,7 @@ module _ (cap : ℕ) where
 
   owes : (p : ℕ) (c : DispenserCall) (l : DispenserPoint) (h : Option Hold) (s : Plain) (w : ℕ) (span : List Mark)
       → OwesAt (dispenser_table cap) (dispenser_notes cap) p c l h s w span
+  owes p (call.DrawThis k) l h s w span = grind (arith, draw_means p s w, open_is s w, eqb_self p)
   owes p c l h s w span = grind (arith, draw_means p s w, each_reads s.holders)
 
   dispenser_pays : Pays (dispenser_table cap) (dispenser_notes cap)
@@ -57,6 +64,8 @@ module _ (cap : ℕ) where
         shape_first = record { no_queue = refl; room = refl; all_read = refl };
         numbers_tell = λ v w e. cc (e);
         one_list = λ s shape. no_queue s shape.no_queue;
+        calls = λ c h. (number_of c, grind arith);
+        own = λ c h said p. grind arith;
         sound = λ p c l h. grind arith;
         aims = λ p c l h. grind arith;
         begins = λ p c h s. grind arith;

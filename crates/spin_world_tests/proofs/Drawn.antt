@@ -14,8 +14,8 @@ use Rattle.spin_world_tests.specs.declared.dispenser.DispenserPoint.TheVariants.
 use Rattle.spin_world_tests.specs.declared.dispenser.DispenserAnswer.{DispenserAnswer}
 use Rattle.spin_model.specs.Schedules.{State, Happened, moves, moves_at, happens, after, events_of}
 use Rattle.spin_model.specs.Schedules.{read_by, written_by, stepped, may_read, may_write}
-use Rattle.spin_model.specs.Acts.{either, stays, retried}
-use Rattle.spin_world_tests.specs.Dispenser.{goes_for, drawn, sold_out, DispenserMachine, dispenser_machine, number_in, numbers_in}
+use Rattle.spin_model.specs.Acts.{either, stays, becomes, retried}
+use Rattle.spin_world_tests.specs.Dispenser.{goes_for, drawn, sold_out, not_next, DispenserMachine, dispenser_machine, number_in, numbers_in}
 
 abbrev Dispensed : Type 0
 Dispensed = State ℕ (Unit {0}) DispenserCall DispenserPoint
@@ -61,6 +61,13 @@ draws-exchange s p k h true false is = none s.words
 draws-exchange s p k h false true is = none s.words
 draws-exchange s p k h false false is = none s.words
 
+-- an exchange of the number that the call brings, by the same
+draws-this : (s : Dispensed) (p k : ℕ) (h : Option Hold) (same left : Bool) → (s.words == k) ≡ same
+    → DrawsIn s (stepped s p (call.DrawThis k) h (becomes (λ n. n) s.words (if same then (if left then Some (s.words + 1) else None) else None) (drawn k) (not_next h)))
+draws-this s p k h true true is = (1, ap (λ n. n ∷ []) (sym (eqb-true s.words k is)), refl)
+draws-this s p k h true false is = none s.words
+draws-this s p k h false left is = none s.words
+
 module _ (cap : ℕ) where
   abbrev m : DispenserMachine
   m = dispenser_machine cap
@@ -68,10 +75,13 @@ module _ (cap : ℕ) where
   draws-moves : (s : Dispensed) (p : ℕ) (move : Move DispenserCall (Unit {0})) (seat : Seat DispenserCall DispenserPoint) → DrawsIn s (moves m s p move seat)
   draws-moves s p (Begin call.Draw) Idle = none s.words
   draws-moves s p (Begin call.Draw) (Holding h) = none s.words
+  draws-moves s p (Begin (call.DrawThis k)) Idle = none s.words
+  draws-moves s p (Begin (call.DrawThis k)) (Holding h) = none s.words
   draws-moves s p (Begin call.Count) Idle = none s.words
   draws-moves s p (Begin call.Count) (Holding h) = none s.words
   draws-moves s p Step (Calling call.Draw First h) = draws-look s p h (nat_lt s.words cap)
   draws-moves s p Step (Calling call.Draw (Exchange k) h) = draws-exchange s p k h (s.words == k) (nat_lt s.words cap) refl
+  draws-moves s p Step (Calling (call.DrawThis k) l h) = draws-this s p k h (s.words == k) (nat_lt s.words cap) refl
   draws-moves s p Weak (Calling call.Draw First h) = none s.words
   draws-moves s p Weak (Calling call.Draw (Exchange k) h) = none s.words
   draws-moves s p Read (Holding h) = by_test (λ b. DrawsIn s (read_by s b)) (may_read h) (none s.words) (none s.words)

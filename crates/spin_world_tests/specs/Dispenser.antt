@@ -1,9 +1,9 @@
 -- A dispenser of numbers: its kind of lock, its calls step by step, what it is by name, and how it draws.
 -- A party that has drawn holds as a reader for ever. So the word is how many have drawn, and the plain lock's cap is
 -- how many numbers there are.
-use Rattle.std.specs.Prelude.{◌≡◌, ℕ, ◌+◌, Bool, true, false, Option, Some, None, List, [], ◌∷◌, ◌++◌, nat_lt, if◌then◌else◌}
-use Rattle.std.specs.List.{range_with_len}
-use Rattle.spin_step.specs.Plain.{to_read, Change, gets, fresh, flag_word}
+use Rattle.std.specs.Prelude.{◌≡◌, ℕ, ◌+◌, ◌==◌, ◌&&◌, not, length, Bool, true, false, Option, Some, None, List, [], ◌∷◌, ◌++◌, nat_lt, if◌then◌else◌}
+use Rattle.std.specs.List.{list_any, range_with_len}
+use Rattle.spin_step.specs.Plain.{to_read, Change, gets, is_open_to, fresh, flag_word}
 use Rattle.spin_model.specs.declared.place.Hold.{Hold}
 use Rattle.spin_model.specs.declared.place.Hold.TheVariants.{Read}
 use Rattle.spin_model.specs.declared.step.Next.{Next}
@@ -17,10 +17,11 @@ use Rattle.spin_world_tests.specs.declared.dispenser.DispenserCall.TheVariants a
 use Rattle.spin_world_tests.specs.declared.dispenser.DispenserPoint.{DispenserPoint}
 use Rattle.spin_world_tests.specs.declared.dispenser.DispenserPoint.TheVariants.{First, Exchange}
 use Rattle.spin_world_tests.specs.declared.dispenser.DispenserAnswer.{DispenserAnswer}
-use Rattle.spin_world_tests.specs.declared.dispenser.DispenserAnswer.TheVariants.{Drawn, SoldOut, Count}
-use Rattle.spin_model.specs.Calls.{Asked, tries, counts_readers, LockKind, usual, Said, granted, refused, counted}
+use Rattle.spin_world_tests.specs.declared.dispenser.DispenserAnswer.TheVariants.{Drawn, SoldOut, NotNext, Count}
+use Rattle.spin_model.specs.Calls.{Asked, LockKind, Said, counted, granted, refused, grant, grants, never, found, means, usual}
+use Rattle.spin_model.specs.Asks.{counts_readers, looks_and_tries, tries}
 use Rattle.spin_model.specs.Machines.{Machine, opening_plain}
-use Rattle.spin_model.specs.Acts.{one_number, Act, load, load_for, retry, Table, machine_of}
+use Rattle.spin_model.specs.Acts.{one_number, Act, load, load_for, attempt, retry, Table, machine_of}
 use Rattle.spin_model.specs.Schedules.{at_first, after, events_of}
 
 -- The kind of lock: nobody returns a number
@@ -29,10 +30,20 @@ abbrev pub dispenser_plain_steps : Change → Bool
 dispenser_plain_steps (gets p to_read) = true
 dispenser_plain_steps _ = false
 
-abbrev pub dispenser_calls : Asked → Bool
-dispenser_calls (tries to_read) = true
-dispenser_calls counts_readers = true
-dispenser_calls _ = false
+-- A call of its own, which no crate below knows: a try that draws this very number.
+-- It is granted at a moment at which so many have been drawn, and refused at one at which not so many have, or all
+abbrev pub tries_this : ℕ → Asked
+tries_this k =
+    record (tries to_read) {
+      answers = λ said. elim said [
+        | granted ↦ means (λ p. grant p to_read ∷ []) (λ p span. list_any (λ m. grants p to_read m && (length m.before.holders == k)) span)
+        | refused ↦ found (λ p s. not (is_open_to s p to_read && (length s.holders == k)))
+        | _ ↦ never
+      ];
+    }
+
+abbrev pub dispenser_calls : ℕ → Option Hold → List Asked
+dispenser_calls n h = looks_and_tries to_read ∷ tries_this n ∷ counts_readers ∷ []
 
 abbrev pub dispenser : LockKind
 dispenser = usual flag_word [] dispenser_plain_steps dispenser_calls
@@ -55,18 +66,24 @@ goes_for k = Continue (Exchange k)
 abbrev pub sold_out : Option Hold → Continues
 sold_out h = Answers SoldOut h
 
+abbrev pub not_next : Option Hold → Continues
+not_next h = Answers NotNext h
+
 abbrev pub act_of : ℕ → DispenserCall → DispenserPoint → Option Hold → Act ℕ DispenserPoint DispenserAnswer
 act_of cap call.Draw First h = load_for (next_after cap) (λ p. gets p to_read) goes_for (sold_out h)
 act_of cap call.Draw (Exchange k) h = retry k (next_after cap) (λ p. gets p to_read) (drawn k) goes_for (sold_out h)
+act_of cap (call.DrawThis k) l h = attempt k (next_after cap) (λ p. gets p to_read) (drawn k) (not_next h)
 act_of cap call.Count l h = load (λ k. Answers (Count k) h)
 
 abbrev pub asks_of : DispenserCall → Option Hold → Asked
-asks_of call.Draw h = tries to_read
+asks_of call.Draw h = looks_and_tries to_read
+asks_of (call.DrawThis k) h = tries_this k
 asks_of call.Count h = counts_readers
 
 abbrev pub says_of : DispenserAnswer → Said
 says_of (Drawn k) = granted
 says_of SoldOut = refused
+says_of NotNext = refused
 says_of (Count k) = counted k
 
 abbrev pub DispenserTable : Type 0
@@ -103,7 +120,8 @@ pub record IsDispenser (cap : ℕ) (m : DispenserMachine) : Type 0 where
   pub number : (w : ℕ) → m.numbers w ≡ w ∷ []
   -- it has so many numbers, and none is drawn
   pub plain : opening_plain m ≡ fresh cap 0 0
-  pub draw : (h : Option Hold) → m.asks call.Draw h ≡ tries to_read
+  pub draw : (h : Option Hold) → m.asks call.Draw h ≡ looks_and_tries to_read
+  pub draw_this : (k : ℕ) (h : Option Hold) → m.asks (call.DrawThis k) h ≡ tries_this k
   pub count : (h : Option Hold) → m.asks call.Count h ≡ counts_readers
   pub says : (a : DispenserAnswer) → m.says a ≡ says_of a
 

@@ -9,10 +9,10 @@ use Rattle.spin_world.specs.declared.barrier.BarrierCall.TheVariants.{Wait}
 use Rattle.spin_world.specs.declared.barrier.BarrierPoint.{BarrierPoint}
 use Rattle.spin_world.specs.declared.barrier.BarrierPoint.TheVariants.{Arrive, Leave}
 use Rattle.spin_model.specs.declared.schedule.Move.TheVariants.{Begin, Step, Weak}
-use Rattle.spin_model.specs.Calls.{waits_for_value}
 use Rattle.spin_model.specs.Acts.{either, stays}
 use Rattle.spin_world.specs.BarrierTable.{BarrierMachine, arrive, leads, is_past, barrier_machine}
 use Rattle.spin_world.specs.Groups.{Entries}
+use Rattle.spin_model.specs.Asks.{waits_for_value}
 
 -- how a call continues after an arrival, or after a look of a follower, by the words found
 abbrev Goes : Type 0

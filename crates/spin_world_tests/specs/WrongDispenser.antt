@@ -1,6 +1,6 @@
 -- Wrong dispensers, each wrong in one part of its table, and schedules on which the laws refuse them.
 use Rattle.std.specs.Prelude.{ℕ, ◌+◌, Bool, true, Option, Some, List, [], ◌∷◌, nat_lt, if◌then◌else◌}
-use Rattle.spin_step.specs.Plain.{to_read, gets}
+use Rattle.spin_step.specs.Plain.{to_read, gets, reading, Change, releases}
 use Rattle.spin_model.specs.declared.place.Hold.{Hold}
 use Rattle.spin_model.specs.declared.place.Hold.TheVariants.{Read}
 use Rattle.spin_model.specs.declared.schedule.Move.{Move}
@@ -10,9 +10,8 @@ use Rattle.spin_world_tests.specs.declared.dispenser.DispenserCall.TheVariants a
 use Rattle.spin_world_tests.specs.declared.dispenser.DispenserPoint.{DispenserPoint}
 use Rattle.spin_world_tests.specs.declared.dispenser.DispenserPoint.TheVariants.{First, Exchange}
 use Rattle.spin_world_tests.specs.declared.dispenser.DispenserAnswer.{DispenserAnswer}
-use Rattle.spin_model.specs.Calls.{Asked, gives_back}
-use Rattle.spin_model.specs.Acts.{Act, load_for, retry, machine_of}
-use Rattle.spin_world_tests.specs.Dispenser.{Continues, dispenser, dispenser_calls, next_after, drawn, goes_for, sold_out, act_of}
+use Rattle.spin_model.specs.Acts.{Act, load_for, retry, section, machine_of}
+use Rattle.spin_world_tests.specs.Dispenser.{Continues, dispenser, dispenser_plain_steps, next_after, drawn, goes_for, sold_out, not_next, act_of}
 use Rattle.spin_world_tests.specs.Dispenser.{DispenserTable, dispenser_table, DispenserMachine}
 
 abbrev Entries : Type 0
@@ -26,7 +25,7 @@ draws_by cap next won lost = let t : DispenserTable = dispenser_table cap in mac
     steps : DispenserCall → DispenserPoint → Option Hold → Act ℕ DispenserPoint DispenserAnswer
     steps call.Draw First h = load_for next (λ p. gets p to_read) goes_for (sold_out h)
     steps call.Draw (Exchange k) h = retry k next (λ p. gets p to_read) (won k) (lost k) (sold_out h)
-    steps call.Count l h = act_of cap call.Count l h
+    steps c l h = act_of cap c l h
 
 -- two parties look one after the other, and then exchange
 abbrev pub two_draw : Entries
@@ -48,10 +47,20 @@ wraps = draws_by 1 (λ k. Some (if nat_lt k 1 then k + 1 else 0)) drawn (λ k. g
 abbrev pub says_zero : DispenserMachine
 says_zero = draws_by 2 (next_after 2) (λ k. drawn 0) (λ k. goes_for)
 
+-- a draw of this number draws another one
+abbrev pub draws_another : DispenserMachine
+draws_another =
+    let t : DispenserTable = dispenser_table 2 in
+    let any : ℕ → Option Hold → Act ℕ DispenserPoint DispenserAnswer = λ k h. section (λ w. true) (next_after 2) (λ p. gets p to_read) (λ w. drawn k) (λ w. not_next h) in
+    machine_of (record t { act = λ c l h. elim c [ call.DrawThis k ↦ any k h | other ↦ act_of 2 other l h ] })
+
+abbrev pub the_second : Entries
+the_second = (0, Begin (call.DrawThis 1)) ∷ (0, Step) ∷ []
+
 -- its kind of lock takes numbers back
-abbrev with_return : Asked → Bool
-with_return (gives_back (Some Read)) = true
-with_return what = dispenser_calls what
+abbrev with_return : Change → Bool
+with_return (releases p reading) = true
+with_return c = dispenser_plain_steps c
 
 abbrev pub takes_back : DispenserMachine
-takes_back = let t : DispenserTable = dispenser_table 2 in machine_of (record t { lock_kind = record dispenser { calls = with_return } })
+takes_back = let t : DispenserTable = dispenser_table 2 in machine_of (record t { lock_kind = record dispenser { plain_steps = with_return } })

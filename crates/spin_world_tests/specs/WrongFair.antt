@@ -15,12 +15,12 @@ use Rattle.spin_step_more.specs.declared.fair_calls.FairPoint.{FairPoint}
 use Rattle.spin_step_more.specs.declared.fair_calls.FairPoint.TheVariants.{First, Attempt, Look, Load, Register, SetFlag, Await, Unregister}
 use Rattle.spin_model.specs.declared.schedule.Move.{Move}
 use Rattle.spin_model.specs.declared.schedule.Move.TheVariants.{Begin, Step, Weak}
-use Rattle.spin_model.specs.Calls.{tries}
 use Rattle.spin_model.specs.Machines.{Machine}
 use Rattle.spin_model.specs.Acts.{Act, either, load, load_if, exchange, weak_exchange, retry, section, swap, machine_of}
 use Rattle.spin_model.specs.Operations.{sets_lowest_bit}
 use Rattle.spin_step_more.specs.Starvers.{is_set, lock, lock_fair}
 use Rattle.spin_step_more.specs.FairCalls.{granted, act_of, fair_table, fair_machine}
+use Rattle.spin_model.specs.Asks.{tries_in}
 
 abbrev FairAct : Type 0 → Type 0
 FairAct V = Act ℕ FairPoint (Answer V)
@@ -200,7 +200,7 @@ starves_again v = let m = fair_machine v 2 1 in record m { begin = λ c h. elim 
 
 -- `starver_try_lock` asks to lock as the only starver
 abbrev pub tries_alone : {V : Type 0} → V → FairMachine V
-tries_alone v = let m = fair_machine v 2 1 in record m { asks = λ c h. elim c [ StarverTryLock ↦ tries to_lock_starving_alone | other ↦ m.asks other h ] }
+tries_alone v = let m = fair_machine v 2 1 in record m { asks = λ c h. elim c [ StarverTryLock ↦ tries_in 2 to_lock_starving_alone | other ↦ m.asks other h ] }
 
 -- a starver is registered at first, but it is no party
 abbrev pub opens_with_a_starver : {V : Type 0} → V → FairMachine V

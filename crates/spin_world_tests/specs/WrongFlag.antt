@@ -11,11 +11,11 @@ use Rattle.spin_model.specs.declared.flag.FlagPoint.TheVariants.{First, Second}
 use Rattle.spin_model.specs.declared.schedule.Move.{Move}
 use Rattle.spin_model.specs.declared.schedule.Move.TheVariants.{Begin, Step, Weak}
 use Rattle.spin_model.specs.Machines.{Machine}
-use Rattle.spin_model.specs.Calls.{waits}
 use Rattle.spin_step.specs.Plain.{gets, to_read, to_write}
 use Rattle.std.specs.Option.{option_map}
 use Rattle.spin_model.specs.Acts.{Act, weak_exchange, machine_of, exchange, swap, stays}
 use Rattle.spin_model.specs.Flag.{lock, granted, act_of, flag_table, flag_machine}
+use Rattle.spin_model.specs.Asks.{waits}
 
 abbrev FlagMachine : Type 0 → Type 0
 FlagMachine V = Machine Bool V FlagCall FlagPoint (Answer V)

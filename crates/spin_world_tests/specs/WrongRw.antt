@@ -15,11 +15,11 @@ use Rattle.spin_model.specs.declared.schedule.Move.{Move}
 use Rattle.spin_model.specs.declared.schedule.Move.TheVariants.{Begin, Step, Weak}
 use Rattle.spin_model.specs.Machines.{Machine}
 use Rattle.spin_model.specs.declared.step.Next.{Next}
-use Rattle.spin_model.specs.Calls.{waits}
 use Rattle.spin_model.specs.Acts.{Act, load, load_for, exchange, weak_exchange, store, section, swap, Table, machine_of}
 use Rattle.spin_model.specs.Operations.{exchanges, adds, subtracts, stores}
 use Rattle.spin_step_more.specs.Readers.{tells, read, write, upgrade, upgrade_asked, read_upgradable}
 use Rattle.spin_step_more.specs.RwCalls.{granted, goes_for, act_of, asks_of, rw_table, rw_machine, comes_by}
+use Rattle.spin_model.specs.Asks.{waits}
 
 abbrev RwAct : Type 0 → Type 0
 RwAct V = Act ℕ RwPoint (Answer V)

@@ -13,11 +13,12 @@ use Rattle.spin_seats.specs.declared.calls.SeatsPoint.{SeatsPoint}
 use Rattle.spin_seats.specs.declared.calls.SeatsPoint.TheVariants.{First, Exchange}
 use Rattle.spin_model.specs.declared.schedule.Move.{Move}
 use Rattle.spin_model.specs.declared.schedule.Move.TheVariants.{Begin, Step, Weak}
-use Rattle.spin_model.specs.Calls.{LockKind, Asked, gives_back}
+use Rattle.spin_model.specs.Calls.{Asked}
 use Rattle.spin_seats.specs.Kind as kind
 use Rattle.spin_model.specs.Acts.{Act, load, exchange, store, section, machine_of}
 use Rattle.spin_model.specs.Operations.{exchanges, subtracts}
 use Rattle.spin_seats.specs.Table.{granted, goes_for, comes_by, act_of, asks_of, SeatsTable, seats_table, SeatsMachine, seats_machine}
+use Rattle.spin_model.specs.Asks.{waits, gives_back}
 
 abbrev SeatsAct : Type 0
 SeatsAct = Act ℕ SeatsPoint (Answer (Unit {0}))
@@ -116,22 +117,21 @@ counts_free = with_steps 2 (λ c l h act. elim c [ call.Count ↦ load (λ w. An
 abbrev pub count_alone : Entries
 count_alone = (0, Begin call.Count) ∷ (0, Step) ∷ []
 
-abbrev pub slow_seats : LockKind
-slow_seats = record kind.seats { undisturbed_steps = λ what. 1000 }
+abbrev pub slow_enter : Asked
+slow_enter = record (waits to_read) { undisturbed_steps = 1000 }
 
--- `enter` looks again and again, and its kind of lock lets it take a thousand steps
+-- `enter` looks again and again, and promises its answer in a thousand steps
 abbrev pub looks_on : SeatsMachine
 looks_on =
     let t : SeatsTable = seats_table 2 in
-    machine_of (record t { lock_kind = slow_seats; act = λ c l h. elim c [ call.Enter ↦ load (λ w. Continue First) | other ↦ act_of 2 other l h ] })
+    machine_of (record t {
+      asks = λ c h. elim c [ call.Enter ↦ slow_enter | other ↦ asks_of other h ];
+      act = λ c l h. elim c [ call.Enter ↦ load (λ w. Continue First) | other ↦ act_of 2 other l h ];
+    })
 
 abbrev pub enter_in_vain : Entries
 enter_in_vain = (0, Begin call.Enter) ∷ (0, Step) ∷ (0, Step) ∷ (0, Step) ∷ (0, Step) ∷ []
 
--- its kind of lock has a call less, so that it owes none to a party that sits
-abbrev without_leave : Asked → Bool
-without_leave (gives_back h) = false
-without_leave what = kind.seats.calls what
-
+-- it owes no leave to a party that sits
 abbrev pub keeps_all : SeatsMachine
-keeps_all = let t : SeatsTable = seats_table 2 in machine_of (record t { lock_kind = record kind.seats { calls = without_leave } })
+keeps_all = let t : SeatsTable = seats_table 2 in machine_of (record t { asks = λ c h. elim c [ call.Leave ↦ gives_back (λ hold. false) h | other ↦ asks_of other h ] })

@@ -15,6 +15,8 @@ use spin_world_core::{Hold, Next, Object, Stepped};
 pub enum DispenserCall {
     /// Draws the next number. It is sold out only if every number was drawn already at some moment of the call.
     Draw,
+    /// Draws this number, if it is the next one: a try that no other object has.
+    DrawThis(u64),
     /// Counts the numbers that have been drawn.
     Count,
 }
@@ -34,6 +36,8 @@ pub enum DispenserAnswer {
     /// The party has drawn this number.
     Drawn(u64),
     SoldOut,
+    /// The number asked for is not the next one, or is past the last one.
+    NotNext,
     Count(u64),
 }
 
@@ -125,6 +129,15 @@ impl Object for Dispenser {
         let _ = value;
         if let DispenserCall::Count = call {
             return Stepped::stay(words, Next::Answers(DispenserAnswer::Count(words), holds));
+        }
+        if let DispenserCall::DrawThis(number) = call {
+            return match next_after(self.cap, words) {
+                Some(next) if number == words => Stepped::stay(
+                    next,
+                    Next::Answers(DispenserAnswer::Drawn(number), Some(Hold::Read)),
+                ),
+                _ => Stepped::stay(words, Next::Answers(DispenserAnswer::NotNext, holds)),
+            };
         }
         match (local, next_after(self.cap, words)) {
             (DispenserPoint::Exchange(found), Some(next)) if found == words => {

@@ -1,9 +1,9 @@
 //! Wrong dispensers, each with a law that it breaks.
 ghost use Rattle.std.specs.Prelude.{◌≡◌};
-ghost use Rattle.spin_world_core.specs.Runs.{KeepsAll};
+ghost use Rattle.spin_world_core.specs.Runs.{KeepsAll, MomentsAll};
 ghost use Rattle.spin_world_tests.specs.Dispenser.{IsDispenser, DrawsInOrder};
 ghost use Rattle.spin_world_tests.specs.WrongDispenser.{two_draw, forgets_to_store, wins_what_it_lost, wraps};
-ghost use Rattle.spin_world_tests.specs.WrongDispenser.{says_zero, takes_back};
+ghost use Rattle.spin_world_tests.specs.WrongDispenser.{says_zero, draws_another, the_second, takes_back};
 
 /// A draw that stores the number that it found, so that the number is drawn again.
 pub fn a_number_that_is_drawn_is_used_up()
@@ -23,6 +23,11 @@ pub fn the_numbers_never_wrap()
 /// A draw that answers 0 whatever it has drawn.
 pub fn a_draw_says_its_number()
     ensures { DrawsInOrder says_zero 2 two_draw → ⊥ }
+{}
+
+/// A draw of a certain number that draws another one.
+pub fn a_number_asked_for_is_the_one_drawn()
+    ensures { MomentsAll draws_another 1 the_second → ⊥ }
 {}
 
 /// A dispenser of another kind, to which numbers can be returned.

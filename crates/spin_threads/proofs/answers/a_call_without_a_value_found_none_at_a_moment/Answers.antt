@@ -7,7 +7,7 @@ use Rattle.spin_threads.proofs.Onces.{found_once}
 use Rattle.spin_threads.proofs.answers.a_call_without_a_value_found_none_at_a_moment.Goals as goal
 
 pub returns-clause-get : goal.returns-clause-get
-returns-clause-get g = found_once Get NoValue (λ s. has_value s ≡ false) (λ given h p span some. some)
+returns-clause-get g = found_once Get NoValue (λ s. not (is_complete s.phase)) (λ s. has_value s ≡ false) (λ given h. refl) (λ s is. grind (arith, is))
 
 pub returns-clause-poll : goal.returns-clause-poll
-returns-clause-poll g = found_once Poll NoValue (λ s. is_nothing s.phase ≡ true) (λ given h p span some. some)
+returns-clause-poll g = found_once Poll NoValue (λ s. is_nothing s.phase) (λ s. is_nothing s.phase ≡ true) (λ given h. refl) (λ s is. is)

@@ -8,4 +8,4 @@ use Rattle.spin_threads.proofs.answers.a_count_of_seats_was_so_at_a_moment.Goals
 pub returns : goal.returns
 returns g n count before now made =
     let b = before.account in let e = now.account in
-    found (model n) (seats_keeping n) (seats_facts n) (λ p s. readers s ≡ count) (λ h p span some. some) (λ p l h seen call is. is) b.permit.view e.permit.view b.seen.entries e.seen.entries made.0
+    found (model n) (seats_keeping n) (seats_facts n) (λ p s. readers s == count) (λ h. refl) (λ p l h seen call is. eqb-true _ _ is) b.permit.view e.permit.view b.seen.entries e.seen.entries made.0

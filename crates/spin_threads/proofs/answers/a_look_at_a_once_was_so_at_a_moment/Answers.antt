@@ -6,4 +6,4 @@ use Rattle.spin_threads.proofs.Onces.{found_once}
 use Rattle.spin_threads.proofs.answers.a_look_at_a_once_was_so_at_a_moment.Goals as goal
 
 pub returns : goal.returns
-returns g there = found_once IsCompleted (Is there) (λ s. has_value s ≡ there) (λ given h p span some. some)
+returns g there = found_once IsCompleted (Is there) (λ s. same there (is_complete s.phase)) (λ s. has_value s ≡ there) (λ given h. refl) (λ s is. same_is _ there is)

@@ -6,4 +6,4 @@ use Rattle.spin_threads.proofs.Moments.{found}
 use Rattle.spin_threads.proofs.answers.a_look_at_a_spin_mutex_was_so_at_a_moment.Goals as goal
 
 pub returns : goal.returns
-returns g c = λ opening held. found (model opening) (flag_keeping opening) (flag_facts opening) (λ p s. is_held s ≡ held) (λ h p span some. some) (λ p l h seen call is. is)
+returns g c = λ opening held. found (model opening) (flag_keeping opening) (flag_facts opening) (λ p s. same held (is_held s)) (λ h. refl) (λ p l h seen call is. same_is _ held is)

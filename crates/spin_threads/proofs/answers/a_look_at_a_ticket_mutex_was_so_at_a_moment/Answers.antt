@@ -7,4 +7,4 @@ use Rattle.spin_threads.proofs.answers.a_look_at_a_ticket_mutex_was_so_at_a_mome
 
 pub returns : goal.returns
 returns g c = λ key held.
-    found (model key) (ticket_keeping key.0.value key.1) (ticket_facts key.0.value key.1) (λ p s. is_held s ≡ held) (λ h p span some. some) (λ p l h seen call is. is)
+    found (model key) (ticket_keeping key.0.value key.1) (ticket_facts key.0.value key.1) (λ p s. same held (is_held s)) (λ h. refl) (λ p l h seen call is. same_is _ held is)

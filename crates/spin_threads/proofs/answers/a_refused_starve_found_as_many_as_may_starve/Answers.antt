@@ -6,9 +6,9 @@ use Rattle.spin_world.proofs.FairOwed.{fair_keeping, fair_facts}
 use Rattle.spin_threads.proofs.Moments.{found}
 use Rattle.spin_threads.proofs.answers.a_refused_starve_found_as_many_as_may_starve.Goals as goal
 
-as_many : (s : Plain) (p : ℕ) → s.cap ≡ most_starvers → is_open_to s p to_starve ≡ false → most_starvers ≤ length s.starvers
+as_many : (s : Plain) (p : ℕ) → s.cap ≡ most_starvers → not (is_open_to s p to_starve) ≡ true → most_starvers ≤ length s.starvers
 as_many s p room closed = grind (arith, room, closed)
 
 pub returns : goal.returns
 returns g =
-    found model (fair_keeping tt most_starvers patience) (fair_facts tt most_starvers patience) (λ p s. is_open_to s p to_starve ≡ false) (λ h p span some. some) (λ p l h seen call closed. as_many seen.plain p call.shape.room closed)
+    found model (fair_keeping tt most_starvers patience) (fair_facts tt most_starvers patience) (λ p s. not (is_open_to s p to_starve)) (λ h. refl) (λ p l h seen call closed. as_many seen.plain p call.shape.room closed)

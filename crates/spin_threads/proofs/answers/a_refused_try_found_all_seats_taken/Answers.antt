@@ -7,10 +7,10 @@ use Rattle.spin_world_seats.proofs.Owed.{Seating, seats_keeping, seats_facts}
 use Rattle.spin_threads.proofs.Moments.{found}
 use Rattle.spin_threads.proofs.answers.a_refused_try_found_all_seats_taken.Goals as goal
 
-all_taken : (n p : ℕ) (s : Plain) → Seating n s → is_open_to s p to_read ≡ false → length s.holders ≡ seats n
+all_taken : (n p : ℕ) (s : Plain) → Seating n s → not (is_open_to s p to_read) ≡ true → length s.holders ≡ seats n
 all_taken n p s shape closed = grind (arith, open_is s n (length s.holders) shape.all_read shape.room refl, shape.few, closed)
 
 pub returns : goal.returns
 returns g n before now made =
     let b = before.account in let e = now.account in
-    found (model n) (seats_keeping n) (seats_facts n) (λ p s. is_open_to s p to_read ≡ false) (λ h p span some. some) (λ p l h seen call closed. all_taken n p seen.plain call.shape closed) b.permit.view e.permit.view b.seen.entries e.seen.entries made.0
+    found (model n) (seats_keeping n) (seats_facts n) (λ p s. not (is_open_to s p to_read)) (λ h. refl) (λ p l h seen call closed. all_taken n p seen.plain call.shape closed) b.permit.view e.permit.view b.seen.entries e.seen.entries made.0

@@ -8,9 +8,9 @@ use Rattle.spin_world.proofs.FairOwed.{fair_keeping, fair_facts}
 use Rattle.spin_threads.proofs.Moments.{found}
 use Rattle.spin_threads.proofs.answers.a_refused_try_found_the_fair_mutex_held_or_starved.Goals as goal
 
-kept_out : (s : Plain) (p : ℕ) → is_open_to s p to_lock_unregistered ≡ false → (is_held s ≡ true) ⊎ (is_starved s ≡ true)
+kept_out : (s : Plain) (p : ℕ) → not (is_open_to s p to_lock_unregistered) ≡ true → (is_held s ≡ true) ⊎ (is_starved s ≡ true)
 kept_out s p closed = grind (arith, closed)
 
 pub returns : goal.returns
 returns g =
-    found model (fair_keeping tt most_starvers patience) (fair_facts tt most_starvers patience) (λ p s. is_open_to s p to_lock_unregistered ≡ false) (λ h p span some. some) (λ p l h seen call closed. kept_out seen.plain p closed)
+    found model (fair_keeping tt most_starvers patience) (fair_facts tt most_starvers patience) (λ p s. not (is_open_to s p to_lock_unregistered)) (λ h. refl) (λ p l h seen call closed. kept_out seen.plain p closed)

@@ -6,4 +6,4 @@ use Rattle.spin_threads.proofs.Moments.{found}
 use Rattle.spin_threads.proofs.answers.a_refused_try_found_the_spin_mutex_held.Goals as goal
 
 pub returns : goal.returns
-returns g c = λ opening. found (model opening) (flag_keeping opening) (flag_facts opening) (λ p s. is_open_to s p to_write ≡ false) (λ h p span some. some) (λ p l h seen call closed. grind (arith, closed))
+returns g c = λ opening. found (model opening) (flag_keeping opening) (flag_facts opening) (λ p s. not (is_open_to s p to_write)) (λ h. refl) (λ p l h seen call closed. grind (arith, closed))

@@ -7,9 +7,9 @@ use Rattle.spin_world.proofs.TicketOwed.{ticket_keeping, ticket_facts}
 use Rattle.spin_threads.proofs.Moments.{found}
 use Rattle.spin_threads.proofs.answers.a_refused_try_found_the_ticket_mutex_held_or_used_up.Goals as goal
 
-kept_out : (s : Plain) (p : ℕ) → is_open_to s p to_take_and_enter ≡ false → (is_held s ≡ true) ⊎ (is_left s.next ≡ false)
+kept_out : (s : Plain) (p : ℕ) → not (is_open_to s p to_take_and_enter) ≡ true → (is_held s ≡ true) ⊎ (is_left s.next ≡ false)
 kept_out s p closed = grind (arith, closed)
 
 pub returns : goal.returns
 returns g c = λ key.
-    found (model key) (ticket_keeping key.0.value key.1) (ticket_facts key.0.value key.1) (λ p s. is_open_to s p to_take_and_enter ≡ false) (λ h p span some. some) (λ p l h seen call closed. kept_out seen.plain p closed)
+    found (model key) (ticket_keeping key.0.value key.1) (ticket_facts key.0.value key.1) (λ p s. not (is_open_to s p to_take_and_enter)) (λ h. refl) (λ p l h seen call closed. kept_out seen.plain p closed)

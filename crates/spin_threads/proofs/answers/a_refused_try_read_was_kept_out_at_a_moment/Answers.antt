@@ -8,9 +8,9 @@ use Rattle.spin_world.proofs.RwOwed.{Within, rw_keeping, rw_facts}
 use Rattle.spin_threads.proofs.Moments.{found}
 use Rattle.spin_threads.proofs.answers.a_refused_try_read_was_kept_out_at_a_moment.Goals as goal
 
-kept_out : (s : Plain) (p : ℕ) → Within reader_limit s → is_open_to s p to_read ≡ false → (0 < writers s) ⊎ (0 < count_kind asking s.holders) ⊎ (length s.holders ≡ reader_limit)
+kept_out : (s : Plain) (p : ℕ) → Within reader_limit s → not (is_open_to s p to_read) ≡ true → (0 < writers s) ⊎ (0 < count_kind asking s.holders) ⊎ (length s.holders ≡ reader_limit)
 kept_out s p shape closed = grind (arith, shape, by_kinds (against reading) s.holders, closed)
 
 pub returns : goal.returns
 returns g =
-    found model (rw_keeping tt reader_limit) (rw_facts tt reader_limit) (λ p s. is_open_to s p to_read ≡ false) (λ h p span some. some) (λ p l h seen call closed. kept_out seen.plain p call.shape closed)
+    found model (rw_keeping tt reader_limit) (rw_facts tt reader_limit) (λ p s. not (is_open_to s p to_read)) (λ h. refl) (λ p l h seen call closed. kept_out seen.plain p call.shape closed)

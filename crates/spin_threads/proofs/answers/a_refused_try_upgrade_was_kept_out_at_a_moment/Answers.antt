@@ -15,7 +15,7 @@ use Rattle.spin_world.proofs.RwOwed.{holder_by, rw_keeping, rw_facts}
 use Rattle.spin_threads.proofs.Moments.{found}
 use Rattle.spin_threads.proofs.answers.a_refused_try_upgrade_was_kept_out_at_a_moment.Goals as goal
 
-not_alone : (s : Plain) (p : ℕ) → entries p s ≡ entries_at p (holds upgradable) → is_open_to s p to_upgrade ≡ false → 1 < length s.holders
+not_alone : (s : Plain) (p : ℕ) → entries p s ≡ entries_at p (holds upgradable) → not (is_open_to s p to_upgrade) ≡ true → 1 < length s.holders
 not_alone s p mine closed = grind (arith, holder_by p upgradable s mine, closed)
 
 -- a party that tries to upgrade is an upgradable reader
@@ -26,4 +26,4 @@ stands p l _ seen call = absurd call.knows
 
 pub returns : goal.returns
 returns g =
-    found model (rw_keeping tt reader_limit) (rw_facts tt reader_limit) (λ p s. is_open_to s p to_upgrade ≡ false) (λ h p span some. some) (λ p l h seen call closed. not_alone seen.plain p (stands p l h seen call) closed)
+    found model (rw_keeping tt reader_limit) (rw_facts tt reader_limit) (λ p s. not (is_open_to s p to_upgrade)) (λ h. refl) (λ p l h seen call closed. not_alone seen.plain p (stands p l h seen call) closed)

@@ -8,13 +8,13 @@ use Rattle.spin_world.proofs.FairOwed.{fair_keeping, fair_facts}
 use Rattle.spin_threads.proofs.Moments.{found}
 use Rattle.spin_threads.proofs.answers.the_reason_for_a_refusal_was_so_at_a_moment.Goals as goal
 
-told_locked : (s : Plain) → (is_held s && not (is_starved s)) ≡ true → (is_held s ≡ true) × (is_starved s ≡ false)
+told_locked : (s : Plain) → (is_held s && is_empty s.starvers) ≡ true → (is_held s ≡ true) × (is_starved s ≡ false)
 told_locked s is = grind (arith, is)
 
 pub returns-clause-locked : goal.returns-clause-locked
 returns-clause-locked g =
-    found model (fair_keeping tt most_starvers patience) (fair_facts tt most_starvers patience) (λ p s. (is_held s && not (is_starved s)) ≡ true) (λ h p span some. some) (λ p l h seen call is. told_locked seen.plain is)
+    found model (fair_keeping tt most_starvers patience) (fair_facts tt most_starvers patience) (λ p s. is_held s && is_empty s.starvers) (λ h. refl) (λ p l h seen call is. told_locked seen.plain is)
 
 pub returns-clause-starved : goal.returns-clause-starved
 returns-clause-starved g =
-    found model (fair_keeping tt most_starvers patience) (fair_facts tt most_starvers patience) (λ p s. is_starved s ≡ true) (λ h p span some. some) (λ p l h seen call is. is)
+    found model (fair_keeping tt most_starvers patience) (fair_facts tt most_starvers patience) (λ p s. is_starved s) (λ h. refl) (λ p l h seen call is. is)

@@ -1,5 +1,5 @@
-use Rattle.std.proofs.Common.{arith, ⊎_elim}
 use Rattle.spin_world_tests.proofs.wrong.barrier.a_follower_waits_for_its_leader.Goals as goal
+use Rattle.std.proofs.lemmas.Bool.{false≢true}
 
 pub returns : goal.returns
-returns c = λ all. ⊎_elim (λ le. omega (arith, le)) (λ more. ⊎_elim (λ le. omega (arith, le)) (λ none. none) more) all.1.1.0.2
+returns c = λ all. false≢true all.1.1.0

@@ -1,6 +1,5 @@
-use Rattle.std.proofs.Common.{⊎_elim}
 use Rattle.std.proofs.lemmas.Bool.{false≢true}
 use Rattle.spin_world_tests.proofs.wrong.fair.a_refusal_tells_its_reason.Goals as goal
 
 pub returns : goal.returns
-returns g c = λ value all. ⊎_elim (λ starved. false≢true starved) (λ none. none) all.1.1.1.0
+returns g c = λ value all. false≢true all.1.1.1.0

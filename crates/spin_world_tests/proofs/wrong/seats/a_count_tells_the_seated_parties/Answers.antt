@@ -1,5 +1,5 @@
-use Rattle.std.proofs.Common.{◌≡◌, ⊎_elim, arith}
 use Rattle.spin_world_tests.proofs.wrong.seats.a_count_tells_the_seated_parties.Goals as goal
+use Rattle.std.proofs.lemmas.Bool.{false≢true}
 
 pub returns : goal.returns
-returns g all = ⊎_elim (λ (e : 0 ≡ 2). absurd (omega (arith, e))) (λ none. none) all.1.0
+returns g all = false≢true all.1.0

@@ -1,8 +1,8 @@
 use Rattle.std.proofs.Common.{Some, ap}
 use Rattle.std.proofs.lemmas.Bool.{false≢true}
 use Rattle.spin_model.specs.declared.place.Hold.TheVariants.{Read}
-use Rattle.spin_model.specs.Calls.{LockKind, gives_back}
 use Rattle.spin_world_tests.proofs.wrong.seats.a_lock_is_of_its_kind.Goals as goal
+use Rattle.spin_model.specs.Calls.{Asked}
 
 pub returns : goal.returns
-returns g is = false≢true (ap (λ (k : LockKind). k.calls (gives_back (Some Read))) is.lock_kind)
+returns g is = false≢true (ap (λ (what : Asked). what.begins (Some Read)) (is.leave (Some Read)))

@@ -1,0 +1,363 @@
+-- The calls of the objects here: of each, what it promises.
+use Rattle.std.specs.Prelude.{ℕ, ◌==◌, ◌&&◌, ◌||◌, Bool, true, false, not, nat_le, Option, Some, None, List, [], ◌∷◌, if◌then◌else◌}
+use Rattle.std.specs.List.{list_any}
+use Rattle.spin_step.specs.Plain.{Plain, Kind, reading, upgradable, asking, writing, Ask, to_write, to_upgrade, to_upgrade_asked, to_take_ticket, to_enter, to_take_and_enter, to_lock_unregistered, to_lock_starving, to_lock_starving_alone, to_begin, Change, gets, releases, serves, stops_starving, turns, completes, fails, arrives, is_open_to, is_empty, is_first, is_holder, is_nothing, is_complete}
+use Rattle.spin_step.specs.Parties.{is_held}
+use Rattle.spin_step.specs.Barriers.{may_leave, is_leading, filled_by}
+use Rattle.spin_model.specs.declared.place.Hold.{Hold}
+use Rattle.spin_model.specs.declared.place.Hold.TheVariants.{Read, Upgradable, Write, Ticket, Starver}
+use Rattle.spin_model.specs.Calls.{Said, granted, refused, locked, starved, done, tells, counted, gives_value, has_no_value, failed, leads, follows, Mark, unlimited, within, within_changes, gets_within, changes_within, registers_after, Meaning, never, got, got_or_starved, found, means, is_for, makes, is_starved, readers, writers, Asked}
+
+-- What is held
+
+-- An upgrade is an upgradable reader's, and a starver's lock or try is a starver's.
+-- A party that asks for anything else holds nothing
+abbrev pub held_for : Ask → Option Hold
+held_for to_upgrade = Some Upgradable
+held_for to_upgrade_asked = Some Upgradable
+held_for to_lock_starving = Some Starver
+held_for to_lock_starving_alone = Some Starver
+held_for _ = None
+
+abbrev pub is_same_hold : Option Hold → Option Hold → Bool
+is_same_hold None None = true
+is_same_hold (Some Read) (Some Read) = true
+is_same_hold (Some Upgradable) (Some Upgradable) = true
+is_same_hold (Some Write) (Some Write) = true
+is_same_hold (Some (Ticket t)) (Some (Ticket u)) = t == u
+is_same_hold (Some Starver) (Some Starver) = true
+is_same_hold _ _ = false
+
+abbrev pub is_one_of : (Hold → Bool) → Option Hold → Bool
+is_one_of may None = false
+is_one_of may (Some hold) = may hold
+
+abbrev pub is_read : Hold → Bool
+is_read Read = true
+is_read _ = false
+
+abbrev pub is_upgradable : Hold → Bool
+is_upgradable Upgradable = true
+is_upgradable _ = false
+
+abbrev pub is_write : Hold → Bool
+is_write Write = true
+is_write _ = false
+
+abbrev pub is_ticket : Hold → Bool
+is_ticket (Ticket t) = true
+is_ticket _ = false
+
+abbrev pub is_registered : Hold → Bool
+is_registered Starver = true
+is_registered _ = false
+
+abbrev pub is_above_read : Hold → Bool
+is_above_read Upgradable = true
+is_above_read Write = true
+is_above_read _ = false
+
+abbrev pub is_held_some : Hold → Bool
+is_held_some Read = true
+is_held_some hold = is_above_read hold
+
+-- Plain steps
+
+-- a party releases what it holds
+abbrev pub let_go_of : ℕ → Option Hold → List Change
+let_go_of p None = []
+let_go_of p (Some Read) = releases p reading ∷ []
+let_go_of p (Some Upgradable) = releases p upgradable ∷ []
+let_go_of p (Some Write) = releases p writing ∷ []
+let_go_of p (Some (Ticket t)) = serves p ∷ []
+let_go_of p (Some Starver) = stops_starving p ∷ []
+
+abbrev pub turn_to : ℕ → Option Hold → Kind → List Change
+turn_to p (Some Write) kind = turns p writing kind ∷ []
+turn_to p (Some Upgradable) kind = turns p upgradable kind ∷ []
+turn_to p _ kind = []
+
+abbrev pub is_completion : Change → Bool
+is_completion (completes p) = true
+is_completion _ = false
+
+abbrev pub is_failure : Change → Bool
+is_failure (fails p) = true
+is_failure _ = false
+
+abbrev pub is_arrival : Change → Bool
+is_arrival (arrives p) = true
+is_arrival _ = false
+
+-- What a moment of the call finds
+
+abbrev pub same : Bool → Bool → Bool
+same true b = b
+same false b = not b
+
+-- there is a value, or the party's own step completes its closure
+abbrev pub finds_value : ℕ → Mark → Bool
+finds_value p m = is_complete m.before.phase || makes p is_completion m
+
+-- the party's own step is its arrival, as the last of its group or not
+abbrev pub arrives_leading : ℕ → Bool → Mark → Bool
+arrives_leading p leading m = makes p is_arrival m && same leading (is_leading m.before m.after.arrivals)
+
+-- the group of this arrival is full
+abbrev pub finds_full : Mark → Mark → Bool
+finds_full arrival m = nat_le (filled_by m.before arrival.after.arrivals) m.before.arrivals
+
+-- What answers say
+
+-- the call has done what it is for
+abbrev pub made : (ℕ → List Change) → Meaning
+made steps = means (λ p. steps p ∷ []) (λ p span. true)
+
+-- it gives the value, and has made one of these steps
+abbrev pub gave : (ℕ → List (List Change)) → Meaning
+gave steps = means steps (λ p span. list_any (finds_value p) span)
+
+-- a call of one step that makes no plain step and is never answered, to build others from
+abbrev pub a_call : Asked
+a_call =
+    record {
+      begins = is_same_hold None;
+      waits = false;
+      tries = None;
+      answers = λ said. never;
+      most = done;
+      limit = λ words. within 1;
+      is_open_next = λ first k p s. false;
+      undisturbed_steps = 4;
+      goes_for = λ made. None;
+      may_register = λ made. false;
+      is_weak = false;
+      before_weakly = λ p. [];
+      gets_weakly = λ c. false;
+      needs_no_cause = λ said. false;
+    }
+
+-- Calls that wait
+
+-- It looks first, and steps until it is granted, without a limit. Undisturbed it looks once at most before its exchange.
+-- Once it has made its plain step, only the answer is left
+abbrev pub waits : Ask → Asked
+waits ask =
+    record a_call {
+      begins = is_same_hold (held_for ask);
+      waits = true;
+      most = granted;
+      answers = λ said. elim said [ granted ↦ got ask | _ ↦ never ];
+      limit = λ words. unlimited;
+      is_open_next = λ first k p s. not first || is_open_to s p ask;
+      undisturbed_steps = 2;
+    }
+
+-- it does not look first, but makes a weak exchange
+abbrev pub waits_to_write : Asked
+waits_to_write =
+    record (waits to_write) {
+      goes_for = λ made. elim made [ [] ↦ Some to_write | _ ↦ None ];
+      is_weak = true;
+      gets_weakly = λ c. true;
+    }
+
+-- again and again, without a look between
+abbrev pub spins_to_write : Asked
+spins_to_write = record waits_to_write { undisturbed_steps = 1 }
+
+-- a starver, whose exchange sets the flag
+abbrev pub waits_starving : Asked
+waits_starving =
+    record (waits to_lock_starving) {
+      goes_for = λ made. elim made [ [] ↦ Some to_lock_starving | _ ↦ None ];
+      undisturbed_steps = 4;
+    }
+
+-- In a queue: it has a ticket by its second step, and one more for each change by others.
+-- It asks for a ticket that enters at once, and with its ticket to enter
+abbrev pub waits_to_enter : Asked
+waits_to_enter =
+    record (waits to_enter) {
+      limit = λ words. gets_within to_take_ticket 2;
+      is_open_next = λ first k p s. if first then is_open_to s p to_take_and_enter else is_open_to s p to_enter || is_first p true s.tickets;
+      undisturbed_steps = 4;
+    }
+
+-- It asks by its first step, and then upgrades by a weak exchange.
+-- It has nothing but its own asking before it, and then the upgrade
+abbrev pub waits_to_upgrade : Asked
+waits_to_upgrade =
+    record (waits to_upgrade_asked) {
+      limit = λ words. changes_within 1;
+      is_open_next = λ first k p s. if first then is_open_to s p to_upgrade else is_open_to s p to_upgrade_asked || is_holder p writing s.holders;
+      goes_for = λ made. elim made [ [] ↦ None | c ∷ cs ↦ if is_empty cs then Some to_upgrade_asked else None ];
+      is_weak = true;
+      before_weakly = λ p. turns p upgradable asking ∷ [];
+      gets_weakly = is_for to_upgrade_asked;
+    }
+
+-- It steps until it is granted, unregistered or, once it has registered, as a starver.
+-- After so many looks that found the lock held, the next one that does makes it register by its second step from there
+abbrev pub waits_or_starves : ℕ → Asked
+waits_or_starves n =
+    record a_call {
+      waits = true;
+      most = granted;
+      answers = λ said. elim said [
+        | granted ↦ got_or_starved to_lock_unregistered to_lock_starving
+        | _ ↦ never
+      ];
+      limit = λ words. registers_after n 2;
+      is_open_next = λ first k p s. if first then is_open_to s p to_lock_unregistered else is_open_to s p to_lock_starving || is_holder p writing s.holders;
+      goes_for = λ made. elim made [ [] ↦ Some to_lock_unregistered | c ∷ cs ↦ if is_empty cs then Some to_lock_starving else None ];
+      may_register = is_empty;
+      is_weak = true;
+      gets_weakly = is_for to_lock_unregistered;
+    }
+
+-- Tries
+
+-- in so many steps at most
+abbrev pub tries_in : ℕ → Ask → Asked
+tries_in k ask =
+    record a_call {
+      begins = is_same_hold (held_for ask);
+      tries = Some ask;
+      most = granted;
+      answers = λ said. elim said [ granted ↦ got ask | refused ↦ found (λ p s. not (is_open_to s p ask)) | _ ↦ never ];
+      limit = λ words. within k;
+    }
+
+abbrev pub tries : Ask → Asked
+tries ask = tries_in 1 ask
+
+-- it looks first, and makes its exchange again for each change by others
+abbrev pub looks_and_tries : Ask → Asked
+looks_and_tries ask = record (tries ask) { limit = λ words. within_changes 2 }
+
+-- by a weak exchange, which may refuse without cause
+abbrev pub tries_weakly : Ask → Asked
+tries_weakly ask =
+    record (tries ask) {
+      tries = None;
+      is_weak = true;
+      gets_weakly = λ c. true;
+      needs_no_cause = λ said. elim said [ refused ↦ true | _ ↦ false ];
+    }
+
+-- and a refusal says why
+abbrev pub tries_to_know : Ask → Asked
+tries_to_know ask =
+    record a_call {
+      begins = is_same_hold (held_for ask);
+      most = granted;
+      answers = λ said. elim said [
+        | granted ↦ got ask
+        | locked ↦ found (λ p s. is_held s && is_empty s.starvers)
+        | starved ↦ found (λ p s. is_starved s)
+        | _ ↦ never
+      ];
+    }
+
+-- Looks
+
+-- whether the lock is held: one step for each word
+abbrev pub looks : Asked
+looks =
+    record a_call {
+      most = tells true;
+      answers = λ said. elim said [ tells held ↦ found (λ p s. same held (is_held s)) | _ ↦ never ];
+      limit = λ words. within words;
+    }
+
+abbrev pub counts : (Plain → ℕ) → Asked
+counts number = record a_call { most = counted 0; answers = λ said. elim said [ counted n ↦ found (λ p s. number s == n) | _ ↦ never ] }
+
+-- how many hold the lock to read, or upgradably
+abbrev pub counts_readers : Asked
+counts_readers = counts readers
+
+abbrev pub counts_writers : Asked
+counts_writers = counts writers
+
+-- What is held becomes less
+
+abbrev pub does : (Hold → Bool) → (ℕ → List Change) → Asked
+does may steps = record a_call { begins = is_one_of may; most = done; answers = λ said. elim said [ done ↦ made steps | _ ↦ never ] }
+
+-- what it holds, one of these, becomes this
+abbrev pub turns_to : (Hold → Bool) → Option Hold → Kind → Asked
+turns_to may held kind = does may (λ p. turn_to p held kind)
+
+-- it gives back what it holds, one of these
+abbrev pub gives_back : (Hold → Bool) → Option Hold → Asked
+gives_back may held = does may (λ p. let_go_of p held)
+
+-- Values
+
+-- it gives a value, made by its own closure where there is none
+abbrev pub initializes : Asked
+initializes =
+    record a_call {
+      waits = true;
+      most = gives_value;
+      answers = λ said. elim said [ gives_value ↦ gave (λ p. (gets p to_begin ∷ completes p ∷ []) ∷ [] ∷ []) | _ ↦ never ];
+      limit = λ words. unlimited;
+      is_open_next = λ first k p s. not first || (is_nothing s.phase || is_complete s.phase);
+    }
+
+-- its own closure fails
+abbrev pub fails_to_initialize : Asked
+fails_to_initialize =
+    record initializes {
+      answers = λ said. elim said [
+        | gives_value ↦ gave (λ p. [] ∷ [])
+        | failed ↦ means (λ p. (gets p to_begin ∷ fails p ∷ []) ∷ []) (λ p span. list_any (makes p is_failure) span)
+        | _ ↦ never
+      ];
+    }
+
+abbrev pub waits_for_value : Asked
+waits_for_value =
+    record a_call {
+      waits = true;
+      most = gives_value;
+      answers = λ said. elim said [ gives_value ↦ gave (λ p. [] ∷ []) | _ ↦ never ];
+      limit = λ words. unlimited;
+      is_open_next = λ first k p s. is_complete s.phase;
+    }
+
+-- the value, or that none is there, where this is so
+abbrev pub value_or : (Plain → Bool) → Said → Meaning
+value_or none gives_value = gave (λ p. [] ∷ [])
+value_or none has_no_value = found (λ p s. none s)
+value_or none _ = never
+
+-- the value, once no closure runs
+abbrev pub polls : Asked
+polls = record waits_for_value { answers = value_or (λ s. is_nothing s.phase); is_open_next = λ first k p s. is_nothing s.phase || is_complete s.phase }
+
+abbrev pub looks_for_value : Asked
+looks_for_value = record a_call { most = gives_value; answers = value_or (λ s. not (is_complete s.phase)) }
+
+-- whether there is a value
+abbrev pub looks_complete : Asked
+looks_complete = record a_call { most = tells true; answers = λ said. elim said [ tells there ↦ found (λ p s. same there (is_complete s.phase)) | _ ↦ never ] }
+
+-- Meetings
+
+-- it arrives by its first step, and waits until its group is full
+abbrev pub meets : Asked
+meets =
+    record a_call {
+      waits = true;
+      most = leads;
+      answers = λ said. elim said [
+        | leads ↦ means (λ p. (arrives p ∷ []) ∷ []) (λ p span. list_any (arrives_leading p true) span)
+        | follows ↦ means (λ p. (arrives p ∷ []) ∷ []) (λ p span. list_any (λ m. arrives_leading p false m && list_any (finds_full m) span) span)
+        | _ ↦ never
+      ];
+      limit = λ words. changes_within 1;
+      is_open_next = λ first k p s. not first && (may_leave s k || is_leading s k);
+    }
