@@ -50,15 +50,15 @@ first_after id view vs w len marks late alone order i j v u at_i at_j holds star
     both (inr a) (inl b) = omega (arith, marks i v a, late, ap (λ x. x.2) b)
     both (inr a) (inr b) = order i j v u a b holds starves
 
-within : (schedule : List Done) (k : ℕ) (came : List (Option (View × ℕ))) (i : ℕ) (v : Numbered View) → Rested schedule k came → slice_get (present_from k came) i ≡ Some v → v.2 ≤ length schedule
+within : {T : Type 0} (schedule : List (Done T)) (k : ℕ) (came : List (Option (View × ℕ))) (i : ℕ) (v : Numbered View) → Rested schedule k came → slice_get (present_from k came) i ≡ Some v → v.2 ≤ length schedule
 within schedule k [] i v rest at = absurd (cc (at))
 within schedule k (None ∷ us) i v rest at = within schedule (suc k) us i v rest at
 within schedule k (Some u ∷ us) zero v rest at = let same : (u.0, k, u.1) ≡ v = cc (at) in subst (λ (x : Numbered View). x.2 ≤ length schedule) same rest.0.0
 within schedule k (Some u ∷ us) (suc i) v rest at = within schedule (suc k) us i v rest.1 at
 
 -- no party has made a move after the end of the trace
-pub marks_within : (schedule : List Done) (s : ℕ × Unit {0}) (vs : List (Numbered View)) → IsRun model seat_of words_of schedule s vs → (i : ℕ) (v : Numbered View) → slice_get vs i ≡ Some v → v.2 ≤ length schedule
-marks_within schedule s vs run i v at = within schedule 0 run.0 i v run.7 (subst (λ l. slice_get l i ≡ Some v) run.3 at)
+pub marks_within : {T : Type 0} (v₀ : T) (schedule : List (Done T)) (s : ℕ × Unit {0}) (vs : List (Numbered View)) → IsRun (model v₀) seat_of words_of schedule s vs → (i : ℕ) (v : Numbered View) → slice_get vs i ≡ Some v → v.2 ≤ length schedule
+marks_within v₀ schedule s vs run i v at = within schedule 0 run.0 i v run.7 (subst (λ l. slice_get l i ≡ Some v) run.3 at)
 
 pub viewed : (vs : List (Numbered View)) (j : ℕ) (w : Numbered View) → slice_get vs j ≡ Some w → slice_get (views_of vs) j ≡ Some w.0
 viewed [] j w at = absurd (cc (at))

@@ -3,10 +3,12 @@
 use Rattle.std.specs.Prelude.{◌≡◌, ◌⊎◌, ℕ, ◌+◌, ◌++◌, Bool, true, false, List, [], ◌∷◌, map, Option, Some, None, if◌then◌else◌, ◌%◌, ◌==◌, nat_lt, is_some, ◌<◌, ◌≤◌, slice_get}
 use Rattle.spin_step.specs.Plain.{writing, fair_word}
 use Rattle.spin_step_more.specs.Starvers.{most_starvers, is_set, starve}
-use Rattle.spin_core.specs.Cell.{Use, off, writes}
+use Rattle.spin_core.specs.Cell.{Use, off, writes, alone, Ways}
 use Rattle.spin_core.specs.Views.{Part, idle, holds, starves, holds_starving, part_at, Encodes, no_word}
 use Rattle.spin_core.specs.Own.{Numbered, Runs, Tells}
-use Rattle.spin_core.specs.Passes.{Course, Waits, Ends, Begins, IsCall, Made}
+use Rattle.spin_core.specs.Passes.{Course, Waits, Ends, Begins, IsCall, IsStep, WritesSome, Made}
+use Rattle.spin_core.specs.Values.{last}
+use Rattle.spin_core.specs.declared.tie.Opening.{Opening}
 use Rattle.spin_core.specs.declared.trace.Trace.{Trace}
 use Rattle.spin_fair.specs.declared.fair.rule.View.{View}
 use Rattle.spin_fair.specs.declared.fair.rule.View.TheVariants.{Idle, Starving, Holding, Served, Trying, Looking, Loading, Registering, Setting, Awaiting, HoldingStarving}
@@ -25,7 +27,7 @@ use Rattle.spin_model.specs.Schedules.{Entry}
 use Rattle.spin_step_more.specs.declared.fair.LockRejectReason.{LockRejectReason}
 use Rattle.spin_step_more.specs.declared.fair.LockRejectReason.TheVariants.{Locked, Starved}
 use Rattle.spin_step_more.specs.declared.fair_calls.FairCall.{FairCall}
-use Rattle.spin_step_more.specs.declared.fair_calls.FairCall.TheVariants.{Lock, TryLockStarver, IsLocked, Starve, StarverTryLockFair, StarverTryLock, StarverLock}
+use Rattle.spin_step_more.specs.declared.fair_calls.FairCall.TheVariants.{Lock, TryLockStarver, IsLocked, Starve, StarverTryLockFair, StarverTryLock, StarverLock, StarverDrop, Release}
 use Rattle.spin_step_more.specs.declared.fair_calls.FairPoint.{FairPoint}
 use Rattle.spin_step_more.specs.declared.fair_calls.FairPoint.TheVariants as point
 use Rattle.spin_step_more.specs.FairCalls.{fair_machine}
@@ -72,21 +74,27 @@ seat_of (HoldingStarving c) = seat.Calling c point.Unregister (held_before c)
 abbrev pub patience : ℕ
 patience = 1025
 
-abbrev pub model : Machine ℕ (Unit {0}) FairCall FairPoint (Answer (Unit {0}))
-model = fair_machine tt most_starvers patience
+-- the model of a lock that opens with this value
+abbrev pub model : {T : Type 0} → T → Machine ℕ T FairCall FairPoint (Answer T)
+model v = fair_machine v most_starvers patience
 
 -- the words of the lock, from those of the model
 abbrev pub words_of : ℕ → ℕ × Unit {0}
 words_of w = (w, tt)
 
-abbrev pub OneMove : Type 0
-OneMove = Move FairCall (Unit {0})
+-- Of a lock of values of type T
 
-abbrev pub Ending : Type 0
-Ending = Outcome (Answer (Unit {0})) (Unit {0})
+abbrev pub OneMove : Type 0 → Type 0
+OneMove T = Move FairCall T
 
-abbrev pub Done : Type 0
-Done = Entry FairCall (Unit {0})
+abbrev pub Ending : Type 0 → Type 0
+Ending T = Outcome (Answer T) T
+
+abbrev pub Done : Type 0 → Type 0
+Done T = Entry FairCall T
+
+abbrev pub Says : Type 0 → Type 1
+Says T = List (OneMove T) → List (Ending T) → ℕ → View → Type 0
 
 abbrev pub Word : ℕ → Unit {0} → List View → Type 0
 Word = Encodes part most_starvers fair_word no_word
@@ -108,28 +116,29 @@ starver _ = 0
 abbrev pub StarversFirst : List (Numbered View) → Type 0
 StarversFirst parties = (i j : ℕ) (v w : Numbered View) → slice_get parties i ≡ Some v → slice_get parties j ≡ Some w → v.0 ≡ Holding → 0 < starver w.0 → v.2 ≤ w.2
 
--- of the first word, the trace and the parties, under the name of the lock's trace
-abbrev pub IsFair : ℕ → ℕ → Trace Done (Unit {0}) → List (Numbered View) → Type 0
-IsFair name word trace parties = Runs model seat_of words_of (λ n second vs. Word n second vs × StarversFirst parties) name word trace parties
+-- of the first word, the trace and the parties, of a lock that opened so
+abbrev pub IsFair : {T : Type 0} → Opening T → ℕ → Trace (Done T) (Unit {0}) → List (Numbered View) → Type 0
+IsFair opening word trace parties = Runs (model opening.value) seat_of words_of (λ n second vs. Word n second vs × StarversFirst parties) opening.name word trace parties
 
--- what a step tells of its moves
-abbrev pub Told : (List OneMove → List Ending → ℕ → View → Type 0) → Option (Numbered View) → List Done → List Done → ℕ → Numbered View → Type 0
-Told = Tells model seat_of words_of
+-- each holder has the value to itself; the value that nobody holds is the one written last
+abbrev pub fair_ways : {T : Type 0} → Opening T → Ways T (Numbered View) (Trace (Done T) (Unit {0}))
+fair_ways opening = (alone, use_of_party, last opening)
+
+-- what a step tells of its moves, of a lock that opened with this value
+abbrev pub Told : {T : Type 0} → T → Says T → Option (Numbered View) → List (Done T) → List (Done T) → ℕ → Numbered View → Type 0
+Told v = Tells (model v) seat_of words_of
 
 -- The steps: what each results in and where it leads, by the number found
 
-abbrev pub Says : Type 1
-Says = List OneMove → List Ending → ℕ → View → Type 0
-
 -- a step of as many moves as it has outcomes: in a call that goes on (true), or behind the beginning of this call
-abbrev pub AreSteps : Bool → FairCall → List Ending → List OneMove → List Ending → Type 0
+abbrev pub AreSteps : {T : Type 0} → Bool → FairCall → List (Ending T) → List (OneMove T) → List (Ending T) → Type 0
 AreSteps true c ends own outs = (own ≡ map (λ _. Step) ends) × (outs ≡ ends)
 AreSteps false c ends own outs = (own ≡ Begin c ∷ map (λ _. Step) ends) × (outs ≡ Begun ∷ ends)
 
-abbrev pub steps_by : Bool → FairCall → (ℕ → List Ending) → (ℕ → View) → Says
+abbrev pub steps_by : {T : Type 0} → Bool → FairCall → (ℕ → List (Ending T)) → (ℕ → View) → Says T
 steps_by goes_on c ends to own outs n v = (v ≡ to n) × AreSteps goes_on c (ends n) own outs
 
-abbrev pub answered : Answer (Unit {0}) → Ending
+abbrev pub answered : {T : Type 0} → Answer T → Ending T
 answered a = Answered a None
 
 -- the party is in a call
@@ -165,25 +174,25 @@ abbrev pub stands : Option (Numbered View) → View
 stands None = Idle
 stands (Some v) = v.0
 
-abbrev pub looks_by : Says
+abbrev pub looks_by : {T : Type 0} → Says T
 looks_by = steps_by false IsLocked (λ n. answered (answer.Is (is_set n)) ∷ []) (λ n. Idle)
 
 -- what a newcomer is told that finds this word, where it is not 0
-abbrev pub refusal : FairCall → ℕ → Answer (Unit {0})
+abbrev pub refusal : {T : Type 0} → FairCall → ℕ → Answer T
 refusal TryLockStarver n = if n == 1 then answer.Locked else answer.Starved
 refusal _ n = answer.Refused
 
 -- the reason that says so
-abbrev pub answer_of : LockRejectReason → Answer (Unit {0})
+abbrev pub answer_of : {T : Type 0} → LockRejectReason → Answer T
 answer_of Locked = answer.Locked
 answer_of Starved = answer.Starved
 
 -- the exchange of a try of a newcomer
-abbrev pub tries_by : FairCall → Says
+abbrev pub tries_by : {T : Type 0} → FairCall → Says T
 tries_by c = steps_by false c (λ n. answered (if n == 0 then answer.Granted else refusal c n) ∷ []) (λ n. if n == 0 then Holding else Idle)
 
 -- a starver that is not the only one is refused by `try_lock_fair`, and goes on to set the flag in its other calls
-abbrev pub missed_alone : FairCall → List Ending
+abbrev pub missed_alone : {T : Type 0} → FairCall → List (Ending T)
 missed_alone StarverTryLockFair = answered answer.Refused ∷ []
 missed_alone _ = []
 
@@ -195,12 +204,19 @@ abbrev pub alone_to : FairCall → ℕ → View
 alone_to c n = if n == 2 then Served else not_alone c
 
 -- the exchange of a starver that begins a call: the only one makes both steps of the call at once
-abbrev pub alone_by : FairCall → Says
+abbrev pub alone_by : {T : Type 0} → FairCall → Says T
 alone_by c = steps_by false c (λ n. if n == 2 then GoingOn ∷ answered answer.Granted ∷ [] else missed_alone c) (alone_to c)
 
--- a call of one step by which a party gives back what it holds
-abbrev pub ends_by : FairCall → Says
-ends_by c = steps_by false c (λ n. answered answer.Done ∷ []) (λ n. Idle)
+-- a starver ends its registration
+abbrev pub gives_up_by : {T : Type 0} → Says T
+gives_up_by = steps_by false StarverDrop (λ n. answered answer.Done ∷ []) (λ n. Idle)
+
+-- the release: the holder writes the value that it leaves, one of which this holds, and gives the lock back
+abbrev pub frees_with : {T : Type 0} → (T → Type 0) → Says T
+frees_with Q own outs n v = (v ≡ Idle) × WritesSome Q (IsStep false Release (answered answer.Done)) own outs
+
+abbrev pub frees_by : {T : Type 0} → Says T
+frees_by = frees_with (λ x. Unit {0})
 
 -- how many looks have found the lock held so far
 abbrev pub looks_of : Option View → ℕ
@@ -212,14 +228,14 @@ looks_of _ = 0
 abbrev pub tried : Option View → ℕ → View
 tried view n = if n == 0 then Holding else Looking (looks_of view)
 
-abbrev pub tried_by : Option View → Says
+abbrev pub tried_by : {T : Type 0} → Option View → Says T
 tried_by view = steps_by (in_call view) Lock (λ n. (if n == 0 then answered answer.Granted else GoingOn) ∷ []) (tried view)
 
 -- the view after a look of `lock`; a look that found the flag set is counted, until there are enough to register
 abbrev pub looked : Option View → ℕ → View
 looked view n = if is_set n then (if nat_lt (looks_of view) patience then Looking (looks_of view + 1) else Loading) else Trying (looks_of view)
 
-abbrev pub looked_by : Option View → Says
+abbrev pub looked_by : {T : Type 0} → Option View → Says T
 looked_by view = steps_by true Lock (λ n. GoingOn ∷ []) (looked view)
 
 abbrev pub registered : FairCall → View
@@ -240,23 +256,23 @@ abbrev pub registered_by : Option View → ℕ → ℕ → View
 registered_by view old n = if n == old then registered (call_of view) else goes_for (call_of view) n
 
 -- of a party that registers, or finds no room: `lock` goes on, and `starve` is answered
-abbrev pub registered_end : FairCall → Ending
+abbrev pub registered_end : {T : Type 0} → FairCall → Ending T
 registered_end Lock = GoingOn
 registered_end _ = answered answer.Granted
 
-abbrev pub no_room_end : FairCall → Ending
+abbrev pub no_room_end : {T : Type 0} → FairCall → Ending T
 no_room_end Lock = GoingOn
 no_room_end _ = answered answer.Refused
 
 -- a first exchange is of 0: it is the load and the exchange where it wins, and the load where it loses
-abbrev pub loads : Option View → List Ending
+abbrev pub loads : {T : Type 0} → Option View → List (Ending T)
 loads (Some (Registering c n)) = []
 loads _ = GoingOn ∷ []
 
-abbrev pub register_ends : Option View → ℕ → ℕ → List Ending
+abbrev pub register_ends : {T : Type 0} → Option View → ℕ → ℕ → List (Ending T)
 register_ends view old n = if n == old then loads view ++ registered_end (call_of view) ∷ [] else (if is_some (starve most_starvers n) then GoingOn else no_room_end (call_of view)) ∷ []
 
-abbrev pub registers_by : Option View → ℕ → Says
+abbrev pub registers_by : {T : Type 0} → Option View → ℕ → Says T
 registers_by view old = steps_by (in_call view) (call_of view) (register_ends view old) (registered_by view old)
 
 -- the call begins to register, or continues with a word that it found
@@ -283,11 +299,11 @@ finds_flag_set c = Awaiting c
 abbrev pub set_by : FairCall → ℕ → View
 set_by c n = if n % 2 == 0 then HoldingStarving c else finds_flag_set c
 
-abbrev pub flag_set_end : FairCall → Ending
+abbrev pub flag_set_end : {T : Type 0} → FairCall → Ending T
 flag_set_end StarverTryLock = answered answer.Refused
 flag_set_end c = GoingOn
 
-abbrev pub sets_by : FairCall → Says
+abbrev pub sets_by : {T : Type 0} → FairCall → Says T
 sets_by c = steps_by true c (λ n. (if n % 2 == 0 then GoingOn else flag_set_end c) ∷ []) (set_by c)
 
 -- in this call a starver waits
@@ -322,10 +338,10 @@ abbrev pub awaited_by : Option View → ℕ → View
 awaited_by (Some (Awaiting c)) n = if is_set n then Awaiting c else Setting c
 awaited_by _ n = Idle
 
-abbrev pub awaits_by : Option View → Says
+abbrev pub awaits_by : {T : Type 0} → Option View → Says T
 awaits_by view = steps_by true (call_of view) (λ n. GoingOn ∷ []) (awaited_by view)
 
-abbrev pub served_by : Option View → Says
+abbrev pub served_by : {T : Type 0} → Option View → Says T
 served_by view = steps_by true (call_of view) (λ n. answered answer.Granted ∷ []) (λ n. Served)
 
 -- the views of the parties
@@ -343,30 +359,34 @@ StarvesAt vs p = (part_at part vs p ≡ starves) ⊎ (part_at part vs p ≡ hold
 -- What a party that keeps its number does
 
 -- moves of a call that goes on (true), or of this one from its beginning: it goes on, or is answered so
-abbrev pub Comes : Bool → FairCall → Option (Answer (Unit {0})) → Course (Unit {0}) FairCall (Answer (Unit {0}))
+abbrev pub Comes : {T : Type 0} → Bool → FairCall → Option (Answer T) → Course T FairCall (Answer T)
 Comes true c None = Waits
 Comes true c (Some a) = Ends a
 Comes false c None = Begins c Waits
 Comes false c (Some a) = IsCall c a
 
--- since it knew `old` it has made moves of this course, and no others
-abbrev pub Moves : Course (Unit {0}) FairCall (Answer (Unit {0})) → Option (Numbered View) → List Done → Option (Numbered View) → List Done → Type 0
-Moves course view old view' new = Made model view old view' new course
+-- of a lock that opened with this value: since it knew `old` it has made moves of this course, and no others
+abbrev pub Moves : {T : Type 0} → T → Course T FairCall (Answer T) → Option (Numbered View) → List (Done T) → Option (Numbered View) → List (Done T) → Type 0
+Moves v course view old view' new = Made (model v) view old view' new course
 
 -- it has made exactly this call, with this answer
-abbrev pub Called : FairCall → Answer (Unit {0}) → Option (Numbered View) → List Done → Option (Numbered View) → List Done → Type 0
-Called c a = Moves (IsCall c a)
+abbrev pub Called : {T : Type 0} → T → FairCall → Answer T → Option (Numbered View) → List (Done T) → Option (Numbered View) → List (Done T) → Type 0
+Called v c a = Moves v (IsCall c a)
+
+-- it has written a value of which this holds, and then made the release
+abbrev pub Left : {T : Type 0} → T → (T → Type 0) → Option (Numbered View) → List (Done T) → Option (Numbered View) → List (Done T) → Type 0
+Left v Q = Moves v (WritesSome Q (IsCall Release answer.Done))
 
 -- what `lock` and `starve` come to where they register, and where they find no room
-abbrev pub registered_so : FairCall → Option (Answer (Unit {0}))
+abbrev pub registered_so : {T : Type 0} → FairCall → Option (Answer T)
 registered_so Lock = None
 registered_so _ = Some answer.Granted
 
-abbrev pub no_room_so : FairCall → Option (Answer (Unit {0}))
+abbrev pub no_room_so : {T : Type 0} → FairCall → Option (Answer T)
 no_room_so Lock = None
 no_room_so _ = Some answer.Refused
 
 -- what a starver's call comes to that finds the flag set
-abbrev pub flag_set_so : FairCall → Option (Answer (Unit {0}))
+abbrev pub flag_set_so : {T : Type 0} → FairCall → Option (Answer T)
 flag_set_so StarverTryLock = Some answer.Refused
 flag_set_so c = None

@@ -10,6 +10,7 @@ use spin_core::cell::Cell;
 use spin_core::guard::{self, Guard};
 use spin_core::lock::{Lock, with_guard};
 use spin_core::relax::{RelaxStrategy, Spin, Strategy};
+use spin_core::tie::Opening;
 use spin_core::trace::Trace;
 use spin_step_more::fair;
 use std::sync::Wait;
@@ -26,6 +27,7 @@ pub use self::pass::Pass;
 pub use self::rule::{Entry, FairRule, Party, View};
 pub use self::starvation::Starvation;
 pub use self::starving::StarvingPass;
+pub use crate::laws::a_guard_reads_the_last_value_written;
 pub use spin_step_more::fair::LockRejectReason;
 
 /// The patience of [`FairMutex::lock`]. After more looks than this that found the lock held, it starves.
@@ -73,12 +75,14 @@ impl<T, R> FairMutex<T, R> {
     /// Creates an unlocked mutex that holds `value` and has no starvers.
     ///
     /// # Contract
-    /// No clause. The call returns.
-    pub fn new(value: T) -> Self {
+    /// The lock's history begins with this value (`opens`). The call returns.
+    pub fn new(value: T) -> Self
+        ensures opens { (result.cell.value ≡ value) × (result.cell.told ≡ true) }
+    {
         let trace = Trace::new(());
-        let start = trace.watch();
+        let opening = Opening::of(&trace, &value);
         FairMutex {
-            cell: Cell::new(value, 0, trace, &start),
+            cell: Cell::new(value, 0, trace, &opening),
             strategy: Strategy::named(),
         }
     }
@@ -95,7 +99,7 @@ impl<T, R> FairMutex<T, R> {
 
     // Returns a party that has taken no step.
     pub(crate) fn account(&self) -> Account<'_, T>
-        ensures { (result.permit.view ≡ None) × (result.seen.name ≡ self.now.cell.name) × (result.seen.entries ≡ []) }
+        ensures { (result.permit.view ≡ None) × (result.permit.key ≡ self.now.cell) × (result.seen.name ≡ self.now.cell.name) × (result.seen.entries ≡ []) }
     {
         Account {
             permit: self.cell.enter(),

@@ -73,8 +73,8 @@ pub fn a_look_at_a_ticket_mutex_was_so_at_a_moment<T>()
 ///
 /// # Contract
 /// `Found`, of the lock's holders, tickets and starvers.
-pub fn a_refused_try_found_the_fair_mutex_held_or_starved()
-    ensures { Found fair_mutex.model FairMutexView fair.TryLock Refused (λ s.
+pub fn a_refused_try_found_the_fair_mutex_held_or_starved<T>()
+    ensures { (opening : T) → Found (fair_mutex.model opening) FairMutexView fair.TryLock Refused (λ s.
         (is_held s ≡ true) ⊎ (is_starved s ≡ true)) }
 {}
 
@@ -83,18 +83,19 @@ pub fn a_refused_try_found_the_fair_mutex_held_or_starved()
 ///
 /// # Contract
 /// `Found`, of the lock's holders, tickets and starvers.
-pub fn the_reason_for_a_refusal_was_so_at_a_moment()
-    ensures locked { Found fair_mutex.model FairMutexView fair.TryLockStarver Locked (λ s.
+pub fn the_reason_for_a_refusal_was_so_at_a_moment<T>()
+    ensures locked { (opening : T) → Found (fair_mutex.model opening) FairMutexView fair.TryLockStarver Locked (λ s.
         (is_held s ≡ true) × (is_starved s ≡ false)) }
-    ensures starved { Found fair_mutex.model FairMutexView fair.TryLockStarver Starved (Was is_starved true) }
+    ensures starved { (opening : T) → Found (fair_mutex.model opening) FairMutexView fair.TryLockStarver Starved (Was is_starved true) }
 {}
 
 /// If a pass called `is_locked` of a `FairMutex` once, the answer was true at a moment of the call.
 ///
 /// # Contract
 /// `Found`, of the lock's holders, tickets and starvers.
-pub fn a_look_at_a_fair_mutex_was_so_at_a_moment()
-    ensures { (held : Bool) → Found fair_mutex.model FairMutexView fair.IsLocked (Is held) (Was is_held held) }
+pub fn a_look_at_a_fair_mutex_was_so_at_a_moment<T>()
+    ensures { (opening : T) (held : Bool) →
+        Found (fair_mutex.model opening) FairMutexView fair.IsLocked (Is held) (Was is_held held) }
 {}
 
 /// If a pass tried once to register as a starver of a `FairMutex` and failed, the failure was right at a moment of the
@@ -102,8 +103,8 @@ pub fn a_look_at_a_fair_mutex_was_so_at_a_moment()
 ///
 /// # Contract
 /// `Found`, of the lock's holders, tickets and starvers.
-pub fn a_refused_starve_found_as_many_as_may_starve()
-    ensures { Found fair_mutex.model FairMutexView fair.Starve Refused (λ s. most_starvers ≤ length s.starvers) }
+pub fn a_refused_starve_found_as_many_as_may_starve<T>()
+    ensures { (opening : T) → Found (fair_mutex.model opening) FairMutexView fair.Starve Refused (λ s. most_starvers ≤ length s.starvers) }
 {}
 
 /// If a pass that starves tried once to acquire a `FairMutex` and failed, then at a moment of the call a party held the
@@ -111,9 +112,9 @@ pub fn a_refused_starve_found_as_many_as_may_starve()
 ///
 /// # Contract
 /// `Found`, of the lock's holders, tickets and starvers.
-pub fn a_refused_starver_was_kept_out_at_a_moment()
-    ensures try_lock { Found fair_mutex.model FairMutexView fair.StarverTryLock Refused (Was is_held true) }
-    ensures try_lock_fair { Found fair_mutex.model FairMutexView fair.StarverTryLockFair Refused (λ s.
+pub fn a_refused_starver_was_kept_out_at_a_moment<T>()
+    ensures try_lock { (opening : T) → Found (fair_mutex.model opening) FairMutexView fair.StarverTryLock Refused (Was is_held true) }
+    ensures try_lock_fair { (opening : T) → Found (fair_mutex.model opening) FairMutexView fair.StarverTryLockFair Refused (λ s.
         (is_held s ≡ true) ⊎ (1 < length s.starvers)) }
 {}
 

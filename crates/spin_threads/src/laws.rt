@@ -43,8 +43,8 @@ pub fn between_any_two_steps_of_a_ticket_mutex<T>()
 ///
 /// # Contract
 /// `Between`, of the moves that the lock's cell keeps, with the lock's word and parties.
-pub fn between_any_two_steps_of_a_fair_mutex()
-    ensures { (name word : ℕ) (trace : Trace fair_mutex.Done (Unit {0})) (parties : List (Numbered FairMutexView)) → fair_mutex.IsFair name word trace parties → Between fair_mutex.model fair_mutex.seat_of fair_mutex.words_of trace.entries (word, trace.word) parties }
+pub fn between_any_two_steps_of_a_fair_mutex<T>()
+    ensures { (opening : Opening T) (word : ℕ) (trace : Trace (fair_mutex.Done T) (Unit {0})) (parties : List (Numbered FairMutexView)) → fair_mutex.IsFair opening word trace parties → Between (fair_mutex.model opening.value) fair_mutex.seat_of fair_mutex.words_of trace.entries (word, trace.word) parties }
 {}
 
 /// Between any two steps of the threads that use a `Seats`, its word is the number of parties that sit. Each guard and

@@ -43,8 +43,8 @@ pub fn a_call_of_a_ticket_mutex_keeps_its_limit<T>()
 ///
 /// # Contract
 /// `KeepsLimits`, which says it of the steps that all threads made while the call ran.
-pub fn a_call_of_a_fair_mutex_keeps_its_limit()
-    ensures { KeepsLimits fair_mutex.model FairMutexView }
+pub fn a_call_of_a_fair_mutex_keeps_its_limit<T>()
+    ensures { (opening : T) → KeepsLimits (fair_mutex.model opening) FairMutexView }
 {}
 
 /// A try to read of a pass of an `RwLock` takes at most two steps, and one more for each change of the word by others

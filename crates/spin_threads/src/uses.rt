@@ -59,10 +59,10 @@ pub fn try_a_ticket_mutex<'a, T, R>(
 
 /// Asks once whether a `FairMutex` is held.
 pub fn look_at_a_fair_mutex<T, R>(pass: FairPass<'_, T, R>) -> (bool, FairPass<'_, T, R>)
-    ensures { AtAMoment fair_mutex.model fair.IsLocked (fair_passes.party result.1)
+    ensures { AtAMoment (fair_mutex.model (fair_passes.opening_of pass.entry).value) fair.IsLocked (fair_passes.party result.1)
         (fair_passes.history pass.entry) (fair_passes.history result.1) (Was is_held result.0) }
 {
-    a_look_at_a_fair_mutex_was_so_at_a_moment();
+    a_look_at_a_fair_mutex_was_so_at_a_moment::<T>();
     let (held, pass) = pass.is_locked();
     (held, pass)
 }

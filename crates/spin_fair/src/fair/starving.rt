@@ -3,9 +3,10 @@ ghost use Rattle.std.specs.Prelude.{◌≡◌, ℕ, Some, None, true, false, IfO
 ghost use Rattle.spin_step.specs.Plain.{Plain, gets, to_lock_starving_alone, is_starver, fair_word};
 ghost use Rattle.spin_step.specs.Parties.{OneHolds};
 ghost use Rattle.spin_step.specs.Steps.{Decides};
-ghost use Rattle.spin_core.specs.Guard.{IsHolder, guard_view};
+ghost use Rattle.spin_core.specs.Guard.{IsHolder, guard_view, guard_key, guard_value};
 ghost use Rattle.spin_core.specs.Own.{what};
 ghost use Rattle.spin_core.specs.Passes.{IsCall, Waits};
+ghost use Rattle.spin_core.specs.Values.{IsLast};
 ghost use Rattle.spin_model.specs.declared.answer.Answer.TheVariants.{Granted, Refused, Done};
 ghost use Rattle.spin_step_more.specs.declared.fair_calls.FairCall.TheVariants.{StarverTryLock, StarverTryLockFair, StarverLock, StarverDrop};
 ghost use Rattle.spin_fair.specs.Fair.{use_of_party, MaySet, MayAwait, HoldsStarving, Called, Comes};
@@ -57,14 +58,16 @@ impl<'a, T, R> StarvingPass<'a, T, R> {
     ///
     /// # Contract
     /// The call is one `StarverTryLockFair`, with the answer `Granted` and a guard (`granted`), or else `Refused`
-    /// and the pass, which is still a starver (`refused`).
+    /// and the pass, which is still a starver (`refused`). The guard's value is the one written last in the history
+    /// (`found`).
     pub fn try_lock_fair(
         self,
-    ) -> Result<(FairMutexGuard<'a, T, R>, Watch<Entry>), StarvingPass<'a, T, R>>
+    ) -> Result<(FairMutexGuard<'a, T, R>, Watch<Entry<T>>), StarvingPass<'a, T, R>>
         ensures holder { IfOk result (λ held. IsHolder use_of_party held.0 × Holds held.0 held.1) }
-        ensures same { IfOk result (λ held. held.1.name ≡ self.entry.account.seen.name) }
-        ensures granted { IfOk result (λ held. Called StarverTryLockFair Granted self.entry.account.permit.view self.entry.account.seen.entries (Some (guard_view held.0)) held.1.entries) }
-        ensures refused { IfErr result (λ pass. Called StarverTryLockFair Refused self.entry.account.permit.view self.entry.account.seen.entries pass.account.permit.view pass.account.seen.entries × (pass.account.seen.name ≡ self.entry.account.seen.name)) }
+        ensures same { IfOk result (λ held. (held.1.name ≡ self.entry.account.seen.name) × (guard_key held.0 ≡ self.entry.account.permit.key)) }
+        ensures found { IfOk result (λ held. IsLast self.entry.account.permit.key held.1.entries (guard_value held.0)) }
+        ensures granted { IfOk result (λ held. Called self.entry.account.permit.key.value StarverTryLockFair Granted self.entry.account.permit.view self.entry.account.seen.entries (Some (guard_view held.0)) held.1.entries) }
+        ensures refused { IfErr result (λ pass. Called self.entry.account.permit.key.value StarverTryLockFair Refused self.entry.account.permit.view self.entry.account.seen.entries pass.account.permit.view pass.account.seen.entries × ((pass.account.seen.name ≡ self.entry.account.seen.name) × (pass.account.permit.key ≡ self.entry.account.permit.key))) }
     {
         let Self { account, strategy } = self;
         let Account { permit, seen } = account;
@@ -81,14 +84,16 @@ impl<'a, T, R> StarvingPass<'a, T, R> {
     ///
     /// # Contract
     /// The call is one `StarverTryLock`, with the answer `Granted` and a guard (`granted`), or else `Refused` and the
-    /// pass, which is still a starver (`refused`). A first exchange that fails is no move: the call begins with it.
+    /// pass, which is still a starver (`refused`). A first exchange that fails is no move: the call begins with it. The
+    /// guard's value is the one written last in the history (`found`).
     pub fn try_lock(
         self,
-    ) -> Result<(FairMutexGuard<'a, T, R>, Watch<Entry>), StarvingPass<'a, T, R>>
+    ) -> Result<(FairMutexGuard<'a, T, R>, Watch<Entry<T>>), StarvingPass<'a, T, R>>
         ensures holder { IfOk result (λ held. IsHolder use_of_party held.0 × Holds held.0 held.1) }
-        ensures same { IfOk result (λ held. held.1.name ≡ self.entry.account.seen.name) }
-        ensures granted { IfOk result (λ held. Called StarverTryLock Granted self.entry.account.permit.view self.entry.account.seen.entries (Some (guard_view held.0)) held.1.entries) }
-        ensures refused { IfErr result (λ pass. Called StarverTryLock Refused self.entry.account.permit.view self.entry.account.seen.entries pass.account.permit.view pass.account.seen.entries × (pass.account.seen.name ≡ self.entry.account.seen.name)) }
+        ensures same { IfOk result (λ held. (held.1.name ≡ self.entry.account.seen.name) × (guard_key held.0 ≡ self.entry.account.permit.key)) }
+        ensures found { IfOk result (λ held. IsLast self.entry.account.permit.key held.1.entries (guard_value held.0)) }
+        ensures granted { IfOk result (λ held. Called self.entry.account.permit.key.value StarverTryLock Granted self.entry.account.permit.view self.entry.account.seen.entries (Some (guard_view held.0)) held.1.entries) }
+        ensures refused { IfErr result (λ pass. Called self.entry.account.permit.key.value StarverTryLock Refused self.entry.account.permit.view self.entry.account.seen.entries pass.account.permit.view pass.account.seen.entries × ((pass.account.seen.name ≡ self.entry.account.seen.name) × (pass.account.permit.key ≡ self.entry.account.permit.key))) }
     {
         let Self { account, strategy } = self;
         let Account { permit, seen } = account;
@@ -121,8 +126,8 @@ impl<'a, T, R> StarvingPass<'a, T, R> {
     /// assert!(rt; pass.try_lock().is_ok());
     /// ```
     pub fn give_up(self) -> Pass<'a, T, R>
-        ensures made { Called StarverDrop Done self.entry.account.permit.view self.entry.account.seen.entries result.account.permit.view result.account.seen.entries }
-        ensures same { result.account.seen.name ≡ self.entry.account.seen.name }
+        ensures made { Called self.entry.account.permit.key.value StarverDrop Done self.entry.account.permit.view self.entry.account.seen.entries result.account.permit.view result.account.seen.entries }
+        ensures same { (result.account.seen.name ≡ self.entry.account.seen.name) × (result.account.permit.key ≡ self.entry.account.permit.key) }
     {
         let Self { account, strategy } = self;
         let Account { permit, seen } = account;
@@ -157,13 +162,14 @@ impl<'a, T, R: RelaxStrategy> StarvingPass<'a, T, R> {
     /// Acquires the lock as [`Starvation::lock`](super::Starvation::lock) does.
     ///
     /// # Contract
-    /// The call is one `StarverLock` with the answer `Granted` (`made`), which ends the registration. Whether and when
-    /// the call returns is not promised.
-    pub fn lock<W: Wait>(self, rt: &W) -> (FairMutexGuard<'a, T, R>, Watch<Entry>)
+    /// The call is one `StarverLock` with the answer `Granted` (`made`), which ends the registration. The guard's value is
+    /// the one written last in the history (`found`). Whether and when the call returns is not promised.
+    pub fn lock<W: Wait>(self, rt: &W) -> (FairMutexGuard<'a, T, R>, Watch<Entry<T>>)
         ensures holder { IsHolder use_of_party result.0 }
         ensures holds { Holds result.0 result.1 }
-        ensures same { result.1.name ≡ self.entry.account.seen.name }
-        ensures made { Called StarverLock Granted self.entry.account.permit.view self.entry.account.seen.entries (Some (guard_view result.0)) result.1.entries }
+        ensures same { (result.1.name ≡ self.entry.account.seen.name) × (guard_key result.0 ≡ self.entry.account.permit.key) }
+        ensures found { IsLast self.entry.account.permit.key result.1.entries (guard_value result.0) }
+        ensures made { Called self.entry.account.permit.key.value StarverLock Granted self.entry.account.permit.view self.entry.account.seen.entries (Some (guard_view result.0)) result.1.entries }
     {
         match self.begin_lock() {
             Ok(held) => held,

@@ -7,5 +7,5 @@ use Rattle.spin_threads.proofs.Moments.{found}
 use Rattle.spin_threads.proofs.answers.a_look_at_a_fair_mutex_was_so_at_a_moment.Goals as goal
 
 pub returns : goal.returns
-returns g held =
-    found model (fair_keeping tt most_starvers patience) (fair_facts tt most_starvers patience) (λ p s. same held (is_held s)) (λ h. refl) (λ p l h seen call is. same_is _ held is)
+returns g c = λ opening held.
+    found (model opening) (fair_keeping opening most_starvers patience) (fair_facts opening most_starvers patience) (λ p s. is_held s ≡ held) (λ h p span some. some) (λ p l h seen call is. is)
