@@ -20,7 +20,8 @@ use Rattle.spin_core.specs.Own.{Numbered, IsRun, Rested, present_from, kind, ent
 use Rattle.spin_core.specs.Run.{is_played, outcomes, IsPlayed, LeadsTo, sits}
 use Rattle.spin_once.specs.Foretold.{fails_by, will_fail, named, told_of, foretold, place_of, counted}
 use Rattle.spin_once.specs.Model.{Point, at, failed}
-use Rattle.spin_once.specs.Once.{OneMove, Made, seat_of, words_of}
+use Rattle.spin_once.specs.OnceValues.{Made}
+use Rattle.spin_once.specs.Once.{OneMove, seat_of, words_of}
 use Rattle.spin_once.specs.declared.once_core.rule.View.{View}
 use Rattle.spin_once.specs.declared.once_core.rule.View.TheVariants as view
 use Rattle.spin_once.specs.declared.once_core.rule.View.TheVariants.{Reading, InCall}

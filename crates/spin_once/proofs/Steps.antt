@@ -5,7 +5,6 @@ use mathlib.Core.Logic.{◌⊎◌, inl, inr}
 use mathlib.Core.Option.{some}
 use lib.ListN.{get_elem?}
 use prog.Atomic.{either}
-use Rattle.core.specs.declared.snapshot.Snapshot.{Snapshot}
 use Rattle.spin_step.specs.Plain as plain
 use Rattle.spin_step.specs.Plain.{Plain, Phase, nothing, complete, gets, completes, fails, to_begin, once_word}
 use Rattle.spin_step.specs.Steps.{Decides, Gives}
@@ -16,6 +15,7 @@ use Rattle.spin_core.proofs.CellCounts.{moves, without}
 use Rattle.spin_model.specs.declared.once.OnceCall.{OnceCall}
 use Rattle.spin_model.specs.declared.once.OncePoint.TheVariants.{Run}
 use Rattle.spin_once.specs.Once.{use_of_view, readers, runs, IsPhaseOf, in_phase, Word, once_ways, finds, is_out, at_rest, begun, looked, polled}
+use Rattle.spin_once.specs.declared.once_core.rule.Key.{Key}
 use Rattle.spin_once.specs.declared.once_core.rule.View.{View}
 use Rattle.spin_once.specs.declared.once_core.rule.View.TheVariants.{Idle, Reading, InCall}
 use Rattle.spin_once.specs.declared.once_core.rule.Stage.{Stage}
@@ -106,12 +106,12 @@ read_at (suc zero) r w has few = absurd (omega (arith, has, few))
 read_at (suc (suc zero)) r w has few = refl
 read_at (suc (suc (suc n))) r w has few = absurd has
 
-module _ {T S : Type 0} (makes : S → T → Type 0) (seed : Snapshot S) where
+module _ {T S : Type 0} (makes : S → T → Type 0) (key : Key T S) where
   abbrev Content : Type 0
   Content = MaybeStable (Stage T S)
 
   abbrev pub way : Way Content
-  way = (once_ways makes seed).0
+  way = (once_ways makes key).0
 
   abbrev plain_ways : Ways Content View (Unit {0})
   plain_ways = (way, use_of_view, no_fact)
@@ -199,21 +199,21 @@ module _ {T S : Type 0} (makes : S → T → Type 0) (seed : Snapshot S) where
   alone c (suc (suc (suc n))) id vs at has = absurd has
   alone c _ id vs at has = absurd (let run = run_after id (Some (InCall c Run)) vs Idle at in omega (arith, has, run))
 
-  pub ends : (c : OnceCall (Unit {0})) (new : ℕ) (value : T) → ((s : Plain) (p : ℕ) → once_word s ≡ 1 → Gives s (completes p) once_word new) → makes seed.value value
-      → Allowed (Some (InCall c Run)) (Some (maybe_stable (Done value))) (λ _. new) (λ _ v. v ≡ Reading)
+  pub ends : (c : OnceCall (Unit {0})) (new : ℕ) (value : T) → ((s : Plain) (p : ℕ) → once_word s ≡ 1 → Gives s (completes p) once_word new) → makes key.seed.value value
+      → Allowed (Some (InCall c Run)) (Some (maybe_stable (Done value))) (λ _. new) (λ n v. (v ≡ Reading) × (n ≡ 1))
   ends c new value gives made id n m vs has at small =
       let one = alone c n id vs at (numbers n m vs has.0) in let us = after id (Some (InCall c Run)) vs Reading in
       let see = see_after id (Some (InCall c Run)) vs Reading at in let run = run_after id (Some (InCall c Run)) vs Reading at in
       let next : new ≡ 2 = gives (in_phase (plain.running id)) id refl (eq-eqb id id refl) in
-      (Reading, (λ e. refl, made, subst (λ k. Meets Word plain_ways k m us) (sym next) (meets 2 m us (omega (arith, see, one), omega (arith, run, one)) has.0.3)), refl)
+      (Reading, (λ e. refl, made, subst (λ k. Meets Word plain_ways k m us) (sym next) (meets 2 m us (omega (arith, see, one), omega (arith, run, one)) has.0.3)), (refl, one.0))
 
-  pub gives_up : (c : OnceCall (Unit {0})) (new : ℕ) (it : S) → ((s : Plain) (p : ℕ) → once_word s ≡ 1 → Gives s (fails p) once_word new) → it ≡ seed.value
-      → Allowed (Some (InCall c Run)) (Some (maybe_stable (Seed it))) (λ _. new) (λ _ v. v ≡ Idle)
+  pub gives_up : (c : OnceCall (Unit {0})) (new : ℕ) (it : S) → ((s : Plain) (p : ℕ) → once_word s ≡ 1 → Gives s (fails p) once_word new) → it ≡ key.seed.value
+      → Allowed (Some (InCall c Run)) (Some (maybe_stable (Seed it))) (λ _. new) (λ n v. (v ≡ Idle) × (n ≡ 1))
   gives_up c new it gives same id n m vs has at small =
       let one = alone c n id vs at (numbers n m vs has.0) in let us = after id (Some (InCall c Run)) vs Idle in
       let see = see_after id (Some (InCall c Run)) vs Idle at in let run = run_after id (Some (InCall c Run)) vs Idle at in
       let next : new ≡ 0 = gives (in_phase (plain.running id)) id refl (eq-eqb id id refl) in
-      (Idle, (λ e. absurd (let d : writes ≡ reads = e in cc), same, subst (λ k. Meets Word plain_ways k m us) (sym next) (meets 0 m us (omega (arith, see, one), omega (arith, run, one)) has.0.3)), refl)
+      (Idle, (λ e. absurd (let d : writes ≡ reads = e in cc), same, subst (λ k. Meets Word plain_ways k m us) (sym next) (meets 0 m us (omega (arith, see, one), omega (arith, run, one)) has.0.3)), (refl, one.0))
 
 -- which parties may leave
 pub idle_rests : Rests Word use_of_view (Some Idle)

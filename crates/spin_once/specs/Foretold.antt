@@ -9,7 +9,8 @@ use Rattle.spin_model.specs.declared.once.OncePoint.{OncePoint}
 use Rattle.spin_model.specs.declared.place.Seat.{Seat}
 use Rattle.spin_model.specs.declared.place.Seat.TheVariants as seat
 use Rattle.spin_model.specs.declared.schedule.Move.TheVariants.{Begin, Weak}
-use Rattle.spin_once.specs.Once.{OneMove, Made}
+use Rattle.spin_once.specs.OnceValues.{Made}
+use Rattle.spin_once.specs.Once.{OneMove}
 use Rattle.spin_once.specs.declared.once_core.rule.View.{View}
 use Rattle.spin_once.specs.declared.once_core.rule.View.TheVariants.{Idle, Reading, InCall}
 

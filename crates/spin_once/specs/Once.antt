@@ -1,16 +1,17 @@
 -- The rule of a value that is made once, from a seed: its word is that of a plain lock in whose phase its parties are, and its trace is a schedule of the model, which leads there.
-use Rattle.std.specs.Prelude.{◌≡◌, ◌<◌, ℕ, Bool, true, false, Option, Some, None, List, [], ◌∷◌, ◌++◌, replicate, if◌then◌else◌, ◌==◌}
+use Rattle.std.specs.Prelude.{◌≡◌, ◌<◌, ◌≤◌, ℕ, Bool, true, false, Option, Some, None, List, [], ◌∷◌, ◌++◌, length, replicate, if◌then◌else◌, ◌==◌}
 use mathlib.Core.Option.{some}
 use lib.ListN.{get_elem?}
 use Rattle.core.specs.declared.snapshot.Snapshot.{Snapshot}
 use Rattle.spin_step.specs.Plain as plain
 use Rattle.spin_step.specs.Plain.{Plain, Phase, nothing, complete, fresh, once_word}
-use Rattle.spin_core.specs.Cell.{Use, off, reads, writes, fixes, no_fact, Ways, readers_of, writers_of}
+use Rattle.spin_core.specs.Cell.{Use, off, reads, writes, fixes, knows, Ways, readers_of, writers_of}
 use Rattle.spin_core.specs.Own.{Numbered, Runs, Tells}
 use Rattle.spin_core.specs.Passes as passes
 use Rattle.spin_core.specs.Passes.{Course, Begins, step_by}
 use Rattle.spin_core.specs.Views.{no_word}
 use Rattle.spin_core.specs.declared.cell.stable.MaybeStable.{MaybeStable}
+use Rattle.spin_core.specs.declared.tie.Opening.{Opening}
 use Rattle.spin_core.specs.declared.trace.Trace.{Trace}
 use Rattle.spin_model.specs.declared.answer.Answer.{Answer}
 use Rattle.spin_model.specs.declared.answer.Answer.TheVariants.{Value, NoValue, Is, Failed}
@@ -24,8 +25,9 @@ use Rattle.spin_model.specs.declared.schedule.Move.{Move}
 use Rattle.spin_model.specs.declared.schedule.Move.TheVariants.{Step, Weak}
 use Rattle.spin_model.specs.declared.schedule.Outcome.{Outcome}
 use Rattle.spin_model.specs.declared.schedule.Outcome.TheVariants.{GoingOn, Answered}
-use Rattle.spin_model.specs.Schedules.{Entry}
 use Rattle.spin_once.specs.Model.{Point, at, model}
+use Rattle.spin_once.specs.OnceValues.{Valued, Made, bare, bare_trace, given_of, made, AtMostOne, IsMade}
+use Rattle.spin_once.specs.declared.once_core.rule.Key.{Key}
 use Rattle.spin_once.specs.declared.once_core.rule.View.{View}
 use Rattle.spin_once.specs.declared.once_core.rule.View.TheVariants.{Idle, Reading, InCall}
 use Rattle.spin_once.specs.declared.once_core.rule.Stage.{Stage}
@@ -75,9 +77,6 @@ OneMove = Move (OnceCall (Unit {0})) (Unit {0})
 abbrev pub Ending : Type 0
 Ending = Outcome (Answer (Unit {0})) (Unit {0})
 
-abbrev pub Made : Type 0
-Made = Entry (OnceCall (Unit {0})) (Unit {0})
-
 module _ {T S : Type 0} (makes : S → T → Type 0) where
   -- a value that somebody reads may be made from the seed; one that nobody uses is the seed itself
   abbrev pub IsMadeFrom : Snapshot S → Bool → Stage T S → Type 0
@@ -85,8 +84,9 @@ module _ {T S : Type 0} (makes : S → T → Type 0) where
   IsMadeFrom seed false (Seed it) = it ≡ seed.value
   IsMadeFrom _ _ _ = ⊥
 
-  abbrev pub once_ways : Snapshot S → Ways (MaybeStable (Stage T S)) (Numbered View) (Trace Made (Unit {0}))
-  once_ways seed = (fixes (λ read x. IsMadeFrom seed read x.value), use_of_party, no_fact)
+  -- and what is known of a value that lies there: it is the one that was made
+  abbrev pub once_ways : Key T S → Ways (MaybeStable (Stage T S)) (Numbered View) (Trace (Valued T) (Unit {0}))
+  once_ways key = (fixes (λ read x. IsMadeFrom key.seed read x.value), use_of_party, knows (λ t x. IsMade key.opening.told (made key.opening.value t.entries) x.value))
 
 -- where a party sits in the model: one that reads has its answer
 abbrev pub seat_of : View → Seat (OnceCall (Unit {0})) Point
@@ -98,13 +98,14 @@ seat_of (InCall c l) = seat.Calling c (at l) None
 abbrev pub words_of : ℕ → ℕ × Unit {0}
 words_of w = (w, tt)
 
--- of the first word, the trace and the parties, where the value given at first is this, under the name of the trace
-abbrev pub IsOnce : Option (Unit {0}) → ℕ → ℕ → Trace Made (Unit {0}) → List (Numbered View) → Type 0
-IsOnce given = Runs (model given) seat_of words_of Word
+module _ {T S : Type 0} where
+  -- of the first word, the trace and the parties, of a lock that opened so
+  abbrev pub IsOnce : Opening (Stage T S) → ℕ → Trace (Valued T) (Unit {0}) → List (Numbered View) → Type 0
+  IsOnce opening n t vs = Runs (model (given_of opening.value)) seat_of words_of Word opening.name n (bare_trace t) vs × AtMostOne n (made opening.value t.entries)
 
--- what a step tells of its moves
-abbrev pub Told : Option (Unit {0}) → (List OneMove → List Ending → ℕ → View → Type 0) → Option (Numbered View) → List Made → List Made → ℕ → Numbered View → Type 0
-Told given = Tells (model given) seat_of words_of
+  -- what a step tells of its moves, and that there is at most one value still
+  abbrev pub Told : Opening (Stage T S) → (List OneMove → List Ending → ℕ → View → Type 0) → Option (Numbered View) → List (Valued T) → List (Valued T) → ℕ → Numbered View → Type 0
+  Told opening says view log es n v = Tells (model (given_of opening.value)) seat_of words_of says view (bare log) (bare es) n v × (length (made opening.value (log ++ es)) ≤ 1)
 
 -- The steps: the outcome and the next view of each, by the number found
 

@@ -7,9 +7,12 @@ use Rattle.spin_model.specs.declared.answer.Answer.TheVariants.{Value, NoValue, 
 use Rattle.spin_model.specs.declared.once.OnceCall.{OnceCall}
 use Rattle.spin_model.specs.declared.once.OnceCall.TheVariants.{CallOnce, TryCallOnceOk, IsCompleted}
 use Rattle.spin_once.specs.Accounts.{here, Since}
-use Rattle.spin_once.specs.Once.{Made, IsFailedCall}
+use Rattle.spin_core.specs.declared.tie.Opening.{Opening}
+use Rattle.spin_once.specs.OnceValues.{Valued, Made, bare, given_of}
+use Rattle.spin_once.specs.Once.{IsFailedCall}
 use Rattle.spin_once.specs.declared.once.Once.{Once}
 use Rattle.spin_once.specs.declared.once.pass.Pass.{Pass}
+use Rattle.spin_once.specs.declared.once_core.rule.Stage.{Stage}
 use Rattle.spin_once.specs.declared.once_core.rule.View.{View}
 
 -- the answer to a caller that got the value or none
@@ -19,19 +22,30 @@ found_or_none (Some value) = Value tt
 
 module _ {T R : Type 0} where
   -- all moves in the `Once` up to the pass's last step
-  abbrev pub history : Pass T R → List Made
+  abbrev pub history : Pass T R → List (Valued T)
   history it = it.account.seen.entries
+
+  -- the same without the values, as the model has them
+  abbrev pub schedule : Pass T R → List Made
+  schedule it = bare (history it)
 
   -- the name of the history of a `Once`, and of the `Once` of a pass
   abbrev pub name_of : Once T R → ℕ
-  name_of once = once.core.cell.start.name
+  name_of once = once.core.cell.opening.name
 
   abbrev pub lock_of : Pass T R → ℕ
   lock_of it = it.account.seen.name
 
-  -- the value that the `Once` of a pass was made with, if any
-  abbrev pub given_of : Pass T R → Option (Unit {0})
-  given_of it = it.account.party.key.given.value
+  -- what was settled when a `Once` was made, and of the `Once` of a pass: that name, and what lay there at first
+  abbrev pub opening : Once T R → Opening (Stage T (Unit {0}))
+  opening once = once.core.cell.opening
+
+  abbrev pub opening_of : Pass T R → Opening (Stage T (Unit {0}))
+  opening_of it = it.account.party.key.opening
+
+  -- whether the `Once` of a pass was made with a value
+  abbrev pub given : Pass T R → Option (Unit {0})
+  given it = given_of (opening_of it).value
 
   -- the party of the pass; there is none before its first call
   abbrev pub party : Pass T R → Option (Numbered View)

@@ -1,13 +1,15 @@
 //! A value that its own initialiser makes when a thread first asks for it. Begin with [`LazyLock::new`] and
-//! [`LazyLock::force`]. [`LazyLock::promising`] tells callers more of the value than its type does.
-ghost use Rattle.std.specs.Prelude.{◌≡◌, true};
+//! [`LazyLock::force`]; [`LazyLock::promising`] tells callers more of the value than its type does.
+ghost use Rattle.std.specs.Prelude.{◌≡◌, true, []};
 ghost use Rattle.spin_core.specs.Own.{what};
 ghost use Rattle.spin_core.specs.Passes.{Ends, IsCall};
 ghost use Rattle.spin_model.specs.declared.answer.Answer.TheVariants.{Value};
 ghost use Rattle.spin_model.specs.declared.once.OnceCall.TheVariants.{CallOnce};
 ghost use Rattle.spin_once.specs.Accounts.{here, seed_of, Since};
 ghost use Rattle.spin_once.specs.Lazy.{initialiser, promise};
+ghost use Rattle.spin_once.specs.LazyPasses.{opening};
 ghost use Rattle.spin_once.specs.Once.{is_out};
+ghost use Rattle.spin_once.specs.OnceValues.{lies_in};
 
 use crate::exclusive::Exclusive;
 use crate::once_core::{Account, Claim, Found, OnceCore, Seed, Sure, Wanting};
@@ -19,6 +21,7 @@ mod pass;
 mod texts;
 
 pub use self::pass::Pass;
+pub use crate::laws::two_answers_of_a_once_agree;
 
 /// A promise on a value: what callers may rely on, whoever made it.
 pub trait Promise<T> {
@@ -111,9 +114,10 @@ impl<T, F: FnOnce() -> T, R> LazyLock<T, F, R> {
     /// Creates a `LazyLock` whose initialiser is `f`. It runs nothing, and promises nothing of the value.
     ///
     /// # Contract
-    /// Its `initialiser` is `f`.
+    /// Its `initialiser` is `f`. There is no value in it at first (`opens`).
     pub fn new(f: F) -> Self
-        ensures { initialiser result ≡ f }
+        ensures made { initialiser result ≡ f }
+        ensures opens { (lies_in (opening result).value ≡ []) × ((opening result).told ≡ true) }
     {
         Self::promising((), f)
     }
@@ -123,7 +127,7 @@ impl<T, F, R, M: Promise<T>> LazyLock<T, F, R, M> {
     /// Creates a `LazyLock` whose initialiser is `f`, with a promise that the value will keep. It runs nothing.
     ///
     /// # Contract
-    /// Its `initialiser` is `f`, and its `promise` is the one given.
+    /// Its `initialiser` is `f`, and its `promise` is the one given. There is no value in it at first (`opens`).
     ///
     /// # Examples
     /// ```
@@ -145,6 +149,7 @@ impl<T, F, R, M: Promise<T>> LazyLock<T, F, R, M> {
     pub fn promising(promised: M, f: F) -> Self
         ensures made { initialiser result ≡ f }
         ensures kept { promise result ≡ promised }
+        ensures opens { (lies_in (opening result).value ≡ []) × ((opening result).told ≡ true) }
     {
         LazyLock {
             core: OnceCore::new(Initialiser {

@@ -10,4 +10,4 @@ pub mod once;
 mod once_core;
 mod texts;
 
-pub use laws::every_run_of_a_once_is_a_schedule;
+pub use laws::{every_run_of_a_once_is_a_schedule, two_answers_of_a_once_agree};

@@ -1,5 +1,7 @@
 //! A value that one closure makes. Begin with [`Once::new`] and [`Once::call_once`].
-ghost use Rattle.std.specs.Prelude.{IfErr, Err};
+ghost use Rattle.std.specs.Prelude.{◌≡◌, true, [], ◌∷◌, IfErr, Err};
+ghost use Rattle.spin_once.specs.OncePasses.{opening};
+ghost use Rattle.spin_once.specs.OnceValues.{lies_in};
 
 use self::make::{find_or_try, make};
 use crate::once_core::{OnceCore, Seed, Sure};
@@ -12,6 +14,7 @@ mod pass;
 mod texts;
 
 pub use self::pass::Pass;
+pub use crate::laws::two_answers_of_a_once_agree;
 
 /// A `Once` starts without anything, so a caller's closure may give any value.
 impl<T> Seed<T> for () {
@@ -44,7 +47,12 @@ pub struct Once<T = (), R = Spin> {
 
 impl<T, R> Once<T, R> {
     /// Creates a `Once` without a value.
-    pub fn new() -> Self {
+    ///
+    /// # Contract
+    /// There is no value in it at first, and its history will have the one that a closure gives (`opens`).
+    pub fn new() -> Self
+        ensures opens { (lies_in (opening result).value ≡ []) × ((opening result).told ≡ true) }
+    {
         Once {
             core: OnceCore::new(()),
             strategy: PhantomData,
@@ -52,7 +60,12 @@ impl<T, R> Once<T, R> {
     }
 
     /// Creates a `Once` that holds `value`.
-    pub fn initialized(value: T) -> Self {
+    ///
+    /// # Contract
+    /// The value is there at first, so none is made (`opens`).
+    pub fn initialized(value: T) -> Self
+        ensures opens { (lies_in (opening result).value ≡ value ∷ []) × ((opening result).told ≡ true) }
+    {
         Once {
             core: OnceCore::initialized(value, &()),
             strategy: PhantomData,
@@ -75,7 +88,7 @@ impl<T, R> Once<T, R> {
     /// Returns a mutable reference to the value, or `None` if there is none.
     ///
     /// The borrow shows that no other thread has the `Once`. What is written through the reference is the value from
-    /// then on.
+    /// then on. From the borrow on the history does not tell the value.
     pub fn get_mut(&mut self) -> Option<&mut T> {
         self.core.get_mut()
     }

@@ -1,11 +1,12 @@
 //! The calls of a [`Once`] by a thread that keeps account of them. Begin at [`Once::pass`].
-ghost use Rattle.std.specs.Prelude.{◌≡◌, ◌⊎◌, Some, None, Err, [], true, IfOk, IfErr};
+ghost use Rattle.std.specs.Prelude.{◌≡◌, ◌⊎◌, Some, None, Err, [], true, IfSome, IfOk, IfErr};
 ghost use mathlib.Core.List.{IsPrefix};
 ghost use Rattle.spin_core.specs.Own.{what};
 ghost use Rattle.spin_core.specs.Passes.{Ends};
 ghost use Rattle.spin_model.specs.declared.answer.Answer.TheVariants.{Value, Is};
 ghost use Rattle.spin_model.specs.declared.once.OnceCall.TheVariants.{CallOnce, Wait as WaitCall, Poll, Get, IsCompleted};
 ghost use Rattle.spin_once.specs.Once.{is_out};
+ghost use Rattle.spin_once.specs.OnceValues.{IsValue};
 
 use super::Once;
 use super::make::{find_or_make, find_or_try};
@@ -48,9 +49,10 @@ impl<T, R> Once<T, R> {
     /// Returns a pass that has made no call. It makes no operation on the `Once`.
     ///
     /// # Contract
-    /// The pass is of this `Once`, and knows nothing of its history yet (`new`).
+    /// The pass is of this `Once`, and knows nothing of its history yet (`new`, `lock`).
     pub fn pass(&self) -> Pass<'_, T, R>
-        ensures new { (result.account.seen.name ≡ self.now.core.cell.start.name) × (result.account.seen.entries ≡ []) × (result.account.party.view ≡ None) }
+        ensures new { (result.account.seen.name ≡ self.now.core.cell.opening.name) × (result.account.seen.entries ≡ []) × (result.account.party.view ≡ None) }
+        ensures lock { result.account.party.key ≡ self.now.core.cell }
     {
         Pass {
             account: self.core.account(),
@@ -60,14 +62,16 @@ impl<T, R> Once<T, R> {
 }
 
 impl<'a, T, R> Pass<'a, T, R> {
-    ghost use Rattle.spin_once.specs.OncePasses.{Called, found_or_none};
+    ghost use Rattle.spin_once.specs.OncePasses.{Called, found_or_none, history, opening_of};
 
     /// Returns the value, or `None` if there is none yet, as [`Once::get`] does.
     ///
     /// # Contract
-    /// The call is one `Get`, with the answer `Value` and a reference, or else `NoValue` (`made`).
+    /// The call is one `Get`, with the answer `Value` and a reference, or else `NoValue` (`made`). The value is the only
+    /// one in the history (`found`).
     pub fn get(self) -> (Option<&'a T>, Pass<'a, T, R>)
         ensures made { Called Get (found_or_none result.0) self.entry result.1 }
+        ensures found { IfSome result.0 (λ value. IsValue (opening_of self.entry) (history result.1) value.now) }
     {
         let Self { account, strategy } = self;
         match account.get() {
@@ -105,16 +109,18 @@ impl<'a, T, R> Pass<'a, T, R> {
 }
 
 impl<'a, T, R: RelaxStrategy> Pass<'a, T, R> {
-    ghost use Rattle.spin_once.specs.OncePasses.{Called, Tried, found_or_none};
+    ghost use Rattle.spin_once.specs.OncePasses.{Called, Tried, found_or_none, history, opening_of};
 
     /// Returns the value, and makes it first by calling `f` if there is none, as [`Once::call_once`] does.
     ///
     /// # Contract
     /// The precondition of `f` has to hold. The call is one `CallOnce` with the answer `Value`, however often it looked
-    /// and tried, and whether `f` ran or not (`made`). Whether and when the call returns is not promised.
+    /// and tried, and whether `f` ran or not (`made`). The value is the only one in the history (`found`). Whether and
+    /// when the call returns is not promised.
     pub fn call_once<F: FnOnce() -> T, W: Wait>(self, rt: &W, f: F) -> (&'a T, Pass<'a, T, R>)
         requires { F.pre f }
         ensures made { Called (CallOnce tt) (Value tt) self.entry result.1 }
+        ensures found { IsValue (opening_of self.entry) (history result.1) result.0.now }
     {
         let Self { account, strategy } = self;
         let (value, account) = find_or_make::<T, R, F, W>(account, rt, f).read();
@@ -125,8 +131,9 @@ impl<'a, T, R: RelaxStrategy> Pass<'a, T, R> {
     ///
     /// # Contract
     /// The precondition of `f` has to hold. An `Err` is one that this caller's own `f` may return (`err`). With a value
-    /// the call is one `TryCallOnceOk` with the answer `Value`. With an error it is a call whose closure ran and
-    /// failed, with the answer `Failed` (`made`). Whether and when the call returns is not promised.
+    /// the call is one `TryCallOnceOk` with the answer `Value`, and the value is the only one in the history (`found`).
+    /// With an error it is a call whose closure ran and failed, with the answer `Failed` (`made`). Whether and when the
+    /// call returns is not promised.
     pub fn try_call_once<F: FnOnce() -> Result<T, E>, E, W: Wait>(
         self,
         rt: &W,
@@ -135,6 +142,7 @@ impl<'a, T, R: RelaxStrategy> Pass<'a, T, R> {
         requires { F.pre f }
         ensures err { IfErr result.0 (λ e. F.post f (Err e)) }
         ensures made { Tried result.0 self.entry result.1 }
+        ensures found { IfOk result.0 (λ value. IsValue (opening_of self.entry) (history result.1) value.now) }
     {
         let Self { account, strategy } = self;
         match find_or_try::<T, R, F, E, W>(account, rt, f) {
@@ -149,10 +157,11 @@ impl<'a, T, R: RelaxStrategy> Pass<'a, T, R> {
     /// Returns the value, spinning until there is one, as [`Once::wait`] does.
     ///
     /// # Contract
-    /// The call is one `Wait` with the answer `Value`, however often it looked (`made`). Whether and when it returns is
-    /// not promised.
+    /// The call is one `Wait` with the answer `Value`, however often it looked (`made`). The value is the only one in the
+    /// history (`found`). Whether and when it returns is not promised.
     pub fn wait<W: Wait>(self, rt: &W) -> (&'a T, Pass<'a, T, R>)
         ensures made { Called WaitCall (Value tt) self.entry result.1 }
+        ensures found { IsValue (opening_of self.entry) (history result.1) result.0.now }
     {
         let Self { account, strategy } = self;
         let (value, account) = account.wait::<R, W>(rt).read();
@@ -163,9 +172,10 @@ impl<'a, T, R: RelaxStrategy> Pass<'a, T, R> {
     ///
     /// # Contract
     /// The call is one `Poll`, however often it looked, with the answer `Value` and a reference, or else `NoValue`
-    /// (`made`). Whether and when it returns is not promised.
+    /// (`made`). The value is the only one in the history (`found`). Whether and when it returns is not promised.
     pub fn poll<W: Wait>(self, rt: &W) -> (Option<&'a T>, Pass<'a, T, R>)
         ensures made { Called Poll (found_or_none result.0) self.entry result.1 }
+        ensures found { IfSome result.0 (λ value. IsValue (opening_of self.entry) (history result.1) value.now) }
     {
         let Self { account, strategy } = self;
         match account.poll::<R, W>(rt) {

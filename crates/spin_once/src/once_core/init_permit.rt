@@ -18,18 +18,18 @@ use std::mem::{self, ManuallyDrop};
 /// The right of the party that began: it has the cell's content to itself.
 pub(crate) struct InitPermit<'a, T, S: Seed<T>> {
     writer: Writer<'a, T, S>,
-    seen: Watch<Entry>,
+    seen: Watch<Entry<T>>,
     ghost runs: { is_running writer.view.0 ≡ true },
-    ghost named: { writer.key.start.name ≡ seen.name },
+    ghost named: { writer.key.opening.name ≡ seen.name },
     ghost knows: { writer.view.2 ≡ length seen.entries },
 }
 
 impl<'a, T, S: Seed<T>> InitPermit<'a, T, S> {
     ghost use Rattle.spin_once.specs.Accounts.{here, running, HasSeed, Same, Since};
 
-    pub(super) fn new(writer: Writer<'a, T, S>, seen: Watch<Entry>) -> Self
+    pub(super) fn new(writer: Writer<'a, T, S>, seen: Watch<Entry<T>>) -> Self
         requires runs { is_running writer.view.0 ≡ true }
-        requires knows { (writer.key.start.name ≡ seen.name) × (writer.view.2 ≡ length seen.entries) }
+        requires knows { (writer.key.opening.name ≡ seen.name) × (writer.view.2 ≡ length seen.entries) }
         ensures { (result.writer ≡ writer.entry) × (result.seen ≡ seen) }
     {
         InitPermit { writer, seen }
@@ -72,11 +72,11 @@ impl<'a, T, S: Seed<T>> InitPermit<'a, T, S> {
         Account::new(party, seen)
     }
 
-    fn put(self, stage: Stage<T, S>) -> (Caller<'a, T, S>, Watch<Entry>)
+    fn put(self, stage: Stage<T, S>) -> (Caller<'a, T, S>, Watch<Entry<T>>)
         ensures runs { (result.0.view ≡ Some self.entry.writer.view) × (result.0.value ≡ Some (maybe_stable stage)) }
         ensures running { is_running self.entry.writer.view.0 ≡ true }
         ensures same { (result.0.key ≡ self.entry.writer.key) × (result.1 ≡ self.entry.seen) }
-        ensures knows { (self.entry.writer.key.start.name ≡ self.entry.seen.name) × (self.entry.writer.view.2 ≡ length self.entry.seen.entries) }
+        ensures knows { (self.entry.writer.key.opening.name ≡ self.entry.seen.name) × (self.entry.writer.view.2 ≡ length self.entry.seen.entries) }
     {
         let Self { mut writer, seen } = self;
         spend(mem::replace(&mut writer.get_mut().value, stage));
