@@ -1,6 +1,7 @@
 -- Steps keep what is known of the value. Moves that write nothing keep it, and a holder writes the value that it
 -- leaves.
 use Rattle.std.proofs.Common.{◌≡◌, ℕ, zero, suc, Bool, true, false, Option, Some, None, List, [], ◌∷◌, ◌++◌, refl, sym, ap, ◌∙◌, subst}
+use Rattle.std.specs.Option.{IfSome}
 use Rattle.spin_model.specs.declared.schedule.Move.{Move}
 use Rattle.spin_model.specs.declared.schedule.Outcome.{Outcome}
 use Rattle.spin_model.specs.Schedules.{Entry}
@@ -11,6 +12,17 @@ use Rattle.spin_core.specs.Traced.{Learnt, grown_at}
 use Rattle.spin_core.specs.Values.{written, left, latest, IsLast, last, Leaves, untold}
 use Rattle.spin_core.specs.declared.tie.Opening.{Opening}
 use Rattle.spin_core.specs.declared.trace.Trace.{Trace}
+
+-- what a step tells of the value that it shows after, where its party comes to use it or reads on: also one that wrote before
+tells : {V : Type 0} (ψ : V → Type 0) (u u' : Use) (before after : Option V) → (u ≡ writes → u' ≡ reads) → Learns ψ u u' before after → IfSome after ψ
+tells ψ writes off before after so learns = absurd (let e : off ≡ reads = so refl in cc)
+tells ψ writes writes before after so learns = absurd (let e : writes ≡ reads = so refl in cc)
+tells ψ writes reads before None so learns = tt
+tells ψ writes reads before (Some x) so learns = learns
+tells ψ off u' before None so learns = tt
+tells ψ off u' before (Some x) so learns = learns
+tells ψ reads u' before None so learns = tt
+tells ψ reads u' before (Some x) so learns = learns
 
 module _ {C V : Type 0} where
   latest-append : (v : V) (xs ys : List (Entry C V)) → latest v (xs ++ ys) ≡ latest (latest v xs) ys
@@ -57,6 +69,10 @@ module _ {C V : Type 0} where
     -- a lock opens with the value that is in it
     pub opens_last : (es : List (Entry C V)) (x : V) → es ≡ [] → opening.value ≡ x → IsLast opening es x
     opens_last es x none is told = ap (latest opening.value) none ∙ is
+
+    -- what a party is shown that comes to use the value, or reads on
+    pub shows_last : {S : Type 0} (u u' : Use) (before after : Option V) (es : List (Entry C V)) → Learnt {S = S} (last opening) u u' before after es → (u ≡ writes → u' ≡ reads) → IfSome after (λ y. IsLast opening es y)
+    shows_last u u' before after es learnt so = subst (λ l. IfSome after (λ y. IsLast opening l y)) learnt.1 (tells (λ y. IsLast opening learnt.0.entries y) u u' before after so learnt.2)
 
     -- what a party finds that comes to use the value, and what one leaves that has written it
     module _ {S : Type 0} (u u' : Use) (before after : Option V) (es : List (Entry C V)) (x : V) (learnt : Learnt {S = S} (last opening) u u' before after es) where
