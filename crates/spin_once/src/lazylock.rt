@@ -1,5 +1,5 @@
 //! A value that its own initialiser makes when a thread first asks for it. Begin with [`LazyLock::new`] and
-//! [`LazyLock::force`]; [`LazyLock::promising`] tells callers more of the value than its type does.
+//! [`LazyLock::force`]. [`LazyLock::promising`] tells callers more of the value than its type does.
 ghost use Rattle.std.specs.Prelude.{◌≡◌, true, []};
 ghost use Rattle.spin_core.specs.Own.{what};
 ghost use Rattle.spin_core.specs.Passes.{Ends, IsCall};
