@@ -74,7 +74,7 @@ module _ {C V : Type 0} where
     pub shows_last : {S : Type 0} (u u' : Use) (before after : Option V) (es : List (Entry C V)) → Learnt {S = S} (last opening) u u' before after es → (u ≡ writes → u' ≡ reads) → IfSome after (λ y. IsLast opening es y)
     shows_last u u' before after es learnt so = subst (λ l. IfSome after (λ y. IsLast opening l y)) learnt.1 (tells (λ y. IsLast opening learnt.0.entries y) u u' before after so learnt.2)
 
-    -- what a party finds that comes to use the value, and what one leaves that has written it
+    -- what a party finds when it begins to use the value, and what one leaves that has written it
     module _ {S : Type 0} (u u' : Use) (before after : Option V) (es : List (Entry C V)) (x : V) (learnt : Learnt {S = S} (last opening) u u' before after es) where
       pub found : u ≡ off → after ≡ Some x → IsLast opening es x
       found is some = subst (λ l. IsLast opening l x) learnt.1 (subst (λ (z : Use × Option V). Learns (λ y. IsLast opening learnt.0.entries y) z.0 u' before z.1) (λ i. (is i, some i)) learnt.2)

@@ -35,7 +35,7 @@ set_is n = dite (ℕ_discrete (n % 2) 0)
 words_set : (w : ℕ) → words_of (if w % 2 == 0 then w + 1 else w) ≡ words_of (bit_or w 1)
 words_set w = ap words_of (sym (set_is w))
 
--- A subtraction leaves no number below 0: the word counts whoever makes it
+-- A subtraction leaves no number below 0: the word counts the party that makes it
 
 abbrev pub Takes : ℕ → ℕ → Type 0
 Takes by n = (n + (2 ^ 64 - by)) % 2 ^ 64 ≡ n - by

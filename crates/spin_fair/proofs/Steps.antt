@@ -1,4 +1,5 @@
--- The steps of a fair mutex keep its rule: each is the plain step that its step function makes, and moves of the lock's model.
+-- The steps of a fair mutex keep its rule. Each is the plain step that its step function makes, and moves of the lock's
+-- model.
 use Rattle.std.proofs.Common.{◌≡◌, ℕ, ◌+◌, ◌-◌, ◌%◌, ◌^◌, ◌<◌, ◌≤◌, true, false, if◌then◌else◌, List, [], ◌∷◌, map, length, ◌==◌, Bool, Option, Some, None, refl, sym, ap, ◌∙◌, arith, subst, eq-eqb, ne_eqb, bit_or, length-append, set, inl, inr, unwrap_or, is_some, nat_lt}
 use Rattle.std.proofs.lemmas.List.Sums.{sum_by-le-sum_by}
 use Rattle.std.specs.Prelude.{slice_get}
@@ -233,7 +234,7 @@ nobody_starves word second vs rule free j u at some =
     let least = starver_goes word second (views_of vs) j rule (ap (λ e. e.starvers) ((rule.3 j).0 ∙ ap (entries_of j) (part-there part j u.0 (views_of vs) (viewed vs j u at))) ∙ starves_in j u.0 some) in
     omega (arith, least.0, free)
 
--- a step makes no party a newcomer that holds, or finds the word 0
+-- a step makes no party a newcomer that holds, unless it finds the word 0
 abbrev Frees : {T : Type 0} → Says T → Type 0
 Frees {T} says = (own : List (OneMove T)) (outs : List (Ending T)) (n : ℕ) (v : View) → says own outs n v → v ≡ Holding → n ≡ 0
 
@@ -377,7 +378,7 @@ are_steps_leave : {T : Type 0} (goes_on : Bool) (c : FairCall) (ends : List (End
 are_steps_leave true c ends own outs are v = ap (λ o. left o v) are.0 ∙ steps_leave ends v
 are_steps_leave false c ends own outs are v = ap (λ o. left o v) are.0 ∙ steps_leave ends v
 
--- what a party needs that registers
+-- what a party needs to register
 abbrev Ready : {T : Type 0} → T → Option View → ℕ → ℕ → Type 0
 Ready v₀ now word more = (part_before part now ≡ idle) × Moves v₀ now (λ n. either (n == word) more n) (λ n v. v ≡ registered_by now word n) (registers_by now word)
 

@@ -31,7 +31,7 @@ use Rattle.spin_fair.specs.declared.fair.rule.View.{View}
 use Rattle.spin_fair.specs.declared.fair.rule.View.TheVariants.{Idle, Holding, Served, Trying, Looking, Loading, Registering, Setting, Awaiting}
 use Rattle.spin_fair.proofs.Steps.{freed}
 
--- after so many steps the call goes on, or is answered
+-- after these outcomes the call continues, or is answered
 abbrev pub Comes_to : {T : Type 0} → List (Ending T) → Option (Answer T) → Type 0
 Comes_to ends None = (n : ℕ) × (ends ≡ replicate n GoingOn)
 Comes_to ends (Some a) = (n : ℕ) × (ends ≡ replicate n GoingOn ++ answered a ∷ [])
@@ -142,7 +142,7 @@ out_begins None out = refl
 out_begins (Some Idle) out = refl
 out_begins (Some _) out = absurd out
 
--- what a step comes to, by what the code found
+-- the outcome of a step, by what the code found
 pub granted_at : {T : Type 0} (n expected : ℕ) (won lost : Answer T) → n ≡ expected → Comes_to (answered (if n == expected then won else lost) ∷ []) (Some won)
 granted_at n expected won lost e = (0, ap (λ b. answered (if b then won else lost) ∷ []) (eq-eqb n expected e))
 
@@ -155,7 +155,7 @@ is_even n is = dite (ℕ_discrete (n % 2) 0) (λ e. eq-eqb (n % 2) 0 e) (λ ne. 
 pub is_odd : (n : ℕ) → true ≡ is_set n → (n % 2 == 0) ≡ false
 is_odd n is = dite (ℕ_discrete (n % 2) 0) (λ e. absurd (let clear : is_set n ≡ false = ne_eqb (n % 2) 1 (λ one. absurd (omega (arith, e, one))) in cc (is, clear))) (λ ne. ne_eqb (n % 2) 0 ne)
 
--- what the tries of a newcomer come to, and the exchange of a starver that begins a call
+-- the outcomes of a newcomer's tries, and of the exchange with which a starver begins a call
 module _ {T : Type 0} (me : Account T) (view : Option (Numbered View)) (now : Watch (Done T)) (lock : Opening T) (n : ℕ) (same : lock ≡ me.permit.key) (c : FairCall) where
   abbrev Comes_so : Option (Answer T) → Type 0
   Comes_so o = Comes_by (Comes false c o) me lock view now
@@ -189,7 +189,7 @@ reason_so {T} n = at (n == 1)
     at true = refl
     at false = refl
 
--- a party that comes makes its whole `starve`
+-- a new party makes its whole `starve`
 pub comes_whole : {T : Type 0} (v₀ : T) (view : Option View) (o : FairCall → Option (Answer T)) (u w : Option (Numbered View)) (old new : List (Done T)) → IsOut view → Moves v₀ (Comes (in_call view) (call_of view) (o (call_of view))) u old w new
     → Moves v₀ (Comes false Starve (o Starve)) u old w new
 comes_whole v₀ None o u w old new out made = made
@@ -210,7 +210,7 @@ pub loading : (view : Option View) (spins n : ℕ) → view ≡ Some (Looking sp
 loading view spins n is set enough =
     ap (λ v. Some (looked v n)) is ∙ ap (λ b. Some (if b then (if nat_lt spins patience then Looking (spins + 1) else Loading) else Trying spins)) (sym set) ∙ ap (λ b. Some (if b then Looking (spins + 1) else Loading)) enough
 
--- a `lock` that has come to register goes on
+-- a `lock` that has begun to register continues
 pub turns : {T : Type 0} (v₀ : T) (view : Option View) (o : FairCall → Option (Answer T)) (u w : Option (Numbered View)) (old new : List (Done T)) → view ≡ Some Loading → o Lock ≡ None
     → Moves v₀ (Comes (in_call view) (call_of view) (o (call_of view))) u old w new → Moves v₀ (Comes true Lock None) u old w new
 turns v₀ view o u w old new is none made = subst (λ z. Moves v₀ (Comes true Lock z) u old w new) none (subst (λ v. Moves v₀ (Comes (in_call v) (call_of v) (o (call_of v))) u old w new) is made)
@@ -300,7 +300,7 @@ module _ {T : Type 0} (first : Account T) where
       stays_in (inl at) = ap (λ v. call_of (what v)) at.0
       stays_in (inr at) = ap call_of (subst (λ o. Has_found word o lock view seen) (sym room) at).0
 
-      -- a step of its call, behind those before
+      -- a step of its call, after those before
       pub goes_further : (o : FairCall → Option (Answer T)) (lock' : Opening T) (view' : Option (Numbered View)) (seen' : Watch (Done T)) → HasReached word lock view seen
           → ((seen'.name ≡ seen.name) × (lock' ≡ lock)) × Moves lock.value (Comes (in_call (what view)) (call_of (what view)) (o (call_of (what view)))) view seen.entries view' seen'.entries → Comes_by (Comes (in_call (view_of first)) call (o call)) first lock' view' seen'
       goes_further o lock' view' seen' (inl at) so = (
@@ -321,7 +321,7 @@ waiting_sets (Some (Setting _)) may = absurd cc
 waiting_sets (Some _) may = absurd may
 waiting_sets None may = absurd may
 
--- one that waits goes on with a look where it finds the flag set
+-- a call that waits continues with a look if it finds the flag set
 pub waits_so : {T : Type 0} (view : Option View) → MayAwait view → (flag_set_so {T = T} (call_of view) ≡ None) × (awaits (Some (finds_flag_set (call_of view))) ≡ true)
 waits_so (Some (Setting Lock)) may = (refl, refl)
 waits_so (Some (Setting StarverLock)) may = (refl, refl)

@@ -128,9 +128,9 @@ fair_ways opening = (alone, use_of_party, last opening)
 abbrev pub Told : {T : Type 0} → T → Says T → Option (Numbered View) → List (Done T) → List (Done T) → ℕ → Numbered View → Type 0
 Told v = Tells (model v) seat_of words_of
 
--- The steps: what each results in and where it leads, by the number found
+-- The steps: the outcomes and the next view of each, by the number found
 
--- a step of as many moves as it has outcomes: in a call that goes on (true), or behind the beginning of this call
+-- as many steps as there are outcomes, in a call under way (true), or after the beginning of this call
 abbrev pub AreSteps : {T : Type 0} → Bool → FairCall → List (Ending T) → List (OneMove T) → List (Ending T) → Type 0
 AreSteps true c ends own outs = (own ≡ map (λ _. Step) ends) × (outs ≡ ends)
 AreSteps false c ends own outs = (own ≡ Begin c ∷ map (λ _. Step) ends) × (outs ≡ Begun ∷ ends)
@@ -177,21 +177,21 @@ stands (Some v) = v.0
 abbrev pub looks_by : {T : Type 0} → Says T
 looks_by = steps_by false IsLocked (λ n. answered (answer.Is (is_set n)) ∷ []) (λ n. Idle)
 
--- what a newcomer is told that finds this word, where it is not 0
+-- the answer to a newcomer that found this word, if that is not 0
 abbrev pub refusal : {T : Type 0} → FairCall → ℕ → Answer T
 refusal TryLockStarver n = if n == 1 then answer.Locked else answer.Starved
 refusal _ n = answer.Refused
 
--- the reason that says so
+-- the answer that gives this reason
 abbrev pub answer_of : {T : Type 0} → LockRejectReason → Answer T
 answer_of Locked = answer.Locked
 answer_of Starved = answer.Starved
 
--- the exchange of a try of a newcomer
+-- the exchange of a newcomer's try
 abbrev pub tries_by : {T : Type 0} → FairCall → Says T
 tries_by c = steps_by false c (λ n. answered (if n == 0 then answer.Granted else refusal c n) ∷ []) (λ n. if n == 0 then Holding else Idle)
 
--- a starver that is not the only one is refused by `try_lock_fair`, and goes on to set the flag in its other calls
+-- if there are other starvers `try_lock_fair` fails, and a starver's other calls go on to set the flag
 abbrev pub missed_alone : {T : Type 0} → FairCall → List (Ending T)
 missed_alone StarverTryLockFair = answered answer.Refused ∷ []
 missed_alone _ = []
@@ -203,7 +203,7 @@ not_alone c = Setting c
 abbrev pub alone_to : FairCall → ℕ → View
 alone_to c n = if n == 2 then Served else not_alone c
 
--- the exchange of a starver that begins a call: the only one makes both steps of the call at once
+-- the exchange with which a starver begins a call; the only starver makes both steps of the call at once
 abbrev pub alone_by : {T : Type 0} → FairCall → Says T
 alone_by c = steps_by false c (λ n. if n == 2 then GoingOn ∷ answered answer.Granted ∷ [] else missed_alone c) (alone_to c)
 
@@ -255,7 +255,7 @@ goes_for c n = if is_some (starve most_starvers n) then Registering c n else fin
 abbrev pub registered_by : Option View → ℕ → ℕ → View
 registered_by view old n = if n == old then registered (call_of view) else goes_for (call_of view) n
 
--- of a party that registers, or finds no room: `lock` goes on, and `starve` is answered
+-- the outcome of a step that registers; below, of one that finds no room
 abbrev pub registered_end : {T : Type 0} → FairCall → Ending T
 registered_end Lock = GoingOn
 registered_end _ = answered answer.Granted
@@ -264,7 +264,7 @@ abbrev pub no_room_end : {T : Type 0} → FairCall → Ending T
 no_room_end Lock = GoingOn
 no_room_end _ = answered answer.Refused
 
--- a first exchange is of 0: it is the load and the exchange where it wins, and the load where it loses
+-- A first exchange expects 0. If it succeeds it is the model's load and exchange, and if it fails only the load.
 abbrev pub loads : {T : Type 0} → Option View → List (Ending T)
 loads (Some (Registering c n)) = []
 loads _ = GoingOn ∷ []
@@ -358,7 +358,7 @@ StarvesAt vs p = (part_at part vs p ≡ starves) ⊎ (part_at part vs p ≡ hold
 
 -- What a party that keeps its number does
 
--- moves of a call that goes on (true), or of this one from its beginning: it goes on, or is answered so
+-- the moves of a call under way (true), or of this call from its beginning; then it waits, or has this answer
 abbrev pub Comes : {T : Type 0} → Bool → FairCall → Option (Answer T) → Course T FairCall (Answer T)
 Comes true c None = Waits
 Comes true c (Some a) = Ends a
@@ -377,7 +377,7 @@ Called v c a = Moves v (IsCall c a)
 abbrev pub Left : {T : Type 0} → T → (T → Type 0) → Option (Numbered View) → List (Done T) → Option (Numbered View) → List (Done T) → Type 0
 Left v Q = Moves v (WritesSome Q (IsCall Release answer.Done))
 
--- what `lock` and `starve` come to where they register, and where they find no room
+-- the answer of `lock` and `starve`, if any, when they register; below, when they find no room
 abbrev pub registered_so : {T : Type 0} → FairCall → Option (Answer T)
 registered_so Lock = None
 registered_so _ = Some answer.Granted
@@ -386,7 +386,7 @@ abbrev pub no_room_so : {T : Type 0} → FairCall → Option (Answer T)
 no_room_so Lock = None
 no_room_so _ = Some answer.Refused
 
--- what a starver's call comes to that finds the flag set
+-- the answer of a starver's call, if any, that finds the flag set
 abbrev pub flag_set_so : {T : Type 0} → FairCall → Option (Answer T)
 flag_set_so StarverTryLock = Some answer.Refused
 flag_set_so c = None

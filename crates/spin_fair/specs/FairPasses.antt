@@ -1,4 +1,4 @@
--- What a pass knows: the lock's history so far, and which moves in it are its own.
+-- What a pass knows: the lock's history so far, and which of its moves are the pass's own.
 use Rattle.std.specs.Prelude.{◌≡◌, ℕ, Bool, Option, List}
 use Rattle.spin_core.specs.Own.{Numbered}
 use Rattle.spin_core.specs.declared.tie.Opening.{Opening}
@@ -11,7 +11,7 @@ use Rattle.spin_fair.specs.declared.fair.rule.View.{View}
 use Rattle.spin_fair.specs.declared.fair.starving.StarvingPass.{StarvingPass}
 
 module _ {T R : Type 0} where
-  -- all moves in the lock up to the pass's last step
+  -- all moves in the lock, up to the pass's last step
   abbrev pub history : Pass T R → List (Done T)
   history it = it.account.seen.entries
 
@@ -29,7 +29,7 @@ module _ {T R : Type 0} where
   abbrev pub opening_of : Pass T R → Opening T
   opening_of it = it.account.permit.key
 
-  -- the party of the pass: none before its first call
+  -- the party of the pass; there is none before its first call
   abbrev pub party : Pass T R → Option (Numbered View)
   party it = it.account.permit.view
 

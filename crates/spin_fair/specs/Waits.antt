@@ -28,7 +28,7 @@ module _ {T : Type 0} where
   abbrev pub Goes : Course T FairCall (Answer T) → Account T → Account T → Type 0
   Goes course was now = Comes_by course was now.permit.key now.permit.view now.seen
 
-  -- moves of a call, from where it stood: the call goes on, or is answered so
+  -- moves of a call, from its beginning or from where it was; then it waits, or has this answer
   abbrev pub GoesOn : FairCall → Option (Answer T) → Account T → Account T → Type 0
   GoesOn c answer was = Goes (Comes (in_call (view_of was)) c answer) was
 
@@ -49,7 +49,7 @@ abbrev pub Held : (T P R S : Type 0) → Type 0
 Held T P R S = Guard T (Numbered View) P R (Opening T) S × Watch (Done T)
 
 module _ {T P R S : Type 0} where
-  -- it holds the lock by this guard, and has made moves of this course since, and no others
+  -- since then it has made exactly the moves of this course, and holds the lock by this guard
   abbrev pub Gets : Course T FairCall (Answer T) → Account T → Held T P R S → Type 0
   Gets course was held = IsGranted held.0 held.1 × Comes_by course was (guard_key held.0) (Some (guard_view held.0)) held.1
 

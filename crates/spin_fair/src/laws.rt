@@ -17,8 +17,8 @@ ghost use Rattle.spin_fair.specs.Fair.{Done, IsFair, model, seat_of, words_of, s
 /// move.
 ///
 /// # Contract
-/// Whatever holds between any two steps of threads (`IsFair`): no move of the list is passed over in the model. After
-/// the list the model has the lock's word, and has each party where the lock has it.
+/// The law holds between any two steps of threads (`IsFair`): no move of the list is skipped in the model. After the
+/// list the model has the lock's word, and each party is where the lock has it.
 pub fn every_run_of_a_fair_mutex_is_a_schedule<T>()
     ensures { (opening : Opening T) (word : ℕ) (trace : Trace (Done T) (Unit {0})) (parties : List (Numbered View)) → IsFair opening word trace parties → IsRun (model opening.value) seat_of words_of trace.entries (word, trace.word) parties }
 {}
@@ -40,8 +40,8 @@ pub fn a_guard_reads_the_last_value_written<T>()
 /// So no newcomer acquires the lock while a starver is registered: its move would be the later one.
 ///
 /// # Contract
-/// Where the rule holds (`IsFair`), the trace was no longer after the last move of a newcomer that holds, by which it
-/// acquired the lock, than after the last move of a registered starver.
+/// The rule has to hold (`IsFair`). The last move of a newcomer that holds is the one by which it acquired the lock.
+/// The trace after that move is no longer than after the last move of any registered starver.
 pub fn no_newcomer_holds_that_came_behind_a_starver<T>()
     ensures { (opening : Opening T) (word : ℕ) (trace : Trace (Done T) (Unit {0})) (parties : List (Numbered View)) → IsFair opening word trace parties → (i j : ℕ) (v w : Numbered View) → slice_get parties i ≡ Some v → slice_get parties j ≡ Some w → v.0 ≡ Holding → 0 < starver w.0 → v.2 ≤ w.2 }
 {}
@@ -52,8 +52,8 @@ pub fn no_newcomer_holds_that_came_behind_a_starver<T>()
 /// of them loads the word first.
 ///
 /// # Contract
-/// On each word that the rule allows, the operation makes the word that the step function gives (`unlocked`,
-/// `unstarved`, `lock_starved`). Where `lock_starved` gives none, the word stays as it is.
+/// On each word that the rule allows, the result is that of the step function (`unlocked`, `unstarved`,
+/// `lock_starved`). If `lock_starved` gives none, the word does not change.
 pub fn an_addition_is_its_step_function<T>()
     ensures unlock { (opening : Opening T) (word : ℕ) (trace : Trace (Done T) (Unit {0})) (parties : List (Numbered View)) (p : ℕ) → IsFair opening word trace parties → HoldsAt (views_of parties) p → (is_set word ≡ true) × ((word + (2 ^ 64 - holder_weight)) % 2 ^ 64 ≡ unlocked word) }
     ensures unstarve { (opening : Opening T) (word : ℕ) (trace : Trace (Done T) (Unit {0})) (parties : List (Numbered View)) (p : ℕ) → IsFair opening word trace parties → StarvesAt (views_of parties) p → (starver_weight ≤ word) × ((word + (2 ^ 64 - starver_weight)) % 2 ^ 64 ≡ unstarved word) }

@@ -45,7 +45,7 @@ RefusesAsLost {W} {V} m c l h next =
 
 -- what holds of the calls and steps of an object, whatever the schedule
 pub record Stepwise {W V C L A : Type 0} (m : Machine W V C L A) : Type 0 where
-  -- its calls are those of its kind of lock, and each begins just where its party holds what it is for
+  -- the calls are those of the kind of lock, and each begins exactly if its party holds what it needs
   pub calls : (c : C) (h : Option Hold) → (n : ℕ) × AnyOf (λ what. m.asks c h ≡ what) (m.lock_kind.calls n h)
   pub begins : (c : C) (h : Option Hold) → is_some (m.begin c h) ≡ (m.asks c h).begins h
   -- a call that begins makes the plain steps of its kind of lock

@@ -67,7 +67,7 @@ poll_reads (Some _) may = absurd (cc (may))
 unused : {u : Use} → u ≡ off → u ≢ writes
 unused none e = absurd (let d : off ≡ writes = sym none ∙ e in cc)
 
--- where it runs it is in a call
+-- a party that runs a closure is in a call
 call_that_runs : (v : View) → is_running v ≡ true → v ≡ InCall (call_of (Some v)) Run
 call_that_runs (InCall c Run) may = refl
 call_that_runs _ may = absurd (cc (may))

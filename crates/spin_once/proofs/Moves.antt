@@ -139,6 +139,6 @@ module _ (given : Option (Unit {0})) where
   end_moves (InCall (TryCallOnceOk u) Run) may w value v is = rw is.0 (Step ∷ [], Answered (Value tt) None ∷ [], ((refl, (refl, refl)), is.1), refl, refl, 2, Some tt, refl, refl, refl)
   end_moves _ may w value v is = absurd (cc (may))
 
-  -- its closure has failed: the model's call goes on as one whose closure fails
+  -- its closure has failed: the model's call continues as one whose closure fails
   pub fail_moves : Moves (Some (InCall (TryCallOnceOk tt) Run)) (λ _. 0) (AtOne Idle) (at_one fails_by)
   fail_moves w value v is = rw is.0 (Weak ∷ Step ∷ [], GoingOn ∷ Answered Failed None ∷ [], ((refl, (refl, refl)), is.1), refl, refl, 0, value, refl, refl, refl)

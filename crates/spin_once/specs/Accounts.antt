@@ -25,11 +25,11 @@ use Rattle.spin_once.specs.declared.once_core.rule.Stage.TheVariants.{Seed}
 use Rattle.spin_once.specs.declared.once_core.rule.View.{View}
 use Rattle.spin_once.specs.declared.once_core.rule.View.TheVariants.{Idle, InCall}
 
--- where a party stands: the key of its cell, its view, and what it knows of the trace
+-- a point of a record: the key of its cell, the party's view, and what it knows of the trace
 abbrev pub Place : Type 0 → Type 0 → Type 0
 Place T S = Key T S × Option (Numbered View) × Watch (Valued T)
 
--- from the one place to the other the party has made moves of this course, and no others, in one cell
+-- from the first point to the second the party has made exactly the moves of this course, in one cell
 abbrev pub Since : {T S : Type 0} → Place T S → Moving → Place T S → Type 0
 Since p course q = (q.0 ≡ p.0) × (q.2.name ≡ p.2.name) × Moves (given_of p.0.opening.value) course p.1 (bare p.2.entries) q.1 (bare q.2.entries)
 
@@ -60,12 +60,12 @@ module _ {T S : Type 0} where
   IsClaimOf call (claim.Found found) = Unit {0}
   IsClaimOf call (claim.Init permit) = HasSeed permit × (permit.writer.view.0 ≡ InCall call Run)
 
-  -- a call with a closure is answered, or goes on to its closure
+  -- a call with a closure is answered, or continues to its closure
   abbrev pub Claims : Place T S → Claim T S → Type 0
   Claims p (claim.Found found) = Since p (Ends (Value tt)) (here found.account)
   Claims p (claim.Init permit) = Since p Waits (running permit)
 
-  -- what the exchange of a call with a closure results in, and a look before it
+  -- the result of the exchange of a call with a closure, and of a look before it
   abbrev pub Attempts : Place T S → Result (Claim T S) (Awaiting T S) → Type 0
   Attempts p (Ok claim) = Claims p claim
   Attempts p (Err awaiting) = Since p Waits (here awaiting.account)

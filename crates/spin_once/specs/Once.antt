@@ -1,4 +1,5 @@
--- The rule of a value that is made once, from a seed: its word is that of a plain lock in whose phase its parties are, and its trace is a schedule of the model, which leads there.
+-- The rule of a value that is made once, from a seed. Its word is that of a plain lock in the phase of its parties. Its
+-- trace is a schedule of the model, which leads there.
 use Rattle.std.specs.Prelude.{◌≡◌, ◌<◌, ◌≤◌, ℕ, Bool, true, false, Option, Some, None, List, [], ◌∷◌, ◌++◌, length, replicate, if◌then◌else◌, ◌==◌}
 use mathlib.Core.Option.{some}
 use lib.ListN.{get_elem?}

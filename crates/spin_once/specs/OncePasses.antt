@@ -29,7 +29,7 @@ module _ {T R : Type 0} where
   abbrev pub schedule : Pass T R → List Made
   schedule it = bare (history it)
 
-  -- the name of the history of a `Once`, and of the `Once` of a pass
+  -- the name of a `Once`'s history; also by a pass of it
   abbrev pub name_of : Once T R → ℕ
   name_of once = once.core.cell.opening.name
 

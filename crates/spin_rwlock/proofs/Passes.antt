@@ -23,7 +23,7 @@ use Rattle.spin_rwlock.proofs.Steps.{own_ways}
 named_so : (name : ℕ) (before : Watch Done) → name ≡ before.name → Named (IsRw name) own_ways before.name
 named_so name before same = passes.may_know (IsRw name) own_ways name (λ n t vs is. is.0) before.name same
 
--- the watch is of the lock's trace, or knows nothing
+-- the watch is a watch of the lock's trace, or knows nothing
 pub may : (name : ℕ) (before : Watch Done) → (before.entries ≡ []) ⊎ (name ≡ before.name) → (before.entries ≡ []) ⊎ Named (IsRw name) own_ways before.name
 may name before (inl nothing) = inl nothing
 may name before (inr same) = inr (named_so name before same)
@@ -32,14 +32,14 @@ pub may_as : (name name' : ℕ) (before : Watch Done) → name ≡ name' → (be
 may_as name name' before same (inl nothing) = inl nothing
 may_as name name' before same (inr is) = inr (same ∙ is)
 
--- What a step tells, whose play says so much
+-- What a step tells if its play says at least this
 module _ (says : Says) (to : ℕ → View) (course : ℕ → OneCourse) (means : (own : List OneMove) (outs : List Ending) (n : ℕ) (v : View) → says own outs n v → (v ≡ to n) × course n own outs) (view : Option (Numbered View)) (before now : Watch Done) (found : ℕ) where
   -- where it led
   pub stood : (named : Type 0) (view' : Option (Numbered View)) → Moved (Watches named before now (Told says view) found) view' → what view' ≡ Some (to found)
   stood named None moved = absurd moved
   stood named (Some v) moved = ap Some (means moved.1.4.0 moved.1.4.1 found v.0 moved.1.4.6).0
 
-  -- to a party whose watch knew all: it knows all again, and has made just this
+  -- a party whose watch knew everything again knows everything, and has made just these moves
   pub told : (name name' : ℕ) → name' ≡ name → (view' : Option (Numbered View)) → (name ≡ before.name) × (mark_of view ≡ length before.entries) → Moved (Watches (Named (IsRw name) own_ways before.name) before now (Told says view) found) view'
       → ((name' ≡ now.name) × (mark_of view' ≡ length now.entries)) × (now.name ≡ before.name) × Moves (course found) view before.entries view' now.entries
   told name name' same view' knew moved =
@@ -69,12 +69,12 @@ won_by old found won lost is = ap (λ b. if b then won else lost) (eq-eqb found 
 pub lost_by : {X : Type 0} (old found : ℕ) (won lost : X) → found ≢ old → either_at old won lost found ≡ lost
 lost_by old found won lost other = ap (λ b. if b then won else lost) (ne_eqb found old other)
 
--- what is known of a party is known of it as a writer, and the other way round
+-- what is known of a party is known of it as a writer, and vice versa
 module _ {A : Type 0} (R : Option (Numbered View) → Type 0) (now : Watch Done) (name name' : ℕ) (v : Numbered View) (view : Option (Numbered View)) where
   pub to_writer : name ≡ name' → Some v ≡ view → ((name' ≡ now.name) × (mark_of view ≡ length now.entries)) × A × R view → ((name ≡ now.name) × (v.2 ≡ length now.entries)) × A × R (Some v)
   to_writer same is (knows, a, r) = ((same ∙ knows.0, ap mark_of is ∙ knows.1), a, subst R (sym is) r)
 
--- two facts of what a result has
+-- two facts about a result
 pub both_ok : {X Y : Type 0} (r : Result X Y) (P Q R : X → Type 0) → ((x : X) → P x → Q x → R x) → IfOk r P → IfOk r Q → IfOk r R
 both_ok (Ok x) P Q R so p q = so x p q
 both_ok (Err y) P Q R so p q = tt
@@ -132,7 +132,7 @@ module _ (call : RwCall) (u v w : Option (Numbered View)) (a b c : List Done) (n
   begun : Moves (Begins call Waits) u a v b
   begun = subst (λ x. Moves (Begins call (Left x)) u a v b) goes so_far
 
-  -- an exchange of the call that goes on
+  -- an exchange of a call under way
   pub then_granted : Moves (IsStep true call (Answered Granted None)) v b w c → Called call Granted u a w c
   then_granted made = call_ends model u v w a b c call Granted begun (passes.ends model v w b c call Granted made)
 

@@ -163,12 +163,12 @@ writes_as Writing e p = refl
 writes_as WritingAsked e p = refl
 writes_as _ e p = absurd cc
 
--- The moves of each: a call of the model and its one step, or a step of a call that has begun
+-- The moves of each step: a call of the model and its only step, or a step of a call under way
 
 abbrev Moves : Option View → (ℕ → ℕ) → (ℕ → View → Type 0) → Says → Type 0
 Moves view f = AreMoves model seat_of words_of view (on_first f) first
 
--- a party that is out sits as one that has not come yet
+-- a party that is out sits like a new one
 module _ (f : ℕ → ℕ) (so : ℕ → View → Type 0) (says : Says) where
   abbrev FromSeat : Seat RwCall RwPoint → Type 0
   FromSeat sits =
@@ -229,7 +229,7 @@ writer_upgradable_moves Writing e w value v (small, is) = rw is (Begin call.Down
 writer_upgradable_moves WritingAsked e w value v (small, is) = rw is (Begin call.DowngradeToUpgradeable ∷ Step ∷ [], Begun ∷ Answered Done None ∷ [], (refl, (refl, refl)), refl, refl, w + 1, value, refl, refl, rw (fits_in w 1 small.1 (omega arith)) refl)
 writer_upgradable_moves _ e w value v so = absurd cc
 
--- a holder leaves, of this weight
+-- a holder of this weight leaves
 abbrev Holds : View → ℕ → Type 0
 Holds Reading k = k ≡ 8
 Holds Upgradable k = k ≡ 2
@@ -249,7 +249,7 @@ one_of_writers Writing e = refl
 one_of_writers WritingAsked e = refl
 one_of_writers _ e = absurd cc
 
--- The moves of a reader that comes
+-- The moves of a reader that begins its call
 
 abbrev Leads : Option View → ℕ → ℕ → (ℕ → View) → Says → Type 0
 Leads view old new to says = (w : ℕ) (value : Option (Unit {0})) (v : View) → v ≡ to w → (b : Bool) → (w == old) ≡ b → Goes model seat_of words_of view v w value (swaps old new w, tt) (λ own outs. says own outs w v)
@@ -257,7 +257,7 @@ Leads view old new to says = (w : ℕ) (value : Option (Unit {0})) (v : View) �
 by_found : (view : Option View) (old new : ℕ) (to : ℕ → View) (says : Says) → Leads view old new to says → Moves view (swaps old new) (λ n v. v ≡ to n) says
 by_found view old new to says goes w value v is = goes w value v is (w == old) refl
 
--- the exchange of 0, by which it comes: two steps of the model where it wins, and one where it loses
+-- The exchange of 0 with which a call begins. It is two steps of the model if it succeeds, and one if it fails.
 try_read_first : (new : ℕ) → grants call.TryRead 0 ≡ Some new → Leads None 0 new (came Reading call.TryRead 0) (comes_by false Reading call.TryRead 0)
 try_read_first new grant w value v is true e = (Begin call.TryRead ∷ Step ∷ Step ∷ [], Begun ∷ GoingOn ∷ Answered Granted None ∷ [], (is, rw e (refl, refl)), refl, refl, new, value, grind (arith, is, e, grant), grind (arith, is, e, grant), grind (arith, e))
 try_read_first new grant w value v is false e = (Begin call.TryRead ∷ Step ∷ [], Begun ∷ missed call.TryRead w ∷ [], (is, rw e (refl, refl)), refl, grind arith, w, value, grind (arith, is, e, grant), grind (arith, e), grind (arith, e))
@@ -291,7 +291,7 @@ upgradable_again : (old new : ℕ) → grants call.UpgradeableRead old ≡ Some 
 upgradable_again old new grant w value v is true e = (Step ∷ [], Answered Granted None ∷ [], (is, rw e (refl, refl)), refl, refl, new, value, grind (arith, is, e, grant), grind (arith, is, e, grant), grind (arith, e))
 upgradable_again old new grant w value v is false e = (Step ∷ [], missed call.UpgradeableRead w ∷ [], (is, rw e (refl, refl)), refl, grind arith, w, value, grind (arith, is, e, grant), grind (arith, e, grant), grind (arith, e))
 
--- where the call begins it may be any party that is out
+-- the call may be begun by any party that is out
 first_moves : (won : View) (waits : Bool) → Comes won → (new : ℕ) → grants (call_of won waits) 0 ≡ Some new → Moves None (swaps 0 new) (λ n v. v ≡ came won (call_of won waits) 0 n) (comes_by false won (call_of won waits) 0)
 first_moves Reading false cm new grant = by_found None 0 new (came Reading call.TryRead 0) (comes_by false Reading call.TryRead 0) (try_read_first new grant)
 first_moves Reading true cm new grant = by_found None 0 new (came Reading call.Read 0) (comes_by false Reading call.Read 0) (read_first new grant)
@@ -307,7 +307,7 @@ again_moves Upgradable false cm old new grant = by_found (Some (Coming call.TryU
 again_moves Upgradable true cm old new grant = by_found (Some (Coming call.UpgradeableRead old)) old new (came Upgradable call.UpgradeableRead old) (comes_by true Upgradable call.UpgradeableRead old) (upgradable_again old new grant)
 again_moves _ waits cm old new grant = absurd cm
 
--- a party in the call that goes on
+-- a party in a call under way
 pub in_its_call : (won : View) (waits : Bool) → Comes won → (old new : ℕ) → grants (call_of won waits) old ≡ Some new → in_call (Some (Coming (call_of won waits) old)) ≡ true
 in_its_call Reading false cm old new grant = rw grant refl
 in_its_call Reading true cm old new grant = rw grant refl
@@ -322,13 +322,13 @@ come_moves won waits cm view old new (inl (out, free)) grant =
     rw (not_in_call view out, free) (as_new (swaps 0 new) (λ n v. v ≡ came won c 0 n) (comes_by false won c 0) view out (first_moves won waits cm new (rw free at grant)))
 come_moves won waits cm view old new (inr is) grant = rw (is, in_its_call won waits cm old new grant) (again_moves won waits cm old new grant)
 
--- the load of a call that waits, after a word that keeps it out
+-- the load of a call that waits, after a word that does not admit it
 look_moves : (won : View) → Comes won → (old : ℕ) → grants (call_of won true) old ≡ None → Moves (Some (Coming (call_of won true) old)) (λ n. n) (λ n v. v ≡ Coming (call_of won true) n) (looks_by (call_of won true))
 look_moves Reading cm old none w value v is = rw is (Step ∷ [], GoingOn ∷ [], (refl, (refl, refl)), refl, refl, w, value, grind (arith, none), grind (arith, none), refl)
 look_moves Upgradable cm old none w value v is = rw is (Step ∷ [], GoingOn ∷ [], (refl, (refl, refl)), refl, refl, w, value, grind (arith, none), grind (arith, none), refl)
 look_moves _ cm old none w value v is = absurd cm
 
--- the exchange of `{:?}`: a try where it wins, and else a look, which its party makes of no more use than a count
+-- The exchange of `{:?}` is a try if it succeeds, and otherwise a look. The party uses that look like a count.
 peek_first : (old new : ℕ) → grants call.TryRead old ≡ Some new → Leads None old new (either_at old Reading Idle) (peeks_by old)
 peek_first old new grant w value v is true e = (Begin call.TryRead ∷ Step ∷ Step ∷ [], Begun ∷ GoingOn ∷ Answered Granted None ∷ [], (is, rw e (refl, refl)), refl, refl, new, value, grind (arith, is, e, grant), grind (arith, is, e, grant), grind (arith, e))
 peek_first old new grant w value v is false e = (Begin call.ReaderCount ∷ Step ∷ [], Begun ∷ Answered (Count (readers_in w)) None ∷ [], (is, rw e (refl, refl)), refl, refl, w, value, grind (arith, is, e), refl, grind (arith, e))

@@ -48,7 +48,7 @@ use_of_party v = use_of_view v.0
 abbrev pub rw_ways : {X S : Type 0} → Ways X (Numbered View) S
 rw_ways = (lends, use_of_party, no_fact)
 
--- the word that a call which comes to read makes of the word that it found, if that lets it in
+-- the word after a call to read, if the word found admits it
 abbrev pub grants : RwCall → ℕ → Option ℕ
 grants TryRead n = read reader_limit n
 grants Read n = read reader_limit n
@@ -76,7 +76,7 @@ seat_of WaitingToWrite = seat.Calling Write point.First None
 abbrev pub model : Machine ℕ (Unit {0}) RwCall RwPoint (Answer (Unit {0}))
 model = rw_machine tt reader_limit
 
--- the lock's words, by the model's
+-- the words of the lock, from those of the model
 abbrev pub words_of : ℕ → ℕ × Unit {0}
 words_of n = (n, tt)
 
@@ -92,7 +92,7 @@ Done = Entry RwCall (Unit {0})
 abbrev pub Word : ℕ → Unit {0} → List View → Type 0
 Word = Encodes part reader_limit rw_word no_word
 
--- of the word, the trace and the parties, under the name of the lock's trace
+-- what holds of the word, the trace and the parties; the trace has this name
 abbrev pub IsRw : ℕ → ℕ → Trace Done (Unit {0}) → List (Numbered View) → Type 0
 IsRw = Runs model seat_of words_of Word
 
@@ -138,23 +138,23 @@ still TryRead n = is_some (grants TryRead n)
 still TryUpgradeableRead n = is_some (grants TryUpgradeableRead n)
 still _ n = true
 
--- what that exchange is to the call
+-- the outcome of that exchange
 abbrev pub missed : RwCall → ℕ → Ending
 missed TryRead n = if is_some (grants TryRead n) then GoingOn else Answered Refused None
 missed TryUpgradeableRead n = if is_some (grants TryUpgradeableRead n) then GoingOn else Answered Refused None
 missed _ n = GoingOn
 
--- The exchange that lets it in. By one that begins the call (false) the model's party first looks, and finds a free lock
+-- The exchange that succeeds. If it begins the call (false), the model's party first looks, and finds a free lock.
 abbrev pub IsGrant : Bool → RwCall → OneCourse
 IsGrant true call own outs = IsStep true call (Answered Granted None) own outs
 IsGrant false call own outs = (own ≡ Begin call ∷ Step ∷ Step ∷ []) × (outs ≡ Begun ∷ GoingOn ∷ Answered Granted None ∷ [])
 
--- by whether it found the word that it expected
+-- the exchange, by whether it found the word that it expected
 abbrev pub IsArrival : Bool → RwCall → Bool → ℕ → OneCourse
 IsArrival goes_on call true n = IsGrant goes_on call
 IsArrival goes_on call false n = IsStep goes_on call (missed call n)
 
--- a call that goes on, or has been refused
+-- a call that waits (true), or has failed
 abbrev pub Left : Bool → OneCourse
 Left true = Waits
 Left false = Ends Refused
@@ -163,7 +163,7 @@ Left false = Ends Refused
 abbrev pub Seeks : RwCall → ℕ → OneCourse
 Seeks call n = Begins call (Left (still call n))
 
--- The steps: which moves, with which outcomes, by the number found, and the view after
+-- The steps: the moves, their outcomes and the next view of each, by the number found
 
 abbrev pub Says : Type 1
 Says = List OneMove → List Ending → ℕ → View → Type 0
@@ -175,11 +175,11 @@ Told = Tells model seat_of words_of
 abbrev pub ends_by : RwCall → (ℕ → Answer (Unit {0})) → (ℕ → View) → Says
 ends_by call answer to = step_by false call (λ n. Answered (answer n) None) to
 
--- a call that counts so by the word of the lock
+-- a call that counts, by the word of the lock
 abbrev pub counts_by : RwCall → (ℕ → ℕ) → Says
 counts_by call count own outs n v = IsRwWord n × ends_by call (λ m. Count (count m)) (λ m. Idle) own outs n v
 
--- an exchange that finds the number which it expected, and one that finds another
+-- `won` if the exchange found the number that it expected, otherwise `lost`
 abbrev pub either_at : {X : Type 0} → ℕ → X → X → ℕ → X
 either_at old won lost n = if n == old then won else lost
 
@@ -200,18 +200,18 @@ asks_by = step_by false Upgrade (λ n. GoingOn) (λ n. Asking)
 abbrev pub upgrades_by : ℕ → Says
 upgrades_by old = step_by true Upgrade (granted_or_on old) (either_at old WritingAsked Asking)
 
--- the load of a call that waits to read
+-- the look of a call that waits to read
 abbrev pub looks_by : RwCall → Says
 looks_by call = step_by true call (λ n. GoingOn) (Coming call)
 
--- where the exchange of a reader that comes leads, and what it is
+-- the view after the exchange of a call to read; below, its outcome
 abbrev pub came : View → RwCall → ℕ → ℕ → View
 came won call old n = if n == old then won else Coming call n
 
 abbrev pub comes_by : Bool → View → RwCall → ℕ → Says
 comes_by goes_on won call old own outs n v = (v ≡ came won call old n) × IsArrival goes_on call (n == old) n own outs
 
--- the exchange of `{:?}`: a try where it wins, and else one more look
+-- the exchange of `{:?}`: a try if it succeeds, otherwise a look
 abbrev pub IsPeek : Bool → ℕ → OneCourse
 IsPeek true n = IsGrant false TryRead
 IsPeek false n = IsStep false ReaderCount (Answered (Count (readers_in n)) None)
@@ -254,7 +254,7 @@ IsLent it v = (what it.view ≡ Some v) × (it.value ≢ None)
 
 -- What a pass knows
 
--- since it knew `old` it has made moves of this course, and no others
+-- since it knew `old` it has made exactly the moves of this course
 abbrev pub Moves : OneCourse → Option (Numbered View) → List Done → Option (Numbered View) → List Done → Type 0
 Moves course view old view' new = Made model view old view' new course
 

@@ -1,4 +1,4 @@
--- What a pass knows: the lock's history so far, and which moves in it are its own.
+-- What a pass knows: the lock's history so far, and which of its moves are the pass's own.
 use Rattle.std.specs.Prelude.{ℕ, Option, List}
 use Rattle.spin_core.specs.Own.{Numbered}
 use Rattle.spin_core.specs.declared.trace.Watch.{Watch}
@@ -12,18 +12,18 @@ use Rattle.spin_rwlock.specs.declared.rwlock.pass.Pass.{Pass}
 use Rattle.spin_rwlock.specs.declared.rwlock.rule.View.{View}
 
 module _ {T R : Type 0} where
-  -- all moves in the lock up to the pass's last step
+  -- all moves in the lock, up to the pass's last step
   abbrev pub history : Pass T R → List rws.Done
   history it = it.seen.entries
 
-  -- the name of the history of a lock, and of the lock of a pass
+  -- the name of a lock's history; also by a pass of the lock
   abbrev pub name_of : {P S : Type 0} → RwLock T R (Numbered View) P (Watch rws.Done) S → ℕ
   name_of lock = lock.cell.name
 
   abbrev pub lock_of : Pass T R → ℕ
   lock_of it = it.seen.name
 
-  -- the party of the pass: none before its first call
+  -- the party of the pass; there is none before its first call
   abbrev pub party : Pass T R → Option (Numbered View)
   party it = it.permit.view
 
@@ -35,7 +35,7 @@ module _ {T R : Type 0} where
   abbrev pub CountedWriters : ℕ → Pass T R → Pass T R → Type 0
   CountedWriters writers before now = Called WriterCount (Count writers) (party before) (history before) (party now) (history now)
 
-  -- since then the pass has been granted this call and has released the lock, once
+  -- since then the pass has acquired the lock by this call and released it, once
   abbrev pub HeldOnceBy : RwCall → Pass T R → Pass T R → Type 0
   HeldOnceBy call before now =
       (view : Option (Numbered View)) × (seen : List rws.Done) × Called call Granted (party before) (history before) view seen × Called Release Done view seen (party now) (history now)

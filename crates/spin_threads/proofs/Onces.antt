@@ -266,7 +266,7 @@ module _ (given : Option (Unit {0})) where
         (rest, comes, own_is, outs_is, (i, rest_is, comes_are)),
       )
 
-  -- so what is so of its answers is so here
+  -- so what holds of the object's answers holds here
   pub found_in : (c : OnceCall (Unit {0})) (a : Answer (Unit {0})) (test : Plain → Bool) (P : Plain → Type 0) → ((h : Option Hold) → ((t given).asks c h).answers ((t given).says a) ≡ meaning.found (λ p s. test s)) → ((s : Plain) → test s ≡ true → P s)
       → (before now : Option (Numbered View)) (old new : List Made) → Called given c a before old now new → AtAMoment (t given) c now (foretold_till old new) (foretold new) P
   found_in c a test P says so before now old new made =

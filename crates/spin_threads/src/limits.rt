@@ -42,7 +42,7 @@ pub fn a_call_of_a_ticket_mutex_keeps_its_limit<T>()
 /// two, and one more for each change of the word by others meanwhile. An `is_locked` and a release take one.
 ///
 /// # Contract
-/// `KeepsLimits`, which says it of the steps that all threads made while the call ran.
+/// `KeepsLimits`, for the steps that all threads made during the call.
 pub fn a_call_of_a_fair_mutex_keeps_its_limit<T>()
     ensures { (opening : T) → KeepsLimits (fair_mutex.model opening) FairMutexView }
 {}

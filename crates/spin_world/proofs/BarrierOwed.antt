@@ -1,4 +1,4 @@
--- What the barrier's table owes.
+-- What the barrier's table must show.
 use Rattle.spin_world.proofs.BarrierNames.{◌≡◌, ℕ, ◌+◌, ◌/◌, ◌%◌, ◌^◌, ◌≤◌, ◌==◌, false, ◌&&◌, is_some, Option, Some, None, List, ◌∷◌, refl, sym, subst, arith, inr, max, Plain, Change, arrives, apply, count_word, generation_word, IsBarrier, is_leading, generation_at, barrier_arrive-words, barrier_count-below, barrier_may_leave-tells, barrier_may_leave-full, Hold, BarrierWords, BarrierCall, BarrierPoint, Arrive, Leave, arrived, mark_of, passes, is_arrival, barrier_table, barrier_machine, []}
 use Rattle.std.proofs.Math.Bool.{and-false}
 use Rattle.std.proofs.Math.Nat.{mod-le, div-le_self}
@@ -45,7 +45,8 @@ follows_right : (p k : ℕ) (all span : List Mark) → AnyOf (λ m. Arrives p k 
 follows_right p k all [] made full = absurd made
 follows_right p k all (m ∷ ms) made full = grind (arith, follows_here p k all m, follows_right p k all ms)
 
--- a party that has arrived knows by the number of its arrival, which leads no group, what generation it found with it
+-- A party that has arrived knows the number of its arrival, which does not lead, and so the generation that it found
+-- then.
 pub record Waits (g p : ℕ) (s : Plain) (span : List Mark) : Type 0 where
   pub come : arrived p span ≤ s.arrivals
   pub found : generation_at s (arrived p span) ≡ g

@@ -1,4 +1,4 @@
--- The shape of a fair lock, that its steps keep it, and what a party finds there.
+-- The shape of a fair lock, how its steps keep it, and what a party finds.
 use Rattle.spin_world.proofs.FairNames.{◌≡◌, ℕ, ◌%◌, ◌==◌, true, false, not, ◌&&◌, ◌||◌, ◌∷◌, ◌++◌, length, refl, ap, sym, ◌∙◌, arith, length-append, min, eq-eqb, Plain, holder, writing, is_empty, is_starver, is_holder, fair_word, releases, apply, Entries, entries, is_held, most_starvers, OneHolds, empty_is, is_empty-none, is_empty-some, length-without_holder, is_starver-from_entries, flag_is, starves, holds_and_starves, entries_at, only_left, is_holder-own, []}
 
 -- the shape of the lock: at most one holder, no queue, and the cap

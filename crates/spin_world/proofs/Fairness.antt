@@ -1,4 +1,4 @@
--- What users of a fair lock rely on, from what is kept at each event.
+-- What users of a fair lock may rely on, from what each event keeps.
 use Rattle.spin_world.proofs.FairNames.{◌≡◌, ℕ, true, false, Option, List, ◌∷◌, arith, Plain, Kind, writing, Holder, Change, is_holder, is_starver, is_only_starver, without_holder, fair_word, apply_some, IsOpenStep, empty_is, is_empty-none, BelongsTo, fair, IsFree, []}
 
 pub free_when_zero : (w : ℕ) (s : Plain) → w ∷ [] ≡ fair_word s ∷ [] → w ≡ 0 → IsFree s

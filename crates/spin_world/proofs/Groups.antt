@@ -1,4 +1,4 @@
--- What users of a barrier rely on.
+-- What users of a barrier may rely on.
 use Rattle.spin_world.proofs.BarrierNames.{◌≡◌, ℕ, ◌+◌, ◌%◌, ◌==◌, ◌↔◌, true, Option, Some, None, ◌∷◌, slice_get, ap, sym, ◌∙◌, arith, max, arrives, may_leave, barrier_arrive-words, barrier_may_leave-tells, Leader, Follower, Hold, BarrierWords, BarrierCall, BarrierPoint, Seen, scene, step_at, opening, own, arrived, seen_after, passes, steps_made, BarrierMachine, leads, barrier_machine, is_arrival, Entries, seen_at, arrivals, InGroups, FollowersLeave, []}
 use Rattle.spin_model.specs.declared.place.Seat.{Seat}
 use Rattle.spin_model.specs.declared.place.Seat.TheVariants.{Calling}

@@ -1,4 +1,4 @@
--- What users of a `Once` rely on: one closure at a time, and one value.
+-- What users of a `Once` may rely on: one closure at a time, and one value.
 use Rattle.spin_world.proofs.OnceNames.{◌≡◌, ℕ, ◌==◌, true, false, is_some, Option, Some, None, ◌∷◌, ◌++◌, slice_get, refl, arith, ap, sym, ◌∙◌, subst, and_parts, running, Change, once_word, IsOpenStep, Answer, Value, Hold, Calling, Step, State, happens, after, at_first, Seen, scene, opening, last_written, placed_at, MayTouch, OnceCall, Get, OncePoint, Run, runs, asks_of, OnceMachine, once_machine, Entries, once_after, seen_at, keeps_value, is_shared, ValueStays, RunsClosure, OneRuns, wants_value, AnswersAtOnce, GetAgrees, after-append, InCall, Invariant, []}
 use Rattle.spin_model.specs.declared.schedule.Move.{Move}
 use Rattle.spin_model.specs.declared.schedule.Outcome.{Outcome}

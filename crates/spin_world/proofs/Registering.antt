@@ -1,4 +1,5 @@
--- Registering in time: what `lock` knows of the looks in its span, that others leave it true, and what each step makes of it.
+-- Registering in time: what `lock` knows of the looks in its span, how others keep it, and what each of its steps
+-- changes.
 use Rattle.spin_world.proofs.FairNames.{◌≡◌, ℕ, ◌+◌, ◌<◌, ◌≤◌, ◌⊎◌, ◌==◌, true, false, not, ◌&&◌, ◌||◌, is_some, nat_lt, if◌then◌else◌, Option, Some, None, List, ◌∷◌, ◌++◌, length, length-append, refl, ap, sym, ◌∙◌, arith, inl, inr, ⊎_elim, ne_eqb, false≢true, or-true, Plain, Change, gets, to_starve, is_open, apply_some, is_held, bit, StepKind, plain, again, look, is_look, Mark, AnyOf, Registers, TriesToStarve, first_word, fair, mark_of, own, own_count, changes, held_looks, IsLateLook, RegistersInTime, moved, is_open_to, []}
 use Rattle.spin_world_core.specs.Spans.{is_blind, may_be_blind}
 use Rattle.spin_world_core.proofs.Lists.{eqb_self}
@@ -29,7 +30,7 @@ MayBeBlind n p span = may_be_blind p n span ≡ true
 abbrev pub none_left : List Mark → Type 0
 none_left recent = ⊥
 
--- so many steps since it when `lock` loads the word, and when it is about to make its exchange of the word w
+-- how many steps were made since that look when `lock` loads the word, and when it is about to exchange the word w
 abbrev pub few_to_load : ℕ → List Mark → Type 0
 few_to_load p recent = own_count p recent ≤ changes fair p recent
 

@@ -1,4 +1,4 @@
--- What the table of the read-write lock owes.
+-- What the table of the read-write lock must show.
 use Rattle.spin_world.proofs.RwNames.{◌≡◌, ℕ, ◌+◌, ◌/◌, ◌≤◌, true, false, Option, Some, None, List, ◌∷◌, ◌++◌, length, nat_lt, refl, ap, sym, ◌∙◌, arith, eq-eqb, length-append, Plain, Kind, reading, upgradable, asking, writing, weight, Holder, holder, to_read, to_read_upgradable, to_write, to_upgrade, to_upgrade_asked, Change, gets, releases, turns, may_come, is_empty, is_holder, may_turn, with_kind, rw_word, Entries, entries, IsExclusive, reader_limit, tells, read, read_upgradable, write, upgrade, upgrade_asked, released, is_holder-from_entries, is_holder-own, length-without_holder, empty_is, room_to_come, one_of_each, read-word, upgradable_read-word, upgradable-word, tells-holder, readers-word, writers-word, only_upgradable-word, only_asking-word, empty-word, Hold, RwCall, TryRead, Read, TryUpgradeableRead, UpgradeableRead, TryWrite, TryWriteWeak, Write, ReaderCount, WriterCount, TryUpgrade, TryUpgradeWeak, Upgrade, Downgrade, DowngradeToUpgradeable, Release, RwPoint, Exchange, Asking, Mark, begin_of, holds, entries_at, Notes, keeping_of, Means, OwesAt, OwesSoon, Pays, no_queue, [], turned_to}
 use Rattle.std.specs.Prelude.{min, max}
 use Rattle.spin_step.proofs.Sums.{length-with_kind}

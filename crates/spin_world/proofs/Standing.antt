@@ -1,4 +1,4 @@
--- What users of a read-write lock rely on.
+-- What users of a read-write lock may rely on.
 use Rattle.spin_world.proofs.RwNames.{◌≡◌, ℕ, ◌+◌, ◌==◌, ◌↔◌, Bool, true, false, Option, Some, None, List, ◌∷◌, ◌++◌, slice_get, ap, sym, ◌∙◌, arith, Plain, Kind, reading, upgradable, asking, writing, Change, is_holder, is_only, count_kind, rw_word, weight, apply_some, IsOpenStep, entries, IsExclusive, bit, empty_is, is_holder-own, reader_goes, one_of_each, only_asking-word, empty-word, word_of, Answer, Hold, RwCall, RwPoint, Mark, Stand, holds, holds_and_starves, entries_at, row_of, []}
 use Rattle.spin_step_more.proofs.Upgrading.{readers_only_go, alone_when_gone}
 use Rattle.spin_model.specs.declared.answer.Answer.TheVariants.{Granted, Done}

@@ -1,4 +1,4 @@
--- What a party finds of a queue of tickets, and what it comes to.
+-- What a party finds in a queue of tickets, and what its steps result in.
 use Rattle.spin_world.proofs.TicketNames.{any_passes, ◌≡◌, ℕ, ◌==◌, ◌≤◌, ◌⊎◌, Bool, true, false, not, None, List, ◌∷◌, arith, Plain, ticket_limit, to_take_and_enter, is_empty, is_open_to, serving_word, is_held, Numbered, nobody_stands, somebody_stands, plain, mark_of, is_left, []}
 use Rattle.spin_model.specs.Calls.{AnyOf, Mark}
 use Rattle.spin_model.specs.Asks.{same}

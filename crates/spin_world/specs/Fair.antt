@@ -1,4 +1,5 @@
--- What a fair lock is: how it opens, how many may starve, and what each of its calls asks. Where a call begins follows from what it asks.
+-- What a fair lock is: its first state, how many parties may starve, and what each of its calls asks. What a call asks
+-- decides where it begins.
 use Rattle.std.specs.Prelude.{◌≡◌, ℕ, true, min, Option, Some, None, [], ◌∷◌}
 use Rattle.spin_step.specs.Plain.{to_lock_unregistered, to_lock_starving, to_lock_starving_alone, to_starve}
 use Rattle.spin_step_more.specs.Starvers.{most_starvers}

@@ -1,4 +1,4 @@
--- What users of a `Once` rely on.
+-- What users of a `Once` may rely on.
 use Rattle.std.specs.Prelude.{◌≡◌, ℕ, ◌⊎◌, Bool, true, false, ◌&&◌, Option, Some, None, is_some, List, [], ◌∷◌, ◌++◌, ◌==◌, if◌then◌else◌, slice_get, not, ◌||◌}
 use Rattle.spin_step.specs.Plain.{to_begin, gets, is_complete, Change, is_empty}
 use Rattle.spin_model.specs.declared.answer.Answer.{Answer}

@@ -1,4 +1,5 @@
--- What a read-write lock is: how it opens, how many it lets in, and what each of its calls asks. Where a call begins follows from what it asks.
+-- What a read-write lock is: its first state, how many parties it admits, and what each of its calls asks. What a call
+-- asks decides where it begins.
 use Rattle.std.specs.Prelude.{◌≡◌, ℕ, true, Option, Some, None, [], ◌∷◌, min}
 use Rattle.spin_step.specs.Plain.{reading, upgradable, to_read, to_read_upgradable, to_write, to_upgrade, fresh}
 use Rattle.spin_step_more.specs.Readers.{reader_limit}

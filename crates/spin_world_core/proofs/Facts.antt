@@ -1,4 +1,4 @@
--- What an object shows of itself: local facts, without a word of schedules.
+-- What an object shows of itself: local facts, which do not mention schedules.
 use Rattle.spin_world_core.proofs.Names.{◌≡◌, ℕ, zero, suc, ◌<◌, ◌≤◌, true, false, ◌||◌, Option, Some, None, List, [], ◌∷◌, Plain, Ask, Change, completes, is_open, is_empty, apply_some, IsOpenStep, entries, is_held, IsExclusive, Hold, Seat, Calling, Next, Continue, Answers, Stepped, Move, Step, Weak, StepKind, is_again, by_step, encoded, BelongsTo, Said, own_steps, Mark, AnyOf, Gets, MayTryOn, is_open_now, steps_alone, Machine, opening_plain, Stepwise, placed, HasPhase, Gives, mark_of, if_completed, entries_held, is_writer, own, failures, changes, IsBeginning, RightAnswer, EndsWithin, ContinuesWithin, tries_of, limit}
 use Rattle.spin_model.specs.declared.schedule.Outcome.TheVariants as outcome
 use Rattle.spin_model.specs.StepKinds as step_kind
@@ -86,15 +86,16 @@ module _ {W V C L A : Type 0} (m : Machine W V C L A) where
         pub counted : ContinuesCounted (λ u. m.change p u c l h) s (m.step w v c l h).next (m.change p w c l h) (by_step (m.step_kind c l h))
         -- a call whose next step is due gets what it tries for, if that is open
         pub due : Gets m.lock_kind p (m.asks c h) span s (m.change p w c l h) (by_step (m.step_kind c l h))
-        -- a try goes on only where it may
+        -- a try continues only if it may
         pub tries_on : (ask : Ask) → tries_of (m.asks c h) ≡ Some ask → own p span ≡ [] → GoesOnOpen ask p span s (m.step w v c l h).next (m.change p w c l h)
-        -- where what a call that may wait asks is open to it, it is answered by so many steps, if no other party steps
+        -- if what a call that may wait asks is open, it is answered in so many steps, if no other party steps in
+        -- between
         pub undisturbed : is_open_now p (m.asks c h) span s ≡ true → AnswersWithin (steps_alone (m.asks c h)) w c l h
-        -- a closure completes only where nobody holds the lock
+        -- a closure completes only while nobody holds the lock
         pub completes_alone : (q : ℕ) → m.change p w c l h ≡ Some (completes q) → is_held s ≡ false
         -- a weak exchange that fails makes no plain step
         pub refuses : (next : Next L A) → m.refuse c l h ≡ Some next → NextIs Weak p c h s (mark_of p None step_kind.weak s ∷ span) next
-        -- and is made by a call that may be weak, before it has made a plain step
+        -- and only a call that may be weak makes one, before its first plain step
         pub weakly : (next : Next L A) → m.refuse c l h ≡ Some next → ((m.asks c h).is_weak ≡ true) × (own p span ≡ (m.asks c h).before_weakly p)
         -- values that closures make
         pub values : ValueIs c v (m.step w v c l h) (m.change p w c l h)

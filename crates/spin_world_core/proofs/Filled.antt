@@ -1,4 +1,4 @@
--- An object whose closures make its value: what its table owes, and that it then shows all local facts.
+-- An object whose closures make its value: what its table must show, and that it then shows all local facts.
 use Rattle.spin_world_core.proofs.Names.{◌≡◌, ℕ, zero, suc, Bool, true, false, is_some, Option, Some, None, List, ◌∷◌, sym, ◌∙◌, arith, false≢true, Plain, Phase, Change, completes, is_complete, apply_some, IsOpenStep, entries, is_held, Answer, Hold, Next, Continue, Answers, Stepped, Step, StepKind, by_step, encoded, says_of, Mark, Machine, opening_phase, placed, mark_of, if_completed, is_writer, Memory, Act, store, step_by, change_at, change_by, makes_by, is_completion, step_kind_by, Table, machine_of, completes_by, brought, filled, machine_with, steps_alone}
 use Rattle.spin_model.specs.declared.answer.Answer.TheVariants.{Value}
 use Rattle.spin_world_core.proofs.Facts.{LocalInvariant, AnswersWithin, InCall, NextIs, NextGives, StepIs, PointFacts, Facts}

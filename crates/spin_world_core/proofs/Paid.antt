@@ -1,4 +1,4 @@
--- An object that pays what its table owes shows all local facts.
+-- An object whose table shows what it must shows all local facts.
 use Rattle.spin_world_core.proofs.Names.{◌≡◌, ℕ, zero, suc, ◌+◌, ◌<◌, ◌≤◌, ◌==◌, Bool, true, false, not, is_some, Option, Some, None, List, [], ◌∷◌, ◌++◌, option_to_list, get_or, if◌then◌else◌, refl, ap, sym, ◌∙◌, subst, arith, and_parts, false≢true, true≢false, eqb-true, Plain, is_empty, Ask, Change, gets, completes, is_open, is_open_to, apply_some, IsOpenStep, entries, IsExclusive, bit, Hold, Next, Continue, Answers, Stepped, Move, Step, Weak, StepKind, plain, again, look, weak, is_again, by_step, Asked, encoded, is_step_of, BelongsTo, Said, own_steps, AnyOf, Mark, first_word, Limit, arrived, is_open_now, steps_alone, Way, way_of, is_due_by, LooksElse, Gets, mark_of, if_completed, entries_held, own, failures, changes, IsBeginning, RightAnswer, ContinuesWithin, number_at, Act, load, load_if, load_for, enter, exchange, weak_exchange, attempt, retry, store, section, swap, tried, guessed, either, stays, passing, becomes, retried, step_by, made_if, change_by, can_by, refusal_by, makes_by, look_kind, step_kind_by, Table, begin_of, machine_of, performed, placed, HasPhase, tries_of, goes_of, limit}
 use Rattle.spin_model.specs.declared.schedule.Outcome.TheVariants as outcome
 use Rattle.spin_world_core.proofs.Facts.{AnswersWithin, InCall, NextIs, NextGives, GoesOnOpen, ContinuesCounted, PointFacts, Facts}
@@ -361,7 +361,7 @@ module _ {W V C L A : Type 0} (t : Table W V C L A) (n : Notes t) (sound_all : (
         → is_due_by way p span ≡ true → is_open_to s p ask ≡ true → step ≡ Some (gets p ask)
     due_is act ask way step needs aim got is may = grind (arith, got (gets p ask))
 
-    -- and else it looks
+    -- and otherwise it looks
     looks_else : (act : Act W L A) (what : Asked) (ask : Ask) (way : Way) → what.waits ≡ true → Needs (need (Some ask) way (rests act) (peeks act)) p span → LooksElse way p span (by_step (step_kind_by what act))
     looks_else act what ask way waiting needs = grind arith
 

@@ -1,4 +1,4 @@
--- One event keeps all that is promised, of any object that shows its local facts.
+-- One event keeps all that is promised, for any object that shows its local facts.
 use Rattle.spin_world_core.proofs.Names.{slice_get_within, ◌≡◌, ℕ, ◌<◌, ◌≤◌, ◌==◌, Bool, true, false, Option, Some, None, List, [], ◌∷◌, ◌++◌, suc, if◌then◌else◌, is_some, slice_get, slice_set, refl, ap, sym, ◌∙◌, subst, arith, ne_eqb, true≢false, false≢true, Plain, Ask, Change, apply_some, IsOpenStep, Entries, entries, IsExclusive, entries-other, entries-own, exclusive-kept, Hold, Seat, Calling, Holding, Leaked, Next, Continue, Answers, Move, Begin, Step, Weak, Read, Write, Leak, Outcome, StepKind, is_again, is_weak, by_step, encoded, BelongsTo, Mark, Machine, State, skipped, seated, begun, goes_on, placed, resting, read_by, written_by, may_read, may_write, InItsCall, LeavesCalls, Seen, Scene, scene_at, scene_of, mark_of, own, own_count, failures, changes, if_completed, is_open_move, entries_of, entries_held, entries_so_far, StandsFor, is_reader, is_writer, MayTouch, MaySkip, is_in_place, ComesTo, IsWeakCall, StepLeaves, OwnSteps, asked, Keeps, IsRight, InTime, IsCounted, IsInTime, UndisturbedTakes, AnsweredSoon, Gets, GetsWhenDue, TriesOn, tries_of}
 use Rattle.spin_model.specs.declared.schedule.Outcome.TheVariants as outcome
 use Rattle.spin_model.specs.StepKinds as step_kind
@@ -133,7 +133,7 @@ module _ {W V C L A : Type 0} (m : Machine W V C L A) (k : LocalInvariant V C L)
           calls = calls;
         }
 
-    -- what is promised of a call's step, which no other event makes
+    -- what is promised of a step of a call, and of no other event
     pub record Aside (s : Scene W V C L A) : Type 0 where
       pub opens : IsOpenStep s.before.plain s.party s.change
       pub belongs : BelongsTo m.lock_kind s.change

@@ -1,4 +1,4 @@
--- What a party in a call knows of itself and of its span, and that its own steps and those of others keep it.
+-- What a party in a call knows of itself and of its span, and how its own steps and those of others keep it.
 use Rattle.spin_world_core.proofs.Names.{◌≡◌, ℕ, suc, ◌+◌, ◌≤◌, ◌⊎◌, ◌==◌, Bool, true, false, not, ◌&&◌, ◌||◌, is_some, Option, Some, None, List, [], ◌∷◌, ◌++◌, option_to_list, nat_lt, if◌then◌else◌, refl, ◌∙◌, arith, inl, inr, ⊎_elim, Plain, Ask, Change, gets, is_open, is_open_to, apply_some, IsOpenStep, entries, is_held, bit, entries-other, Hold, StepKind, is_again, is_look, LockKind, Asked, Said, grant, Mark, AnyOf, FindsClosed, first_word, Limit, within, within_changes, gets_within, changes_within, registers_after, mark_of, own, own_count, failures, changes, EndsWithin, ContinuesWithin, is_due, Way, by_looks, past_looks, way_of, MayTryOn, Act, load, load_if, load_for, attempt, retry, true≢false, Meaning, got, ap, list_any, grants, same_ask, goes_of}
 use Rattle.spin_world_core.proofs.Lists.{eqb_self}
 use Rattle.spin_world_core.proofs.Stands.{Stand, entries_at, stand_of}
@@ -46,7 +46,7 @@ MaySpend (changes_within n) t [] j k p kind span = nat_lt j k ≡ true
 MaySpend (registers_after n i) t cs j k p kind span = ContinuesWithin (registers_after n i) kind p span
 MaySpend _ t cs j k p kind span = Unit {0}
 
--- a try that has found its plain step closed goes on no more, and by a look alone only where it may
+-- a try that has found its plain step closed continues no longer; it continues by a look alone only if it may
 abbrev pub MayContinue : Option Ask → Branch → Option Change → ℕ → Plain → List Mark → Type 0 → Type 0
 MayContinue (Some ask) (misses c) step p s span Spend = ⊥
 MayContinue (Some ask) goes None p s span Spend = Spend × MayTryOn ask p span s
@@ -137,7 +137,7 @@ moment_of meaning.never p span opened is owed = owed
 moment_of (meaning.found test) p span opened is owed = owed
 moment_of (means steps right) p span opened is owed = owed
 
--- only a weak try may be refused without cause
+-- only a weak try may fail spuriously
 abbrev pub OwesUnless : Bool → Type 0 → Type 0
 OwesUnless true Owed = Unit {0}
 OwesUnless false Owed = Owed

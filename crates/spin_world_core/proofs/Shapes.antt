@@ -1,4 +1,4 @@
--- What the table of an object owes, point by point, and that its machine then shows all local facts.
+-- What the table of an object must show, point by point. Its machine then shows all local facts.
 use Rattle.spin_world_core.proofs.Names.{own_steps, tries_of, goes_of, ◌≡◌, ℕ, zero, suc, ◌≤◌, Bool, true, false, ◌||◌, ◌==◌, is_some, Option, Some, None, List, [], ◌∷◌, ◌++◌, option_to_list, Plain, Ask, Change, gets, apply, is_open, is_empty, apply_some, IsOpenStep, IsExclusive, Hold, Next, Continue, Answers, StepKind, plain, again, weak, by_step, Asked, encoded, BelongsTo, Mark, AnyOf, Limit, registers_after, arrived, steps_alone, opening_plain, mark_of, failures, changes, number_at, Act, load, load_if, load_for, enter, exchange, weak_exchange, attempt, retry, store, section, swap, tried, guessed, passing, place_of, step_by, makes_by, look_kind, Table, begin_of, machine_of, performed, limit}
 use Rattle.spin_world_core.proofs.Facts.{LocalInvariant}
 use Rattle.spin_world_core.proofs.Operating.{fits_act, CallsFit, OwnFits, Operates}
@@ -32,13 +32,13 @@ sure_by (store can operation step next) p = Some (step p)
 sure_by (section can f step won lost) p = Some (step p)
 sure_by _ p = None
 
--- and of a try also the one that it looks for
+-- for a try, also the plain step that it looks for
 abbrev pub aim_by : {W L A : Type 0} → Option Ask → Act W L A → ℕ → Option Change
 aim_by (Some ask) (load_for f step found missed) p = Some (step p)
 aim_by (Some ask) act p = makes_by act p
 aim_by None act p = sure_by act p
 
--- what a call gets next that tries, or goes for it without a look: its steps are for that and nothing else
+-- what the next plain step of a call gets, if the call tries, or goes for it without a look
 abbrev pub aim_of : Option Ask → Option Ask → List Change → Option Ask
 aim_of (Some ask) due [] = Some ask
 aim_of (Some ask) due (c ∷ cs) = None

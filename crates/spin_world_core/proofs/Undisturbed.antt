@@ -42,11 +42,11 @@ module _ {W V C L A : Type 0} (m : Machine W V C L A) where
     pub goes : GoesWithin steps w c h next
 
   module _ (w w' : W) (p : ℕ) (c : C) (l : L) (h : Option Hold) where
-    -- nothing has been taken at first
+    -- no step has been taken yet
     begun_by : AnswersWithin m (steps_alone (m.asks c h)) w c l h → Left w p c l h 0
     begun_by answers = record { steps = steps_alone (m.asks c h); few = omega arith; answers = answers }
 
-    -- a step of its own, which takes one of those that are left
+    -- a step of its own, which uses one of those left
     one_taken : (next : Next L A) (taken now k : ℕ) → taken + k ≤ steps_alone (m.asks c h) → now ≡ taken + 1 → AnswersWithin m k w c l h
         → ((j : ℕ) → AnswersWithin m (suc j) w c l h → GoesWithin j w' c h next) → LeftBy w' p c h next now
     one_taken next taken now zero few is answers steps = absurd answers
@@ -80,7 +80,7 @@ module _ {W V C L A : Type 0} (m : Machine W V C L A) where
   pub runs_fresh : (w : W) (p : ℕ) (c : C) (l : L) (h : Option Hold) → RunsOn w p [] (Some (Calling c l h))
   runs_fresh w p c l h = λ recent first older is may leaves. absurd (no_split recent older first is)
 
-  -- a call that goes on has a step left
+  -- a call that continues has a step left
   pub more_left : (w : W) (c : C) (l : L) (h : Option Hold) (taken k : ℕ) → taken + k ≤ steps_alone (m.asks c h) → AnswersWithin m k w c l h
       → taken < steps_alone (m.asks c h)
   more_left w c l h taken k few answers = grind arith

@@ -1,4 +1,5 @@
--- What a lock of seats is: how it opens, how many seats it has, and what each of its calls asks. Where a call begins follows from what it asks.
+-- What a lock of seats is: its first state, how many seats it has, and what each of its calls asks. What a call asks
+-- decides where it begins.
 use Rattle.std.specs.Prelude.{◌≡◌, ℕ, true, Option, Some, None, [], ◌∷◌}
 use Rattle.spin_step.specs.Plain.{to_read, fresh}
 use Rattle.spin_seats.specs.Seats.{seats}

@@ -57,7 +57,7 @@ draws_another =
 abbrev pub the_second : Entries
 the_second = (0, Begin (call.DrawThis 1)) ∷ (0, Step) ∷ []
 
--- its kind of lock takes numbers back
+-- its kind of lock has a call that returns a number
 abbrev with_return : Change → Bool
 with_return (releases p reading) = true
 with_return c = dispenser_plain_steps c

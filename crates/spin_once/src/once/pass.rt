@@ -1,4 +1,4 @@
-//! The calls of a [`Once`] by a thread that keeps account of them. Begin at [`Once::pass`].
+//! The calls of a [`Once`] by a thread that keeps track of them. Begin at [`Once::pass`].
 ghost use Rattle.std.specs.Prelude.{◌≡◌, ◌⊎◌, Some, None, Err, [], true, IfSome, IfOk, IfErr};
 ghost use mathlib.Core.List.{IsPrefix};
 ghost use Rattle.spin_core.specs.Own.{what};

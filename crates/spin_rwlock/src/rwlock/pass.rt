@@ -91,8 +91,8 @@ impl<T, R> RwLock<T, R> {
     /// A guard that is dropped releases the lock too, and ends its pass.
     ///
     /// # Contract
-    /// `seen` has to be what the pass knew with the guard (`WritesWith`). The call is in the history, as the pass's
-    /// next one (`made`).
+    /// `seen` has to be what the pass knew with the guard (`WritesWith`). The release is the next call of the pass in
+    /// the history (`made`).
     pub fn unlock<'a>(guard: RwLockWriteGuard<'a, T, R>, seen: Watch<Entry>) -> Pass<'a, T, R>
         requires { WritesWith guard seen }
         ensures made { Called Release Done (write_party guard.entry) seen.entries result.permit.view result.seen.entries }
@@ -238,8 +238,8 @@ impl<'a, T, R> Pass<'a, T, R> {
     /// Tries to acquire shared access as [`RwLock::try_read`] does. Fails with the pass.
     ///
     /// # Contract
-    /// The call is one `TryRead`, with the answer `Granted` and a guard (`granted`), or else `Refused` (`refused`).
-    /// Whether and when the call returns is not promised.
+    /// The call is one `TryRead`. Its answer is `Granted` with a guard (`granted`), else `Refused` (`refused`). Whether
+    /// and when the call returns is not promised.
     pub fn try_read<W: Wait>(
         self,
         rt: &W,
@@ -259,7 +259,7 @@ impl<'a, T, R> Pass<'a, T, R> {
     /// Tries to acquire upgradable shared access as [`RwLock::try_upgradeable_read`] does. Fails with the pass.
     ///
     /// # Contract
-    /// The call is one `TryUpgradeableRead`, with the answer `Granted` and a guard (`granted`), or else `Refused`
+    /// The call is one `TryUpgradeableRead`. Its answer is `Granted` with a guard (`granted`), else `Refused`
     /// (`refused`). Whether and when the call returns is not promised.
     pub fn try_upgradeable_read<W: Wait>(
         self,
@@ -281,8 +281,8 @@ impl<'a, T, R> Pass<'a, T, R> {
     /// the lock.
     ///
     /// # Contract
-    /// The call is one `TryWrite`, with the answer `Granted` and a guard (`granted`), or else `Refused`
-    /// (`refused`). The call returns.
+    /// The call is one `TryWrite`. Its answer is `Granted` with a guard (`granted`), else `Refused` (`refused`). The
+    /// call returns.
     ///
     /// # Examples
     /// ```

@@ -59,8 +59,8 @@ impl<'a, T, R> SharedGuard<'a, T, Upgrader, R> {
     /// Tries to become the writer, as [`try_upgrade`](Self::try_upgrade) does, in the call of a pass.
     ///
     /// # Contract
-    /// `seen` has to be what the pass knew with the guard (`ReadsWith`). The call is one `TryUpgrade`, with the answer
-    /// `Granted` and a writer's guard, or else `Refused`. The guard has the value that this one had.
+    /// `seen` has to be what the pass knew with the guard (`ReadsWith`). The call is one `TryUpgrade`. Its answer is
+    /// `Granted` with a writer's guard, else `Refused`. The guard has the value that this one had.
     pub fn try_upgrade_seen(
         self,
         seen: Watch<Entry>,

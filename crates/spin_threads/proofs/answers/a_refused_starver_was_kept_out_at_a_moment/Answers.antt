@@ -15,7 +15,7 @@ use Rattle.spin_world.proofs.FairOwed.{fair_keeping, fair_facts}
 use Rattle.spin_threads.proofs.Moments.{found}
 use Rattle.spin_threads.proofs.answers.a_refused_starver_was_kept_out_at_a_moment.Goals as goal
 
--- who tries so is registered as a starver
+-- a party that makes this try is registered as a starver
 starving : {T : Type 0} (opening : T) (c : FairCall) (p : ℕ) (l : FairPoint) (h : Option Hold) (seen : Seen ℕ T FairCall FairPoint) → (c ≡ StarverTryLock) ⊎ (c ≡ StarverTryLockFair)
     → InCall (model opening) (fair_keeping opening most_starvers patience) p c l h seen.plain seen.state.value seen.state.words (seen.span p) → is_starver p seen.plain.starvers ≡ true
 starving opening c p l h seen is call = grind (arith, is, call.knows, is_starving p seen.plain, is_starving_still p seen.plain)
