@@ -13,6 +13,7 @@ pub use Rattle.spin_rwlock.specs.Guards
 pub use Rattle.spin_rwlock.specs.RwPasses
 pub use Rattle.spin_once.specs.Lazy
 pub use Rattle.spin_once.specs.OncePasses
+pub use Rattle.spin_once.specs.OnceValues
 pub use Rattle.spin_once.specs.LazyPasses
 pub use Rattle.spin_core.specs.Retries
 pub use Rattle.spin_core.specs.Calls

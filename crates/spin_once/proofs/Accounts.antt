@@ -47,7 +47,9 @@ module _ {T S : Type 0} (makes : S → T → Type 0) (key : Key T S) where
   -- after any step it knows all again, by a watch of the same trace, and the value where it reads it
   pub keeps : (says : Says) (view view' : Option (Numbered View)) (before now : Watch (Valued T)) (key' : Key T S) (found : ℕ) → mark_of view ≡ length before.entries → key.opening.name ≡ before.name → key' ≡ key
       → Moved (Watches (Of before.name) before now (Told key.opening says view) found) view'
-      → (shown shown' : Option (MaybeStable (Stage T S))) → (use_of use_of_party view ≡ use_of use_of_party view' → Sees key.opening before.entries (use_of use_of_party view) shown) → Keeps (once_ways makes key) view view' shown shown' → Found (once_ways makes key) view view' shown shown' now
+      → (shown shown' : Option (MaybeStable (Stage T S)))
+      → (use_of use_of_party view ≡ use_of use_of_party view' → Sees key.opening before.entries (use_of use_of_party view) shown)
+      → Keeps (once_ways makes key) view view' shown shown' → Found (once_ways makes key) view view' shown shown' now
       → (key'.opening.name ≡ now.name) × (mark_of view' ≡ length now.entries) × Sees key'.opening now.entries (use_of use_of_party view') shown'
   keeps says view view' before now key' found knew named same moved shown shown' sees kept learnt =
       let told = marked view' (bared makes key says (Of before.name) view before now found view' moved) in (

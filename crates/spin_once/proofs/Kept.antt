@@ -85,16 +85,20 @@ module _ {T S : Type 0} (makes : S → T → Type 0) (key : Key T S) where
   abbrev Keeps : Option (Numbered View) → Option Content → (ℕ → ℕ) → Says → Type 0
   Keeps view shown f says = Traces (IsOnce key.opening) (once_ways makes key) view shown f (Told key.opening says view)
 
-  traces : (view : Option (Numbered View)) (shown : Option Content) (f : ℕ → ℕ) (leads : ℕ → View → Type 0) (says : Says) → Moves given (what view) f leads says → steps.Allowed makes key (what view) shown f leads
+  traces : (view : Option (Numbered View)) (shown : Option Content) (f : ℕ → ℕ) (leads : ℕ → View → Type 0) (says : Says)
+      → Moves given (what view) f leads says → steps.Allowed makes key (what view) shown f leads
       → Traces (Runs (model given) seat_of words_of Word name) (steps.way makes key, use_of_party, no_fact) view shown f (Tells (model given) seat_of words_of says view)
-  traces view shown f leads says moves allows = tie.traces (model given) seat_of words_of Word name Content (steps.way makes key) use_of_view no_fact view shown f leads says moves (λ own outs n u said t word p. tt) allows
+  traces view shown f leads says moves allows =
+      tie.traces (model given) seat_of words_of Word name Content (steps.way makes key) use_of_view no_fact view shown f leads says moves (λ own outs n u said t word p. tt) allows
 
   -- a step that writes nothing, by which a party begins a call or goes on with it
-  keeps : (view : Option (Numbered View)) (shown : Option Content) → use_of use_of_view (what view) ≢ writes → (f : ℕ → ℕ) → ((n : ℕ) → n ≡ 2 → f n ≡ 2) → (leads : ℕ → View → Type 0) (goes_on : Bool) (c : OnceCall (Unit {0})) (end : ℕ → Ending) (to : ℕ → View)
+  keeps : (view : Option (Numbered View)) (shown : Option Content) → use_of use_of_view (what view) ≢ writes → (f : ℕ → ℕ) → ((n : ℕ) → n ≡ 2 → f n ≡ 2)
+      → (leads : ℕ → View → Type 0) (goes_on : Bool) (c : OnceCall (Unit {0})) (end : ℕ → Ending) (to : ℕ → View)
       → Moves given (what view) f leads (step_by goes_on c end to) → steps.Allowed makes key (what view) shown f leads → Keeps view shown f (step_by goes_on c end to)
   keeps view shown ne f two leads goes_on c end to moves allows =
       let says : Says = step_by goes_on c end to in
-      valued makes key view shown f says says plainly (λ own outs n u said. said) (λ own outs n u said. lifts goes_on own outs (end n) said.1) (writes_none makes key view shown f says (λ e. ne (tie.same_use use_of_view view ∙ e)) two)
+      valued makes key view shown f says says plainly (λ own outs n u said. said) (λ own outs n u said. lifts goes_on own outs (end n) said.1)
+      (writes_none makes key view shown f says (λ e. ne (tie.same_use use_of_view view ∙ e)) two)
       (traces view shown f leads says moves allows)
     where
       lifts : (on : Bool) (own : List OneMove) (outs : List Ending) (o : Ending) → IsStep on c o own outs → bare_moves (plainly {T = T} own) ≡ own
@@ -125,7 +129,8 @@ module _ {T S : Type 0} (makes : S → T → Type 0) (key : Key T S) where
 
     pub begins : may_begin was ≡ true → (new : ℕ) → new ≡ 1 → ((s : Plain) (p : ℕ) → once_word s ≡ 0 → Decides s (gets p to_begin) once_word (Some new)) → Keeps view shown (λ n. either (n == 0) new n) (begins_by c)
     begins may new one decides =
-        keeps view shown (unused (unused_where_it_begins was may)) (λ n. either (n == 0) new n) (λ n two. rw two refl) (ComesTo was (begun c)) true c (tells GoingOn) (begun c) (rw one (begin_moves given was may)) (steps.begins makes key was shown c (unused_where_it_begins was may) new decides)
+        keeps view shown (unused (unused_where_it_begins was may)) (λ n. either (n == 0) new n) (λ n two. rw two refl) (ComesTo was (begun c)) true c (tells GoingOn) (begun c)
+        (rw one (begin_moves given was may)) (steps.begins makes key was shown c (unused_where_it_begins was may) new decides)
 
     pub looks : may_look was ≡ true → Keeps view shown (λ n. n) (looks_by c)
     looks may = looks_by_moves (unused (unused_where_it_looks was may)) true c (tells GoingOn) (looked c) (look_moves given was may) (steps.looks makes key was shown (looked c) (unused_where_it_looks was may) (looked_leads c))
@@ -159,7 +164,8 @@ module _ {T S : Type 0} (makes : S → T → Type 0) (key : Key T S) where
       → Keeps (Some v) (Some (maybe_stable (Done value))) (λ _. new) (ends_by (call_of (Some v.0)))
   ends v runs new value two gives is_made =
       let c = call_of (Some v.0) in let shown : Option Content = Some (maybe_stable (Done value)) in
-      valued makes key (Some v) shown (λ _. new) (at_one (ends_by c)) (ends_by c) (λ own. Write value ∷ []) (λ own outs n u said. said.0) (λ own outs n u said. sym said.0.1.0) puts
+      valued makes key (Some v) shown (λ _. new) (at_one (ends_by c)) (ends_by c) (λ own. Write value ∷ [])
+      (λ own outs n u said. said.0) (λ own outs n u said. sym said.0.1.0) puts
       (traces (Some v) shown (λ _. new) (AtOne Reading) (at_one (ends_by c)) (rw two (end_moves given v.0 runs))
       (subst (λ x. steps.Allowed makes key (Some x) shown (λ _. new) (AtOne Reading)) (sym (call_that_runs v.0 runs)) (steps.ends makes key c new value gives is_made)))
     where
@@ -172,7 +178,8 @@ module _ {T S : Type 0} (makes : S → T → Type 0) (key : Key T S) where
       → Keeps (Some v) (Some (maybe_stable (Seed it))) (λ _. new) fails_by
   gives_up v runs new it zero_is gives same =
       let shown : Option Content = Some (maybe_stable (Seed it)) in
-      valued makes key (Some v) shown (λ _. new) (at_one fails_by) fails_by plainly (λ own outs n u said. said.0) (λ own outs n u said. ap (λ l. bare_moves (plainly {T = T} l)) said.0.1.0 ∙ sym said.0.1.0) leaves
+      valued makes key (Some v) shown (λ _. new) (at_one fails_by) fails_by plainly
+      (λ own outs n u said. said.0) (λ own outs n u said. ap (λ l. bare_moves (plainly {T = T} l)) said.0.1.0 ∙ sym said.0.1.0) leaves
       (traces (Some v) shown (λ _. new) (AtOne Idle) (at_one fails_by) (rw (zero_is, runs) (fail_moves given)) (rw runs (steps.gives_up makes key (call_of (Some (running true))) new it gives same)))
     where
       leaves : Leaving makes key (Some v) (Some (maybe_stable (Seed it))) (λ _. new) (at_one fails_by) fails_by plainly
@@ -181,7 +188,8 @@ module _ {T S : Type 0} (makes : S → T → Type 0) (key : Key T S) where
           rw (none, own_is, ap use_of_view runs, ap use_of_view u_is) ((λ other. refl, omega arith), tt)
 
   -- ---- a new cell
-  pub starts : (t : Trace (Valued T) (Unit {0})) → t.name ≡ name → t.entries ≡ [] → (it : S) → key.opening.value ≡ Seed it → it ≡ key.seed.value → Opens (IsOnce key.opening) (once_ways makes key) 0 t (maybe_stable (Seed it))
+  pub starts : (t : Trace (Valued T) (Unit {0})) → t.name ≡ name → t.entries ≡ [] → (it : S) → key.opening.value ≡ Seed it → it ≡ key.seed.value
+      → Opens (IsOnce key.opening) (once_ways makes key) 0 t (maybe_stable (Seed it))
   starts t named empty it is same =
       let met = tie.opens (model given) seat_of words_of Word name Content (steps.way makes key) use_of_view no_fact 0 (bare_trace t) named (ap bare empty) (rw is refl) (steps.meets makes key 0 tt [] (refl, refl) refl) in
       let few : AtMostOne 0 (made key.opening.value t.entries) = rw (is, empty) (λ other. refl, omega arith) in ([], tt, ((met.0, few), met.1), (tt, same))
@@ -192,7 +200,8 @@ module _ {T S : Type 0} (makes : S → T → Type 0) (key : Key T S) where
   one_more : (more : ℕ) → 1 + more ≡ suc more
   one_more more = omega arith
 
-  pub starts_made : (t : Trace (Valued T) (Unit {0})) → t.name ≡ name → t.entries ≡ [] → (value : T) → key.opening.value ≡ Done value → makes key.seed.value value → Opens (IsOnce key.opening) (once_ways makes key) 2 t (maybe_stable (Done value))
+  pub starts_made : (t : Trace (Valued T) (Unit {0})) → t.name ≡ name → t.entries ≡ [] → (value : T) → key.opening.value ≡ Done value → makes key.seed.value value
+      → Opens (IsOnce key.opening) (once_ways makes key) 2 t (maybe_stable (Done value))
   starts_made t named empty value is is_made =
       let reader : Numbered View = (Reading, 0, 0) in let met = steps.meets makes key 2 tt (Reading ∷ []) (omega arith, refl) refl in
       let runs : IsRun (model (Some tt)) seat_of words_of [] (2, tt) (reader ∷ []) = (Some (Reading, 0) ∷ [], 2, Some tt, refl, refl, (λ more. ap idle_state (one_more more)), (λ more. refl), (((omega arith), refl), λ q le. refl)) in

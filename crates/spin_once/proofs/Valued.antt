@@ -1,4 +1,5 @@
--- A step that is moves of the model, in the history that has the value: it appends these moves, the last step of a call whose closure gave a value as a write of it, and keeps what is known of the value.
+-- A step that is moves of the model, in the history that has the value. The last step of a call whose closure gave a value is a write of it there.
+-- It keeps what is known of the value.
 use Rattle.std.proofs.Common.{◌≡◌, ◌≢◌, ℕ, suc, ◌≤◌, Bool, true, false, Option, Some, None, is_some, List, [], ◌∷◌, ◌++◌, map, length, refl, sym, ap, ◌∙◌, subst, arith}
 use Rattle.std.proofs.lemmas.List.{append_assoc, append-nil, map-append}
 use mathlib.Core.List.{IsPrefix}
@@ -79,12 +80,15 @@ module _ {T : Type 0} where
   only v (x ∷ xs) few = absurd (omega (arith, few))
 
 -- two histories, of which one goes on from the other, have the same value
-pub agree : {T S : Type 0} (opening : Opening (Stage T S)) (old new : List (Valued T)) (x y : T) → opening.told ≡ true → IsPrefix old new → IsValue opening old x → IsValue opening new y → x ≡ y
+pub agree : {T S : Type 0} (opening : Opening (Stage T S)) (old new : List (Valued T)) (x y : T)
+    → opening.told ≡ true → IsPrefix old new → IsValue opening old x → IsValue opening new y → x ≡ y
 agree opening old new x y told more is is' =
-    let longer : y ∷ [] ≡ x ∷ values more.0 = sym (is' told) ∙ ap (made opening.value) (sym more.1) ∙ made-append opening.value old more.0 ∙ ap (λ l. l ++ values more.0) (is told) in sym (cc (longer))
+    let longer : y ∷ [] ≡ x ∷ values more.0 =
+    sym (is' told) ∙ ap (made opening.value) (sym more.1) ∙ made-append opening.value old more.0 ∙ ap (λ l. l ++ values more.0) (is told) in sym (cc (longer))
 
 -- where nobody wrote before
-pub carries_on : {X : Type 0} (φ ψ : X → Type 0) (u u' : Use) (shown : Option X) → u ≢ writes → ((x : X) → φ x → ψ x) → Carries φ ψ u u' shown
+pub carries_on : {X : Type 0} (φ ψ : X → Type 0) (u u' : Use) (shown : Option X) → u ≢ writes
+    → ((x : X) → φ x → ψ x) → Carries φ ψ u u' shown
 carries_on φ ψ off u' shown ne on = on
 carries_on φ ψ reads u' shown ne on = on
 carries_on φ ψ writes u' shown ne on = absurd (ne refl)
@@ -117,8 +121,10 @@ module _ {T S : Type 0} (makes : S → T → Type 0) (key : Key T S) where
     Leaving = Each (λ own n u. (vs : List T) → AtMostOne n vs
         → AtMostOne (f n) (vs ++ values_of (put own)) × Carries (Is vs) (Is (vs ++ values_of (put own))) (use_of use_of_party view) (use_of_view u) shown)
 
-    pub valued : ((own : List OneMove) (outs : List Ending) (n : ℕ) (u : View) → exact own outs n u → says own outs n u) → Each (λ own n u. bare_moves (put own) ≡ own) → Leaving
-        → Traces Bare (way, use_of_party, no_fact) view shown f (Tells (model (given_of first)) seat_of words_of exact view) → Traces (IsOnce key.opening) (once_ways makes key) view shown f (Told key.opening says view)
+    pub valued : ((own : List OneMove) (outs : List Ending) (n : ℕ) (u : View) → exact own outs n u → says own outs n u)
+        → Each (λ own n u. bare_moves (put own) ≡ own) → Leaving
+        → Traces Bare (way, use_of_party, no_fact) view shown f (Tells (model (given_of first)) seat_of words_of exact view)
+        → Traces (IsOnce key.opening) (once_ways makes key) view shown f (Told key.opening says view)
     valued less lifts leaves traces id n t vs meets at small =
         let (w, es, going, (own, outs, is, mark, none, mine, said)) = traces id n (bare_trace t) vs (meets.0.0, meets.1) at small in
         let es' : List (Valued T) = by_party w.1 (put own) in let had : List T = made first t.entries in let m = model (given_of first) in
@@ -128,7 +134,9 @@ module _ {T S : Type 0} (makes : S → T → Type 0) (key : Key T S) where
         let left = leaves own outs n w.0 said had meets.0.1 in let us : List (Numbered View) = views_after id view vs w in
         let few : AtMostOne (f n) (made first (t.entries ++ es')) = subst (AtMostOne (f n)) (sym now) left.0 in
         let owed = subst (λ l. Carries (Is had) (Is l) (use_of use_of_party view) (use_of_party w) shown) (sym now) left.1 in
-        let Kept : Type 0 = Carrying (once_ways makes key).2 t (grown t es') (use_of use_of_party view) (use_of_party w) shown (Meets (IsOnce key.opening) (once_ways makes key) (f n) (grown t es') us) in
+        let Kept : Type 0 =
+        Carrying (once_ways makes key).2 t (grown t es') (use_of use_of_party view) (use_of_party w) shown
+        (Meets (IsOnce key.opening) (once_ways makes key) (f n) (grown t es') us) in
         let keeps : Meets Bare (way, use_of_party, no_fact) (f n) (grown (bare_trace t) es) us → Kept = λ met.
         (owed, (((met.0.0, met.0.1, subst (λ l. IsRun m seat_of words_of l (f n, t.word) us) (sym whole) met.0.2), few), met.1)) in (
           w,
@@ -138,7 +146,8 @@ module _ {T S : Type 0} (makes : S → T → Type 0) (key : Key T S) where
         )
 
   -- moves that write nothing, of a party that does not write
-  pub writes_none : (view : Option (Numbered View)) (shown : Option Content) (f : ℕ → ℕ) (says : Says) → use_of use_of_party view ≢ writes → ((n : ℕ) → n ≡ 2 → f n ≡ 2) → Leaving view shown f says says plainly
+  pub writes_none : (view : Option (Numbered View)) (shown : Option Content) (f : ℕ → ℕ) (says : Says)
+      → use_of use_of_party view ≢ writes → ((n : ℕ) → n ≡ 2 → f n ≡ 2) → Leaving view shown f says says plainly
   writes_none view shown f says ne two own outs n u said vs few =
       let none : vs ++ values_of (plainly own) ≡ vs = ap (λ l. vs ++ l) (none_written own) ∙ append-nil vs in
       subst (λ l. AtMostOne (f n) l × Carries (Is vs) (Is l) (use_of use_of_party view) (use_of_view u) shown) (sym none)
@@ -151,7 +160,8 @@ module _ {T S : Type 0} (makes : S → T → Type 0) (key : Key T S) where
 
     pub bared : (view' : Option (Numbered View)) → Moved (Watches named before now (Told key.opening says view) n) view' → Bared view'
     bared None moved = absurd moved
-    bared (Some v) (same, (log, es, known, is, (tells, few))) = (same, (bare log, bare es, (bare known.0, sym (bare_append before.entries known.0) ∙ ap bare known.1), ap bare is ∙ bare_append log es, tells))
+    bared (Some v) (same, (log, es, known, is, (tells, few))) =
+        (same, (bare log, bare es, (bare known.0, sym (bare_append before.entries known.0) ∙ ap bare known.1), ap bare is ∙ bare_append log es, tells))
 
     abbrev Grows : Type 0
     Grows = (more : List (Valued T)) × (now.entries ≡ before.entries ++ more) × (length (made first now.entries) ≤ 1)
@@ -162,9 +172,11 @@ module _ {T S : Type 0} (makes : S → T → Type 0) (key : Key T S) where
         (known.0 ++ es, is ∙ ap (λ l. l ++ es) (sym known.1) ∙ append_assoc before.entries known.0 es, subst (λ l. length (made first l) ≤ 1) (sym is) few)
 
     -- a value that was the only one is the only one still
-    pub stays : (view' : Option (Numbered View)) → Moved (Watches named before now (Told key.opening says view) n) view' → (v : T) → IsValue key.opening before.entries v → IsValue key.opening now.entries v
+    pub stays : (view' : Option (Numbered View)) → Moved (Watches named before now (Told key.opening says view) n) view'
+        → (v : T) → IsValue key.opening before.entries v → IsValue key.opening now.entries v
     stays view' moved v so is_told =
-        let g = grows view' moved in let one : made first now.entries ≡ v ∷ values g.0 = ap (made first) g.1 ∙ made-append first before.entries g.0 ∙ ap (λ l. l ++ values g.0) (so is_told) in
+        let g = grows view' moved in
+        let one : made first now.entries ≡ v ∷ values g.0 = ap (made first) g.1 ∙ made-append first before.entries g.0 ∙ ap (λ l. l ++ values g.0) (so is_told) in
         one ∙ only v (values g.0) (subst (λ l. length l ≤ 1) one g.2)
 
   -- what a party is shown where it uses the value after a step: what it was shown, if it used it so before, and else what it finds
@@ -177,16 +189,21 @@ module _ {T S : Type 0} (makes : S → T → Type 0) (key : Key T S) where
     same_value None after is same = absurd (let d : false ≡ true = is in cc)
     same_value (Some x) after is same = sym same
 
-    kept_on : (u : Use) (before after : Option Content) → Sees key.opening old u before → uses u ≡ true → SameValue before after → (v : T) → after ≡ Some (maybe_stable (Done v)) → IsValue key.opening new v
+    kept_on : (u : Use) (before after : Option Content) → Sees key.opening old u before → uses u ≡ true → SameValue before after
+        → (v : T) → after ≡ Some (maybe_stable (Done v)) → IsValue key.opening new v
     kept_on u before after had used same v is = let h = had used in stays_on v (h.1 v (same_value before after h.0 same ∙ is))
 
-    found_by : (u u' : Use) (before after : Option Content) → ((φ : Content → Type 0) (x : Content) → Learns φ u u' before (Some x) → φ x) → Learnt {S = Unit {0}} (once_ways makes key).2 u u' before after new
-        → (v : T) → after ≡ Some (maybe_stable (Done v)) → IsValue key.opening new v
+    abbrev Learning : Use → Use → Option Content → Option Content → Type 0
+    Learning u u' before after = Learnt {S = Unit {0}} (once_ways makes key).2 u u' before after new
+
+    found_by : (u u' : Use) (before after : Option Content) → ((φ : Content → Type 0) (x : Content) → Learns φ u u' before (Some x) → φ x)
+        → Learning u u' before after → (v : T) → after ≡ Some (maybe_stable (Done v)) → IsValue key.opening new v
     found_by u u' before after says learnt v is =
-        let l = subst (λ o. Learnt {S = Unit {0}} (once_ways makes key).2 u u' before o new) is learnt in
+        let l = subst (Learning u u' before) is learnt in
         subst (λ vs. IsMade {S = S} told vs (Done v)) (ap (made first) l.1) (says (λ x. Is (made first l.0.entries) x) (maybe_stable (Done v)) l.2)
 
-    pub sees_on : (u u' : Use) (before after : Option Content) → (u ≡ u' → Sees key.opening old u before) → Shows u' before after → Learnt {S = Unit {0}} (once_ways makes key).2 u u' before after new → Sees key.opening new u' after
+    pub sees_on : (u u' : Use) (before after : Option Content) → (u ≡ u' → Sees key.opening old u before) → Shows u' before after
+        → Learning u u' before after → Sees key.opening new u' after
     sees_on u off before after had shows learnt used = absurd (let d : false ≡ true = used in cc)
     sees_on reads reads before after had shows learnt used = (some_is before after shows, kept_on reads before after (had refl) refl shows)
     sees_on writes writes before after had shows learnt used = (some_is before after shows, kept_on writes before after (had refl) refl shows)

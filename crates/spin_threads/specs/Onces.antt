@@ -12,7 +12,7 @@ use Rattle.spin_model.specs.declared.once.OnceCall.{OnceCall}
 use Rattle.spin_model.specs.Once.{once_machine}
 use Rattle.spin_once.specs.Foretold.{foretold}
 use Rattle.spin_once.specs.Model.{model}
-use Rattle.spin_once.specs.Once.{Made}
+use Rattle.spin_once.specs.OnceValues.{Made}
 use Rattle.spin_once.specs.declared.once_core.rule.View.{View}
 use Rattle.spin_threads.specs.Moments.{AtAMoment, AsAnswered}
 

@@ -1,6 +1,5 @@
-//! One law for each lock. Each is the contract of a function that does nothing. A caller calls it to learn what it
-//! states.
-ghost use Rattle.std.specs.Prelude.{ℕ, List, Option};
+//! One law for each lock. Each is the contract of a function that does nothing: a caller calls it for what it states.
+ghost use Rattle.std.specs.Prelude.{ℕ, List};
 ghost use Rattle.spin_core.specs.Own.{Numbered};
 ghost use Rattle.spin_core.specs.declared.tie.Opening.{Opening};
 ghost use Rattle.spin_core.specs.declared.trace.Trace.{Trace};
@@ -11,6 +10,8 @@ ghost use Rattle.spin_flag.specs.declared.spin.rule.View.{View as SpinMutexView}
 ghost use Rattle.spin_model.specs.Once.{once_machine};
 ghost use Rattle.spin_once.specs.Foretold.{foretold, place_of};
 ghost use Rattle.spin_once.specs.Once as once;
+ghost use Rattle.spin_once.specs.OnceValues as once_values;
+ghost use Rattle.spin_once.specs.declared.once_core.rule.Stage.{Stage as OnceStage};
 ghost use Rattle.spin_once.specs.declared.once_core.rule.View.{View as OnceView};
 ghost use Rattle.spin_rwlock.specs.Rw as rwlock;
 ghost use Rattle.spin_rwlock.specs.declared.rwlock.rule.View.{View as RwLockView};
@@ -70,8 +71,8 @@ pub fn between_any_two_steps_of_a_rwlock()
 /// the plain lock what its type says.
 ///
 /// # Contract
-/// `Between`, for the object's schedule that corresponds to the moves kept by the cell (`foretold`), with the cell's
-/// word and parties. `given` is the cell's opening value, if it has one.
-pub fn between_any_two_steps_of_a_once()
-    ensures { (given : Option (Unit {0})) (name word : ℕ) (trace : Trace once.Made (Unit {0})) (parties : List (Numbered OnceView)) → once.IsOnce given name word trace parties → Between (once_machine given) place_of once.words_of (foretold trace.entries) (word, trace.word) parties }
+/// `Between`, of the schedule of the object that the moves are which the cell keeps (`bare`, `foretold`), with the cell's
+/// word and parties. `opening` says whether the cell was made with a value.
+pub fn between_any_two_steps_of_a_once<T, S>()
+    ensures { (opening : Opening (OnceStage T S)) (word : ℕ) (trace : Trace (once_values.Valued T) (Unit {0})) (parties : List (Numbered OnceView)) → once.IsOnce opening word trace parties → Between (once_machine (once_values.given_of opening.value)) place_of once.words_of (foretold (once_values.bare trace.entries)) (word, trace.word) parties }
 {}

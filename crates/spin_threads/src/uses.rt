@@ -79,9 +79,9 @@ pub fn count_the_readers<T, R>(pass: RwPass<'_, T, R>) -> (usize, RwPass<'_, T, 
 
 /// Asks once whether a `Once` has a value.
 pub fn look_at_a_once<T, R>(pass: OncePass<'_, T, R>) -> (bool, OncePass<'_, T, R>)
-    ensures { AtAMoment (once_machine (once_passes.given_of pass.entry)) once.IsCompleted (once_passes.party result.1)
-        (foretold_till (once_passes.history pass.entry) (once_passes.history result.1))
-        (foretold (once_passes.history result.1)) (Was has_value result.0) }
+    ensures { AtAMoment (once_machine (once_passes.given pass.entry)) once.IsCompleted (once_passes.party result.1)
+        (foretold_till (once_passes.schedule pass.entry) (once_passes.schedule result.1))
+        (foretold (once_passes.schedule result.1)) (Was has_value result.0) }
 {
     a_look_at_a_once_was_so_at_a_moment();
     let (there, pass) = pass.is_completed();
