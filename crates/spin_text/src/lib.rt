@@ -11,6 +11,7 @@ mod laws;
 mod numbers;
 mod objects;
 mod piece;
+pub mod program;
 mod put;
 mod text;
 mod transcript;
