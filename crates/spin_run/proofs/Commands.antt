@@ -2,8 +2,10 @@
 use Rattle.std.proofs.Common.{◌≡◌, ℕ, ◌≤◌, Bool, true, false, not, Option, Result, Ok, Err, IfErr, List, [], ◌∷◌, length, get_or, arith, ap, inl, inr, Bor, codes}
 use Rattle.std.specs.Str.{bytes_eq}
 use Rattle.std.proofs.lemmas.Slice.Eq.{bytes_eq-Decides}
+use Rattle.spin_text.specs.Failures.{Told}
+use Rattle.spin_text.specs.Lines.{texts_of}
 use Rattle.spin_text.specs.Numbers.{IsNumber}
-use Rattle.spin_run.specs.Command.{AsksCount, AsksWorld, AsksNothing, Tells, texts_of, usage_line}
+use Rattle.spin_run.specs.Command.{AsksCount, AsksWorld, AsksNothing, usage_line}
 use Rattle.spin_text.specs.Texts.{Streams}
 use Rattle.spin_run.specs.declared.run.faults.Fault.{Fault}
 use Rattle.spin_run.specs.declared.run.faults.Fault.TheVariants.{Usage, Refused, Memory, Read, BadLine, Write}
@@ -40,8 +42,8 @@ count_stops words workers times Unread Unwritten t (Err (BadLine n)) asks unread
 count_stops words workers times Unread Unwritten t (Err Write) asks unread stops = inl (unread, stops.0, (workers, times, asks, stops.1))
 
 -- the usage is the answer to a command line that asks for nothing
-pub told_usage : (words : List (List ℕ)) (Unread Unwritten : Type 0) (t : Streams) (failed : Bool) (old new : Option (List ℕ)) (f : Fault) (status : ℕ) → Stops words Unread Unwritten t f → status ≡ status_of f → Tells failed old new (line_of f)
-    → AsksNothing words → (status ≡ 2) × Tells failed old new usage_line
+pub told_usage : (words : List (List ℕ)) (Unread Unwritten : Type 0) (t : Streams) (failed : Bool) (old new : Option (List ℕ)) (f : Fault) (status : ℕ) → Stops words Unread Unwritten t f → status ≡ status_of f → Told failed old new (line_of f)
+    → AsksNothing words → (status ≡ 2) × Told failed old new usage_line
 told_usage words Unread Unwritten t failed old new Usage status stops is told none = (is, told)
 told_usage words Unread Unwritten t failed old new Refused status stops is told none = absurd (none.0 stops.0.0 stops.0.1 stops.0.2)
 told_usage words Unread Unwritten t failed old new Memory status stops is told none =

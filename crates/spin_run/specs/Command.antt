@@ -1,14 +1,8 @@
 -- What the words of the command line ask for, and what the program writes.
-use Rattle.std.specs.Prelude.{◌≡◌, ℕ, ◌*◌, ◌≤◌, ◌++◌, ◌⊎◌, List, [], ◌∷◌, Bool, false, MatchBool, Option, map, codes, decimal}
-use Rattle.std.specs.Borrow.{Bor}
+use Rattle.std.specs.Prelude.{◌≡◌, ℕ, ◌*◌, ◌≤◌, ◌++◌, ◌⊎◌, List, [], ◌∷◌, false, codes, decimal}
 use Rattle.std.specs.Io.KnownBytes.{Appends}
-use Rattle.spin_text.specs.Ends.{AppendsBeginning}
 use Rattle.spin_text.specs.Numbers.{IsNumber}
 use Rattle.spin_text.specs.Texts.{Streams, Plays}
-
--- the texts of the words
-abbrev pub texts_of : List (Bor (List ℕ)) → List (List ℕ)
-texts_of words = map (λ w. w.now) words
 
 -- the words are `count WORKERS TIMES`, with numbers within the limits of the program
 abbrev pub AsksCount : List (List ℕ) → ℕ → ℕ → Type 0
@@ -58,7 +52,3 @@ refused_line = codes "count refused\n"
 
 abbrev pub bad_line : ℕ → List ℕ
 bad_line n = codes "bad line " ++ decimal n ++ codes "\n"
-
--- a line was written whole, or a beginning of it if the sink failed
-abbrev pub Tells : Bool → Option (List ℕ) → Option (List ℕ) → List ℕ → Type 0
-Tells failed old new line = MatchBool failed (AppendsBeginning old new line) (Appends old new line)

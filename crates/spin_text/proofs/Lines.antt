@@ -56,8 +56,9 @@ pub all_in_front : {X : Type 0} → (xs : List X) (k : ℕ) → drop k xs ≡ []
 all_in_front xs k none = sym (append-nil (take k xs)) ∙ ap (λ l. take k xs ++ l) (sym none) ∙ take-append-drop k xs
 
 -- the first k moves of a schedule were played
-abbrev pub Told : {W C L : Type 0} → Machine W ℕ C L (Answer ℕ) → State W ℕ C L → State W ℕ C L → List (Option ℕ) → List (ℕ × Move C ℕ) → ℕ → Type 0
-Told m from now begins schedule k = Played m from now begins (with_begins [] (events_of m from (take k schedule))) (take k schedule)
+abbrev pub PlayedFirst : {W C L : Type 0} → Machine W ℕ C L (Answer ℕ) → State W ℕ C L → State W ℕ C L → List (Option ℕ)
+    → List (ℕ × Move C ℕ) → ℕ → Type 0
+PlayedFirst m from now begins schedule k = Played m from now begins (with_begins [] (events_of m from (take k schedule))) (take k schedule)
 
 has_line : (place : ℕ) (began : Option ℕ) → IsBelow place began → place < 2 ^ 64 → HasLine began
 has_line place None below fits = tt
@@ -75,7 +76,7 @@ tells_line began outcome.Leaked has = tt
 -- an answer has a line at which its call began
 pub told_line : {W C L : Type 0} (m : Machine W ℕ C L (Answer ℕ)) (from now : State W ℕ C L) (begins : List (Option ℕ))
     (schedule rest : List (ℕ × Move C ℕ)) (k : ℕ) (entry : ℕ × Move C ℕ) (o o' : Outcome (Answer ℕ) ℕ)
-    → Told m from now begins schedule k → drop k schedule ≡ entry ∷ rest → k < 2 ^ 64 → o' ≡ with_begin (begin_of begins entry.0) o → TellsLine o'
+    → PlayedFirst m from now begins schedule k → drop k schedule ≡ entry ∷ rest → k < 2 ^ 64 → o' ≡ with_begin (begin_of begins entry.0) o → TellsLine o'
 told_line m from now begins schedule rest k entry o o' told left fits is =
     let p = entry.0 in
     let lt = (first_left schedule k entry rest left).0 in
@@ -93,10 +94,10 @@ length-with_begins before (e ∷ es) = ap suc (length-with_begins (before ++ e �
 pub told_next : {O W C L : Type 0} (machine : O → Machine W ℕ C L (Answer ℕ)) (object held : O) (from now next : State W ℕ C L)
     (begins begins' : List (Option ℕ)) (schedule rest : List (ℕ × Move C ℕ)) (k : ℕ)
     (entry : ℕ × Move C ℕ) (o o' : Outcome (Answer ℕ) ℕ) (words : W) (numbers : List ℕ)
-    → held ≡ object → Told (machine object) from now begins schedule k → drop k schedule ≡ entry ∷ rest
+    → held ≡ object → PlayedFirst (machine object) from now begins schedule k → drop k schedule ≡ entry ∷ rest
     → (let h : Happened W ℕ C L (Answer ℕ) = record { outcome = o; next = next } in h ≡ happens (machine held) now entry.0 entry.1) → words ≡ next.words → (machine object).numbers words ≡ numbers
     → o' ≡ with_begin (begin_of begins entry.0) o → begins' ≡ begins_after begins entry.0 k o
-    → Told (machine object) from next begins' schedule (k + 1) × (drop (k + 1) schedule ≡ rest)
+    → PlayedFirst (machine object) from next begins' schedule (k + 1) × (drop (k + 1) schedule ≡ rest)
     × (schedule_lines (machine object) from (take (k + 1) schedule)
     ≡ schedule_lines (machine object) from (take k schedule) ++ event_line (k + 1) entry.0 o' numbers)
 told_next {W = W} machine object held from now next begins begins' schedule rest k entry o o' words numbers same told left acted is_words is_numbers told_o put =

@@ -1,5 +1,5 @@
 -- A whole text is read as it is spelled. So it has one reading, and its first bad line is where reading stops.
-use Rattle.std.proofs.Common.{◌≡◌, ℕ, suc, Bool, true, false, ◌<◌, Result, OnOk, IfErr, ◌+◌, ◌-◌, Option, Some, None, List, [], ◌∷◌, ◌++◌, length, map, take, arith, refl, sym, ◌∙◌, ap, subst, length-append, append_assoc, append-nil}
+use Rattle.std.proofs.Common.{◌≡◌, ℕ, suc, Bool, true, false, Result, OnOk, IfErr, ◌+◌, ◌-◌, Option, Some, None, IsSome, List, [], ◌∷◌, ◌++◌, length, map, take, arith, refl, sym, ◌∙◌, ap, subst, length-append, append_assoc, append-nil}
 use Rattle.std.specs.List.{cons_option}
 use Rattle.std.proofs.lemmas.List.{length-map, map-append}
 use Rattle.spin_model.specs.declared.answer.Answer.{Answer}
@@ -9,11 +9,11 @@ use Rattle.spin_text.specs.declared.header.Header.{Header}
 use Rattle.spin_text.specs.declared.text.RunError.{RunError}
 use Rattle.spin_text.specs.declared.text.RunError.TheVariants as errors
 use Rattle.spin_text.specs.Ends.{AppendsSome, AppendsSomeBeginning}
-use Rattle.spin_text.specs.Lines.{words_by_line, header_line, entry_lines}
+use Rattle.spin_text.specs.Lines.{words_by_line}
 use Rattle.spin_text.specs.Spelling.{Calls, entry_words, EntryFits, EntriesFit}
 use Rattle.spin_text.specs.Objects.{CallOf, calls_of, header_words, HeaderFits}
 use Rattle.spin_text.specs.Reading.{◌>>=◌, read_entry, entries_in, read_header}
-use Rattle.spin_text.specs.Readable.{ReadsCalls, AllSpell, StopsEntries}
+use Rattle.spin_text.specs.Readable.{ReadsCalls, AllSpell, AllRead, StopsEntries}
 use Rattle.spin_text.specs.Transcripts.{transcript_text}
 use Rattle.spin_text.specs.Texts.{Script, script_words, ScriptFits, Spells, AreOfScript, IsFirstBad, played, PlaysBytes, PlaysLines, StopsPlaying, StopsWriting, ReadsAll, Streams, Plays, Stops}
 use Rattle.spin_text.proofs.Options.{some_is, on_ok, if_err}
@@ -74,6 +74,11 @@ module _ {C : Type 0} (calls : Calls C) (read : List (List ℕ) → Option C) (r
       ap (λ o. cons_option o (entries_in read (map (entry_words calls) es))) (entry_again calls read reads e fits.0)
       ∙ ap (λ l. e ∷ l) (entries_found es fits.1)
 
+  -- and each line is read
+  pub all_read : (es : List (ℕ × Move C ℕ)) → EntriesFit calls es → AllRead read (map (entry_words calls) es)
+  all_read [] fits = tt
+  all_read (e ∷ es) fits = (subst IsSome (sym (entry_again calls read reads e fits.0)) refl, all_read es fits.1)
+
   pub checked_next : (n : ℕ) (e : ℕ × Move C ℕ) (line : List (List ℕ)) (left further all : List (List (List ℕ))) → Checked calls left all n
       → left ≡ line ∷ further → read_entry read line ≡ Some e → Checked calls further all (n + 1)
   checked_next n e line left further all so_far next found =
@@ -114,18 +119,13 @@ header_stops : (line : List (List ℕ)) → read_header line ≡ None → read_s
 unfolding read_script
 header_stops line none = ap (λ o. o >>= λ h. (read_entries (read_of h) [] >>= λ es. Some (record { header = h; entries = es }))) none
 
-bad_first : (lines : List (List (List ℕ))) → 0 < length lines → None ≡ read_header (header_line lines) → IsFirstBad lines 1
-bad_first [] there none = absurd (omega (arith, there))
-bad_first (line ∷ more) there none =
-    record {
+pub bad_header : (line : List (List ℕ)) (all more : List (List (List ℕ))) → all ≡ line ∷ more → None ≡ read_header line → IsFirstBad all 1
+bad_header line all more is none =
+    subst (λ lines. IsFirstBad lines 1) (sym is) (record {
       there = (omega arith, omega arith);
       before = λ less. absurd (omega (arith, less));
       bad = no_script (line ∷ []) (header_stops line (sym none));
-    }
-
-pub bad_header : (bytes given : List ℕ) → given ≡ bytes → 0 < length (words_by_line given) → None ≡ read_header (header_line (words_by_line given)) → IsFirstBad (words_by_line bytes) 1
-bad_header bytes given is =
-    subst (λ b. 0 < length (words_by_line given) → None ≡ read_header (header_line (words_by_line given)) → IsFirstBad (words_by_line b) 1) is (bad_first (words_by_line given))
+    })
 
 entry_stops : (h : Header) (es : List (ℕ × Move (CallOf h) ℕ)) (line : List (List ℕ)) → HeaderFits h → EntriesFit (calls_of h) es → read_entry (read_of h) line ≡ None
     → read_script (header_words h ∷ (map (entry_words (calls_of h)) es ++ (line ∷ []))) ≡ None
@@ -160,13 +160,9 @@ first_bad h es line more fits each none =
     }
 
 -- the first line is that of the header read from it
-headed_lines : (lines : List (List (List ℕ))) (h : Header) → read_header (header_line lines) ≡ Some h → HeaderFits h × (lines ≡ header_words h ∷ entry_lines lines)
-unfolding read_header
-headed_lines [] h found = absurd (cc)
-headed_lines (line ∷ lines) h found = let header = header_takes line h found in (header.0, ap (λ w. w ∷ lines) header.1)
-
-pub headed : (bytes : List ℕ) (h : Header) (given : List ℕ) → given ≡ bytes → read_header (header_line (words_by_line given)) ≡ Some h → HeaderFits h × (words_by_line bytes ≡ header_words h ∷ entry_lines (words_by_line bytes))
-headed bytes h given is found = headed_lines (words_by_line bytes) h (ap (λ b. read_header (header_line (words_by_line b))) (sym is) ∙ found)
+pub headed : (line : List (List ℕ)) (all more : List (List (List ℕ))) (h : Header) → all ≡ line ∷ more → read_header line ≡ Some h
+    → HeaderFits h × (all ≡ header_words h ∷ more)
+headed line all more h is found = let header = header_takes line h found in (header.0, is ∙ ap (λ w. w ∷ more) header.1)
 
 -- if the entries stop, the text stops
 pub bad_entry : (bytes : List ℕ) (h : Header) (rest : List (List (List ℕ))) (e : RunError) → HeaderFits h → words_by_line bytes ≡ header_words h ∷ rest → StopsEntries (calls_of h) (read_of h) rest e → StopsPlaying bytes e
@@ -204,19 +200,20 @@ module _ {X : Type 0} (r : Result X RunError) (P Q : List ℕ → Type 0) (each 
 
 -- the result for the lines behind the header is the result for the bytes
 module _ {X W L : Type 0} (r : Result X RunError) (bytes : List ℕ) (h : Header) (m : Machine W ℕ (CallOf h) L (Answer ℕ)) (parties : ℕ)
-    (headed_so : HeaderFits h × (words_by_line bytes ≡ header_words h ∷ entry_lines (words_by_line bytes)))
-    (same : (es : List (ℕ × Move (CallOf h) ℕ)) → transcript_text m parties es ≡ played h es) (a b : Option (List ℕ)) where
-  each_text : (text : List ℕ) → PlaysLines (calls_of h) m parties (entry_lines (words_by_line bytes)) text → PlaysBytes bytes text
-  each_text text = whole_text bytes h _ m parties text headed_so.0 headed_so.1 same
+    (rest : List (List (List ℕ))) (headed_so : HeaderFits h × (words_by_line bytes ≡ header_words h ∷ rest))
+    (same : (es : List (ℕ × Move (CallOf h) ℕ)) → transcript_text m parties es ≡ played h es) (a b : Option (List ℕ)) (U F : Type 0) where
+  each_text : (text : List ℕ) → PlaysLines (calls_of h) m parties rest text → PlaysBytes bytes text
+  each_text text = whole_text bytes h rest m parties text headed_so.0 headed_so.1 same
 
-  pub plays_so : OnOk r (AppendsSome (PlaysLines (calls_of h) m parties (entry_lines (words_by_line bytes))) a b) → OnOk r (AppendsSome (PlaysBytes bytes) a b)
-  plays_so = some_so r _ _ each_text a b
-
-  pub stops_so_far : (U F : Type 0)
-      → IfErr r (StopsWriting (StopsEntries (calls_of h) (read_of h) (entry_lines (words_by_line bytes))) U
-      (F × AppendsSomeBeginning (PlaysLines (calls_of h) m parties (entry_lines (words_by_line bytes))) a b))
-      → IfErr r (StopsWriting (StopsPlaying bytes) U (F × AppendsSomeBeginning (PlaysBytes bytes) a b))
-  stops_so_far U F = beginning_so r _ _ each_text a b _ _ U F (λ e. bad_entry bytes h _ e headed_so.0 headed_so.1)
+  pub plays_so : OnOk r (AppendsSome (PlaysLines (calls_of h) m parties rest) a b)
+      → IfErr r (StopsWriting (StopsEntries (calls_of h) (read_of h) rest) U
+      (F × AppendsSomeBeginning (PlaysLines (calls_of h) m parties rest) a b))
+      → OnOk r (AppendsSome (PlaysBytes bytes) a b)
+      × IfErr r (StopsWriting (StopsPlaying bytes) U (F × AppendsSomeBeginning (PlaysBytes bytes) a b))
+  plays_so plays stops = (
+    some_so r _ _ each_text a b plays,
+    beginning_so r _ _ each_text a b _ _ U F (λ e. bad_entry bytes h rest e headed_so.0 headed_so.1) stops,
+  )
 
 -- the result of playing is the result of the whole call
 module _ {X : Type 0} (r : Result X RunError) (bytes : List ℕ) (left left_after written written_after : Option (List ℕ))

@@ -1,6 +1,7 @@
 -- The lines of bytes, and the words of a line.
 use Rattle.std.specs.Prelude.{ℕ, List, [], ◌∷◌, map, ◌==◌}
 use Rattle.std.specs.List.{slice_split}
+use Rattle.std.specs.Borrow.{Bor}
 
 -- the lines behind a line feed: another line follows only if there are more bytes
 abbrev pub further_lines : List (List ℕ) → List (List ℕ)
@@ -26,11 +27,6 @@ words_of line = slice_split (λ b. b == 32) line
 abbrev pub words_by_line : List ℕ → List (List (List ℕ))
 words_by_line bytes = map words_of (lines_of bytes)
 
--- the first line is the header's line, and each further one an entry's
-abbrev pub header_line : List (List (List ℕ)) → List (List ℕ)
-header_line [] = []
-header_line (line ∷ lines) = line
-
-abbrev pub entry_lines : List (List (List ℕ)) → List (List (List ℕ))
-entry_lines [] = []
-entry_lines (line ∷ lines) = lines
+-- the texts of words
+abbrev pub texts_of : List (Bor (List ℕ)) → List (List ℕ)
+texts_of words = map (λ word. word.now) words

@@ -1,5 +1,6 @@
 -- How reading relates to spelling.
-use Rattle.std.specs.Prelude.{◌≡◌, ℕ, true, ◌+◌, Option, Some, None, List, ◌∷◌, ◌++◌, map, length}
+use Rattle.std.specs.Prelude.{◌≡◌, ℕ, true, ◌+◌, Option, Some, None, IsSome, List, ◌∷◌, ◌++◌, map, length}
+use Rattle.std.specs.List.{AllByRecursion}
 use Rattle.spin_model.specs.declared.schedule.Move.{Move}
 use Rattle.spin_text.specs.declared.text.RunError.{RunError}
 use Rattle.spin_text.specs.declared.text.RunError.TheVariants as errors
@@ -14,6 +15,10 @@ pub record ReadsCalls {C : Type 0} (calls : Calls C) (read : List (List ℕ) →
 -- each line spells an entry
 abbrev pub AllSpell : {C : Type 0} → Calls C → (List (List ℕ) → Option C) → List (List (List ℕ)) → Type 0
 AllSpell calls read lines = EntriesFit calls (entries_in read lines) × (lines ≡ map (entry_words calls) (entries_in read lines))
+
+-- each line is read as an entry
+abbrev pub AllRead : {C : Type 0} → (List (List ℕ) → Option C) → List (List (List ℕ)) → Type 0
+AllRead read lines = AllByRecursion (λ line. IsSome (read_entry read line)) lines
 
 -- reading the lines behind the first stops: at one that spells no entry, or because memory was refused
 abbrev pub StopsEntries : {C : Type 0} → Calls C → (List (List ℕ) → Option C) → List (List (List ℕ)) → RunError → Type 0

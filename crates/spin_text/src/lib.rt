@@ -12,6 +12,7 @@ mod laws;
 mod numbers;
 mod objects;
 mod piece;
+pub mod program;
 mod put;
 mod text;
 mod transcript;

@@ -1,8 +1,8 @@
 //! A whole text: reads it, checks it, plays it, and writes its transcript. Begin with [`world_text`].
-ghost use Rattle.std.specs.Prelude.{◌≡◌, ◌<◌, ◌^◌, false, true, length, OnOk, IfOk, IfErr};
+ghost use Rattle.std.specs.Prelude.{◌≡◌, ◌<◌, ◌+◌, ◌^◌, false, true, length, OnOk, IfOk, IfErr};
 ghost use Rattle.spin_text.specs.Ends.{AppendsSome, AppendsSomeBeginning};
-ghost use Rattle.spin_text.specs.Lines.{words_by_line, header_line, entry_lines};
-ghost use Rattle.spin_text.specs.Reading.{read_header};
+ghost use Rattle.spin_text.specs.Lines.{words_by_line};
+ghost use Rattle.spin_text.specs.Reading.{lines_left};
 ghost use Rattle.spin_text.specs.Readable.{StopsEntries};
 ghost use Rattle.spin_text.specs.Texts.{ReadsAll, Plays, Stops, StopsReading, StopsPlaying, StopsWriting, PlaysBytes, PlaysLines};
 
@@ -12,7 +12,7 @@ use crate::header::{Header, header_of};
 use crate::objects::Spelled;
 use crate::piece::buffer;
 use crate::transcript::write_transcript;
-use crate::words::first_line;
+use crate::words::{Rest, first_line};
 use spin_world::{BarrierObject, Fair, Flag, OnceObject, Rw, Ticket};
 use std::alloc::{AllocError, AllocFailed, Global};
 
@@ -86,32 +86,22 @@ fn play_lines<O: Spelled, K: Sink>(
     alloc: Global,
     object: O,
     parties: usize,
-    bytes: &[u8],
+    lines: Rest,
     output: &mut K,
 ) -> Result<(), RunError>
-    requires counted { length (words_by_line bytes.now) < 2 ^ 64 }
+    requires counted { length (lines_left lines) + 1 < 2 ^ 64 }
     ensures bytes { OnOk result (AppendsSome
-        (PlaysLines O.calls (O.machine object) parties (entry_lines (words_by_line bytes.now)))
+        (PlaysLines O.calls (O.machine object) parties (lines_left lines.entry))
         (K.written output.old) (K.written output.new)) }
     ensures ok { OnOk result (K.failed output.new ≡ K.failed output.old) }
     ensures stops { IfErr result (StopsWriting
-        (StopsEntries O.calls O.read (entry_lines (words_by_line bytes.now))) (output.new ≡ output.old)
+        (StopsEntries O.calls O.read (lines_left lines.entry)) (output.new ≡ output.old)
         ((K.failed output.new ≡ true) × AppendsSomeBeginning
-        (PlaysLines O.calls (O.machine object) parties (entry_lines (words_by_line bytes.now)))
+        (PlaysLines O.calls (O.machine object) parties (lines_left lines.entry))
         (K.written output.old) (K.written output.new))) }
 {
-    let (_header, lines) = first_line(bytes);
     check_entries::<O>(lines)?;
     write_transcript(alloc, object, parties, lines, output)
-}
-
-/// Returns the header that the first line of the bytes spells, or `None` if it spells none.
-fn header(bytes: &[u8]) -> Option<Header>
-    ensures first { result ≡ read_header (header_line (words_by_line bytes.now)) }
-    ensures there { 0 < length (words_by_line bytes.now) }
-{
-    let (line, _further) = first_line(bytes);
-    header_of(line)
 }
 
 /// Plays the schedule that bytes spell, and writes its transcript.
@@ -123,10 +113,11 @@ fn play<K: Sink>(alloc: Global, bytes: &[u8], output: &mut K) -> Result<(), RunE
         ((K.failed output.new ≡ true) × AppendsSomeBeginning (PlaysBytes bytes.now)
         (K.written output.old) (K.written output.new))) }
 {
-    match header(bytes) {
+    let (line, lines) = first_line(bytes);
+    match header_of(line) {
         None => Err(RunError::BadLine(1)),
         Some(Header::Flag { value, parties }) => {
-            play_lines(alloc, Flag::new(value), parties, bytes, output)
+            play_lines(alloc, Flag::new(value), parties, lines, output)
         }
         Some(
             Header::Ticket {
@@ -134,14 +125,14 @@ fn play<K: Sink>(alloc: Global, bytes: &[u8], output: &mut K) -> Result<(), RunE
                 first,
                 parties,
             },
-        ) => play_lines(alloc, Ticket::new(value, first), parties, bytes, output),
+        ) => play_lines(alloc, Ticket::new(value, first), parties, lines, output),
         Some(
             Header::Rw {
                 value,
                 cap,
                 parties,
             },
-        ) => play_lines(alloc, Rw::new(value, cap), parties, bytes, output),
+        ) => play_lines(alloc, Rw::new(value, cap), parties, lines, output),
         Some(
             Header::Fair {
                 value,
@@ -149,15 +140,15 @@ fn play<K: Sink>(alloc: Global, bytes: &[u8], output: &mut K) -> Result<(), RunE
                 spins,
                 parties,
             },
-        ) => play_lines(alloc, Fair::new(value, cap, spins), parties, bytes, output),
+        ) => play_lines(alloc, Fair::new(value, cap, spins), parties, lines, output),
         Some(Header::Barrier { n, parties }) => {
-            play_lines(alloc, BarrierObject::new(n), parties, bytes, output)
+            play_lines(alloc, BarrierObject::new(n), parties, lines, output)
         }
         Some(Header::Once { parties }) => play_lines(
             alloc,
             OnceObject::new(),
             parties,
-            bytes,
+            lines,
             output,
         ),
     }

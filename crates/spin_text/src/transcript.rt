@@ -6,6 +6,7 @@ ghost use Rattle.spin_text.specs.declared.text.RunError.TheVariants.{Memory};
 ghost use Rattle.spin_text.specs.Ends.{AppendsBeginning, AppendsBut};
 ghost use Rattle.spin_text.specs.Texts.{StopsWriting};
 ghost use Rattle.spin_text.specs.Pieces.{PutBefore, HasLine, TellsLine};
+ghost use Rattle.spin_text.specs.Readable.{AllRead};
 ghost use Rattle.spin_text.specs.Reading.{entries_in, lines_left, numbers_of};
 ghost use Rattle.spin_text.specs.Transcripts.{value_text, number_text, answer_text, from_text, outcome_text, numbers_text, event_line, end_line, schedule_lines, transcript_from, transcript_text};
 
@@ -176,6 +177,7 @@ fn write_events<O: Spelled, K: Sink>(
     requires none_begun { (p : ℕ) → begin_of begins.old p ≡ None }
     requires room { length piece.old ≡ PIECE }
     requires counted { length (lines_left lines) < 2 ^ 64 }
+    requires read { AllRead O.read (lines_left lines) }
     ensures object { OnOk result (world.new.object ≡ world.old.object) }
     ensures state { OnOk result (world.new.state ≡ after (O.machine world.old.object) world.old.state
         (entries_in O.read (lines_left lines.entry))) }
@@ -194,13 +196,12 @@ fn write_events<O: Spelled, K: Sink>(
     let mut rest = lines;
     while let Some(bytes) = rest {
         let (line, further) = first_line(bytes);
-        if let Some((party, action)) = entry::<O>(line) {
-            let outcome = with_begin(begins, party, place, world.act(party, action));
-            let numbers = O::numbers(world.words());
-            let start = put_event(place + 1, party, outcome, numbers, &mut buffer);
-            used = write_line(&buffer[start..], piece, used, output)?;
-            place += 1;
-        }
+        let (party, action) = entry::<O>(line).unwrap();
+        let outcome = with_begin(begins, party, place, world.act(party, action));
+        let numbers = O::numbers(world.words());
+        let start = put_event(place + 1, party, outcome, numbers, &mut buffer);
+        used = write_line(&buffer[start..], piece, used, output)?;
+        place += 1;
         rest = further;
     }
     Ok(used)
@@ -241,6 +242,7 @@ fn play<O: Spelled, K: Sink>(
     requires none_begun { (p : ℕ) → begin_of begins.old p ≡ None }
     requires room { length piece.old ≡ PIECE }
     requires counted { length (lines_left lines) < 2 ^ 64 }
+    requires read { AllRead O.read (lines_left lines) }
     ensures bytes { OnOk result (Appends (K.written output.old) (K.written output.new)
         (transcript_from (O.machine world.old.object) world.old.state (entries_in O.read (lines_left lines.entry)))) }
     ensures ok { OnOk result (K.failed output.new ≡ K.failed output.old) }
@@ -260,8 +262,11 @@ fn play<O: Spelled, K: Sink>(
 
 /// Plays the entries in lines in a world of their own, and writes the text of the transcript.
 ///
-/// It reads each entry, plays it and writes its line, without a list of entries or events. All memory is allocated
-/// before. A line that spells no entry is left out, so the caller checks the lines first.
+/// It reads each entry, plays it and writes its line, without a list of entries or events. All memory is there before
+/// that.
+///
+/// # Contract
+/// The caller has checked that each line spells an entry (`AllRead`).
 pub fn write_transcript<O: Spelled, K: Sink>(
     alloc: Global,
     object: O,
@@ -270,6 +275,7 @@ pub fn write_transcript<O: Spelled, K: Sink>(
     output: &mut K,
 ) -> Result<(), RunError>
     requires counted { length (lines_left lines) < 2 ^ 64 }
+    requires read { AllRead O.read (lines_left lines) }
     ensures bytes { OnOk result (Appends (K.written output.old) (K.written output.new)
         (transcript_text (O.machine object) parties (entries_in O.read (lines_left lines.entry)))) }
     ensures ok { OnOk result (K.failed output.new ≡ K.failed output.old) }

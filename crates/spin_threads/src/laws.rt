@@ -1,4 +1,5 @@
-//! One law for each lock. Each is the contract of a function that does nothing: a caller calls it for what it states.
+//! One law for each lock. Each is the contract of a function that does nothing. A caller calls it to learn what it
+//! states.
 ghost use Rattle.std.specs.Prelude.{ℕ, List};
 ghost use Rattle.spin_core.specs.Own.{Numbered};
 ghost use Rattle.spin_core.specs.declared.tie.Opening.{Opening};
