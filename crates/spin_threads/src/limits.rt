@@ -52,8 +52,8 @@ pub fn a_call_of_a_fair_mutex_keeps_its_limit()
 ///
 /// # Contract
 /// `KeepsLimits`, which says it of the steps that all threads made while the call ran.
-pub fn a_call_of_a_rwlock_keeps_its_limit()
-    ensures { KeepsLimits rwlock.model RwLockView }
+pub fn a_call_of_a_rwlock_keeps_its_limit<T>()
+    ensures { (opening : T) → KeepsLimits (rwlock.model opening) RwLockView }
 {}
 
 /// A try of a pass of a `Seats` takes two steps at most, and one more for each change of the word by others meanwhile.
