@@ -129,12 +129,15 @@ module _ {M : Type 1} {𝓤 : Ura M} (𝓛 : Logic 𝓤) (R : RattleType) (L : R
   learns_come ψ _ x known = known
 
   learns_left : (ψ : R.Denot → Type 0) (u : Use) (x : R.Denot) → ψ x → Learns ψ u off (Some x) None
-  learns_left ψ writes x known = known
-  learns_left ψ _ x known = tt
+  learns_left ψ off x known = tt
+  learns_left ψ _ x known = known
 
   learns_turned : (ψ : R.Denot → Type 0) (u u' : Use) (x : R.Denot) → ψ x → Learns ψ u u' (Some x) (Some x)
   learns_turned ψ writes writes x known = tt
-  learns_turned ψ _ _ x known = known
+  learns_turned ψ off u' x known = known
+  learns_turned ψ _ off x known = known
+  learns_turned ψ _ reads x known = known
+  learns_turned ψ reads writes x known = known
 
   nobody : (u : Use) (way : Way R.Denot) → u ≢ off → ⟦ Held u way None ⟧ ⊢ ⟦ base.Fml.ffalse ⟧
   nobody off way on = absurd (on refl)

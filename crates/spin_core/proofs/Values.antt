@@ -5,7 +5,7 @@ use Rattle.std.specs.Option.{IfSome}
 use Rattle.spin_model.specs.declared.schedule.Move.{Move}
 use Rattle.spin_model.specs.declared.schedule.Outcome.{Outcome}
 use Rattle.spin_model.specs.Schedules.{Entry}
-use Rattle.spin_core.specs.Cell.{Use, off, reads, writes, Way, Owed, Learns, Knowing, Freeing, Fixed, readers_of, writers_of, Lends}
+use Rattle.spin_core.specs.Cell.{Use, off, reads, writes, Way, Owed, Learns, Shows, Knowing, Freeing, Fixed, readers_of, writers_of, Lends}
 use Rattle.spin_core.specs.Own.{by_party}
 use Rattle.spin_core.specs.Passes.{IsStep, Writes}
 use Rattle.spin_core.specs.Traced.{Learnt, grown_at}
@@ -13,16 +13,26 @@ use Rattle.spin_core.specs.Values.{written, left, latest, IsLast, last, Leaves, 
 use Rattle.spin_core.specs.declared.tie.Opening.{Opening}
 use Rattle.spin_core.specs.declared.trace.Trace.{Trace}
 
+some_none : {V : Type 0} (x : V) → Some x ≡ None → ⊥
+some_none x e = absurd cc
+
 -- what a step tells of the value that it shows after, where its party comes to use it or reads on: also one that wrote before
-tells : {V : Type 0} (ψ : V → Type 0) (u u' : Use) (before after : Option V) → (u ≡ writes → u' ≡ reads) → Learns ψ u u' before after → IfSome after ψ
-tells ψ writes off before after so learns = absurd (let e : off ≡ reads = so refl in cc)
-tells ψ writes writes before after so learns = absurd (let e : writes ≡ reads = so refl in cc)
-tells ψ writes reads before None so learns = tt
-tells ψ writes reads before (Some x) so learns = learns
-tells ψ off u' before None so learns = tt
-tells ψ off u' before (Some x) so learns = learns
-tells ψ reads u' before None so learns = tt
-tells ψ reads u' before (Some x) so learns = learns
+tells : {V : Type 0} (ψ : V → Type 0) (u u' : Use) (before after : Option V) → (u ≡ writes → u' ≡ reads) → Shows u' before after → Learns ψ u u' before after → IfSome after ψ
+tells ψ writes off before after so shows learns = absurd (let e : off ≡ reads = so refl in cc)
+tells ψ writes writes before after so shows learns = absurd (let e : writes ≡ reads = so refl in cc)
+tells ψ writes reads before None so shows learns = tt
+tells ψ writes reads before (Some x) so shows learns = learns
+tells ψ off u' before None so shows learns = tt
+tells ψ off u' before (Some x) so shows learns = learns
+tells ψ reads u' before None so shows learns = tt
+tells ψ reads off before (Some x) so shows learns = absurd (some_none x shows)
+tells ψ reads reads before (Some x) so shows learns = learns
+tells ψ reads writes before (Some x) so shows learns = learns
+
+-- and of the value that a reader leaves
+leaves_told : {V : Type 0} (ψ : V → Type 0) (before after : Option V) → Learns ψ reads off before after → IfSome before ψ
+leaves_told ψ None after learns = tt
+leaves_told ψ (Some x) after learns = learns
 
 module _ {C V : Type 0} where
   latest-append : (v : V) (xs ys : List (Entry C V)) → latest v (xs ++ ys) ≡ latest (latest v xs) ys
@@ -71,8 +81,14 @@ module _ {C V : Type 0} where
     opens_last es x none is told = ap (latest opening.value) none ∙ is
 
     -- what a party is shown that comes to use the value, or reads on
-    pub shows_last : {S : Type 0} (u u' : Use) (before after : Option V) (es : List (Entry C V)) → Learnt {S = S} (last opening) u u' before after es → (u ≡ writes → u' ≡ reads) → IfSome after (λ y. IsLast opening es y)
-    shows_last u u' before after es learnt so = subst (λ l. IfSome after (λ y. IsLast opening l y)) learnt.1 (tells (λ y. IsLast opening learnt.0.entries y) u u' before after so learnt.2)
+    pub shows_last : {S : Type 0} (u u' : Use) (before after : Option V) (es : List (Entry C V)) → Learnt {S = S} (last opening) u u' before after es → (u ≡ writes → u' ≡ reads) → Shows u' before after → IfSome after (λ y. IsLast opening es y)
+    shows_last u u' before after es learnt so shows = subst (λ l. IfSome after (λ y. IsLast opening l y)) learnt.1 (tells (λ y. IsLast opening learnt.0.entries y) u u' before after so shows learnt.2)
+
+    -- and what it left that it had read
+    pub read_last : {S : Type 0} (u u' : Use) (before after : Option V) (es : List (Entry C V)) → Learnt {S = S} (last opening) u u' before after es → u ≡ reads → u' ≡ off → IfSome before (λ y. IsLast opening es y)
+    read_last u u' before after es learnt is is' =
+        let told = subst (λ (z : Use × Use). Learns (λ y. IsLast opening learnt.0.entries y) z.0 z.1 before after) (λ i. (is i, is' i)) learnt.2 in
+        subst (λ l. IfSome before (λ y. IsLast opening l y)) learnt.1 (leaves_told (λ y. IsLast opening learnt.0.entries y) before after told)
 
     -- what a party finds when it begins to use the value, and what one leaves that has written it
     module _ {S : Type 0} (u u' : Use) (before after : Option V) (es : List (Entry C V)) (x : V) (learnt : Learnt {S = S} (last opening) u u' before after es) where

@@ -117,10 +117,13 @@ module _ {X : Type 0} where
   Carries φ ψ writes _ (Some x) = ψ x
   Carries φ ψ _ _ shown = (x : X) → φ x → ψ x
 
-  -- and what it tells its party, by the values that it is shown before and after: ψ of one that it comes to use or reads on, and of one that it has written
+  -- and what it tells its party, by the values that it is shown before and after: ψ of one that it comes to use, reads on or leaves, but nothing of one that it writes on
   abbrev pub Learns : (X → Type 0) → Use → Use → Option X → Option X → Type 0
   Learns ψ writes writes before after = Unit {0}
-  Learns ψ writes off (Some x) after = ψ x
+  Learns ψ off v before (Some x) = ψ x
+  Learns ψ off v before None = Unit {0}
+  Learns ψ _ off (Some x) after = ψ x
+  Learns ψ _ off None after = Unit {0}
   Learns ψ _ _ before (Some x) = ψ x
   Learns ψ _ _ before None = Unit {0}
 

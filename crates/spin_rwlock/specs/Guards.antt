@@ -1,7 +1,9 @@
--- The value of a guard, the write guard with another value in its place, and what is known of the history with a guard.
-use Rattle.std.specs.Prelude.{◌≡◌, Option, Some, length}
+-- The value of a guard, the write guard with another value in its place, and what is known of the history beside it.
+use Rattle.std.specs.Prelude.{◌≡◌, Option, Some, IfSome, length}
 use Rattle.spin_core.specs.Own.{Numbered}
 use Rattle.spin_core.specs.Passes.{mark_of}
+use Rattle.spin_core.specs.Values.{IsLast}
+use Rattle.spin_core.specs.declared.tie.Opening.{Opening}
 use Rattle.spin_core.specs.declared.trace.Watch.{Watch}
 use Rattle.spin_core.specs.Writer.{with_value}
 use Rattle.spin_rwlock.specs.declared.rwlock.reader.SharedGuard.{SharedGuard}
@@ -45,9 +47,23 @@ module _ {T R : Type 0} where
   abbrev pub write_held_party : WriteHeld T R → Option (Numbered View)
   write_held_party it = it.permit.view
 
-  -- the pass of a guard knows the lock's whole history, up to the guard's last step
-  abbrev pub ReadsWith : {K : Type 0} {kind : Ghosts K} → SharedGuard T K R kind → Watch Done → Type 0
+  -- what was settled of the lock of a guard when it was made
+  abbrev pub shared_opening : {K : Type 0} {kind : Ghosts K} → SharedGuard T K R kind → Opening T
+  shared_opening it = it.permit.key
+
+  abbrev pub write_opening : RwLockWriteGuard T R → Opening T
+  write_opening it = it.writer.key
+
+  -- beside a guard its pass knows all of the lock's history up to the guard's last step
+  abbrev pub ReadsWith : {K : Type 0} {kind : Ghosts K} → SharedGuard T K R kind → Watch (Done T) → Type 0
   ReadsWith it seen = (it.permit.key.name ≡ seen.name) × (mark_of it.permit.view ≡ length seen.entries)
 
-  abbrev pub WritesWith : RwLockWriteGuard T R → Watch Done → Type 0
+  abbrev pub WritesWith : RwLockWriteGuard T R → Watch (Done T) → Type 0
   WritesWith it seen = (it.writer.key.name ≡ seen.name) × (it.writer.view.2 ≡ length seen.entries)
+
+  -- its value is the one written last in the history that the pass knows beside it
+  abbrev pub ReadsLast : {K : Type 0} {kind : Ghosts K} → SharedGuard T K R kind → Watch (Done T) → Type 0
+  ReadsLast it seen = IfSome (shared_value it) (λ x. IsLast it.permit.key seen.entries x)
+
+  abbrev pub FindsLast : RwLockWriteGuard T R → Watch (Done T) → Type 0
+  FindsLast it seen = IsLast it.writer.key seen.entries it.writer.value

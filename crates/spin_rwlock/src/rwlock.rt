@@ -1,10 +1,11 @@
 //! A spinning lock for many readers or one writer. Begin at [`RwLock::read`] and [`RwLock::write`].
-ghost use Rattle.std.specs.Prelude.{◌≤◌};
+ghost use Rattle.std.specs.Prelude.{◌≡◌, ◌≤◌, true};
 ghost use Rattle.spin_step_more.specs.Readers.{reader_limit};
 
 use spin_core::cell::{Cell, Rule};
 use spin_core::lock::{Lock, SharedLock, with_guard};
 use spin_core::relax::{RelaxStrategy, Spin};
+use spin_core::tie::Opening;
 use spin_core::trace::Trace;
 use std::marker::PhantomData;
 use std::sync::Wait;
@@ -22,6 +23,7 @@ pub use self::reader::{ReadHeld, RwLockReadGuard, SharedGuard};
 pub use self::rule::{Entry, Party, RwRule, View};
 pub use self::upgradable::RwLockUpgradableGuard;
 pub use self::writer::{RwLockWriteGuard, WriteHeld};
+pub use crate::laws::{a_guard_reads_the_last_value_written, two_guards_read_one_value};
 
 /// A reader-writer lock: many readers share the value, or one writer has it alone. A waiting thread spins.
 ///
@@ -32,8 +34,8 @@ pub use self::writer::{RwLockWriteGuard, WriteHeld};
 ///
 /// # Contract
 /// While the guard or the hold of a writer lives, no other guard gives access to the value. A guard gives a value of
-/// `T`, with all that the invariant of `T` says. An upgrade and a downgrade keep the value. Nothing else is promised of
-/// what other threads wrote.
+/// `T`, with all that the invariant of `T` says. An upgrade and a downgrade keep the value. Without a [`Pass`] nothing
+/// else is promised of what other threads wrote.
 ///
 /// # Examples
 /// ```
@@ -55,12 +57,14 @@ impl<T, R> RwLock<T, R> {
     /// Creates an unlocked lock that holds `value`.
     ///
     /// # Contract
-    /// No clause. The call returns.
-    pub fn new(value: T) -> Self {
+    /// The lock's history begins with this value (`opens`). The call returns.
+    pub fn new(value: T) -> Self
+        ensures opens { (result.cell.value ≡ value) × (result.cell.told ≡ true) }
+    {
         let trace = Trace::new(());
-        let start = trace.watch();
+        let opening = Opening::of(&trace, &value);
         RwLock {
-            cell: Cell::new(value, 0, trace, &start),
+            cell: Cell::new(value, 0, trace, &opening),
             strategy: PhantomData,
         }
     }

@@ -123,8 +123,8 @@ pub fn a_refused_starver_was_kept_out_at_a_moment<T>()
 ///
 /// # Contract
 /// `Found`, of the lock's holders, tickets and starvers.
-pub fn a_refused_try_read_was_kept_out_at_a_moment()
-    ensures { Found rwlock.model RwLockView rw.TryRead Refused (λ s.
+pub fn a_refused_try_read_was_kept_out_at_a_moment<T>()
+    ensures { (opening : T) → Found (rwlock.model opening) RwLockView rw.TryRead Refused (λ s.
         (0 < writers s) ⊎ (0 < count_kind asking s.holders) ⊎ (length s.holders ≡ reader_limit)) }
 {}
 
@@ -133,8 +133,8 @@ pub fn a_refused_try_read_was_kept_out_at_a_moment()
 ///
 /// # Contract
 /// `Found`, of the lock's holders, tickets and starvers.
-pub fn a_refused_try_upgradeable_read_was_kept_out_at_a_moment()
-    ensures { Found rwlock.model RwLockView rw.TryUpgradeableRead Refused (λ s.
+pub fn a_refused_try_upgradeable_read_was_kept_out_at_a_moment<T>()
+    ensures { (opening : T) → Found (rwlock.model opening) RwLockView rw.TryUpgradeableRead Refused (λ s.
         (0 < writers s) ⊎ (0 < upgraders s.holders) ⊎ (length s.holders ≡ reader_limit)) }
 {}
 
@@ -143,8 +143,8 @@ pub fn a_refused_try_upgradeable_read_was_kept_out_at_a_moment()
 ///
 /// # Contract
 /// `Found`, of the lock's holders, tickets and starvers.
-pub fn a_refused_try_write_was_kept_out_at_a_moment()
-    ensures { Found rwlock.model RwLockView rw.TryWrite Refused (Was is_held true) }
+pub fn a_refused_try_write_was_kept_out_at_a_moment<T>()
+    ensures { (opening : T) → Found (rwlock.model opening) RwLockView rw.TryWrite Refused (Was is_held true) }
 {}
 
 /// If a pass that reads an `RwLock` tried once to upgrade and failed, then at a moment of the call another party held
@@ -152,19 +152,19 @@ pub fn a_refused_try_write_was_kept_out_at_a_moment()
 ///
 /// # Contract
 /// `Found`, of the lock's holders, tickets and starvers.
-pub fn a_refused_try_upgrade_was_kept_out_at_a_moment()
-    ensures { Found rwlock.model RwLockView rw.TryUpgrade Refused (λ s. 1 < length s.holders) }
+pub fn a_refused_try_upgrade_was_kept_out_at_a_moment<T>()
+    ensures { (opening : T) → Found (rwlock.model opening) RwLockView rw.TryUpgrade Refused (λ s. 1 < length s.holders) }
 {}
 
 /// If a pass counted the readers or the writers of an `RwLock` once, the count was right at a moment of the call.
 ///
 /// # Contract
 /// `Found`, of the lock's holders, tickets and starvers.
-pub fn a_count_of_a_rwlock_was_so_at_a_moment()
-    ensures readers { (count : ℕ) →
-        Found rwlock.model RwLockView rw.ReaderCount (Count count) (Was readers count) }
-    ensures writers { (count : ℕ) →
-        Found rwlock.model RwLockView rw.WriterCount (Count count) (Was writers count) }
+pub fn a_count_of_a_rwlock_was_so_at_a_moment<T>()
+    ensures readers { (opening : T) (count : ℕ) →
+        Found (rwlock.model opening) RwLockView rw.ReaderCount (Count count) (Was readers count) }
+    ensures writers { (opening : T) (count : ℕ) →
+        Found (rwlock.model opening) RwLockView rw.WriterCount (Count count) (Was writers count) }
 {}
 
 /// If a pass counted the taken seats of a `Seats` once, the count was right at a moment of the call.

@@ -63,8 +63,8 @@ pub fn between_any_two_steps_of_seats()
 ///
 /// # Contract
 /// `Between`, of the moves that the lock's cell keeps, with the lock's word and parties.
-pub fn between_any_two_steps_of_a_rwlock()
-    ensures { (name word : ℕ) (trace : Trace rwlock.Done (Unit {0})) (parties : List (Numbered RwLockView)) → rwlock.IsRw name word trace parties → Between rwlock.model rwlock.seat_of rwlock.words_of trace.entries (word, trace.word) parties }
+pub fn between_any_two_steps_of_a_rwlock<T>()
+    ensures { (opening : Opening T) (word : ℕ) (trace : Trace (rwlock.Done T) (Unit {0})) (parties : List (Numbered RwLockView)) → rwlock.IsRw opening word trace parties → Between (rwlock.model opening.value) rwlock.seat_of rwlock.words_of trace.entries (word, trace.word) parties }
 {}
 
 /// Between any two steps of the threads that use a `Once` or a `LazyLock`, its word tells its phase: 0 without a value,

@@ -69,10 +69,10 @@ pub fn look_at_a_fair_mutex<T, R>(pass: FairPass<'_, T, R>) -> (bool, FairPass<'
 
 /// Counts the readers of an `RwLock` once.
 pub fn count_the_readers<T, R>(pass: RwPass<'_, T, R>) -> (usize, RwPass<'_, T, R>)
-    ensures { AtAMoment rwlock.model rw.ReaderCount (rw_passes.party result.1)
+    ensures { AtAMoment (rwlock.model (rw_passes.opening_of pass.entry).value) rw.ReaderCount (rw_passes.party result.1)
         (rw_passes.history pass.entry) (rw_passes.history result.1) (Was readers result.0) }
 {
-    a_count_of_a_rwlock_was_so_at_a_moment();
+    a_count_of_a_rwlock_was_so_at_a_moment::<T>();
     let (readers, pass) = pass.reader_count();
     (readers, pass)
 }

@@ -1,9 +1,9 @@
 //! The writer's guard, and its hold without a guard. Begin at [`RwLockWriteGuard`].
-ghost use Rattle.std.specs.Prelude.{◌≡◌, Some};
+ghost use Rattle.std.specs.Prelude.{◌≡◌, true, Some};
 ghost use Rattle.spin_core.specs.Cell.{use_of, writes};
-ghost use Rattle.spin_model.specs.declared.answer.Answer.TheVariants.{Done};
+ghost use Rattle.spin_core.specs.Values.{IsLast};
 ghost use Rattle.spin_step_more.specs.declared.rw_calls.RwCall.TheVariants.{Downgrade, DowngradeToUpgradeable};
-ghost use Rattle.spin_rwlock.specs.Rw.{use_of_party, Called};
+ghost use Rattle.spin_rwlock.specs.Rw.{use_of_party, Wrote};
 
 use super::reader::{RwLockReadGuard, SharedGuard};
 use super::rule::{
@@ -43,7 +43,7 @@ pub struct WriteHeld<'a, T, R = Spin> {
 }
 
 impl<'a, T, R> RwLockWriteGuard<'a, T, R> {
-    ghost use Rattle.spin_rwlock.specs.Guards.{shared_value, write_value, write_held_value, shared_party, write_party, write_held_party, ReadsWith, WritesWith};
+    ghost use Rattle.spin_rwlock.specs.Guards.{shared_value, write_value, write_held_value, shared_party, write_party, write_held_party, shared_opening, write_opening, ReadsWith, WritesWith};
 
     pub(super) fn new(writer: Writer<'a, T>) -> Self
         ensures { result.writer ≡ writer.entry }
@@ -82,13 +82,20 @@ impl<'a, T, R> RwLockWriteGuard<'a, T, R> {
     /// Becomes a reader, as [`downgrade`](Self::downgrade) does, in the call of a pass.
     ///
     /// # Contract
-    /// `seen` has to be what the pass knew with the guard (`WritesWith`). The call is one `Downgrade` (`made`). The
-    /// reader's guard has the value that this one had.
-    pub fn downgrade_seen(self, seen: Watch<Entry>) -> (RwLockReadGuard<'a, T, R>, Watch<Entry>)
+    /// `seen` has to be what the pass knew with the guard (`WritesWith`). The call is one `Downgrade`, behind a write
+    /// (`made`): it writes the guard's value into the history (`wrote`). The reader's guard has the value that this one
+    /// had, which is the one written last (`left`).
+    pub fn downgrade_seen(
+        self,
+        seen: Watch<Entry<T>>,
+    ) -> (RwLockReadGuard<'a, T, R>, Watch<Entry<T>>)
         requires { WritesWith self seen }
         ensures value { shared_value result.0 ≡ Some (write_value self.entry) }
         ensures reads { ReadsWith result.0 result.1 × (result.1.name ≡ seen.name) }
-        ensures made { Called Downgrade Done (write_party self.entry) seen.entries (shared_party result.0) result.1.entries }
+        ensures lock { shared_opening result.0 ≡ write_opening self.entry }
+        ensures made { Wrote (write_opening self.entry).value (λ x. Unit {0}) Downgrade (write_party self.entry) seen.entries (shared_party result.0) result.1.entries }
+        ensures wrote { Wrote (write_opening self.entry).value (λ x. (write_opening self.entry).told ≡ true → x ≡ write_value self.entry) Downgrade (write_party self.entry) seen.entries (shared_party result.0) result.1.entries }
+        ensures left { IsLast (write_opening self.entry) result.1.entries (write_value self.entry) }
     {
         let (permit, seen) = write_to_read(self.into_writer(), seen);
         (SharedGuard::new(permit), seen)
@@ -121,16 +128,20 @@ impl<'a, T, R> RwLockWriteGuard<'a, T, R> {
     /// of a pass.
     ///
     /// # Contract
-    /// `seen` has to be what the pass knew with the guard (`WritesWith`). The call is one `DowngradeToUpgradeable`
-    /// (`made`). The upgradable reader's guard has the value that this one had.
+    /// `seen` has to be what the pass knew with the guard (`WritesWith`). The call is one `DowngradeToUpgradeable`,
+    /// behind a write (`made`): it writes the guard's value into the history (`wrote`). The upgradable reader's guard
+    /// has the value that this one had, which is the one written last (`left`).
     pub fn downgrade_to_upgradeable_seen(
         self,
-        seen: Watch<Entry>,
-    ) -> (RwLockUpgradableGuard<'a, T, R>, Watch<Entry>)
+        seen: Watch<Entry<T>>,
+    ) -> (RwLockUpgradableGuard<'a, T, R>, Watch<Entry<T>>)
         requires { WritesWith self seen }
         ensures value { shared_value result.0 ≡ Some (write_value self.entry) }
         ensures reads { ReadsWith result.0 result.1 × (result.1.name ≡ seen.name) }
-        ensures made { Called DowngradeToUpgradeable Done (write_party self.entry) seen.entries (shared_party result.0) result.1.entries }
+        ensures lock { shared_opening result.0 ≡ write_opening self.entry }
+        ensures made { Wrote (write_opening self.entry).value (λ x. Unit {0}) DowngradeToUpgradeable (write_party self.entry) seen.entries (shared_party result.0) result.1.entries }
+        ensures wrote { Wrote (write_opening self.entry).value (λ x. (write_opening self.entry).told ≡ true → x ≡ write_value self.entry) DowngradeToUpgradeable (write_party self.entry) seen.entries (shared_party result.0) result.1.entries }
+        ensures left { IsLast (write_opening self.entry) result.1.entries (write_value self.entry) }
     {
         let (permit, seen) = write_to_upgradable(self.into_writer(), seen);
         (SharedGuard::new(permit), seen)

@@ -7,9 +7,9 @@ use Rattle.spin_threads.proofs.Moments.{found}
 use Rattle.spin_threads.proofs.answers.a_count_of_a_rwlock_was_so_at_a_moment.Goals as goal
 
 pub returns-clause-readers : goal.returns-clause-readers
-returns-clause-readers g count =
-    found model (rw_keeping tt reader_limit) (rw_facts tt reader_limit) (λ p s. readers s == count) (λ h. refl) (λ p l h seen call is. eqb-true _ _ is)
+returns-clause-readers g c = λ opening count.
+    found (model opening) (rw_keeping opening reader_limit) (rw_facts opening reader_limit) (λ p s. readers s ≡ count) (λ h p span some. some) (λ p l h seen call is. is)
 
 pub returns-clause-writers : goal.returns-clause-writers
-returns-clause-writers g count =
-    found model (rw_keeping tt reader_limit) (rw_facts tt reader_limit) (λ p s. writers s == count) (λ h. refl) (λ p l h seen call is. eqb-true _ _ is)
+returns-clause-writers g c = λ opening count.
+    found (model opening) (rw_keeping opening reader_limit) (rw_facts opening reader_limit) (λ p s. writers s ≡ count) (λ h p span some. some) (λ p l h seen call is. is)
