@@ -18,7 +18,7 @@ use Rattle.spin_threads.proofs.answers.a_refused_try_upgrade_was_kept_out_at_a_m
 not_alone : (s : Plain) (p : ℕ) → entries p s ≡ entries_at p (holds upgradable) → not (is_open_to s p to_upgrade) ≡ true → 1 < length s.holders
 not_alone s p mine closed = grind (arith, holder_by p upgradable s mine, closed)
 
--- who tries to upgrade is an upgradable reader
+-- a party that tries to upgrade is an upgradable reader
 stands : {T : Type 0} (opening : T) (p : ℕ) (l : RwPoint) (h : Option Hold) (seen : Seen ℕ T RwCall RwPoint)
     → InCall (model opening) (rw_keeping opening reader_limit) p TryUpgrade l h seen.plain seen.state.value seen.state.words (seen.span p) → entries p seen.plain ≡ entries_at p (holds upgradable)
 stands opening p l (Some hold.Upgradable) seen call = call.knows.0.stand
