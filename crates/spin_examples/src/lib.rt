@@ -18,3 +18,4 @@ pub mod registers;
 pub mod totals;
 pub mod versions;
 pub mod written;
+pub mod written_rw;

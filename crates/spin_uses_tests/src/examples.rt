@@ -12,7 +12,7 @@ use spin_examples::passes_ticket::{count_by_three, look, try_once as try_ticket_
 use spin_examples::registers::four_threads;
 use spin_examples::versions::{race, watch_one};
 use spin_examples::written::write_beside_read;
-use spin_examples::{any_lock, paired, passes_fair, passes_rw, totals};
+use spin_examples::{any_lock, paired, passes_fair, passes_rw, totals, written_rw};
 use spin_uses::relay::relay;
 use std::thread;
 
@@ -53,6 +53,18 @@ fn a_thread_reads_the_last_write(rt: HostRuntime) {
     drop(wrote);
     drop(read);
     equal(&rt, found == 6 || found == 7, true);
+    equal(&rt, lock.into_inner(), 7);
+}
+
+#[test]
+fn two_readers_read_the_last_write(rt: HostRuntime) {
+    let lock = RwLock::new(6);
+    let (wrote, ((first, one), (second, two))) = written_rw::write_beside_readers(&rt, &lock, 7);
+    drop(wrote);
+    drop(one);
+    drop(two);
+    let is_one_of = |value: u64| value == 6 || value == 7;
+    equal(&rt, (is_one_of(first), is_one_of(second)), (true, true));
     equal(&rt, lock.into_inner(), 7);
 }
 

@@ -1,0 +1,80 @@
+//! What readers under an `RwLock` read is the value that was written last in the lock's history.
+ghost use Rattle.std.specs.Prelude.{◌≡◌, ◌⊎◌, true};
+ghost use mathlib.Core.List.{IsPrefix};
+ghost use Rattle.spin.specs.RwPasses.{history, lock_of, name_of, opening, opening_of};
+ghost use Rattle.spin.specs.Values.{IsLast, latest};
+
+use spin::Spin;
+use spin::rwlock::{Pass, RwLock};
+use std::sync::Wait;
+use std::thread::{Threads, join};
+
+/// Writes the value. It is then the last one in the history that the pass knows.
+fn write<'a, W: Wait>(rt: &W, pass: Pass<'a, u64, Spin>, value: u64) -> Pass<'a, u64, Spin>
+    ensures left { IsLast (opening_of pass.entry) (history result) value }
+    ensures lock { lock_of result ≡ lock_of pass.entry }
+{
+    let (mut guard, seen) = pass.write(rt);
+    *guard = value;
+    RwLock::unlock(guard, seen)
+}
+
+/// Reads the value, which other readers may share. It is the last one in the history that the pass knows.
+fn read<'a, W: Wait>(rt: &W, pass: Pass<'a, u64, Spin>) -> (u64, Pass<'a, u64, Spin>)
+    ensures found { IsLast (opening_of pass.entry) (history result.1) result.0 }
+    ensures lock { lock_of result.1 ≡ lock_of pass.entry }
+{
+    let (guard, seen) = pass.read(rt);
+    let value = *guard;
+    (value, RwLock::unlock_shared(guard, seen))
+}
+
+/// One thread writes a value, and two read.
+///
+/// # Contract
+/// Of any two of them, one knows a prefix of the history that the other knows (`written_read`, `both_read`). The value
+/// that was written is the last one in the history that the writer knows (`left`). What each reader read is the last
+/// one in the history that this reader knows (`first`, `second`).
+pub fn write_beside_readers<'a, W: Threads + Wait + Sync>(
+    rt: &W,
+    lock: &'a RwLock<u64>,
+    value: u64,
+) -> (
+    Pass<'a, u64, Spin>,
+    ((u64, Pass<'a, u64, Spin>), (u64, Pass<'a, u64, Spin>)),
+)
+    requires { (opening lock.now).told ≡ true }
+    ensures written_read { IsPrefix (history result.0) (history result.1.0.1) ⊎ IsPrefix (history result.1.0.1) (history result.0) }
+    ensures both_read { IsPrefix (history result.1.0.1) (history result.1.1.1) ⊎ IsPrefix (history result.1.1.1) (history result.1.0.1) }
+    ensures left { latest (opening lock.now).value (history result.0) ≡ value }
+    ensures first { latest (opening lock.now).value (history result.1.0.1) ≡ result.1.0.0 }
+    ensures second { latest (opening lock.now).value (history result.1.1.1) ≡ result.1.1.0 }
+{
+    let all = join(
+        rt,
+        || -> Pass<'_, u64, Spin>
+            ensures lock { lock_of result ≡ name_of lock.entry.now }
+            ensures left { IsLast (opening lock.entry.now) (history result) value }
+        { write(rt, lock.pass(), value) },
+        || -> ((u64, Pass<'_, u64, Spin>), (u64, Pass<'_, u64, Spin>))
+            ensures lock { (lock_of result.0.1 ≡ name_of lock.entry.now) × (lock_of result.1.1 ≡ name_of lock.entry.now) }
+            ensures first { IsLast (opening lock.entry.now) (history result.0.1) result.0.0 }
+            ensures second { IsLast (opening lock.entry.now) (history result.1.1) result.1.0 }
+        {
+            join(
+                rt,
+                || -> (u64, Pass<'_, u64, Spin>)
+                    ensures lock { lock_of result.1 ≡ name_of lock.entry.now }
+                    ensures found { IsLast (opening lock.entry.now) (history result.1) result.0 }
+                { read(rt, lock.pass()) },
+                || -> (u64, Pass<'_, u64, Spin>)
+                    ensures lock { lock_of result.1 ≡ name_of lock.entry.now }
+                    ensures found { IsLast (opening lock.entry.now) (history result.1) result.0 }
+                { read(rt, lock.pass()) },
+            )
+        },
+    );
+    all.0.compare(&all.1.0.1);
+    all.1.0.1.compare(&all.1.1.1);
+    all
+}
