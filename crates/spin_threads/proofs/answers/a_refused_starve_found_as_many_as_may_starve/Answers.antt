@@ -1,4 +1,4 @@
-use Rattle.std.proofs.Common.{◌≡◌, ◌≤◌, ℕ, false, length, arith}
+use Rattle.std.proofs.Common.{◌≡◌, ◌≤◌, ℕ, length, arith, not, refl, true}
 use Rattle.spin_step.specs.Plain.{Plain, is_open_to, to_starve}
 use Rattle.spin_fair.specs.Fair.{model, patience}
 use Rattle.spin_step_more.specs.Starvers.{most_starvers}

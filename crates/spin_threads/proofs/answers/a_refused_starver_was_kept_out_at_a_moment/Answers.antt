@@ -1,4 +1,4 @@
-use Rattle.std.proofs.Common.{◌≡◌, ◌⊎◌, ◌<◌, ℕ, true, false, Option, length, refl, arith}
+use Rattle.std.proofs.Common.{◌≡◌, ◌⊎◌, ◌<◌, ℕ, true, Option, length, refl, arith, not}
 use mathlib.Core.Logic.{inl, inr}
 use Rattle.spin_step.specs.Plain.{Plain, is_open_to, is_starver, to_lock_starving, to_lock_starving_alone}
 use Rattle.spin_step.specs.Parties.{is_held}

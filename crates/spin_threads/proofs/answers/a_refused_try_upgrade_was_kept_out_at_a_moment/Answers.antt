@@ -1,4 +1,4 @@
-use Rattle.std.proofs.Common.{◌≡◌, ◌<◌, ℕ, false, Option, Some, length, arith}
+use Rattle.std.proofs.Common.{◌≡◌, ◌<◌, ℕ, Option, Some, length, arith, not, refl, true}
 use Rattle.spin_step.specs.Plain.{Plain, upgradable, is_open_to, to_upgrade}
 use Rattle.spin_step.specs.Parties.{entries}
 use Rattle.spin_model.specs.declared.place.Hold.{Hold}

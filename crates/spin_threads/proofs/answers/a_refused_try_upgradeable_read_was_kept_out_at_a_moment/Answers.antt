@@ -1,4 +1,4 @@
-use Rattle.std.proofs.Common.{◌≡◌, ◌⊎◌, ◌<◌, ℕ, false, length, arith}
+use Rattle.std.proofs.Common.{◌≡◌, ◌⊎◌, ◌<◌, ℕ, length, arith, not, refl, true}
 use Rattle.spin_step.specs.Plain.{Plain, upgradable, upgraders, is_open_to, to_read_upgradable}
 use Rattle.spin_step.proofs.Sums.{upgrader, against, by_kinds}
 use Rattle.spin_model.specs.Calls.{writers}

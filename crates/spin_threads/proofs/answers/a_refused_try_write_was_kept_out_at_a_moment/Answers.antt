@@ -1,4 +1,4 @@
-use Rattle.std.proofs.Common.{◌≡◌, false, arith}
+use Rattle.std.proofs.Common.{◌≡◌, arith, not, refl}
 use Rattle.spin_step.specs.Plain.{is_open_to, to_write}
 use Rattle.spin_step_more.specs.Readers.{reader_limit}
 use Rattle.spin_rwlock.specs.Rw.{model}

@@ -1,5 +1,5 @@
-use Rattle.std.proofs.Common.{◌≡◌, ◌&&◌, true, false, not, arith}
-use Rattle.spin_step.specs.Plain.{Plain}
+use Rattle.std.proofs.Common.{◌≡◌, ◌&&◌, true, false, arith, refl}
+use Rattle.spin_step.specs.Plain.{Plain, is_empty}
 use Rattle.spin_step.specs.Parties.{is_held}
 use Rattle.spin_model.specs.Calls.{is_starved}
 use Rattle.spin_fair.specs.Fair.{model, patience}
