@@ -1,29 +1,25 @@
 /* For LD_PRELOAD: gives each thread that a process starts a processor of its own.
-   PIN lists the processors, with a comma behind each. The threads take them in turn, as they are started. A round of a
+   PIN lists the processors, with commas. The threads take them in turn, as they are started. A round of a
    benchmark starts as many threads as the list has processors, and none of them ends before all have begun. */
 #define _GNU_SOURCE
 #include <dlfcn.h>
 #include <pthread.h>
 #include <sched.h>
 #include <stdlib.h>
+#include <string.h>
 
 /* The processor of the thread of this number, counted from 0. A process without processors to pin to ends. */
 static int processor_of(unsigned long thread)
 {
-    const char *all = getenv("PIN"), *rest = all;
-    char *end;
-    int processor = -1;
+    int processors[CPU_SETSIZE], count = 0;
+    char *list = strdup(getenv("PIN"));
 
-    for (unsigned long at = 0; rest != NULL && at <= thread; at += 1) {
-        rest = *rest == '\0' ? all : rest;
-        processor = (int)strtol(rest, &end, 10);
-        if (end == rest || *end != ',')
-            abort();
-        rest = end + 1;
-    }
-    if (processor < 0 || processor >= CPU_SETSIZE)
+    for (char *each = strtok(list, ","); each != NULL && count < CPU_SETSIZE; each = strtok(NULL, ","))
+        processors[count++] = atoi(each);
+    free(list);
+    if (count == 0)
         abort();
-    return processor;
+    return processors[thread % count];
 }
 
 int pthread_create(pthread_t *thread, const pthread_attr_t *attributes, void *(*run)(void *), void *argument)

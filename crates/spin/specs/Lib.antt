@@ -1,4 +1,5 @@
--- What the contracts of the locks and of their steps are written in, so that a crate which names `spin` alone can cite it.
+-- The names that the contracts of the locks and of their steps use. A crate that depends on `spin` alone can cite
+-- them here.
 pub use Rattle.spin_mutex.specs.MutexGuard
 pub use Rattle.spin_core.specs.Guard
 pub use Rattle.spin_core.specs.Values
@@ -12,9 +13,9 @@ pub use Rattle.spin_rwlock.specs.Guards
 pub use Rattle.spin_rwlock.specs.RwPasses
 pub use Rattle.spin_once.specs.Lazy
 pub use Rattle.spin_once.specs.OncePasses
+pub use Rattle.spin_once.specs.OnceValues
 pub use Rattle.spin_once.specs.LazyPasses
 pub use Rattle.spin_core.specs.Retries
-pub use Rattle.spin_history.specs.Entries
 pub use Rattle.spin_core.specs.Calls
 pub use Rattle.spin_step.specs.Plain
 pub use Rattle.spin_step.specs.Parties

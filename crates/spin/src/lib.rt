@@ -1,7 +1,7 @@
 //! Spinning locks that are proved, under the names of the Rust crate `spin`: each change of a lock's word is a public
 //! pure function of [`step`]. A user of the locks names this crate alone.
 //!
-//! Begin at [`Mutex`], and look at [`RwLock`], [`Once`], [`LazyLock`] and [`Barrier`]. The module [`mutex`] has the
+//! Begin at [`Mutex`], then see [`RwLock`], [`Once`], [`LazyLock`] and [`Barrier`]. The module [`mutex`] has the
 //! mutexes [`SpinMutex`](mutex::SpinMutex), [`TicketMutex`](mutex::TicketMutex) and [`FairMutex`](mutex::FairMutex).
 #![tactic(auto)]
 
@@ -10,11 +10,10 @@ pub use relax::{RelaxStrategy, Spin, Yield};
 pub use rwlock::RwLockReadGuard;
 pub use spin_barrier::barrier;
 pub use spin_core::{lock, relax};
-pub use spin_history::{growing, history, register, tally};
-pub use spin_mutex::mutex;
 pub use spin_once::{lazylock, once};
 pub use spin_rwlock::rwlock;
 
+pub mod mutex;
 pub mod step;
 
 /// A [`barrier::Barrier`] with the default strategy, [`Spin`].

@@ -1,7 +1,7 @@
 //! A barrier: threads arrive in groups, and wait until their group is full. Begin with [`Barrier::new`] and
 //! [`Barrier::wait`].
 //!
-//! It rests on the contract of `Mutex` alone.
+//! It uses only the contract of `Mutex`.
 ghost use Rattle.std.specs.Prelude.{◌≡◌};
 
 use spin_core::relax::{RelaxStrategy, Spin};
@@ -9,11 +9,11 @@ use spin_mutex::mutex::Mutex;
 use spin_step_more::barrier::{self, State};
 use std::sync::Wait;
 
-/// A barrier at which the threads of a group wait for one another. It is reusable: after each group the next one
-/// gathers.
+/// A barrier at which the threads of a group wait for each other. It is reusable: after each group it gathers the
+/// next one.
 ///
-/// Groups are counted in 64 bits. A thread that looks again only after a multiple of 2^64 groups waits for one group
-/// more. No thread leaves early.
+/// Groups are counted in 64 bits. If exactly a multiple of 2^64 groups fill up between two looks of a thread, it waits
+/// for one group more. No thread leaves early.
 ///
 /// # Examples
 /// ```
@@ -53,8 +53,8 @@ impl BarrierWaitResult {
 }
 
 impl<R> Barrier<R> {
-    /// Creates a barrier for groups of `n` threads, at which no thread has arrived. With 0 a group is one thread, as
-    /// with 1: it does not wait.
+    /// Creates a barrier for groups of `n` threads, at which no thread has arrived. With 0, as with 1, a group is one
+    /// thread, which does not wait.
     ///
     /// # Examples
     /// ```
@@ -74,11 +74,11 @@ impl<R: RelaxStrategy> Barrier<R> {
     /// Arrives at the barrier, and spins until the group is full.
     ///
     /// The arrival is one [`State::arrive`] under the lock. The last thread of a group fills it, leads it, and does not
-    /// wait. The others look again under the lock, with strategy `R` between two looks.
+    /// wait. The others look again under the lock, and relax with strategy `R` between two looks.
     ///
     /// # Contract
-    /// Whether and when the call returns is not promised. That a thread stays for its group and that one leads is known
-    /// of the step functions ([`State::arrive`] and `may_leave`); of this call a test shows it.
+    /// Whether and when the call returns is not promised. The step functions promise that a thread waits for its group
+    /// and that one thread leads ([`State::arrive`] and `may_leave`). Of this call a test shows it.
     pub fn wait<W: Wait>(&self, rt: &W) -> BarrierWaitResult {
         let mut state = self.state.lock(rt);
         let leads = state.arrive();

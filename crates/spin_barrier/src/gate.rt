@@ -1,8 +1,8 @@
 //! What a worker passes before its first step. Begin with [`Gate`].
 use std::sync::Wait;
 
-/// What each of a team of workers passes before its first step. The caller brings it: so a test sees which workers came,
-/// and that they are there at once.
+/// What each worker of a team passes before its first step. The caller provides it. A test can so see which workers
+/// arrived, and that all are there at once.
 pub trait Gate {
     /// Lets the worker pass. The call may wait.
     ///

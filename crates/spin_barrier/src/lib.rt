@@ -1,4 +1,4 @@
-//! `Barrier`, at which threads wait for one another: a `Mutex` over a state that a step function changes; and the gate
+//! `Barrier`, at which threads wait for each other: a `Mutex` over a state that a step function changes. Also the gate
 //! that a caller's workers pass.
 //!
 //! Begin with [`barrier::Barrier`].

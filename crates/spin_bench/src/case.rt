@@ -1,4 +1,4 @@
-//! What is done over and over: the calls of a lock, or the moves of a world.
+//! What is measured: the calls of a lock, or the moves of a world.
 use std::hint::spin_loop;
 use std::sync::Wait;
 use std::sync::atomic::{AtomicBool, AtomicU64, Ordering};
@@ -15,33 +15,32 @@ pub use rounds::Rounds;
 pub use seated::Seated;
 pub use world::{EVENTS, Plays};
 
-/// Calls that can be made over and over, also by threads beside one another. A call either adds 1 to what lies there, or
-/// sees a 1.
+/// Calls that are made over and over, also by several threads at once. A call either adds 1 to the value, or reads a 1.
 pub trait Case: Drop {
-    /// Makes so many calls, in the worker of that number, and answers the sum of what they saw. This is what is measured:
-    /// a loop that stands alone, with nothing in it but the calls and their sum.
+    /// Makes this many calls, in the worker with this number, and returns the sum of what they saw. This is what is
+    /// measured: a loop by itself, with only the calls and their sum in it.
     fn repeat<W: Wait>(&self, rt: &W, worker: usize, calls: u64) -> u64;
 
-    /// Whether the worker is to end, now that somebody may have told it to.
+    /// Returns `true` if the worker has to end, since it may have been told to.
     fn is_to_stop<W: Wait>(&self, _rt: &W, told: &AtomicBool) -> bool {
         told.load(Ordering::SeqCst)
     }
 
-    /// How much all calls have added.
+    /// Returns how much all calls have added.
     fn added(self) -> u64;
 }
 
 /// One call.
 pub trait Call: Drop {
-    /// Makes it, in the worker of that number, and answers what it saw, or 0 where it has added. It is to be inlined into
+    /// Makes the call, in the worker with this number. Returns what it saw, or 0 if it added. It should be inlined into
     /// the loop of [`Calls`].
     fn call<W: Wait>(&self, rt: &W, worker: usize) -> u64;
 
-    /// How much all calls have added.
+    /// Returns how much all calls have added.
     fn added(self) -> u64;
 }
 
-/// A call, over and over.
+/// Repeats a call.
 #[derive(Drop)]
 pub struct Calls<C>(pub C);
 
@@ -60,7 +59,7 @@ impl<C: Call> Case for Calls<C> {
     }
 }
 
-/// The two steps that no lock goes without: an exchange of 0 for 1, and a store of 0.
+/// The two steps that every lock needs: an exchange of 0 for 1, and a store of 0.
 #[derive(Drop)]
 pub struct Floor {
     word: AtomicU64,

@@ -1,4 +1,4 @@
-//! `spin_bench`: how long a lock's calls take. It prints counts and nanoseconds, of which `bench/compare` makes rows.
+//! `spin_bench`: how long a lock's calls take. It prints counts and nanoseconds; `bench/compare` makes rows of them.
 #![tactic(auto)]
 
 mod case;
@@ -11,7 +11,7 @@ use std::thread::Threads;
 use std::time::Clock;
 use std::{env, io};
 
-/// Does what the words after the program's name ask.
+/// Does what the words of the command line ask.
 fn command<R: Threads + Wait + Clock + Print + AllocGlobal + Sync>(
     rt: &R,
     name: &str,

@@ -6,24 +6,27 @@ use crate::case::{
 use crate::team::Team;
 use spin_barrier::barrier::Barrier;
 use spin_core::relax::Yield;
-use spin_mutex::mutex::{FairMutex, Mutex, SpinMutex, TicketMutex};
+use spin_fair::fair::FairMutex;
+use spin_flag::spin::SpinMutex;
+use spin_mutex::mutex::Mutex;
 use spin_rwlock::rwlock::RwLock;
+use spin_ticket::ticket::TicketMutex;
 use std::sync::Wait;
 use std::thread::Threads;
 use std::time::{Clock, Duration};
 use std::{io, sync};
 
-/// How many rounds a measure has.
+/// How many rounds are measured.
 const ROUNDS: usize = 7;
 
 /// How long one round is, in milliseconds.
 const ROUND_MILLIS: u64 = 100;
 
-/// How many cases the block has room for in which a case lies. So large a block begins a page but for the 16 bytes that
-/// the allocator keeps there. So no lock lies across two cache lines, as none does in the Rust driver.
+/// The size of the block that a case is in, as a number of cases. So large a block begins at a page, after the 16
+/// bytes that the allocator uses. So no lock crosses a cache line. The Rust driver does the same.
 const BLOCK: usize = 32_768;
 
-/// The cases that one thread does alone.
+/// The cases that one thread does by itself.
 const ALONE: [&str; 8] = [
     "fair_starve",
     "rw_upgrade",
@@ -35,7 +38,7 @@ const ALONE: [&str; 8] = [
     "world",
 ];
 
-/// The cases that threads do beside one another, but for `barrier_rounds`.
+/// The cases that several threads do at once, except `barrier_rounds`.
 const BESIDE: [&str; 13] = [
     "floor",
     "spin_mutex",
@@ -52,22 +55,22 @@ const BESIDE: [&str; 13] = [
     "std_mutex",
 ];
 
-/// What is done with a case.
+/// What to do with a case.
 #[derive(Clone, Copy)]
 enum Task {
-    /// Rounds, of each of which a line tells how many calls there were, how many nanoseconds they took, and how many of them
-    /// the thread made that made the fewest. A thread makes so many between two looks whether it is to stop.
+    /// Measure rounds. For each round a line says how many calls there were, how many nanoseconds they took, and how
+    /// many calls the slowest thread made. A thread makes this many calls before it checks again whether to stop.
     Measure(u64),
-    /// So many calls in each thread.
+    /// Make this many calls in each thread.
     Try(u64),
 }
 
-/// What the user is told whose words are no command.
+/// Returns the error for words that are no command.
 pub fn usage() -> io::Error {
     io::Error::other("usage: spin_bench CASE THREADS | spin_bench sizes | spin_bench smoke")
 }
 
-/// Measures one round of a case, and answers what its calls saw.
+/// Measures one round of a case, and returns what its calls saw.
 fn round<C: Case + Sync, R: Threads + Wait + Clock + Print + Sync>(
     rt: &R,
     case: &C,
@@ -80,7 +83,7 @@ fn round<C: Case + Sync, R: Threads + Wait + Clock + Print + Sync>(
     Ok(team.seen())
 }
 
-/// Measures a case, and answers what its calls saw.
+/// Measures all rounds of a case, and returns what their calls saw.
 fn rounds<C: Case + Sync, R: Threads + Wait + Clock + Print + Sync>(
     rt: &R,
     case: &C,
@@ -94,7 +97,7 @@ fn rounds<C: Case + Sync, R: Threads + Wait + Clock + Print + Sync>(
     Ok(seen)
 }
 
-/// Does the task, and answers what was seen in all.
+/// Does the task, and returns the sum of what was seen.
 fn on_shared<C: Case + Sync, R: Threads + Wait + Clock + Print + Sync>(
     rt: &R,
     task: Task,
@@ -111,8 +114,8 @@ fn on_shared<C: Case + Sync, R: Threads + Wait + Clock + Print + Sync>(
     }
 }
 
-/// Does the task, and answers what was seen in all, together with what is left at the end: the number of calls, where
-/// each did what it had to.
+/// Does the task, and returns the sum of what was seen, and what is left at the end. If each call did its work, that
+/// is the number of calls.
 fn on_case<C: Case + Sync, R: Threads + Wait + Clock + Print + AllocGlobal + Sync>(
     rt: &R,
     task: Task,
@@ -125,7 +128,7 @@ fn on_case<C: Case + Sync, R: Threads + Wait + Clock + Print + AllocGlobal + Syn
     Ok(block.remove(0).added().wrapping_add(seen))
 }
 
-/// The same of the case of that name, which one thread does alone.
+/// The same for the case with this name that one thread does by itself.
 fn on_alone<R: Threads + Wait + Clock + Print + AllocGlobal + Sync>(
     rt: &R,
     task: Task,
@@ -145,7 +148,7 @@ fn on_alone<R: Threads + Wait + Clock + Print + AllocGlobal + Sync>(
     }
 }
 
-/// The same of the case of that name.
+/// The same for any case with this name.
 fn on_name<R: Threads + Wait + Clock + Print + AllocGlobal + Sync>(
     rt: &R,
     task: Task,
@@ -182,9 +185,9 @@ fn report<R: Threads + Wait + Clock + Print + AllocGlobal + Sync>(
     println!(rt; "{name}.{threads} {sum}")
 }
 
-/// How many calls a thread makes of that case between two looks whether it is to stop. A thread that is alone makes so
-/// many that the looks cost nothing; each play has the whole schedule. Among others each call is slow enough, and where one
-/// that the others wait for does not run, the round still ends soon after its time.
+/// Returns how many calls of this case a thread makes before it checks again whether to stop. For a thread by itself
+/// they are so many that the checks cost nothing; each play uses the whole schedule. With other threads each call is
+/// slow enough for few. If a thread that others wait for is not running, the round still ends soon after its time.
 fn chunk(name: &str, threads: u8) -> u64 {
     if name == "world" {
         EVENTS
@@ -195,7 +198,7 @@ fn chunk(name: &str, threads: u8) -> u64 {
     }
 }
 
-/// Measures the case of that name in so many threads.
+/// Measures the case with this name in this many threads.
 pub fn measure<R: Threads + Wait + Clock + Print + AllocGlobal + Sync>(
     rt: &R,
     name: &str,
@@ -212,7 +215,7 @@ pub fn measure<R: Threads + Wait + Clock + Print + AllocGlobal + Sync>(
     }
 }
 
-/// Does each of these cases for a try.
+/// Tries each of these cases.
 fn try_each<R: Threads + Wait + Clock + Print + AllocGlobal + Sync>(
     rt: &R,
     calls: u64,
@@ -225,7 +228,7 @@ fn try_each<R: Threads + Wait + Clock + Print + AllocGlobal + Sync>(
     Ok(())
 }
 
-/// Does each case for a try. Rounds at a barrier are few: on a busy machine each waits until all its threads have had a
+/// Tries each case. Barriers get few rounds: on a busy machine a round waits until each of its threads has had a
 /// processor.
 pub fn try_all<R: Threads + Wait + Clock + Print + AllocGlobal + Sync>(rt: &R) -> io::Result<()> {
     try_each(rt, 1000, 1, &ALONE)?;

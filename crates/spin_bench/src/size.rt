@@ -1,13 +1,13 @@
 //! How large the locks and their guards are.
-use spin_mutex::mutex::{
-    FairMutex, FairMutexGuard, Mutex, MutexGuard, SpinMutex, SpinMutexGuard, TicketMutex,
-    TicketMutexGuard,
-};
+use spin_fair::fair::{FairMutex, FairMutexGuard};
+use spin_flag::spin::{SpinMutex, SpinMutexGuard};
+use spin_mutex::mutex::{Mutex, MutexGuard};
 use spin_rwlock::rwlock::{RwLock, RwLockReadGuard, RwLockUpgradableGuard, RwLockWriteGuard};
+use spin_ticket::ticket::{TicketMutex, TicketMutexGuard};
 use std::mem::size_of;
 use std::{io, sync};
 
-/// The bytes of each lock of a `u64` and of its guard, in the order in which `bench/compare` names them.
+/// Returns the size in bytes of each lock of a `u64` and of its guard, in the order that `bench/compare` uses.
 fn sizes() -> [usize; 14] {
     [
         size_of::<SpinMutex<u64>>(),

@@ -1,4 +1,4 @@
-//! A case, done by threads beside one another.
+//! A case that several threads do at once.
 use crate::case::Case;
 use std::sync::Wait;
 use std::sync::atomic::{AtomicBool, AtomicU64, Ordering};
@@ -6,19 +6,20 @@ use std::thread::{Scope, Threads};
 use std::time::{Clock, Duration, Instant};
 use std::{io, sync, thread};
 
-/// What threads do a case with, and what they did.
+/// What the threads of a case share, and what they did.
 #[derive(Drop)]
 pub struct Team<'a, C, R> {
     rt: &'a R,
     case: &'a C,
-    /// How many calls a thread makes before it looks whether it is to stop.
+    /// How many calls a thread makes before it checks again whether to stop.
     chunk: u64,
     most_chunks: u64,
-    /// Whether all threads were started. Their starter has the lock until then, so that none begins without the others.
+    /// Whether all threads are started. The thread that starts them holds the lock until then, so that all begin
+    /// together.
     complete: sync::Mutex<bool>,
     stop: AtomicBool,
     calls: AtomicU64,
-    /// The calls of the thread that made the fewest.
+    /// The fewest calls that any thread made.
     fewest: AtomicU64,
     seen: AtomicU64,
 }
@@ -38,22 +39,22 @@ impl<'a, C: Case + Sync, R: Threads + Wait + Clock + Sync> Team<'a, C, R> {
         }
     }
 
-    /// How many calls were made.
+    /// Returns how many calls were made.
     pub fn calls(&self) -> u64 {
         self.calls.load(Ordering::SeqCst)
     }
 
-    /// How many of them the thread made that made the fewest.
+    /// Returns the fewest calls that any thread made.
     pub fn fewest(&self) -> u64 {
         self.fewest.load(Ordering::SeqCst)
     }
 
-    /// The sum of what they saw.
+    /// Returns the sum of what the calls saw.
     pub fn seen(&self) -> u64 {
         self.seen.load(Ordering::SeqCst)
     }
 
-    /// One thread's whole work.
+    /// Does the work of one thread.
     fn work(&self, worker: usize) {
         if !*self.complete.lock(self.rt) {
             return;
@@ -71,7 +72,7 @@ impl<'a, C: Case + Sync, R: Threads + Wait + Clock + Sync> Team<'a, C, R> {
         self.seen.fetch_add(seen, Ordering::SeqCst);
     }
 
-    /// Starts so many threads. Where one is refused, those that were started do nothing.
+    /// Starts this many threads. If one is refused, those that were started do nothing.
     fn start<'s, E>(&'s self, scope: &Scope<'s, E>, threads: usize) -> io::Result<()> {
         let mut complete = self.complete.lock(self.rt);
         for worker in 0..threads {
@@ -81,7 +82,7 @@ impl<'a, C: Case + Sync, R: Threads + Wait + Clock + Sync> Team<'a, C, R> {
         Ok(())
     }
 
-    /// Does the case in so many threads, tells them to stop after that time, and waits until they have.
+    /// Does the case in this many threads, tells them to stop after this time, and waits until they have.
     pub fn run(&self, threads: usize, time: Duration) -> io::Result<()> {
         thread::scope(thread::scope_env(), self.rt, |scope| -> io::Result<()> {
             self.start(scope, threads)?;
@@ -91,7 +92,7 @@ impl<'a, C: Case + Sync, R: Threads + Wait + Clock + Sync> Team<'a, C, R> {
         })
     }
 
-    /// As `run`, and answers how many nanoseconds it took.
+    /// Like `run`, and returns how many nanoseconds it took.
     pub fn time(&self, threads: usize, time: Duration) -> io::Result<u128> {
         let start = Instant::now(self.rt)?;
         self.run(threads, time)?;

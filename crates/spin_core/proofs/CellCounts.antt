@@ -1,4 +1,4 @@
--- Sums over the views: where nobody counts, and how they change where one party comes to a new view, or goes.
+-- Sums over the views: when they are zero, and how they change when a party gets a new view or leaves.
 use Rattle.std.proofs.Common.{◌≡◌, ℕ, zero, suc, ◌+◌, List, [], ◌∷◌, ◌++◌, refl, ap, arith, set}
 use Rattle.std.specs.Prelude.{Option, Some, None, sum_by}
 use Rattle.std.proofs.lemmas.List.Sums.{sum_by-cons, sum_by-append, sum_by_push}
@@ -7,7 +7,7 @@ use mathlib.Core.Path.{sym}
 use lib.ListN.{get_elem?}
 use Rattle.spin_core.specs.Cell.{Stands, after}
 
--- what one party gives to a sum
+-- what one party adds to a sum
 abbrev pub part_of : {V : Type 0} → (V → ℕ) → Option V → ℕ
 part_of g None = 0
 part_of g (Some v) = g v
@@ -21,7 +21,7 @@ module _ {V : Type 0} (g : V → ℕ) where
   without before behind v =
       let a = sum_by-append g before (v ∷ behind) in let b = sum_by-append g before behind in let c = sum_by-cons g v behind in omega arith
 
-  -- the sum is the party's part, and a rest that stays when the party comes to another view
+  -- the sum is the party's part plus a rest, which does not change when the party gets another view
   abbrev pub Splits : ℕ → Option V → List V → Type 0
   Splits id view vs = (k : ℕ) × (sum_by g vs ≡ k + part_of g view) × ((w : V) → sum_by g (after id view vs w) ≡ k + g w)
 
@@ -38,6 +38,6 @@ module _ {V : Type 0} (g : V → ℕ) where
   splits id None vs h = (sum_by g vs, omega arith, λ w. let d = sum_by_push g vs w in omega arith)
   splits id (Some v) vs h = splits_at vs id v h
 
-  -- a sum loses the party's part as it was, and gains its part as it is
+  -- the sum loses the party's old part and gains its new one
   pub moves : (id : ℕ) (view : Option V) (vs : List V) (w : V) → Stands id view vs → sum_by g (after id view vs w) + part_of g view ≡ sum_by g vs + g w
   moves id view vs w h = let s = splits id view vs h in let a = s.2 w in omega (arith, s.1)

@@ -1,5 +1,5 @@
 -- The fields of a cell in memory: the first word, the value, and the second word or nothing. Assumes `Logic`.
---     fields_out     the words and the value, and the cell again from any that meet the rule
+--     fields_out     the words and the value, and the cell again from any that satisfy the rule
 --     written_out, written_in, row_out, row_in      the fields of the cell as it is written, and of its row
 use Rattle.std.proofs.Common.{ℕ, zero, ◌+◌, List, [], ◌∷◌, refl, sym, ◌∙◌}
 use seplogic.Ra.Ura.{Ura}

@@ -1,4 +1,4 @@
--- What a `&` to a permit holds: its reader or its writer lends what it has of the value. Assumes `Logic`.
+-- What a `&` to a permit owns: a reader or a writer lends what it has of the value. Assumes `Logic`.
 --     Lends-tracked     the law of a party that tracks the value
 --     permit_laws, Lends-permit     the laws of a permit.        writer_laws, Lends-writer     the laws of a writer
 use Rattle.std.proofs.Common.{◌≡◌, ℕ, ◌+◌, true, List, [], ◌∷◌, ◌++◌, refl, sym, Option, Some, None}
@@ -30,7 +30,7 @@ use Rattle.spin_core.specs.CellMemory.{offset, Known, Id, round_code, tag, Part,
 use Rattle.spin_core.proofs.CellParts.{piece_in, piece_cut}
 use Rattle.spin_core.proofs.Signs.{signs}
 
--- ---- what is shared may be had twice, and for less time
+-- ---- what is shared may be copied, and may be shared for less time
 reader_laws : (Y R : RattleType) {V : Type 0} (c : V → Gv) (S : RattleType) (holds : ℕ → S.Denot → List V → Type 0) (ways : Ways R.Denot V S.Denot) → RowLaws R → (β : Lft) (b o : ℕ) (u : Use) (x : Option R.Denot)
     → ShrLaws (reader_shares Y R c S holds ways β b o u x)
 reader_laws Y R c S holds ways L β b o reads (Some x) = some_shr_laws (Known ways Y S R) (λ _. within β (shown R b o x)) (λ _. within_shr_laws β (shown R b o x) (L x b (o + offset R)))
@@ -171,7 +171,7 @@ module _ {M : Type 1} {𝓤 : Ura M} (𝓛 : Logic 𝓤) where
     Lends-permit L l le (block_ptr b o) view x = Lends-owned b o view L l le (use_of ways.1 view) x
     Lends-permit L l le null_ptr view x = Lends-false 𝓛 (permit_shares Y R c S holds ways β null_ptr view x) l
 
-    -- ---- a party that reads may see the value for the rest of the cell's borrow: its token is never given back
+    -- ---- a party that reads may show the value for the rest of the cell's borrow: its token is never given back
     abbrev pub IsShown : ℕ → ℕ → Option R.Denot → R.Denot → SProp 𝓤
     IsShown b o v x = guard 𝓤 ((v ≡ Some x) × Seen ways.0 x) ⟦ shown R b o x β ⟧
 
@@ -195,7 +195,7 @@ module _ {M : Type 1} {𝓤 : Ura M} (𝓛 : Logic 𝓤) where
         rewrite ! 0 (λ (u : Use). ‵ (right R b o t ways.0 u (Some x))) is refl $ move ! (1 ∷ 0 ∷ []) $ use2 𝓛 (later (given (Seen ways.0 x) (‵ (shown R b o x β)))) (shown_by L b o t x) $ await ! tt $ learn ! (λ known.
         now ! $ show ! (IsShown b o (Some x)) x $ check ! (refl, known) $ keep ! (0 ∷ []) $ done !)))
 
-    -- ---- and it keeps its permit, where all read for good
+    -- ---- and it keeps its permit, if all readers may read for ever
     reader_cut : RowLaws R → (b o : ℕ) (t : Id) (way : Way R.Denot) → Fixes way → (x : R.Denot) → ⟦ reader R b o t way x ⟧ ⊢ ⟦ reader R b o t way x ⟧ ∗ ⟦ reader R b o t way x ⟧
     reader_cut L b o t (fixes fact) fixed x =
         let way : Way R.Denot = fixes fact in let V' : Lft → Fml = shown R b o x in let Rd : ℕ → Fml = λ n. fsep (piece R way t.round (n, x)) (V' (n ∷ t.life)) in

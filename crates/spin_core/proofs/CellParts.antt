@@ -1,4 +1,4 @@
--- The parts of a round: cut, glued and compared. Assumes `Logic`.
+-- The parts of a round: how they are split, joined and compared. Assumes `Logic`.
 use Rattle.std.proofs.Common.{◌≡◌, Bool, true, ℕ, zero, suc, ◌+◌, ◌-◌, ◌^◌, ◌<◌, ◌≤◌, [], ◌∷◌, refl, arith}
 use mathlib.Mathlib.Data.Part.{◌∈◌}
 use seplogic.Ra.Ura.{Ura}
@@ -46,7 +46,7 @@ module _ {M : Type 1} {𝓤 : Ura M} (𝓛 : Logic 𝓤) (R : RattleType) (γ : 
   parts_glue s i j some fits = let r = counts_some 63 (i + j) some fits in
       qed 𝓛 (‵ (parts R γ s i) ∷ ‵ (parts R γ s j) ∷ []) ∵ use2 𝓛 (‵ (share R γ s r.0)) (glued s i j r.0 r.1) $ by ! (parts_in s (i + j) r.0 r.1)
 
-  -- all parts but r
+  -- all parts except r
   pub parts_but : (s : Round R) (r : ℕ) → r < 2 ^ 63 → ⟦ parts R γ s (2 ^ 63) ⟧ ⊢ ⟦ parts R γ s (2 ^ 63 - r) ⟧
   parts_but s zero small = id⊢ 𝓤 _
   parts_but s (suc r) small =
@@ -58,16 +58,28 @@ module _ {M : Type 1} {𝓤 : Ura M} (𝓛 : Logic 𝓤) (R : RattleType) (γ : 
       use1 𝓛 (‵ (parts R γ s 1) ⊛ ‵ (parts R γ s (2 ^ 63 - 1))) (parts_cut s (2 ^ 63) 1 (2 ^ 63 - 1) (omega arith) (omega arith) (omega arith) (omega arith)) $ split ! $
       by ! (glued s 1 (2 ^ 63 - 1) full_share (Counts-all 63))
 
-  -- two parts are of one round, and so of one value
-  pub parts_agree : (s u : Round R) (i j : ℕ) → ⟦ parts R γ s i ⟧ ∗ ⟦ parts R γ u j ⟧ ⊢ guard 𝓤 (s ≡ u) (⟦ parts R γ s i ⟧ ∗ ⟦ parts R γ u j ⟧)
-  parts_agree s u i j = let g : Gv = round_code R s in let h : Gv = round_code R u in
-      qed 𝓛 (‵ (parts R γ s i) ∷ ‵ (parts R γ u j) ∷ []) ∵ fpick ! (λ e. fpick ! (λ ce. fsplit ! $ move ! (2 ∷ []) $ fpick ! (λ f. fpick ! (λ cf. fsplit ! $ move ! (3 ∷ 1 ∷ []) $
-      let Z : SProp 𝓤 = ⟦ tag γ e g ⟧ ∗ ⟦ tag γ f h ⟧ in use2 𝓛 (given (s ≡ u) (‵ (tag γ e g) ⊛ ‵ (tag γ f h))) (own_sum 𝓛 halved γ (e, g) (f, h) (guard 𝓤 (s ≡ u) Z) (λ x m. guard_i 𝓤 (s ≡ u) Z ((coded× coded_ℕ R.coded).inj s u m.0.1))) $
-      learn ! (λ same. check ! same $ split ! $ move ! (2 ∷ 1 ∷ []) $ fjoin ! $ use1 𝓛 (‵ (parts R γ u j)) (parts_in u j f cf) $ move ! (2 ∷ 1 ∷ []) $ fjoin ! $ use1 𝓛 (‵ (parts R γ s i)) (parts_in s i e ce) $ done !)))))
+  -- two shares are of one round, and so of one value
+  shares_agree : (s u : Round R) (e f : Share) → ⟦ share R γ s e ⟧ ∗ ⟦ share R γ u f ⟧ ⊢ guard 𝓤 (s ≡ u) (⟦ share R γ s e ⟧ ∗ ⟦ share R γ u f ⟧)
+  shares_agree s u e f = let g : Gv = round_code R s in let h : Gv = round_code R u in let Z : SProp 𝓤 = ⟦ tag γ e g ⟧ ∗ ⟦ tag γ f h ⟧ in
+      qed 𝓛 (‵ (share R γ s e) ∷ ‵ (share R γ u f) ∷ []) ∵ fsplit ! $ move ! (2 ∷ []) $ fsplit ! $ move ! (3 ∷ 1 ∷ []) $
+      use2 𝓛 (given (s ≡ u) (‵ (tag γ e g) ⊛ ‵ (tag γ f h))) (own_sum 𝓛 halved γ (e, g) (f, h) (guard 𝓤 (s ≡ u) Z) (λ x m. guard_i 𝓤 (s ≡ u) Z ((coded× coded_ℕ R.coded).inj s u m.0.1))) $
+      learn ! (λ same. check ! same $ split ! $ move ! (2 ∷ 1 ∷ []) $ fjoin ! $ move ! (2 ∷ 1 ∷ []) $ fjoin ! $ done !)
 
-  -- ---- some part of a round, where its readers read for good
+  -- so two parts are
+  pub parts_agree : (s u : Round R) (i j : ℕ) → ⟦ parts R γ s i ⟧ ∗ ⟦ parts R γ u j ⟧ ⊢ guard 𝓤 (s ≡ u) (⟦ parts R γ s i ⟧ ∗ ⟦ parts R γ u j ⟧)
+  parts_agree s u i j = qed 𝓛 (‵ (parts R γ s i) ∷ ‵ (parts R γ u j) ∷ []) ∵ fpick ! (λ e. fpick ! (λ ce. move ! (1 ∷ []) $ fpick ! (λ f. fpick ! (λ cf. move ! (1 ∷ []) $
+      use2 𝓛 (given (s ≡ u) (‵ (share R γ s e) ⊛ ‵ (share R γ u f))) (shares_agree s u e f) $
+      learn ! (λ same. check ! same $ split ! $ use1 𝓛 (‵ (parts R γ s i)) (parts_in s i e ce) $ move ! (1 ∷ []) $ use1 𝓛 (‵ (parts R γ u j)) (parts_in u j f cf) $ move ! (1 ∷ []) $ done !)))))
+
+  -- ---- some part of a round whose readers may read for ever
   pub piece_in : (way : Way R.Denot) (s : Round R) (e : Share) → Part way s.1 e → ⟦ share R γ s e ⟧ ⊢ ⟦ piece R way γ s ⟧
   piece_in way s e known = qed 𝓛 (‵ (share R γ s e) ∷ []) ∵ fpack ! (Part way s.1 e) (λ _. share R γ s e) known $ fpack ! Share (λ r. fex (Part way s.1 r) (λ _. share R γ s r)) e $ done !
+
+  -- two pieces are of one round
+  pub pieces_agree : (way : Way R.Denot) (s u : Round R) → ⟦ piece R way γ s ⟧ ∗ ⟦ piece R way γ u ⟧ ⊢ guard 𝓤 (s ≡ u) (⟦ piece R way γ s ⟧ ∗ ⟦ piece R way γ u ⟧)
+  pieces_agree way s u = qed 𝓛 (‵ (piece R way γ s) ∷ ‵ (piece R way γ u) ∷ []) ∵ fpick ! (λ e. fpick ! (λ is. move ! (1 ∷ []) $ fpick ! (λ f. fpick ! (λ it. move ! (1 ∷ []) $
+      use2 𝓛 (given (s ≡ u) (‵ (share R γ s e) ⊛ ‵ (share R γ u f))) (shares_agree s u e f) $
+      learn ! (λ same. check ! same $ split ! $ use1 𝓛 (‵ (piece R way γ s)) (piece_in way s e is) $ move ! (1 ∷ []) $ use1 𝓛 (‵ (piece R way γ u)) (piece_in way u f it) $ move ! (1 ∷ []) $ done !)))))
 
   halved_share : (s : Round R) (e : Share) → ⟦ share R γ s e ⟧ ⊢ ⟦ share R γ s (Share.left e) ⟧ ∗ ⟦ share R γ s (Share.right e) ⟧
   halved_share s e = let g : Gv = round_code R s in let l : Share = Share.left e in let r : Share = Share.right e in

@@ -1,4 +1,4 @@
--- The views under the invariant, one at a time, and their beginning. Assumes `Logic`.
+-- The views in the invariant: one at a time, and at the beginning. Assumes `Logic`.
 use Rattle.std.proofs.Common.{◌≡◌, ℕ, zero, suc, ◌+◌, List, [], ◌∷◌, ◌++◌, set, sym, refl, ap, subst, arith}
 use mathlib.Core.Path.{Path}
 use mathlib.Core.Option.{some}
@@ -43,7 +43,7 @@ module _ {M : Type 1} {𝓤 : Ura M} (𝓛 : Logic 𝓤) {V : Type 0} (cv : Code
   two_parts : (g : Gv) → ◌∈◌ {α = Share × Gv} (full_share, g) (halved.op (quarter, g) (three_quarters, g))
   two_parts g = Prod.mk-mem-op Share.op (Ag.op (SetCoded-set (coded itself))) {a = quarter} {a' = three_quarters} {x = full_share} {b = g} {b' = g} {y = g} Share.quarters (Ag.idem (SetCoded-set (coded itself)) g)
 
-  -- whoever has the whole of an entry makes a view of it, in two parts
+  -- the whole of an entry becomes a view, in two parts
   resets : (k : ℕ) (g : Gv) (u : V) → ⟦ Whole k g ⟧ ⊢ upd 𝓤 (⟦ L k u ⟧ ∗ ⟦ R k u ⟧)
   resets k g u = let B : Share × Gv → Type 0 = λ x. Path (Share × Gv) x (full_share, c u) in let F : Share × Gv → SProp 𝓤 = λ x. guard 𝓤 (B x) ⟦ entry halved γ k x ⟧ in let Z : SProp 𝓤 = ⟦ L k u ⟧ ∗ ⟦ R k u ⟧ in
       via 𝓤 (upd 𝓤 (ex 𝓤 F)) (entry_set halved 𝓛 γ k (full_share, g) B ∣ ((full_share, c u), refl) ∣₁ (λ f d. absurd (not-OpDef-full_share f.0 d.0)))
@@ -58,7 +58,7 @@ module _ {M : Type 1} {𝓤 : Ura M} (𝓛 : Logic 𝓤) {V : Type 0} (cv : Code
   abbrev pub Moved : ℕ → List V → ℕ → ℕ → V → SProp 𝓤
   Moved k vs i j u = upd 𝓤 (⟦ roster c γ k (set vs i u) ⟧ ∗ ⟦ R j u ⟧)
 
-  -- a party's view is the roster's, and both move
+  -- a party's view is the one in the roster, and both change together
   pub moves : (vs : List V) (k i j : ℕ) (v : V) → j ≡ k + i → ⟦ roster c γ k vs ⟧ ∗ ⟦ R j v ⟧ ⊢ guard 𝓤 (get_elem? vs i ≡ some v) (all 𝓤 (Moved k vs i j))
   moves [] k i j v e = qed 𝓛 (‵ (roster c γ k []) ∷ ‵ (R j v) ∷ []) ∵ fpick ! (λ g. move ! (1 ∷ 0 ∷ []) $
       use2 𝓛 (given (OpDef halved.op (three_quarters, c v) (full_share, g)) (‵ (R j v) ⊛ ‵ (unused γ k g))) (entries_beside halved 𝓛 γ k j (λ _. (full_share, g)) (three_quarters, c v) (omega arith)) $
@@ -83,7 +83,7 @@ module _ {M : Type 1} {𝓤 : Ura M} (𝓛 : Logic 𝓤) {V : Type 0} (cv : Code
   joins (w ∷ ws) k u = let Z : SProp 𝓤 = ex 𝓤 (Joined k (w ∷ ws) u) in qed 𝓛 (‵ (L k w) ∷ ‵ (roster c γ (suc k) ws) ∷ []) ∵ move ! (1 ∷ []) $ use1 𝓛 (raw (upd 𝓤 (ex 𝓤 (Joined (suc k) ws u)))) (joins ws (suc k) u) $
       settle 𝓛 Z (Kit.some (λ (j : ℕ). ‵ (roster c γ (suc k) (ws ++ u ∷ [])) ⊛ ‵ (R j u))) $ pick ! (λ j. split ! $ suffices ! _ (upd_i 𝓤 Z) $ Kit.show ! (Joined k (w ∷ ws) u) j $ move ! (2 ∷ 0 ∷ []) $ Kit.join ! $ done !)
 
-  -- the views of parties that are gone
+  -- the views of parties that have left
   pub enrols : (vs : List V) (k : ℕ) (g : Gv) → ⟦ unused γ k g ⟧ ⊢ upd 𝓤 ⟦ roster c γ k vs ⟧
   enrols [] k g = qed 𝓛 (‵ (unused γ k g) ∷ []) ∵ suffices ! _ (upd_i 𝓤 ⟦ roster c γ k [] ⟧) $ fpack ! Gv (unused γ k) g $ done !
   enrols (w ∷ ws) k g = let Z : SProp 𝓤 = ⟦ roster c γ k (w ∷ ws) ⟧ in qed 𝓛 (‵ (unused γ k g) ∷ []) ∵ use1 𝓛 (‵ (Whole k g) ⊛ ‵ (unused γ (suc k) g)) (entries_take halved 𝓛 γ k (λ _. (full_share, g))) $ split ! $

@@ -1,4 +1,5 @@
--- A cell may be shared and its parties may go to another thread, where the value may. What is shared of the value is the same to every thread where `sees` has it.
+-- A cell may be shared if the value may, and its parties may then be sent. If `sees` has it, what is shared of the
+-- value is the same for every thread.
 use Rattle.std.proofs.Common.{◌≡◌, Bool, ℕ, zero, suc, ◌+◌, List, [], ◌∷◌, refl, Option, Some, None}
 use base.Fraction.{full_share}
 use base.Stored.{Gv}

@@ -1,4 +1,5 @@
--- What walks over permits share: the tokens and facts that they do not look at, and a permit closed at the view that its step came to. Assumes `Logic`.
+-- What the walks over permits share: tokens and facts that a walk does not use, and a permit closed at the view that
+-- its step leads to. Assumes `Logic`.
 use Rattle.std.proofs.Common.{◌≡◌, ℕ, zero, suc, List, [], ◌∷◌, Option, Some, refl}
 use seplogic.Ra.Ura.{Ura}
 use base.Logic.{SProp, ent, sep, id⊢, via, snd∗}
@@ -22,7 +23,7 @@ use Rattle.spin_core.proofs.WalkSteps.{says}
 use Rattle.spin_core.proofs.CellSteps as steps
 use Rattle.spin_core.proofs.CellWalks.{Entry, J, Back, mine, exits}
 
--- the tokens of the lifetimes that a step does not look at
+-- the tokens of lifetimes that a step does not use
 abbrev pub Many : Type 0 → ℕ → Type 0
 Many X zero = Unit {0}
 Many X (suc n) = X × Many X n
@@ -88,7 +89,7 @@ module _ {M : Type 1} {𝓤 : Ura M} (𝓛 : Logic 𝓤) (𝓜 : Model 𝓤 𝓛
           says t (h.key ≡ h.key) refl $ says t (finds s.0 s.1) so.0.1 $ join t $ says t (So s) so.1 $ join t $
           says t (then n s.0) so.0.0 $ join t $ move t (3 ∷ 4 ∷ []) $ join t $ move t (3 ∷ 0 ∷ []) $ join t $ move t (0 ∷ 2 ∷ 1 ∷ []) $ go s))
 
--- facts that a walk does not look at, and a last one
+-- facts that a walk does not use, and a last one
 abbrev pub Facts : ℕ → Type 1
 Facts zero = Unit {1}
 Facts (suc n) = Type 0 × Facts n

@@ -1,4 +1,5 @@
--- One step on a cell's words: the party gives back what it had of the value, comes to a new view, and takes what that may use. Assumes `Logic`.
+-- One step on a cell's words: the party gives back what it had of the value, gets a new view, and takes what that view
+-- may use. Assumes `Logic`.
 use Rattle.std.proofs.Common.{◌≡◌, ◌∙◌, ◌++◌, ℕ, ◌+◌, [], ◌∷◌, List, refl, sym, subst, arith, Option, Some, None, ap}
 use seplogic.Ra.Ura.{Ura}
 use base.Logic.{SProp, ex, all, all_e, upd, upd_i, via}
@@ -55,18 +56,18 @@ module _ {M : Type 1} {𝓤 : Ura M} (𝓛 : Logic 𝓤) (R : RattleType) (L : R
     abbrev pub I : Fml
     I = inner R b o t cv.code S holds ways
 
-    -- what is known of a value that nobody writes, by the second
+    -- what is known of a value that nobody writes, by the second word
     abbrev know : S.Denot → R.Denot → Type 0
     know = IsKnown ways.2
 
-    -- what a step leaves its party with, where the number found was n
+    -- what a step leaves to its party, if it found the number n
     abbrev pub told : Option V → (ℕ → V → Option R.Denot → Type 0) → ℕ → Option R.Denot → V × Option R.Denot → Fml
     told view then n v s = fsep (fact (then n s.0 s.1 × Keeps ways view (Some s.0) v s.1)) (fsep (Stand (Some s.0)) (Held (f s.0) way s.1))
 
     abbrev pub moved : Option V → (ℕ → V → Option R.Denot → Type 0) → ℕ → Option R.Denot → Fml
     moved view then n v = fex (V × Option R.Denot) (told view then n v)
 
-    -- what it tells beside that where it leaves the second at m: what the party learns of the value
+    -- what a step tells in addition if the second word is then m: what the party learns of the value
     abbrev pub learning : Option V → Option R.Denot → S.Denot → (ℕ → V → Type 0) → ℕ → V → Option R.Denot → Type 0
     learning view v m then n w x = then n w × Learns (know m) (use_of f view) (f w) v x
 
@@ -84,7 +85,7 @@ module _ {M : Type 1} {𝓤 : Ura M} (𝓛 : Logic 𝓤) (R : RattleType) (L : R
       abbrev u : Use
       u = use_of ways.1 view
 
-      -- the state of the value goes with the views
+      -- the state of the value changes with the views
       shifts : (m m' : S.Denot) → Limits way (readers_of f vs) (writers_of f vs) → Going way u (f w) v (readers_of f vs) (Limits way (readers_of f us) (writers_of f us)) → Carries (know m) (know m') u (f w) v
           → ⟦ states m vs ⟧ ∗ ⟦ Held u way v ⟧ ⊢ upd 𝓤 (⟦ states m' us ⟧ ∗ ⟦ Got way (know m') u (f w) v ⟧)
       shifts m m' =
@@ -105,7 +106,7 @@ module _ {M : Type 1} {𝓤 : Ura M} (𝓛 : Logic 𝓤) (R : RattleType) (L : R
     abbrev pub Mine : Option V → Option R.Denot → Fml
     Mine view v = fsep (Stand view) (Held (use_of f view) way v)
 
-    -- what a step owes that leaves s, and these views, where the second was m
+    -- what a step must show that leaves s and these views, if the second word was m
     abbrev Owed : Option V → Option R.Denot → ℕ → S.Denot → ℕ × S.Denot → List V → V → Type 0
     Owed view v r m s us w = Going way (use_of f view) (f w) v r (Carrying ways.2 m s.1 (use_of f view) (f w) v (Meets holds ways s.0 s.1 us))
 
@@ -119,7 +120,7 @@ module _ {M : Type 1} {𝓤 : Ura M} (𝓛 : Logic 𝓤) (R : RattleType) (L : R
       carries_of : Carries (know m) (know s.1) (use_of f view) (f w) v
       carries_of = carrying_carries ways.2 m s.1 (use_of f view) (f w) v (Meets holds ways s.0 s.1 us) (going_rest way (use_of f view) (f w) v r owed)
 
-    -- what a step from s asks, where it finds k and picks an x of X, which says where it leads
+    -- What a step from s needs, if it finds k and chooses an x of X. The x says where it leads.
     abbrev pub Law : {X : Type 0} → Option V → Option R.Denot → (X → ℕ → V → Type 0) → ℕ × S.Denot → (X → ℕ × S.Denot) → ℕ → Type 0
     Law {X} view v then s to k = (id : ℕ) (vs : List V) → Meets holds ways s.0 s.1 vs → Stands id view vs
         → (w : V) × (x : X) × Owed view v (readers_of f vs) s.1 (to x) (after id view vs w) w × then x k w
@@ -150,7 +151,7 @@ module _ {M : Type 1} {𝓤 : Ura M} (𝓛 : Logic 𝓤) (R : RattleType) (L : R
         settle 𝓛 Z (‵ (states s'.1 us) ⊛ ‵ (Got way (know s'.1) (f v₀) (f w) v)) $ split ! $ suffices ! Z (upd_i 𝓤 Z) $ move ! (2 ∷ 3 ∷ []) $
         by ! (leads (Some v₀) id k to us w v then r.1 (meets_of (Some v₀) v (readers_of f vs) s.1 s' us w r.2) r.3)))))
 
-    -- what a step tells may be put weaker
+    -- a step may tell less
     pub tells_less : (view : Option V) (v : Option R.Denot) (then then' : ℕ → V → Option R.Denot → Type 0) (k : ℕ) → ((w : V) (x : Option R.Denot) → then k w x → then' k w x) → ⟦ moved view then k v ⟧ ⊢ ⟦ moved view then' k v ⟧
     tells_less view v then then' k weaker = qed 𝓛 (‵ (moved view then k v) ∷ []) ∵ fpick ! (λ s. fsplit ! $ fpick ! (λ so. drop ! $
         nothing ! $ fpack ! (then' k s.0 s.1 × Keeps ways view (Some s.0) v s.1) (λ _. ftrue) (weaker s.0 s.1 so.0, so.1) $ fjoin ! $ fpack ! (V × Option R.Denot) (told view then' k v) s $ done !))

@@ -1,4 +1,5 @@
--- The value's borrow leaves a write permit: for the rest of the cell's borrow, or for a borrow of the permit, which follows it. Assumes `Logic`.
+-- The value's borrow leaves a write permit, for the rest of the cell's borrow or for a borrow of the permit. The permit
+-- then follows it. Assumes `Logic`.
 use Rattle.std.proofs.Common.{◌≡◌, ℕ, ◌+◌, List, [], ◌∷◌, ◌++◌, refl}
 use seplogic.Ra.Ura.{Ura}
 use mir.Syntax.{Lifetime}
@@ -45,7 +46,7 @@ module _ {M : Type 1} {𝓤 : Ura M} (𝓛 : Logic 𝓤) where
     abbrev Pen : R.Denot → Fml
     Pen x = writer_owns Y R cv.code S holds ways β (block_ptr c e) w x
 
-    -- a write permit is the value's borrow, and what makes it a permit again at any value
+    -- a write permit is the value's borrow, and what makes that a permit again at any value
     abbrev pub Cut : R.Denot → Id → SProp 𝓤
     Cut x t = ⟦ before β t.life ⟧ ∗ ⟦ tracked R c e t x ⟧ ∗ all 𝓤 (λ (z : R.Denot). ⟦ tracked R c e t z ⟧ -∗ ⟦ Pen z ⟧)
 
@@ -61,7 +62,7 @@ module _ {M : Type 1} {𝓤 : Ura M} (𝓛 : Logic 𝓤) where
       abbrev Again : Id → R.Denot → SProp 𝓤
       Again t z = ⟦ tracked R c e t z ⟧ -∗ Whole z
 
-      -- the whole that holds the permit is cut alike
+      -- a whole that contains the permit is split in the same way
       abbrev pub Opened : R.Denot → Id → SProp 𝓤
       Opened x t = ⟦ before β t.life ⟧ ∗ ⟦ tracked R c e t x ⟧ ∗ all 𝓤 (Again t)
 

@@ -1,5 +1,6 @@
--- One step on a word of a cell whose second word is a trace: the party also appends to the trace, and a watch is brought up to date. Assumes `Logic`.
---     first_steps, second_steps     a step on the first word, and one on the word beside the trace
+-- One step on a word of a cell whose second word is a trace. The party also appends to the trace, and a watch is
+-- brought up to date. Assumes `Logic`.
+--     first_steps, second_steps     a step on the first word, and one on the word next to the trace
 use Rattle.std.proofs.Common.{◌≡◌, ◌⊎◌, ◌++◌, ℕ, ◌+◌, T, [], ◌∷◌, List, refl, sym, subst, w64, Option}
 use mathlib.Core.Logic.{inl, inr}
 use mathlib.Core.List.{IsPrefix}
@@ -50,7 +51,7 @@ module _ {M : Type 1} {𝓤 : Ura M} (𝓛 : Logic 𝓤) (Er Ur : RattleType) wh
   abbrev pub Known : ℕ → List E → Fml
   Known = known_owns Er.coded.code
 
-  -- a trace in memory grows, and a watch of it, or one that knows nothing, knows all of it
+  -- a trace in memory grows; then a watch of it, or one that knew nothing, knows all of it
   shows : (γ : ℕ) (k : List E) (m : Trace E U) (es : List E) (b e : ℕ) → (k ≡ []) ⊎ (m.name ≡ γ)
       → ⟦ part_at S full_share m b e ⟧ ∗ ⟦ Known γ k ⟧ ⊢ guard 𝓤 (IsPrefix k m.entries) (upd 𝓤 (⟦ part_at S full_share (grown m es) b e ⟧ ∗ ⟦ Known m.name (m.entries ++ es) ⟧))
   unfolding part_of
@@ -85,7 +86,7 @@ module _ {M : Type 1} {𝓤 : Ura M} (𝓛 : Logic 𝓤) (Er Ur : RattleType) wh
     abbrev pub Traced : Trace E U → Fml
     Traced m = part_at S full_share m b at
 
-    -- the watch is of the cell's trace, or knows nothing
+    -- the watch is a watch of the cell's trace, or knows nothing
     abbrev pub May : ℕ → List E → Type 0
     May γ k = (k ≡ []) ⊎ Named holds ways γ
 
@@ -93,25 +94,26 @@ module _ {M : Type 1} {𝓤 : Ura M} (𝓛 : Logic 𝓤) (Er Ur : RattleType) wh
     name_of γ name k (inl none) is = inl none
     name_of γ name k (inr named) is = inr (is named)
 
-    -- what a step tells beside that where the trace has these entries then: what the party knows of the value
+    -- what a step tells in addition if the trace then has these entries: what the party knows of the value
     abbrev pub finding : List E → (ℕ → V → Type 0) → ℕ → V → Option R.Denot → Type 0
     finding es then n w x = then n w × Learnt ways.2 (use_of ways.1 view) (ways.1 w) v x es
 
     module _ (told : List E → List E → ℕ → V → Type 0) where
-      -- what the step leaves its party and its watch with
+      -- what the step leaves to its party and its watch
       abbrev pub seen_by : ℕ → List E → ℕ → ℕ × (List E × List E) → Fml
       seen_by γ k n s = fsep (fact (IsPrefix k s.1.0 × (Named holds ways γ → s.0 ≡ γ))) (fsep (Known s.0 (s.1.0 ++ s.1.1)) (moved (finding (s.1.0 ++ s.1.1) (told s.1.0 s.1.1)) n))
 
       abbrev pub watched : ℕ → List E → ℕ → Fml
       watched γ k n = fex (ℕ × (List E × List E)) (seen_by γ k n)
 
-      -- what a step asks that finds the number k, and leaves the words n and u where they were n₀ and that beside the trace m
+      -- what a step needs that finds the number k and leaves the words n and u; before it the words were n₀ and the one
+      -- next to m
       abbrev pub Grows : ℕ → Trace E U → ℕ → U → ℕ → Type 0
       Grows n₀ m n u k = (id : ℕ) (vs : List V) → Meets holds ways n₀ m vs → Stands id view vs
           → (w : V) × (es : List E) × Going ways.0 (use_of ways.1 view) (ways.1 w) v (readers_of ways.1 vs) (Carrying ways.2 m (grown_at m u es) (use_of ways.1 view) (ways.1 w) v (Meets holds ways n (grown_at m u es) (after id view vs w)))
           × told m.entries es k w
 
-      -- where its words are in place
+      -- the step, with its words in place
       pub grows : (γ : ℕ) (k : List E) → May γ k → (n₀ n : ℕ) (m : Trace E U) (u : U) (found : ℕ) → Grows n₀ m n u found
           → ⟦ word b (o + 0) n ⟧ ∗ ⟦ Traced (beside m u) ⟧ ∗ ⟦ Core (n₀, m) ⟧ ∗ ⟦ Mine ⟧ ∗ ⟦ Known γ k ⟧ ⊢ upd 𝓤 (⟦ I ⟧ ∗ ⟦ watched γ k found ⟧)
       grows γ k may n₀ n m u found law = let X : Type 0 = List E × (Named holds ways γ → m.name ≡ γ) in let to : X → ℕ × Trace E U = λ x. (n, grown_at m u x.0) in let Z : SProp 𝓤 = ⟦ I ⟧ ∗ ⟦ watched γ k found ⟧ in
@@ -136,7 +138,7 @@ module _ {M : Type 1} {𝓤 : Ura M} (𝓛 : Logic 𝓤) (Er Ur : RattleType) wh
             show ! (Lies 𝓛 t.life q I b e f always left) n $ frame ! $ each ! (λ (_ : Unit {0}). Again 𝓛 t.life q I b e f always left n) (λ _. assume ! (‵ (word b e (f n))) $ move ! (1 ∷ []) $ fsplit ! $ move ! (3 ∷ []) $ fsplit ! $
             move ! (4 ∷ 2 ∷ 3 ∷ 0 ∷ 1 ∷ []) $ by ! (grows γ k may n (f n) m m.word n (λ id vs meets at. allows id n m vs meets at typed.1.fits))))))
 
--- where the word beside the trace is a number
+-- the same if the word next to the trace is a number
 module _ {M : Type 1} {𝓤 : Ura M} (𝓛 : Logic 𝓤) (Er R : RattleType) (L : RowLaws R) (b o : ℕ) (t : Id) {V : Type 0} (cv : Coded V) (holds : ℕ → Trace Er.Denot ℕ → List V → Type 0) (ways : Ways R.Denot V (Trace Er.Denot ℕ)) (view : Option V) (v : Option R.Denot) where
   open (signs 𝓛) use {◌⊢◌, ◌∗◌, ⟦◌⟧}
 

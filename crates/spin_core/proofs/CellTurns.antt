@@ -1,4 +1,5 @@
--- A party comes from one use of a cell's value to another: it gives back what it had of the value, and takes what it may use. Assumes `Logic`.
+-- A party changes its use of a cell's value: it gives back what it had of the value, and takes what it may use. Assumes
+-- `Logic`.
 use Rattle.std.proofs.Common.{◌≡◌, ◌≢◌, ℕ, suc, ◌+◌, ◌-◌, ◌^◌, ◌<◌, ◌≤◌, Bool, zero, true, [], ◌∷◌, refl, sym, subst, arith, Option, Some, None}
 use seplogic.Ra.Ura.{Ura}
 use base.Fraction.{full_share}
@@ -17,7 +18,7 @@ use Rattle.atomic_table.specs.Seated.{fact}
 use Rattle.spin_core.specs.Cell.{Going, Preserves, Carries, Learns, Use, off, reads, writes, Way, alone, lends, fixes, reading, writing, Limits, Fixed}
 use Rattle.spin_core.specs.CellMemory.{Id, Round, round_code, tag, share, parts, piece, remains, idle, offset, shown, tracked, shared, resting, lying, state, reader}
 use Rattle.spin_core.proofs.CellWays.{going_rest}
-use Rattle.spin_core.proofs.CellParts.{parts_cut, parts_glue, parts_whole, parts_agree, piece_cut}
+use Rattle.spin_core.proofs.CellParts.{parts_cut, parts_glue, parts_whole, parts_agree, pieces_agree, piece_cut}
 use Rattle.spin_core.proofs.CellRounds.{begun, held, whole, renewed, rests_lent, rests_fixed}
 use Rattle.spin_core.proofs.Signs.{signs}
 
@@ -42,7 +43,7 @@ module _ {M : Type 1} {𝓤 : Ura M} (𝓛 : Logic 𝓤) (R : RattleType) (L : R
   abbrev lent : ℕ → Round R → Fml
   lent r s = fsep (parts R γ s (2 ^ 63 - r)) (shared R b o t s)
 
-  -- what a party knows of the value that it gives back, where φ is known of one that nobody writes
+  -- what a party knows of the value that it gives back, if φ is known of a value that nobody writes
   abbrev Had : (R.Denot → Type 0) → Use → R.Denot → Type 0
   Had φ reads x = φ x
   Had φ _ x = Unit {0}
@@ -76,7 +77,7 @@ module _ {M : Type 1} {𝓤 : Ura M} (𝓛 : Logic 𝓤) (R : RattleType) (L : R
   write_on x = qed 𝓛 (‵ (Rest lends 0 x) ∷ []) ∵ fpick ! (λ a. fsplit ! $ use1 𝓛 (‵ (share R γ (a, x) full_share)) (parts_whole 𝓛 R γ (a, x)) $ fsplit ! $ move ! (0 ∷ 2 ∷ []) $ fjoin ! $
       fpack ! ℕ (begun 𝓛 R b o t x) a $ move ! (1 ∷ []) $ fpack ! Gv (tag γ full_share) (round_code R (a, x)) $ done !)
 
-  -- ---- the same for either use, with what else stands there, where readers give back
+  -- ---- the same for both uses, with what else is there, in a way whose readers give back
   abbrev Returns : Way R.Denot → Type 0
   Returns (fixes fact) = ⊥
   Returns _ = Unit {0}
@@ -108,11 +109,11 @@ module _ {M : Type 1} {𝓤 : Ura M} (𝓛 : Logic 𝓤) (R : RattleType) (L : R
       subst (λ (k : ℕ). ⟦ Rest lends k x ⟧ ⊢ ⟦ St lends ψ (r + 0) (w + 1) ⟧ ∗ ⟦ Held writes lends (Some x) ⟧) (sym none)
       (qed 𝓛 (‵ (Rest lends 0 x) ∷ []) ∵ use1 𝓛 (‵ (idle γ) ⊛ ‵ (fex ℕ (begun 𝓛 R b o t x))) (write_on x) $ split ! $ rewrite ! 0 (λ (k : ℕ). ‵ (St lends ψ (r + 0) k)) one refl $ done !)
 
-  -- no writer stands where one may come, or where one has gone
+  -- nobody writes while a party may begin to use the value, or after one has stopped
   none_else : (u : Use) (way : Way R.Denot) (r w : ℕ) → u ≢ off → Limits way (r + reading u) (w + writing u) → w ≡ 0
   none_else u way r w on lim = grind arith
 
-  -- what a party has after it came from the use u to the use u'
+  -- what a party has after its use changed from u to u'
   abbrev pub got : Way R.Denot → (R.Denot → Type 0) → Use → Use → Option R.Denot → Option R.Denot → Fml
   got way ψ u u' v v' = fsep (fact (Preserves way u u' v v' × Learns ψ u u' v v')) (Held u' way v')
 
@@ -123,30 +124,27 @@ module _ {M : Type 1} {𝓤 : Ura M} (𝓛 : Logic 𝓤) (R : RattleType) (L : R
   got_in way ψ u u' v v' s learns = qed 𝓛 (‵ (Held u' way v') ∷ []) ∵ nothing ! $ fpack ! (Preserves way u u' v v' × Learns ψ u u' v v') (λ _. ftrue) (s, learns) $ fjoin ! $
       fpack ! (Option R.Denot) (got way ψ u u' v) v' $ done !
 
-  -- what a party is told of a value that it comes to use, leaves, uses otherwise, or goes on using
+  -- what a party is told of a value that it comes to use, leaves, uses otherwise, or reads on
   learns_come : (ψ : R.Denot → Type 0) (u : Use) (x : R.Denot) → ψ x → Learns ψ off u None (Some x)
   learns_come ψ _ x known = known
 
   learns_left : (ψ : R.Denot → Type 0) (u : Use) (x : R.Denot) → ψ x → Learns ψ u off (Some x) None
-  learns_left ψ writes x known = known
-  learns_left ψ _ x known = tt
+  learns_left ψ off x known = tt
+  learns_left ψ _ x known = known
 
   learns_turned : (ψ : R.Denot → Type 0) (u u' : Use) (x : R.Denot) → ψ x → Learns ψ u u' (Some x) (Some x)
-  learns_turned ψ reads reads x known = tt
   learns_turned ψ writes writes x known = tt
-  learns_turned ψ _ _ x known = known
-
-  learns_same : (ψ : R.Denot → Type 0) (u : Use) (x : R.Denot) → u ≢ off → Learns ψ u u (Some x) (Some x)
-  learns_same ψ off x on = absurd (on refl)
-  learns_same ψ reads x on = tt
-  learns_same ψ writes x on = tt
+  learns_turned ψ off u' x known = known
+  learns_turned ψ _ off x known = known
+  learns_turned ψ _ reads x known = known
+  learns_turned ψ reads writes x known = known
 
   nobody : (u : Use) (way : Way R.Denot) → u ≢ off → ⟦ Held u way None ⟧ ⊢ ⟦ base.Fml.ffalse ⟧
   nobody off way on = absurd (on refl)
   nobody writes alone on = id⊢ 𝓤 _
   nobody _ _ on = id⊢ 𝓤 _
 
-  -- a party that comes takes its part
+  -- a party that begins to use the value takes its part
   arrives : (ψ : R.Denot → Type 0) (u : Use) (way : Way R.Denot) (x : R.Denot) (r w : ℕ) → ψ x → Returns way → u ≢ off → Limits way (r + reading u) (w + writing u) → Preserves way off u None (Some x)
       → ⟦ Rest way r x ⟧ ⊢ ⟦ St way ψ (r + reading u) (w + writing u) ⟧ ∗ ⟦ Got way ψ off u None ⟧
   arrives ψ u way x r w known is on lim kept = qed 𝓛 (‵ (Rest way r x) ∷ []) ∵ use1 𝓛 (‵ (St way ψ (r + reading u) (w + writing u)) ⊛ ‵ (Held u way (Some x))) (takes ψ u way x r w known is on lim) $ split ! $ move ! (1 ∷ []) $
@@ -157,7 +155,7 @@ module _ {M : Type 1} {𝓤 : Ura M} (𝓛 : Logic 𝓤) (R : RattleType) (L : R
   first_shown (fixes fact) u x is on = absurd is
   first_shown _ _ x is on = ((x, refl), tt)
 
-  -- what is known of a value that a party keeps, leaves, or comes to use
+  -- what is known of a value that a party keeps using, stops using, or begins to use
   goes_on : (way : Way R.Denot) (u u' : Use) (x : R.Denot) → u ≢ off → u' ≢ off → Preserves way u u' (Some x) (Some x)
   goes_on alone off u' x on on' = absurd (on refl)
   goes_on _ off u' x on on' = absurd (on refl)
@@ -168,9 +166,9 @@ module _ {M : Type 1} {𝓤 : Ura M} (𝓛 : Logic 𝓤) (R : RattleType) (L : R
   ends_at (fixes fact) off v = (refl, tt)
   ends_at _ _ v = (refl, tt)
 
-  -- φ is known of a value that nobody writes before the step, and ψ after it
+  -- before the step φ is known of a value that nobody writes, after it ψ
   module _ (φ ψ : R.Denot → Type 0) where
-    -- what nobody writes goes on lying there, and what somebody writes is away
+    -- a value that nobody writes stays there; one that somebody writes is away
     carried : (way : Way R.Denot) → ((x : R.Denot) → φ x → ψ x) → (r w : ℕ) → ⟦ St way φ r w ⟧ ⊢ ⟦ St way ψ r w ⟧
     carried way to r zero = qed 𝓛 (‵ (St way φ r 0) ∷ []) ∵ fpick ! (λ x. fpick ! (λ known. fpack ! (ψ x) (λ _. Rest way r x) (to x known) $ fpack ! R.Denot (Lie way ψ r) x $ done !))
     carried way to r (suc w) = id⊢ 𝓤 _
@@ -179,19 +177,19 @@ module _ {M : Type 1} {𝓤 : Ura M} (𝓛 : Logic 𝓤) (R : RattleType) (L : R
     away way r zero some = absurd (omega (arith, some))
     away way r (suc w) some = id⊢ 𝓤 _
 
-    -- a party that uses the value as it did
+    -- a party keeps its use of the value
     same_state : (way : Way R.Denot) (u : Use) (v : Option R.Denot) (r w : ℕ) → Carries φ ψ u u v → ⟦ St way φ (r + reading u) (w + writing u) ⟧ ⊢ ⟦ St way ψ (r + reading u) (w + writing u) ⟧
     same_state way off v r w owed = carried way owed (r + 0) (w + 0)
     same_state way reads v r w owed = carried way owed (r + 1) (w + 0)
     same_state way writes v r w owed = away way (r + 0) (w + 1) (omega arith)
 
-    -- what is known after a party gave a value back that it used otherwise
-    known_after : (u u' : Use) (x : R.Denot) → u ≢ off → u ≢ u' → Carries φ ψ u u' (Some x) → Had φ u x → ψ x
+    -- what is known after a party gave a value back, and does not write on
+    known_after : (u u' : Use) (x : R.Denot) → u ≢ off → (u ≡ writes → u' ≢ writes) → Carries φ ψ u u' (Some x) → Had φ u x → ψ x
     known_after off u' x on turned owed had = absurd (on refl)
     known_after reads u' x on turned owed had = owed x had
     known_after writes off x on turned owed had = owed
     known_after writes reads x on turned owed had = owed
-    known_after writes writes x on turned owed had = absurd (turned refl)
+    known_after writes writes x on turned owed had = absurd (turned refl refl)
 
     module _ (way : Way R.Denot) (r w : ℕ) where
       abbrev Before : Use → Fml
@@ -206,7 +204,7 @@ module _ {M : Type 1} {𝓤 : Ura M} (𝓛 : Logic 𝓤) (R : RattleType) (L : R
       abbrev Turns : Use → Use → Option R.Denot → Type 1
       Turns u u' v = Lim u → Going way u u' v (r + reading u) (Lim u') → Carries φ ψ u u' v → ⟦ Before u ⟧ ∗ ⟦ Held u way v ⟧ ⊢ upd 𝓤 (⟦ After u' ⟧ ∗ ⟦ Got way ψ u u' v ⟧)
 
-      -- a party that goes on as it is
+      -- a party stays as it is
       stays : (u : Use) (v v' : Option R.Denot) → Carries φ ψ u u v → ⟦ Held u way v ⟧ ⊢ ⟦ Held u way v' ⟧ → Preserves way u u v v' → Learns ψ u u v v' → ⟦ Before u ⟧ ∗ ⟦ Held u way v ⟧ ⊢ upd 𝓤 (⟦ After u ⟧ ∗ ⟦ Got way ψ u u v ⟧)
       stays u v v' owed same kept learns = let Z : SProp 𝓤 = ⟦ After u ⟧ ∗ ⟦ Got way ψ u u v ⟧ in qed 𝓛 (‵ (Before u) ∷ ‵ (Held u way v) ∷ []) ∵ suffices ! Z (upd_i 𝓤 Z) $
           use1 𝓛 (‵ (After u)) (same_state way u v r w owed) $ move ! (1 ∷ []) $
@@ -216,11 +214,14 @@ module _ {M : Type 1} {𝓤 : Ura M} (𝓛 : Logic 𝓤) (R : RattleType) (L : R
       rests None lim going owed = stays off None None owed (id⊢ 𝓤 _) (ends_at way off None) tt
       rests (Some x) lim going owed = via 𝓤 _ (snd∗ 𝓤 ⟦ Before off ⟧ ⟦ Held off way (Some x) ⟧) (never_e 𝓤 _)
 
-      keeps : (u : Use) → u ≢ off → (v : Option R.Denot) → Turns u u v
-      keeps u on None lim going owed = via 𝓤 _ (snd∗ 𝓤 ⟦ Before u ⟧ ⟦ Held u way None ⟧) (via 𝓤 _ (nobody u way on) (never_e 𝓤 _))
-      keeps u on (Some x) lim going owed = stays u (Some x) (Some x) owed (id⊢ 𝓤 _) (goes_on way u u x on on) (learns_same ψ u x on)
+      unshown : (u u' : Use) → u ≢ off → Turns u u' None
+      unshown u u' on lim going owed = via 𝓤 _ (snd∗ 𝓤 ⟦ Before u ⟧ ⟦ Held u way None ⟧) (via 𝓤 _ (nobody u way on) (never_e 𝓤 _))
 
-      -- ---- where readers give back
+      writes_on : (v : Option R.Denot) → Turns writes writes v
+      writes_on None = unshown writes writes (λ e. absurd cc)
+      writes_on (Some x) = λ lim going owed. stays writes (Some x) (Some x) owed (id⊢ 𝓤 _) (goes_on way writes writes x (λ e. absurd cc) (λ e. absurd cc)) tt
+
+      -- ---- a way whose readers give back
       comes : (u : Use) → Returns way → u ≢ off → (v : Option R.Denot) → Turns off u v
       comes u is on (Some x) lim lim' owed = qed 𝓛 (‵ (Before off) ∷ ‵ base.Fml.ffalse ∷ []) ∵ drop ! $ by ! (never_e 𝓤 _)
       comes u is on None lim going owed = let lim' : Lim u = going_rest way off u None (r + reading off) going in let Z : SProp 𝓤 = ⟦ After u ⟧ ∗ ⟦ Got way ψ off u None ⟧ in let none : w + 0 ≡ 0 = (let z = none_else u way r w on lim' in omega arith) in let same_r : r + 0 ≡ r = omega arith in
@@ -228,15 +229,16 @@ module _ {M : Type 1} {𝓤 : Ura M} (𝓛 : Logic 𝓤) (R : RattleType) (L : R
           use1 𝓛 (‵ (After u) ⊛ ‵ (Got way ψ off u None)) (arrives ψ u way x r w (owed x known) is on lim' (first_shown way u x is on)) $ split ! $ keep ! (0 ∷ 1 ∷ []) $ done !))
 
       goes : (u : Use) → Returns way → u ≢ off → (v : Option R.Denot) → Turns u off v
-      goes u is on None lim lim' owed = via 𝓤 _ (snd∗ 𝓤 ⟦ Before u ⟧ ⟦ Held u way None ⟧) (via 𝓤 _ (nobody u way on) (never_e 𝓤 _))
+      goes u is on None lim going owed = unshown u off on lim going owed
       goes u is on (Some x) lim going owed = let Z : SProp 𝓤 = ⟦ After off ⟧ ∗ ⟦ Got way ψ u off (Some x) ⟧ in let none : 0 ≡ w + 0 = (let z = none_else u way r w on lim in omega arith) in let same_r : r ≡ r + 0 = omega arith in
           qed 𝓛 (‵ (Before u) ∷ ‵ (Held u way (Some x)) ∷ []) ∵ use2 𝓛 (raw (upd 𝓤 ⟦ Given φ u way r x ⟧)) (gives φ u way x r w is on lim) $ settle 𝓛 Z (‵ (Given φ u way r x)) $ suffices ! Z (upd_i 𝓤 Z) $
-          fpick ! (λ had. let known : ψ x = known_after u off x on on owed had in fpack ! (ψ x) (λ _. Rest way r x) known $ fpack ! R.Denot (Lie way ψ r) x $
+          fpick ! (λ had. let known : ψ x = known_after u off x on (λ w e. absurd cc) owed had in fpack ! (ψ x) (λ _. Rest way r x) known $ fpack ! R.Denot (Lie way ψ r) x $
           rewrite ! 0 (λ (k : ℕ × ℕ). ‵ (St way ψ k.0 k.1)) (λ i. (same_r i, none i)) refl $ nothing ! $
           use1 𝓛 (‵ (Got way ψ u off (Some x))) (got_in way ψ u off (Some x) None (ends_at way u (Some x)) (learns_left ψ u x known)) $ keep ! (1 ∷ 0 ∷ []) $ done !)
 
-      passes : (u u' : Use) → Returns way → u ≢ off → u' ≢ off → u ≢ u' → (v : Option R.Denot) → Turns u u' v
-      passes u u' is on on' turned None lim lim' owed = via 𝓤 _ (snd∗ 𝓤 ⟦ Before u ⟧ ⟦ Held u way None ⟧) (via 𝓤 _ (nobody u way on) (never_e 𝓤 _))
+      -- a party that goes on using the value gives its part back, and takes it again
+      passes : (u u' : Use) → Returns way → u ≢ off → u' ≢ off → (u ≡ writes → u' ≢ writes) → (v : Option R.Denot) → Turns u u' v
+      passes u u' is on on' turned None lim going owed = unshown u u' on lim going owed
       passes u u' is on on' turned (Some x) lim going owed = let lim' : Lim u' = going_rest way u u' (Some x) (r + reading u) going in let Z : SProp 𝓤 = ⟦ After u' ⟧ ∗ ⟦ Got way ψ u u' (Some x) ⟧ in
           qed 𝓛 (‵ (Before u) ∷ ‵ (Held u way (Some x)) ∷ []) ∵ use2 𝓛 (raw (upd 𝓤 ⟦ Given φ u way r x ⟧)) (gives φ u way x r w is on lim) $ settle 𝓛 Z (‵ (Given φ u way r x)) $ suffices ! Z (upd_i 𝓤 Z) $
           fpick ! (λ had. let known : ψ x = known_after u u' x on turned owed had in
@@ -248,18 +250,18 @@ module _ {M : Type 1} {𝓤 : Ura M} (𝓛 : Logic 𝓤) (R : RattleType) (L : R
       lent_turns is off reads v = comes reads is (λ e. absurd cc) v
       lent_turns is off writes v = comes writes is (λ e. absurd cc) v
       lent_turns is reads off v = goes reads is (λ e. absurd cc) v
-      lent_turns is reads reads v = keeps reads (λ e. absurd cc) v
+      lent_turns is reads reads v = passes reads reads is (λ e. absurd cc) (λ e. absurd cc) (λ e. absurd cc) v
       lent_turns is reads writes v = passes reads writes is (λ e. absurd cc) (λ e. absurd cc) (λ e. absurd cc) v
       lent_turns is writes off v = goes writes is (λ e. absurd cc) v
-      lent_turns is writes reads v = passes writes reads is (λ e. absurd cc) (λ e. absurd cc) (λ e. absurd cc) v
-      lent_turns is writes writes v = keeps writes (λ e. absurd cc) v
+      lent_turns is writes reads v = passes writes reads is (λ e. absurd cc) (λ e. absurd cc) (λ w e. absurd cc) v
+      lent_turns is writes writes v = writes_on v
 
-    -- ---- where a reader reads for good
+    -- ---- the way in which a reader may read for ever
     module _ (fact : Bool → R.Denot → Type 0) where
       abbrev fixed : Way R.Denot
       fixed = fixes fact
 
-      -- a reader takes half of what the readers before it left
+      -- a reader takes half of what the earlier readers left
       reads_on : (k : ℕ) (x : R.Denot) → ψ x → ⟦ Rest fixed (suc k) x ⟧ ⊢ guard 𝓤 (fact true x) (⟦ St fixed ψ (suc (suc k)) 0 ⟧ ∗ ⟦ reader R b o t fixed x ⟧)
       reads_on k x is = let V : Lft → Fml = shown R b o x in qed 𝓛 (‵ (Rest fixed (suc k) x) ∷ []) ∵ fpick ! (λ a. fsplit ! $ let s : Round R = (a, x) in
           use1 𝓛 (given (fact true x) (‵ (piece R fixed γ s) ⊛ ‵ (piece R fixed γ s))) (piece_cut 𝓛 R γ fact s) $ learn ! (λ known. check ! known $ split ! $ move ! (2 ∷ []) $ fsplit3 ! $ move ! (1 ∷ []) $
@@ -275,7 +277,7 @@ module _ {M : Type 1} {𝓤 : Ura M} (𝓛 : Logic 𝓤) (R : RattleType) (L : R
           rewrite ! 0 (λ (i : ℕ × ℕ). ‵ (St fixed ψ i.0 i.1)) (λ i. (one i, same i)) refl $ move ! (1 ∷ []) $
           use1 𝓛 (‵ (Got fixed ψ off reads None)) (got_in fixed ψ off reads None (Some x) ((x, refl), known) is) $ move ! (1 ∷ 0 ∷ []) $ done !)
 
-      -- a party that comes to write takes the whole round
+      -- a party that begins to write takes the whole round
       comes_to_write : (r w : ℕ) (x : R.Denot) → r ≡ 0 → w ≡ 0 → ψ x → ⟦ Rest fixed r x ⟧ ⊢ ⟦ St fixed ψ (r + 0) (w + 1) ⟧ ∗ ⟦ Got fixed ψ off writes None ⟧
       comes_to_write (suc r) w x none none' is = absurd (omega (arith, none))
       comes_to_write zero (suc w) x none none' is = absurd (omega (arith, none'))
@@ -306,10 +308,24 @@ module _ {M : Type 1} {𝓤 : Ura M} (𝓛 : Logic 𝓤) (R : RattleType) (L : R
       no_other : (r w : ℕ) → Limits fixed (r + 0) (w + 1) → (r ≡ 0) × (w ≡ 0)
       no_other r w lim = let e : r + 0 ≡ 0 = lim.1 (omega arith) in let l : w + 1 ≤ 1 = lim.0 in (omega (arith, e), omega (arith, l))
 
+      -- a reader's piece is of the round that the readers before it left some of
+      reads_still : (r w : ℕ) (v : Option R.Denot) → Turns fixed r w reads reads v
+      reads_still r w None = unshown fixed r w reads reads (λ e. absurd cc)
+      reads_still r w (Some x) = λ lim going owed. let Z : SProp 𝓤 = ⟦ St fixed ψ (r + 1) (w + 0) ⟧ ∗ ⟦ Got fixed ψ reads reads (Some x) ⟧ in
+          let one : r + 1 ≡ suc r = omega arith in let none : w + 0 ≡ 0 = (let z = none_else reads fixed r w (λ e. absurd cc) lim in omega arith) in
+          qed 𝓛 (‵ (St fixed φ (r + 1) (w + 0)) ∷ ‵ (reader R b o t fixed x) ∷ []) ∵ suffices ! Z (upd_i 𝓤 Z) $ rewrite ! 0 (λ (k : ℕ × ℕ). ‵ (St fixed φ k.0 k.1)) (λ i. (one i, none i)) refl $
+          fpick ! (λ y. fpick ! (λ known. fpick ! (λ a. fsplit ! $ move ! (2 ∷ []) $ fpick ! (λ c. fsplit ! $ move ! (2 ∷ 0 ∷ []) $
+          use2 𝓛 (given (let s : Round R = (a, y) in let u : Round R = (c, x) in s ≡ u) (‵ (piece R fixed γ (a, y)) ⊛ ‵ (piece R fixed γ (c, x)))) (pieces_agree 𝓛 R γ fixed (a, y) (c, x)) $ learn ! (λ same. split ! $
+          move ! (1 ∷ 2 ∷ []) $ fjoin ! $ fpack ! ℕ (λ e. fsep (piece R fixed γ (e, x)) (shown R b o x (e ∷ t.life))) c $
+          move ! (1 ∷ 2 ∷ []) $ fjoin ! $ fpack ! ℕ (λ e. fsep (remains R fact γ (e, y) (suc r)) (shared R b o t (e, y))) a $
+          fpack ! (ψ y) (λ _. Rest fixed (suc r) y) (owed y known) $ fpack ! R.Denot (Lie fixed ψ (suc r)) y $
+          rewrite ! 0 (λ (k : ℕ × ℕ). ‵ (St fixed ψ k.0 k.1)) (λ i. (sym one i, sym none i)) refl $ move ! (1 ∷ []) $
+          use1 𝓛 (‵ (Got fixed ψ reads reads (Some x))) (got_in fixed ψ reads reads (Some x) (Some x) (refl, tt) (subst (λ (s : Round R). ψ s.1) same (owed y known))) $ move ! (1 ∷ 0 ∷ []) $ done !)))))
+
       fixed_turns : (r w : ℕ) (u u' : Use) (v : Option R.Denot) → Turns fixed r w u u' v
       fixed_turns r w off off v = rests fixed r w v
-      fixed_turns r w reads reads v = keeps fixed r w reads (λ e. absurd cc) v
-      fixed_turns r w writes writes v = keeps fixed r w writes (λ e. absurd cc) v
+      fixed_turns r w reads reads v = reads_still r w v
+      fixed_turns r w writes writes v = writes_on fixed r w v
       fixed_turns r w off u (Some x) = λ lim going owed. via 𝓤 _ (snd∗ 𝓤 ⟦ St fixed φ (r + 0) (w + 0) ⟧ ⟦ Held off fixed (Some x) ⟧) (never_e 𝓤 _)
       fixed_turns r w off reads None = λ lim going owed. let none = none_else reads fixed r w (λ e. absurd cc) going.2 in fixed_comes r w reads none owed (λ x is. comes_to_read r w x (let more : 0 < r + 0 = going.1 in omega (arith, more)) none is)
       fixed_turns r w off writes None = λ lim going owed. let none = no_other r w going.2 in fixed_comes r w writes none.1 owed (λ x is. comes_to_write r w x none.0 none.1 is)

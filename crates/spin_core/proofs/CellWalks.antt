@@ -1,4 +1,5 @@
--- What each walk of a step begins and ends with: a permit is opened for a step on its cell, and closed at its new view. Assumes `Logic`.
+-- How each walk of a step begins and ends: a permit is opened for a step on its cell, and closed at its new view.
+-- Assumes `Logic`.
 use Rattle.std.proofs.Common.{◌≡◌, sym, refl, ℕ, List, [], ◌∷◌, Option, Some, None}
 use seplogic.Ra.Ura.{Ura}
 use base.Stored.{Coded}
@@ -63,7 +64,7 @@ module _ {M : Type 1} {𝓤 : Ura M} (𝓛 : Logic 𝓤) (𝓜 : Model 𝓤 𝓛
       use1 𝓛 (raw (ex 𝓤 (Left view then n v))) (via 𝓤 (Left view then n v s) (guard_i 𝓤 (then n s.0 s.1 × Keeps ways view (Some s.0) v s.1) ⟦ permit_owns Y R cv.code S holds ways β (block_ptr b o) (Some s.0) s.1 ⟧ so) (ex_i 𝓤 (Left view then n v) s)) $
       now ! $ keep ! (0 ∷ 1 ∷ []) $ done !))
 
--- a view and a value are there, and are these
+-- the view and the value exist, and are these
 abbrev pub Writes : {V X : Type 0} → Option V → Option X → V × X → Type 0
 Writes view v s = (view ≡ Some s.0) × (v ≡ Some s.1)
 

@@ -1,4 +1,5 @@
--- What the walks of the steps that append to a trace share, beside those of the other steps: a watch goes with the permit. Assumes `Logic`.
+-- What the walks of the steps that append to a trace share, in addition to the other steps: a watch goes with the
+-- permit. Assumes `Logic`.
 use Rattle.std.proofs.Common.{◌≡◌, ℕ, ◌+◌, ◌<◌, ◌^◌, List, [], ◌∷◌, ◌++◌, Option, refl, w64}
 use seplogic.Ra.Ura.{Ura}
 use mir.Val.{Val, vint, vstruct, vcons, vnil, of_list}
@@ -78,7 +79,7 @@ module _ {M : Type 1} {𝓤 : Ura M} (𝓛 : Logic 𝓤) (𝓜 : Model 𝓤 𝓛
     abbrev Says : (ℕ → W.Denot → Type 0) → (W.Denot → Option R.Denot → Type 0) → ℕ → W.Denot × Option R.Denot → Item 𝓤
     Says = walks.Says 𝓛 𝓜 𝓡 ℓ T W Y Kr Sr L g b o h q
 
-    -- what the party knows of the value where the watch knows these entries
+    -- what the party knows of the value if the watch knows these entries
     abbrev pub finds : List Er.Denot → W.Denot → Option R.Denot → Type 0
     finds es w x = Learnt ways.2 (use_of ways.1 h.view) (ways.1 w) h.value x es
 
@@ -94,7 +95,7 @@ module _ {M : Type 1} {𝓤 : Ura M} (𝓛 : Logic 𝓤) (𝓜 : Model 𝓤 𝓛
       abbrev pub left : At → ℕ → Fml
       left k n = fsep (flft k.1.0.life k.1.1) (traced.watched 𝓛 Er Ur R LR.shr_laws b o k.1.0 W.coded (g.holds h.key) ways h.view h.value told seen.name seen.entries n)
 
-      -- what the step tells, where the watch knows these afterwards
+      -- what the step tells if the watch then knows these entries
       abbrev pub then : ℕ × List Er.Denot → ℕ → W.Denot → Type 0
       then l = Watches (Named (g.holds h.key) ways seen.name) seen (knowing l) told
 
@@ -150,14 +151,14 @@ module _ {M : Type 1} {𝓤 : Ura M} (𝓛 : Logic 𝓤) (𝓜 : Model 𝓤 𝓛
             flt_i t n (2 ^ 64) fits $ feq_i t (List Val) (vint w64 n ∷ []) (vint w64 n ∷ []) refl $ fjoin t $ fjoin t $
             feq_i t (List Val) (triple_of n ∷ []) (triple_of n ∷ []) refl $ fjoin t $ fpack t (Valss (u64 ∷ Hr ∷ Wr ∷ [])) (all n v l) (vint w64 n ∷ [], (hand_of (block_ptr b o) ∷ [], (token ∷ [], tt))) $ move t (1 ∷ []) $ go v l)
 
-        -- the same of a step that finds no number
+        -- the same for a step that finds no number
         pub closes_stored : K → Soaks G → (k : At) (n : ℕ) (τ : Lft) (r : Share) (os : Fml)
             → ((s : W.Denot × Option R.Denot) (l : ℕ × List Er.Denot) → Seq K 𝓛 ((‵ (flft β q) ⊛ ‵ (flft τ r) ⊛ ‵ os) ∷ ‵ (fex (Valss (Hr ∷ Wr ∷ [])) (both s l)) ∷ Says (then l) (finds l.1) n s ∷ Γ) G)
             → Seq K 𝓛 (‵ (left k n) ∷ raw (Gives k) ∷ ‵ (flft τ r) ∷ ‵ (Remains k) ∷ ‵ os ∷ Γ) G
         closes_stored t z k n τ r os go = closes_seen t z k n τ r os (λ v l. nothing t $ move t (1 ∷ 0 ∷ []) $ fjoin t $ move t (2 ∷ 0 ∷ []) $ fjoin t $
             feq_i t (List Val) (pair_of ∷ []) (pair_of ∷ []) refl $ fjoin t $ fpack t (Valss (Hr ∷ Wr ∷ [])) (both v l) (hand_of (block_ptr b o) ∷ [], (token ∷ [], tt)) $ move t (1 ∷ []) $ go v l)
 
--- the same for a step on the second, where it is a number
+-- the same for a step on the second word, if that is a number
 module _ {M : Type 1} {𝓤 : Ura M} (𝓛 : Logic 𝓤) (𝓜 : Model 𝓤 𝓛.H) (𝓡 : Running 𝓤 𝓛.H 𝓜) (ℓ : NamedLft) (T W Y Kr Er : RattleType) (L : Laws T) (g : Ghosts Y.Denot T.Denot W.Denot Kr.Denot (trace.the_row Er u64).Denot) (b o : ℕ) where
   abbrev Tr : RattleType
   Tr = trace.the_row Er u64
@@ -172,7 +173,7 @@ module _ {M : Type 1} {𝓤 : Ura M} (𝓛 : Logic 𝓤) (𝓜 : Model 𝓤 𝓛
     abbrev Found : Into → ℕ → Fml
     Found = left 𝓛 𝓜 𝓡 ℓ T W Y Kr Er u64 L g b o h q seen told
 
-    -- where the second word lies
+    -- where the second word is
     abbrev pub place : ℕ
     place = (o + second_at Tr Z) + 0
 
@@ -188,7 +189,8 @@ module _ {M : Type 1} {𝓤 : Ura M} (𝓛 : Logic 𝓤) (ℓ : NamedLft) (T W Y
   abbrev Row : RattleType
   Row = hand.the_row ℓ (param 0 T) W Y Kr Sr g
 
-  -- a walk has the tokens, the permit with the other arguments, which it keeps, where its value lives, and last what the step asks
+  -- A walk has the tokens; the permit with the other arguments, which it keeps; the lifetime of its value; and last
+  -- what the step needs.
   pub begins_with : (n : ℕ) (φs : walks.Facts n) (h : Row.Denot) (Asked : Type 0) (q : Share) (τ : Lft) (r : Share) (os owned rest : Fml)
       → owned ≡ fsep (Row.own_val h (hand_of h.cell ∷ [])) rest → {P : SProp 𝓤}
       → (let Owned : Ptr → Fml = λ p. permit_owns Y (param 0 T) W.coded.code Sr (g.holds h.key) (g.ways h.key) ℓ.lft p h.view h.value in

@@ -1,4 +1,4 @@
--- What a step asks besides the rule, taken apart.
+-- What a step needs besides the rule, part by part.
 use Rattle.std.proofs.Common.{◌≡◌, ℕ, zero, suc, ◌<◌, true, false, List, Option, Some, None, refl, arith}
 use Rattle.spin_core.specs.Cell.{Use, off, reads, writes, Way, fixes, Ways, Going, Frees, Limits, Fixed, Starts, readers_of, writers_of, Knowledge, no_fact, knows, IsKnown, Knowing, Freeing, Carries, Owed, Carrying, Learns}
 use Rattle.spin_core.specs.Traced.{Learnt}
@@ -13,13 +13,13 @@ module _ {X : Type 0} where
   going_map (fixes fact) u v shown r f going = (going.0, going.1, f going.2)
   going_map _ u v shown r f going = f going
 
-  -- what any value may take the place of
+  -- in a way in which any value may replace an unused one, the fact is known of every value
   freed : (way : Way X) → Frees way → (r w : ℕ) (x : X) → Fixed way r w x
   freed (fixes fact) frees (suc r) w x = frees true x
   freed (fixes fact) frees zero zero x = frees false x
   freed _ frees r w x = tt
 
-  -- where there is nothing to know, nothing is owed
+  -- if there is no fact, a step shows nothing
   carries_nothing : (u v : Use) (shown : Option X) → Carries (λ x. Unit {0}) (λ x. Unit {0}) u v shown
   carries_nothing writes writes shown = tt
   carries_nothing writes off None = tt
@@ -29,7 +29,7 @@ module _ {X : Type 0} where
   carries_nothing off v shown = λ x known. tt
   carries_nothing reads v shown = λ x known. tt
 
-  -- ---- what is known of the value beside that
+  -- ---- what is known of the value in addition
   module _ {S : Type 0} where
     pub knowing_at : (k : Knowledge S X) (m : S) (x : X) {A : Type 0} → IsKnown k m x → A → Knowing k m 0 x A
     knowing_at no_fact m x known a = a
@@ -44,7 +44,7 @@ module _ {X : Type 0} where
     knowing_rest (knows φ) m zero x known = known.1
     knowing_rest (knows φ) m (suc w) x known = known
 
-    -- where somebody writes, nothing
+    -- if somebody writes, nothing
     pub knowing_none : (k : Knowledge S X) (m : S) (w : ℕ) (x : X) {A : Type 0} → 0 < w → A → Knowing k m w x A
     knowing_none k m zero x some a = absurd (omega (arith, some))
     knowing_none no_fact m (suc w) x some a = a
@@ -67,7 +67,7 @@ module _ {X : Type 0} where
     carrying_carries no_fact m m' u v shown A owed = carries_nothing u v shown
     carrying_carries (knows φ) m m' u v shown A owed = owed.0
 
-  -- what a party learns where the trace is t, it knows of its entries
+  -- what a party learns of a trace t, it knows of t's entries
   pub learnt_of : {E S : Type 0} (k : Knowledge (Trace E S) X) (t : Trace E S) (u v : Use) (before after : Option X) → Learns (IsKnown k t) u v before after → Learnt k u v before after t.entries
   learnt_of no_fact t u v before after learns = tt
   learnt_of (knows φ) t u v before after learns = (t, refl, learns)
@@ -76,7 +76,7 @@ module _ {X : Type 0} where
   restarts holds ways n m x y frees starts =
       (starts.0, starts.1, knowing_freed ways.2 m (writers_of ways.1 starts.0) y frees (λ free. freed ways.0 free (readers_of ways.1 starts.0) (writers_of ways.1 starts.0) y))
 
-  -- where somebody writes, nothing is known of the value
+  -- while somebody writes, nothing is known of the value
   pub unknown : (way : Way X) (r w : ℕ) (x : X) → Limits way r w → 0 < w → Fixed way r w x
   unknown (fixes fact) (suc r) w x lim some = absurd (let e : suc r ≡ 0 = lim.1 some in omega (arith, e))
   unknown (fixes fact) zero zero x lim some = absurd (omega (arith, some))

@@ -1,4 +1,4 @@
--- What a step that knows all parties knows of the lock: how many hold it.
+-- What a step knows of the lock if it knows all parties: how many hold it.
 use Rattle.std.proofs.Common.{◌≡◌, ℕ, zero, suc, ◌+◌, ◌≤◌, ◌==◌, cond, List, [], ◌∷◌, length, filter, refl, sym, ap, subst, arith}
 use Rattle.std.proofs.lemmas.List.Sums.{sum_by-cons, count_by-le-length}
 use Rattle.spin_step.specs.Plain.{Plain, writing, Holder, same_kind, count_kind}
@@ -25,7 +25,7 @@ few_write hs = count_by-le-length (λ (h : Holder). same_kind writing h.kind) hs
 rest_writes : (p : ℕ) (h : Holder) (hs : List Holder) → AllWrite (own p (h ∷ hs)) → AllWrite (own p hs)
 rest_writes p h hs all = grind (arith, writers-cons h (own p hs), few_write (own p hs))
 
--- all write where each party's own do
+-- all write if each party's own holders do
 all_write : (hs : List Holder) → ((p : ℕ) → AllWrite (own p hs)) → AllWrite hs
 all_write [] each = refl
 all_write (h ∷ hs) each =
@@ -42,7 +42,7 @@ module _ {V : Type 0} (part : V → Part) where
   at_each each (v ∷ vs) zero = each v
   at_each each (v ∷ vs) (suc p) = at_each each vs p
 
-  -- of a lock that is held only to write, one party at most is a holder
+  -- a lock that is held only to write has at most one holder
   pub one_holds : ((v : V) → Writes (part v)) → (vs : List V) (s : Plain) → IsInOrder s → IsLockOf part vs s → OneHolds s
   one_holds each vs s order is =
       let all : AllWrite s.holders = all_write s.holders (λ p. subst AllWrite (sym (ap (λ e. e.holders) (is p).0)) (at_each each vs p p)) in

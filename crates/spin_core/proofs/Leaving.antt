@@ -1,4 +1,4 @@
--- A party that has nothing in the plain lock may go: those behind it move up by one place, and nothing else changes.
+-- A party with nothing in the plain lock may leave. Those behind it move up by one place, and nothing else changes.
 use Rattle.std.proofs.Common.{◌≡◌, ℕ, zero, suc, pred, ◌-◌, ◌==◌, not, ◌&&◌, List, [], ◌∷◌, ◌++◌, map, length, filter, Some, refl, sym, ap, ◌∙◌, subst, arith}
 use Rattle.std.proofs.lemmas.List.{length-map}
 use Rattle.std.proofs.lemmas.List.Sums.{sum_by-cons}
@@ -11,7 +11,7 @@ use Rattle.spin_core.specs.Cell.{Use, off, Rests}
 use Rattle.spin_core.specs.Views.{Part, entries_of, Knows, HasPart, part_at, Encodes, no_word}
 use Rattle.spin_step.specs.Orders.{IsInOrder}
 
--- a party that is behind the place k moves up; and the place where it was
+-- the new place of a party behind place k; `back`: the place that it had
 abbrev up : ℕ → ℕ → ℕ
 up zero p = pred p
 up (suc k) zero = zero
@@ -37,7 +37,7 @@ module _ {X : Type 0} (owner : X → ℕ) (rename : X → X) (k q : ℕ) (same :
   abbrev of : ℕ → List X → List X
   of p xs = filter (λ x. owner x == p) xs
 
-  -- where nobody is at k, a party at q was at the place before
+  -- if nobody is at k, a party now at q was one place further on
   renames : (xs : List X) → of k xs ≡ [] → of q (map rename xs) ≡ map rename (of (back k q) xs)
   renames [] none = refl
   renames (x ∷ xs) none = grind (arith, same x, same_place k (owner x) q, renames xs)
@@ -48,7 +48,7 @@ holder_up k h = holder (up k h.party) h.kind
 abbrev ticket_up : ℕ → Ticket → Ticket
 ticket_up k t = ticket (up k t.party) t.number t.entered
 
--- the lock where all behind the place k have moved up
+-- the lock after all behind place k have moved up
 abbrev pub moved_up : ℕ → Plain → Plain
 moved_up k s = record s { holders = map (holder_up k) s.holders; tickets = map (ticket_up k) s.tickets; starvers = map (up k) s.starvers }
 
@@ -65,7 +65,7 @@ entries-up k q s none =
 part-up : (k p : ℕ) (x : Part) → entries_up k (entries_of p x) ≡ entries_of (up k p) x
 part-up k p x = grind arith
 
--- Nothing but the names changes
+-- Only the names change
 
 pub sum-up : (k : ℕ) (f : Kind → ℕ) (hs : List Holder) → sum_kinds f (map (holder_up k) hs) ≡ sum_kinds f hs
 sum-up k f [] = refl
@@ -130,7 +130,7 @@ module _ {V : Type 0} (part : V → Part) (v : V) where
   others_at (x ∷ xs) behind (suc q) = others_at xs behind q
 
   module _ {S : Type 0} (uses : V → Use) (cap : ℕ) (first : Plain → ℕ) (second : Plain → S) (same_first : NamesNobody first) (same_second : NamesNobody second) where
-    -- a party that has nothing, and does not use the value, may go
+    -- a party that has nothing, and does not use the value, may leave
     pub leaves : uses v ≡ off → ((p : ℕ) → entries_of p (part v) ≡ no_entries) → Rests (Encodes part cap first second) uses (Some v)
     leaves unused nothing = (
       unused,

@@ -1,4 +1,4 @@
--- What the parties have is no more than what stands in the lock.
+-- What the parties have is at most what the lock has.
 use Rattle.std.proofs.Common.{◌≡◌, ℕ, suc, ◌+◌, ◌≤◌, ◌==◌, true, cond, List, [], ◌∷◌, length, filter, refl, ap, ◌∙◌, arith, nat_lt}
 use Rattle.std.specs.Prelude.{sum_by}
 use Rattle.std.proofs.lemmas.List.Sums.{sum_by-cons, count_by-le-length}
@@ -54,15 +54,15 @@ module _ {X : Type 0} (owner : X → ℕ) (weight : X → ℕ) where
     all : (vs : List V) (xs : List X) → ((p : ℕ) → own p xs ≡ gives p (part_at part vs p)) → sum_by has vs ≡ below (0 + length vs) xs
     all vs xs owns = omega (arith, counted 0 vs xs (λ p i e. owns p ∙ ap (λ j. gives p (part_at part vs j)) (let f : p ≡ i = omega arith in f)), below-none xs)
 
-    -- what the parties have is no more than all
+    -- what the parties have is at most everything
     pub within : (vs : List V) (xs : List X) → ((p : ℕ) → own p xs ≡ gives p (part_at part vs p)) → sum_by has vs ≤ sum_by weight xs
     within vs xs owns = omega (arith, all vs xs owns, below-le (0 + length vs) xs)
 
-    -- and where nobody else has anything, it is all
+    -- and if nobody else has anything, it is everything
     pub exactly : (vs : List V) (xs : List X) → ((p : ℕ) → own p xs ≡ gives p (part_at part vs p)) → ((p : ℕ) → length vs ≤ p → filter (λ x. owner x == p) xs ≡ []) → sum_by has vs ≡ sum_by weight xs
     exactly vs xs owns nobody = omega (arith, all vs xs owns, below-all (0 + length vs) xs (λ p far. nobody p (omega arith)))
 
--- Who may use the value beside whom
+-- Who may use the value together with whom
 
 abbrev is_entered : Ticket → ℕ
 is_entered t = bit t.entered
@@ -120,7 +120,7 @@ module _ {V : Type 0} (part : V → Part) where
   ones [] = refl
   ones (x ∷ xs) = omega (arith, sum_by-cons (λ x. 1) x xs, ones xs)
 
-  -- readers beside one another, as many as the cap lets in, or one writer alone
+  -- the value has several readers, at most as many as the cap says, or one writer
   pub readers_or_writer : ((v : V) → OfReaders v) → (cap : ℕ) → 1 ≤ cap → cap ≤ most_readers → (vs : List V) (s : Plain) → s.cap ≡ cap → IsInOrder s → IsLockOf part vs s
       → Limits {X = Unit {0}} lends (readers_of (used_by part) vs) (writers_of (used_by part) vs)
   readers_or_writer kind cap least most vs s room order is =

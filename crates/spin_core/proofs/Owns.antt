@@ -1,4 +1,4 @@
--- A party appends its moves under its own number, and has made no entry between its steps.
+-- A party appends its moves under its own number, and makes no entry between its steps.
 use Rattle.std.proofs.Common.{◌≡◌, ℕ, suc, ◌+◌, ◌<◌, ◌≤◌, ◌==◌, if◌then◌else◌, Bool, true, false, Option, Some, None, List, [], ◌∷◌, ◌++◌, length, map, drop, slice_set, refl, sym, ap, ◌∙◌, subst, arith, zero-add, ne_eqb}
 use Rattle.std.specs.Prelude.{◌≢◌}
 use Rattle.std.proofs.lemmas.List.{length-append, length-map, map-append, drop-append-le}
@@ -16,7 +16,7 @@ use Rattle.spin_core.specs.Own.{Numbered, by_party, present_from, kind, entries_
 use Rattle.spin_core.proofs.Runs.{around, set_seam, world}
 use Rattle.spin_core.proofs.Runs as runs
 
--- Of lists of numbered parties
+-- For lists of numbered parties
 
 present_from-append : {X : Type 0} (k j : ℕ) (us ws : List (Option (X × ℕ))) → j ≡ k + length us → present_from k (us ++ ws) ≡ present_from k us ++ present_from j ws
 present_from-append k j [] ws is = ap (λ i. present_from i ws) (let e : k ≡ j = omega (arith, is) in e)
@@ -39,7 +39,7 @@ split {X} k (Some u ∷ us) (x ∷ before) v behind e =
     let s = split (suc k) us before v behind rest in
     (Some u ∷ s.0, s.1, ap (λ ws. Some u ∷ ws) s.2, (ap (λ y. y ∷ before) same ∙ ap (λ ws. (u.0, k, u.1) ∷ ws) s.3), (let i = s.4 in omega (arith, i)), s.5)
 
--- Of a party's entries
+-- For a party's entries
 
 abbrev Came : Type 0 → Type 0
 Came X = List (Option (X × ℕ))
@@ -61,7 +61,7 @@ module _ {C V : Type 0} where
   none_of_both q xs ys e d = by-append q xs ys ∙ ap (λ l. l ++ entries_by q ys) e ∙ d
 
   module _ (log : List (Entry C V)) where
-    -- one that is there has made none since its mark
+    -- a party that is present has made none since its mark
     rested_at : {X : Type 0} (k p : ℕ) (front : Came X) (u : X × ℕ) (back : Came X) → p ≡ k + length front → Rested log k (front ++ Some u ∷ back) → entries_by p (drop u.1 log) ≡ []
     rested_at k p [] u back is r = subst (λ i. entries_by i (drop u.1 log) ≡ []) (let e : k ≡ p = omega (arith, is) in e) r.0.1
     rested_at k p (None ∷ us) u back is r = rested_at (suc k) p us u back (omega (arith, is)) r
@@ -98,7 +98,7 @@ module _ {C V : Type 0} where
       later k (None ∷ us) under r = later (suc k) us (omega (arith, under)) r
       later k (Some u ∷ us) under r = (on k u.1 (λ e. absurd (omega (arith, under, e))) r.0, later (suc k) us (omega (arith, under)) r.1)
 
-      -- the party that made them has its mark behind them
+      -- the party that made them has its mark after them
       made : {X : Type 0} (k : ℕ) (front : Came X) (o : Option (X × ℕ)) (v : X) (back : Came X) → p ≡ k + length front → Rested log k (front ++ o ∷ back) → Rested (log ++ es) k (front ++ Some (v, length (log ++ es)) ∷ back)
       made k [] o v back is r = (((let x : length (log ++ es) ≤ length (log ++ es) = omega arith in x), ap (entries_by k) (drop-length (log ++ es))), later (suc k) back (omega (arith, is)) (behind k o back r))
       made k (None ∷ us) o v back is r = made (suc k) us o v back (omega (arith, is)) r
@@ -125,7 +125,7 @@ module _ {W V C L A X S : Type 0} (m : Machine W V C L A) (seat_of : X → Seat 
   pub opens : (s : ℕ × S) → s ≡ words_of m.words → IsRun m seat_of words_of [] s []
   opens s is = ([], m.words, m.value, refl, is, (λ more. ap (at_first m) (zero-add more)), (λ more. refl), λ q le. refl)
 
-  -- where the party's moves lead, whatever place it has
+  -- where the party's moves lead, whatever its place is
   leads : (log : Schedule) (w : W) (value : Option V) (front : Came X) (o : Option (X × ℕ)) (back : Came X) (p : ℕ) (u : X) (mark : ℕ) (s : ℕ × S) (P : List (Move C V) → List (Outcome A V) → Type 0)
       (moves : run.Goes m seat_of words_of (kind o) u w value s P) → p ≡ length front
       → Leads log w value (map kind (front ++ o ∷ back)) → IsPlayed m (length (map kind (front ++ o ∷ back))) log
@@ -142,7 +142,7 @@ module _ {W V C L A X S : Type 0} (m : Machine W V C L A) (seat_of : X → Seat 
       subst (λ l. Leads (log ++ l) w' now (map kind (front ++ Some (u, mark) ∷ back)) × IsPlayed m (length (map kind (front ++ Some (u, mark) ∷ back))) (log ++ l) × run.AreOwn m own outs log l) e
       (subst There (sym (kinds front (Some (u, mark)) back)) on, subst (λ c. IsPlayed m (length c) (log ++ runs.entries_at m seat_of words_of fs own)) (sym (kinds front (Some (u, mark)) back)) on_played, mine)
 
-  -- what comes of a step by which the party with this view comes to the view u
+  -- the result of a step by which the party with this view gets the view u
   abbrev pub Comes : Option (Numbered X) → X → (List (Move C V) → List (Outcome A V) → Type 0) → ℕ → ℕ × S → Schedule → List (Numbered X) → Type 0
   Comes view u says id s log vs = (p : ℕ) × (own : List (Move C V)) × (outs : List (Outcome A V)) × (let es = by_party p own in
       IsRun m seat_of words_of (log ++ es) s (views_after id view vs (u, p, length (log ++ es))) × MadeNone m seat_of words_of log p view × run.AreOwn m own outs log es × says own outs)
@@ -204,7 +204,7 @@ module _ {W V C L A X S : Type 0} (m : Machine W V C L A) (seat_of : X → Seat 
         ),
       )
 
-  -- a party that sits idle may leave
+  -- an idle party may leave
   pub leave : (v : Numbered X) → seat_of v.0 ≡ Idle → (s : ℕ × S) (log : Schedule) (before behind_it : List (Numbered X)) → IsRun m seat_of words_of log s (before ++ v ∷ behind_it) → IsRun m seat_of words_of log s (before ++ behind_it)
   leave v idle s log before behind_it (came, w, value, is, s_is, led, played, rested) =
       let (front, back, came_is, front_is, p_is, back_is) = split 0 came before v behind_it is in let o : Option (X × ℕ) = Some (v.0, v.2) in

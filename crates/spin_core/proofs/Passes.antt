@@ -1,4 +1,4 @@
--- What a party that keeps its number learns by a step, and by one step after another.
+-- What a party with a number learns by a step, and by one step after another.
 use Rattle.std.proofs.Common.{◌≡◌, ℕ, zero, suc, ◌+◌, ◌==◌, if◌then◌else◌, Bool, true, false, Option, Some, None, List, [], ◌∷◌, ◌++◌, length, drop, replicate, refl, sym, ap, ◌∙◌, subst, arith, eq-eqb, zero-add}
 use mathlib.Core.List.{IsPrefix}
 use Rattle.std.proofs.Math.Seq.{drop-append_seam}
@@ -45,7 +45,7 @@ module _ {W V C L A : Type 0} (m : Machine W V C L A) where
   after-both s [] ys = refl
   after-both s (x ∷ xs) ys = after-both (happens m s x.0 x.1).next xs ys
 
-  -- of entries of others nothing comes to the party
+  -- entries of others have no outcomes for the party
   unasked : (p : ℕ) (s : State W V C L) (x : Entry C V) (xs : Schedule) (b : Bool) → (if b then x ∷ entries_by p xs else entries_by p xs) ≡ [] → (entries_by p xs ≡ [] → (s' : State W V C L) → outcomes_by m p s' xs ≡ [])
       → (if b then (happens m s x.0 x.1).outcome ∷ outcomes_by m p (happens m s x.0 x.1).next xs else outcomes_by m p (happens m s x.0 x.1).next xs) ≡ []
   unasked p s x xs true e rest = cc (e)
@@ -81,7 +81,7 @@ module _ {W V C L A : Type 0} (m : Machine W V C L A) where
     same_number p q None is may = absurd is
     same_number p q (Some u) is may = may ∙ sym is
 
-    -- moves of the one course, and then of the other
+    -- first moves of the one course, then of the other
     pub made_both : (u v w : Option (Numbered X)) (a b c : Schedule) (P Q R : Course V C A) → ((own own' : List (Move C V)) (outs outs' : List (Outcome A V)) → P own outs → Q own' outs' → R (own ++ own') (outs ++ outs'))
         → Made m u a v b P → Made m v b w c Q → Made m u a w c R
     made_both u v w a b c P Q R joins (p, may, is, own, outs, did, so) (q, may', is', own', outs', did', so') =
@@ -95,7 +95,8 @@ module _ {W V C L A : Type 0} (m : Machine W V C L A) where
     none_between (Some u) p old log known knew none =
         (none.0, ap (entries_by p) (sym (drop-append_seam old known.0) ∙ ap (λ n. drop n (old ++ known.0)) (sym knew) ∙ ap (drop u.2) known.1) ∙ none.1)
 
-    -- what a step tells a party that knew all up to its last step: what it did, and that it knows all again
+    -- what a step tells a party that knew everything up to its last step: what it did, and that it again knows
+    -- everything
     pub learns : (says : List (Move C V) → List (Outcome A V) → ℕ → X → Type 0) (named : Type 0) (view : Option (Numbered X)) (before now : Watch (Entry C V)) (n : ℕ) (v : Numbered X)
         → mark_of view ≡ length before.entries → Watches named before now (Tells m seat_of words_of says view) n v
         → Made m view before.entries (Some v) now.entries (λ own outs. says own outs n v.0) × (mark_of (Some v) ≡ length now.entries)
@@ -127,7 +128,8 @@ module _ {W V C L A : Type 0} (m : Machine W V C L A) where
 pub may_know : {E S V R : Type 0} (holds : ℕ → Trace E S → List V → Type 0) (ways : Ways R V (Trace E S)) (name : ℕ) → ((n : ℕ) (t : Trace E S) (vs : List V) → holds n t vs → t.name ≡ name) → (known : ℕ) → name ≡ known → Named holds ways known
 may_know holds ways name says known same n t vs meets = says n t vs meets.0 ∙ same
 
--- What a step tells a party that knew all up to its last step: which course it took, where it led, and that the party knows all again
+-- What a step tells a party that knew everything up to its last step: its course, where it led, and that the party
+-- again knows everything
 pub record Learnt {W V C L A X : Type 0} (m : Machine W V C L A) (view view' : Option (Numbered X)) (before now : Watch (Entry C V)) (to : X) (course : Course V C A) : Type 0 where
   pub made : Made m view before.entries view' now.entries course
   pub knows : mark_of view' ≡ length now.entries
@@ -167,7 +169,7 @@ module _ {V C A : Type 0} where
       → (own own' : List (Move C V)) (outs outs' : List (Outcome A V)) → Begins c P own outs → Q own' outs' → Begins c R (own ++ own') (outs ++ outs')
   begun c P Q R joins own own' outs outs' (rest, comes, is, are, so) so' = (rest ++ own', comes ++ outs', ap (λ l. l ++ own') is, ap (λ l. l ++ outs') are, joins rest own' comes outs' so so')
 
--- What a party has made, by one step and by one course after another
+-- What a party has done, by one step and by one course after another
 module _ {W V C L A X : Type 0} (m : Machine W V C L A) where
   module _ (view view' : Option (Numbered X)) (old new : List (Entry C V)) where
     abbrev Makes : Course V C A → Type 0
@@ -180,17 +182,17 @@ module _ {W V C L A X : Type 0} (m : Machine W V C L A) where
     pub whole : (c : C) (a : A) → Makes (IsStep false c (Answered a None)) → Makes (IsCall c a)
     whole c a = weaker (IsStep false c (Answered a None)) (IsCall c a) (λ own outs s. (Step ∷ [], Answered a None ∷ [], s.0, s.1, (0, refl, refl)))
 
-    -- the same behind a write
+    -- the same after a write
     pub whole_behind : (Q : V → Type 0) (c : C) (a : A) → Makes (WritesSome Q (IsStep false c (Answered a None))) → Makes (WritesSome Q (IsCall c a))
     whole_behind Q c a =
         weaker (WritesSome Q (IsStep false c (Answered a None))) (WritesSome Q (IsCall c a))
         (λ own outs (x, so, (rest, comes, is, are, s)). (x, so, (rest, comes, is, are, (Step ∷ [], Answered a None ∷ [], s.0, s.1, (0, refl, refl)))))
 
-    -- one that begins a call, which goes on
+    -- a step that begins a call, which then waits
     pub begins : (c : C) → Makes (IsStep false c GoingOn) → Makes (Begins c Waits)
     begins c = weaker (IsStep false c GoingOn) (Begins c Waits) (λ own outs s. (Step ∷ [], GoingOn ∷ [], s.0, s.1, (1, refl, refl)))
 
-    -- one in a call, which goes on or is answered
+    -- a step in a call, which then waits or is answered
     pub goes : (c : C) → Makes (IsStep true c GoingOn) → Makes Waits
     goes c = weaker (IsStep true c GoingOn) Waits (λ own outs s. (1, s.0, s.1))
 
@@ -213,7 +215,7 @@ module _ {W V C L A X : Type 0} (m : Machine W V C L A) where
     pub call_ends : (call : C) (answer : A) → Made m u a v b (Begins call Waits) → Made m v b w c (Ends answer) → Made m u a w c (IsCall call answer)
     call_ends call answer = made_both m u v w a b c (Begins call Waits) (Ends answer) (IsCall call answer) (begun call Waits (Ends answer) (Ends answer) (waits_out answer))
 
--- Of a party that keeps a watch of the trace beside its permit: what it learns by a step
+-- For a party that keeps a watch of the trace with its permit: what it learns by a step
 module _ {W V C L A X S : Type 0} (m : Machine W V C L A) (seat_of : X → Seat C L) (words_of : W → ℕ × S) (known now : Option (Numbered X) × Watch (Entry C V)) where
   pub stepped : (named : Type 0) → named → (found : ℕ) → mark_of known.0 ≡ length known.1.entries → (says : List (Move C V) → List (Outcome A V) → ℕ → X → Type 0) (goes_on : Bool) (c : C) (end : ℕ → Outcome A V) (to : ℕ → X)
       → ((own : List (Move C V)) (outs : List (Outcome A V)) (n : ℕ) (v : X) → says own outs n v → step_by goes_on c end to own outs n v)

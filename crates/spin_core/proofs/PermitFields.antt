@@ -40,7 +40,7 @@ pointer (block_ptr b o) i = (tt, tt)
 pointer null_ptr i = absurd i
 
 module _ (a : NamedLft) (R V Y K S : RattleType) (g : Ghosts Y.Denot R.Denot V.Denot K.Denot S.Denot) where
-  -- of a permit, and of a write permit as well
+  -- the words of a permit, and of a write permit too
   abbrev pub Words : RattleType
   Words = Struct (shape (permit.the_type a R V Y K S g))
 

@@ -1,4 +1,5 @@
--- The kinds of play that locks share: a step on a word is allowed where it is the party's open step in the plain lock, or none.
+-- The kinds of play that locks share. A step on a word is allowed if it is an open step of its party in the plain lock,
+-- or no step there.
 use Rattle.std.proofs.Common.{◌≡◌, ℕ, ◌+◌, ◌-◌, ◌<◌, ◌≤◌, ◌%◌, ◌^◌, ◌==◌, Bool, true, if◌then◌else◌, List, [], Option, Some, None, refl, sym, ap, ◌∙◌, subst, arith, eq-eqb, ne_eqb}
 use mathlib.Core.Logic.{dite}
 use native.Mathlib.Decide.{ℕ_discrete}
@@ -18,8 +19,8 @@ use Rattle.spin_step.proofs.InOrder.{in_order-kept, in_order-fresh, cap-kept}
 use Rattle.spin_core.proofs.Views.{number, part_before, own_part, lock_after, release-own}
 use Rattle.spin_core.proofs.CellViews.{came_to}
 
--- a lock over the cell: what each view is to the plain lock and how it uses the value, the view of a party that has nothing,
--- the first word, the second or nothing, and that parties use the value together only where they may
+-- A lock over the cell: what each view is in the plain lock, and how it uses the value; the view of a party that has
+-- nothing; the first word; the second word or nothing; and that parties use the value together only if they may.
 pub record Lock (V S : Type 0) : Type 1 where
   pub part : V → Part
   pub uses : V → Use
@@ -33,7 +34,7 @@ pub record Lock (V S : Type 0) : Type 1 where
   pub fits : (vs : List V) (s : Plain) → s.cap ≡ cap → IsInOrder s → IsLockOf part vs s → Limits way (readers_of uses vs) (writers_of uses vs)
   pub names_nobody : NamesNobody first × NamesNobody second
 
--- in the plain lock s the party p makes a step, or none, by which it becomes the new part, and after which the words are n and m
+-- In the plain lock s the party p makes a step, or none, by which it gets the new part. After it the words are n and m.
 pub record Makes {S : Type 0} (first : Plain → ℕ) (second : Plain → S) (old new : Part) (s : Plain) (p n : ℕ) (m : S) : Type 0 where
   pub step : Option Change
   pub is_open : IsOpenStep s p step
@@ -42,7 +43,7 @@ pub record Makes {S : Type 0} (first : Plain → ℕ) (second : Plain → S) (ol
   pub first_is : n ≡ first (apply_some s step)
   pub second_is : m ≡ second (apply_some s step)
 
--- a word that has this weight in it, and room above
+-- the word contains this weight, and leaves room above
 abbrev pub Weighs : ℕ → ℕ → Type 0
 Weighs k n = (k ≤ n) × (n < 2 ^ 63)
 
@@ -59,11 +60,11 @@ module _ {V S : Type 0} (lock : Lock V S) where
   abbrev pub ways : Ways (Unit {0}) V S
   ways = (way, uses, no_fact)
 
-  -- in each lock in which the party of the view is what that says
+  -- in each lock in which the party has the part of its view
   abbrev pub Each : Option V → (Plain → ℕ → Type 0) → Type 0
   Each view P = (s : Plain) (p : ℕ) → s.cap ≡ cap → IsInOrder s → HasPart s p (part_before part view) → P s p
 
-  -- it comes to the view w
+  -- it gets the view w
   abbrev pub Reaches : Option V → V → Plain → ℕ → ℕ → S → Type 0
   Reaches view w s p n m = Makes first second (part_before part view) (part w) s p n m
 
@@ -74,12 +75,12 @@ module _ {V S : Type 0} (lock : Lock V S) where
   pub by_none : (view : Option V) (w : V) (s : Plain) (p : ℕ) → entries_of p (part_before part view) ≡ entries_of p (part w) → Knows s (part w) → Reaches view w s p (first s) (second s)
   by_none view w s p same known = record { step = None; is_open = tt; entries = same; knows = known; first_is = refl; second_is = refl }
 
-  -- a party gets what it asks for, where the step function's own lemma says so
+  -- a party gets what it asks, if the lemma of the step function says so
   pub by_grant : (view : Option V) (w : V) (s : Plain) (p : ℕ) (ask : Ask) (n : ℕ) (m : S) → Decides s (gets p ask) first (Some n) → entries_after s (Some (gets p ask)) (entries_of p (part_before part view)) ≡ entries_of p (part w)
       → Knows (apply s (gets p ask)) (part w) → m ≡ second (apply s (gets p ask)) → Reaches view w s p n m
   by_grant view w s p ask n m granted becomes known same = by_step view w s (gets p ask) n m granted.0 becomes known granted.1 same
 
-  -- an exchange is one step where it finds the number that it expected, and else another
+  -- an exchange is one step if it finds the number that it expected, otherwise another
   pub by_exchange : (view : Option V) (won lost : V) (s : Plain) (p n : ℕ) (m : S) (expected new : ℕ) → (n ≡ expected → Reaches view won s p new m) → Reaches view lost s p n m
       → (w : V) × Reaches view w s p (either (n == expected) new n) m × (w ≡ (if n == expected then won else lost))
   by_exchange view won lost s p n m expected new hit miss =
@@ -94,11 +95,11 @@ module _ {V S : Type 0} (lock : Lock V S) where
       let cap_is = cap-kept s made.step ∙ room in
       ((apply_some s made.step, cap_is, kept, new, made.first_is, made.second_is), lock.fits (after id view vs w) (apply_some s made.step) cap_is kept new)
 
-  -- the same of a lock whose parties are known, all of them, and of a word that a machine holds
+  -- the same for a lock whose parties are all known, and for a word of the machine
   abbrev pub EachOf : Option V → (Plain → ℕ → Type 0) → Type 0
   EachOf view P = (s : Plain) (p : ℕ) (vs : List V) → s.cap ≡ cap → IsInOrder s → IsLockOf part vs s → HasPart s p (part_before part view) → first s < words → P s p
 
-  -- a step on the first word: in each lock the party comes to a view of which this can be said
+  -- a step on the first word: in each lock the party gets a view that satisfies `says`
   pub allows_among : (view : Option V) (f : ℕ → ℕ) (says : ℕ → V → Type 0) → EachOf view (λ s p. (w : V) × Reaches view w s p (f (first s)) (second s) × says (first s) w) → Allows Holds ways view f says
   allows_among view f says makes id n m vs meets at small =
       let s = meets.0.0 in let made = makes s (number part id view vs) vs meets.0.1 meets.0.2 meets.0.3 (own_part part id view vs s at meets.0.3) (subst (λ j. j < words) meets.0.4 small) in let w : V = made.0 in
@@ -109,28 +110,28 @@ module _ {V S : Type 0} (lock : Lock V S) where
         made.2,
       )
 
-  -- the same of a step that need not know the other parties
+  -- the same for a step that need not know the other parties
   pub allows : (view : Option V) (f : ℕ → ℕ) (says : ℕ → V → Type 0) → Each view (λ s p. (w : V) × Reaches view w s p (f (first s)) (second s) × says (first s) w) → Allows Holds ways view f says
   allows view f says makes = allows_among view f says (λ s p vs room order is has small. makes s p room order has)
 
-  -- a lock to which nobody has come
+  -- a lock that nobody has used yet
   pub begins : (group ticket n : ℕ) (m : S) → ticket ≤ ticket_limit → n ≡ first (fresh cap group ticket) → m ≡ second (fresh cap group ticket) → Meets Holds ways n m []
   begins group ticket n m within e f =
       let s = fresh cap group ticket in let order = in_order-fresh cap group ticket within in let nobody : IsLockOf part [] s = λ p. (refl, tt) in
       ((s, refl, order, nobody, e, f), lock.fits [] s refl order nobody)
 
-  -- a look by a party that comes
+  -- a look by a new party
   pub looks : Allows Holds ways None (λ n. n) (becomes idle 0 0 None)
   looks = allows None (λ n. n) (becomes idle 0 0 None) (λ s p room order has. (idle, by_none None idle s p (sym (ap (entries_of p) lock.is_idle.0)) (rw lock.is_idle.0 tt), refl))
 
-  -- an exchange is a step where it finds the number of which the step function was asked, and else the party has what it had
+  -- if an exchange finds the number given to the step function, it is a step; otherwise the party keeps what it had
   pub exchanged : (view : Option V) (won : ℕ → V) (lost : V) (old new : ℕ) → ((s : Plain) (p : ℕ) → (entries_of p (part_before part view) ≡ entries_of p (part lost)) × Knows s (part lost))
       → EachOf view (λ s p. first s ≡ old → Reaches view (won old) s p new (second s)) → Allows Holds ways view (λ n. either (n == old) new n) (exchanges won lost old new view)
   exchanged view won lost old new still comes =
       allows_among view (λ n. either (n == old) new n) (exchanges won lost old new view) (λ s p vs room order is has small.
       by_exchange view (won old) lost s p (first s) (second s) old new (comes s p vs room order is has small) (by_none view lost s p (still s p).0 (still s p).1))
 
-  -- a party that has nothing may go
+  -- a party that has nothing may leave
   pub rests : (v : V) → uses v ≡ off → ((p : ℕ) → entries_of p (part v) ≡ no_entries) → Rests Holds uses (Some v)
   rests v unused has_none = leaves part v uses cap first second lock.names_nobody.0 lock.names_nobody.1 unused has_none
 
@@ -148,19 +149,20 @@ module _ {V S : Type 0} (lock : Lock V S) where
   refused_rests won None found expected other moved = absurd moved
   refused_rests won (Some v) found expected other moved = missed_rests won v found expected other moved
 
--- Of a lock of one word: a look, an exchange for what a party asks, and a subtraction by a holder
+-- For a lock of one word: a look, an exchange for what a party asks, and a subtraction by a holder
 module _ {V : Type 0} (lock : Lock V (Unit {0})) where
   open lock use {part, idle, cap, first}
 
-  -- a look, after which the party is to the lock what it was
+  -- a look, after which the party's part is unchanged
   pub stays_at : (view : Option V) (to : ℕ → V) → ((n : ℕ) → part_before part view ≡ part (to n)) → ((s : Plain) (n : ℕ) → Knows s (part (to n))) → Allows (Holds lock) (ways lock) view (λ n. n) (λ n v. v ≡ to n)
   stays_at view to same knows = allows lock view (λ n. n) (λ n v. v ≡ to n) (λ s p room order has. (to (first s), by_none lock view (to (first s)) s p (ap (entries_of p) (same (first s))) (knows s (first s)), refl))
 
-  -- of a party that has nothing
+  -- for a party that has nothing
   pub looks_at : (view : Option V) (to : ℕ → V) → part_before part view ≡ nothing → ((n : ℕ) → part (to n) ≡ nothing) → Allows (Holds lock) (ways lock) view (λ n. n) (λ n v. v ≡ to n)
   looks_at view to had none = stays_at view to (λ n. had ∙ sym (none n)) (λ s n. rw (none n) tt)
 
-  -- an exchange gives what the party asks for where it finds the number of which the step function was asked, and else the party is what it was
+  -- If an exchange finds the number given to the step function, the party gets what it asks. Otherwise its part is
+  -- unchanged.
   pub gets_at : (view : Option V) (ask : Ask) (won : V) (lost : ℕ → V) (old new : ℕ) → ((s : Plain) (p : ℕ) → entries_after s (Some (gets p ask)) (entries_of p (part_before part view)) ≡ entries_of p (part won)) → ((s : Plain) → Knows s (part won))
       → ((n : ℕ) → part_before part view ≡ part (lost n)) → ((s : Plain) (n : ℕ) → Knows s (part (lost n))) → EachOf lock view (λ s p. first s ≡ old → Decides s (gets p ask) first (Some new))
       → Allows (Holds lock) (ways lock) view (λ n. either (n == old) new n) (λ n v. v ≡ (if n == old then won else lost n))
@@ -168,11 +170,11 @@ module _ {V : Type 0} (lock : Lock V (Unit {0})) where
       by_exchange lock view won (lost (first s)) s p (first s) tt old new (λ e. by_grant lock view won s p ask new tt (grants s p vs room order is has small e) (comes s p) (knows (apply s (gets p ask))) refl)
       (by_none lock view (lost (first s)) s p (ap (entries_of p) (same (first s))) (still s (first s))))
 
-  -- the step function's own lemma, where it makes the number new of old
+  -- the lemma of the step function, if it makes the number new from old
   abbrev pub Grants : Ask → ℕ → ℕ → Type 0
   Grants ask old new = (s : Plain) (p : ℕ) → IsInOrder s → s.cap ≡ cap → first s ≡ old → Decides s (gets p ask) first (Some new)
 
-  -- the same of a party that has nothing
+  -- the same for a party that has nothing
   pub exchanges_at : (view : Option V) (ask : Ask) (won : V) (lost : ℕ → V) (old new : ℕ) → part_before part view ≡ nothing → ((n : ℕ) → part (lost n) ≡ nothing)
       → ((s : Plain) (p : ℕ) → entries_after s (Some (gets p ask)) (entries_of p nothing) ≡ entries_of p (part won)) → ((s : Plain) → Knows s (part won))
       → Grants ask old new → Allows (Holds lock) (ways lock) view (λ n. either (n == old) new n) (λ n v. v ≡ (if n == old then won else lost n))
@@ -181,7 +183,7 @@ module _ {V : Type 0} (lock : Lock V (Unit {0})) where
       (λ s p vs room order is has small e. grants s p order room e)
 
   module _ (weight : Kind → ℕ) (sums : (s : Plain) → first s ≡ sum_kinds weight s.holders) (bounded : (s : Plain) → s.cap ≡ cap → IsInOrder s → first s < 2 ^ 63) where
-    -- a holder takes its weight from a word that is the sum over the holders
+    -- a holder subtracts its weight from a word that is the sum over the holders
     pub leaves_at : (v : V) (k : Kind) → ((p : ℕ) → entries_of p (part v) ≡ entries_of p (holds k)) → Allows (Holds lock) (ways lock) (Some v) (λ n. (n + (2 ^ 64 - weight k)) % 2 ^ 64) (λ n w. Weighs (weight k) n × (w ≡ idle))
     leaves_at v k was = allows lock (Some v) (λ n. (n + (2 ^ 64 - weight k)) % 2 ^ 64) (λ n w. Weighs (weight k) n × (w ≡ idle)) (λ s p room order has.
         let stands = is_holder-from_entries p k s.holders (ap (λ e. e.holders) (has.0 ∙ was p)) in
@@ -192,7 +194,7 @@ module _ {V : Type 0} (lock : Lock V (Unit {0})) where
           ((omega (arith, less, small, sums s), small), refl),
         ))
 
--- of a lock of two words, the same of a step on the second
+-- For a lock of two words: the same for a step on the second
 module _ {V : Type 0} (lock : Lock V ℕ) where
   open lock use {part, first, second}
 

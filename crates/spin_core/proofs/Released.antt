@@ -1,4 +1,5 @@
--- A block of `Release` meets its trait: its `release` asks and promises nothing, and its rows own what the trait's own. Assumes `Logic`.
+-- A block of `Release` fits its trait: its `release` needs and promises nothing, and its rows own what those of the
+-- trait own. Assumes `Logic`.
 use Rattle.std.proofs.Common.{[], ◌∷◌}
 use seplogic.Ra.Ura.{Ura}
 use mir.Syntax.{Dict, named}

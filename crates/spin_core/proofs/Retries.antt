@@ -1,4 +1,4 @@
--- What each attempt that fails hands on, the last one has.
+-- If each failed attempt keeps a property, the last one has it.
 use Rattle.std.proofs.Common.{ℕ, zero, suc, subst}
 use Rattle.std.specs.Prelude.{Result, Err}
 use Rattle.spin_core.specs.Retries.{Fails}

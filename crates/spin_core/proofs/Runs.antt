@@ -1,4 +1,5 @@
--- Moves of one party, alone in its world, are moves of it in any world, with the same outcomes; so where a schedule leads, its step leads on, appended to it.
+-- Moves of one party alone in its world are moves of it in any world, with the same outcomes. So a step may be appended
+-- to a schedule that leads to it.
 use Rattle.std.proofs.Common.{◌≡◌, ℕ, zero, suc, ◌+◌, Bool, true, false, ◌&&◌, Option, Some, None, List, [], ◌∷◌, ◌++◌, length, map, replicate, slice_get, slice_set, refl, sym, ap, ◌∙◌, subst, arith}
 use Rattle.std.proofs.Math.Seq.{set-append_seam}
 use Rattle.std.specs.List.{list_all}
@@ -32,7 +33,7 @@ abbrev pub world : {W V C L : Type 0} → W → Option V → List (Seat C L) →
 world w value seats = record { words = w; value = value; seats = seats }
 
 module _ {W V C L A : Type 0} (m : Machine W V C L A) (xs ys : List (Seat C L)) where
-  -- alone and among others the party comes to the same
+  -- alone and among others the party's moves have the same result
   abbrev pub Same : State W V C L → State W V C L → Type 0
   Same alone among = (w : W) × (value : Option V) × (seat : Seat C L) × (alone ≡ world w value (seat ∷ [])) × (among ≡ world w value (xs ++ seat ∷ ys))
 
@@ -91,7 +92,7 @@ module _ {W V C L A : Type 0} (m : Machine W V C L A) (xs ys : List (Seat C L)) 
   after_same w value seat own end all is =
       let same = after_from (world w value (seat ∷ [])) (world w value (xs ++ seat ∷ ys)) own all (w, value, seat, refl, refl) in same.4 ∙ ap among (sym same.3 ∙ is)
 
--- a party that stands has some before it and some behind it
+-- a party has some before it and some behind it
 abbrev pub Around : {X : Type 0} → ℕ → X → List X → Type 0
 Around id v vs = (before : List _) × (behind : List _) × (vs ≡ before ++ v ∷ behind) × (id ≡ length before)
 
@@ -158,7 +159,7 @@ module _ {W V C L A : Type 0} (m : Machine W V C L A) where
   outcomes-append s [] ys = refl
   outcomes-append s (x ∷ xs) ys = ap (λ l. (happens m s x.0 x.1).outcome ∷ l) (outcomes-append (happens m s x.0 x.1).next xs ys)
 
-  -- what is played after what is played
+  -- what is played after something that was played
   played_on : (s : State W V C L) (xs ys : List (Entry C V)) (outs : List (Outcome A V)) → list_all is_played (outcomes m s xs) ≡ true → outcomes m (after m s xs) ys ≡ outs → list_all is_played outs ≡ true
       → list_all is_played (outcomes m s (xs ++ ys)) ≡ true
   played_on s xs ys outs before are all = ap (list_all is_played) (outcomes-append s xs ys) ∙ list_all-append is_played (outcomes m s xs) (outcomes m (after m s xs) ys) ∙ ap (λ b. b && list_all is_played (outcomes m (after m s xs) ys)) before
@@ -187,7 +188,7 @@ module _ {W V C L A X S : Type 0} (m : Machine W V C L A) (seat_of : X → Seat 
   abbrev pub entries_at : List (Option X) → List (Move C V) → Schedule
   entries_at front own = map (λ move. (length (seats front), move)) own
 
-  -- where the schedule leads, with the party's seat between the others'
+  -- where the schedule leads, with the party's seat among the others'
   comes_to : (log : Schedule) (w : W) (value : Option V) (front : List (Option X)) (o : Option X) (back : List (Option X)) (count more : ℕ) → count ≡ length (front ++ o ∷ back) → Leads log w value (front ++ o ∷ back)
       → after m (at_first m (count + more)) log ≡ world w value (seats front ++ sits o ∷ (seats back ++ replicate more Idle))
   comes_to log w value front o back count more is leads = ap (λ k. after m (at_first m (k + more)) log) is ∙ leads more ∙ ap (world w value) (seats-seam front o back (replicate more Idle))
@@ -202,7 +203,7 @@ module _ {W V C L A X S : Type 0} (m : Machine W V C L A) (seat_of : X → Seat 
       ∙ after_same m xs ys w value (sits o) own (world w' now (seat_of v ∷ [])) all is
       ∙ ap (world w' now) (sym (seats-seam front (Some v) back (replicate more Idle)))
 
-  -- the entries are that party's, with the outcomes that it has alone
+  -- the entries are the party's, with the outcomes that it has alone
   own_outcomes : (log : Schedule) (w : W) (value : Option V) (front : List (Option X)) (o : Option X) (back : List (Option X)) (own : List (Move C V)) (outs : List (Outcome A V))
       → list_all is_of_call own ≡ true → outcomes m (world w value (sits o ∷ [])) (map (λ move. (0, move)) own) ≡ outs
       → Leads log w value (front ++ o ∷ back) → (more : ℕ) → outcomes m (after m (at_first m (length (front ++ o ∷ back) + more)) log) (entries_at front own) ≡ outs
@@ -222,11 +223,11 @@ module _ {W V C L A X S : Type 0} (m : Machine W V C L A) (seat_of : X → Seat 
   are_own log w value front o back own outs all is fine leads played =
       (length (seats front), length (front ++ o ∷ back), refl, played_with log w value front o back own outs all is fine leads played, own_outcomes log w value front o back own outs all is leads)
 
-  -- as many others as there were
+  -- whether a schedule is played depends on the number of parties, not on what this party is
   pub plays_on : (schedule : Schedule) (front : List (Option X)) (o u : Option X) (back : List (Option X)) → IsPlayed m (length (front ++ o ∷ back)) schedule → IsPlayed m (length (front ++ u ∷ back)) schedule
   plays_on schedule front o u back = subst (λ k. IsPlayed m k schedule) (as_many front o u back)
 
-  -- a party comes, and sits idle until its first step
+  -- a party joins, and sits idle until its first step
   pub comes : (log : Schedule) (w : W) (value : Option V) (came : List (Option X)) → Leads log w value came → Leads log w value (came ++ None ∷ [])
   comes log w value came leads more =
       ap (λ count. after m (at_first m count) log) (let a = length-append came (None ∷ []) in omega arith) ∙ leads (suc more)
@@ -235,7 +236,7 @@ module _ {W V C L A X S : Type 0} (m : Machine W V C L A) (seat_of : X → Seat 
   pub plays_more : (log : Schedule) (came : List (Option X)) → IsPlayed m (length came) log → IsPlayed m (length (came ++ None ∷ [])) log
   plays_more log came played more = ap (λ count. list_all is_played (outcomes m (at_first m count) log)) (let a = length-append came (None ∷ []) in omega arith) ∙ played (suc more)
 
-  -- a party leaves, which sits idle from then on
+  -- a party leaves, and its seat is idle from then on
   pub leaves : (log : Schedule) (w : W) (value : Option V) (front back : List (Option X)) (v : X) → seat_of v ≡ Idle → Leads log w value (front ++ Some v ∷ back) → Leads log w value (front ++ None ∷ back)
   leaves log w value front back v idle leads more =
       comes_to log w value front (Some v) back (length (front ++ None ∷ back)) more (as_many front None (Some v) back) leads

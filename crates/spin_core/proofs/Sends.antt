@@ -1,4 +1,5 @@
--- What a lock owes where it makes its cell: any thread may have its trace, with a number beside it or without, and who may share its rule may share its value.
+-- What a lock must show when it makes its cell: any thread may own its trace, with or without a number, and a thread
+-- that may share its rule may share its value.
 use Rattle.std.proofs.Common.{◌≡◌, ℕ, ◌+◌, ◌-◌, ◌%◌, [], ◌∷◌, ap, ◌∙◌, arith, subst}
 use Rattle.std.proofs.Math.Nat.{mod_self, zero-mod}
 use base.Fml.{Lft}
@@ -16,14 +17,14 @@ use Rattle.spin_core.specs.contracts.trace.Trace.{the_row, the_type}
 use Rattle.spin_core.proofs.TraceSteps.{log_keyless}
 use Rattle.spin_model.specs.contracts.schedule.Move as move
 
--- an entry, of calls of this row and values of that one, or of calls alone
+-- an entry with calls of this row and values of that one, or with calls only
 abbrev pub entry_over : RattleType → RattleType → RattleType
 entry_over C V = Tuple (usize ∷ move.the_row C V ∷ [])
 
 abbrev pub entry : RattleType → RattleType
 entry C = entry_over C unit
 
--- what lies in its fields
+-- what is in its fields
 pub fields_send : (E S : RattleType) → IsSend S → IsSend (Struct (shape (the_type E S)))
 fields_send E S s = search sendable depth 20
 
@@ -36,13 +37,13 @@ sends_word E = sends E u64 (search sendable depth 20)
 pub sends_word_less : (E : RattleType) → Sends (the_row E unit)
 sends_word_less E = sends E unit (search sendable depth 20)
 
--- a first field stands at its struct's beginning
+-- a first field is at the beginning of its struct
 pub at_first : (k : ℕ) → up k 0 ≡ 0
 at_first k =
     let all : k - 0 ≡ k = omega arith in
     let none = ap (λ j. (k - j) % k) (zero-mod k) ∙ (ap (λ j. j % k) all ∙ mod_self k) in
     omega (arith, none)
 
--- so who may share a struct may share its first field; a rule that lends is a struct over the value
+-- so a thread that may share a struct may share its first field; a rule that lends is a struct over the value
 pub first_field : (T : RattleType) → ((x : T.Denot) (b o : ℕ) (κ : Lft) → Keyless (shared_of T x b (o + up (align (lone T.mir)) 0) κ)) → Common T
 first_field T may x b o κ = let same : o + up (align (lone T.mir)) 0 ≡ o = omega (arith, at_first (align (lone T.mir))) in subst (λ e. Keyless (shared_of T x b e κ)) same (may x b o κ)

@@ -1,4 +1,4 @@
--- The signs of the logic, as the statements about the cell's memory use them. Assumes nothing: these are names.
+-- The signs of the logic, as the statements about the cell's memory use them. These are only names.
 use seplogic.Ra.Ura.{Ura}
 use base.Fml.{Fml}
 use base.Logic.{SProp, ent, sep, wand}

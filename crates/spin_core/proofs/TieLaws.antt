@@ -1,4 +1,4 @@
--- The types that a lock on threads names where its trace is a schedule, with their laws: a walk over its guard cites them.
+-- The types that a lock on threads uses if its trace is a schedule, with their laws. A walk over its guard cites them.
 use Rattle.std.proofs.Common.{[], ◌∷◌, ◌++◌, refl}
 use base.Fml.{Lft}
 use contract.BorrowLft.{◌⊑◌, ⊑_meet, ⊑_static}
@@ -31,7 +31,7 @@ numbered V = Tuple (V ∷ usize ∷ usize ∷ [])
 abbrev pub numbered_laws : (V : RattleType) → Laws V → Laws (numbered V)
 numbered_laws V laws = tuple_laws (V ∷ usize ∷ usize ∷ []) (laws, (numbers, (numbers, tt)))
 
--- an entry, and what is known of a trace of such, and a trace beside a second word
+-- an entry; what is known of a trace of such entries; and a trace with a second word
 abbrev pub entry_over_laws : (C V : RattleType) → Laws C → Laws V → Laws (entry_over C V)
 entry_over_laws C V laws values = tuple_laws (usize ∷ _ ∷ []) (numbers, (moves.the_row_laws C V laws values, tt))
 
@@ -50,7 +50,7 @@ traced C S = trace.the_row (entry C) S
 abbrev pub trace_laws : (C S : RattleType) → Laws C → Laws S → Laws (traced C S)
 trace_laws C S laws second = traces.the_row_laws (entry C) S (entry_laws C laws) second
 
--- the same of a lock whose trace tells values of this row, and what is settled of it when it is made
+-- the same for a lock whose trace tells values of this row; and what is fixed when that lock is made
 abbrev pub opened : RattleType → RattleType
 opened V = opening.the_row V
 
@@ -63,7 +63,7 @@ traced_over C V S = trace.the_row (entry_over C V) S
 abbrev pub trace_over_laws : (C V S : RattleType) → Laws C → Laws V → Laws S → Laws (traced_over C V S)
 trace_over_laws C V S laws values second = traces.the_row_laws (entry_over C V) S (entry_over_laws C V laws values) second
 
--- What a lock owes where it takes a watch of such a trace: the values live as long as the borrow of the lock
+-- What a lock must show when it takes a watch of such a trace: the values live as long as the borrow of the lock
 module _ (κ l : Lft) (within : κ ⊑ l) where
   abbrev alone : Lft
   alone = l ++ []
@@ -79,7 +79,7 @@ module _ (κ l : Lft) (within : κ ⊑ l) where
       let one = ⊑_meet _ _ _ within (⊑_static _) in let three = ⊑_meet _ _ _ one (⊑_meet _ _ _ one (⊑_meet _ _ _ one (⊑_static _))) in
       ⊑_meet _ _ _ (⊑_meet _ _ _ three (⊑_static _)) (⊑_meet _ _ _ three (⊑_static _))
 
-  -- a trace beside a word
+  -- a trace with a word
   pub trace_within : κ ⊑ (entries ++ []) ++ (((entries ++ []) ++ []) ++ [])
   trace_within = let all = ⊑_meet _ _ _ entries_within (⊑_static _) in ⊑_meet _ _ _ all (⊑_meet _ _ _ (⊑_meet _ _ _ all (⊑_static _)) (⊑_static _))
 
@@ -89,6 +89,6 @@ module _ (κ l : Lft) (within : κ ⊑ l) where
   pub permit_within : κ ⊑ permit
   permit_within = let one = ⊑_meet _ _ _ within (⊑_static _) in ⊑_meet _ _ _ one (⊑_meet _ _ _ (⊑_meet _ _ _ one (⊑_static _)) (⊑_static _))
 
-  -- what is settled of a lock, beside a number
+  -- what is fixed for a lock, with a number
   pub key_within : κ ⊑ (permit ++ []) ++ (permit ++ [])
   key_within = let all = ⊑_meet _ _ _ permit_within (⊑_static _) in ⊑_meet _ _ _ all all

@@ -1,4 +1,5 @@
--- A lock's rule beside its trace of numbered parties: each step of the rule that is moves of the model keeps both.
+-- A lock's rule together with its trace of numbered parties. Each step of the rule that is moves of the model keeps
+-- both.
 use Rattle.std.proofs.Common.{◌≡◌, ℕ, zero, suc, ◌+◌, ◌++◌, ◌∷◌, map, length, Option, Some, None, List, [], refl, sym, ap, ◌∙◌, subst}
 use Rattle.std.specs.Prelude.{sum_by}
 use mathlib.Core.Option.{some, some-injective, some-ne-none}
@@ -68,7 +69,7 @@ module _ {W V C L A X S : Type 0} (m : Machine W V C L A) (seat_of : X → Seat 
   abbrev pub own_ways : Ways Y (Numbered X) (Trace (Entry C V) S)
   own_ways = (way, λ v. f v.0, know)
 
-  -- what the moves owe of the value, whatever the trace is
+  -- what the moves must show of the value, whatever the trace is
   abbrev pub Owing : Use → Use → Option Y → List (Move C V) → Type 0
   Owing u u' shown own = (t : Trace (Entry C V) S) (word : S) (p : ℕ) → Owed know t (grown_at t word (by_party p own)) u u' shown
 
@@ -85,7 +86,7 @@ module _ {W V C L A X S : Type 0} (m : Machine W V C L A) (seat_of : X → Seat 
     abbrev Owes : Type 0
     Owes = (own : List (Move C V)) (outs : List (Outcome A V)) (n : ℕ) (u : X) → says own outs n u → Owing (use_of f (what view)) (f u) shown own
 
-    -- where the rule gives the party a next view, its moves lead to that
+    -- if the rule gives the party a next view, its moves lead to that view
     leads : AreMoves m seat_of words_of (what view) to found then says → Owes → (id n : ℕ) (t : Trace (Entry C V) S) (vs : List (Numbered X)) → Meets Of own_ways n t vs → Stands id view vs
         → (u : X) → Going way (use_of f (what view)) (f u) shown (readers_of f (all vs)) (Meets holds ways (to (n, t.word)).0 (to (n, t.word)).1 (views_after id (what view) (all vs) u)) → then (found (n, t.word)) u
         → (w : Numbered X) × (es : List (Entry C V)) × Going way (use_of (λ v. f v.0) view) (f w.0) shown (readers_of (λ v. f v.0) vs)
@@ -133,7 +134,7 @@ module _ {W V C L A X : Type 0} (m : Machine W V C L A) (seat_of : X → Seat C 
       let made = allows id n t.word (all vs) (meets.0.1, plain f vs way meets.1) (stands id view vs at) small in
       leads m seat_of words_of holds name Y way f know view shown (on_second g) second then says moves owes id n t vs meets at made.0 made.1 made.2
 
--- a step tells less of its moves
+-- a step may tell less of its moves
 module _ {W V C L A X S : Type 0} (m : Machine W V C L A) (seat_of : X → Seat C L) (words_of : W → ℕ × S) (view : Option (Numbered X)) (says says' : List (Move C V) → List (Outcome A V) → ℕ → X → Type 0)
     (less : (own : List (Move C V)) (outs : List (Outcome A V)) (n : ℕ) (u : X) → says own outs n u → says' own outs n u) where
   pub tells_less : {Y : Type 0} (holds : ℕ → Trace (Entry C V) S → List (Numbered X) → Type 0) (used : Ways Y (Numbered X) (Trace (Entry C V) S)) (shown : Option Y) (g : ℕ → ℕ)

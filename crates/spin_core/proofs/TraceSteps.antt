@@ -60,7 +60,7 @@ module _ {M : Type 1} {𝓤 : Ura M} (𝓛 : Logic 𝓤) where
     unfolding log_owns
     appends l es = latest_grows logs 𝓛 γ (map cv.code l) (map cv.code (l ++ es)) (prefix_coded cv l es)
 
-    -- what one who reads has: some share of the right, and no more
+    -- what a reader has: some share of the right, and no more
     pub part_halves : (l : List T) → Halves 𝓤 H A (log_part cv.code γ l)
     part_halves l = Cuts-Halves 𝓛 (log_part cv.code γ l) (record { cut = λ q q₁ q₂ m. latest_cut logs 𝓛 q q₁ q₂ γ (map cv.code l) m; join = λ q q₁ q₂ m. latest_glue logs 𝓛 q q₁ q₂ γ (map cv.code l) m })
 
@@ -80,7 +80,7 @@ module _ {M : Type 1} {𝓤 : Ura M} (𝓛 : Logic 𝓤) where
         qed 𝓛 (‵ top ∷ ‵ had ∷ []) ∵ use2 𝓛 (given (IsPrefix (map cv.code k) (map cv.code l)) (‵ top ⊛ ‵ had)) (latest_bounds logs 𝓛 q γ (map cv.code l) (map cv.code k)) $
         learn ! (λ p. check ! (prefix_uncoded cv k l p) $ split ! $ keep ! (0 ∷ []) $ use1 𝓛 (‵ top ⊛ ‵ has) (shows q l) $ split ! $ done !)
 
-    -- who appends sees that what was known is a prefix
+    -- whoever appends sees that what was known is a prefix
     pub observes_whole : (l k : List T) → ⟦ log_owns cv.code γ l ⟧ ∗ ⟦ known_owns cv.code γ k ⟧ ⊢ guard 𝓤 (IsPrefix k l) (⟦ log_owns cv.code γ l ⟧ ∗ ⟦ known_owns cv.code γ l ⟧)
     unfolding log_owns
     observes_whole l k = observes full_share l k
@@ -89,7 +89,7 @@ module _ {M : Type 1} {𝓤 : Ura M} (𝓛 : Logic 𝓤) where
     unfolding log_owns
     shows_whole l = shows full_share l
 
-    -- two who have some share of one right
+    -- two owners of a share of one right
     pub same_log : (q r : Share) (l k : List T) → ⟦ log_part cv.code γ l q ⟧ ∗ ⟦ log_part cv.code γ k r ⟧ ⊢ guard 𝓤 (l ≡ k) (⟦ log_part cv.code γ l q ⟧ ∗ ⟦ log_part cv.code γ k r ⟧)
     same_log q r l k = let a = map cv.code l in let b = map cv.code k in let x : Fml = log_part cv.code γ l q in let y : Fml = log_part cv.code γ k r in
         qed 𝓛 (‵ x ∷ ‵ y ∷ []) ∵ use2 𝓛 (given (a ≡ b) (‵ x ⊛ ‵ y)) (latest_agrees logs 𝓛 q r γ a b) $

@@ -1,4 +1,4 @@
--- The names that walks cite, passed on from one place.
+-- The names that walks use, collected in one place.
 pub use Rattle.std.proofs.Common.{◌≡◌, ℕ, List, [], ◌∷◌, ◌++◌, refl, sym, ◌⊎◌}
 pub use mathlib.Core.List.{IsPrefix}
 pub use mir.Syntax.{a_type, dcons, dnil, named}

@@ -1,4 +1,4 @@
--- The word beside a trace, in memory: it lies where the trace does, and the trace comes back with another word. Assumes `Logic`.
+-- The word next to a trace, in memory: it is where the trace is, and the trace may get another word. Assumes `Logic`.
 use Rattle.std.proofs.Common.{ℕ, zero, ◌+◌, List, [], ◌∷◌}
 use seplogic.Ra.Ura.{Ura}
 use mir.Val.{Val}
@@ -24,7 +24,7 @@ use Rattle.spin_core.specs.contracts.trace.Trace as trace
 use Rattle.spin_core.specs.declared.trace.Trace.{Trace}
 use Rattle.spin_core.proofs.Signs.{signs}
 
--- the trace with this word beside it
+-- the trace with this word
 abbrev pub beside : {E S : Type 0} → Trace E S → S → Trace E S
 beside m w = record { word = w; marker = m.marker; name = m.name; entries = m.entries }
 

@@ -1,15 +1,38 @@
--- Steps keep what is known of the value: moves that write nothing keep it, and the value that a holder writes is the one that it leaves.
+-- Steps keep what is known of the value. Moves that write nothing keep it, and a holder writes the value that it
+-- leaves.
 use Rattle.std.proofs.Common.{◌≡◌, ℕ, zero, suc, Bool, true, false, Option, Some, None, List, [], ◌∷◌, ◌++◌, refl, sym, ap, ◌∙◌, subst}
+use Rattle.std.specs.Option.{IfSome}
 use Rattle.spin_model.specs.declared.schedule.Move.{Move}
 use Rattle.spin_model.specs.declared.schedule.Outcome.{Outcome}
 use Rattle.spin_model.specs.Schedules.{Entry}
-use Rattle.spin_core.specs.Cell.{Use, off, reads, writes, Way, Owed, Learns, Knowing, Freeing, Fixed, readers_of, writers_of, Lends}
+use Rattle.spin_core.specs.Cell.{Use, off, reads, writes, Way, Owed, Learns, Shows, Knowing, Freeing, Fixed, readers_of, writers_of, Lends}
 use Rattle.spin_core.specs.Own.{by_party}
 use Rattle.spin_core.specs.Passes.{IsStep, Writes}
 use Rattle.spin_core.specs.Traced.{Learnt, grown_at}
 use Rattle.spin_core.specs.Values.{written, left, latest, IsLast, last, Leaves, untold}
 use Rattle.spin_core.specs.declared.tie.Opening.{Opening}
 use Rattle.spin_core.specs.declared.trace.Trace.{Trace}
+
+some_none : {V : Type 0} (x : V) → Some x ≡ None → ⊥
+some_none x e = absurd cc
+
+-- what a step tells of the value that it shows after, where its party comes to use it or reads on: also one that wrote before
+tells : {V : Type 0} (ψ : V → Type 0) (u u' : Use) (before after : Option V) → (u ≡ writes → u' ≡ reads) → Shows u' before after → Learns ψ u u' before after → IfSome after ψ
+tells ψ writes off before after so shows learns = absurd (let e : off ≡ reads = so refl in cc)
+tells ψ writes writes before after so shows learns = absurd (let e : writes ≡ reads = so refl in cc)
+tells ψ writes reads before None so shows learns = tt
+tells ψ writes reads before (Some x) so shows learns = learns
+tells ψ off u' before None so shows learns = tt
+tells ψ off u' before (Some x) so shows learns = learns
+tells ψ reads u' before None so shows learns = tt
+tells ψ reads off before (Some x) so shows learns = absurd (some_none x shows)
+tells ψ reads reads before (Some x) so shows learns = learns
+tells ψ reads writes before (Some x) so shows learns = learns
+
+-- and of the value that a reader leaves
+leaves_told : {V : Type 0} (ψ : V → Type 0) (before after : Option V) → Learns ψ reads off before after → IfSome before ψ
+leaves_told ψ None after learns = tt
+leaves_told ψ (Some x) after learns = learns
 
 module _ {C V : Type 0} where
   latest-append : (v : V) (xs ys : List (Entry C V)) → latest v (xs ++ ys) ≡ latest (latest v xs) ys
@@ -23,7 +46,7 @@ module _ {C V : Type 0} where
   pub latest_left : (v : V) (log : List (Entry C V)) (p : ℕ) (own : List (Move C V)) → latest v (log ++ by_party p own) ≡ left own (latest v log)
   latest_left v log p own = latest-append v log (by_party p own) ∙ latest-own (latest v log) p own
 
-  -- a step that begins a call or goes on with it writes nothing, and behind a write it leaves that
+  -- a step that begins a call or continues it writes nothing; after a write it leaves the written value
   pub step_leaves : {A : Type 0} (goes_on : Bool) (c : C) (end : Outcome A V) (own : List (Move C V)) (outs : List (Outcome A V)) → IsStep goes_on c end own outs → (v : V) → left own v ≡ v
   step_leaves true c end own outs is v = ap (λ o. left o v) is.0
   step_leaves false c end own outs is v = ap (λ o. left o v) is.0
@@ -31,7 +54,7 @@ module _ {C V : Type 0} where
   pub write_leaves : {A : Type 0} (x : V) (goes_on : Bool) (c : C) (end : Outcome A V) (own : List (Move C V)) (outs : List (Outcome A V)) → Writes x (IsStep goes_on c end) own outs → (v : V) → left own v ≡ x
   write_leaves x goes_on c end own outs (rest, comes, is, came, step) v = ap (λ o. left o v) is ∙ step_leaves goes_on c end rest comes step x
 
-  -- so such a step of a party that does not use the value writes nothing
+  -- so such a step writes nothing, if its party does not use the value
   pub steps_leave : {A : Type 0} (u u' : Use) (shown : Option V) → u ≡ off → (goes_on : Bool) (c : C) (end : Outcome A V) (own : List (Move C V)) (outs : List (Outcome A V)) → IsStep goes_on c end own outs → Leaves u u' shown own
   steps_leave u u' shown is goes_on c end own outs step = subst (λ z. Leaves z u' shown own) (sym is) (step_leaves goes_on c end own outs step)
 
@@ -43,7 +66,7 @@ module _ {C V : Type 0} where
       leaves : (x : V) → ((v : V) → left own v ≡ x) → IsLast opening (t.entries ++ by_party p own) x
       leaves x all told = latest_left opening.value t.entries p own ∙ all (latest opening.value t.entries)
 
-      -- what such moves owe
+      -- what such moves must show
       pub owed : (u u' : Use) (shown : Option V) → Leaves u u' shown own → Owed (last opening) t (grown_at t word (by_party p own)) u u' shown
       owed writes writes shown l = tt
       owed writes off None l = tt
@@ -53,11 +76,21 @@ module _ {C V : Type 0} where
       owed off u' shown l = keeps l
       owed reads u' shown l = keeps l
 
-    -- a lock opens with the value that lies in it
+    -- a lock opens with the value that is in it
     pub opens_last : (es : List (Entry C V)) (x : V) → es ≡ [] → opening.value ≡ x → IsLast opening es x
     opens_last es x none is told = ap (latest opening.value) none ∙ is
 
-    -- what a party finds that comes to use the value, and what one leaves that has written it
+    -- what a party is shown that comes to use the value, or reads on
+    pub shows_last : {S : Type 0} (u u' : Use) (before after : Option V) (es : List (Entry C V)) → Learnt {S = S} (last opening) u u' before after es → (u ≡ writes → u' ≡ reads) → Shows u' before after → IfSome after (λ y. IsLast opening es y)
+    shows_last u u' before after es learnt so shows = subst (λ l. IfSome after (λ y. IsLast opening l y)) learnt.1 (tells (λ y. IsLast opening learnt.0.entries y) u u' before after so shows learnt.2)
+
+    -- and what it left that it had read
+    pub read_last : {S : Type 0} (u u' : Use) (before after : Option V) (es : List (Entry C V)) → Learnt {S = S} (last opening) u u' before after es → u ≡ reads → u' ≡ off → IfSome before (λ y. IsLast opening es y)
+    read_last u u' before after es learnt is is' =
+        let told = subst (λ (z : Use × Use). Learns (λ y. IsLast opening learnt.0.entries y) z.0 z.1 before after) (λ i. (is i, is' i)) learnt.2 in
+        subst (λ l. IfSome before (λ y. IsLast opening l y)) learnt.1 (leaves_told (λ y. IsLast opening learnt.0.entries y) before after told)
+
+    -- what a party finds when it begins to use the value, and what one leaves that has written it
     module _ {S : Type 0} (u u' : Use) (before after : Option V) (es : List (Entry C V)) (x : V) (learnt : Learnt {S = S} (last opening) u u' before after es) where
       pub found : u ≡ off → after ≡ Some x → IsLast opening es x
       found is some = subst (λ l. IsLast opening l x) learnt.1 (subst (λ (z : Use × Option V). Learns (λ y. IsLast opening learnt.0.entries y) z.0 u' before z.1) (λ i. (is i, some i)) learnt.2)
@@ -72,11 +105,11 @@ module _ {C V : Type 0} where
         let here : latest opening.value now ≡ y = ap (latest opening.value) whole ∙ latest_left opening.value log p own ∙ all (latest opening.value log) in
         subst (λ z. z ≡ x) here (so told)
 
-    -- what is read later is what was written since, or what was there before
+    -- what is read later was written since, or was there before
     pub read_on : (old new more : List (Entry C V)) (x y : V) → opening.told ≡ true → new ≡ old ++ more → IsLast opening old x → IsLast opening new y → latest x more ≡ y
     read_on old new more x y told grew is is' = ap (λ z. latest z more) (sym (is told)) ∙ sym (latest-append opening.value old more) ∙ ap (latest opening.value) (sym grew) ∙ is' told
 
-    -- the owner may borrow the value: from then on nothing is known of it
+    -- the owner may borrow the value; from then on nothing is known of it
     module _ {S X : Type 0} (holds : ℕ → Trace (Entry C V) S → List X → Type 0) (way : Way V) (f : X → Use) where
       less : (w : ℕ) (t : Trace (Entry C V) S) (x : V) (A : Type 0) → Knowing (last opening) t w x A → Knowing (last (untold opening)) t w x A
       less zero t x A known = ((λ e. absurd (let no : false ≡ true = e in cc (no))), known.1)

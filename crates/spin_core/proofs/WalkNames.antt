@@ -1,4 +1,4 @@
--- The names of the logic that the walks by hand use, in one place.
+-- The names of the logic that the hand-written walks use, in one place.
 pub use Rattle.std.proofs.Common.{◌≡◌, ℕ, ◌+◌, ◌-◌, ◌%◌, ◌^◌, ◌&&◌, T, true, List, [], ◌∷◌, ◌++◌, sym, refl, ap, ◌∙◌, subst, lit<, w64, Option, Some, None}
 pub use mir.Syntax.{dcons, dnil, a_type, named}
 pub use mir.Val.{Val, vunit, vint, vptr, vstruct, vcons, vnil, of_list, has_ty, WT}

@@ -1,4 +1,4 @@
--- The raw cell as plain data: what its parties are, how each may use the value, and what a step asks of the rule.
+-- The raw cell as plain data: its parties, how each may use the value, and what a step must show of the rule.
 use Rattle.std.specs.Prelude.{◌≡◌, ℕ, zero, suc, ◌+◌, ◌*◌, ◌<◌, ◌≤◌, Bool, true, false, List, [], ◌∷◌, ◌++◌, Option, Some, None, slice_set, sum_by}
 use mathlib.Core.Option.{some}
 use lib.ListN.{get_elem?}
@@ -9,19 +9,21 @@ pub data Use : Type 0 where
   reads : Use
   writes : Use
 
--- How the parties share a value of type X: each user has it alone (`alone`), or readers share it (`lends`), or a party that reads it may read it for good (`fixes`).
--- In the way `fixes`, `fact true` holds of a value that somebody reads, and `fact false` of a value that nobody uses.
+-- How the parties share a value of type X. `alone`: each user has it to itself. `lends`: readers share it, or one
+-- writer has it.
+-- `fixes`: readers share it, and a party may keep reading it for ever. Then `fact true` holds of a value that
+-- somebody reads, and `fact false` of a value that nobody uses.
 pub data Way (X : Type 0) : Type 1 where
   alone : Way X
   lends : Way X
   fixes : (Bool → X → Type 0) → Way X
 
--- what is known of a value that nobody writes: nothing, or a fact of it and of the second, such as a trace
+-- what is known of a value that nobody writes: nothing, or a fact about it and the second word, such as a trace
 pub data Knowledge (S X : Type 0) : Type 1 where
   no_fact : Knowledge S X
   knows : (S → X → Type 0) → Knowledge S X
 
--- how the parties of a rule use the value: the way, the use of each view, and what is known of the value
+-- how the parties of a rule use the value: the way, the use of each view, and the fact known of the value
 abbrev pub Ways : Type 0 → Type 0 → Type 0 → Type 1
 Ways X V S = Way X × (V → Use) × Knowledge S X
 
@@ -46,16 +48,16 @@ module _ {V : Type 0} (f : V → Use) where
   abbrev pub writers_of : List V → ℕ
   writers_of vs = sum_by (λ v. writing (f v)) vs
 
--- how many different numbers a word may be
+-- how many different numbers a word can hold
 abbrev pub words : ℕ
 words = 18446744073709551616
 
--- how many parties may read at a time in the way `lends`
+-- how many parties may read at once in the way `lends`
 abbrev pub most_readers : ℕ
 most_readers = 4611686018427387904
 
 module _ {X : Type 0} where
-  -- how many may read, and how many may write, at a time
+  -- how many may read, and how many may write, at once
   abbrev pub Limits : Way X → ℕ → ℕ → Type 0
   Limits alone r w = r + r + w ≤ 1
   Limits lends r w = r + most_readers * w ≤ most_readers
@@ -71,12 +73,12 @@ module _ {X : Type 0} where
   abbrev pub Seen : Way X → X → Type 0
   Seen way x = Fixed way 1 0 x
 
-  -- a party that reads the value reads it for good
+  -- in this way a party that reads the value may read it for ever
   abbrev pub Fixes : Way X → Type 0
   Fixes (fixes fact) = Unit {0}
   Fixes _ = ⊥
 
-  -- which parties may have come to a new cell, and gone
+  -- which parties may have used a new cell and left it
   abbrev pub IsNew : {V : Type 0} → Way X → List V → Type 0
   IsNew (fixes fact) vs = Unit {0}
   IsNew _ vs = vs ≡ []
@@ -86,7 +88,7 @@ module _ {X : Type 0} where
   IsShared alone = ⊥
   IsShared _ = Unit {0}
 
-  -- any value may take the place of one that nobody uses
+  -- any value may replace one that nobody uses
   abbrev pub Frees : Way X → Type 0
   Frees (fixes fact) = (read : Bool) (x : X) → fact read x
   Frees _ = Unit {0}
@@ -96,56 +98,59 @@ module _ {X : Type 0} where
   IsKnown no_fact m x = Unit {0}
   IsKnown (knows φ) m x = φ m x
 
-  -- a new value has the fact, and A; where there is none to know, A alone
+  -- A holds, and if nobody writes the new value, so does the fact; if there is no fact, A alone
   abbrev pub Knowing : {S : Type 0} → Knowledge S X → S → ℕ → X → Type 0 → Type 0
   Knowing (knows φ) m zero x A = φ m x × A
   Knowing _ m w x A = A
 
-  -- any value has the fact, and A
+  -- A holds, and so does the fact of every value
   abbrev pub Freeing : {S : Type 0} → Knowledge S X → Type 0 → Type 0
   Freeing no_fact A = A
   Freeing {S} (knows φ) A = ((m : S) (x : X) → φ m x) × A
 
-  -- What a step owes, where ψ takes the place of φ as what is known of a value that nobody writes: a writer that ends leaves ψ of what it was shown;
-  -- others keep ψ of whatever φ is known of
+  -- What a step must show where the known fact changes from φ to ψ. A writer that ends shows ψ of the value that it
+  -- leaves.
+  -- Any other party shows that φ implies ψ.
   abbrev pub Carries : (X → Type 0) → (X → Type 0) → Use → Use → Option X → Type 0
   Carries φ ψ writes writes shown = Unit {0}
   Carries φ ψ writes _ None = Unit {0}
   Carries φ ψ writes _ (Some x) = ψ x
   Carries φ ψ _ _ shown = (x : X) → φ x → ψ x
 
-  -- and what it tells its party, by the values that it is shown before and after: ψ of one that it comes to use, and of one that it has written
+  -- and what it tells its party, by the values that it is shown before and after: ψ of one that it comes to use, reads on or leaves, but nothing of one that it writes on
   abbrev pub Learns : (X → Type 0) → Use → Use → Option X → Option X → Type 0
-  Learns ψ reads reads before after = Unit {0}
   Learns ψ writes writes before after = Unit {0}
-  Learns ψ writes off (Some x) after = ψ x
+  Learns ψ off v before (Some x) = ψ x
+  Learns ψ off v before None = Unit {0}
+  Learns ψ _ off (Some x) after = ψ x
+  Learns ψ _ off None after = Unit {0}
   Learns ψ _ _ before (Some x) = ψ x
   Learns ψ _ _ before None = Unit {0}
 
-  -- what a step that makes m' of m owes of it
+  -- what a step from m to m' must show of that fact
   abbrev pub Owed : {S : Type 0} → Knowledge S X → S → S → Use → Use → Option X → Type 0
   Owed no_fact m m' u v shown = Unit {0}
   Owed (knows φ) m m' u v shown = Carries (φ m) (φ m') u v shown
 
-  -- a step that makes m' of m owes that, and A; where there is nothing to know, A alone
+  -- a step from m to m' must show that, and A; if there is no fact, A alone
   abbrev pub Carrying : {S : Type 0} → Knowledge S X → S → S → Use → Use → Option X → Type 0 → Type 0
   Carrying no_fact m m' u v shown A = A
   Carrying (knows φ) m m' u v shown A = Carries (φ m) (φ m') u v shown × A
 
-  -- what a party that is shown the value owes where it comes from one use to another and r parties read: a party that comes to
-  -- read finds a reader, and one that has written leaves the fact
+  -- What a party must show when it changes its use and r parties read. One that begins to read shows that somebody
+  -- reads already. One that stops writing shows the fact.
   abbrev pub Owes : (Bool → X → Type 0) → Use → Use → Option X → ℕ → Type 0
   Owes fact off reads shown r = 0 < r
   Owes fact writes reads (Some x) r = fact true x
   Owes fact writes off (Some x) r = fact false x
   Owes fact _ _ shown r = Unit {0}
 
-  -- the rest of what a step asks is A: in the third way a reader also reads on
+  -- A, and in the way `fixes` two things more: a reader keeps reading, and the party shows what `Owes` says
   abbrev pub Going : Way X → Use → Use → Option X → ℕ → Type 0 → Type 0
   Going (fixes fact) u v shown r A = (u ≡ reads → v ≡ reads) × Owes fact u v shown r × A
   Going _ u v shown r A = A
 
-  -- what a party is shown after a step, where it was shown `before`: a value that it goes on using is the same
+  -- what a party is shown after a step, where it was shown `before` earlier: a value that it keeps using is the same
   abbrev pub SameValue : Option X → Option X → Type 0
   SameValue None after = (x : X) × (after ≡ Some x)
   SameValue (Some x) after = after ≡ Some x
@@ -154,7 +159,7 @@ module _ {X : Type 0} where
   Shows off before after = after ≡ None
   Shows _ before after = SameValue before after
 
-  -- what a party finds of the value that it comes to use
+  -- what a party learns of the value that it begins to use
   abbrev pub Finds : Way X → Use → Use → Option X → Type 0
   Finds (fixes fact) off reads (Some x) = fact true x
   Finds (fixes fact) off writes (Some x) = fact false x
@@ -168,19 +173,19 @@ module _ {X : Type 0} where
   Keeps ways view new before after = Preserves ways.0 (use_of ways.1 view) (use_of ways.1 new) before after
 
 module _ {X V S : Type 0} (holds : ℕ → S → List V → Type 0) (ways : Ways X V S) where
-  -- the rule holds of the first word, of the second or nothing, and of the views, and the uses agree with one another
+  -- the rule holds of the words and the views, and the uses are within the limits
   abbrev pub Meets : ℕ → S → List V → Type 0
   Meets n m vs = holds n m vs × Limits ways.0 (readers_of ways.1 vs) (writers_of ways.1 vs)
 
-  -- some parties may have come to a cell with these words and this value, and gone
+  -- some parties may have used a cell with these words and this value, and left it
   abbrev pub Starts : ℕ → S → X → Type 0
   Starts n m x = (vs : List V) × Meets n m vs × Knowing ways.2 m (writers_of ways.1 vs) x (Fixed ways.0 (readers_of ways.1 vs) (writers_of ways.1 vs) x)
 
-  -- nobody has come to a new cell; or, where a value is read for good, the party that made it has gone
+  -- nobody has used the new cell yet; or, in the way `fixes`, the party that made the value has left
   abbrev pub Opens : ℕ → S → X → Type 0
   Opens n m x = (vs : List V) × IsNew ways.0 vs × Meets n m vs × Knowing ways.2 m (writers_of ways.1 vs) x (Fixed ways.0 (readers_of ways.1 vs) (writers_of ways.1 vs) x)
 
--- the rule under another key holds wherever it held, and each view uses the value as before
+-- wherever the rule held, it also holds under another key, and each view uses the value as before
 module _ {X V S : Type 0} (holds : ℕ → S → List V → Type 0) (ways : Ways X V S) (holds' : ℕ → S → List V → Type 0) (ways' : Ways X V S) where
   abbrev pub Lends : Type 0
   Lends = (IsShared ways'.0 → IsShared ways.0) × ((v : V) → ways'.1 v ≡ ways.1 v) × ((n : ℕ) (m : S) (x : X) → Starts holds ways n m x → Starts holds' ways' n m x)
@@ -196,24 +201,24 @@ module _ {V : Type 0} where
   after id None vs w = vs ++ w ∷ []
   after id (Some v) vs w = slice_set vs id w
 
-  -- a party that may go: it has no use of the value, and the rule holds as well without it
+  -- a party may leave: it does not use the value, and the rule also holds without it
   abbrev pub Rests : {S : Type 0} → (ℕ → S → List V → Type 0) → (V → Use) → Option V → Type 0
   Rests holds f None = Unit {0}
   Rests {S} holds f (Some v) = (f v ≡ off) × ((n : ℕ) (m : S) (before behind : List V) → holds n m (before ++ v ∷ behind) → holds n m (before ++ behind))
 
--- What a step asks of a party that is shown a value, or nothing: whatever the words and the views are when the word becomes f of what it was,
--- the party has a next view that keeps the rule
+-- What a step needs of a party that is shown a value, or nothing. The step applies f to the word. Whatever the words
+-- and the views are, the party has a next view that keeps the rule.
 module _ {X V S : Type 0} (holds : ℕ → S → List V → Type 0) (ways : Ways X V S) (view : Option V) where
-  -- of the first word
+  -- a step on the first word
   abbrev pub AllowsAt : Option X → (ℕ → ℕ) → (ℕ → V → Type 0) → Type 0
   AllowsAt shown f then = (id n : ℕ) (m : S) (vs : List V) → Meets holds ways n m vs → Stands id view vs → n < words
       → (w : V) × Going ways.0 (use_of ways.1 view) (ways.1 w) shown (readers_of ways.1 vs) (Meets holds ways (f n) m (after id view vs w)) × then n w
 
-  -- the same where the value is not spoken of, as in the first two ways
+  -- the same where the value does not matter, as in the ways `alone` and `lends`
   abbrev pub Allows : (ℕ → ℕ) → (ℕ → V → Type 0) → Type 0
   Allows f then = AllowsAt None f then
 
--- of the second, where there is one
+-- a step on the second word, if there is one
 module _ {X V : Type 0} (holds : ℕ → ℕ → List V → Type 0) (ways : Ways X V ℕ) (view : Option V) where
   abbrev pub AllowsSecondAt : Option X → (ℕ → ℕ) → (ℕ → V → Type 0) → Type 0
   AllowsSecondAt shown f then = (id n m : ℕ) (vs : List V) → Meets holds ways n m vs → Stands id view vs → m < words

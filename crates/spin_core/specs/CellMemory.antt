@@ -1,9 +1,13 @@
 -- What a `Cell` shares, and what its permits own.
--- The cell is shared for a lifetime α. One invariant holds its words, a quarter of each party's view, and the state of the value.
--- Where the way is `alone`, the state is the borrow of the value, or nothing while a writer has it.
--- Where it is `lends`, the value at rest is shared for a lifetime a of its own, and a reader has one part in 2 ^ 63 of a's token. A writer ends that lifetime, and begins the next one.
--- Where it is `fixes`, it is the same, but a reader has any part of a's token, and knows the fact: it never gives its part back.
--- The name ρ has the views; γ says a and the value, in the same parts as a's token; ν tracks the value, for as long as the cell is shared.
+-- The cell is shared for a lifetime α. One invariant holds its words, a quarter of each party's view, and the state
+-- of the value.
+-- In the way `alone` the state is the borrow of the value, or nothing while a writer has it.
+-- In the way `lends` a value that nobody writes is shared for a lifetime a of its own. A reader has one part in 2 ^
+-- 63 of a's token. A writer ends that lifetime, and begins the next one.
+-- The way `fixes` is the same, but a reader has any part of a's token, and knows the fact. It never gives its part
+-- back.
+-- The name ρ has the views. The name γ has a and the value, in the same parts as a's token. The name ν tracks the
+-- value as long as the cell is shared.
 use Rattle.std.specs.Prelude.{◌≡◌, Bool, true, false, ℕ, zero, suc, ◌+◌, ◌-◌, ◌^◌, [], ◌∷◌, List, Option, Some, None}
 use base.Fraction.{full_share}
 use base.FractionLaws.{Counts}
@@ -24,28 +28,29 @@ use types.Keyed.{entries_from}
 use base.Share.{quarter}
 use Rattle.spin_core.specs.Cell.{Use, off, reads, writes, Way, alone, lends, fixes, Ways, IsShared, IsKnown, use_of, readers_of, writers_of, Meets, Starts}
 
--- where the value lies, behind the first word
+-- where the value is, behind the first word
 abbrev pub offset : RattleType → ℕ
 offset R = up (align (lone R.mir)) 8
 
--- where what stands for the second word lies, behind the value
+-- where the second word's data is, behind the value
 abbrev pub second_at : RattleType → RattleType → ℕ
 second_at S R = up (align (lone S.mir)) (offset R + size (lone R.mir))
 
--- any thread may read it through a `&`
+-- any thread may read such a value through a `&`
 abbrev pub Common : RattleType → Type 0
 Common R = (x : R.Denot) (b e : ℕ) (κ : Lft) → Keyless (shared_of R x b e κ)
 
--- any thread may have it
+-- any thread may own such a value
 abbrev pub Sends : RattleType → Type 0
 Sends S = (y : S.Denot) (vs : List Val) → Keyless (S.own_val y vs)
 
--- where parties share the value, or some view reads it, the rule's own type stands for the value's: a thread that may share the one may share the other
--- and any thread may have what stands for the second word
+-- If parties share the value, or some view reads it: where threads may share the rule's own type, they may share the
+-- value's type.
+-- Any thread may own the second word's data.
 abbrev pub Known : {X V S : Type 0} → Ways X V S → RattleType → RattleType → RattleType → Type 0
 Known {V = V} ways Y S R = (IsShared ways.0 → Common Y → Common R) × ((v : V) → ways.1 v ≡ reads → Common Y → Common R) × Sends S
 
--- α, γ, ρ and ν
+-- the names and lifetimes of the cell: α, γ, ρ and ν
 pub record Id : Type 0 where
   pub life : Lft
   pub round : GName
@@ -77,7 +82,8 @@ share R γ s e = fsep (flft (s.0 ∷ []) e) (tag γ e (round_code R s))
 abbrev pub parts : (R : RattleType) → GName → Round R → ℕ → Fml
 parts R γ s k = fex Share (λ e. fex (Counts 63 e k) (λ _. share R γ s e))
 
--- what a party that reads knows of its share: it is one part in 2 ^ 63, or, where it reads for good, the value has the fact
+-- What a reader knows of its share: in the way `lends` it is one part in 2 ^ 63, in the way `fixes` the value has the
+-- fact.
 abbrev pub Part : {X : Type 0} → Way X → X → Share → Type 0
 Part alone x e = ⊥
 Part lends x e = Counts 63 e 1
@@ -86,7 +92,7 @@ Part (fixes fact) x e = fact true x
 abbrev pub piece : (R : RattleType) → Way R.Denot → GName → Round R → Fml
 piece R way γ s = fex Share (λ e. fex (Part way s.1 e) (λ _. share R γ s e))
 
--- what r parties that read for good leave of a round
+-- what is left of a round after r parties have taken a part to read for ever
 abbrev pub remains : (R : RattleType) → (Bool → R.Denot → Type 0) → GName → Round R → ℕ → Fml
 remains R fact γ s zero = fex (fact false s.1) (λ _. share R γ s full_share)
 remains R fact γ s (suc r) = piece R (fixes fact) γ s
@@ -119,16 +125,16 @@ module _ (R : RattleType) (b o : ℕ) where
     resting lends r x = fex ℕ (λ a. fsep (parts R t.round (a, x) (2 ^ 63 - r)) (shared (a, x)))
     resting (fixes fact) r x = fex ℕ (λ a. fsep (remains R fact t.round (a, x) r) (shared (a, x)))
 
-    -- what lies there while a writer has it
+    -- what is in the cell while a writer has the value
     abbrev pub missing : Way R.Denot → Fml
     missing alone = ftrue
     missing _ = idle t.round
 
-    -- the same, of which φ is known
+    -- the value with r readers, and φ holds of it
     abbrev pub lying : Way R.Denot → (R.Denot → Type 0) → ℕ → R.Denot → Fml
     lying way φ r x = fex (φ x) (λ _. resting way r x)
 
-    -- the same with r readers and w writers
+    -- the same with w writers too
     abbrev pub state : Way R.Denot → (R.Denot → Type 0) → ℕ → ℕ → Fml
     state way φ r zero = fex R.Denot (lying way φ r)
     state way φ r (suc w) = missing way
@@ -136,7 +142,7 @@ module _ (R : RattleType) (b o : ℕ) where
     abbrev pub reader : Way R.Denot → R.Denot → Fml
     reader way x = fex ℕ (λ a. fsep (piece R way t.round (a, x)) (shown x (a ∷ t.life)))
 
-    -- what a party has of the value
+    -- what a party owns of the value
     abbrev pub right : Way R.Denot → Use → Option R.Denot → Fml
     right way off None = ftrue
     right way reads (Some x) = reader way x
@@ -144,7 +150,7 @@ module _ (R : RattleType) (b o : ℕ) where
     right way _ _ = ffalse
 
     module _ {V : Type 0} (c : V → Gv) where
-      -- what a party has of its view
+      -- what a party owns of its view
       abbrev pub stand : Option V → Fml
       stand None = ftrue
       stand (Some v) = fex ℕ (λ id. seen c t.views id three_quarters v)
@@ -189,7 +195,7 @@ module _ (Y R : RattleType) {V : Type 0} (c : V → Gv) (S : RattleType) (holds 
     writer_owns (block_ptr b o) view x = fex (Known ways Y S R) (λ _. fex (ways.1 view ≡ writes) (λ _. fex Id (writer_at b o view x)))
     writer_owns null_ptr view x = ffalse
 
-  -- what a `&` to a permit holds: a `&` to the value, if it reads, and what its rule asks of that
+  -- what a `&` to a permit owns: a `&` to the value if the party reads, else nothing
   abbrev pub reader_shares : Lft → ℕ → ℕ → Use → Option R.Denot → Lft → Fml
   reader_shares β b o reads (Some x) = some (Known ways Y S R) (λ _. within β (shown R b o x))
   reader_shares β b o reads None = said ffalse

@@ -13,22 +13,22 @@ module _ {T V P R K S : Type 0} where
   abbrev pub guard_with : Guard T V P R K S → T → Guard T V P R K S
   guard_with it x = record { writer = with_value it.writer x; strategy = it.strategy }
 
-  -- the view and the key of its party
+  -- the view of the guard's party
   abbrev pub guard_view : Guard T V P R K S → V
   guard_view it = it.writer.view
 
   abbrev pub guard_key : Guard T V P R K S → K
   guard_key it = it.writer.key
 
-  -- its party is a holder of the lock, whose views use the value so
+  -- the guard's party is a holder of the lock: its view writes the value
   abbrev pub IsHolder : (V → Use) → Guard T V P R K S → Type 0
   IsHolder use_of_view it = use_of_view it.writer.view ≡ writes
 
-  -- the value that is free when the hold is consumed
+  -- the value that the hold releases when it is consumed
   abbrev pub held_value : {uses : Ghosts P V} → Held T V P R K S uses → Option T
   held_value it = it.permit.value
 
-  -- the view and the key of its party
+  -- the view of the hold's party
   abbrev pub held_view : {uses : Ghosts P V} → Held T V P R K S uses → Option V
   held_view it = it.permit.view
 

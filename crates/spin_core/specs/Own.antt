@@ -1,4 +1,6 @@
--- A trace whose parties know which entries are theirs: each party's number is its place among all that ever came, and none that is there has made an entry since the trace was as long as its mark says.
+-- A trace whose parties know which entries are theirs. A party's number is its place among all parties that ever
+-- joined.
+-- Its mark is a length of the trace: a party that is present has made no entry since then.
 use Rattle.std.specs.Prelude.{◌≡◌, ℕ, suc, ◌≤◌, Option, Some, None, List, [], ◌∷◌, ◌++◌, length, map, drop, ◌==◌, if◌then◌else◌}
 use Rattle.spin_model.specs.declared.place.Seat.{Seat}
 use Rattle.spin_model.specs.declared.schedule.Move.{Move}
@@ -17,7 +19,7 @@ abbrev pub what : {X : Type 0} → Option (Numbered X) → Option X
 what None = None
 what (Some u) = Some u.0
 
--- those that have not left, by their places from k on
+-- the parties that have not left, from place k on
 abbrev pub present_from : {X : Type 0} → ℕ → List (Option (X × ℕ)) → List (Numbered X)
 present_from k [] = []
 present_from k (None ∷ us) = present_from (suc k) us
@@ -31,33 +33,36 @@ kind (Some u) = Some u.0
 abbrev pub by_party : {C V : Type 0} → ℕ → List (Move C V) → List (Entry C V)
 by_party p own = map (λ move. (p, move)) own
 
--- of these entries, the party's
+-- those of these entries that the party made
 abbrev pub entries_by : {C V : Type 0} → ℕ → List (Entry C V) → List (Entry C V)
 entries_by p [] = []
 entries_by p (e ∷ es) = if e.0 == p then e ∷ entries_by p es else entries_by p es
 
--- each party that is there has made no entry since its mark, and no party from the last place on any
+-- No party that is present has made an entry since its mark. No party with a number past the list has made any entry.
 abbrev pub Rested : {C V X : Type 0} → List (Entry C V) → ℕ → List (Option (X × ℕ)) → Type 0
 Rested schedule k [] = (q : ℕ) → k ≤ q → entries_by q schedule ≡ []
 Rested schedule k (None ∷ us) = Rested schedule (suc k) us
 Rested schedule k (Some u ∷ us) = ((u.1 ≤ length schedule) × (entries_by k (drop u.1 schedule) ≡ [])) × Rested schedule (suc k) us
 
 module _ {W V C L A X S : Type 0} (m : Machine W V C L A) (seat_of : X → Seat C L) (words_of : W → ℕ × S) where
-  -- the schedule leads to these words and to the views of all parties that ever came and have not left, and no entry of it is passed over
+  -- The schedule leads to these words, and to the views of all parties that have not left. None of its entries is
+  -- skipped.
   abbrev pub IsRun : List (Entry C V) → ℕ × S → List (Numbered X) → Type 0
   IsRun schedule s vs =
       (came : List (Option (X × ℕ))) × (w : W) × (value : Option V) × (vs ≡ present_from 0 came) × (s ≡ words_of w) × LeadsTo m seat_of words_of schedule w value (map kind came) × IsPlayed m (length (map kind came)) schedule × Rested schedule 0 came
 
-  -- since its last step the party has made no entry; a party that comes has made none at all
+  -- the party has made no entry since its last step; a new party has made none at all
   abbrev pub MadeNone : List (Entry C V) → ℕ → Option (Numbered X) → Type 0
   MadeNone log p None = entries_by p log ≡ []
   MadeNone log p (Some u) = (p ≡ u.1) × (entries_by p (drop u.2 log) ≡ [])
 
-  -- what a step tells: the party's number, its mark, that it made no entry between, and its moves with their outcomes
+  -- what a step tells: the party's number, its new mark, that it made no entry since its last step, and its moves
+  -- with their outcomes
   abbrev pub Tells : (List (Move C V) → List (Outcome A V) → ℕ → X → Type 0) → Option (Numbered X) → List (Entry C V) → List (Entry C V) → ℕ → Numbered X → Type 0
   Tells says view log es n v =
       (own : List (Move C V)) × (outs : List (Outcome A V)) × (es ≡ by_party v.1 own) × (v.2 ≡ length (log ++ es)) × MadeNone log v.1 view × AreOwn m own outs log es × says own outs n v.0
 
-  -- a lock's own rule, and that the trace has this name and is a run of the model that leads there, of numbered parties
+  -- the lock's own rule holds, the trace has this name, and it is a run of the model that leads to this word and
+  -- these parties
   abbrev pub Runs : (ℕ → S → List X → Type 0) → ℕ → ℕ → Trace (Entry C V) S → List (Numbered X) → Type 0
   Runs holds name n t vs = (t.name ≡ name) × holds n t.word (map (λ v. v.0) vs) × IsRun t.entries (n, t.word) vs

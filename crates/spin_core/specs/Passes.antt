@@ -1,4 +1,4 @@
--- What a party knows of its own calls where it keeps its number, and what is known of the trace, from call to call.
+-- What a party with a number knows of its own calls, and of the trace, from one call to the next.
 use Rattle.std.specs.Prelude.{◌≡◌, ℕ, ◌+◌, Bool, true, false, Option, Some, None, List, [], ◌∷◌, ◌++◌, replicate, ◌==◌, if◌then◌else◌}
 use Rattle.spin_model.specs.declared.schedule.Move.{Move}
 use Rattle.spin_model.specs.declared.schedule.Move.TheVariants.{Begin, Step, Write}
@@ -25,20 +25,20 @@ abbrev pub IsNumber : {X : Type 0} → ℕ → Option (Numbered X) → Type 0
 IsNumber p None = ⊥
 IsNumber p (Some u) = p ≡ u.1
 
--- what moves a party makes, and what they result in
+-- which moves a party makes, and their outcomes
 abbrev pub Course : (V C A : Type 0) → Type 1
 Course V C A = List (Move C V) → List (Outcome A V) → Type 0
 
 module _ {V C A : Type 0} where
-  -- none
+  -- no moves
   abbrev pub Nothing : Course V C A
   Nothing own outs = (own ≡ []) × (outs ≡ [])
 
-  -- steps by which a call goes on
+  -- steps after which the call still waits
   abbrev pub Waits : Course V C A
   Waits own outs = (n : ℕ) × (own ≡ replicate n Step) × (outs ≡ replicate n GoingOn)
 
-  -- such steps, and one that answers the call
+  -- such steps, and then one that answers the call
   abbrev pub Ends : A → Course V C A
   Ends a own outs = (n : ℕ) × (own ≡ replicate n Step ++ Step ∷ []) × (outs ≡ replicate n GoingOn ++ Answered a None ∷ [])
 
@@ -50,7 +50,7 @@ module _ {V C A : Type 0} where
   abbrev pub Writes : V → Course V C A → Course V C A
   Writes x P own outs = (rest : List (Move C V)) × (comes : List (Outcome A V)) × (own ≡ Write x ∷ rest) × (outs ≡ Written ∷ comes) × P rest comes
 
-  -- a write of a value of which this holds, and then these moves
+  -- a write of a value that satisfies Q, and then these moves
   abbrev pub WritesSome : (V → Type 0) → Course V C A → Course V C A
   WritesSome Q P own outs = (x : V) × Q x × Writes x P own outs
 
@@ -58,42 +58,46 @@ module _ {V C A : Type 0} where
   abbrev pub IsCall : C → A → Course V C A
   IsCall c a = Begins c (Ends a)
 
-  -- one step with this outcome: the next one of a call that goes on (true), or the first one after the beginning of this call
+  -- One step with this outcome: the next one of a call under way (true), or the first one after the call begins
+  -- (false).
   abbrev pub IsStep : Bool → C → Outcome A V → Course V C A
   IsStep true c end own outs = (own ≡ Step ∷ []) × (outs ≡ end ∷ [])
   IsStep false c end own outs = (own ≡ Begin c ∷ Step ∷ []) × (outs ≡ Begun ∷ end ∷ [])
 
-  -- what a play says of its step: what it results in and where it leads, by the number found
+  -- what a play says of its step: its outcome and the next view, by the number found
   abbrev pub step_by : {X : Type 0} → Bool → C → (ℕ → Outcome A V) → (ℕ → X) → List (Move C V) → List (Outcome A V) → ℕ → X → Type 0
   step_by goes_on c end to own outs n v = (v ≡ to n) × IsStep goes_on c (end n) own outs
 
 module _ {W V C L A : Type 0} (m : Machine W V C L A) where
-  -- what the entries of one party result in, among those of others
+  -- the outcomes of one party's entries, among those of others
   abbrev pub outcomes_by : ℕ → State W V C L → List (Entry C V) → List (Outcome A V)
   outcomes_by p s [] = []
   outcomes_by p s (e ∷ es) = let h = happens m s e.0 e.1 in if e.0 == p then h.outcome ∷ outcomes_by p h.next es else outcomes_by p h.next es
 
-  -- since the trace was `old` the party has made these moves and no others, and they came to these outcomes; no entry of all is passed over
+  -- Since the trace was `old` the party has made exactly these moves, with these outcomes. No entry of `new` is
+  -- skipped.
   abbrev pub Did : ℕ → List (Entry C V) → List (Entry C V) → List (Move C V) → List (Outcome A V) → Type 0
   Did p old new own outs =
       (more : List (Entry C V)) × (least : ℕ) × (new ≡ old ++ more) × (entries_by p more ≡ by_party p own) × IsPlayed m least new
       × ((k : ℕ) → outcomes_by p (after m (at_first m (least + k)) old) more ≡ outs)
 
-  -- A party of this view that knew `old` is now of that view, and knows `new`. Since then it has made moves of this course, and no others
+  -- a party that had the view `view` and knew `old` now has the view `view'` and knows `new`; in between it made
+  -- exactly the moves of this course
   abbrev pub Made : {X : Type 0} → Option (Numbered X) → List (Entry C V) → Option (Numbered X) → List (Entry C V) → Course V C A → Type 0
   Made view old view' new P = (p : ℕ) × MayBe p view × IsNumber p view' × (own : List (Move C V)) × (outs : List (Outcome A V)) × Did p old new own outs × P own outs
 
--- Of a party that keeps a watch of the trace beside its permit: what it was and knew, and what it is and knows now
+-- For a party that keeps a watch of the trace with its permit. `before` and `now` are its view and what it knew,
+-- earlier and now.
 module _ {W V C L A X : Type 0} (m : Machine W V C L A) where
-  -- since then it has made moves of this course, and no others, in the same lock
+  -- since then it has made exactly the moves of this course, in the same lock
   abbrev pub Since : Course V C A → Option (Numbered X) × Watch (Entry C V) → Option (Numbered X) × Watch (Entry C V) → Type 0
   Since course before now = Made m before.0 before.1.entries now.0 now.1.entries course × (now.1.name ≡ before.1.name)
 
-  -- it has made one step of this call, which came to this, and is this now
+  -- it has made one step of this call, with this outcome, and now has this view
   abbrev pub Stepped : Bool → C → Outcome A V → X → Option (Numbered X) × Watch (Entry C V) → Option (Numbered X) × Watch (Entry C V) → Type 0
   Stepped goes_on call end view before now = Since (IsStep goes_on call end) before now × (what now.0 ≡ Some view)
 
-  -- it is in this call, which it began then
+  -- it is in this call, which it has begun since
   abbrev pub IsIn : C → Option (Numbered X) × Watch (Entry C V) → Option (Numbered X) × Watch (Entry C V) → Type 0
   IsIn call = Since (Begins call Waits)
 

@@ -2,14 +2,14 @@
 use Rattle.std.specs.Prelude.{◌≡◌, ℕ, Option, if◌then◌else◌, ◌==◌}
 
 module _ {V : Type 0} where
-  -- the party becomes this, whatever it found
+  -- the party gets this view, whatever it found
   abbrev pub becomes : V → ℕ → ℕ → Option V → ℕ → V → Type 0
   becomes w old new before found after = after ≡ w
 
-  -- it becomes this by the number that it found
+  -- the party gets a view that depends on the number found
   abbrev pub becomes_by : (ℕ → V) → ℕ → ℕ → Option V → ℕ → V → Type 0
   becomes_by w old new before found after = after ≡ w found
 
-  -- it becomes this by the number that it expected, where it found that, and else the other
+  -- the party gets a view that depends on the number expected if it found that number, else the view `lost`
   abbrev pub exchanges : (ℕ → V) → V → ℕ → ℕ → Option V → ℕ → V → Type 0
   exchanges won lost old new before found after = after ≡ (if found == old then won old else lost)

@@ -1,4 +1,5 @@
--- What ties a lock on threads to a model: the lock's trace is a schedule of the model, which leads to where the lock's parties are.
+-- What ties a lock on threads to a model. The lock's trace is a schedule of the model, and leads to the views of the
+-- lock's parties.
 use Rattle.std.specs.Prelude.{◌≡◌, ℕ, ◌+◌, Bool, true, false, Option, Some, None, List, [], ◌∷◌, ◌++◌, length, map, replicate}
 use Rattle.std.specs.List.{list_all}
 use Rattle.spin_model.specs.declared.place.Seat.{Seat}
@@ -10,7 +11,7 @@ use Rattle.spin_model.specs.declared.schedule.Outcome.TheVariants.{Skipped}
 use Rattle.spin_model.specs.Machines.{Machine}
 use Rattle.spin_model.specs.Schedules.{State, Entry, after, at_first, happens}
 
--- the moves of a party's calls, and its writes while it holds
+-- a move of a party's own calls, or a write while it holds
 abbrev pub is_of_call : {C V : Type 0} → Move C V → Bool
 is_of_call (Begin c) = true
 is_of_call Step = true
@@ -18,12 +19,12 @@ is_of_call Weak = true
 is_of_call (Write v) = true
 is_of_call _ = false
 
--- it was not passed over
+-- the move was not skipped
 abbrev pub is_played : {V A : Type 0} → Outcome A V → Bool
 is_played Skipped = false
 is_played _ = true
 
--- a step on the first word of two, or of one and nothing, and one on the second
+-- steps on the first word (with a second word or none), and on the second word
 abbrev pub on_first : {S : Type 0} → (ℕ → ℕ) → ℕ × S → ℕ × S
 on_first f s = (f s.0, s.1)
 
@@ -37,43 +38,46 @@ abbrev pub second : ℕ × ℕ → ℕ
 second s = s.1
 
 module _ {W V C L A : Type 0} (m : Machine W V C L A) where
-  -- what the entries of a schedule result in
+  -- the outcomes of a schedule's entries
   abbrev pub outcomes : State W V C L → List (Entry C V) → List (Outcome A V)
   outcomes s [] = []
   outcomes s (e ∷ es) = (happens m s e.0 e.1).outcome ∷ outcomes (happens m s e.0 e.1).next es
 
-  -- in each world with so many parties or more no entry of the schedule is passed over
+  -- in each world with at least so many parties no entry of the schedule is skipped
   abbrev pub IsPlayed : ℕ → List (Entry C V) → Type 0
   IsPlayed least schedule = (more : ℕ) → list_all is_played (outcomes (at_first m (least + more)) schedule) ≡ true
 
-  -- these entries are moves of one party; no entry is passed over; and after this log, in each world of the model with so many parties or more, they have these outcomes
+  -- These entries are moves of one party, and none is skipped. After this log they have these outcomes, in each world
+  -- of the model with at least so many parties.
   abbrev pub AreOwn : List (Move C V) → List (Outcome A V) → List (Entry C V) → List (Entry C V) → Type 0
   AreOwn own outs log es = (p least : ℕ) × (es ≡ map (λ move. (p, move)) own) × IsPlayed least (log ++ es) × ((more : ℕ) → outcomes (after m (at_first m (least + more)) log) es ≡ outs)
 
   module _ {X S : Type 0} (seat_of : X → Seat C L) (words_of : W → ℕ × S) where
-    -- a party that has left sits idle
+    -- where a party sits in the model; one that has left is idle
     abbrev pub sits : Option X → Seat C L
     sits None = Idle
     sits (Some v) = seat_of v
 
-    -- the schedule leads to these words with each of these in its seat, and however many more idle
+    -- the schedule leads to these words, with each of these parties in its seat; all further seats are idle
     abbrev pub LeadsTo : List (Entry C V) → W → Option V → List (Option X) → Type 0
     LeadsTo schedule w value came = (more : ℕ) → after m (at_first m (length came + more)) schedule ≡ record { words = w; value = value; seats = map sits came ++ replicate more Idle }
 
-    -- the moves of one party, alone in its world
+    -- a world with this one party
     abbrev pub alone : W → Option V → Seat C L → State W V C L
     alone w value seat = record { words = w; value = value; seats = seat ∷ [] }
 
     abbrev pub of_one : List (Move C V) → List (Entry C V)
     of_one own = map (λ move. (0, move)) own
 
-    -- From these words a party of this view has moves of its own, with outcomes, of which P holds: they lead to the view u, and to words that are s
+    -- From these words a party with this view has moves of its own, and P holds of them and their outcomes. They lead
+    -- to the view u, and to the words s.
     abbrev pub Goes : Option X → X → W → Option V → (ℕ × S) → (List (Move C V) → List (Outcome A V) → Type 0) → Type 0
     Goes view u w value s P =
         (own : List (Move C V)) × (outs : List (Outcome A V)) × P own outs × (list_all is_of_call own ≡ true) × (list_all is_played outs ≡ true) × (w' : W) × (now : Option V)
         × (after m (alone w value (sits view)) (of_one own) ≡ record { words = w'; value = now; seats = seat_of u ∷ [] }) × (outcomes (alone w value (sits view)) (of_one own) ≡ outs) × (words_of w' ≡ s)
 
-    -- Whatever the words are, and whatever view the party gets by a step of which `then` holds: it has such moves, and the words become what the step leaves
+    -- Take any words, and any view that the party gets by a step that satisfies `then`. The party has moves for that
+    -- step, and they lead to the step's words.
     abbrev pub AreMoves : Option X → (ℕ × S → ℕ × S) → (ℕ × S → ℕ) → (ℕ → X → Type 0) → (List (Move C V) → List (Outcome A V) → ℕ → X → Type 0) → Type 0
     AreMoves view to found then says =
         (w : W) (value : Option V) (u : X) → then (found (words_of w)) u → Goes view u w value (to (words_of w)) (λ own outs. says own outs (found (words_of w)) u)

@@ -2,11 +2,11 @@
 use Rattle.std.specs.Prelude.{ℕ, List, Option, None, Some, codes}
 use Rattle.std.specs.Fmt.{◌++?◌}
 
--- the text for the value that a look at the lock found, behind the text that shows it, or for a refusal; text is that of a value
+-- the text for a value that `try_lock` found, or for a lock that it found held; `text` writes the value
 abbrev pub named_text : {T : Type 0} → List ℕ → List ℕ → (T → Option (List ℕ)) → Option T → Option (List ℕ)
 named_text shown locked text None = Some locked
 named_text shown locked text (Some x) = Some shown ++? text x ++? Some (codes " }")
 
--- of a mutex
+-- the text of a mutex
 abbrev pub lock_text : {T : Type 0} → (T → Option (List ℕ)) → Option T → Option (List ℕ)
 lock_text = named_text (codes "Mutex { data: ") (codes "Mutex { <locked> }")

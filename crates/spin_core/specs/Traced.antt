@@ -1,4 +1,5 @@
--- A cell whose second word is a trace: what a step on a word asks that also appends to the trace, and what it tells of it.
+-- A cell whose second word is a trace: what a step needs that changes a word and appends to the trace, and what it
+-- tells.
 use Rattle.std.specs.Prelude.{◌≡◌, ◌⊎◌, ℕ, ◌<◌, List, [], ◌++◌, Option}
 use mathlib.Core.List.{IsPrefix}
 use Rattle.spin_core.specs.declared.trace.Trace.{Trace}
@@ -6,26 +7,26 @@ use Rattle.spin_core.specs.declared.trace.Watch.{Watch}
 use Rattle.spin_core.specs.Cell.{Use, Knowledge, no_fact, knows, Ways, Going, Carrying, Learns, Meets, Stands, after, use_of, readers_of, words}
 
 module _ {E S : Type 0} where
-  -- the trace with these entries behind it
+  -- the trace with these entries appended
   abbrev pub grown : Trace E S → List E → Trace E S
   grown t es = record { word = t.word; marker = t.marker; name = t.name; entries = t.entries ++ es }
 
-  -- the same, and beside it this word
+  -- the same, with this word in it
   abbrev pub grown_at : Trace E S → S → List E → Trace E S
   grown_at t word es = record { word = word; marker = t.marker; name = t.name; entries = t.entries ++ es }
 
 module _ {E : Type 0} where
-  -- a watch that knew what `before` says, or nothing, knows what `now` says: the trace as it was before the step (log), and what the step appended (es).
-  -- It has the same name where it was a watch of this trace
+  -- A watch that knew `before` now knows `now`: the trace before the step (log), and what the step appended (es).
+  -- If it was a watch of this trace, it has the same name as before.
   abbrev pub Watches : {V : Type 0} → Type 0 → Watch E → Watch E → (List E → List E → ℕ → V → Type 0) → ℕ → V → Type 0
   Watches named before now told n v = (named → now.name ≡ before.name) × ((log es : List E) × IsPrefix before.entries log × (now.entries ≡ log ++ es) × told log es n v)
 
--- what a party learns of the value by a step after which the trace has these entries
+-- what a party learns of the value by a step, if the trace then has these entries
 abbrev pub Learnt : {X E S : Type 0} → Knowledge (Trace E S) X → Use → Use → Option X → Option X → List E → Type 0
 Learnt no_fact u v before after es = Unit {0}
 Learnt {E = E} {S = S} (knows φ) u v before after es = (t : Trace E S) × (t.entries ≡ es) × Learns (φ t) u v before after
 
--- the same by its views, where the watch knows the trace then
+-- the same, by the party's views, if the watch knows the whole trace
 abbrev pub Found : {X V E S : Type 0} → Ways X V (Trace E S) → Option V → Option V → Option X → Option X → Watch E → Type 0
 Found ways view new before after seen = Learnt ways.2 (use_of ways.1 view) (use_of ways.1 new) before after seen.entries
 
@@ -34,24 +35,25 @@ module _ {X V E S : Type 0} (holds : ℕ → Trace E S → List V → Type 0) (w
   abbrev pub Named : ℕ → Type 0
   Named name = (n : ℕ) (t : Trace E S) (vs : List V) → Meets holds ways n t vs → t.name ≡ name
 
-  -- the watch is of this trace, or knows nothing
+  -- the watch is a watch of this trace, or knows nothing yet
   abbrev pub MayKnow : Watch E → Type 0
   MayKnow seen = (seen.entries ≡ []) ⊎ Named seen.name
 
-  -- whatever the words, the trace and the views are when the first word becomes f of what it was, the party has a next view, and entries that it appends, which keep the rule
+  -- Whatever the words, the trace and the views are, the step applies f to the first word. The party has a next view,
+  -- and entries to append, that keep the rule.
   abbrev pub Traces : Option V → Option X → (ℕ → ℕ) → (List E → List E → ℕ → V → Type 0) → Type 0
   Traces view shown f told = (id n : ℕ) (t : Trace E S) (vs : List V) → Meets holds ways n t vs → Stands id view vs → n < words
       → (w : V) × (es : List E) × Going ways.0 (use_of ways.1 view) (ways.1 w) shown (readers_of ways.1 vs)
       (Carrying ways.2 t (grown t es) (use_of ways.1 view) (ways.1 w) shown (Meets holds ways (f n) (grown t es) (after id view vs w))) × told t.entries es n w
 
--- the same of the second word
+-- the same for a step on the second word
 module _ {X V E : Type 0} (holds : ℕ → Trace E ℕ → List V → Type 0) (ways : Ways X V (Trace E ℕ)) where
   abbrev pub TracesSecond : Option V → Option X → (ℕ → ℕ) → (List E → List E → ℕ → V → Type 0) → Type 0
   TracesSecond view shown f told = (id n : ℕ) (t : Trace E ℕ) (vs : List V) → Meets holds ways n t vs → Stands id view vs → t.word < words
       → (w : V) × (es : List E) × Going ways.0 (use_of ways.1 view) (ways.1 w) shown (readers_of ways.1 vs)
       (Carrying ways.2 t (grown_at t (f t.word) es) (use_of ways.1 view) (ways.1 w) shown (Meets holds ways n (grown_at t (f t.word) es) (after id view vs w))) × told t.entries es t.word w
 
--- a lock without a trace, on the same steps: its rule looks at no trace, and its steps append nothing
+-- a lock without a trace: its rule ignores the trace, and its steps append nothing
 module _ {V E : Type 0} where
   abbrev pub Untraced : {S : Type 0} → (ℕ → S → List V → Type 0) → ℕ → Trace E S → List V → Type 0
   Untraced holds n t vs = holds n t.word vs

@@ -1,20 +1,20 @@
--- The plain lock of a cell's parties: what each of them is to it, as its view says.
+-- The plain lock of a cell's parties. A party's view says what it is in the plain lock.
 use Rattle.std.specs.Prelude.{◌≡◌, ℕ, zero, suc, ◌≤◌, Bool, true, List, [], ◌∷◌, if◌then◌else◌}
 use Rattle.spin_step.specs.Plain.{Plain, Kind, writing, is_reader, holder, ticket, serving_word}
 use Rattle.spin_step.specs.Parties.{Entries, entries, no_entries}
 use Rattle.spin_step.specs.Orders.{IsInOrder}
 use Rattle.spin_core.specs.Cell.{Use, off, reads, writes}
 
--- what one party is to the lock
+-- what one party is in the lock
 pub data Part : Type 0 where
   idle : Part
   holds : Kind → Part
-  queues : ℕ → Bool → Part  -- it has the ticket of this number, which has or hasn't entered
-  knows_served : ℕ → Part  -- it has nothing, and found this number served
+  queues : ℕ → Bool → Part  -- its ticket has this number, and has or has not entered
+  knows_served : ℕ → Part  -- it has nothing, and knows that this number was served once
   starves : Part
-  holds_starving : Part  -- it writes, and is a starver still
+  holds_starving : Part  -- it writes, and is still a starver
 
--- what stands in the lock under its name
+-- the party's entries in the plain lock
 abbrev pub entries_of : ℕ → Part → Entries
 entries_of p idle = no_entries
 entries_of p (holds k) = record { holders = holder p k ∷ []; tickets = []; starvers = [] }
@@ -23,7 +23,7 @@ entries_of p (knows_served n) = no_entries
 entries_of p starves = record { holders = []; tickets = []; starvers = p ∷ [] }
 entries_of p holds_starving = record { holders = holder p writing ∷ []; tickets = []; starvers = p ∷ [] }
 
--- what it knows of the lock: the number that is served never falls
+-- what it knows of the plain lock: the served number never falls below the one that it found
 abbrev pub Knows : Plain → Part → Type 0
 Knows s (knows_served n) = n ≤ serving_word s
 Knows s _ = Unit {0}
@@ -35,18 +35,18 @@ use_of_part (queues n true) = writes
 use_of_part holds_starving = writes
 use_of_part _ = off
 
--- the party with this number is this to the lock
+-- the party with this number has this part in the lock
 abbrev pub HasPart : Plain → ℕ → Part → Type 0
 HasPart s p x = (entries p s ≡ entries_of p x) × Knows s x
 
 module _ {V : Type 0} (part : V → Part) where
-  -- a party's number is the place of its view; there is nobody beyond
+  -- a party's number is the place of its view; later numbers belong to nobody
   abbrev pub part_at : List V → ℕ → Part
   part_at [] p = idle
   part_at (v ∷ vs) zero = part v
   part_at (v ∷ vs) (suc p) = part_at vs p
 
-  -- each party is to the lock what its view says, and nobody else has anything there
+  -- each party's part is the one its view says, and nobody else has entries in the lock
   abbrev pub IsLockOf : List V → Plain → Type 0
   IsLockOf vs s = (p : ℕ) → HasPart s p (part_at vs p)
 
@@ -54,10 +54,10 @@ module _ {V : Type 0} (part : V → Part) where
   abbrev pub used_by : V → Use
   used_by v = use_of_part (part v)
 
-  -- the first word, and the second or nothing, are those of a plain lock of these parties, with this cap
+  -- the words are those of a plain lock with these parties and this cap
   abbrev pub Encodes : {S : Type 0} → ℕ → (Plain → ℕ) → (Plain → S) → ℕ → S → List V → Type 0
   Encodes cap first second n m vs = (s : Plain) × (s.cap ≡ cap) × IsInOrder s × IsLockOf vs s × (n ≡ first s) × (m ≡ second s)
 
--- a lock of one word has nothing for the second
+-- a lock of one word has no second word
 abbrev pub no_word : Plain → Unit {0}
 no_word s = tt

@@ -2,8 +2,9 @@
 //! with [`Cell::enter`] and [`Permit::load`].
 //!
 //! A lock says what each of its parties is to it (a *view*). Its rule says what holds of the words and of all views
-//! between any two steps. For each kind of step it owes one fact about plain data: that the step keeps this rule.
-//! Steps are methods of a permit. Each appends to the cell's trace ([`crate::trace`]), and tells it to its caller.
+//! between any two steps. For each kind of step the lock shows one fact about plain data: the step keeps the rule.
+//! Steps are methods of a permit. Each appends to the cell's trace ([`crate::trace`]), and tells its caller what it
+//! appended.
 ghost use Rattle.std.specs.Prelude.{◌≡◌, ◌≢◌, ◌⊎◌, ℕ, List, [], Option};
 ghost use Rattle.std.specs.Coded.{coded_option};
 ghost use Rattle.spin_core.specs.Cell.{Ways, off, reads, writes, use_of, Opens, Fixes, Frees, Freeing, Lends, Seen, Rests};
@@ -21,18 +22,18 @@ pub use steps::Play;
 
 /// A rule: what holds of a cell's words and of its parties between any two steps.
 ///
-/// `V` is what a party is to the lock, a plain `Copy` enum of the lock's own, and `T` the value's type.
+/// `V` is the type of a party's view, a plain `Copy` enum of the lock's own. `T` is the value's type.
 pub trait Rule<T, V> {
-    // What is settled when a cell is made, as the closure of a lazy value.
+    // What is fixed when a cell is made, such as the closure of a lazy value.
     type Key;
-    // What lies behind the value: a trace, with a second word or nothing. A trace alone takes no room.
+    // What is behind the value: a trace, with a second word or without. A trace without one has no bytes.
     type Second;
-    // Of the first word, the second or nothing, and the views of all parties that ever came.
+    // What holds of the first word, of what is behind the value, and of the views of all parties.
     ghost holds: { Self.Key → ℕ → Self.Second → List V → Type 0 };
-    // Whether parties may read the value at the same time, how a party with a given view may use it, and what is known
-    // of a value that nobody writes.
+    // Whether several parties may read the value at once; how a party with a given view may use it; what is known of a
+    // value that nobody writes.
     ghost ways: { Self.Key → Ways T V Self.Second };
-    // The key once the owner has borrowed the value to write it. What was known of the value may end there.
+    // The key once the owner has borrowed the value to write it. From then on less may be known of the value.
     ghost lent: { Self.Key → Self.Key };
 }
 
@@ -59,8 +60,8 @@ impl<T, V, P: Rule<T, V>> Move for Cell<T, V, P> {
     ghost own_val = { λ key vs. cell_owns P.row T.row V.row.coded.code P.Second.row (P.holds key) (P.ways key) (λ n m x. Fields.own_val (record { marker = record {}; first = n; value = x; second = m }) vs) };
 }
 
-/// A permit: what its party may do. `view` is what the party is to the lock, `None` until its first step. `value` is
-/// shown if that view reads or writes.
+/// A permit: what its party may do. `view` is what the party is to the lock; it is `None` until the first step.
+/// `value` is the value if that view reads or writes it.
 ///
 /// A permit cannot be dropped. [`leave`](Permit::leave) ends it if its party is at rest, and [`leak`](Permit::leak)
 /// keeps its use of the value.
@@ -95,12 +96,12 @@ impl<'a, T, V, P: Rule<T, V>> Model for WritePermit<'a, T, V, P> {
 }
 
 impl<T, V, P: Rule<T, V>> Cell<T, V, P> {
-    /// Creates a cell to which no party has come. If its value is read for good, it may have one from the start, whose
-    /// maker has left.
+    /// Creates a cell that no party has used. In the way `fixes` it may have its value from the start, as if the party
+    /// that made it had left.
     ///
     /// # Contract
-    /// The rule has to hold of the words (`Opens`). If parties read the value at the same time, whoever may share the
-    /// rule's own type has to be allowed to share the value (`Known`).
+    /// The rule has to hold of the words (`Opens`). If several parties may read the value at once, a thread that may
+    /// share the rule's own type has to be allowed to share the value (`Known`).
     pub fn new(value: T, first: u64, second: P::Second, key: &P::Key) -> Cell<T, V, P>
         requires known { Known (P.ways key.now) P.row P.Second.row T.row }
         requires rule { Opens (P.holds key.now) (P.ways key.now) first second value }
@@ -140,10 +141,10 @@ impl<T, V, P: Rule<T, V>> Cell<T, V, P> {
 }
 
 impl<T, V, E, S, P: Rule<T, V, Second = Trace<E, S>>> Cell<T, V, P> {
-    /// Returns a watch of the trace that lies behind the value. It knows nothing of it yet.
+    /// Returns a watch of the cell's trace. It knows no entries yet.
     ///
     /// # Contract
-    /// The caller picks its name (`name`): the one that the rule gives the trace, by the cell's key.
+    /// The caller chooses its name (`name`): the name that the rule gives the trace, by the cell's key.
     pub fn watch(&self) -> Watch<E>
         ghost name: { ℕ }
         ensures { (result.name ≡ name) × (result.entries ≡ []) }
@@ -157,11 +158,11 @@ impl<T, V, P: Rule<T, V>> Cell<T, V, P> {
     ghost use denote.Follow.{follows};
     ghost use Rattle.spin_core.specs.contracts.cell.Cell.{the_row};
 
-    /// Returns a mutable reference to the value. It reads no word: the borrow shows that there is no permit.
+    /// Returns a mutable reference to the value. It reads no word: the borrow shows that no permit exists.
     ///
     /// # Contract
-    /// The key becomes the one that the rule names (`lent`). Under it the rule has to hold as before (`Lends`), and any
-    /// value has to be allowed in the place of one that no party uses (`Frees`, `Freeing`).
+    /// The key becomes the one that the rule names (`lent`). Under that key the rule has to hold as before (`Lends`),
+    /// and any value has to be allowed in place of one that nobody uses (`Frees`, `Freeing`).
     pub fn get_mut(&mut self) -> &mut T
         requires free { Freeing (P.ways (P.lent self.old)).2 (Frees (P.ways (P.lent self.old)).0) }
         requires lends { Lends (P.holds self.old) (P.ways self.old) (P.holds (P.lent self.old)) (P.ways (P.lent self.old)) }
@@ -180,8 +181,8 @@ impl<'a, T, V, P: Rule<T, V>> Permit<'a, T, V, P> {
         unsafe { &(*self.cell).value }
     }
 
-    /// Returns a reference to the value for the rest of the cell's borrow, for a party that reads it. The party reads
-    /// it for good.
+    /// Returns a reference to the value for the rest of the cell's borrow, for a party that reads it. The party keeps
+    /// reading for ever.
     pub fn see(self) -> &'a T
         requires { use_of (P.ways self.key).1 self.view ≡ reads }
         ensures value { Some result.now ≡ self.entry.value }
@@ -191,8 +192,8 @@ impl<'a, T, V, P: Rule<T, V>> Permit<'a, T, V, P> {
         unsafe { &(*cell).value }
     }
 
-    /// Like [`see`](Permit::see), and returns the permit too. Only where each party that reads the value reads it for
-    /// good.
+    /// Like [`see`](Permit::see), but returns the permit too. This is possible only in the way `fixes`, where a party
+    /// may read for ever.
     pub fn show(self) -> (&'a T, Permit<'a, T, V, P>)
         requires reads { use_of (P.ways self.key).1 self.view ≡ reads }
         requires fixed { Fixes (P.ways self.key).0 }
@@ -231,16 +232,16 @@ impl<'a, T, V, P: Rule<T, V>> Permit<'a, T, V, P> {
         let Permit { cell: _, marker: _ } = self;
     }
 
-    /// Ends the permit of a party that is at rest ([`leave`](Permit::leave)), or uses the value and keeps its use for
-    /// good ([`leak`](Permit::leak)).
+    /// Ends the permit of a party that is at rest ([`leave`](Permit::leave)), or of one that uses the value and keeps
+    /// its use for ever ([`leak`](Permit::leak)).
     pub fn finish(self)
         requires { Rests (P.holds self.key) (P.ways self.key).1 self.view ⊎ (use_of (P.ways self.key).1 self.view ≢ off) }
     {
         let Permit { cell: _, marker: _ } = self;
     }
 
-    /// Ends the permit, and keeps its use of the value for good: a lock that the party holds stays held. A party that
-    /// only waits cannot do so, since a queue would stop at it.
+    /// Ends the permit, and keeps its use of the value for ever: a lock that the party holds stays held. A party that
+    /// only waits may not do so, since a queue would stop at it.
     pub fn leak(self)
         requires { use_of (P.ways self.key).1 self.view ≢ off }
     {
@@ -256,7 +257,7 @@ impl<'a, T, V, P: Rule<T, V>> WritePermit<'a, T, V, P> {
         unsafe { &(*self.cell).value }
     }
 
-    /// Returns a mutable reference to the value for the rest of the cell's borrow. The party stays for good what it is.
+    /// Returns a mutable reference to the value for the rest of the cell's borrow. The party keeps its view for ever.
     pub fn leak(self) -> &'a mut T
         ensures { result.now ≡ self.entry.value }
     {
@@ -285,7 +286,8 @@ impl<T, V, P: Rule<T, V>> WritePermit<'_, T, V, P> {
     ghost use Rattle.spin_core.specs.contracts.cell.WritePermit.{the_row};
     ghost use Rattle.spin_core.specs.Writer.{with_value};
 
-    /// Returns a mutable reference to the value. What is written through it is the permit's value when the borrow ends.
+    /// Returns a mutable reference to the value. When the borrow ends, the permit's value is what was written through
+    /// it.
     pub fn get_mut(&mut self) -> &mut T
         ensures* writes_back { sem 𝓛 (follows (the_row (record { mir = named 1; lft = [] }) T.row V.row P.row P.Key.row P.Second.row (record { holds = P.holds; ways = P.ways; lent = P.lent })) T.row self.entry.ghost_name result.ghost_name (with_value self.old)) }
         ensures value { result.now ≡ self.old.value }
@@ -305,17 +307,17 @@ impl<T: Drop, V, P: Rule<T, V>> Drop for Cell<T, V, P> {
     }
 }
 
-// SAFETY: the owner of the cell has the value, and there is no permit.
+// SAFETY: the owner of the cell owns the value, and no permit exists.
 unsafe impl<T: Send, V, P: Rule<T, V>> Send for Cell<T, V, P> {}
 
-// SAFETY: steps on the words are atomic, and the value goes from party to party, in whatever threads they are. If
-// parties read it at the same time, `Known` asks that whoever may share the rule may share the value.
+// SAFETY: steps on the words are atomic, and one party at a time may write the value, whatever its thread. If parties
+// read it at once, `Known` asks that a thread that may share the rule may share the value.
 unsafe impl<T: Send, V, P: Rule<T, V> + Sync> Sync for Cell<T, V, P> {}
 
-// SAFETY: any thread may take the party's next step, and by it reach the value.
+// SAFETY: any thread may make the party's next step, and so reach the value.
 unsafe impl<T: Send, V, P: Rule<T, V> + Sync> Send for Permit<'_, T, V, P> {}
 
-// SAFETY: a `&` to a permit shows the value only if its view reads, and of that `Known` asks what the cell asks.
+// SAFETY: a `&` to a permit shows the value only if the view reads, and then `Known` asks what the cell asks.
 unsafe impl<T, V, P: Rule<T, V> + Sync> Sync for Permit<'_, T, V, P> {}
 
 // SAFETY: its new thread has the value alone, as its old one had.

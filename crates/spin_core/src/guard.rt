@@ -1,5 +1,5 @@
 //! The guard of a party that writes, and its hold without a guard, for every lock over a `Cell`. Begin at [`Release`]:
-//! a lock implements it, and names [`Guard`] and [`Held`] by an alias.
+//! a lock implements it, and has an alias for [`Guard`] and [`Held`].
 ghost use Rattle.std.specs.Prelude.{◌≡◌, Option, Some};
 ghost use Rattle.spin_core.specs.Cell.{Use, writes, use_of};
 
@@ -9,37 +9,37 @@ use std::ops::{Deref, DerefMut};
 
 mod texts;
 
-/// The use that each party of a lock has of the value, whatever the value's type is.
+/// How each party of a lock uses the value, whatever the value's type is.
 ///
 /// # Contract
 /// `use_at` is the use of a party with a given view.
 pub trait Uses<V> {
-    // Of a party with this view, or with none yet.
+    // By the party's view, which may not exist yet.
     ghost use_at: { Option V → Use };
 }
 
-/// A lock that a writing party can release, which is what its [`Guard`] asks.
+/// A lock that a party that writes can release. A lock with a [`Guard`] implements it.
 ///
 /// # Contract
 /// The uses of `Uses` are those of the rule (`same`).
 pub trait Release<T, V>: Rule<T, V> + Uses<V> {
-    /// Releases the lock of the writing party, which leaves it.
+    /// Releases the lock of a party that writes.
     ///
     /// # Contract
-    /// No clause. A permit cannot be dropped, so the body has to end it: the party rests, or keeps its use for good.
+    /// No clause. A permit cannot be dropped, so the body has to end it: the party rests, or keeps its use for ever.
     fn release(writer: WritePermit<'_, T, V, Self>);
 
-    // The uses are those of the rule. They have names of their own, since a ghost field can't name the rule's members.
+    // The uses are those of the rule. `Uses` names them anew, since a ghost field cannot use names of the rule.
     ghost same: { (key : Self.Key) (view : Option V) → Self.use_at view ≡ use_of (Self.ways key).1 view };
 }
 
-/// The guard of a lock's one writing party. Dropping it releases the lock.
+/// The guard of the one party that writes. Dropping it releases the lock.
 ///
-/// It gives access to the value by `Deref` and `DerefMut`. `R` is the strategy of the lock, which the guard does not
-/// use.
+/// It gives access to the value by `Deref` and `DerefMut`. `R` is the strategy of the lock; the guard itself does not
+/// use it.
 ///
 /// # Contract
-/// `guard_value` is the value behind the guard. What is written through the guard is read through it.
+/// `guard_value` is the lock's value. What is written through the guard is read through it.
 #[must_use = "dropping the guard at once releases the lock: bind it, or write `drop(..)`"]
 pub struct Guard<'a, T, V, P: Release<T, V>, R> {
     writer: WritePermit<'a, T, V, P>,
@@ -51,7 +51,7 @@ pub struct Guard<'a, T, V, P: Release<T, V>, R> {
 /// [`release`](Held::release) takes it and releases the lock. Dropping it does not release the lock.
 ///
 /// # Contract
-/// Its party still has the use of a writer (`holding`). `held_value` is the value that the guard had.
+/// Its party still writes the value (`holding`). `held_value` is the value that the guard had.
 #[must_use = "dropping a hold does not release the lock: pass it to `force_unlock`"]
 pub struct Held<'a, T, V, P: Release<T, V>, R> {
     permit: Permit<'a, T, V, P>,
@@ -121,7 +121,7 @@ impl<'a, T, V, P: Release<T, V>, R> Held<'a, T, V, P, R> {
 
     /// Turns the hold into a guard again.
     ///
-    /// So a hold of a pass is released by that pass.
+    /// If a pass acquired the lock, that pass can then release it.
     ///
     /// # Contract
     /// The guard has the hold's value and its party (`value`, `party`). The call returns.
@@ -196,13 +196,13 @@ impl<T, V, P: Release<T, V>, R> Drop for Held<'_, T, V, P, R> {
     }
 }
 
-// SAFETY: its new thread has the value to itself, as its old one had.
+// SAFETY: the new thread has the value to itself, like the old one.
 unsafe impl<T: Send, V, P: Release<T, V> + Sync, R> Send for Guard<'_, T, V, P, R> {}
 
 // SAFETY: a shared guard lends a `&T` and no more.
 unsafe impl<T: Sync, V, P: Release<T, V>, R> Sync for Guard<'_, T, V, P, R> {}
 
-// SAFETY: its new thread passes the value on to the next user: what a guard asks.
+// SAFETY: the new thread releases the lock, and so passes the value to its next user. That asks what a guard asks.
 unsafe impl<T: Send, V, P: Release<T, V> + Sync, R> Send for Held<'_, T, V, P, R> {}
 
 // SAFETY: a shared hold lends nothing. It asks what the lock asks.

@@ -1,6 +1,6 @@
-//! What all the locks use: the raw cell (`cell`), which alone makes raw atomic steps on words, the schedule of them
-//! that it keeps (`trace`, `tie`), how a caller waits (`relax`), what the guards of all mutexes share (`guard`,
-//! `texts`), and what code that is generic over the lock asks of it (`lock`).
+//! What all locks use: the raw cell (`cell`), which alone makes raw atomic steps on words; the trace of these steps
+//! (`trace`, `tie`); how a caller waits (`relax`); what the guards of all mutexes share (`guard`, `texts`); and traits
+//! for code that takes any lock (`lock`).
 //!
 //! Users of the locks begin with [`relax::RelaxStrategy`] and [`lock::Lock`], authors of a lock with [`cell::Cell`].
 #![tactic(auto)]

@@ -8,7 +8,7 @@ use std::sync::Wait;
 
 /// A lock that gives one thread at a time access to a value of type `T`.
 ///
-/// Code of another crate takes `L: Lock<T>` where it does not care which lock it is handed.
+/// Code of another crate takes `L: Lock<T>` if it does not care which lock it gets.
 ///
 /// # Examples
 /// ```
@@ -31,7 +31,7 @@ use std::sync::Wait;
 pub trait Lock<T> {
     /// Acquires the lock, calls the closure with the value, and releases the lock.
     ///
-    /// It spins as the lock does. The call never returns if its own thread holds the lock.
+    /// A waiting call spins as the lock does. The call never returns if its own thread holds the lock.
     ///
     /// # Contract
     /// The closure has to be always callable. It is called once, with some value of `T`, and its answer is returned
@@ -40,11 +40,12 @@ pub trait Lock<T> {
         requires { F.IsAlwaysCallable by }
         ensures { AnswersOf F.FnOnce by result };
 
-    /// Tries to acquire the lock, and then does as [`with`](Lock::with). Hands the closure back if the lock is held.
+    /// Tries to acquire the lock, and then does what [`with`](Lock::with) does. Returns the closure if the lock is
+    /// held.
     ///
     /// # Contract
-    /// The closure has to be always callable. `Ok` is an answer as that of `with`. `Err` is the closure, which was not
-    /// called.
+    /// The closure has to be always callable. `Ok` is an answer like that of `with`. `Err` is the closure, which was
+    /// not called.
     ///
     /// # Examples
     /// ```
@@ -77,7 +78,7 @@ pub trait Lock<T> {
 pub trait SharedLock<T>: Lock<T> {
     /// Acquires shared access, calls the closure with the value, and releases it.
     ///
-    /// It spins as the lock does. The call never returns if its own thread is the writer.
+    /// A waiting call spins as the lock does. The call never returns if its own thread is the writer.
     ///
     /// # Contract
     /// The closure has to be always callable. It is called once, with some value of `T`, and its answer is returned
@@ -86,11 +87,11 @@ pub trait SharedLock<T>: Lock<T> {
         requires { F.IsAlwaysCallable by }
         ensures { AnswersOfShared F.FnOnce by result };
 
-    /// Tries to acquire shared access, and then does as [`with_shared`](SharedLock::with_shared). Hands the closure
-    /// back if access is refused, as while a writer holds.
+    /// Tries to acquire shared access, and then does what [`with_shared`](SharedLock::with_shared) does. Returns the
+    /// closure if access is refused, for example because a writer holds.
     ///
     /// # Contract
-    /// The closure has to be always callable. `Ok` is an answer as that of `with_shared`. `Err` is the closure, which
+    /// The closure has to be always callable. `Ok` is an answer like that of `with_shared`. `Err` is the closure, which
     /// was not called. Whether and when the call returns is not promised.
     ///
     /// # Examples
@@ -109,12 +110,12 @@ pub trait SharedLock<T>: Lock<T> {
         ensures { MatchResult result (AnswersOfShared F.FnOnce by) (λ back. back ≡ by) };
 }
 
-/// Calls the closure with the value of a guard that a try returned, or hands the closure back. It is the `try_with` of
-/// a lock with guards.
+/// Calls the closure with the value of a guard that a try returned. Without a guard it returns the closure. Locks with
+/// guards use it for `try_with`.
 ///
 /// # Contract
-/// The closure has to be always callable. Beside a guard the result is `Ok` of an answer as that of [`Lock::with`].
-/// Without one it is `Err` of the closure, which was not called.
+/// The closure has to be always callable. With a guard the result is `Ok` of an answer like that of [`Lock::with`].
+/// Without a guard it is `Err` of the closure, which was not called.
 #[inline(always)]
 pub fn with_guard<T, G: DerefMut<Target = T> + Drop, A, F: FnOnce(&mut T) -> A>(
     guard: Option<G>,

@@ -39,8 +39,8 @@ pub trait RelaxStrategy {
     /// Passes a little time.
     fn relax<W: Wait>(rt: &W);
 
-    /// Passes the time between two attempts of a waiting call: `hints` times as much as `relax` if the strategy is
-    /// [`Spin`], and else one `relax`.
+    /// Passes the time between two attempts of a waiting call. [`Spin`] gives this many hints. A strategy without a
+    /// `pause` of its own relaxes once.
     fn pause<W: Wait>(rt: &W, hints: u32) {
         let _ = hints;
         Self::relax(rt);
@@ -48,7 +48,7 @@ pub trait RelaxStrategy {
 
     /// Relaxes and tries again, until an attempt succeeds.
     ///
-    /// A failed attempt hands on the state in which the next one begins. Use it in calls whose first attempt has
+    /// A failed attempt returns the state in which the next one begins. Use it in calls whose first attempt has
     /// failed.
     ///
     /// # Contract
@@ -75,10 +75,10 @@ pub trait RelaxStrategy {
 
     /// Like [`retry`](RelaxStrategy::retry), with a pause before each attempt whose length depends on the state.
     ///
-    /// It is kept apart: inlined, it would lengthen the path of each caller that does not wait.
+    /// It is not inlined, since that would lengthen the path of each caller that does not wait.
     ///
     /// # Contract
-    /// As that of `retry`; `pause` has to be always callable too.
+    /// That of `retry`. Also `pause` has to be always callable.
     #[cold]
     #[inline(never)]
     final fn retry_after<S, A, P: Fn(&S) -> u32, F: Fn(S) -> Result<A, S>, W: Wait>(
@@ -102,8 +102,9 @@ pub trait RelaxStrategy {
         unreachable!()
     }
 
-    /// Like [`retry`](RelaxStrategy::retry), with a pause before each attempt that is twice as long as the last one, up
-    /// to [`MAX_HINTS`]. A lock that any next thread may acquire is quickest if few look at it.
+    /// Like [`retry`](RelaxStrategy::retry), but with a [`pause`](RelaxStrategy::pause) before each attempt. Its hints
+    /// double each time, up to [`MAX_HINTS`]. If any waiting thread may be next, a lock is quickest when few threads
+    /// look at it.
     ///
     /// # Contract
     /// That of `retry`.
@@ -127,8 +128,7 @@ pub trait RelaxStrategy {
     }
 }
 
-/// The strategy that gives the processor's hint for spinning. It is the default of every lock that has a
-/// strategy.
+/// The strategy that gives the processor's hint for spinning. It is the default strategy of every lock.
 pub struct Spin;
 
 impl RelaxStrategy for Spin {
@@ -174,7 +174,7 @@ impl RelaxStrategy for Loop {
     }
 }
 
-/// Names the strategy of a lock. It contains no `R`, so a lock may be sent to another thread whatever `R` is.
+/// Names the strategy of a lock. It has no value of type `R`, so a lock can be sent whatever `R` is.
 #[derive(Drop)]
 pub struct Strategy<R> {
     name: PhantomData<R>,
@@ -187,8 +187,8 @@ impl<R> Strategy<R> {
     }
 }
 
-// SAFETY: it names a strategy, and no `R` lies in it.
+// SAFETY: it only names a strategy, and has no `R`.
 unsafe impl<R> Send for Strategy<R> {}
 
-// SAFETY: as for `Send`: there is nothing to share.
+// SAFETY: like `Send`: there is nothing to share.
 unsafe impl<R> Sync for Strategy<R> {}

@@ -1,4 +1,4 @@
-//! What a lock prints, whichever it is. Begin at [`write_lock`].
+//! What any lock prints. Begin at [`write_lock`].
 ghost use Rattle.std.specs.Fmt.{DisplaysOnOk};
 ghost use Rattle.std.specs.Option.{option_copied};
 ghost use Rattle.spin_core.specs.Texts.{lock_text, named_text};
@@ -6,7 +6,7 @@ ghost use Rattle.spin_core.specs.Texts.{lock_text, named_text};
 use std::fmt;
 use std::fmt::{Debug, Formatter};
 
-/// Writes a mutex with the value that one try found, or as locked.
+/// Writes a mutex with the value that one try found, or as locked if it failed.
 ///
 /// The text calls each mutex `Mutex`, as the Rust crate does.
 ///
@@ -18,7 +18,7 @@ pub fn write_lock<T: Debug, W: fmt::Write>(value: Option<&T>, f: &mut Formatter<
     write_named("Mutex { data: ", "Mutex { <locked> }", value, f)
 }
 
-/// Writes a lock with the value that one try found: `shown` and the value and ` }`, or else `locked`.
+/// Writes a lock: `shown`, the value that one try found, and ` }`; or `locked` if it failed.
 ///
 /// # Contract
 /// Without options, an `Ok` call has written `named_text` of these.

@@ -1,4 +1,4 @@
-//! What a lock's trace and the views of its parties are made of, where the trace is the schedule that the lock has run.
+//! The entries of a lock's trace and the views of its parties, if the trace is the schedule that the lock has run.
 //! Begin with [`Entry`].
 ghost use Rattle.std.specs.Prelude.{◌≡◌, ℕ, Bool, true};
 
@@ -6,14 +6,16 @@ use crate::trace::Trace;
 use spin_model::Move;
 use std::marker::{Model, PhantomData};
 
-/// An entry of a lock's trace: the number of a party, and its move in the lock's model. No value of it is made.
+/// An entry of a lock's trace: the number of a party, and its move in the lock's model. No such value exists at run
+/// time.
 ///
 /// `T` is the type of the values that parties write. Without it the trace tells no values.
 pub type Entry<C, T = ()> = (usize, Move<C, T>);
 
-/// What is settled of a lock when it is made: the name of its trace, and the value that it opens with. It has no byte.
+/// What is fixed when a lock is made: the name of its trace, and its opening value. It has no bytes.
 ///
-/// `told` says that the trace tells the value: it is the one written last. So it is until the owner borrows the value.
+/// `told` says that the trace tells the value: it is the one written last. This holds until the owner borrows the
+/// value.
 pub struct Opening<T> {
     marker: PhantomData<T>,
     pub ghost name: { ℕ },
@@ -28,7 +30,7 @@ impl<T> Model for Opening<T> {
 }
 
 impl<T> Opening<T> {
-    /// Returns that of a lock with this trace and this value.
+    /// Returns the opening of a lock with this trace and this value.
     pub fn of<E, S>(trace: &Trace<E, S>, value: &T) -> Opening<T>
         ensures { (result.name ≡ trace.now.name) × (result.value ≡ value.now) × (result.told ≡ true) }
     {
@@ -46,7 +48,7 @@ impl<T> Drop for Opening<T> {
     }
 }
 
-/// What a party is to a lock, its number, and how long the trace was after its last step. No value of it is made.
+/// A party's view, its number, and how long the trace was after its last step. No such value exists at run time.
 ///
-/// The number is the party's place among all that ever took a step. So the entries under it are its own.
+/// The number is the party's place among all that ever took a step. So entries with this number are its own.
 pub type Numbered<V> = (V, usize, usize);

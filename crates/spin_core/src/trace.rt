@@ -1,4 +1,4 @@
-//! A log that only grows, under a name that is a value, and what is known of it. Begin with [`Trace`].
+//! A log that only grows and has a name, and what is known of it. Begin with [`Trace`].
 ghost use Rattle.std.specs.Prelude.{◌≡◌, ◌⊎◌, ℕ, List, []};
 ghost use Rattle.std.specs.Coded.{coded_list};
 ghost use mathlib.Core.List.{IsPrefix};
@@ -8,10 +8,10 @@ ghost use Rattle.spin_core.specs.Logs.{log_owns, log_shares, known_owns};
 use crate::cell::let_go;
 use std::marker::{Model, PhantomData};
 
-/// A list that only grows, and the whole right to append to it. Beside it lies a word of type `S`, or nothing.
+/// A list that only grows, and the whole right to append to it. With it is a word of type `S`, or nothing.
 ///
-/// The list and its name are ghost state: a `Trace<E>` has no byte, and a `Trace<E, u64>` has those of its word. A
-/// trace that is put into a [`Cell`](crate::cell::Cell) as its second word grows by the steps of the cell's permits.
+/// The list and its name are ghost state: a `Trace<E>` has no bytes, and a `Trace<E, u64>` has those of its word. A
+/// [`Cell`](crate::cell::Cell) that contains a trace makes it grow by the steps of its permits.
 pub struct Trace<E, S = ()> {
     pub(crate) word: S,
     marker: PhantomData<E>,
@@ -25,7 +25,7 @@ impl<E, S> Model for Trace<E, S> {
     ghost also_shares = { λ trace _ κ. log_shares E.row.coded.code trace.name trace.entries κ };
 }
 
-/// What is known of a trace of this name: its entries begin with these, now and ever after. It has no byte.
+/// What is known of a trace with this name: its entries begin with these, now and ever after. It has no bytes.
 pub struct Watch<E> {
     marker: PhantomData<E>,
     pub ghost name: { ℕ },
@@ -39,7 +39,7 @@ impl<E> Model for Watch<E> {
 }
 
 impl<E, S> Trace<E, S> {
-    /// Creates an empty trace, under a name of its own, beside `word`.
+    /// Creates an empty trace with a name of its own, and with `word`.
     pub fn new(word: S) -> Trace<E, S>
         ensures { (result.entries ≡ []) × (result.word ≡ word) }
     {
@@ -60,7 +60,7 @@ impl<E, S> Trace<E, S> {
 }
 
 impl<E> Watch<E> {
-    /// Returns a watch that knows nothing: of a trace of its own, which is gone.
+    /// Returns a watch that knows nothing. Its trace no longer exists.
     pub fn nothing() -> Watch<E>
         ensures { result.entries ≡ [] }
     {
@@ -68,7 +68,7 @@ impl<E> Watch<E> {
         trace.watch()
     }
 
-    // Knows nothing of a trace, under any name.
+    // Returns a watch that knows nothing, of a trace with any name.
     pub(crate) fn start() -> Watch<E>
         ghost name: { ℕ }
         ensures { (result.name ≡ name) × (result.entries ≡ []) }
@@ -115,8 +115,8 @@ unsafe impl<E, S: Send> Send for Trace<E, S> {}
 // SAFETY: a shared trace tells its entries, and lends its word.
 unsafe impl<E, S: Sync> Sync for Trace<E, S> {}
 
-// SAFETY: as a trace.
+// SAFETY: like a trace.
 unsafe impl<E> Send for Watch<E> {}
 
-// SAFETY: as a trace.
+// SAFETY: like a trace.
 unsafe impl<E> Sync for Watch<E> {}

@@ -1,4 +1,4 @@
--- What the table of a latch owes.
+-- What the table of a latch must show.
 use Rattle.std.proofs.Common.{◌≡◌, ℕ, ◌-◌, true, Option, Some, None, List, [], nat_lt, refl, ap, arith, eq-eqb}
 use Rattle.spin_step.specs.Plain.{Plain, Kind, reading, writing, to_read, to_write, gets, releases, is_holder}
 use Rattle.spin_step.specs.Parties.{Entries, entries, IsExclusive}
@@ -22,7 +22,7 @@ use Rattle.spin_core_tests.specs.declared.latch.calls.LatchPoint.{LatchPoint}
 use Rattle.spin_core_tests.specs.declared.latch.calls.LatchPoint.TheVariants.{Exchange}
 use Rattle.spin_core_tests.proofs.Latches.{open_is, nobody_is, read-decides, write-decides}
 
--- a call that looked has made one step; each other point is as its call's beginning
+-- a call that has looked has made one step; at any other point it is as at its beginning
 abbrev pub point_of : LatchCall → LatchPoint → Option Hold → Point
 point_of TryRead (Exchange k) None = looked 1
 point_of Read (Exchange k) None = looked 1

@@ -62,7 +62,7 @@ bounded s room order = omega (arith, by_kinds latch_weight s.holders, all_kinds 
 
 -- The plain step of each
 
--- what a holder of each kind weighs (`latch_weight`)
+-- what a holder of each kind adds to the word (`latch_weight`)
 abbrev reader_weight : ℕ
 reader_weight = 2
 
@@ -85,12 +85,12 @@ may_write None may = refl
 may_write (Some WaitingToWrite) may = refl
 may_write (Some _) may = absurd may
 
--- The moves of each: a call of the model and its steps, or a step of a call that has begun
+-- The moves of each step: a call of the model and its steps, or a step of a call under way
 
 abbrev Moves : Option View → (ℕ → ℕ) → (ℕ → View → Type 0) → (ℕ → View) → Type 0
 Moves view f says to = AreMoves latch_machine seat_of words_of view (on_first f) first says (leads_by to)
 
--- what these moves come to, of a party of this view that is alone
+-- the outcomes of these moves, for a party with this view that is alone
 abbrev ends : Option View → ℕ → Option (Unit {0}) → List OneMove → List Ending
 ends view w value own = outcomes latch_machine (alone latch_machine seat_of words_of w value (seat_at latch_machine seat_of words_of view)) (of_one latch_machine seat_of words_of own)
 
@@ -128,7 +128,7 @@ writer_moves w value v is = rw is.1 (Begin call.ReleaseWrite ∷ Step ∷ [], Be
 abbrev own_ways : Ways (Unit {0}) (Numbered View) (Trace rule.Done (Unit {0}))
 own_ways = (lends, use_of_party, no_fact)
 
--- a call whose word lets readers in is at that word
+-- a call whose word admits readers has found that word
 is_coming : (old new : ℕ) (waits : Bool) (view : Option View) → Some new ≡ let_in old → view ≡ Some (at_word waits old) → view ≡ Some (Coming waits old)
 is_coming old new waits view free is = grind (arith, free, is)
 
@@ -173,7 +173,7 @@ module _ (name : ℕ) where
   pub writer_leaves : (v : Numbered View) → use_of_party v ≡ writes → Keeps (Some v) (λ w. (w + (2 ^ 64 - writer_weight)) % 2 ^ 64) (λ w. Idle)
   writer_leaves v held = let is = is_writing v.0 held in keeps (Some v) (λ w. (w + (2 ^ 64 - writer_weight)) % 2 ^ 64) (λ w v. Weighs writer_weight w × (v ≡ Idle)) (λ w. Idle) (rw is writer_moves) (rw is (leaves_at latch latch_weight (λ s. refl) bounded Writing writing (λ p. refl)))
 
-  -- Who may go
+  -- Who may leave
 
   pub idle_rests : (v : Numbered View) → v.0 ≡ Idle → Rests (IsLatch name) use_of_party (Some v)
   idle_rests v is = tie.rests latch_machine seat_of words_of IsWord name (Unit {0}) lends use_of_view no_fact v (ap seat_of is) (plays.idle_rests latch v.0 is)
@@ -185,7 +185,7 @@ module _ (name : ℕ) where
   left_rests named before None known now found moved = absurd moved
   left_rests named before (Some v) known now found moved = idle_rests v moved.1.4.6
 
-  -- a try whose word keeps readers out is over
+  -- a try whose word does not admit readers has ended
   pub gives_up : (word : ℕ) → None ≡ let_in word → (view : Option (Numbered View)) → what view ≡ Some (at_word false word) → Rests (IsLatch name) use_of_party view
   gives_up word closed None is = absurd cc
   gives_up word closed (Some v) is = idle_rests v (grind (arith, closed, is))
@@ -199,7 +199,7 @@ pub led : (to : ℕ → View) (named : Type 0) (before view : Option (Numbered V
 led to named before None known now found moved = absurd moved
 led to named before (Some v) known now found moved = ap Some moved.1.4.6
 
--- What the rule says of a party that writes
+-- What the rule says of a writer
 
 pub writer_word : (word : ℕ) (vs : List View) (p : ℕ) → IsWord word tt vs → part_at part vs p ≡ holds writing → word ≡ writer_weight
 writer_word word vs p is at =

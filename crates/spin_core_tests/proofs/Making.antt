@@ -12,7 +12,7 @@ use Rattle.spin_core_tests.specs.declared.once.Stage.TheVariants.{Seed, Done}
 abbrev f : View → Use
 f = use_of_view
 
--- how many read and how many write, after a party has come to another view
+-- how many read and how many write, after a party has got another view
 read_after : (id : ℕ) (view : Option View) (vs : List View) (w : View) → At id view vs → readers_of f (after id view vs w) + reading (use_of f view) ≡ readers_of f vs + reading (f w)
 read_after id None vs w at = moves (λ v. reading (f v)) id None vs w at
 read_after id (Some v) vs w at = moves (λ v. reading (f v)) id (Some v) vs w at
@@ -68,7 +68,7 @@ pub completes : (key value : ℕ) → value ≡ key + 1 → AllowsAt IsOnce (onc
 completes key value e id n m vs has at small = let one = runs n id vs at has.0 in let r = read_after id (Some Running) vs Reading at in let w = write_after id (Some Running) vs Reading at in
     (Reading, (λ d. refl, e, meets key 2 m (after id (Some Running) vs Reading) (omega (arith, one), omega (arith, one))), refl)
 
--- a party that is away may go
+-- a party that is away may leave
 pub away_rests : Rests IsOnce f (Some Away)
 away_rests = (
   refl,

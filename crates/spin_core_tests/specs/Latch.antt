@@ -5,7 +5,7 @@ use Rattle.spin_step.specs.Plain.{Plain, Kind, reading, upgradable, asking, writ
 abbrev pub latch_limit : ℕ
 latch_limit = 4294967295
 
--- no party of a latch may upgrade; had one, it would weigh as those who keep out the same newcomers
+-- what a holder of each kind adds to the word; no party of a latch may upgrade
 abbrev pub latch_weight : Kind → ℕ
 latch_weight reading = 2
 latch_weight upgradable = 2
@@ -15,10 +15,10 @@ latch_weight writing = 1
 abbrev pub latch_word : Plain → ℕ
 latch_word s = sum_by (λ h. latch_weight h.kind) s.holders
 
--- the word after one more reader has come, where nobody writes and there is room
+-- the word after one more reader has acquired the latch, if nobody writes and there is room
 abbrev pub let_in : ℕ → Option ℕ
 let_in w = if (w % 2 == 0) && nat_lt (w / 2) latch_limit then Some (w + 2) else None
 
--- the word after a writer has come, where nobody holds
+-- the word after a writer has acquired the latch, if nobody holds it
 abbrev pub taken : ℕ → Option ℕ
 taken w = if w == 0 then Some 1 else None

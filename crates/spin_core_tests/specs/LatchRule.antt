@@ -1,4 +1,5 @@
--- The rule of a latch: its word is that of a plain lock whose holders are its parties, and its trace is a schedule of its model, which leads there.
+-- The rule of a latch. Its word is that of a plain lock whose holders are its parties. Its trace is a schedule of its
+-- model, which leads to that word.
 use Rattle.std.specs.Prelude.{◌≡◌, ℕ, ◌==◌, Bool, true, false, if◌then◌else◌, is_some, List, Option, Some, None}
 use Rattle.spin_step.specs.Plain.{reading, writing}
 use Rattle.spin_core.specs.Cell.{Use, lends, no_fact, Ways}
@@ -35,7 +36,7 @@ use_of_party v = use_of_view v.0
 abbrev pub latch_ways : {X S : Type 0} → Ways X (Numbered View) S
 latch_ways = (lends, use_of_party, no_fact)
 
--- where a party is in the model
+-- where a party sits in the model
 abbrev pub seat_of : View → Seat LatchCall LatchPoint
 seat_of Idle = seat.Idle
 seat_of Reading = seat.Holding hold.Read
@@ -63,7 +64,7 @@ IsWord = Encodes part latch_limit latch_word no_word
 abbrev pub IsLatch : ℕ → ℕ → Trace Done (Unit {0}) → List (Numbered View) → Type 0
 IsLatch = Runs latch_machine seat_of words_of IsWord
 
--- The steps: no more is told of each than the view after it, by the number found
+-- The steps. Of each they tell the view after it, by the number found
 
 abbrev pub leads_by : (ℕ → View) → List OneMove → List Ending → ℕ → View → Type 0
 leads_by to own outs found v = v ≡ to found
@@ -71,34 +72,34 @@ leads_by to own outs found v = v ≡ to found
 abbrev pub Leads : (ℕ → View) → Option (Numbered View) → List Done → List Done → ℕ → Numbered View → Type 0
 Leads to = Tells latch_machine seat_of words_of (leads_by to)
 
--- an exchange that finds the number which it expected, and one that finds another
+-- an exchange gets the view `won` if it finds the number that it expected, else `lost`
 abbrev pub either_at : ℕ → View → View → ℕ → View
 either_at old won lost found = if found == old then won else lost
 
--- what becomes of a call that wants to read, and whose word keeps it out: it waits, or is refused
+-- the view of a call to read after a word that does not admit it: it waits, or is refused
 abbrev pub gone : Bool → View
 gone true = WaitingToRead
 gone false = Idle
 
--- at the word that it found
+-- the view after such a call has found this word
 abbrev pub at_word : Bool → ℕ → View
 at_word waits word = if is_some (let_in word) then Coming waits word else gone waits
 
 abbrev pub IsAtWord : Option View → ℕ → Type 0
 IsAtWord view word = (waits : Bool) × (view ≡ Some (at_word waits word))
 
--- it reads, or goes on at the word that it found
+-- it reads if it found the word that it expected; else it continues at the word that it found
 abbrev pub reads_by : ℕ → Option View → ℕ → View
 reads_by old (Some (Coming waits word)) found = if found == old then Reading else at_word waits found
 reads_by old _ found = Idle
 
--- it comes, or looks again
+-- the call has just begun, or looks again
 abbrev pub MayLook : Option View → Type 0
 MayLook None = Unit {0}
 MayLook (Some WaitingToRead) = Unit {0}
 MayLook _ = ⊥
 
--- it comes to write, or waits for that
+-- the call to write has just begun, or waits
 abbrev pub MayWrite : Option View → Type 0
 MayWrite None = Unit {0}
 MayWrite (Some WaitingToWrite) = Unit {0}

@@ -1,4 +1,4 @@
--- The calls of a latch, step by step, how they read on the plain lock, and what kind of lock it is.
+-- The calls of a latch, step by step, what each step is in the plain lock, and what kind of lock a latch is.
 use Rattle.std.specs.Prelude.{ℕ, Bool, true, false, ◌==◌, Option, Some, None, List, [], ◌∷◌, is_some, nat_lt}
 use Rattle.spin_step.specs.Plain.{reading, writing, Change, gets, releases, to_read, to_write}
 use Rattle.spin_model.specs.declared.place.Hold.{Hold}
@@ -46,12 +46,12 @@ granted held = Answers Granted (Some held)
 abbrev pub goes_for : ℕ → Next LatchPoint (Answer (Unit {0}))
 goes_for w = Continue (Exchange w)
 
--- it looks first, and then makes its exchange for as long as each word that it finds lets it in
+-- It looks first. It then repeats its exchange while each word that it finds admits it.
 abbrev pub comes_by : Next LatchPoint (Answer (Unit {0})) → LatchPoint → Act ℕ LatchPoint (Answer (Unit {0}))
 comes_by missed First = load_for let_in (λ p. gets p to_read) goes_for missed
 comes_by missed (Exchange k) = retry k let_in (λ p. gets p to_read) (granted Read) goes_for missed
 
--- what its step results in, where the step function answers so
+-- the outcome of that call's step, if the step function returns `to`
 abbrev pub comes_at : LatchPoint → ℕ → Option ℕ → Next LatchPoint (Answer (Unit {0})) → Stepped ℕ (Unit {0}) LatchPoint (Answer (Unit {0}))
 comes_at First w to missed = stays w (either (is_some to) (goes_for w) missed)
 comes_at (Exchange k) w to missed = retried (λ n. n) (w == k) w to (granted Read) (goes_for w) missed

@@ -1,4 +1,5 @@
--- The rule of a value that is made once, from a number: a small lock, which shows how parties read for good.
+-- The rule of a value that is made once, from a number. It is a small lock that shows how parties keep reading for
+-- ever.
 use Rattle.std.specs.Prelude.{◌≡◌, ◌≢◌, ◌<◌, ◌+◌, ℕ, zero, suc, Bool, true, false, List, Option}
 use Rattle.spin_core.specs.Cell.{Use, off, reads, writes, fixes, no_fact, Ways, readers_of, writers_of}
 use Rattle.spin_core_tests.specs.declared.once.View.{View}
@@ -6,7 +7,7 @@ use Rattle.spin_core_tests.specs.declared.once.View.TheVariants.{Away, Running, 
 use Rattle.spin_core_tests.specs.declared.once.Stage.{Stage}
 use Rattle.spin_core_tests.specs.declared.once.Stage.TheVariants.{Seed, Done}
 
--- a value that somebody reads was made from the key, and one that nobody uses is the key
+-- a value that somebody reads was made from the key; one that nobody uses is the key
 abbrev pub IsMade : ℕ → Bool → Stage → Type 0
 IsMade key true (Done value) = value ≡ key + 1
 IsMade key true (Seed seed) = ⊥
@@ -21,7 +22,7 @@ use_of_view Reading = reads
 abbrev pub once_ways : {S : Type 0} → ℕ → Ways Stage View S
 once_ways key = (fixes (IsMade key), use_of_view, no_fact)
 
--- the word is 0 when no party has come, 1 while a party makes the value, and 2 when it is made
+-- the word is 0 before a party begins, 1 while a party makes the value, and 2 when it is made
 abbrev pub Stands : ℕ → ℕ → ℕ → Type 0
 Stands zero r w = (r ≡ 0) × (w ≡ 0)
 Stands (suc zero) r w = (r ≡ 0) × (w ≡ 1)
@@ -31,15 +32,15 @@ Stands _ r w = ⊥
 abbrev pub IsOnce : ℕ → Unit {0} → List View → Type 0
 IsOnce n m vs = Stands n (readers_of use_of_view vs) (writers_of use_of_view vs)
 
--- a party that finds the value made reads it
+-- a party that finds 2 reads the value; any other does not
 abbrev pub Loads : ℕ → ℕ → Option View → ℕ → View → Type 0
 Loads old new before found after = (found ≡ 2 → after ≡ Reading) × (found ≢ 2 → after ≡ Away)
 
--- a party that finds nothing runs
+-- a party that finds 0 makes the value, and one that finds 2 reads it
 abbrev pub Begins : ℕ → ℕ → Option View → ℕ → View → Type 0
 Begins old new before found after = (found ≡ 0 → after ≡ Running) × (found ≡ 2 → after ≡ Reading) × (found ≢ 0 → found ≢ 2 → after ≡ Away)
 
--- a party that ran puts the number back, or reads the value that it made
+-- a party that made the value puts the number back, or reads the value
 abbrev pub PutsBack : ℕ → ℕ → Option View → ℕ → View → Type 0
 PutsBack old new before found after = after ≡ Away
 

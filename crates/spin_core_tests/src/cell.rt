@@ -1,4 +1,4 @@
-//! What the contracts of the cell leave to a run: that each step gives and leaves the words that it says.
+//! Tests of what the contracts of the cell do not say: each step returns and stores the right words.
 ghost use Rattle.std.specs.Prelude.{◌≡◌, ◌+◌, ◌≤◌, length};
 
 use super::equal::equal;
@@ -12,7 +12,7 @@ enum Bystander {
     Stands,
 }
 
-/// Any words will do, and any entries, under the name that is known from the start.
+/// The rule allows any words and any entries. The trace's name is fixed from the start.
 struct AnyWords;
 
 impl Rule<u64, Bystander> for AnyWords {
@@ -49,7 +49,7 @@ impl Play<Watch<()>, Bystander, ()> for Mark {
 
 type Words = Cell<u64, Bystander, AnyWords>;
 
-// A cell of the value 5 and the words 1 and 2.
+// Creates a cell with the value 5 and the words 1 and 2.
 fn words() -> Words {
     let trace = Trace::new(2);
     let start = trace.watch();
@@ -100,7 +100,7 @@ fn steps_on_the_second_word(rt: HostRuntime) {
     party.leave();
 }
 
-// Appends an entry by a step on each word, and returns what is known then.
+// Appends an entry by a step on each word, and returns what is then known.
 fn mark_both(cell: &Words, seen: Watch<()>) -> Watch<()>
     requires { seen.name ≡ cell.now.name }
     ensures name { result.name ≡ seen.name }
@@ -122,7 +122,7 @@ fn a_watch_goes_from_step_to_step(rt: HostRuntime) {
     equal(&rt, cell.enter().look::<TellNothing>(seen).0, 2);
 }
 
-// What a party finds that looks after its exchange, or the word that the exchange found.
+// Returns what a load after the exchange finds, or the word that the exchange found.
 fn attempt(cell: &Words, old: u64, new: u64) -> Result<u64, u64> {
     let (party, _) = cell.enter().attempt::<Mark>(old, new, Watch::nothing());
     Ok(party?.look::<TellNothing>(Watch::nothing()).0)

@@ -1,4 +1,4 @@
-//! A lock for many readers or one writer, in a word of their number and a bit. Begin with [`Latch::read`].
+//! A lock for many readers or one writer. Its word is their number and a bit. Begin with [`Latch::read`].
 ghost use Rattle.std.specs.Prelude.{◌≡◌, Bool, Some, IfErr, true, false};
 ghost use Rattle.spin_core.specs.Own.{what};
 ghost use Rattle.spin_core_tests.specs.Latch.{let_in};
@@ -48,7 +48,7 @@ impl<T> Latch<T> {
         }
     }
 
-    /// Tries to acquire shared access. Returns `None` beside a writer, or at the limit of readers.
+    /// Tries to acquire shared access. Returns `None` while a writer holds, or at the limit of readers.
     #[must_use = "dropping the guard at once releases the latch: bind the answer"]
     pub fn try_read<W: Wait>(&self, rt: &W) -> Option<ReadGuard<'_, T>> {
         let (found, permit, _) = self.cell.enter().load::<Tries>(Watch::nothing());
@@ -96,7 +96,7 @@ impl<T, V, P: Rule<T, V>> Latch<T, V, P> {
     }
 }
 
-// A call of `try_read`, at the word that it found.
+// A call of `try_read`, with the word that it found.
 struct Trying<'a, T> {
     word: usize,
     permit: LatchPermit<'a, T>,
@@ -104,7 +104,7 @@ struct Trying<'a, T> {
 }
 
 impl<'a, T> Trying<'a, T> {
-    // Tries to come in at its word. If that keeps readers out, the answer is `None`.
+    // Tries to acquire at its word. Returns `Ok(None)` if that word does not admit readers.
     fn attempt(self) -> Result<Option<ReadGuard<'a, T>>, Trying<'a, T>> {
         let Self { word, permit } = self;
         let Some(next) = steps::read(word) else {
@@ -118,7 +118,7 @@ impl<'a, T> Trying<'a, T> {
     }
 }
 
-// A call of `read`, at the word that it found.
+// A call of `read`, with the word that it found.
 struct Entering<'a, T> {
     word: usize,
     permit: LatchPermit<'a, T>,
@@ -126,7 +126,7 @@ struct Entering<'a, T> {
 }
 
 impl<'a, T> Entering<'a, T> {
-    // Tries to come in at its word, if that lets readers in.
+    // Tries to acquire at its word, if that word admits readers.
     fn attempt(self) -> Result<ReadGuard<'a, T>, Entering<'a, T>> {
         let Self { word, permit } = self;
         let Some(next) = steps::read(word) else {
@@ -138,7 +138,7 @@ impl<'a, T> Entering<'a, T> {
         }
     }
 
-    // The same, after a look if its word keeps readers out.
+    // The same, but it looks first if its word does not admit readers.
     fn again(self) -> Result<ReadGuard<'a, T>, Entering<'a, T>> {
         let Self { word, permit } = self;
         if steps::read(word).is_some() {
@@ -149,7 +149,7 @@ impl<'a, T> Entering<'a, T> {
     }
 }
 
-// The look of `read`, and its exchange if the word lets readers in.
+// The look of `read`, and its exchange if the word admits readers.
 fn look_and_come<'a, T>(permit: LatchPermit<'a, T>) -> Result<ReadGuard<'a, T>, Entering<'a, T>>
     requires { MayLook (what permit.view) }
 {
@@ -158,7 +158,7 @@ fn look_and_come<'a, T>(permit: LatchPermit<'a, T>) -> Result<ReadGuard<'a, T>, 
     Entering { word, permit }.attempt()
 }
 
-// The exchange of the word that a call found for `next`. Returns the word that it found if that is another.
+// Exchanges the word that a call found for `next`. Returns the word found if that is another.
 fn come<'a, T>(
     permit: LatchPermit<'a, T>,
     word: usize,
@@ -174,7 +174,7 @@ fn come<'a, T>(
     Err((found as usize, permit))
 }
 
-// A call of `write` that goes on with its exchange.
+// A call of `write` that continues with its exchange.
 struct Waiting<'a, T> {
     permit: LatchPermit<'a, T>,
     ghost waits: { what permit.view ≡ Some WaitingToWrite },
@@ -187,7 +187,7 @@ impl<'a, T> Waiting<'a, T> {
     }
 }
 
-// The exchange of `write`, of a call that comes or waits.
+// The exchange of `write`, for a call that begins or waits.
 fn write<'a, T>(permit: LatchPermit<'a, T>) -> Result<WriteGuard<'a, T>, Waiting<'a, T>>
     requires { MayWrite (what permit.view) }
 {

@@ -1,5 +1,6 @@
-//! Tests of the step functions and of the raw cell; small locks on the cell, one for each way in which several parties
-//! may read a value; and a whole lock for many readers or one writer, with its model and its object.
+//! Tests of the step functions and of the raw cell. They have small locks on the cell, one for each way in which
+//! several parties may read a value. And they have a whole lock for many readers or one writer, with its model and its
+//! object.
 #![tactic(auto)]
 
 #[cfg(test)]

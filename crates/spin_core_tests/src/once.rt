@@ -1,4 +1,4 @@
-//! A value that is made once, from a number: a party that reads it never gives its part of the cell back.
+//! A value that is made once, from a number. A party that reads it never gives its part of the cell back.
 ghost use Rattle.std.specs.Prelude.{◌≡◌, ◌+◌, ◌<◌, IfSome, Some};
 ghost use Rattle.spin_core_tests.specs.declared.once.View.TheVariants.{Reading};
 
@@ -88,7 +88,7 @@ impl Next {
         }
     }
 
-    // As if somebody had asked already.
+    // Creates it as if somebody had asked already.
     fn initialized(seed: u64) -> Next
         requires { seed + 1 < 18446744073709551616 }
         ensures { result.cell ≡ seed }
@@ -109,7 +109,7 @@ impl Next {
         None
     }
 
-    // Nothing where another party is at it, or where no number comes after the seed: it is put back then.
+    // Returns `None` if another party makes the number, or if no number follows the seed; then the seed is put back.
     fn force(&self) -> Option<&u64>
         ensures { IfSome result (λ value. value.now ≡ self.now.cell + 1) }
     {

@@ -1,4 +1,4 @@
-//! A value that two parties at most read at a time. Each party that comes to read appends an entry to the trace.
+//! A value that at most two parties read at a time. Each party that begins to read appends an entry to the trace.
 ghost use Rattle.std.specs.Prelude.{◌≡◌, ◌<◌, Some, IfSome, length};
 ghost use Rattle.spin_core_tests.specs.declared.pair.View.TheVariants.{Reading};
 
@@ -54,7 +54,7 @@ fn pair(value: u64) -> Pair {
     Cell::new(value, 0, Trace::new(()), &())
 }
 
-// Comes to read beside `others`, where so many read. What it knows of the trace then has an entry.
+// Begins to read while `others` read. What it then knows of the trace has an entry.
 fn read(pair: &Pair, others: u64) -> Option<(Reader<'_>, Watch<()>)>
     requires { others < 2 }
     ensures view { IfSome result (λ came. came.0.view ≡ Some Reading) }
@@ -76,7 +76,7 @@ fn stop(reader: Reader<'_>)
     permit.leave();
 }
 
-// Whether nobody came to read beside `others`.
+// Returns `true` if a further reader is refused while `others` read.
 #[cfg(test)]
 fn refuses(pair: &Pair, others: u64) -> bool
     requires { others < 2 }

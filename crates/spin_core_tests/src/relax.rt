@@ -1,10 +1,10 @@
-//! How long the pauses of a call that backs off are, which no contract says.
+//! How long a call that backs off pauses, which no contract says.
 use super::equal::equal;
 use spin_core::relax::{MAX_HINTS, RelaxStrategy};
 use std::cell::Cell;
 use std::sync::Wait;
 
-/// A strategy that does not come back from a pause of no hints, of too many, or of a number that no doubling gives.
+/// A strategy that never returns from a pause whose hints are 0, too many, or no power of two.
 struct Strict;
 
 impl RelaxStrategy for Strict {
@@ -20,7 +20,7 @@ impl RelaxStrategy for Strict {
     }
 }
 
-// More than it takes for a number that is doubled each time to wrap.
+// More attempts than it takes for a doubled number to overflow.
 const ATTEMPTS: u32 = 100;
 
 #[test]

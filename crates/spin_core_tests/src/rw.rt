@@ -1,8 +1,8 @@
-//! The step functions of readers and a writer, on words.
+//! The step functions of readers and a writer, applied to words.
 use super::equal::equal;
 use spin_step_more::rw;
 
-/// Words, each with the cap, and with what becomes of it where a reader comes, or one that may upgrade.
+/// Words with a cap, and the word after a reader acquires, and after an upgradable reader does.
 const READS: &[(usize, usize, Option<usize>, Option<usize>)] = &[
     (0, 2, Some(8), Some(2)),
     (1, 2, None, None),
@@ -24,7 +24,7 @@ fn reads_at_each_word(rt: HostRuntime) {
     }
 }
 
-/// Words, each with what becomes of it where a writer comes, where a reader upgrades, and where it has asked before.
+/// Words, and the word after a writer acquires, after an upgrade, and after an upgrade that has asked before.
 const WRITES: &[(usize, Option<usize>, Option<usize>, Option<usize>)] = &[
     (0, Some(1), None, None),
     (1, None, None, None),
@@ -44,7 +44,7 @@ fn writes_at_each_word(rt: HostRuntime) {
     }
 }
 
-/// Words, each with how many read and how many write.
+/// Words, with the number of readers and of writers.
 const COUNTS: &[(usize, usize, usize)] = &[
     (0, 0, 0),
     (1, 0, 1),

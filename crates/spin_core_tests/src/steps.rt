@@ -1,4 +1,4 @@
-//! What the contracts of the step functions leave to a run: that each gives the word that it says.
+//! What the contracts of the step functions leave to a run: each returns the word that it should.
 
 use super::equal::equal;
 use spin_core::step::{flag, once, ticket};

@@ -93,7 +93,7 @@ impl<T> Written<T> {
     }
 }
 
-/// Lets the value go.
+/// Releases the value.
 ///
 /// # Contract
 /// What the holder leaves is appended to the trace, as the last one (`left`).
@@ -107,7 +107,7 @@ pub fn let_go<T>(holder: Holder<'_, T>, seen: Watch<T>) -> Watch<T>
     seen
 }
 
-/// Leaves a value, if nobody holds the one that is there.
+/// Stores a value, if nobody holds the current one.
 pub fn write(lock: &Written<u64>, value: u64, seen: Watch<u64>) -> (bool, Watch<u64>)
     requires { seen.name ≡ lock.now.cell.name }
     ensures name { result.1.name ≡ seen.name }
@@ -144,7 +144,7 @@ pub fn read(lock: &Written<u64>, seen: Watch<u64>) -> (Option<u64>, Watch<u64>)
 /// One thread writes and another reads.
 ///
 /// # Contract
-/// If the one wrote, and the other knows the same trace, what that found is what the one wrote (`same`).
+/// If one thread wrote, and the other knows the same trace, the other read what the first one wrote (`same`).
 pub fn write_beside_read<W: Threads + Sync>(
     rt: &W,
     lock: &Written<u64>,

@@ -1,4 +1,4 @@
-//! Code that does not care which lock it is handed.
+//! Code that takes any lock.
 ghost use Rattle.std.specs.Prelude.{◌≤◌};
 
 use spin::lock::{Lock, SharedLock};
@@ -21,7 +21,7 @@ pub fn try_count<L: Lock<u64>>(lock: &L) -> Option<u64> {
     .ok()
 }
 
-/// Reads a number beside other readers. Returns `most` if the number is larger.
+/// Reads a number, possibly with other readers. Returns `most` if the number is larger.
 pub fn read_up_to<L: SharedLock<u64>, W: Wait>(rt: &W, lock: &L, most: u64) -> u64
     ensures { result ≤ most }
 {

@@ -1,4 +1,4 @@
-//! What a program over the Rust crate says, as it is said here.
+//! Programs for the Rust crate, and how they read here.
 ghost use Rattle.std.specs.Prelude.{◌≤◌};
 ghost use Rattle.spin.specs.Lazy.{initialiser};
 

@@ -1,5 +1,5 @@
-//! An order of one's own, for the values of a `Growing`.
-use spin::growing::Order;
+//! A caller's own order for the values of a `Growing`.
+use spin_history::growing::Order;
 
 /// A version of a program, and its size.
 #[derive(Clone, Copy)]

@@ -1,15 +1,15 @@
-//! Values with logs beside one another: two registers that are written as often, and a tally with the log of its totals.
+//! Values with related logs: two registers with equally many writes, and a tally with the log of its totals.
 ghost use Rattle.std.specs.Prelude.{◌≡◌, ◌<◌, [], Some, length};
-ghost use Rattle.spin.specs.Entries.{last};
+ghost use Rattle.spin_history.specs.Entries.{last};
 
-use spin::history::{BlankLog, History, Log, Snapshot, Work, open};
 use spin::mutex::SpinMutex;
-use spin::register::Register;
-use spin::tally::{self, Tally};
+use spin_history::history::{BlankLog, History, Log, Snapshot, Work, open};
+use spin_history::register::Register;
+use spin_history::tally::{self, Tally};
 use std::sync::Wait;
 use std::sync::ledger::{Ledger, Share};
 
-/// Two registers that were written as often as one another.
+/// Two registers with equally many writes.
 #[derive(Drop)]
 pub struct Pair<H: History, K: History> {
     left: Register<u64, H>,
@@ -17,7 +17,7 @@ pub struct Pair<H: History, K: History> {
     ghost even: { length left.log.entries ≡ length right.log.entries },
 }
 
-/// Writes both registers under the lock. The caller knows as many writes of the one as of the other.
+/// Writes both registers under the lock. The caller knows equally many writes of both.
 pub fn write_both<H: History, K: History, W: Wait>(
     rt: &W,
     lock: &SpinMutex<Pair<H, K>>,
@@ -43,8 +43,8 @@ pub struct Audited<L: Ledger, H: History> {
     ghost tied: { tally.count ≡ totals.value },
 }
 
-/// Adds to the tally and logs the new total, under one lock. Returns what the total is then, to a caller that has every
-/// share: it is the last entry of the log.
+/// Adds to the tally and logs the new total, under one lock. To a caller that has every share it returns the total,
+/// which is the last entry of the log.
 pub fn add_and_audit<L: Ledger, H: History, W: Wait>(
     rt: &W,
     lock: &SpinMutex<Audited<L, H>>,
@@ -66,7 +66,7 @@ pub fn add_and_audit<L: Ledger, H: History, W: Wait>(
     total
 }
 
-/// Work that opens the log of the second register, beside that of the first.
+/// Work that opens the log of the second register, while that of the first is open.
 struct BesideLeft<'r, W, H: History> {
     rt: &'r W,
     values: (u64, u64),
@@ -108,12 +108,12 @@ impl<W: Wait> Work for WriteBoth<'_, W> {
     }
 }
 
-/// Writes two registers of one lock, and returns what they hold at the end. No file names their logs.
+/// Writes two registers of one lock, and returns their last values. No file names their logs.
 pub fn write_a_pair<W: Wait>(rt: &W, values: (u64, u64)) -> (u64, u64) {
     open(WriteBoth { rt, values })
 }
 
-/// Work that opens the log of the totals, beside a tally.
+/// Work that opens the log of the totals, while a tally is open.
 struct BesideTally<'r, W, L: Ledger> {
     rt: &'r W,
     more: u64,

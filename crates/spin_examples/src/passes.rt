@@ -1,7 +1,7 @@
-//! What two threads with a pass each know of their calls of one lock.
+//! What three threads with a pass each know of their calls of one `SpinMutex`.
 ghost use Rattle.std.specs.Prelude.{◌≡◌, ◌⊎◌};
 ghost use mathlib.Core.List.{IsPrefix};
-ghost use Rattle.spin.specs.Passes.{history, lock_of, name_of, Looked, HeldOnce};
+ghost use Rattle.spin.specs.Passes.{history, lock_of, Looked, HeldOnce};
 
 use spin::Spin;
 use spin::mutex::spin::Pass;
@@ -47,28 +47,52 @@ pub fn try_once(lock: &SpinMutex<u64>) -> Pass<'_, u64, Spin> {
     }
 }
 
-/// One thread counts, and one looks whether the lock is held.
+/// Two threads add one each, and a third one looks whether the lock is held.
 ///
 /// # Contract
-/// What one of them knows of the lock's history is a beginning of what the other knows.
+/// Each of the first two passes has acquired the lock and released it, once (`first`, `second`). The third one has looked
+/// once, and returns the answer (`looked`). Of each two of them, one knows a prefix of the lock's history that the
+/// other knows (`one_history`).
 pub fn count_beside_look<'a, W: Threads + Wait + Sync>(
     rt: &W,
-    lock: &'a SpinMutex<u64>,
-) -> (Pass<'a, u64, Spin>, (bool, Pass<'a, u64, Spin>))
-    ensures one_history { IsPrefix (history result.0) (history result.1.1) ⊎ IsPrefix (history result.1.1) (history result.0) }
+    one: Pass<'a, u64, Spin>,
+    two: Pass<'a, u64, Spin>,
+    three: Pass<'a, u64, Spin>,
+) -> (
+    Pass<'a, u64, Spin>,
+    (Pass<'a, u64, Spin>, (bool, Pass<'a, u64, Spin>)),
+)
+    requires { (lock_of one ≡ lock_of two) × (lock_of two ≡ lock_of three) }
+    ensures first { HeldOnce one.entry result.0 }
+    ensures second { HeldOnce two.entry result.1.0 }
+    ensures looked { Looked result.1.1.0 three.entry result.1.1.1 }
+    ensures one_history { (IsPrefix (history result.0) (history result.1.0) ⊎ IsPrefix (history result.1.0) (history result.0)) × (IsPrefix (history result.1.0) (history result.1.1.1) ⊎ IsPrefix (history result.1.1.1) (history result.1.0)) }
 {
-    let both = join(
+    let all = join(
         rt,
         || -> Pass<'_, u64, Spin>
-            ensures { lock_of result ≡ name_of lock.entry.now }
+            ensures made { HeldOnce one.entry result }
+            ensures lock { lock_of result ≡ lock_of one.entry }
+        { count(rt, one) },
+        || -> (Pass<'_, u64, Spin>, (bool, Pass<'_, u64, Spin>))
+            ensures second { HeldOnce two.entry result.0 }
+            ensures looked { Looked result.1.0 three.entry result.1.1 }
+            ensures lock { (lock_of result.0 ≡ lock_of two.entry) × (lock_of result.1.1 ≡ lock_of three.entry) }
         {
-            let pass = lock.pass();
-            count(rt, pass)
+            join(
+                rt,
+                || -> Pass<'_, u64, Spin>
+                    ensures made { HeldOnce two.entry result }
+                    ensures lock { lock_of result ≡ lock_of two.entry }
+                { count(rt, two) },
+                || -> (bool, Pass<'_, u64, Spin>)
+                    ensures made { Looked result.0 three.entry result.1 }
+                    ensures lock { lock_of result.1 ≡ lock_of three.entry }
+                { look(three) },
+            )
         },
-        || -> (bool, Pass<'_, u64, Spin>)
-            ensures { lock_of result.1 ≡ name_of lock.entry.now }
-        { look(lock.pass()) },
     );
-    both.0.compare(&both.1.1);
-    both
+    all.0.compare(&all.1.0);
+    all.1.0.compare(&all.1.1.1);
+    all
 }

@@ -38,7 +38,7 @@ fn count_served<'a, W: Wait>(rt: &W, starving: StarvingPass<'a, u64, Spin>) -> P
     FairMutex::unlock(guard, seen)
 }
 
-/// Adds one as a starver. Does nothing where too many starve.
+/// Adds one as a starver. Does nothing if too many threads starve.
 fn count_starving<'a, W: Wait>(rt: &W, lock: &'a FairMutex<u64>) -> Pass<'a, u64, Spin>
     ensures { lock_of result ≡ name_of lock.now }
 {
@@ -48,8 +48,8 @@ fn count_starving<'a, W: Wait>(rt: &W, lock: &'a FairMutex<u64>) -> Pass<'a, u64
     }
 }
 
-/// Looks whether the lock is held, and then tries to acquire it, as a newcomer and as a starver. It releases the lock
-/// at once if it did.
+/// Calls `is_locked`, and then tries to acquire the lock, as a newcomer and as a starver. If a try succeeds it releases
+/// at once.
 pub fn look_and_try<'a, W: Wait>(rt: &W, lock: &'a FairMutex<u64>) -> (bool, Pass<'a, u64, Spin>) {
     let pass = lock.pass();
     let (held, pass) = look(pass);
@@ -68,7 +68,7 @@ pub fn look_and_try<'a, W: Wait>(rt: &W, lock: &'a FairMutex<u64>) -> (bool, Pas
     (held, pass)
 }
 
-// Tries as the only starver, and then beside others. It gives up if the lock is held.
+// Tries as the only starver, and then as one of several. It gives up if the lock is held.
 fn try_starving(starving: StarvingPass<'_, u64, Spin>) -> Pass<'_, u64, Spin> {
     let starving = match starving.try_lock_fair() {
         Ok((guard, seen)) => return FairMutex::unlock(guard, seen),
@@ -83,7 +83,7 @@ fn try_starving(starving: StarvingPass<'_, u64, Spin>) -> Pass<'_, u64, Spin> {
 /// Three threads add one each: two newcomers, and one that starves.
 ///
 /// # Contract
-/// What each two of the three passes know of the lock's history is the beginning of one history.
+/// What any two of the three passes know of the lock's history are prefixes of one history.
 pub fn count_by_three<'a, W: Threads + Wait + Sync>(
     rt: &W,
     lock: &'a FairMutex<u64>,

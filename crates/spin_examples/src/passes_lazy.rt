@@ -33,7 +33,7 @@ fn force<'a, W: Wait>(
 /// Three threads ask for the value. One of them makes it.
 ///
 /// # Contract
-/// Of any two of them one knows a beginning of the history that the other knows.
+/// Of any two of them, one knows a prefix of the history that the other knows.
 pub fn force_by_three<'a, W: Threads + Wait + Sync>(
     rt: &W,
     lazy: &'a LazyLock<u64, Seven>,

@@ -29,7 +29,7 @@ fn look(pass: Pass<'_, u64, Spin>) -> (bool, Pass<'_, u64, Spin>)
 /// Two threads call `call_once`, and a third one looks whether there is a value.
 ///
 /// # Contract
-/// Of any two of them one knows a beginning of the history that the other knows.
+/// Of any two of them, one knows a prefix of the history that the other knows.
 pub fn make_beside_look<'a, W: Threads + Wait + Sync>(
     rt: &W,
     once: &'a Once<u64>,

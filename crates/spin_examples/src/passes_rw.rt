@@ -47,7 +47,7 @@ pub fn count_writers(pass: Pass<'_, u64, Spin>) -> (usize, Pass<'_, u64, Spin>)
     (writers, pass)
 }
 
-/// Comes as an upgradable reader, becomes the writer, and doubles the value.
+/// Acquires as an upgradable reader, becomes the writer, and doubles the value.
 pub fn double<'a, W: Wait>(rt: &W, pass: Pass<'a, u64, Spin>) -> Pass<'a, u64, Spin>
     ensures made { RaisedOnce pass.entry result }
     ensures lock { lock_of result ≡ lock_of pass.entry }
@@ -61,7 +61,7 @@ pub fn double<'a, W: Wait>(rt: &W, pass: Pass<'a, u64, Spin>) -> Pass<'a, u64, S
 /// One thread writes, one reads, and one counts the readers.
 ///
 /// # Contract
-/// Of any two of them one knows a beginning of the history that the other knows.
+/// Of any two of them, one knows a prefix of the history that the other knows.
 pub fn write_beside_readers<'a, W: Threads + Wait + Sync>(
     rt: &W,
     lock: &'a RwLock<u64>,
@@ -107,7 +107,7 @@ pub fn add_and_read<'a, W: Wait>(rt: &W, pass: Pass<'a, u64, Spin>) -> (u64, Pas
     (value, pass)
 }
 
-/// Tries each way once to acquire the lock, and releases it at once where it did.
+/// Tries each way once to acquire the lock, and releases it at once if it did.
 pub fn try_each<'a, W: Wait>(rt: &W, pass: Pass<'a, u64, Spin>) -> Pass<'a, u64, Spin> {
     let pass = match pass.try_read(rt) {
         Ok((guard, seen)) => RwLock::unlock_shared(guard, seen),

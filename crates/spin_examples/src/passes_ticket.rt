@@ -38,8 +38,8 @@ pub fn try_once(pass: Pass<'_, u64, Spin>) -> Pass<'_, u64, Spin> {
 /// Three threads add one each.
 ///
 /// # Contract
-/// Since it came here, each pass has acquired the lock and released it, once (`first`, `second`, `third`). Of each two of
-/// them, one knows a beginning of the lock's history that the other knows (`one_history`).
+/// In this call each pass has acquired the lock and released it, once (`first`, `second`, `third`). Of any two of them,
+/// one knows a prefix of the history that the other knows (`one_history`).
 pub fn count_by_three<'a, W: Threads + Wait + Sync>(
     rt: &W,
     one: Pass<'a, u64, Spin>,

@@ -1,11 +1,11 @@
-//! What callers of a register know of one another's writes.
+//! What callers of a register know of each other's writes.
 ghost use Rattle.std.specs.Prelude.{◌≡◌, ◌⊎◌};
 ghost use mathlib.Core.List.{IsPrefix};
-ghost use Rattle.spin.specs.Entries.{Reads, Writes, Updates};
+ghost use Rattle.spin_history.specs.Entries.{Reads, Writes, Updates};
 
 use spin::RwLock;
-use spin::history::{BlankLog, History, Snapshot};
-use spin::register::{self, Register};
+use spin_history::history::{BlankLog, History, Snapshot};
+use spin_history::register::{self, Register};
 use std::marker::Brand;
 use std::sync::Wait;
 use std::thread::{Threads, join};

@@ -3,7 +3,7 @@ ghost use Rattle.std.specs.Prelude.{◌≡◌, ◌+◌};
 
 use spin::lock::Lock;
 use spin::mutex::SpinMutex;
-use spin::tally::{self, Tally};
+use spin_history::tally::{self, Tally};
 use std::marker::Brand;
 use std::sync::Wait;
 use std::sync::ledger::{Blank, Ledger, Share};

@@ -1,11 +1,12 @@
 //! A version that threads raise, and that never falls for a reader.
 ghost use Rattle.std.specs.Prelude.{◌≡◌, ◌≤◌, Some};
-ghost use Rattle.spin.specs.Entries.{last};
+ghost use Rattle.spin_history.specs.Entries.{last};
 
-use spin::growing::{Ascending, Growing};
-use spin::history::{BlankLog, History, Snapshot, Work, open};
+use spin::RwLock;
 use spin::rwlock::RwLockReadGuard;
-use spin::{RwLock, register};
+use spin_history::growing::{Ascending, Growing};
+use spin_history::history::{BlankLog, History, Snapshot, Work, open};
+use spin_history::register;
 use std::marker::Brand;
 use std::sync::Wait;
 use std::thread::{Threads, join};
@@ -34,7 +35,7 @@ fn raise<H: History, W: Wait>(
 /// What two reads found, and what is known of the version since.
 type Watched<H> = ((u64, u64), Snapshot<u64, H>);
 
-/// Reads twice. The second value is not below the first, whoever raised the version between.
+/// Reads twice. The second value is not below the first, whoever raises the version in between.
 fn watch<H: History, W: Wait>(
     rt: &W,
     version: &Version<H>,
@@ -102,7 +103,8 @@ fn race_by<H: History + Send + Sync, W: Threads + Wait + Sync>(
     (one, two, last)
 }
 
-/// Raises a version from 0 in two threads, while two others read it twice. No reader sees it fall, or above its end.
+/// Raises a version from 0 in two threads, while two others read it twice. No reader sees it fall, or above its last
+/// value.
 pub fn race<W: Threads + Wait + Sync>(rt: &W, times: u64) -> ((u64, u64), (u64, u64), u64)
     ensures first { (result.0.0 ≤ result.0.1) × (result.0.1 ≤ result.2) }
     ensures second { (result.1.0 ≤ result.1.1) × (result.1.1 ≤ result.2) }
@@ -110,7 +112,7 @@ pub fn race<W: Threads + Wait + Sync>(rt: &W, times: u64) -> ((u64, u64), (u64, 
     race_by::<Brand, W>(rt, times, BlankLog::new())
 }
 
-/// Reads through a guard that is never dropped, and then anew. What it saw first it still knows.
+/// Reads through a guard that is never dropped, and then again. What it saw first it still knows.
 pub fn watch_leaked<H: History, W: Wait>(
     rt: &W,
     version: &Version<H>,

@@ -33,9 +33,9 @@ fn read<'a, W: Wait>(rt: &W, pass: Pass<'a, u64, Spin>) -> (u64, Pass<'a, u64, S
 /// One thread writes a value, and one reads.
 ///
 /// # Contract
-/// What one of them knows of the lock's history is a beginning of what the other knows (`one_history`). The value that
-/// was written is the last one in the history that the writer knows (`left`), and the value that was read is the last
-/// one in the history that the reader knows (`found`).
+/// One of them knows a prefix of the lock's history that the other knows (`one_history`). The value written is the last
+/// one in the history that the writer knows (`left`). The value read is the last one in the history that the reader
+/// knows (`found`).
 pub fn write_beside_read<'a, W: Threads + Wait + Sync>(
     rt: &W,
     lock: &'a SpinMutex<u64>,

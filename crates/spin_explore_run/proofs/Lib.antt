@@ -1,6 +1,5 @@
 pub mod Leading
 pub mod Openings
-pub mod Told
 pub mod Words
 pub mod Wholes
 pub mod Joined

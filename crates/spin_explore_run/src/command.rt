@@ -1,10 +1,11 @@
 //! The program over streams that the caller names. Begin with [`program`].
 ghost use Rattle.std.specs.Prelude.{◌≡◌, ◌≤◌, ◌<◌, ◌⊎◌, ℕ, Bool, true, false, IfOk, IfErr, map};
+ghost use Rattle.spin_text.specs.Failures.{Told};
 ghost use Rattle.spin_explore_run.specs.declared.faults.Fault.{Fault};
 ghost use Rattle.spin_explore_run.specs.declared.options.Options.{Options};
 ghost use Rattle.spin_explore_run.specs.Faults.{status_of, line_of};
-ghost use Rattle.spin_explore_run.specs.Runs.{Told, Does, Stops, Asks, StopsProgram, status_for};
-ghost use Rattle.spin_explore_run.specs.Views.{texts_of};
+ghost use Rattle.spin_explore_run.specs.Runs.{Does, Stops, Asks, StopsProgram, status_for};
+ghost use Rattle.spin_text.specs.Lines.{texts_of};
 
 use crate::explored::explored;
 use crate::faults::{Fault, report_fault};
@@ -12,8 +13,8 @@ use crate::options::{Options, options_of};
 use spin_text::{Sink, Source, read_all, write_whole};
 use std::alloc::Global;
 
-/// Reads a text from `input`, and writes all that may result from it to `output`. Returns `true` if that tells that a
-/// run can get stuck.
+/// Reads a text from `input`, and writes all that it may result in to `output`. Returns `true` if the output says that
+/// a run can get stuck.
 fn run<I: Source, O: Sink>(
     alloc: Global,
     options: Options,

@@ -1,32 +1,30 @@
 //! The reasons why a run fails, each with its status and its line. Begin with [`Fault`] and [`report_fault`].
-ghost use Rattle.std.specs.Prelude.{◌≡◌, ◌++◌, false, true, codes, decimal, OnOk, OnErr};
-ghost use Rattle.std.specs.Io.KnownBytes.{Appends};
-ghost use Rattle.spin_text.specs.Ends.{AppendsBeginning};
+ghost use Rattle.std.specs.Prelude.{◌≡◌, ◌≤◌, length, false};
+ghost use Rattle.spin_text.specs.Failures.{Told, failure_line};
 ghost use Rattle.spin_explore_run.specs.Faults.{status_of, line_of, fault_of, stop_of};
-ghost use Rattle.spin_explore_run.specs.Runs.{Told};
 ghost use Rattle.spin_explore_run.specs.declared.faults.Fault.TheVariants.{Memory, Write};
 
-use itoa::Buffer;
 use spin_explore::Stop;
-use spin_text::{Failed, RunError, Sink, write_whole};
+use spin_text::program::tell;
+use spin_text::{Failed, RunError, Sink};
 use std::alloc::AllocError;
 
 /// The reason why a run fails.
 #[derive(Clone, Copy, Drop)]
 pub enum Fault {
-    /// The words are those of no command.
+    /// The words are no command.
     Usage,
     /// An allocation failed.
     Memory,
     /// A read of standard input failed.
     Read,
-    /// The first line of standard input that is none of a text, counted from 1.
+    /// The first line of standard input that does not belong to a text, counted from 1.
     BadLine(usize),
-    /// There are more states than the limit. So many were seen.
+    /// There are more states than the limit; this many were seen.
     TooMany(usize),
     /// There is no outcome with the number that was asked for.
     NoOutcome,
-    /// The search did not settle from which states a run can end. No text is known for which that is so.
+    /// The search did not settle from which states a run can end. No text is known for which this happens.
     Unsettled,
     /// A write to standard output failed.
     Write,
@@ -84,53 +82,25 @@ impl Fault {
         }
     }
 
-    /// Writes the line of the fault.
-    fn tell<E: Sink>(self, errors: &mut E) -> Result<(), Failed>
-        ensures bytes { OnOk result (Appends (E.written errors.old) (E.written errors.new) (line_of self)) }
-        ensures ok { OnOk result (E.failed errors.new ≡ E.failed errors.old) }
-        ensures beginning { OnErr result (AppendsBeginning (E.written errors.old) (E.written errors.new) (line_of self)) }
-        ensures err { OnErr result (E.failed errors.new ≡ true) }
+    /// Returns the words of the fault's line, and the number behind them if there is one.
+    fn line(self) -> (&'static [u8], Option<u64>)
+        ensures line { failure_line result.0.now result.1 ≡ line_of self }
+        ensures short { length result.0.now ≤ 64 }
     {
         match self {
-            Fault::Usage => write_whole(
-                errors,
-                b"usage: spin-explore [--schedule NUMBER] [--limit STATES]\n",
+            Fault::Usage => (
+                b"usage: spin-explore [--schedule NUMBER] [--limit STATES]",
+                None,
             ),
-            Fault::Memory => write_whole(errors, b"out of memory\n"),
-            Fault::Read => write_whole(errors, b"read failed\n"),
-            Fault::BadLine(line) => tell_number(b"bad line ", line, errors),
-            Fault::TooMany(seen) => tell_number(b"too many states: stopped after ", seen, errors),
-            Fault::NoOutcome => write_whole(errors, b"no such outcome\n"),
-            Fault::Unsettled => write_whole(errors, b"search not settled\n"),
-            Fault::Write => write_whole(errors, b"write failed\n"),
+            Fault::Memory => (b"out of memory", None),
+            Fault::Read => (b"read failed", None),
+            Fault::BadLine(line) => (b"bad line ", Some(line as u64)),
+            Fault::TooMany(seen) => (b"too many states: stopped after ", Some(seen as u64)),
+            Fault::NoOutcome => (b"no such outcome", None),
+            Fault::Unsettled => (b"search not settled", None),
+            Fault::Write => (b"write failed", None),
         }
     }
-}
-
-/// Writes a number and a line feed.
-fn tell_end<E: Sink>(number: usize, errors: &mut E) -> Result<(), Failed>
-    ensures bytes { OnOk result (Appends (E.written errors.old) (E.written errors.new) (decimal number ++ codes "\n")) }
-    ensures ok { OnOk result (E.failed errors.new ≡ E.failed errors.old) }
-    ensures beginning { OnErr result (AppendsBeginning (E.written errors.old) (E.written errors.new)
-        (decimal number ++ codes "\n")) }
-    ensures err { OnErr result (E.failed errors.new ≡ true) }
-{
-    let mut buffer = Buffer::new();
-    write_whole(errors, buffer.format(number).as_bytes())?;
-    write_whole(errors, b"\n")
-}
-
-/// Writes words, a number and a line feed.
-fn tell_number<E: Sink>(words: &[u8], number: usize, errors: &mut E) -> Result<(), Failed>
-    ensures bytes { OnOk result (Appends (E.written errors.old) (E.written errors.new)
-        (words.now ++ decimal number ++ codes "\n")) }
-    ensures ok { OnOk result (E.failed errors.new ≡ E.failed errors.old) }
-    ensures beginning { OnErr result (AppendsBeginning (E.written errors.old) (E.written errors.new)
-        (words.now ++ decimal number ++ codes "\n")) }
-    ensures err { OnErr result (E.failed errors.new ≡ true) }
-{
-    write_whole(errors, words)?;
-    tell_end(number, errors)
 }
 
 /// Writes the line of the fault, and returns its status. A failed write changes no status.
@@ -139,6 +109,7 @@ pub fn report_fault<E: Sink>(fault: Fault, errors: &mut E) -> u8
     ensures status { result ≡ status_of fault }
     ensures told { Told (E.failed errors.new) (E.written errors.old) (E.written errors.new) (line_of fault) }
 {
-    let _ = fault.tell(errors);
+    let (words, number) = fault.line();
+    tell(words, number, errors);
     fault.status()
 }

@@ -1,4 +1,4 @@
-//! Programs of a few threads as text, and all that may result from them over every interleaving, as text.
+//! Programs of a few threads as text, and all that they may result in over every interleaving, as text.
 //!
 //! Begin with [`program`], which does what the words of a command line ask for.
 #![tactic(auto)]

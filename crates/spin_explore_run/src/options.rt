@@ -1,7 +1,7 @@
 //! The words of the command line. Begin with [`options_of`].
 ghost use Rattle.std.specs.Prelude.{◌≡◌, map};
 ghost use Rattle.spin_explore_run.specs.Options.{no_options, with_option, options_from};
-ghost use Rattle.spin_explore_run.specs.Views.{texts_of};
+ghost use Rattle.spin_text.specs.Lines.{texts_of};
 
 use spin_text::{is_word, only_number};
 
@@ -10,7 +10,7 @@ use spin_text::{is_word, only_number};
 pub struct Options {
     /// The number of the outcome whose schedule is asked for.
     pub schedule: Option<u64>,
-    /// The most states.
+    /// The most states that a search may see.
     pub limit: Option<u64>,
 }
 

@@ -1,56 +1,26 @@
 //! The program over the arguments of the process. Begin with [`program_over_arguments`].
-ghost use Rattle.std.specs.Prelude.{◌≡◌, ◌≤◌, ◌<◌, ◌⊎◌, List, ℕ, Bool, false, IfErr};
+ghost use Rattle.std.specs.Prelude.{◌≡◌, ◌≤◌, ◌<◌, ◌⊎◌, List, ℕ, Bool, false};
+ghost use Rattle.spin_text.specs.Failures.{Told};
 ghost use Rattle.spin_explore_run.specs.declared.faults.Fault.{Fault};
 ghost use Rattle.spin_explore_run.specs.declared.options.Options.{Options};
 ghost use Rattle.spin_explore_run.specs.Faults.{status_of, line_of};
-ghost use Rattle.spin_explore_run.specs.Runs.{Told, Does, StopsProgram, IsWordless, Asks, status_for};
+ghost use Rattle.spin_explore_run.specs.Runs.{Does, StopsProgram, IsWordless, Asks, status_for};
 
 use crate::command::program;
 use crate::faults::{Fault, report_fault};
+use spin_text::program::{arguments, texts};
 use spin_text::{Sink, Source};
-use std::alloc::{AllocError, Allocator};
 use std::env::Env;
-use std::{env, io};
-
-/// Returns the arguments after the program's name. Arguments that are not text are those of no command.
-///
-/// It asks for the room first. `collect` would answer a failed allocation with a smaller request, and tell nothing.
-fn arguments<R: Env + Alloc>(rt: &R) -> Result<Vec<String<R::A>, R::A>, Fault>
-    ensures { IfErr result IsWordless }
-{
-    match env::args(rt) {
-        Ok(mut all) => {
-            let _program = all.next();
-            let mut words = Vec::with_capacity(rt.alloc(), all.len())?;
-            words.extend(all)?;
-            Ok(words)
-        }
-        Err(e) if e.kind() == io::ErrorKind::OutOfMemory => Err(Fault::Memory),
-        Err(_) => Err(Fault::Usage),
-    }
-}
-
-/// Returns the arguments as text.
-fn texts<'a, A: Allocator>(
-    alloc: A,
-    arguments: &'a [String<A>],
-) -> Result<Vec<&'a str, A>, AllocError> {
-    let mut texts = Vec::with_capacity(alloc, arguments.len())?;
-    for word in arguments {
-        texts.push(word.as_str())?;
-    }
-    Ok(texts)
-}
 
 /// Runs [`program`] on the arguments of the process.
 ///
-/// Arguments that are not text are those of no command. If there is no memory for the arguments, the call only writes
+/// Arguments that are not text are treated as no command. If there is no memory for the arguments, the call only writes
 /// a line about it on `errors`.
 ///
 /// # Contract
-/// The caller gives streams that have not failed. The status means what it means for `program`, for some words. Or the
-/// fault is wrong usage or no memory, from before the words are known (`IsWordless`). Then `input` and `output` are as
-/// before.
+/// The caller gives streams that have not failed. Either the status means what it means for `program`, for some words.
+/// Or the run failed before the words were known, by wrong usage or for lack of memory (`IsWordless`). Then `input` and
+/// `output` are unchanged.
 pub fn program_over_arguments<I: Source, O: Sink, E: Sink, R: Env + AllocGlobal>(
     rt: &R,
     input: &mut I,
@@ -84,8 +54,9 @@ pub fn program_over_arguments<I: Source, O: Sink, E: Sink, R: Env + AllocGlobal>
         × Told (E.failed errors.new) (E.written errors.old) (E.written errors.new) (line_of fault) }
 {
     let arguments = match arguments(rt) {
-        Ok(arguments) => arguments,
-        Err(fault) => return report_fault(fault, errors),
+        Ok(Some(arguments)) => arguments,
+        Ok(None) => return report_fault(Fault::Usage, errors),
+        Err(_) => return report_fault(Fault::Memory, errors),
     };
     match texts(rt.alloc(), &arguments) {
         Ok(words) => program(rt.alloc(), words.as_slice(), input, output, errors),

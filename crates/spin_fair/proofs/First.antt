@@ -1,4 +1,4 @@
--- Starvers come first: what a step leaves true of the order of the last moves of all parties.
+-- Starvers go first: what a step keeps true of the order of the last moves of all parties.
 use Rattle.std.proofs.Common.{◌≡◌, ℕ, zero, suc, ◌<◌, ◌≤◌, List, [], ◌∷◌, ◌++◌, length, Option, Some, None, sym, ap, ◌∙◌, subst, arith, slice_set, inl, inr}
 use Rattle.std.specs.Prelude.{slice_get, ◌⊎◌}
 use Rattle.spin_core.specs.Cell.{after}
@@ -8,7 +8,7 @@ use Rattle.spin_fair.specs.declared.fair.rule.View.TheVariants.{Holding}
 use Rattle.spin_fair.specs.Fair.{Done, model, seat_of, words_of, views_of, starver, StarversFirst}
 
 module _ {X : Type 0} where
-  -- there stands the party that made the step, or one that stood there before
+  -- at that place is the party that made the step, or one that was there before
   abbrev Stood : List X → X → ℕ → X → Type 0
   Stood vs w i v = (v ≡ w) ⊎ (slice_get vs i ≡ Some v)
 
@@ -38,7 +38,8 @@ module _ {X : Type 0} where
 pub first_without : (before behind : List (Numbered View)) (v : Numbered View) → StarversFirst (before ++ v ∷ behind) → StarversFirst (before ++ behind)
 first_without before behind v order i j x u at_i at_j holds starves = let a = still before behind v i x at_i in let b = still before behind v j u at_j in order a.0 b.0 x u a.1 b.1 holds starves
 
--- a party makes its last move after those of all others, which are within this length; and finds no starver where it comes to hold as a newcomer
+-- A party makes its last move after those of all others, which are within this length. If it begins to hold as a
+-- newcomer, it finds no starver.
 pub first_after : (id : ℕ) (view : Option (Numbered View)) (vs : List (Numbered View)) (w : Numbered View) (len : ℕ) → ((i : ℕ) (v : Numbered View) → slice_get vs i ≡ Some v → v.2 ≤ len) → len ≤ w.2
     → (w.0 ≡ Holding → (j : ℕ) (u : Numbered View) → slice_get vs j ≡ Some u → 0 < starver u.0 → ⊥) → StarversFirst vs → StarversFirst (after id view vs w)
 first_after id view vs w len marks late alone order i j v u at_i at_j holds starves = both (stood id view vs w i v at_i) (stood id view vs w j u at_j)
@@ -49,15 +50,15 @@ first_after id view vs w len marks late alone order i j v u at_i at_j holds star
     both (inr a) (inl b) = omega (arith, marks i v a, late, ap (λ x. x.2) b)
     both (inr a) (inr b) = order i j v u a b holds starves
 
-within : (schedule : List Done) (k : ℕ) (came : List (Option (View × ℕ))) (i : ℕ) (v : Numbered View) → Rested schedule k came → slice_get (present_from k came) i ≡ Some v → v.2 ≤ length schedule
+within : {T : Type 0} (schedule : List (Done T)) (k : ℕ) (came : List (Option (View × ℕ))) (i : ℕ) (v : Numbered View) → Rested schedule k came → slice_get (present_from k came) i ≡ Some v → v.2 ≤ length schedule
 within schedule k [] i v rest at = absurd (cc (at))
 within schedule k (None ∷ us) i v rest at = within schedule (suc k) us i v rest at
 within schedule k (Some u ∷ us) zero v rest at = let same : (u.0, k, u.1) ≡ v = cc (at) in subst (λ (x : Numbered View). x.2 ≤ length schedule) same rest.0.0
 within schedule k (Some u ∷ us) (suc i) v rest at = within schedule (suc k) us i v rest.1 at
 
 -- no party has made a move after the end of the trace
-pub marks_within : (schedule : List Done) (s : ℕ × Unit {0}) (vs : List (Numbered View)) → IsRun model seat_of words_of schedule s vs → (i : ℕ) (v : Numbered View) → slice_get vs i ≡ Some v → v.2 ≤ length schedule
-marks_within schedule s vs run i v at = within schedule 0 run.0 i v run.7 (subst (λ l. slice_get l i ≡ Some v) run.3 at)
+pub marks_within : {T : Type 0} (v₀ : T) (schedule : List (Done T)) (s : ℕ × Unit {0}) (vs : List (Numbered View)) → IsRun (model v₀) seat_of words_of schedule s vs → (i : ℕ) (v : Numbered View) → slice_get vs i ≡ Some v → v.2 ≤ length schedule
+marks_within v₀ schedule s vs run i v at = within schedule 0 run.0 i v run.7 (subst (λ l. slice_get l i ≡ Some v) run.3 at)
 
 pub viewed : (vs : List (Numbered View)) (j : ℕ) (w : Numbered View) → slice_get vs j ≡ Some w → slice_get (views_of vs) j ≡ Some w.0
 viewed [] j w at = absurd (cc (at))

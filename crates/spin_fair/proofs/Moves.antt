@@ -1,4 +1,4 @@
--- The moves of the model that each step of a fair mutex is.
+-- Which moves of the model each step of a fair mutex is.
 use Rattle.std.proofs.Common.{◌≡◌, ℕ, ◌+◌, ◌-◌, ◌%◌, ◌^◌, ◌/◌, ◌*◌, ◌==◌, [], ◌∷◌, Option, Some, None, if◌then◌else◌, refl, sym, ap, ◌∙◌, arith, eq-eqb, ne_eqb, bit_or, is_some}
 use Rattle.std.proofs.lemmas.Nat.{or_shifted, or_block}
 use Rattle.std.specs.Int.Bits.{or_zero_r}
@@ -11,118 +11,13 @@ use Rattle.spin_model.specs.declared.answer.Answer.TheVariants.{Granted, Refused
 use Rattle.spin_model.specs.declared.place.Hold.TheVariants.{Write}
 use Rattle.spin_model.specs.declared.place.Seat.TheVariants as seat
 use Rattle.spin_model.specs.declared.schedule.Move.TheVariants.{Begin, Step}
-use Rattle.spin_model.specs.declared.schedule.Outcome.TheVariants.{Begun, Answered, GoingOn}
+use Rattle.spin_model.specs.declared.schedule.Move.TheVariants as move
+use Rattle.spin_model.specs.declared.schedule.Outcome.TheVariants.{Begun, Answered, GoingOn, Written}
 use Rattle.spin_step_more.specs.declared.fair_calls.FairCall.{FairCall}
 use Rattle.spin_step_more.specs.declared.fair_calls.FairCall.TheVariants.{Lock, TryLock, TryLockStarver, IsLocked, Starve, StarverTryLockFair, StarverTryLock, StarverLock, StarverDrop, Release}
-use Rattle.spin_fair.specs.Fair.{seat_of, model, words_of, Ending, Says, refusal, IsOut, looks_by, tries_by, alone_by, alone_to, ends_by, tried_by, tried, looked_by, looked, registers_by, registered_by, no_room_end, sets_by, set_by, awaits_by, awaited_by, served_by, MayTry}
+use Rattle.spin_fair.specs.Fair.{seat_of, model, words_of, Ending, Says, refusal, IsOut, looks_by, tries_by, alone_by, alone_to, gives_up_by, frees_with, tried_by, tried, looked_by, looked, registers_by, registered_by, no_room_end, sets_by, set_by, awaits_by, awaited_by, served_by, MayTry}
 use Rattle.spin_fair.specs.declared.fair.rule.View.{View}
 use Rattle.spin_fair.specs.declared.fair.rule.View.TheVariants.{Idle, Starving, Holding, Served, Trying, Looking, Loading, Registering, Setting, Awaiting, HoldingStarving}
-
-abbrev pub Moves : Option View → (ℕ → ℕ) → (ℕ → View → Type 0) → Says → Type 0
-Moves view f = AreMoves model seat_of words_of view (on_first f) first
-
--- of a step that leads here, by the number found
-abbrev pub MovesTo : Option View → (ℕ → ℕ) → (ℕ → View) → Says → Type 0
-MovesTo view f to = Moves view f (λ n v. v ≡ to n)
-
--- A newcomer
-
-pub load_moves : (view : Option View) → IsOut view → MovesTo view (λ n. n) (λ n. Idle) looks_by
-load_moves None out w value v is = rw is (Begin IsLocked ∷ Step ∷ [], Begun ∷ Answered (Is (is_set w)) None ∷ [], (refl, (refl, refl)), refl, refl, w, value, refl, refl, refl)
-load_moves (Some Idle) out w value v is = rw is (Begin IsLocked ∷ Step ∷ [], Begun ∷ Answered (Is (is_set w)) None ∷ [], (refl, (refl, refl)), refl, refl, w, value, refl, refl, refl)
-load_moves (Some _) out w value v is = absurd out
-
-abbrev Attempts : FairCall → Option View → Type 0
-Attempts c view = MovesTo view (λ n. either (n == 0) 1 n) (λ n. if n == 0 then Holding else Idle) (tries_by c)
-
-pub attempt_moves : (view : Option View) → IsOut view → Attempts TryLock view
-attempt_moves None out w value v is =
-    rw is (Begin TryLock ∷ Step ∷ [], Begun ∷ Answered (if w == 0 then Granted else Refused) None ∷ [], (refl, (refl, refl)), refl, refl, either (w == 0) 1 w, value, grind arith, grind arith, refl)
-attempt_moves (Some Idle) out w value v is =
-    rw is (Begin TryLock ∷ Step ∷ [], Begun ∷ Answered (if w == 0 then Granted else Refused) None ∷ [], (refl, (refl, refl)), refl, refl, either (w == 0) 1 w, value, grind arith, grind arith, refl)
-attempt_moves (Some _) out w value v is = absurd out
-
-pub attempt_to_know_moves : (view : Option View) → IsOut view → Attempts TryLockStarver view
-attempt_to_know_moves None out w value v is =
-    rw is (Begin TryLockStarver ∷ Step ∷ [], Begun ∷ Answered (if w == 0 then Granted else refusal TryLockStarver w) None ∷ [], (refl, (refl, refl)), refl, refl, either (w == 0) 1 w, value, grind arith, grind arith, refl)
-attempt_to_know_moves (Some Idle) out w value v is =
-    rw is (Begin TryLockStarver ∷ Step ∷ [], Begun ∷ Answered (if w == 0 then Granted else refusal TryLockStarver w) None ∷ [], (refl, (refl, refl)), refl, refl, either (w == 0) 1 w, value, grind arith, grind arith, refl)
-attempt_to_know_moves (Some _) out w value v is = absurd out
-
-pub try_moves : (n : ℕ) (view : Option View) → MayTry n view → MovesTo view (λ n. either (n == 0) 1 n) (tried view) (tried_by view)
-try_moves n None may w value v is =
-    rw is (Begin Lock ∷ Step ∷ [], Begun ∷ (if w == 0 then Answered Granted None else GoingOn) ∷ [], (refl, (refl, refl)), refl, grind arith, either (w == 0) 1 w, value, grind arith, grind arith, refl)
-try_moves n (Some Idle) may w value v is =
-    rw is (Begin Lock ∷ Step ∷ [], Begun ∷ (if w == 0 then Answered Granted None else GoingOn) ∷ [], (refl, (refl, refl)), refl, grind arith, either (w == 0) 1 w, value, grind arith, grind arith, refl)
-try_moves n (Some (Trying m)) may w value v is =
-    rw is (Step ∷ [], (if w == 0 then Answered Granted None else GoingOn) ∷ [], (refl, (refl, refl)), refl, grind arith, either (w == 0) 1 w, value, grind arith, grind arith, refl)
-try_moves n (Some _) may w value v is = absurd may
-
-pub look_moves : (n : ℕ) → MovesTo (Some (Looking n)) (λ n. n) (looked (Some (Looking n))) (looked_by (Some (Looking n)))
-look_moves n w value v is = rw is (Step ∷ [], GoingOn ∷ [], (refl, (refl, refl)), refl, refl, w, value, grind arith, grind arith, refl)
-
--- A party that registers: its first exchange, of 0, is the load and the exchange of the model where it wins, and the load where it loses
-
-either_of : (w old new : ℕ) → (w ≡ old → ⊥) → words_of w ≡ words_of (either (w == old) new w)
-either_of w old new ne = ap (λ b. words_of (either b new w)) (sym (ne_eqb w old ne))
-
-either_self : (old new : ℕ) → words_of new ≡ words_of (either (old == old) new old)
-either_self old new = ap (λ b. words_of (either b new old)) (sym (eq-eqb old old refl))
-
--- what the model's load comes to, or its exchange that loses
-abbrev missed : FairCall → ℕ → Ending
-missed c w = if is_some (starve most_starvers w) then GoingOn else no_room_end c
-
-abbrev Registers : Option View → ℕ → ℕ → Type 0
-Registers view old new = MovesTo view (λ n. either (n == old) new n) (registered_by view old) (registers_by view old)
-
-abbrev First : Option View → Type 0
-First view = Registers view 0 2
-
-pub starve_moves : (view : Option View) → IsOut view → First view
-starve_moves None out w value v is = dite (ℕ_discrete w 0)
-    (λ e. rw (is, e) (Begin Starve ∷ Step ∷ Step ∷ [], Begun ∷ GoingOn ∷ Answered Granted None ∷ [], (refl, (refl, refl)), refl, refl, 2, value, refl, refl, refl))
-    (λ ne. rw (is, ne_eqb w 0 ne) (Begin Starve ∷ Step ∷ [], Begun ∷ missed Starve w ∷ [], (refl, (refl, refl)), refl, grind arith, w, value, grind (arith, ne_eqb w 0 ne), grind arith, refl))
-starve_moves (Some Idle) out w value v is = dite (ℕ_discrete w 0)
-    (λ e. rw (is, e) (Begin Starve ∷ Step ∷ Step ∷ [], Begun ∷ GoingOn ∷ Answered Granted None ∷ [], (refl, (refl, refl)), refl, refl, 2, value, refl, refl, refl))
-    (λ ne. rw (is, ne_eqb w 0 ne) (Begin Starve ∷ Step ∷ [], Begun ∷ missed Starve w ∷ [], (refl, (refl, refl)), refl, grind arith, w, value, grind (arith, ne_eqb w 0 ne), grind arith, refl))
-starve_moves (Some _) out w value v is = absurd out
-
-pub turn_moves : First (Some Loading)
-turn_moves w value v is = dite (ℕ_discrete w 0)
-    (λ e. rw (is, e) (Step ∷ Step ∷ [], GoingOn ∷ GoingOn ∷ [], (refl, (refl, refl)), refl, refl, 2, value, refl, refl, refl))
-    (λ ne. rw (is, ne_eqb w 0 ne) (Step ∷ [], missed Lock w ∷ [], (refl, (refl, refl)), refl, grind arith, w, value, grind (arith, ne_eqb w 0 ne), grind arith, refl))
-
-pub again_moves : (old new : ℕ) → starve most_starvers old ≡ Some new → Registers (Some (Registering Starve old)) old new
-again_moves old new may w value v is = dite (ℕ_discrete w old)
-    (λ e. rw (is, e, eq-eqb old old refl) (Step ∷ [], Answered Granted None ∷ [], (refl, (refl, refl)), refl, refl, new, value, grind (arith, may, eq-eqb old old refl), grind (arith, may, eq-eqb old old refl), refl))
-    (λ ne. rw (is, ne_eqb w old ne) (Step ∷ [], missed Starve w ∷ [], (refl, (refl, refl)), refl, grind arith, w, value, grind (arith, ne_eqb w old ne), grind (arith, ne_eqb w old ne), refl))
-
-pub turn_again_moves : (old new : ℕ) → starve most_starvers old ≡ Some new → Registers (Some (Registering Lock old)) old new
-turn_again_moves old new may w value v is = dite (ℕ_discrete w old)
-    (λ e. rw (is, e, eq-eqb old old refl) (Step ∷ [], GoingOn ∷ [], (refl, (refl, refl)), refl, refl, new, value, grind (arith, may, eq-eqb old old refl), grind (arith, may, eq-eqb old old refl), refl))
-    (λ ne. rw (is, ne_eqb w old ne) (Step ∷ [], missed Lock w ∷ [], (refl, (refl, refl)), refl, grind arith, w, value, grind (arith, ne_eqb w old ne), grind (arith, ne_eqb w old ne), refl))
-
--- A starver
-
--- the only one makes the two steps of its call at once; beside others `try_lock_fair` is refused, and its other calls have begun
-abbrev Alone : FairCall → Type 0
-Alone c = MovesTo (Some Starving) (λ n. either (n == 2) 1 n) (alone_to c) (alone_by c)
-
-pub alone_moves : Alone StarverTryLockFair
-alone_moves w value v is = dite (ℕ_discrete w 2)
-    (λ e. rw (is, e) (Begin StarverTryLockFair ∷ Step ∷ Step ∷ [], Begun ∷ GoingOn ∷ Answered Granted None ∷ [], (refl, (refl, refl)), refl, refl, 1, value, refl, refl, refl))
-    (λ ne. rw (is, ne_eqb w 2 ne) (Begin StarverTryLockFair ∷ Step ∷ [], Begun ∷ Answered Refused None ∷ [], (refl, (refl, refl)), refl, refl, w, value, grind (arith, ne_eqb w 2 ne), grind (arith, ne_eqb w 2 ne), refl))
-
-pub try_alone_moves : Alone StarverTryLock
-try_alone_moves w value v is = dite (ℕ_discrete w 2)
-    (λ e. rw (is, e) (Begin StarverTryLock ∷ Step ∷ Step ∷ [], Begun ∷ GoingOn ∷ Answered Granted None ∷ [], (refl, (refl, refl)), refl, refl, 1, value, refl, refl, refl))
-    (λ ne. rw (is, ne_eqb w 2 ne) (Begin StarverTryLock ∷ [], Begun ∷ [], (refl, (refl, refl)), refl, refl, w, value, refl, refl, refl))
-
-pub lock_alone_moves : Alone StarverLock
-lock_alone_moves w value v is = dite (ℕ_discrete w 2)
-    (λ e. rw (is, e) (Begin StarverLock ∷ Step ∷ Step ∷ [], Begun ∷ GoingOn ∷ Answered Granted None ∷ [], (refl, (refl, refl)), refl, refl, 1, value, refl, refl, refl))
-    (λ ne. rw (is, ne_eqb w 2 ne) (Begin StarverLock ∷ [], Begun ∷ [], (refl, (refl, refl)), refl, refl, w, value, refl, refl, refl))
 
 set_clear : (n : ℕ) → n % 2 ≡ 0 → bit_or n 1 ≡ n + 1
 set_clear n even = ap (λ m. bit_or m 1) (let e : n ≡ n / 2 * 2 = omega arith in e) ∙ (or_shifted (n / 2) 1 1 (omega arith) ∙ (let e : n / 2 * 2 + 1 ≡ n + 1 = omega arith in e))
@@ -140,42 +35,156 @@ set_is n = dite (ℕ_discrete (n % 2) 0)
 words_set : (w : ℕ) → words_of (if w % 2 == 0 then w + 1 else w) ≡ words_of (bit_or w 1)
 words_set w = ap words_of (sym (set_is w))
 
-abbrev Sets : FairCall → Type 0
-Sets c = MovesTo (Some (Setting c)) (λ n. bit_or n 1) (set_by c) (sets_by c)
-
-pub try_set_moves : Sets StarverTryLock
-try_set_moves w value v is = rw is (
-  Step ∷ [],
-  (if w % 2 == 0 then GoingOn else Answered Refused None) ∷ [],
-  (refl, (refl, refl)),
-  refl,
-  grind arith,
-  if w % 2 == 0 then w + 1 else w,
-  value,
-  grind arith,
-  grind arith,
-  words_set w,
-)
-
-pub lock_set_moves : Sets Lock
-lock_set_moves w value v is = rw is (Step ∷ [], (if w % 2 == 0 then GoingOn else GoingOn) ∷ [], (refl, (refl, refl)), refl, grind arith, if w % 2 == 0 then w + 1 else w, value, grind arith, grind arith, words_set w)
-
-pub starver_set_moves : Sets StarverLock
-starver_set_moves w value v is = rw is (Step ∷ [], (if w % 2 == 0 then GoingOn else GoingOn) ∷ [], (refl, (refl, refl)), refl, grind arith, if w % 2 == 0 then w + 1 else w, value, grind arith, grind arith, words_set w)
-
-pub await_moves : (c : FairCall) → MovesTo (Some (Awaiting c)) (λ n. n) (awaited_by (Some (Awaiting c))) (awaits_by (Some (Awaiting c)))
-await_moves c w value v is = rw is (Step ∷ [], GoingOn ∷ [], (refl, (refl, refl)), refl, refl, w, value, grind arith, grind arith, refl)
-
--- A subtraction leaves no number below 0: the word counts whoever makes it
+-- A subtraction leaves no number below 0: the word counts the party that makes it
 
 abbrev pub Takes : ℕ → ℕ → Type 0
 Takes by n = (n + (2 ^ 64 - by)) % 2 ^ 64 ≡ n - by
 
-pub unregister_moves : (c : FairCall) → Moves (Some (HoldingStarving c)) (λ n. (n + (2 ^ 64 - 2)) % 2 ^ 64) (λ n v. (v ≡ Served) × Takes 2 n) (served_by (Some (HoldingStarving c)))
-unregister_moves c w value v is = rw is.0 (Step ∷ [], Answered Granted None ∷ [], (refl, (refl, refl)), refl, refl, w - 2, value, refl, refl, ap words_of (sym is.1))
+-- Of a lock that opened with this value
+module _ {T : Type 0} (v₀ : T) where
+  abbrev pub Moves : Option View → (ℕ → ℕ) → (ℕ → View → Type 0) → Says T → Type 0
+  Moves view f = AreMoves (model v₀) seat_of words_of view (on_first f) first
 
-pub give_up_moves : Moves (Some Starving) (λ n. (n + (2 ^ 64 - 2)) % 2 ^ 64) (λ n v. (v ≡ Idle) × Takes 2 n) (ends_by StarverDrop)
-give_up_moves w value v is = rw is.0 (Begin StarverDrop ∷ Step ∷ [], Begun ∷ Answered Done None ∷ [], (refl, (refl, refl)), refl, refl, w - 2, value, refl, refl, ap words_of (sym is.1))
+  -- of a step that leads here, by the number found
+  abbrev pub MovesTo : Option View → (ℕ → ℕ) → (ℕ → View) → Says T → Type 0
+  MovesTo view f to = Moves view f (λ n v. v ≡ to n)
 
-pub release_moves : (u : View) → seat_of u ≡ seat.Holding Write → Moves (Some u) (λ n. (n + (2 ^ 64 - 1)) % 2 ^ 64) (λ n v. (v ≡ Idle) × Takes 1 n) (ends_by Release)
-release_moves u holds w value v is = rw (is.0, holds) (Begin Release ∷ Step ∷ [], Begun ∷ Answered Done None ∷ [], (refl, (refl, refl)), refl, refl, w - 1, value, refl, refl, ap words_of (sym is.1))
+  -- A newcomer
+
+  pub load_moves : (view : Option View) → IsOut view → MovesTo view (λ n. n) (λ n. Idle) looks_by
+  load_moves None out w value v is = rw is (Begin IsLocked ∷ Step ∷ [], Begun ∷ Answered (Is (is_set w)) None ∷ [], (refl, (refl, refl)), refl, refl, w, value, refl, refl, refl)
+  load_moves (Some Idle) out w value v is = rw is (Begin IsLocked ∷ Step ∷ [], Begun ∷ Answered (Is (is_set w)) None ∷ [], (refl, (refl, refl)), refl, refl, w, value, refl, refl, refl)
+  load_moves (Some _) out w value v is = absurd out
+
+  abbrev Attempts : FairCall → Option View → Type 0
+  Attempts c view = MovesTo view (λ n. either (n == 0) 1 n) (λ n. if n == 0 then Holding else Idle) (tries_by c)
+
+  pub attempt_moves : (view : Option View) → IsOut view → Attempts TryLock view
+  attempt_moves None out w value v is =
+      rw is (Begin TryLock ∷ Step ∷ [], Begun ∷ Answered (if w == 0 then Granted else Refused) None ∷ [], (refl, (refl, refl)), refl, refl, either (w == 0) 1 w, value, grind arith, grind arith, refl)
+  attempt_moves (Some Idle) out w value v is =
+      rw is (Begin TryLock ∷ Step ∷ [], Begun ∷ Answered (if w == 0 then Granted else Refused) None ∷ [], (refl, (refl, refl)), refl, refl, either (w == 0) 1 w, value, grind arith, grind arith, refl)
+  attempt_moves (Some _) out w value v is = absurd out
+
+  pub attempt_to_know_moves : (view : Option View) → IsOut view → Attempts TryLockStarver view
+  attempt_to_know_moves None out w value v is =
+      rw is (Begin TryLockStarver ∷ Step ∷ [], Begun ∷ Answered (if w == 0 then Granted else refusal TryLockStarver w) None ∷ [], (refl, (refl, refl)), refl, refl, either (w == 0) 1 w, value, grind arith, grind arith, refl)
+  attempt_to_know_moves (Some Idle) out w value v is =
+      rw is (Begin TryLockStarver ∷ Step ∷ [], Begun ∷ Answered (if w == 0 then Granted else refusal TryLockStarver w) None ∷ [], (refl, (refl, refl)), refl, refl, either (w == 0) 1 w, value, grind arith, grind arith, refl)
+  attempt_to_know_moves (Some _) out w value v is = absurd out
+
+  pub try_moves : (n : ℕ) (view : Option View) → MayTry n view → MovesTo view (λ n. either (n == 0) 1 n) (tried view) (tried_by view)
+  try_moves n None may w value v is =
+      rw is (Begin Lock ∷ Step ∷ [], Begun ∷ (if w == 0 then Answered Granted None else GoingOn) ∷ [], (refl, (refl, refl)), refl, grind arith, either (w == 0) 1 w, value, grind arith, grind arith, refl)
+  try_moves n (Some Idle) may w value v is =
+      rw is (Begin Lock ∷ Step ∷ [], Begun ∷ (if w == 0 then Answered Granted None else GoingOn) ∷ [], (refl, (refl, refl)), refl, grind arith, either (w == 0) 1 w, value, grind arith, grind arith, refl)
+  try_moves n (Some (Trying m)) may w value v is =
+      rw is (Step ∷ [], (if w == 0 then Answered Granted None else GoingOn) ∷ [], (refl, (refl, refl)), refl, grind arith, either (w == 0) 1 w, value, grind arith, grind arith, refl)
+  try_moves n (Some _) may w value v is = absurd may
+
+  pub look_moves : (n : ℕ) → MovesTo (Some (Looking n)) (λ n. n) (looked (Some (Looking n))) (looked_by (Some (Looking n)))
+  look_moves n w value v is = rw is (Step ∷ [], GoingOn ∷ [], (refl, (refl, refl)), refl, refl, w, value, grind arith, grind arith, refl)
+
+  -- A party that registers: its first exchange, of 0, is the load and the exchange of the model where it wins, and the load where it loses
+
+  -- what the model's load comes to, or its exchange that loses
+  abbrev missed : FairCall → ℕ → Ending T
+  missed c w = if is_some (starve most_starvers w) then GoingOn else no_room_end c
+
+  abbrev Registers : Option View → ℕ → ℕ → Type 0
+  Registers view old new = MovesTo view (λ n. either (n == old) new n) (registered_by view old) (registers_by view old)
+
+  abbrev First : Option View → Type 0
+  First view = Registers view 0 2
+
+  pub starve_moves : (view : Option View) → IsOut view → First view
+  starve_moves None out w value v is = dite (ℕ_discrete w 0)
+      (λ e. rw (is, e) (Begin Starve ∷ Step ∷ Step ∷ [], Begun ∷ GoingOn ∷ Answered Granted None ∷ [], (refl, (refl, refl)), refl, refl, 2, value, refl, refl, refl))
+      (λ ne. rw (is, ne_eqb w 0 ne) (Begin Starve ∷ Step ∷ [], Begun ∷ missed Starve w ∷ [], (refl, (refl, refl)), refl, grind arith, w, value, grind (arith, ne_eqb w 0 ne), grind arith, refl))
+  starve_moves (Some Idle) out w value v is = dite (ℕ_discrete w 0)
+      (λ e. rw (is, e) (Begin Starve ∷ Step ∷ Step ∷ [], Begun ∷ GoingOn ∷ Answered Granted None ∷ [], (refl, (refl, refl)), refl, refl, 2, value, refl, refl, refl))
+      (λ ne. rw (is, ne_eqb w 0 ne) (Begin Starve ∷ Step ∷ [], Begun ∷ missed Starve w ∷ [], (refl, (refl, refl)), refl, grind arith, w, value, grind (arith, ne_eqb w 0 ne), grind arith, refl))
+  starve_moves (Some _) out w value v is = absurd out
+
+  pub turn_moves : First (Some Loading)
+  turn_moves w value v is = dite (ℕ_discrete w 0)
+      (λ e. rw (is, e) (Step ∷ Step ∷ [], GoingOn ∷ GoingOn ∷ [], (refl, (refl, refl)), refl, refl, 2, value, refl, refl, refl))
+      (λ ne. rw (is, ne_eqb w 0 ne) (Step ∷ [], missed Lock w ∷ [], (refl, (refl, refl)), refl, grind arith, w, value, grind (arith, ne_eqb w 0 ne), grind arith, refl))
+
+  pub again_moves : (old new : ℕ) → starve most_starvers old ≡ Some new → Registers (Some (Registering Starve old)) old new
+  again_moves old new may w value v is = dite (ℕ_discrete w old)
+      (λ e. rw (is, e, eq-eqb old old refl) (Step ∷ [], Answered Granted None ∷ [], (refl, (refl, refl)), refl, refl, new, value, grind (arith, may, eq-eqb old old refl), grind (arith, may, eq-eqb old old refl), refl))
+      (λ ne. rw (is, ne_eqb w old ne) (Step ∷ [], missed Starve w ∷ [], (refl, (refl, refl)), refl, grind arith, w, value, grind (arith, ne_eqb w old ne), grind (arith, ne_eqb w old ne), refl))
+
+  pub turn_again_moves : (old new : ℕ) → starve most_starvers old ≡ Some new → Registers (Some (Registering Lock old)) old new
+  turn_again_moves old new may w value v is = dite (ℕ_discrete w old)
+      (λ e. rw (is, e, eq-eqb old old refl) (Step ∷ [], GoingOn ∷ [], (refl, (refl, refl)), refl, refl, new, value, grind (arith, may, eq-eqb old old refl), grind (arith, may, eq-eqb old old refl), refl))
+      (λ ne. rw (is, ne_eqb w old ne) (Step ∷ [], missed Lock w ∷ [], (refl, (refl, refl)), refl, grind arith, w, value, grind (arith, ne_eqb w old ne), grind (arith, ne_eqb w old ne), refl))
+
+  -- A starver
+
+  -- the only one makes the two steps of its call at once; beside others `try_lock_fair` is refused, and its other calls have begun
+  abbrev Alone : FairCall → Type 0
+  Alone c = MovesTo (Some Starving) (λ n. either (n == 2) 1 n) (alone_to c) (alone_by c)
+
+  pub alone_moves : Alone StarverTryLockFair
+  alone_moves w value v is = dite (ℕ_discrete w 2)
+      (λ e. rw (is, e) (Begin StarverTryLockFair ∷ Step ∷ Step ∷ [], Begun ∷ GoingOn ∷ Answered Granted None ∷ [], (refl, (refl, refl)), refl, refl, 1, value, refl, refl, refl))
+      (λ ne. rw (is, ne_eqb w 2 ne) (Begin StarverTryLockFair ∷ Step ∷ [], Begun ∷ Answered Refused None ∷ [], (refl, (refl, refl)), refl, refl, w, value, grind (arith, ne_eqb w 2 ne), grind (arith, ne_eqb w 2 ne), refl))
+
+  pub try_alone_moves : Alone StarverTryLock
+  try_alone_moves w value v is = dite (ℕ_discrete w 2)
+      (λ e. rw (is, e) (Begin StarverTryLock ∷ Step ∷ Step ∷ [], Begun ∷ GoingOn ∷ Answered Granted None ∷ [], (refl, (refl, refl)), refl, refl, 1, value, refl, refl, refl))
+      (λ ne. rw (is, ne_eqb w 2 ne) (Begin StarverTryLock ∷ [], Begun ∷ [], (refl, (refl, refl)), refl, refl, w, value, refl, refl, refl))
+
+  pub lock_alone_moves : Alone StarverLock
+  lock_alone_moves w value v is = dite (ℕ_discrete w 2)
+      (λ e. rw (is, e) (Begin StarverLock ∷ Step ∷ Step ∷ [], Begun ∷ GoingOn ∷ Answered Granted None ∷ [], (refl, (refl, refl)), refl, refl, 1, value, refl, refl, refl))
+      (λ ne. rw (is, ne_eqb w 2 ne) (Begin StarverLock ∷ [], Begun ∷ [], (refl, (refl, refl)), refl, refl, w, value, refl, refl, refl))
+
+  abbrev Sets : FairCall → Type 0
+  Sets c = MovesTo (Some (Setting c)) (λ n. bit_or n 1) (set_by c) (sets_by c)
+
+  pub try_set_moves : Sets StarverTryLock
+  try_set_moves w value v is = rw is (
+    Step ∷ [],
+    (if w % 2 == 0 then GoingOn else Answered Refused None) ∷ [],
+    (refl, (refl, refl)),
+    refl,
+    grind arith,
+    if w % 2 == 0 then w + 1 else w,
+    value,
+    grind arith,
+    grind arith,
+    words_set w,
+  )
+
+  pub lock_set_moves : Sets Lock
+  lock_set_moves w value v is = rw is (Step ∷ [], (if w % 2 == 0 then GoingOn else GoingOn) ∷ [], (refl, (refl, refl)), refl, grind arith, if w % 2 == 0 then w + 1 else w, value, grind arith, grind arith, words_set w)
+
+  pub starver_set_moves : Sets StarverLock
+  starver_set_moves w value v is = rw is (Step ∷ [], (if w % 2 == 0 then GoingOn else GoingOn) ∷ [], (refl, (refl, refl)), refl, grind arith, if w % 2 == 0 then w + 1 else w, value, grind arith, grind arith, words_set w)
+
+  pub await_moves : (c : FairCall) → MovesTo (Some (Awaiting c)) (λ n. n) (awaited_by (Some (Awaiting c))) (awaits_by (Some (Awaiting c)))
+  await_moves c w value v is = rw is (Step ∷ [], GoingOn ∷ [], (refl, (refl, refl)), refl, refl, w, value, grind arith, grind arith, refl)
+
+  pub unregister_moves : (c : FairCall) → Moves (Some (HoldingStarving c)) (λ n. (n + (2 ^ 64 - 2)) % 2 ^ 64) (λ n v. (v ≡ Served) × Takes 2 n) (served_by (Some (HoldingStarving c)))
+  unregister_moves c w value v is = rw is.0 (Step ∷ [], Answered Granted None ∷ [], (refl, (refl, refl)), refl, refl, w - 2, value, refl, refl, ap words_of (sym is.1))
+
+  pub give_up_moves : Moves (Some Starving) (λ n. (n + (2 ^ 64 - 2)) % 2 ^ 64) (λ n v. (v ≡ Idle) × Takes 2 n) gives_up_by
+  give_up_moves w value v is = rw is.0 (Begin StarverDrop ∷ Step ∷ [], Begun ∷ Answered Done None ∷ [], (refl, (refl, refl)), refl, refl, w - 2, value, refl, refl, ap words_of (sym is.1))
+
+  -- the holder writes the value x
+  pub release_moves : (x : T) (u : View) → seat_of u ≡ seat.Holding Write → Moves (Some u) (λ n. (n + (2 ^ 64 - 1)) % 2 ^ 64) (λ n v. (v ≡ Idle) × Takes 1 n) (frees_with (λ y. y ≡ x))
+  release_moves x u holds w value v is = rw (is.0, holds) (
+    move.Write x ∷ Begin Release ∷ Step ∷ [],
+    Written ∷ Begun ∷ Answered Done None ∷ [],
+    (refl, (x, refl, (Begin Release ∷ Step ∷ [], Begun ∷ Answered Done None ∷ [], refl, refl, (refl, refl)))),
+    refl,
+    refl,
+    w - 1,
+    Some x,
+    refl,
+    refl,
+    ap words_of (sym is.1),
+  )

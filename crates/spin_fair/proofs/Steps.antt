@@ -1,5 +1,6 @@
--- The steps of a fair mutex keep its rule: each is the plain step that its step function makes, and moves of the lock's model.
-use Rattle.std.proofs.Common.{◌≡◌, ℕ, ◌+◌, ◌-◌, ◌%◌, ◌^◌, ◌<◌, ◌≤◌, true, false, if◌then◌else◌, List, [], ◌∷◌, length, ◌==◌, Bool, Option, Some, None, refl, sym, ap, ◌∙◌, arith, subst, eq-eqb, ne_eqb, bit_or, length-append, set, inl, inr, unwrap_or, is_some, nat_lt}
+-- The steps of a fair mutex keep its rule. Each is the plain step that its step function makes, and moves of the lock's
+-- model.
+use Rattle.std.proofs.Common.{◌≡◌, ℕ, ◌+◌, ◌-◌, ◌%◌, ◌^◌, ◌<◌, ◌≤◌, true, false, if◌then◌else◌, List, [], ◌∷◌, map, length, ◌==◌, Bool, Option, Some, None, refl, sym, ap, ◌∙◌, arith, subst, eq-eqb, ne_eqb, bit_or, length-append, set, inl, inr, unwrap_or, is_some, nat_lt}
 use Rattle.std.proofs.lemmas.List.Sums.{sum_by-le-sum_by}
 use Rattle.std.specs.Prelude.{slice_get}
 use lib.Seq.{set-set}
@@ -13,9 +14,11 @@ use Rattle.spin_step.specs.Steps.{Decides}
 use Rattle.spin_step.proofs.Holders.{is_holder-from_entries, is_empty-none, length-without_holder}
 use Rattle.spin_step.proofs.Starvers.{is_starver-from_entries, length-without_starver}
 use Rattle.spin_step_more.specs.Starvers.{most_starvers, is_set, starve, lock_starved}
-use Rattle.spin_core.specs.Cell.{Ways, writes, reads, alone, no_fact, reading, writing as writer, readers_of, writers_of, Limits, Meets, Allows, Rests, Moved, words}
+use Rattle.spin_core.specs.Cell.{Use, writes, reads, off, alone, use_of, reading, writing as writer, readers_of, writers_of, Limits, Meets, Allows, Rests, Moved, words}
 use Rattle.spin_core.specs.Own.{Numbered, what}
 use Rattle.spin_core.specs.Traced.{Traces, Watches}
+use Rattle.spin_core.specs.Values.{left, Leaves, last}
+use Rattle.spin_core.specs.declared.tie.Opening.{Opening}
 use Rattle.spin_core.specs.Views.{Knows, HasPart, idle, holds, starves, holds_starving, entries_of, IsLockOf, used_by, no_word}
 use Rattle.spin_core.specs.declared.trace.Trace.{Trace}
 use Rattle.spin_core.specs.declared.trace.Watch.{Watch}
@@ -27,17 +30,20 @@ use Rattle.spin_core.proofs.Owners.{OfHolders, one_holder}
 use Rattle.spin_core.proofs.Plays.{Lock as CellLock, ways, EachOf, Reaches, allows_among, by_step, stays_at, begins}
 use Rattle.spin_core.proofs.Plays as plays
 use Rattle.spin_core.proofs.Ties as tie
+use Rattle.spin_core.proofs.Values.{owed, write_leaves}
 use Rattle.spin_core.proofs.Views.{part_before, part-there, release-own, stop-own, stop_holding-own}
+use Rattle.spin_model.specs.declared.answer.Answer.TheVariants.{Done}
+use Rattle.spin_model.specs.declared.schedule.Move.TheVariants.{Step}
 use Rattle.spin_step_more.specs.declared.fair_calls.FairCall.{FairCall}
 use Rattle.spin_step_more.specs.declared.fair_calls.FairCall.TheVariants.{Lock, TryLock, TryLockStarver, IsLocked, StarverTryLockFair, StarverTryLock, StarverLock, StarverDrop, Release}
 use Rattle.spin_fair.specs.declared.fair.rule.View.{View}
 use Rattle.spin_fair.specs.declared.fair.rule.View.TheVariants.{Idle, Starving, Holding, Served, Trying, Looking, Loading, Registering, Setting, Awaiting, HoldingStarving}
 use Rattle.spin_fair.specs.Fair as fairs
-use Rattle.spin_fair.specs.Fair.{part, use_of_view, use_of_party, seat_of, model, words_of, Says, Ending, Word, IsFair, Told, steps_by, in_call, call_of, IsOut, stands, looks_by, tries_by, alone_by, alone_to, not_alone, ends_by, looks_of, tried, tried_by, looked, looked_by, registered, finds_no_room, goes_for, registered_by, registers_by, Registers, MayRegister, MayTry, finds_flag_set, set_by, sets_by, MaySet, waits, awaits, HoldsStarving, awaited_by, awaits_by, served_by, views_of, newcomer, starver, HoldsAt, StarvesAt}
+use Rattle.spin_fair.specs.Fair.{part, use_of_view, use_of_party, seat_of, model, words_of, OneMove, Says, Ending, Word, IsFair, fair_ways, Told, AreSteps, steps_by, answered, in_call, call_of, IsOut, stands, looks_by, tries_by, alone_by, alone_to, not_alone, gives_up_by, frees_with, frees_by, looks_of, tried, tried_by, looked, looked_by, registered, finds_no_room, goes_for, registered_by, registers_by, Registers, MayRegister, MayTry, finds_flag_set, set_by, sets_by, MaySet, waits, awaits, HoldsStarving, awaited_by, awaits_by, served_by, views_of, newcomer, starver, HoldsAt, StarvesAt}
 use Rattle.spin_fair.proofs.First.{first_after, first_without, marks_within, viewed}
 use Rattle.spin_fair.proofs.Moves.{Moves, Takes, load_moves, attempt_moves, attempt_to_know_moves, try_moves, look_moves, starve_moves, turn_moves, again_moves, turn_again_moves, alone_moves, try_alone_moves, lock_alone_moves, set_is, try_set_moves, lock_set_moves, starver_set_moves, await_moves, unregister_moves, give_up_moves, release_moves}
 
--- there is one holder or none, a holder writes, nobody reads, and each that uses the value holds
+-- There is at most one holder. A holder writes, nobody reads, and each party that uses the value holds.
 facts : (v : View) → OfHolders part v × Writes part (part v) × (reading (use_of_view v) ≡ 0) × (writer (use_of_view v) ≤ writer (used_by part v))
 facts Idle = ((refl, λ p. refl), λ p. refl, refl, omega arith)
 facts _ = ((refl, λ p. refl), λ p. refl, refl, omega arith)
@@ -73,7 +79,7 @@ Leads view f says = Allows Word (ways fair) view f says
 allows : (view : Option View) (f : ℕ → ℕ) (says : ℕ → View → Type 0) → Each view (λ s p. (w : View) × Reaches fair view w s p (f (fair_word s)) tt × says (fair_word s) w) → Leads view f says
 allows view f says makes = allows_among fair view f says (of_each view (λ s p. (w : View) × Reaches fair view w s p (f (fair_word s)) tt × says (fair_word s) w) makes)
 
--- what a party gets by an exchange where it finds the word of which the step function was asked
+-- what a party gets by an exchange if it finds the word given to the step function
 gets_at : (view : Option View) (ask : Ask) (won : View) (lost : ℕ → View) (old new : ℕ) → ((s : Plain) (p : ℕ) → entries_after s (Some (gets p ask)) (entries_of p (part_before part view)) ≡ entries_of p (part won)) → ((s : Plain) → Knows s (part won))
     → ((n : ℕ) → part_before part view ≡ part (lost n)) → ((s : Plain) (n : ℕ) → Knows s (part (lost n))) → Each view (λ s p. fair_word s ≡ old → Decides s (gets p ask) fair_word (Some new))
     → Leads view (λ n. either (n == old) new n) (λ n v. v ≡ (if n == old then won else lost n))
@@ -91,7 +97,7 @@ attempts_plain : (view : Option View) (lost : View) → part_before part view �
 attempts_plain view lost nothing none taken plain =
     gets_at view to_lock_unregistered Holding (λ n. lost) 0 taken (λ s p. rw nothing refl) (λ s. tt) (λ n. nothing ∙ sym none) (λ s n. knows_none s lost) (λ s p room order one has small e. plain s p e)
 
--- it becomes a starver in this call, or goes for the word that it found
+-- it becomes a starver in this call, or tries the word that it found
 part_of_next : (c : FairCall) (n : ℕ) → part (goes_for c n) ≡ idle
 part_of_next c n = at c (is_some (starve most_starvers n))
   where
@@ -114,7 +120,7 @@ registers_plain view nothing word more plain = let c = call_of view in
 less : (n by : ℕ) → 0 < by → by ≤ n → n < words → (n + (2 ^ 64 - by)) % 2 ^ 64 ≡ n - by
 less n by some least small = omega (arith, some, least, small)
 
--- it sets the flag where it finds that clear
+-- it sets the flag if it finds it clear
 sets_plain : (v won lost : View) → part v ≡ starves → part won ≡ holds_starving → part lost ≡ starves → Leads (Some v) (λ n. bit_or n 1) (λ n u. u ≡ (if n % 2 == 0 then won else lost))
 sets_plain v won lost is wins loses = allows (Some v) (λ n. bit_or n 1) (λ n u. u ≡ (if n % 2 == 0 then won else lost)) (λ s p room order one has small.
     let n : ℕ = fair_word s in
@@ -182,7 +188,7 @@ frees_plain v holder = allows (Some v) (λ n. (n + (2 ^ 64 - 1)) % 2 ^ 64) (λ n
       (refl, is),
     ))
 
--- An addition does not see the word
+-- An addition does not depend on the word
 
 within : (s : Plain) → s.cap ≡ most_starvers → IsInOrder s → OneHolds s → fair_word s < words
 within s room order one = omega (arith, room, order.starvers_fit, one)
@@ -212,7 +218,7 @@ sets_as_step word = set_is word ∙ by_parity (word % 2 == 0)
     by_parity true = refl
     by_parity _ = refl
 
--- Starvers come first
+-- Starvers go first
 
 starves_in : (p : ℕ) (v : View) → 0 < starver v → (entries_of p (part v)).starvers ≡ p ∷ []
 starves_in p Starving some = refl
@@ -222,15 +228,15 @@ starves_in p (HoldingStarving c) some = refl
 starves_in p Idle some = absurd (omega (arith, some))
 starves_in p _ some = absurd (omega (arith, some))
 
--- where the word is 0 nobody starves
+-- if the word is 0 nobody starves
 nobody_starves : (word : ℕ) (second : Unit {0}) (vs : List (Numbered View)) → Word word second (views_of vs) → word ≡ 0 → (j : ℕ) (u : Numbered View) → slice_get vs j ≡ Some u → 0 < starver u.0 → ⊥
 nobody_starves word second vs rule free j u at some =
     let least = starver_goes word second (views_of vs) j rule (ap (λ e. e.starvers) ((rule.3 j).0 ∙ ap (entries_of j) (part-there part j u.0 (views_of vs) (viewed vs j u at))) ∙ starves_in j u.0 some) in
     omega (arith, least.0, free)
 
--- a step makes no party a newcomer that holds, or finds the word 0
-abbrev Frees : Says → Type 0
-Frees says = (own : List fairs.OneMove) (outs : List Ending) (n : ℕ) (v : View) → says own outs n v → v ≡ Holding → n ≡ 0
+-- a step makes no party a newcomer that holds, unless it finds the word 0
+abbrev Frees : {T : Type 0} → Says T → Type 0
+Frees {T} says = (own : List (OneMove T)) (outs : List (Ending T)) (n : ℕ) (v : View) → says own outs n v → v ≡ Holding → n ≡ 0
 
 never : (n : ℕ) (v w : View) → v ≡ w → newcomer w ≡ 0 → v ≡ Holding → n ≡ 0
 never n v w is other got = absurd (omega (arith, other, ap newcomer (sym is ∙ got)))
@@ -238,7 +244,7 @@ never n v w is other got = absurd (omega (arith, other, ap newcomer (sym is ∙ 
 by_try : (n : ℕ) (v lost : View) → newcomer lost ≡ 0 → v ≡ (if n == 0 then Holding else lost) → v ≡ Holding → n ≡ 0
 by_try n v lost other is got = dite (ℕ_discrete n 0) (λ e. e) (λ ne. never n v lost (is ∙ ap (λ b. if b then Holding else lost) (ne_eqb n 0 ne)) other got)
 
-module _ (goes_on : Bool) (c : FairCall) (ends : ℕ → List Ending) where
+module _ {T : Type 0} (goes_on : Bool) (c : FairCall) (ends : ℕ → List (Ending T)) where
   frees_by_try : (lost : View) → newcomer lost ≡ 0 → Frees (steps_by goes_on c ends (λ n. if n == 0 then Holding else lost))
   frees_by_try lost other own outs n v says got = by_try n v lost other says.0 got
 
@@ -290,20 +296,17 @@ none_alone c n = at c (n == 2)
 
 -- Each step keeps the rule, and appends its moves
 
-abbrev pub own_ways : Ways (Unit {0}) (Numbered View) (Trace fairs.Done (Unit {0}))
-own_ways = (alone, use_of_party, no_fact)
-
 out_has_none : (view : Option View) → IsOut view → part_before part view ≡ idle
 out_has_none None out = refl
 out_has_none (Some Idle) out = refl
 out_has_none (Some _) out = absurd out
 
--- it comes, or made its last call to the end
+-- the party is new, or its last call has ended
 pub is_out : (view : Option (Numbered View)) → stands view ≡ Idle → IsOut (what view)
 is_out None is = tt
 is_out (Some v) is = subst (λ w. IsOut (Some w)) (sym is) tt
 
--- who may try has nothing, and was counted
+-- a party that may try has nothing, and its looks were counted
 may_try : (n : ℕ) (view : Option View) → MayTry n view → (part_before part view ≡ idle) × (n ≡ looks_of view)
 may_try n None may = (refl, may)
 may_try n (Some Idle) may = (refl, may)
@@ -320,148 +323,230 @@ out_may_register None out = tt
 out_may_register (Some Idle) out = tt
 out_may_register (Some _) out = absurd out
 
--- what a party needs that registers
-abbrev Ready : Option View → ℕ → ℕ → Type 0
-Ready now word more = (part_before part now ≡ idle) × Moves now (λ n. either (n == word) more n) (λ n v. v ≡ registered_by now word n) (registers_by now word)
+-- such parties do not use the value, nor does a starver before it is served
 
-module _ (name : ℕ) where
-  abbrev Keeps : Option (Numbered View) → (ℕ → ℕ) → Says → Type 0
-  Keeps view f says = Traces (IsFair name) own_ways view None f (Told says view)
+pub out_off : (view : Option View) → IsOut view → use_of use_of_view view ≡ off
+out_off None out = refl
+out_off (Some Idle) out = refl
+out_off (Some _) out = absurd out
 
-  keeps : (view : Option (Numbered View)) (f : ℕ → ℕ) (leads : ℕ → View → Type 0) (says : Says) → Frees says → Moves (what view) f leads says → Leads (what view) f leads → Keeps view f says
-  keeps view f leads says frees moves allows id n t vs meets at small =
-      let made = tie.traces model seat_of words_of Word name (Unit {0}) alone use_of_view no_fact view None f leads says moves (λ own outs n u said t word p. tt) allows id n t vs ((meets.0.0, meets.0.1.0, meets.0.2), meets.1) at small in
-      let w : Numbered View = made.0 in let told : Told says view t.entries made.1 n w = made.3 in
-      let order = first_after id view vs w (length t.entries) (marks_within t.entries (n, t.word) vs meets.0.2) (omega (arith, told.3, length-append t.entries made.1))
+pub try_off : (n : ℕ) (view : Option View) → MayTry n view → use_of use_of_view view ≡ off
+try_off n None may = refl
+try_off n (Some Idle) may = refl
+try_off n (Some (Trying m)) may = refl
+try_off n (Some _) may = absurd may
+
+pub set_off : (view : Option View) → MaySet view → use_of use_of_view view ≡ off
+set_off (Some (Setting c)) may = refl
+set_off (Some _) may = absurd may
+set_off None may = absurd may
+
+pub await_off : (view : Option View) → awaits view ≡ true → use_of use_of_view view ≡ off
+await_off (Some (Awaiting c)) is = refl
+await_off (Some _) is = absurd cc
+await_off None is = absurd cc
+
+pub starving_off : (view : Option View) → HoldsStarving view → use_of use_of_view view ≡ off
+starving_off (Some (HoldingStarving c)) held = refl
+starving_off (Some _) held = absurd held
+starving_off None held = absurd held
+
+goes_off : (c : FairCall) (n : ℕ) → use_of_view (goes_for c n) ≡ off
+goes_off c n = at c (is_some (starve most_starvers n))
+  where
+    at : (c : FairCall) (b : Bool) → use_of_view (if b then Registering c n else finds_no_room c) ≡ off
+    at c true = refl
+    at Lock false = refl
+    at _ false = refl
+
+register_off : (first : Option View) → MayRegister first → use_of use_of_view first ≡ off
+register_off None may = refl
+register_off (Some Idle) may = refl
+register_off (Some Loading) may = refl
+register_off (Some _) may = absurd may
+
+pub registers_off : (first now : Option View) (word : ℕ) → MayRegister first → Registers first word now → use_of use_of_view now ≡ off
+registers_off first now word may (inl at) = ap (use_of use_of_view) at.0 ∙ register_off first may
+registers_off first now word may (inr at) = ap (use_of use_of_view) at ∙ goes_off (call_of first) word
+
+-- steps write nothing
+steps_leave : {T : Type 0} (ends : List (Ending T)) (v : T) → left {C = FairCall} (map (λ _. Step) ends) v ≡ v
+steps_leave [] v = refl
+steps_leave (e ∷ ends) v = steps_leave ends v
+
+are_steps_leave : {T : Type 0} (goes_on : Bool) (c : FairCall) (ends : List (Ending T)) (own : List (OneMove T)) (outs : List (Ending T)) → AreSteps goes_on c ends own outs → (v : T) → left own v ≡ v
+are_steps_leave true c ends own outs are v = ap (λ o. left o v) are.0 ∙ steps_leave ends v
+are_steps_leave false c ends own outs are v = ap (λ o. left o v) are.0 ∙ steps_leave ends v
+
+-- what a party needs to register
+abbrev Ready : {T : Type 0} → T → Option View → ℕ → ℕ → Type 0
+Ready v₀ now word more = (part_before part now ≡ idle) × Moves v₀ now (λ n. either (n == word) more n) (λ n v. v ≡ registered_by now word n) (registers_by now word)
+
+module _ {T : Type 0} (opening : Opening T) where
+  abbrev v₀ : T
+  v₀ = opening.value
+
+  abbrev Keeps : Option (Numbered View) → Option T → (ℕ → ℕ) → Says T → Type 0
+  Keeps view shown f says = Traces (IsFair opening) (fair_ways opening) view shown f (Told v₀ says view)
+
+  -- moves that keep what is known of the value, or leave it
+  abbrev Leaving : Option View → Option T → Says T → Type 0
+  Leaving view shown says = (own : List (OneMove T)) (outs : List (Ending T)) (n : ℕ) (u : View) → says own outs n u → Leaves (use_of use_of_view view) (use_of_view u) shown own
+
+  -- steps of a party that does not use the value
+  unused : (view : Option View) (shown : Option T) → use_of use_of_view view ≡ off → (goes_on : Bool) (c : FairCall) (ends : ℕ → List (Ending T)) (to : ℕ → View) → Leaving view shown (steps_by goes_on c ends to)
+  unused view shown is goes_on c ends to own outs n u said = subst (λ z. Leaves z (use_of_view u) shown own) (sym is) (are_steps_leave goes_on c (ends n) own outs said.1)
+
+  keeps : (view : Option (Numbered View)) (shown : Option T) (f : ℕ → ℕ) (leads : ℕ → View → Type 0) (says : Says T) → Frees says → Leaving (what view) shown says → Moves v₀ (what view) f leads says → Leads (what view) f leads
+      → Keeps view shown f says
+  keeps view shown f leads says frees leaves moves allows id n t vs meets at small =
+      let made = tie.traces (model v₀) seat_of words_of Word opening.name T alone use_of_view (last opening) view shown f leads says moves
+      (λ own outs n u said t word p. owed opening own t word p (use_of use_of_view (what view)) (use_of_view u) shown (leaves own outs n u said)) allows id n t vs ((meets.0.0, meets.0.1.0, meets.0.2), meets.1) at small in
+      let w : Numbered View = made.0 in let told : Told v₀ says view t.entries made.1 n w = made.3 in let kept = made.2.1 in
+      let order = first_after id view vs w (length t.entries) (marks_within v₀ t.entries (n, t.word) vs meets.0.2) (omega (arith, told.3, length-append t.entries made.1))
       (λ got. nobody_starves n t.word vs meets.0.1.0 (frees told.0 told.1 n w.0 told.6 got)) meets.0.1.1 in
-      (w, made.1, ((made.2.0.0, (made.2.0.1, order), made.2.0.2), made.2.1), told)
+      (w, made.1, (made.2.0, ((kept.0.0, (kept.0.1, order), kept.0.2), kept.1)), told)
 
-  pub starts : (t : Trace fairs.Done (Unit {0})) → t.name ≡ name → t.entries ≡ [] → Meets (IsFair name) own_ways 0 t []
+  pub starts : (t : Trace (fairs.Done T) (Unit {0})) → t.name ≡ opening.name → t.entries ≡ [] → Meets (IsFair opening) (fair_ways opening) 0 t []
   starts t named empty =
-      let meets = tie.opens model seat_of words_of Word name (Unit {0}) alone use_of_view no_fact 0 t named empty refl (begins fair 0 0 0 tt (omega arith) refl refl) in
+      let meets = tie.opens (model v₀) seat_of words_of Word opening.name T alone use_of_view (last opening) 0 t named empty refl (begins fair 0 0 0 tt (omega arith) refl refl) in
       ((meets.0.0, (meets.0.1, λ i j v w at. absurd (cc (at))), meets.0.2), meets.1)
 
-  pub looks : (view : Option (Numbered View)) → IsOut (what view) → Keeps view (λ n. n) looks_by
-  looks view out = let now = what view in
-      keeps view (λ n. n) (λ n v. v ≡ Idle) looks_by (frees_none false IsLocked _ (λ n. Idle) (λ n. refl)) (load_moves now out) (stays_at fair now (λ n. Idle) (λ n. out_has_none now out) (λ s n. tt))
+  pub looks : (view : Option (Numbered View)) (shown : Option T) → IsOut (what view) → Keeps view shown (λ n. n) looks_by
+  looks view shown out = let now = what view in
+      keeps view shown (λ n. n) (λ n v. v ≡ Idle) looks_by (frees_none false IsLocked _ (λ n. Idle) (λ n. refl)) (unused now shown (out_off now out) false IsLocked _ (λ n. Idle)) (load_moves v₀ now out) (stays_at fair now (λ n. Idle) (λ n. out_has_none now out) (λ s n. tt))
 
-  -- the step function's own lemma says that the lock is free where it grants
+  -- the lemma of the step function says that the lock is free if it grants
   abbrev Attempts : FairCall → Type 0
-  Attempts c = (view : Option (Numbered View)) → IsOut (what view) → (taken : ℕ) → taken ≡ 1 → ((s : Plain) (p : ℕ) → fair_word s ≡ 0 → Decides s (gets p to_lock_unregistered) fair_word (Some taken)) → Keeps view (λ n. either (n == 0) taken n) (tries_by c)
+  Attempts c = (view : Option (Numbered View)) (shown : Option T) → IsOut (what view) → (taken : ℕ) → taken ≡ 1 → ((s : Plain) (p : ℕ) → fair_word s ≡ 0 → Decides s (gets p to_lock_unregistered) fair_word (Some taken)) → Keeps view shown (λ n. either (n == 0) taken n) (tries_by c)
 
-  attempts_by : (c : FairCall) → ((view : Option View) → IsOut view → Moves view (λ n. either (n == 0) 1 n) (λ n v. v ≡ (if n == 0 then Holding else Idle)) (tries_by c)) → Attempts c
-  attempts_by c moves view out taken one plain = let now = what view in
-      keeps view (λ n. either (n == 0) taken n) (λ n v. v ≡ (if n == 0 then Holding else Idle)) (tries_by c) (frees_by_try false c _ Idle refl) (rw one (moves now out)) (attempts_plain now Idle (out_has_none now out) refl taken plain)
+  attempts_by : (c : FairCall) → ((view : Option View) → IsOut view → Moves v₀ view (λ n. either (n == 0) 1 n) (λ n v. v ≡ (if n == 0 then Holding else Idle)) (tries_by c)) → Attempts c
+  attempts_by c moves view shown out taken one plain = let now = what view in
+      keeps view shown (λ n. either (n == 0) taken n) (λ n v. v ≡ (if n == 0 then Holding else Idle)) (tries_by c) (frees_by_try false c _ Idle refl)
+      (unused now shown (out_off now out) false c _ (λ n. if n == 0 then Holding else Idle)) (rw one (moves now out)) (attempts_plain now Idle (out_has_none now out) refl taken plain)
 
   pub attempts : Attempts TryLock
-  attempts = attempts_by TryLock attempt_moves
+  attempts = attempts_by TryLock (attempt_moves v₀)
 
   pub attempts_to_know : Attempts TryLockStarver
-  attempts_to_know = attempts_by TryLockStarver attempt_to_know_moves
+  attempts_to_know = attempts_by TryLockStarver (attempt_to_know_moves v₀)
 
-  pub tries : (n : ℕ) (view : Option (Numbered View)) → MayTry n (what view) → (taken : ℕ) → taken ≡ 1 → ((s : Plain) (p : ℕ) → fair_word s ≡ 0 → Decides s (gets p to_lock_unregistered) fair_word (Some taken))
-      → Keeps view (λ n. either (n == 0) taken n) (tried_by (what view))
-  tries n view may taken one plain = let now = what view in let lost : View = Looking (looks_of now) in
-      keeps view (λ n. either (n == 0) taken n) (λ n v. v ≡ tried now n) (tried_by now) (frees_by_try (in_call now) Lock _ lost refl) (rw one (try_moves n now may)) (attempts_plain now lost (may_try n now may).0 refl taken plain)
+  pub tries : (n : ℕ) (view : Option (Numbered View)) (shown : Option T) → MayTry n (what view) → (taken : ℕ) → taken ≡ 1 → ((s : Plain) (p : ℕ) → fair_word s ≡ 0 → Decides s (gets p to_lock_unregistered) fair_word (Some taken))
+      → Keeps view shown (λ n. either (n == 0) taken n) (tried_by (what view))
+  tries n view shown may taken one plain = let now = what view in let lost : View = Looking (looks_of now) in
+      keeps view shown (λ n. either (n == 0) taken n) (λ n v. v ≡ tried now n) (tried_by now) (frees_by_try (in_call now) Lock _ lost refl) (unused now shown (try_off n now may) (in_call now) Lock _ (tried now)) (rw one (try_moves v₀ n now may)) (attempts_plain now lost (may_try n now may).0 refl taken plain)
 
-  pub looks_on : (n : ℕ) (view : Option (Numbered View)) → what view ≡ Some (Looking n) → Keeps view (λ n. n) (looked_by (what view))
-  looks_on n view is = keeps view (λ n. n) (λ n v. v ≡ looked (what view) n) (looked_by (what view)) (frees_none true Lock _ (looked (what view)) (none_looked (what view))) (rw is (look_moves n)) (rw is (stays_at fair (Some (Looking n)) (looked (Some (Looking n))) (λ k. at (is_set k) (nat_lt n fairs.patience)) (λ s k. knows_none s (looked (Some (Looking n)) k))))
+  pub looks_on : (n : ℕ) (view : Option (Numbered View)) (shown : Option T) → what view ≡ Some (Looking n) → Keeps view shown (λ n. n) (looked_by (what view))
+  looks_on n view shown is = let now = what view in
+      keeps view shown (λ n. n) (λ n v. v ≡ looked now n) (looked_by now) (frees_none true Lock _ (looked now) (none_looked now)) (unused now shown (ap (use_of use_of_view) is) true Lock _ (looked now)) (rw is (look_moves v₀ n))
+      (rw is (stays_at fair (Some (Looking n)) (looked (Some (Looking n))) (λ k. at (is_set k) (nat_lt n fairs.patience)) (λ s k. knows_none s (looked (Some (Looking n)) k))))
     where
       at : (b c : Bool) → idle ≡ part (if b then (if c then Looking (n + 1) else Loading) else Trying n)
       at true true = refl
       at true _ = refl
       at _ c = refl
 
-  pub registers : (first : Option View) (view : Option (Numbered View)) (word more : ℕ) → MayRegister first → Registers first word (what view) → Some more ≡ starve most_starvers word
-      → ((s : Plain) (p : ℕ) → OneHolds s → s.cap ≡ most_starvers → fair_word s ≡ word → Decides s (gets p to_starve) fair_word (Some more)) → Keeps view (λ n. either (n == word) more n) (registers_by (what view) word)
-  registers first view word more may from room plain = let now = what view in let ready = ready_of first now word more may from room in
-      keeps view (λ n. either (n == word) more n) (λ n v. v ≡ registered_by now word n) (registers_by now word) (frees_none (in_call now) (call_of now) _ (registered_by now word) (none_registered now word)) ready.1 (registers_plain now ready.0 word more plain)
+  pub registers : (first : Option View) (view : Option (Numbered View)) (shown : Option T) (word more : ℕ) → MayRegister first → Registers first word (what view) → Some more ≡ starve most_starvers word
+      → ((s : Plain) (p : ℕ) → OneHolds s → s.cap ≡ most_starvers → fair_word s ≡ word → Decides s (gets p to_starve) fair_word (Some more)) → Keeps view shown (λ n. either (n == word) more n) (registers_by (what view) word)
+  registers first view shown word more may from room plain = let now = what view in let ready = ready_of first now word more may from room in
+      keeps view shown (λ n. either (n == word) more n) (λ n v. v ≡ registered_by now word n) (registers_by now word) (frees_none (in_call now) (call_of now) _ (registered_by now word) (none_registered now word))
+      (unused now shown (registers_off first now word may from) (in_call now) (call_of now) _ (registered_by now word)) ready.1 (registers_plain now ready.0 word more plain)
     where
-      ready_of : (first now : Option View) (word more : ℕ) → MayRegister first → Registers first word now → Some more ≡ starve most_starvers word → Ready now word more
-      ready_of None now word more may (inl at) room = rw (at.0, at.1) (refl, (let two : more ≡ 2 = cc (room, at.1) in rw two (starve_moves None tt)))
-      ready_of (Some Idle) now word more may (inl at) room = rw (at.0, at.1) (refl, (let two : more ≡ 2 = cc (room, at.1) in rw two (starve_moves (Some Idle) tt)))
-      ready_of (Some Loading) now word more may (inl at) room = rw (at.0, at.1) (refl, (let two : more ≡ 2 = cc (room, at.1) in rw two turn_moves))
-      ready_of None now word more may (inr at) room = rw (at, sym room) (refl, again_moves word more (sym room))
-      ready_of (Some Idle) now word more may (inr at) room = rw (at, sym room) (refl, again_moves word more (sym room))
-      ready_of (Some Loading) now word more may (inr at) room = rw (at, sym room) (refl, turn_again_moves word more (sym room))
+      ready_of : (first now : Option View) (word more : ℕ) → MayRegister first → Registers first word now → Some more ≡ starve most_starvers word → Ready v₀ now word more
+      ready_of None now word more may (inl at) room = rw (at.0, at.1) (refl, (let two : more ≡ 2 = cc (room, at.1) in rw two (starve_moves v₀ None tt)))
+      ready_of (Some Idle) now word more may (inl at) room = rw (at.0, at.1) (refl, (let two : more ≡ 2 = cc (room, at.1) in rw two (starve_moves v₀ (Some Idle) tt)))
+      ready_of (Some Loading) now word more may (inl at) room = rw (at.0, at.1) (refl, (let two : more ≡ 2 = cc (room, at.1) in rw two (turn_moves v₀)))
+      ready_of None now word more may (inr at) room = rw (at, sym room) (refl, again_moves v₀ word more (sym room))
+      ready_of (Some Idle) now word more may (inr at) room = rw (at, sym room) (refl, again_moves v₀ word more (sym room))
+      ready_of (Some Loading) now word more may (inr at) room = rw (at, sym room) (refl, turn_again_moves v₀ word more (sym room))
       ready_of (Some _) now word more may at room = absurd may
 
   -- the exchange of the only starver
   abbrev Alone : FairCall → Type 0
-  Alone c = (view : Option (Numbered View)) → what view ≡ Some Starving → ((s : Plain) (p : ℕ) → OneHolds s → is_starver p s.starvers ≡ true → fair_word s ≡ 2 → Decides s (gets p to_lock_starving_alone) fair_word (Some 3)) → Keeps view (λ n. either (n == 2) 1 n) (alone_by c)
+  Alone c = (view : Option (Numbered View)) (shown : Option T) → what view ≡ Some Starving → ((s : Plain) (p : ℕ) → OneHolds s → is_starver p s.starvers ≡ true → fair_word s ≡ 2 → Decides s (gets p to_lock_starving_alone) fair_word (Some 3)) → Keeps view shown (λ n. either (n == 2) 1 n) (alone_by c)
 
-  as_alone : (c : FairCall) → Moves (Some Starving) (λ n. either (n == 2) 1 n) (λ n v. v ≡ alone_to c n) (alone_by c) → Alone c
-  as_alone c moves view is plain = keeps view (λ n. either (n == 2) 1 n) (λ n v. v ≡ alone_to c n) (alone_by c) (frees_none false c _ (alone_to c) (none_alone c)) (rw is moves) (rw is (alone_plain c 3 plain refl))
+  as_alone : (c : FairCall) → Moves v₀ (Some Starving) (λ n. either (n == 2) 1 n) (λ n v. v ≡ alone_to c n) (alone_by c) → Alone c
+  as_alone c moves view shown is plain =
+      keeps view shown (λ n. either (n == 2) 1 n) (λ n v. v ≡ alone_to c n) (alone_by c) (frees_none false c _ (alone_to c) (none_alone c)) (unused (what view) shown (ap (use_of use_of_view) is) false c _ (alone_to c)) (rw is moves) (rw is (alone_plain c 3 plain refl))
 
   pub attempts_alone : Alone StarverTryLockFair
-  attempts_alone = as_alone StarverTryLockFair alone_moves
+  attempts_alone = as_alone StarverTryLockFair (alone_moves v₀)
 
   pub tries_alone : Alone StarverTryLock
-  tries_alone = as_alone StarverTryLock try_alone_moves
+  tries_alone = as_alone StarverTryLock (try_alone_moves v₀)
 
   pub locks_alone : Alone StarverLock
-  locks_alone = as_alone StarverLock lock_alone_moves
+  locks_alone = as_alone StarverLock (lock_alone_moves v₀)
 
-  pub sets : (view : Option (Numbered View)) → MaySet (what view) → Keeps view (λ n. bit_or n 1) (sets_by (call_of (what view)))
-  sets view may = let now = what view in let c = call_of now in let ready = ready_of now may in
-      keeps view (λ n. bit_or n 1) (λ n v. v ≡ set_by c n) (sets_by c) (frees_none true c _ (set_by c) (none_set c)) ready.0 ready.1
+  pub sets : (view : Option (Numbered View)) (shown : Option T) → MaySet (what view) → Keeps view shown (λ n. bit_or n 1) (sets_by (call_of (what view)))
+  sets view shown may = let now = what view in let c = call_of now in let ready = ready_of now may in
+      keeps view shown (λ n. bit_or n 1) (λ n v. v ≡ set_by c n) (sets_by c) (frees_none true c _ (set_by c) (none_set c)) (unused now shown (set_off now may) true c _ (set_by c)) ready.0 ready.1
     where
-      ready_of : (now : Option View) → MaySet now → Moves now (λ n. bit_or n 1) (λ n v. v ≡ set_by (call_of now) n) (sets_by (call_of now)) × Leads now (λ n. bit_or n 1) (λ n v. v ≡ set_by (call_of now) n)
-      ready_of (Some (Setting Lock)) may = (lock_set_moves, sets_plain (Setting Lock) (HoldingStarving Lock) (Awaiting Lock) refl refl refl)
-      ready_of (Some (Setting StarverLock)) may = (starver_set_moves, sets_plain (Setting StarverLock) (HoldingStarving StarverLock) (Awaiting StarverLock) refl refl refl)
-      ready_of (Some (Setting StarverTryLock)) may = (try_set_moves, sets_plain (Setting StarverTryLock) (HoldingStarving StarverTryLock) Starving refl refl refl)
+      ready_of : (now : Option View) → MaySet now → Moves v₀ now (λ n. bit_or n 1) (λ n v. v ≡ set_by (call_of now) n) (sets_by (call_of now)) × Leads now (λ n. bit_or n 1) (λ n v. v ≡ set_by (call_of now) n)
+      ready_of (Some (Setting Lock)) may = (lock_set_moves v₀, sets_plain (Setting Lock) (HoldingStarving Lock) (Awaiting Lock) refl refl refl)
+      ready_of (Some (Setting StarverLock)) may = (starver_set_moves v₀, sets_plain (Setting StarverLock) (HoldingStarving StarverLock) (Awaiting StarverLock) refl refl refl)
+      ready_of (Some (Setting StarverTryLock)) may = (try_set_moves v₀, sets_plain (Setting StarverTryLock) (HoldingStarving StarverTryLock) Starving refl refl refl)
       ready_of (Some (Setting _)) may = absurd cc
       ready_of (Some _) may = absurd may
       ready_of None may = absurd may
 
-  pub waits_on : (view : Option (Numbered View)) → awaits (what view) ≡ true → Keeps view (λ n. n) (awaits_by (what view))
-  waits_on view is = let now = what view in let ready = ready_of now is in
-      keeps view (λ n. n) (λ n v. v ≡ awaited_by now n) (awaits_by now) (frees_none true (call_of now) _ (awaited_by now) (none_awaited now)) ready.0 ready.1
+  pub waits_on : (view : Option (Numbered View)) (shown : Option T) → awaits (what view) ≡ true → Keeps view shown (λ n. n) (awaits_by (what view))
+  waits_on view shown is = let now = what view in let ready = ready_of now is in
+      keeps view shown (λ n. n) (λ n v. v ≡ awaited_by now n) (awaits_by now) (frees_none true (call_of now) _ (awaited_by now) (none_awaited now)) (unused now shown (await_off now is) true (call_of now) _ (awaited_by now)) ready.0 ready.1
     where
       at : (c : FairCall) (b : Bool) → starves ≡ part (if b then Awaiting c else Setting c)
       at c true = refl
       at c _ = refl
 
-      ready_of : (now : Option View) → awaits now ≡ true → Moves now (λ n. n) (λ n v. v ≡ awaited_by now n) (awaits_by now) × Leads now (λ n. n) (λ n v. v ≡ awaited_by now n)
-      ready_of (Some (Awaiting c)) is = (await_moves c, stays_at fair (Some (Awaiting c)) (awaited_by (Some (Awaiting c))) (λ k. at c (is_set k)) (λ s k. knows_none s (awaited_by (Some (Awaiting c)) k)))
+      ready_of : (now : Option View) → awaits now ≡ true → Moves v₀ now (λ n. n) (λ n v. v ≡ awaited_by now n) (awaits_by now) × Leads now (λ n. n) (λ n v. v ≡ awaited_by now n)
+      ready_of (Some (Awaiting c)) is = (await_moves v₀ c, stays_at fair (Some (Awaiting c)) (awaited_by (Some (Awaiting c))) (λ k. at c (is_set k)) (λ s k. knows_none s (awaited_by (Some (Awaiting c)) k)))
       ready_of (Some _) is = absurd cc
       ready_of None is = absurd cc
 
-  pub unregisters : (view : Option (Numbered View)) → HoldsStarving (what view) → Keeps view (λ n. (n + (2 ^ 64 - 2)) % 2 ^ 64) (served_by (what view))
-  unregisters view held = let now = what view in let ready = ready_of now held in
-      keeps view (λ n. (n + (2 ^ 64 - 2)) % 2 ^ 64) (λ n v. (v ≡ Served) × Takes 2 n) (served_by now) (frees_none true (call_of now) _ (λ n. Served) (λ n. refl)) ready.0 ready.1
+  pub unregisters : (view : Option (Numbered View)) (shown : Option T) → HoldsStarving (what view) → Keeps view shown (λ n. (n + (2 ^ 64 - 2)) % 2 ^ 64) (served_by (what view))
+  unregisters view shown held = let now = what view in let ready = ready_of now held in
+      keeps view shown (λ n. (n + (2 ^ 64 - 2)) % 2 ^ 64) (λ n v. (v ≡ Served) × Takes 2 n) (served_by now) (frees_none true (call_of now) _ (λ n. Served) (λ n. refl)) (unused now shown (starving_off now held) true (call_of now) _ (λ n. Served)) ready.0 ready.1
     where
-      ready_of : (now : Option View) → HoldsStarving now → Moves now (λ n. (n + (2 ^ 64 - 2)) % 2 ^ 64) (λ n v. (v ≡ Served) × Takes 2 n) (served_by now) × Leads now (λ n. (n + (2 ^ 64 - 2)) % 2 ^ 64) (λ n v. (v ≡ Served) × Takes 2 n)
-      ready_of (Some (HoldingStarving c)) held = (unregister_moves c, unregisters_plain c)
+      ready_of : (now : Option View) → HoldsStarving now → Moves v₀ now (λ n. (n + (2 ^ 64 - 2)) % 2 ^ 64) (λ n v. (v ≡ Served) × Takes 2 n) (served_by now) × Leads now (λ n. (n + (2 ^ 64 - 2)) % 2 ^ 64) (λ n v. (v ≡ Served) × Takes 2 n)
+      ready_of (Some (HoldingStarving c)) held = (unregister_moves v₀ c, unregisters_plain c)
       ready_of (Some _) held = absurd held
       ready_of None held = absurd held
 
-  pub gives_up : (view : Option (Numbered View)) → what view ≡ Some Starving → Keeps view (λ n. (n + (2 ^ 64 - 2)) % 2 ^ 64) (ends_by StarverDrop)
-  gives_up view is = keeps view (λ n. (n + (2 ^ 64 - 2)) % 2 ^ 64) (λ n v. (v ≡ Idle) × Takes 2 n) (ends_by StarverDrop) (frees_none false StarverDrop _ (λ n. Idle) (λ n. refl)) (rw is give_up_moves) (rw is gives_up_plain)
+  pub gives_up : (view : Option (Numbered View)) (shown : Option T) → what view ≡ Some Starving → Keeps view shown (λ n. (n + (2 ^ 64 - 2)) % 2 ^ 64) gives_up_by
+  gives_up view shown is =
+      keeps view shown (λ n. (n + (2 ^ 64 - 2)) % 2 ^ 64) (λ n v. (v ≡ Idle) × Takes 2 n) gives_up_by (frees_none false StarverDrop _ (λ n. Idle) (λ n. refl)) (unused (what view) shown (ap (use_of use_of_view) is) false StarverDrop _ (λ n. Idle))
+      (rw is (give_up_moves v₀)) (rw is gives_up_plain)
 
-  pub frees : (v : Numbered View) → use_of_view v.0 ≡ writes → Keeps (Some v) (λ n. (n + (2 ^ 64 - 1)) % 2 ^ 64) (ends_by Release)
-  frees v held = let ready = ready_of v.0 held in keeps (Some v) (λ n. (n + (2 ^ 64 - 1)) % 2 ^ 64) (λ n v. (v ≡ Idle) × Takes 1 n) (ends_by Release) (frees_none false Release _ (λ n. Idle) (λ n. refl)) ready.0 ready.1
+  -- the holder writes the value that it leaves
+  freeing : (x : T) (v : View) → use_of_view v ≡ writes → Leaving (Some v) (Some x) (frees_with (λ y. y ≡ x))
+  freeing x v held own outs n u (stays, (y, is, by)) =
+      subst (λ (z : Use × View). Leaves z.0 (use_of_view z.1) (Some x) own) (λ i. (sym held i, sym stays i)) (λ w. write_leaves y false Release (answered Done) own outs by w ∙ is)
+
+  pub frees : (v : Numbered View) (x : T) → use_of_view v.0 ≡ writes → Keeps (Some v) (Some x) (λ n. (n + (2 ^ 64 - 1)) % 2 ^ 64) frees_by
+  frees v x held = let ready = ready_of v.0 held in let exact : Says T = frees_with (λ y. y ≡ x) in let to : ℕ → ℕ = λ n. (n + (2 ^ 64 - 1)) % 2 ^ 64 in
+      tie.tells_less (model v₀) seat_of words_of (Some v) exact frees_by (λ own outs n u (stays, (y, is, by)). (stays, (y, tt, by))) (IsFair opening) (fair_ways opening) (Some x) to
+      (keeps (Some v) (Some x) to (λ n v. (v ≡ Idle) × Takes 1 n) exact (λ own outs n u said got. never n u Idle said.0 refl got) (freeing x v.0 held) ready.0 ready.1)
     where
-      ready_of : (v : View) → use_of_view v ≡ writes → Moves (Some v) (λ n. (n + (2 ^ 64 - 1)) % 2 ^ 64) (λ n v. (v ≡ Idle) × Takes 1 n) (ends_by Release) × Leads (Some v) (λ n. (n + (2 ^ 64 - 1)) % 2 ^ 64) (λ n v. (v ≡ Idle) × Takes 1 n)
-      ready_of Holding e = (release_moves Holding refl, frees_plain Holding refl)
-      ready_of Served e = (release_moves Served refl, frees_plain Served refl)
+      ready_of : (v : View) → use_of_view v ≡ writes → Moves v₀ (Some v) (λ n. (n + (2 ^ 64 - 1)) % 2 ^ 64) (λ n v. (v ≡ Idle) × Takes 1 n) (frees_with (λ y. y ≡ x)) × Leads (Some v) (λ n. (n + (2 ^ 64 - 1)) % 2 ^ 64) (λ n v. (v ≡ Idle) × Takes 1 n)
+      ready_of Holding e = (release_moves v₀ x Holding refl, frees_plain Holding refl)
+      ready_of Served e = (release_moves v₀ x Served refl, frees_plain Served refl)
       ready_of _ e = absurd cc
 
--- Who may go
+-- Who may leave
 
-module _ (name : ℕ) where
-  pub idle_rests : (v : Numbered View) → v.0 ≡ Idle → Rests (IsFair name) use_of_party (Some v)
+module _ {T : Type 0} (opening : Opening T) where
+  pub idle_rests : (v : Numbered View) → v.0 ≡ Idle → Rests (IsFair opening) use_of_party (Some v)
   idle_rests v is =
-      let rest = tie.rests model seat_of words_of Word name (Unit {0}) alone use_of_view no_fact v (ap seat_of is) (plays.idle_rests fair v.0 is) in
+      let rest = tie.rests (model opening.value) seat_of words_of Word opening.name T alone use_of_view (last opening) v (ap seat_of is) (plays.idle_rests fair v.0 is) in
       (rest.0, λ n t before behind kept. let without = rest.1 n t before behind (kept.0, kept.1.0, kept.2) in (without.0, (without.1, first_without before behind v kept.1.1), without.2))
 
-  pub rests : (view : Option (Numbered View)) → stands view ≡ Idle → Rests (IsFair name) use_of_party view
+  pub rests : (view : Option (Numbered View)) → stands view ≡ Idle → Rests (IsFair opening) use_of_party view
   rests None is = tt
   rests (Some v) is = idle_rests v is
 
-pub ended : (c : FairCall) (named : Type 0) (before : Option (Numbered View)) (known now : Watch fairs.Done) (found : ℕ) (view : Option (Numbered View)) → Moved (Watches named known now (Told (ends_by c) before) found) view → stands view ≡ Idle
-ended c named before known now found None moved = absurd moved
-ended c named before known now found (Some v) moved = moved.1.4.6.0
+  pub freed : (named : Type 0) (known now : Watch (fairs.Done T)) (before view : Option (Numbered View)) (found : ℕ) → Moved (Watches named known now (Told opening.value frees_by before) found) view → stands view ≡ Idle
+  freed named known now before None found moved = absurd moved
+  freed named known now before (Some v) found moved = moved.1.4.6.0
 
 -- a party that registers stays in its call
 

@@ -4,92 +4,149 @@ use Rattle.std.specs.Prelude.{◌⊎◌}
 use mathlib.Core.Logic.{dite}
 use native.Mathlib.Decide.{ℕ_discrete}
 use Rattle.spin_step_more.specs.Starvers.{most_starvers, is_set, starve}
-use Rattle.spin_core.specs.Guard.{guard_view}
-use Rattle.spin_core.specs.Passes.{Course}
-use Rattle.spin_core.specs.Cell.{Moved}
+use Rattle.spin_core.specs.Guard.{guard_key, guard_view}
+use Rattle.spin_core.specs.Passes.{Course, IsCall, IsStep, WritesSome}
+use Rattle.spin_core.specs.Cell.{Moved, writes, off, use_of}
 use Rattle.spin_core.specs.Own.{Numbered, what}
 use Rattle.spin_core.specs.Passes.{mark_of}
-use Rattle.spin_core.specs.Traced.{Watches, Named}
+use Rattle.spin_core.specs.Traced.{Watches, Named, Found}
+use Rattle.spin_core.specs.Values.{IsLast}
+use Rattle.spin_core.specs.declared.tie.Opening.{Opening}
 use Rattle.spin_core.specs.declared.trace.Watch.{Watch}
 use Rattle.spin_core.proofs.Passes as passes
-use Rattle.spin_core.proofs.Passes.{Learnt, and_waits, and_ends, call_waits, call_ends}
+use Rattle.spin_core.proofs.Passes.{Learnt, and_waits, and_ends, call_waits, call_ends, whole_behind}
+use Rattle.spin_core.proofs.Ties.{same_use}
+use Rattle.spin_core.proofs.Values.{found, gave, wrote, write_leaves}
 use Rattle.spin_model.specs.declared.answer.Answer.{Answer}
 use Rattle.spin_model.specs.declared.schedule.Move.TheVariants.{Step}
 use Rattle.spin_model.specs.declared.schedule.Outcome.TheVariants.{GoingOn}
-use Rattle.spin_model.specs.declared.answer.Answer.TheVariants.{Granted}
+use Rattle.spin_model.specs.declared.answer.Answer.TheVariants.{Granted, Done as IsDone}
 use Rattle.spin_step_more.specs.declared.fair.LockRejectReason.TheVariants.{Locked, Starved}
 use Rattle.spin_step_more.specs.declared.fair_calls.FairCall.{FairCall}
-use Rattle.spin_step_more.specs.declared.fair_calls.FairCall.TheVariants.{Lock, TryLockStarver, Starve, StarverTryLock, StarverLock}
-use Rattle.spin_fair.specs.Fair.{model, seat_of, words_of, Done, OneMove, Ending, Says, IsFair, Told, steps_by, AreSteps, answered, in_call, call_of, IsOut, Comes, Moves, refusal, answer_of, tries_by, alone_by, alone_to, not_alone, missed_alone, looked, looks_of, patience, registered_end, no_room_end, loads, register_ends, registered_so, no_room_so, flag_set_end, flag_set_so, finds_no_room, finds_flag_set, goes_for, Registers, awaits, awaited_by, MaySet, MayAwait}
+use Rattle.spin_step_more.specs.declared.fair_calls.FairCall.TheVariants.{Lock, TryLockStarver, Starve, StarverTryLock, StarverLock, Release}
+use Rattle.spin_fair.specs.Fair.{model, seat_of, words_of, use_of_view, use_of_party, Done, OneMove, Ending, Says, IsFair, fair_ways, Told, steps_by, frees_with, frees_by, stands, Left, AreSteps, answered, in_call, call_of, IsOut, Comes, Moves, refusal, answer_of, tries_by, alone_by, alone_to, not_alone, missed_alone, looked, looks_of, patience, registered_end, no_room_end, loads, register_ends, registered_so, no_room_so, flag_set_end, flag_set_so, finds_no_room, finds_flag_set, Registers, awaits, awaited_by, MaySet, MayAwait}
 use Rattle.spin_fair.specs.Waits.{view_of, Comes_by, Held}
 use Rattle.spin_fair.specs.declared.fair.account.Account.{Account}
 use Rattle.spin_fair.specs.declared.fair.rule.View.{View}
 use Rattle.spin_fair.specs.declared.fair.rule.View.TheVariants.{Idle, Holding, Served, Trying, Looking, Loading, Registering, Setting, Awaiting}
-use Rattle.spin_fair.proofs.Steps.{own_ways}
+use Rattle.spin_fair.proofs.Steps.{freed}
 
--- after so many steps the call goes on, or is answered
-abbrev pub Comes_to : List Ending → Option (Answer (Unit {0})) → Type 0
+-- after these outcomes the call continues, or is answered
+abbrev pub Comes_to : {T : Type 0} → List (Ending T) → Option (Answer T) → Type 0
 Comes_to ends None = (n : ℕ) × (ends ≡ replicate n GoingOn)
 Comes_to ends (Some a) = (n : ℕ) × (ends ≡ replicate n GoingOn ++ answered a ∷ [])
 
-abbrev steps : List Ending → List OneMove
+abbrev steps : {T : Type 0} → List (Ending T) → List (OneMove T)
 steps ends = map (λ _. Step) ends
 
-as_many : (n : ℕ) → steps (replicate n GoingOn) ≡ replicate n Step
+as_many : {T : Type 0} (n : ℕ) → steps {T = T} (replicate n GoingOn) ≡ replicate n Step
 as_many zero = refl
 as_many (suc n) = ap (λ l. Step ∷ l) (as_many n)
 
-and_one : (n : ℕ) (end : Ending) → steps (replicate n GoingOn ++ end ∷ []) ≡ replicate n Step ++ Step ∷ []
+and_one : {T : Type 0} (n : ℕ) (end : Ending T) → steps (replicate n GoingOn ++ end ∷ []) ≡ replicate n Step ++ Step ∷ []
 and_one zero end = refl
 and_one (suc n) end = ap (λ l. Step ∷ l) (and_one n end)
 
-comes : (goes_on : Bool) (c : FairCall) (ends : List Ending) (o : Option (Answer (Unit {0}))) → Comes_to ends o → (own : List OneMove) (outs : List Ending) → AreSteps goes_on c ends own outs → Comes goes_on c o own outs
+comes : {T : Type 0} (goes_on : Bool) (c : FairCall) (ends : List (Ending T)) (o : Option (Answer T)) → Comes_to ends o → (own : List (OneMove T)) (outs : List (Ending T)) → AreSteps goes_on c ends own outs → Comes goes_on c o own outs
 comes true c ends None (n, is) own outs are = (n, are.0 ∙ ap steps is ∙ as_many n, are.1 ∙ is)
 comes true c ends (Some a) (n, is) own outs are = (n, are.0 ∙ ap steps is ∙ and_one n (answered a), are.1 ∙ is)
 comes false c ends None (n, is) own outs are = (steps ends, ends, are.0, are.1, (n, ap steps is ∙ as_many n, is))
 comes false c ends (Some a) (n, is) own outs are = (steps ends, ends, are.0, are.1, (n, ap steps is ∙ and_one n (answered a), is))
 
-pub may_know : (name : ℕ) (before : Watch Done) → name ≡ before.name → Named (IsFair name) own_ways before.name
-may_know name before = passes.may_know (IsFair name) own_ways name (λ n t vs is. is.0) before.name
+-- What a step tells a party, of a lock that opened so
+module _ {T : Type 0} (opening : Opening T) where
+  pub may_know : (before : Watch (Done T)) → opening.name ≡ before.name → Named (IsFair opening) (fair_ways opening) before.name
+  may_know before = passes.may_know (IsFair opening) (fair_ways opening) opening.name (λ n t vs is. is.0) before.name
 
--- after any step a party that knew all knows all again, by a watch of the same trace
-pub still_knows : (name : ℕ) (says : Says) (view view' : Option (Numbered View)) (before now : Watch Done) (name' found : ℕ) → mark_of view ≡ length before.entries → name ≡ before.name → name' ≡ name
-    → Moved (Watches (Named (IsFair name) own_ways before.name) before now (Told says view) found) view' → (name' ≡ now.name) × (mark_of view' ≡ length now.entries)
-still_knows name says view None before now name' found knew named same moved = absurd moved
-still_knows name says view (Some v) before now name' found knew named same moved =
-    (same ∙ named ∙ sym (moved.0 (may_know name before named)), (passes.learns model seat_of words_of says (Named (IsFair name) own_ways before.name) view before now found v knew moved).1)
+  abbrev Steps : Says T → Watch (Done T) → Watch (Done T) → Option (Numbered View) → Option (Numbered View) → ℕ → Type 0
+  Steps says before now view view' n = Moved (Watches (Named (IsFair opening) (fair_ways opening) before.name) before now (Told opening.value says view) n) view'
 
--- what a step tells a party that knew all up to its last step: the moves of its call, and where it led
-module _ (name : ℕ) (goes_on : Bool) (c : FairCall) (ends : ℕ → List Ending) (to : ℕ → View) where
-  learnt : (view view' : Option (Numbered View)) (before now : Watch Done) (found : ℕ) → mark_of view ≡ length before.entries → name ≡ before.name
-      → Moved (Watches (Named (IsFair name) own_ways before.name) before now (Told (steps_by goes_on c ends to) view) found) view' → Learnt model view view' before now (to found) (AreSteps goes_on c (ends found))
-  learnt view view' before now found knew same =
-      passes.learnt model seat_of words_of (steps_by goes_on c ends to) to (λ n. AreSteps goes_on c (ends n)) (λ own outs n v said. said) (Named (IsFair name) own_ways before.name) (may_know name before same) view view' before now found knew
+  -- what a party finds that comes to hold
+  pub holder_finds : (view view' : Option (Numbered View)) (before after : Option T) (seen : Watch (Done T)) → use_of use_of_view (what view) ≡ off → Found (fair_ways opening) view view' before after seen → (x : T) → after ≡ Some x → IsLast opening seen.entries x
+  holder_finds view view' before after seen unused known x is = found opening (use_of use_of_party view) (use_of use_of_party view') before after seen.entries x known (sym (same_use use_of_view view) ∙ unused) is
 
-  pub took : (o : Option (Answer (Unit {0}))) (view view' : Option (Numbered View)) (before now : Watch Done) (found : ℕ) → mark_of view ≡ length before.entries → name ≡ before.name
-      → Moved (Watches (Named (IsFair name) own_ways before.name) before now (Told (steps_by goes_on c ends to) view) found) view' → Comes_to (ends found) o
-      → ((now.name ≡ before.name) × Moves (Comes goes_on c o) view before.entries view' now.entries) × (what view' ≡ Some (to found)) × (mark_of view' ≡ length now.entries)
-  took o view view' before now found knew same moved end =
-      let so = learnt view view' before now found knew same moved in
-      ((so.named, passes.weaker model view view' before.entries now.entries (AreSteps goes_on c (ends found)) (Comes goes_on c o) (comes goes_on c (ends found) o end) so.made), so.is, so.knows)
+  -- after any step a party that knew all knows all again, by a watch of the same trace; and where it comes to use the value, that is the one written last
+  pub still_knows : (says : Says T) (view view' : Option (Numbered View)) (before now : Watch (Done T)) (key' : Opening T) (shown shown' : Option T) (n : ℕ) → mark_of view ≡ length before.entries → opening.name ≡ before.name → key' ≡ opening
+      → use_of use_of_view (what view) ≡ off → Steps says before now view view' n → Found (fair_ways opening) view view' shown shown' now
+      → (key'.name ≡ now.name) × (mark_of view' ≡ length now.entries) × ((x : T) → shown' ≡ Some x → IsLast key' now.entries x)
+  still_knows says view None before now key' shown shown' n knew named same unused moved known = absurd moved
+  still_knows says view (Some v) before now key' shown shown' n knew named same unused moved known = (
+    ap (λ k. k.name) same ∙ named ∙ sym (moved.0 (may_know before named)),
+    (passes.learns (model opening.value) seat_of words_of says (Named (IsFair opening) (fair_ways opening) before.name) view before now n v knew moved).1,
+    λ x is. subst (λ k. IsLast k now.entries x) (sym same) (holder_finds view (Some v) shown shown' now unused known x is),
+  )
+
+  -- of a party that knew all up to its last step: the moves of its call, and where it led
+  module _ (goes_on : Bool) (c : FairCall) (ends : ℕ → List (Ending T)) (to : ℕ → View) where
+    learnt : (view view' : Option (Numbered View)) (before now : Watch (Done T)) (n : ℕ) → mark_of view ≡ length before.entries → opening.name ≡ before.name
+        → Steps (steps_by goes_on c ends to) before now view view' n → Learnt (model opening.value) view view' before now (to n) (AreSteps goes_on c (ends n))
+    learnt view view' before now n knew same =
+        passes.learnt (model opening.value) seat_of words_of (steps_by goes_on c ends to) to (λ n. AreSteps goes_on c (ends n)) (λ own outs n v said. said) (Named (IsFair opening) (fair_ways opening) before.name) (may_know before same) view view' before now n knew
+
+    pub took_from : (o : Option (Answer T)) (view view' : Option (Numbered View)) (before now : Watch (Done T)) (key' : Opening T) (n : ℕ) → mark_of view ≡ length before.entries → opening.name ≡ before.name → key' ≡ opening
+        → Steps (steps_by goes_on c ends to) before now view view' n → Comes_to (ends n) o
+        → (((now.name ≡ before.name) × (key' ≡ opening)) × Moves opening.value (Comes goes_on c o) view before.entries view' now.entries) × (what view' ≡ Some (to n))
+    took_from o view view' before now key' n knew same key moved end =
+        let so = learnt view view' before now n knew same moved in
+        (((so.named, key), passes.weaker (model opening.value) view view' before.entries now.entries (AreSteps goes_on c (ends n)) (Comes goes_on c o) (comes goes_on c (ends n) o end) so.made), so.is)
+
+  -- The release: the value that is left is the one that the moves write
+
+  module _ (view view' : Option (Numbered View)) (shown shown' : Option T) (before now : Watch (Done T)) (v : Numbered View) (x : T) (n : ℕ) (is : view ≡ Some v) (held : use_of_view v.0 ≡ writes) (here : shown ≡ Some x) (moved : Steps frees_by before now view view' n) where
+    pub leaves : Found (fair_ways opening) view view' shown shown' now → IsLast opening now.entries x
+    leaves known = gave opening (use_of use_of_party view) (use_of use_of_party view') shown shown' now.entries x known (ap (use_of use_of_party) is ∙ held) (gone view' (freed opening (Named (IsFair opening) (fair_ways opening) before.name) before now view view' n moved)) here where
+      gone : (w : Option (Numbered View)) → stands w ≡ Idle → use_of use_of_party w ≡ off
+      gone None e = refl
+      gone (Some w) e = ap use_of_view e
+
+    abbrev Told_left : T → Type 0
+    Told_left y = opening.told ≡ true → y ≡ x
+
+    exactly : (w : Option (Numbered View)) → IsLast opening now.entries x → Steps frees_by before now view w n → Steps (frees_with Told_left) before now view w n
+    exactly None so made = absurd made
+    exactly (Some w) so (named, (log, es, known, grew, (own, outs, mine, mark, none, alike, (stays, (y, any, by))))) =
+        (named, (log, es, known, grew, (own, outs, mine, mark, none, alike, (stays, (y, wrote opening log es now.entries w.1 own x y grew mine (write_leaves y false Release (answered IsDone) own outs by) so, by)))))
+
+    pub released : mark_of view ≡ length before.entries → opening.name ≡ before.name → IsLast opening now.entries x → (now.name ≡ before.name) × Left opening.value Told_left view before.entries view' now.entries × (mark_of view' ≡ length now.entries)
+    released knew same so =
+        let told = passes.learnt (model opening.value) seat_of words_of (frees_with Told_left) (λ n. Idle) (λ n. WritesSome Told_left (IsStep false Release (answered IsDone))) (λ own outs n u said. said) (Named (IsFair opening) (fair_ways opening) before.name) (may_know before same) view view' before now n knew
+        (exactly view' so moved) in
+        (told.named, whole_behind (model opening.value) view view' before.entries now.entries Told_left Release IsDone told.made, told.knows)
+
+-- what was written, whatever it was
+pub left_weaker : {T : Type 0} (v₀ : T) (Q : T → Type 0) (view view' : Option (Numbered View)) (old new : List (Done T)) → Left v₀ Q view old view' new → Left v₀ (λ x. Unit {0}) view old view' new
+left_weaker v₀ Q view view' old new = passes.weaker (model v₀) view view' old new (WritesSome Q (IsCall Release IsDone)) (WritesSome (λ x. Unit {0}) (IsCall Release IsDone)) (λ own outs (x, so, by). (x, tt, by))
+
+-- of a party with all that it knew
+module _ {T : Type 0} (me : Account T) (view : Option (Numbered View)) (now : Watch (Done T)) (lock : Opening T) (n : ℕ) (same : lock ≡ me.permit.key) where
+  abbrev Step_by : Says T → Type 0
+  Step_by says = Steps me.permit.key says me.seen now me.permit.view view n
+
+  pub knows_again : (says : Says T) (shown : Option T) → use_of use_of_view (view_of me) ≡ off → Step_by says → Found (fair_ways me.permit.key) me.permit.view view me.permit.value shown now
+      → (lock.name ≡ now.name) × (mark_of view ≡ length now.entries) × ((x : T) → shown ≡ Some x → IsLast lock now.entries x)
+  knows_again says shown = still_knows me.permit.key says me.permit.view view me.seen now lock me.permit.value shown n me.knows me.named same
+
+  pub took : (goes_on : Bool) (c : FairCall) (ends : ℕ → List (Ending T)) (to : ℕ → View) (o : Option (Answer T)) → Step_by (steps_by goes_on c ends to) → Comes_to (ends n) o → Comes_by (Comes goes_on c o) me lock view now × (what view ≡ Some (to n))
+  took goes_on c ends to o = took_from me.permit.key goes_on c ends to o me.permit.view view me.seen now lock n me.knows me.named same
 
 -- moves of a call, and then further ones of it
-pub and_then : (goes_on : Bool) (c : FairCall) (o : Option (Answer (Unit {0}))) (u v w : Option (Numbered View)) (old seen new : List Done) → Moves (Comes goes_on c None) u old v seen → Moves (Comes true c o) v seen w new → Moves (Comes goes_on c o) u old w new
-and_then true c None u v w old seen new = and_waits model u v w old seen new
-and_then true c (Some a) u v w old seen new = and_ends model u v w old seen new a
-and_then false c None u v w old seen new = call_waits model u v w old seen new c
-and_then false c (Some a) u v w old seen new = call_ends model u v w old seen new c a
+pub and_then : {T : Type 0} (v₀ : T) (goes_on : Bool) (c : FairCall) (o : Option (Answer T)) (u v w : Option (Numbered View)) (old seen new : List (Done T))
+    → Moves v₀ (Comes goes_on c None) u old v seen → Moves v₀ (Comes true c o) v seen w new → Moves v₀ (Comes goes_on c o) u old w new
+and_then v₀ true c None u v w old seen new = and_waits (model v₀) u v w old seen new
+and_then v₀ true c (Some a) u v w old seen new = and_ends (model v₀) u v w old seen new a
+and_then v₀ false c None u v w old seen new = call_waits (model v₀) u v w old seen new c
+and_then v₀ false c (Some a) u v w old seen new = call_ends (model v₀) u v w old seen new c a
 
 pub out_begins : (view : Option View) → IsOut view → in_call view ≡ false
 out_begins None out = refl
 out_begins (Some Idle) out = refl
 out_begins (Some _) out = absurd out
 
--- what a step comes to, by what the code found
-pub granted_at : (n expected : ℕ) (won lost : Answer (Unit {0})) → n ≡ expected → Comes_to (answered (if n == expected then won else lost) ∷ []) (Some won)
+-- the outcome of a step, by what the code found
+pub granted_at : {T : Type 0} (n expected : ℕ) (won lost : Answer T) → n ≡ expected → Comes_to (answered (if n == expected then won else lost) ∷ []) (Some won)
 granted_at n expected won lost e = (0, ap (λ b. answered (if b then won else lost) ∷ []) (eq-eqb n expected e))
 
-pub refused_at : (n expected : ℕ) (won lost : Answer (Unit {0})) → n ≢ expected → Comes_to (answered (if n == expected then won else lost) ∷ []) (Some lost)
+pub refused_at : {T : Type 0} (n expected : ℕ) (won lost : Answer T) → n ≢ expected → Comes_to (answered (if n == expected then won else lost) ∷ []) (Some lost)
 refused_at n expected won lost ne = (0, ap (λ b. answered (if b then won else lost) ∷ []) (ne_eqb n expected ne))
 
 pub is_even : (n : ℕ) → false ≡ is_set n → (n % 2 == 0) ≡ true
@@ -98,48 +155,46 @@ is_even n is = dite (ℕ_discrete (n % 2) 0) (λ e. eq-eqb (n % 2) 0 e) (λ ne. 
 pub is_odd : (n : ℕ) → true ≡ is_set n → (n % 2 == 0) ≡ false
 is_odd n is = dite (ℕ_discrete (n % 2) 0) (λ e. absurd (let clear : is_set n ≡ false = ne_eqb (n % 2) 1 (λ one. absurd (omega (arith, e, one))) in cc (is, clear))) (λ ne. ne_eqb (n % 2) 0 ne)
 
--- what the tries of a newcomer come to, and the exchange of a starver that begins a call
-module _ (name : ℕ) (c : FairCall) (view view' : Option (Numbered View)) (before now : Watch Done) (found : ℕ) (knew : mark_of view ≡ length before.entries) (same : name ≡ before.name) where
-  abbrev Comes_so : Option (Answer (Unit {0})) → Type 0
-  Comes_so o = (now.name ≡ before.name) × Moves (Comes false c o) view before.entries view' now.entries
+-- the outcomes of a newcomer's tries, and of the exchange with which a starver begins a call
+module _ {T : Type 0} (me : Account T) (view : Option (Numbered View)) (now : Watch (Done T)) (lock : Opening T) (n : ℕ) (same : lock ≡ me.permit.key) (c : FairCall) where
+  abbrev Comes_so : Option (Answer T) → Type 0
+  Comes_so o = Comes_by (Comes false c o) me lock view now
 
-  abbrev Told_so : (Option (Numbered View) → List Done → List Done → ℕ → Numbered View → Type 0) → Type 0
-  Told_so told = Moved (Watches (Named (IsFair name) own_ways before.name) before now (told view) found) view'
+  module _ (moved : Step_by me view now lock n same (tries_by c)) where
+    tried_so : (o : Option (Answer T)) → Comes_to (answered (if n == 0 then Granted else refusal c n) ∷ []) o → Comes_so o × (what view ≡ Some (if n == 0 then Holding else Idle))
+    tried_so o = took me view now lock n same false c (λ n. answered (if n == 0 then Granted else refusal c n) ∷ []) (λ n. if n == 0 then Holding else Idle) o moved
 
-  module _ (moved : Told_so (Told (tries_by c))) where
-    tried_so : (o : Option (Answer (Unit {0}))) → Comes_to (answered (if found == 0 then Granted else refusal c found) ∷ []) o → Comes_so o × (what view' ≡ Some (if found == 0 then Holding else Idle))
-    tried_so o end = let so = took name false c (λ n. answered (if n == 0 then Granted else refusal c n) ∷ []) (λ n. if n == 0 then Holding else Idle) o view view' before now found knew same moved end in (so.0, so.1)
+    pub has_tried : n ≡ 0 → Comes_so (Some Granted) × (what view ≡ Some Holding)
+    has_tried e = let so = tried_so (Some Granted) (granted_at n 0 Granted (refusal c n) e) in (so.0, so.1 ∙ ap (λ b. Some (if b then Holding else Idle)) (eq-eqb n 0 e))
 
-    pub has_tried : found ≡ 0 → Comes_so (Some Granted) × (what view' ≡ Some Holding)
-    has_tried e = let so = tried_so (Some Granted) (granted_at found 0 Granted (refusal c found) e) in (so.0, so.1 ∙ ap (λ b. Some (if b then Holding else Idle)) (eq-eqb found 0 e))
+    pub is_refused : n ≢ 0 → Comes_so (Some (refusal c n))
+    is_refused ne = (tried_so (Some (refusal c n)) (refused_at n 0 Granted (refusal c n) ne)).0
 
-    pub is_refused : found ≢ 0 → Comes_so (Some (refusal c found))
-    is_refused ne = (tried_so (Some (refusal c found)) (refused_at found 0 Granted (refusal c found) ne)).0
+  module _ (moved : Step_by me view now lock n same (alone_by c)) where
+    alone_so : (o : Option (Answer T)) → Comes_to (if n == 2 then GoingOn ∷ answered Granted ∷ [] else missed_alone c) o → Comes_so o × (what view ≡ Some (alone_to c n))
+    alone_so o = took me view now lock n same false c (λ n. if n == 2 then GoingOn ∷ answered Granted ∷ [] else missed_alone c) (alone_to c) o moved
 
-  module _ (moved : Told_so (Told (alone_by c))) where
-    alone_so : (o : Option (Answer (Unit {0}))) → Comes_to (if found == 2 then GoingOn ∷ answered Granted ∷ [] else missed_alone c) o → Comes_so o × (what view' ≡ Some (alone_to c found))
-    alone_so o end = let so = took name false c (λ n. if n == 2 then GoingOn ∷ answered Granted ∷ [] else missed_alone c) (alone_to c) o view view' before now found knew same moved end in (so.0, so.1)
+    pub was_alone : n ≡ 2 → Comes_so (Some Granted)
+    was_alone e = (alone_so (Some Granted) (1, ap (λ b. if b then GoingOn ∷ answered Granted ∷ [] else missed_alone c) (eq-eqb n 2 e))).0
 
-    pub was_alone : found ≡ 2 → Comes_so (Some Granted)
-    was_alone e = (alone_so (Some Granted) (1, ap (λ b. if b then GoingOn ∷ answered Granted ∷ [] else missed_alone c) (eq-eqb found 2 e))).0
-
-    pub was_not_alone : (o : Option (Answer (Unit {0}))) → Comes_to (missed_alone c) o → found ≢ 2 → Comes_so o × (what view' ≡ Some (not_alone c))
+    pub was_not_alone : (o : Option (Answer T)) → Comes_to (missed_alone c) o → n ≢ 2 → Comes_so o × (what view ≡ Some (not_alone c))
     was_not_alone o end ne =
-        let so = alone_so o (subst (λ b. Comes_to (if b then GoingOn ∷ answered Granted ∷ [] else missed_alone c) o) (sym (ne_eqb found 2 ne)) end) in
-        (so.0, so.1 ∙ ap (λ b. Some (if b then Served else not_alone c)) (ne_eqb found 2 ne))
+        let so = alone_so o (subst (λ b. Comes_to (if b then GoingOn ∷ answered Granted ∷ [] else missed_alone c) o) (sym (ne_eqb n 2 ne)) end) in
+        (so.0, so.1 ∙ ap (λ b. Some (if b then Served else not_alone c)) (ne_eqb n 2 ne))
 
-pub reason_so : (n : ℕ) → refusal TryLockStarver n ≡ answer_of (if n == 1 then Locked else Starved)
-reason_so n = at (n == 1)
+pub reason_so : {T : Type 0} (n : ℕ) → refusal {T = T} TryLockStarver n ≡ answer_of (if n == 1 then Locked else Starved)
+reason_so {T} n = at (n == 1)
   where
-    at : (b : Bool) → (if b then answer_of Locked else answer_of Starved) ≡ answer_of (if b then Locked else Starved)
+    at : (b : Bool) → (if b then answer_of {T = T} Locked else answer_of Starved) ≡ answer_of (if b then Locked else Starved)
     at true = refl
     at false = refl
 
--- a party that comes makes its whole `starve`
-pub comes_whole : (view : Option View) (o : FairCall → Option (Answer (Unit {0}))) (u w : Option (Numbered View)) (old new : List Done) → IsOut view → Moves (Comes (in_call view) (call_of view) (o (call_of view))) u old w new → Moves (Comes false Starve (o Starve)) u old w new
-comes_whole None o u w old new out made = made
-comes_whole (Some Idle) o u w old new out made = made
-comes_whole (Some _) o u w old new out made = absurd out
+-- a new party makes its whole `starve`
+pub comes_whole : {T : Type 0} (v₀ : T) (view : Option View) (o : FairCall → Option (Answer T)) (u w : Option (Numbered View)) (old new : List (Done T)) → IsOut view → Moves v₀ (Comes (in_call view) (call_of view) (o (call_of view))) u old w new
+    → Moves v₀ (Comes false Starve (o Starve)) u old w new
+comes_whole v₀ None o u w old new out made = made
+comes_whole v₀ (Some Idle) o u w old new out made = made
+comes_whole v₀ (Some _) o u w old new out made = absurd out
 
 -- A party that looks
 
@@ -155,102 +210,107 @@ pub loading : (view : Option View) (spins n : ℕ) → view ≡ Some (Looking sp
 loading view spins n is set enough =
     ap (λ v. Some (looked v n)) is ∙ ap (λ b. Some (if b then (if nat_lt spins patience then Looking (spins + 1) else Loading) else Trying spins)) (sym set) ∙ ap (λ b. Some (if b then Looking (spins + 1) else Loading)) enough
 
--- a `lock` that has come to register goes on
-pub turns : (view : Option View) (o : FairCall → Option (Answer (Unit {0}))) (u w : Option (Numbered View)) (old new : List Done) → view ≡ Some Loading → o Lock ≡ None → Moves (Comes (in_call view) (call_of view) (o (call_of view))) u old w new → Moves (Comes true Lock None) u old w new
-turns view o u w old new is none made = subst (λ z. Moves (Comes true Lock z) u old w new) none (subst (λ v. Moves (Comes (in_call v) (call_of v) (o (call_of v))) u old w new) is made)
+-- a `lock` that has begun to register continues
+pub turns : {T : Type 0} (v₀ : T) (view : Option View) (o : FairCall → Option (Answer T)) (u w : Option (Numbered View)) (old new : List (Done T)) → view ≡ Some Loading → o Lock ≡ None
+    → Moves v₀ (Comes (in_call view) (call_of view) (o (call_of view))) u old w new → Moves v₀ (Comes true Lock None) u old w new
+turns v₀ view o u w old new is none made = subst (λ z. Moves v₀ (Comes true Lock z) u old w new) none (subst (λ v. Moves v₀ (Comes (in_call v) (call_of v) (o (call_of v))) u old w new) is made)
 
 -- A party that registers
 
-loads_is : (view : Option View) → (loads view ≡ []) ⊎ (loads view ≡ GoingOn ∷ [])
-loads_is (Some (Registering c n)) = inl refl
-loads_is (Some _) = inr refl
-loads_is None = inr refl
+module _ (T : Type 0) where
+  loads_is : (view : Option View) → (loads {T = T} view ≡ []) ⊎ (loads {T = T} view ≡ GoingOn ∷ [])
+  loads_is (Some (Registering c n)) = inl refl
+  loads_is (Some _) = inr refl
+  loads_is None = inr refl
 
-won : (first : List Ending) → (first ≡ []) ⊎ (first ≡ GoingOn ∷ []) → (c : FairCall) → Comes_to (first ++ registered_end c ∷ []) (registered_so c)
-won first (inl e) Lock = (1, ap (λ l. l ++ GoingOn ∷ []) e)
-won first (inr e) Lock = (2, ap (λ l. l ++ GoingOn ∷ []) e)
-won first (inl e) _ = (0, ap (λ l. l ++ answered Granted ∷ []) e)
-won first (inr e) _ = (1, ap (λ l. l ++ answered Granted ∷ []) e)
+  won : (first : List (Ending T)) → (first ≡ []) ⊎ (first ≡ GoingOn ∷ []) → (c : FairCall) → Comes_to (first ++ registered_end c ∷ []) (registered_so c)
+  won first (inl e) Lock = (1, ap (λ l. l ++ GoingOn ∷ []) e)
+  won first (inr e) Lock = (2, ap (λ l. l ++ GoingOn ∷ []) e)
+  won first (inl e) _ = (0, ap (λ l. l ++ answered Granted ∷ []) e)
+  won first (inr e) _ = (1, ap (λ l. l ++ answered Granted ∷ []) e)
 
-pub has_won : (view : Option View) (word found : ℕ) → found ≡ word → Comes_to (register_ends view word found) (registered_so (call_of view))
-has_won view word found e =
-    subst (λ b. Comes_to (if b then loads view ++ registered_end (call_of view) ∷ [] else (if is_some (starve most_starvers found) then GoingOn else no_room_end (call_of view)) ∷ []) (registered_so (call_of view))) (sym (eq-eqb found word e)) (won (loads view) (loads_is view) (call_of view))
+  pub has_won : (view : Option View) (word found : ℕ) → found ≡ word → Comes_to (register_ends {T = T} view word found) (registered_so (call_of view))
+  has_won view word found e =
+      subst (λ b. Comes_to {T = T} (if b then loads view ++ registered_end (call_of view) ∷ [] else (if is_some (starve most_starvers found) then GoingOn else no_room_end (call_of view)) ∷ []) (registered_so (call_of view))) (sym (eq-eqb found word e)) (won (loads view) (loads_is view) (call_of view))
 
--- whether it found a word with room
-abbrev pub room_so : FairCall → ℕ → Option (Answer (Unit {0}))
-room_so c n = if is_some (starve most_starvers n) then None else no_room_so c
+  -- whether it found a word with room
+  abbrev pub room_so : FairCall → ℕ → Option (Answer T)
+  room_so c n = if is_some (starve most_starvers n) then None else no_room_so c
 
-missed : (room : Bool) (c : FairCall) → Comes_to ((if room then GoingOn else no_room_end c) ∷ []) (if room then None else no_room_so c)
-missed true c = (1, refl)
-missed false Lock = (1, refl)
-missed false _ = (0, refl)
+  missed : (room : Bool) (c : FairCall) → Comes_to {T = T} ((if room then GoingOn else no_room_end c) ∷ []) (if room then None else no_room_so c)
+  missed true c = (1, refl)
+  missed false Lock = (1, refl)
+  missed false _ = (0, refl)
 
-pub has_missed : (view : Option View) (word found : ℕ) → found ≢ word → Comes_to (register_ends view word found) (room_so (call_of view) found)
-has_missed view word found ne =
-    subst (λ b. Comes_to (if b then loads view ++ registered_end (call_of view) ∷ [] else (if is_some (starve most_starvers found) then GoingOn else no_room_end (call_of view)) ∷ []) (room_so (call_of view) found)) (sym (ne_eqb found word ne)) (missed (is_some (starve most_starvers found)) (call_of view))
+  pub has_missed : (view : Option View) (word found : ℕ) → found ≢ word → Comes_to (register_ends {T = T} view word found) (room_so (call_of view) found)
+  has_missed view word found ne =
+      subst (λ b. Comes_to {T = T} (if b then loads view ++ registered_end (call_of view) ∷ [] else (if is_some (starve most_starvers found) then GoingOn else no_room_end (call_of view)) ∷ []) (room_so (call_of view) found)) (sym (ne_eqb found word ne)) (missed (is_some (starve most_starvers found)) (call_of view))
 
-flag_was_set : (c : FairCall) → Comes_to (flag_set_end c ∷ []) (flag_set_so c)
-flag_was_set StarverTryLock = (0, refl)
-flag_was_set _ = (1, refl)
+  flag_was_set : (c : FairCall) → Comes_to {T = T} (flag_set_end c ∷ []) (flag_set_so c)
+  flag_was_set StarverTryLock = (0, refl)
+  flag_was_set _ = (1, refl)
 
--- a starver goes for the flag, which is clear, or set
-pub clear_at : (c : FairCall) (n : ℕ) → (n % 2 == 0) ≡ true → Comes_to ((if n % 2 == 0 then GoingOn else flag_set_end c) ∷ []) None
-clear_at c n even = (1, ap (λ b. (if b then GoingOn else flag_set_end c) ∷ []) even)
+  -- a starver goes for the flag, which is clear, or set
+  pub clear_at : (c : FairCall) (n : ℕ) → (n % 2 == 0) ≡ true → Comes_to {T = T} ((if n % 2 == 0 then GoingOn else flag_set_end c) ∷ []) None
+  clear_at c n even = (1, ap (λ b. (if b then GoingOn else flag_set_end c) ∷ []) even)
 
-pub set_at : (c : FairCall) (n : ℕ) → (n % 2 == 0) ≡ false → Comes_to ((if n % 2 == 0 then GoingOn else flag_set_end c) ∷ []) (flag_set_so c)
-set_at c n odd = subst (λ b. Comes_to ((if b then GoingOn else flag_set_end c) ∷ []) (flag_set_so c)) (sym odd) (flag_was_set c)
+  pub set_at : (c : FairCall) (n : ℕ) → (n % 2 == 0) ≡ false → Comes_to {T = T} ((if n % 2 == 0 then GoingOn else flag_set_end c) ∷ []) (flag_set_so c)
+  set_at c n odd = subst (λ b. Comes_to {T = T} ((if b then GoingOn else flag_set_end c) ∷ []) (flag_set_so c)) (sym odd) (flag_was_set c)
 
-module _ {T : Type 0} where
-  -- a party that registers stands where it stood, or goes for the word that it found
-  abbrev pub HasReached : Account T → ℕ → Option (Numbered View) → Watch Done → Type 0
-  HasReached first word view seen = let c = call_of (view_of first) in
-      ((view ≡ first.permit.view) × (seen.name ≡ first.seen.name) × (seen.entries ≡ first.seen.entries) × (word ≡ 0))
-      ⊎ ((what view ≡ Some (goes_for c word)) × Comes_by (Comes (in_call (view_of first)) c (room_so c word)) first view seen)
+module _ {T : Type 0} (was : Account T) (k : Opening T) (v : Option (Numbered View)) (s : Watch (Done T)) where
+  -- moves of a call, and then further ones of it
+  pub and_on : (goes_on : Bool) (c : FairCall) (o : Option (Answer T)) (lock : Opening T) (view : Option (Numbered View)) (seen : Watch (Done T)) → Comes_by (Comes goes_on c None) was k v s
+      → ((seen.name ≡ s.name) × (lock ≡ k)) × Moves k.value (Comes true c o) v s.entries view seen.entries → Comes_by (Comes goes_on c o) was lock view seen
+  and_on goes_on c o lock view seen one two = (
+    (two.0.0 ∙ one.0.0, two.0.1 ∙ one.0.1),
+    and_then was.permit.key.value goes_on c o was.permit.view v view was.seen.entries s.entries seen.entries one.1 (subst (λ q. Moves q.value (Comes true c o) v s.entries view seen.entries) one.0.1 two.1),
+  )
 
-  module _ (first : Account T) (word : ℕ) (view : Option (Numbered View)) (seen : Watch Done) where
-    pub reaches : HasReached first word view seen → Registers (view_of first) word (what view)
+  -- the party of a guard, and what it knows
+  pub as_held : {P R S : Type 0} (course : Course T FairCall (Answer T)) (held : Held T P R S) → (Some (guard_view held.0) ≡ v) × (guard_key held.0 ≡ k) × (held.1 ≡ s) → Comes_by course was k v s
+      → Comes_by course was (guard_key held.0) (Some (guard_view held.0)) held.1
+  as_held course held (at, lock, is) so =
+      subst (λ (z : Opening T × Option (Numbered View) × Watch (Done T)). Comes_by course was z.0 z.1 z.2) (λ i. (sym lock i, sym at i, sym is i)) so
+
+module _ {T : Type 0} (first : Account T) where
+  abbrev call : FairCall
+  call = call_of (view_of first)
+
+  -- a party that registers found a word, with room or without
+  abbrev Has_found : ℕ → Option ℕ → Opening T → Option (Numbered View) → Watch (Done T) → Type 0
+  Has_found word room lock view seen =
+      (what view ≡ Some (if is_some room then Registering call word else finds_no_room call)) × Comes_by (Comes (in_call (view_of first)) call (if is_some room then None else no_room_so call)) first lock view seen
+
+  -- it stands where it stood, or goes for the word that it found
+  abbrev pub HasReached : ℕ → Opening T → Option (Numbered View) → Watch (Done T) → Type 0
+  HasReached word lock view seen =
+      ((view ≡ first.permit.view) × (seen.name ≡ first.seen.name) × (seen.entries ≡ first.seen.entries) × (word ≡ 0) × (lock ≡ first.permit.key)) ⊎ Has_found word (starve most_starvers word) lock view seen
+
+  module _ (word : ℕ) (lock : Opening T) (view : Option (Numbered View)) (seen : Watch (Done T)) where
+    pub reaches : HasReached word lock view seen → Registers (view_of first) word (what view)
     reaches (inl at) = inl (ap what at.0, at.3)
     reaches (inr at) = inr at.0
 
-    registering : HasReached first word view seen → (o : Option ℕ) → o ≡ starve most_starvers word → (word ≡ 0) ⊎ ((what view ≡ Some (if is_some o then Registering (call_of (view_of first)) word else finds_no_room (call_of (view_of first)))) × Comes_by (Comes (in_call (view_of first)) (call_of (view_of first)) (if is_some o then None else no_room_so (call_of (view_of first)))) first view seen)
-    registering (inl at) o is = inl at.3
-    registering (inr at) o is = inr (subst (λ o. (what view ≡ Some (if is_some o then Registering (call_of (view_of first)) word else finds_no_room (call_of (view_of first)))) × Comes_by (Comes (in_call (view_of first)) (call_of (view_of first)) (if is_some o then None else no_room_so (call_of (view_of first)))) first view seen) (sym is) at)
-
-    pub no_room : HasReached first word view seen → None ≡ starve most_starvers word → (what view ≡ Some (finds_no_room (call_of (view_of first)))) × Comes_by (Comes (in_call (view_of first)) (call_of (view_of first)) (no_room_so (call_of (view_of first)))) first view seen
-    no_room reached none = at (registering reached None none)
-      where
-        at : (word ≡ 0) ⊎ ((what view ≡ Some (finds_no_room (call_of (view_of first)))) × Comes_by (Comes (in_call (view_of first)) (call_of (view_of first)) (no_room_so (call_of (view_of first)))) first view seen)
-            → (what view ≡ Some (finds_no_room (call_of (view_of first)))) × Comes_by (Comes (in_call (view_of first)) (call_of (view_of first)) (no_room_so (call_of (view_of first)))) first view seen
-        at (inl zero_word) = absurd (let e : None ≡ starve most_starvers 0 = none ∙ ap (starve most_starvers) zero_word in cc (e))
-        at (inr so) = so
+    pub no_room : HasReached word lock view seen → None ≡ starve most_starvers word → (what view ≡ Some (finds_no_room call)) × Comes_by (Comes (in_call (view_of first)) call (no_room_so call)) first lock view seen
+    no_room (inl at) none = absurd (let e : None ≡ starve most_starvers 0 = none ∙ ap (starve most_starvers) at.3 in cc (e))
+    no_room (inr at) none = subst (λ o. Has_found word o lock view seen) (sym none) at
 
     module _ (more : ℕ) (room : Some more ≡ starve most_starvers word) where
-      pub stays_in : HasReached first word view seen → call_of (what view) ≡ call_of (view_of first)
+      pub stays_in : HasReached word lock view seen → call_of (what view) ≡ call
       stays_in (inl at) = ap (λ v. call_of (what v)) at.0
-      stays_in (inr at) = let c = call_of (view_of first) in ap call_of (at.0 ∙ ap (λ o. Some (if is_some o then Registering c word else finds_no_room c)) (sym room))
+      stays_in (inr at) = ap call_of (subst (λ o. Has_found word o lock view seen) (sym room) at).0
 
-      -- a step of its call, behind those before
-      pub goes_further : (o : FairCall → Option (Answer (Unit {0}))) (view' : Option (Numbered View)) (seen' : Watch Done) → HasReached first word view seen
-          → (seen'.name ≡ seen.name) × Moves (Comes (in_call (what view)) (call_of (what view)) (o (call_of (what view)))) view seen.entries view' seen'.entries → Comes_by (Comes (in_call (view_of first)) (call_of (view_of first)) (o (call_of (view_of first)))) first view' seen'
-      goes_further o view' seen' (inl at) so =
-          (so.0 ∙ at.1, subst (λ (z : Option (Numbered View) × List Done). Moves (Comes (in_call (what z.0)) (call_of (what z.0)) (o (call_of (what z.0)))) z.0 z.1 view' seen'.entries) (λ i. (at.0 i, at.2 i)) so.1)
-      goes_further o view' seen' (inr at) so =
-          let c = call_of (view_of first) in
-          let is : what view ≡ Some (Registering c word) = at.0 ∙ ap (λ o. Some (if is_some o then Registering c word else finds_no_room c)) (sym room) in
-          let went = subst (λ o. Comes_by (Comes (in_call (view_of first)) c (if is_some o then None else no_room_so c)) first view seen) (sym room) at.1 in
-          let step = subst (λ v. Moves (Comes (in_call v) (call_of v) (o (call_of v))) view seen.entries view' seen'.entries) is so.1 in
-          (so.0 ∙ went.0, and_then (in_call (view_of first)) c (o c) first.permit.view view view' first.seen.entries seen.entries seen'.entries went.1 step)
-
-module _ {T : Type 0} (was : Account T) (v : Option (Numbered View)) (s : Watch Done) where
-  -- moves of a call, and then further ones of it
-  pub and_on : (goes_on : Bool) (c : FairCall) (o : Option (Answer (Unit {0}))) (view : Option (Numbered View)) (seen : Watch Done) → Comes_by (Comes goes_on c None) was v s
-      → (seen.name ≡ s.name) × Moves (Comes true c o) v s.entries view seen.entries → Comes_by (Comes goes_on c o) was view seen
-  and_on goes_on c o view seen one two = (two.0 ∙ one.0, and_then goes_on c o was.permit.view v view was.seen.entries s.entries seen.entries one.1 two.1)
-
-  -- the party of a guard, and what it knows
-  pub as_held : {P R S : Type 0} (course : Course (Unit {0}) FairCall (Answer (Unit {0}))) (held : Held T P R S) → (Some (guard_view held.0) ≡ v) × (held.1 ≡ s) → Comes_by course was v s → Comes_by course was (Some (guard_view held.0)) held.1
-  as_held course held (at, is) so =
-      (ap (λ w. w.name) is ∙ so.0, subst (λ (z : Option (Numbered View) × Watch Done). Moves course was.permit.view was.seen.entries z.0 z.1.entries) (λ i. (sym at i, sym is i)) so.1)
+      -- a step of its call, after those before
+      pub goes_further : (o : FairCall → Option (Answer T)) (lock' : Opening T) (view' : Option (Numbered View)) (seen' : Watch (Done T)) → HasReached word lock view seen
+          → ((seen'.name ≡ seen.name) × (lock' ≡ lock)) × Moves lock.value (Comes (in_call (what view)) (call_of (what view)) (o (call_of (what view)))) view seen.entries view' seen'.entries → Comes_by (Comes (in_call (view_of first)) call (o call)) first lock' view' seen'
+      goes_further o lock' view' seen' (inl at) so = (
+        (so.0.0 ∙ at.1, so.0.1 ∙ at.4),
+        subst (λ (z : Opening T × Option (Numbered View) × List (Done T)). Moves z.0.value (Comes (in_call (what z.1)) (call_of (what z.1)) (o (call_of (what z.1)))) z.1 z.2 view' seen'.entries) (λ i. (at.4 i, at.0 i, at.2 i)) so.1,
+      )
+      goes_further o lock' view' seen' (inr at) so =
+          let went = subst (λ o. Has_found word o lock view seen) (sym room) at in
+          let step = subst (λ v. Moves lock.value (Comes (in_call v) (call_of v) (o (call_of v))) view seen.entries view' seen'.entries) went.0 so.1 in
+          and_on first lock view seen (in_call (view_of first)) call (o call) lock' view' seen' went.1 (so.0, step)
 
 -- A starver
 
@@ -261,8 +321,8 @@ waiting_sets (Some (Setting _)) may = absurd cc
 waiting_sets (Some _) may = absurd may
 waiting_sets None may = absurd may
 
--- one that waits goes on with a look where it finds the flag set
-pub waits_so : (view : Option View) → MayAwait view → (flag_set_so (call_of view) ≡ None) × (awaits (Some (finds_flag_set (call_of view))) ≡ true)
+-- a call that waits continues with a look if it finds the flag set
+pub waits_so : {T : Type 0} (view : Option View) → MayAwait view → (flag_set_so {T = T} (call_of view) ≡ None) × (awaits (Some (finds_flag_set (call_of view))) ≡ true)
 waits_so (Some (Setting Lock)) may = (refl, refl)
 waits_so (Some (Setting StarverLock)) may = (refl, refl)
 waits_so (Some (Setting _)) may = absurd cc

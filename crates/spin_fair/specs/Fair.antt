@@ -1,11 +1,14 @@
--- The rule of a fair mutex: its word is that of a plain lock whose holders and starvers are its parties, and its trace is a schedule of the lock's model, which leads there.
+-- The rule of a fair mutex. Its word is that of a plain lock whose holders and starvers are its parties. Its trace is a
+-- schedule of the lock's model, which leads there.
 use Rattle.std.specs.Prelude.{◌≡◌, ◌⊎◌, ℕ, ◌+◌, ◌++◌, Bool, true, false, List, [], ◌∷◌, map, Option, Some, None, if◌then◌else◌, ◌%◌, ◌==◌, nat_lt, is_some, ◌<◌, ◌≤◌, slice_get}
 use Rattle.spin_step.specs.Plain.{writing, fair_word}
 use Rattle.spin_step_more.specs.Starvers.{most_starvers, is_set, starve}
-use Rattle.spin_core.specs.Cell.{Use, off, writes}
+use Rattle.spin_core.specs.Cell.{Use, off, writes, alone, Ways}
 use Rattle.spin_core.specs.Views.{Part, idle, holds, starves, holds_starving, part_at, Encodes, no_word}
 use Rattle.spin_core.specs.Own.{Numbered, Runs, Tells}
-use Rattle.spin_core.specs.Passes.{Course, Waits, Ends, Begins, IsCall, Made}
+use Rattle.spin_core.specs.Passes.{Course, Waits, Ends, Begins, IsCall, IsStep, WritesSome, Made}
+use Rattle.spin_core.specs.Values.{last}
+use Rattle.spin_core.specs.declared.tie.Opening.{Opening}
 use Rattle.spin_core.specs.declared.trace.Trace.{Trace}
 use Rattle.spin_fair.specs.declared.fair.rule.View.{View}
 use Rattle.spin_fair.specs.declared.fair.rule.View.TheVariants.{Idle, Starving, Holding, Served, Trying, Looking, Loading, Registering, Setting, Awaiting, HoldingStarving}
@@ -24,7 +27,7 @@ use Rattle.spin_model.specs.Schedules.{Entry}
 use Rattle.spin_step_more.specs.declared.fair.LockRejectReason.{LockRejectReason}
 use Rattle.spin_step_more.specs.declared.fair.LockRejectReason.TheVariants.{Locked, Starved}
 use Rattle.spin_step_more.specs.declared.fair_calls.FairCall.{FairCall}
-use Rattle.spin_step_more.specs.declared.fair_calls.FairCall.TheVariants.{Lock, TryLockStarver, IsLocked, Starve, StarverTryLockFair, StarverTryLock, StarverLock}
+use Rattle.spin_step_more.specs.declared.fair_calls.FairCall.TheVariants.{Lock, TryLockStarver, IsLocked, Starve, StarverTryLockFair, StarverTryLock, StarverLock, StarverDrop, Release}
 use Rattle.spin_step_more.specs.declared.fair_calls.FairPoint.{FairPoint}
 use Rattle.spin_step_more.specs.declared.fair_calls.FairPoint.TheVariants as point
 use Rattle.spin_step_more.specs.FairCalls.{fair_machine}
@@ -38,7 +41,7 @@ part (Awaiting c) = starves
 part (HoldingStarving c) = holds_starving
 part _ = idle
 
--- a party that has the flag and starves still does not use the value yet
+-- a party that has the flag but still starves does not use the value yet
 abbrev pub use_of_view : View → Use
 use_of_view Holding = writes
 use_of_view Served = writes
@@ -48,7 +51,7 @@ use_of_view _ = off
 abbrev pub use_of_party : Numbered View → Use
 use_of_party v = use_of_view v.0
 
--- what a starver held as its call began
+-- what a starver held when its call began
 abbrev pub held_before : FairCall → Option Hold
 held_before Lock = None
 held_before _ = Some Starver
@@ -67,30 +70,36 @@ seat_of (Setting c) = seat.Calling c point.SetFlag (held_before c)
 seat_of (Awaiting c) = seat.Calling c point.Await (held_before c)
 seat_of (HoldingStarving c) = seat.Calling c point.Unregister (held_before c)
 
--- a `lock` registers by the next look that finds the flag set after so many
+-- a `lock` registers after this many looks that found the flag set
 abbrev pub patience : ℕ
 patience = 1025
 
-abbrev pub model : Machine ℕ (Unit {0}) FairCall FairPoint (Answer (Unit {0}))
-model = fair_machine tt most_starvers patience
+-- the model of a lock that opens with this value
+abbrev pub model : {T : Type 0} → T → Machine ℕ T FairCall FairPoint (Answer T)
+model v = fair_machine v most_starvers patience
 
--- the lock's words, by the model's
+-- the words of the lock, from those of the model
 abbrev pub words_of : ℕ → ℕ × Unit {0}
 words_of w = (w, tt)
 
-abbrev pub OneMove : Type 0
-OneMove = Move FairCall (Unit {0})
+-- Of a lock of values of type T
 
-abbrev pub Ending : Type 0
-Ending = Outcome (Answer (Unit {0})) (Unit {0})
+abbrev pub OneMove : Type 0 → Type 0
+OneMove T = Move FairCall T
 
-abbrev pub Done : Type 0
-Done = Entry FairCall (Unit {0})
+abbrev pub Ending : Type 0 → Type 0
+Ending T = Outcome (Answer T) T
+
+abbrev pub Done : Type 0 → Type 0
+Done T = Entry FairCall T
+
+abbrev pub Says : Type 0 → Type 1
+Says T = List (OneMove T) → List (Ending T) → ℕ → View → Type 0
 
 abbrev pub Word : ℕ → Unit {0} → List View → Type 0
 Word = Encodes part most_starvers fair_word no_word
 
--- a newcomer that holds, and a party that is registered
+-- 1 for a newcomer that holds; `starver`: 1 for a registered party
 abbrev pub newcomer : View → ℕ
 newcomer Holding = 1
 newcomer _ = 0
@@ -102,35 +111,37 @@ starver (Awaiting c) = 1
 starver (HoldingStarving c) = 1
 starver _ = 0
 
--- a newcomer that holds made its last move, by which it acquired the lock, before each registered starver made its last
+-- a newcomer that holds made its last move, by which it acquired the lock, before the last move of each registered
+-- starver
 abbrev pub StarversFirst : List (Numbered View) → Type 0
 StarversFirst parties = (i j : ℕ) (v w : Numbered View) → slice_get parties i ≡ Some v → slice_get parties j ≡ Some w → v.0 ≡ Holding → 0 < starver w.0 → v.2 ≤ w.2
 
--- of the first word, the trace and the parties, under the name of the lock's trace
-abbrev pub IsFair : ℕ → ℕ → Trace Done (Unit {0}) → List (Numbered View) → Type 0
-IsFair name word trace parties = Runs model seat_of words_of (λ n second vs. Word n second vs × StarversFirst parties) name word trace parties
+-- of the first word, the trace and the parties, of a lock that opened so
+abbrev pub IsFair : {T : Type 0} → Opening T → ℕ → Trace (Done T) (Unit {0}) → List (Numbered View) → Type 0
+IsFair opening word trace parties = Runs (model opening.value) seat_of words_of (λ n second vs. Word n second vs × StarversFirst parties) opening.name word trace parties
 
--- what a step tells of its moves
-abbrev pub Told : (List OneMove → List Ending → ℕ → View → Type 0) → Option (Numbered View) → List Done → List Done → ℕ → Numbered View → Type 0
-Told = Tells model seat_of words_of
+-- each holder has the value to itself; the value that nobody holds is the one written last
+abbrev pub fair_ways : {T : Type 0} → Opening T → Ways T (Numbered View) (Trace (Done T) (Unit {0}))
+fair_ways opening = (alone, use_of_party, last opening)
 
--- The steps: what each results in and where it leads, by the number found
+-- what a step tells of its moves, of a lock that opened with this value
+abbrev pub Told : {T : Type 0} → T → Says T → Option (Numbered View) → List (Done T) → List (Done T) → ℕ → Numbered View → Type 0
+Told v = Tells (model v) seat_of words_of
 
-abbrev pub Says : Type 1
-Says = List OneMove → List Ending → ℕ → View → Type 0
+-- The steps: the outcomes and the next view of each, by the number found
 
--- a step of as many moves as it has outcomes: in a call that goes on (true), or behind the beginning of this call
-abbrev pub AreSteps : Bool → FairCall → List Ending → List OneMove → List Ending → Type 0
+-- as many steps as there are outcomes, in a call under way (true), or after the beginning of this call
+abbrev pub AreSteps : {T : Type 0} → Bool → FairCall → List (Ending T) → List (OneMove T) → List (Ending T) → Type 0
 AreSteps true c ends own outs = (own ≡ map (λ _. Step) ends) × (outs ≡ ends)
 AreSteps false c ends own outs = (own ≡ Begin c ∷ map (λ _. Step) ends) × (outs ≡ Begun ∷ ends)
 
-abbrev pub steps_by : Bool → FairCall → (ℕ → List Ending) → (ℕ → View) → Says
+abbrev pub steps_by : {T : Type 0} → Bool → FairCall → (ℕ → List (Ending T)) → (ℕ → View) → Says T
 steps_by goes_on c ends to own outs n v = (v ≡ to n) × AreSteps goes_on c (ends n) own outs
 
-abbrev pub answered : Answer (Unit {0}) → Ending
+abbrev pub answered : {T : Type 0} → Answer T → Ending T
 answered a = Answered a None
 
--- it is in a call
+-- the party is in a call
 abbrev pub in_call : Option View → Bool
 in_call (Some (Trying n)) = true
 in_call (Some (Looking n)) = true
@@ -141,7 +152,7 @@ in_call (Some (Awaiting c)) = true
 in_call (Some (HoldingStarving c)) = true
 in_call _ = false
 
--- in which call it is; one that is in none begins `starve`
+-- the call that the party is in; without one it begins `starve`
 abbrev pub call_of : Option View → FairCall
 call_of (Some (Trying n)) = Lock
 call_of (Some (Looking n)) = Lock
@@ -152,36 +163,36 @@ call_of (Some (Awaiting c)) = c
 call_of (Some (HoldingStarving c)) = c
 call_of _ = Starve
 
--- it is in no call, and holds nothing
+-- the party is in no call, and holds nothing
 abbrev pub IsOut : Option View → Type 0
 IsOut None = Unit {0}
 IsOut (Some Idle) = Unit {0}
 IsOut _ = ⊥
 
--- what the party is; one that has not come yet is idle
+-- the party's view; a party that is new is idle
 abbrev pub stands : Option (Numbered View) → View
 stands None = Idle
 stands (Some v) = v.0
 
-abbrev pub looks_by : Says
+abbrev pub looks_by : {T : Type 0} → Says T
 looks_by = steps_by false IsLocked (λ n. answered (answer.Is (is_set n)) ∷ []) (λ n. Idle)
 
--- what a newcomer is told that finds this word, where it is not 0
-abbrev pub refusal : FairCall → ℕ → Answer (Unit {0})
+-- the answer to a newcomer that found this word, if that is not 0
+abbrev pub refusal : {T : Type 0} → FairCall → ℕ → Answer T
 refusal TryLockStarver n = if n == 1 then answer.Locked else answer.Starved
 refusal _ n = answer.Refused
 
--- the reason that says so
-abbrev pub answer_of : LockRejectReason → Answer (Unit {0})
+-- the answer that gives this reason
+abbrev pub answer_of : {T : Type 0} → LockRejectReason → Answer T
 answer_of Locked = answer.Locked
 answer_of Starved = answer.Starved
 
--- the exchange of a try of a newcomer
-abbrev pub tries_by : FairCall → Says
+-- the exchange of a newcomer's try
+abbrev pub tries_by : {T : Type 0} → FairCall → Says T
 tries_by c = steps_by false c (λ n. answered (if n == 0 then answer.Granted else refusal c n) ∷ []) (λ n. if n == 0 then Holding else Idle)
 
--- a starver that is not the only one is refused by `try_lock_fair`, and goes on to set the flag in its other calls
-abbrev pub missed_alone : FairCall → List Ending
+-- if there are other starvers `try_lock_fair` fails, and a starver's other calls go on to set the flag
+abbrev pub missed_alone : {T : Type 0} → FairCall → List (Ending T)
 missed_alone StarverTryLockFair = answered answer.Refused ∷ []
 missed_alone _ = []
 
@@ -192,81 +203,88 @@ not_alone c = Setting c
 abbrev pub alone_to : FairCall → ℕ → View
 alone_to c n = if n == 2 then Served else not_alone c
 
--- the exchange of a starver that begins a call: the only one makes both steps of the call at once
-abbrev pub alone_by : FairCall → Says
+-- the exchange with which a starver begins a call; the only starver makes both steps of the call at once
+abbrev pub alone_by : {T : Type 0} → FairCall → Says T
 alone_by c = steps_by false c (λ n. if n == 2 then GoingOn ∷ answered answer.Granted ∷ [] else missed_alone c) (alone_to c)
 
--- a call of one step by which a party gives back what it holds
-abbrev pub ends_by : FairCall → Says
-ends_by c = steps_by false c (λ n. answered answer.Done ∷ []) (λ n. Idle)
+-- a starver ends its registration
+abbrev pub gives_up_by : {T : Type 0} → Says T
+gives_up_by = steps_by false StarverDrop (λ n. answered answer.Done ∷ []) (λ n. Idle)
 
--- how many looks have found the lock held
+-- the release: the holder writes the value that it leaves, one of which this holds, and gives the lock back
+abbrev pub frees_with : {T : Type 0} → (T → Type 0) → Says T
+frees_with Q own outs n v = (v ≡ Idle) × WritesSome Q (IsStep false Release (answered answer.Done)) own outs
+
+abbrev pub frees_by : {T : Type 0} → Says T
+frees_by = frees_with (λ x. Unit {0})
+
+-- how many looks have found the lock held so far
 abbrev pub looks_of : Option View → ℕ
 looks_of (Some (Trying n)) = n
 looks_of (Some (Looking n)) = n
 looks_of _ = 0
 
--- where the exchange of `lock` leads, by the number found
+-- the view after the exchange of `lock`, by the number found
 abbrev pub tried : Option View → ℕ → View
 tried view n = if n == 0 then Holding else Looking (looks_of view)
 
-abbrev pub tried_by : Option View → Says
+abbrev pub tried_by : {T : Type 0} → Option View → Says T
 tried_by view = steps_by (in_call view) Lock (λ n. (if n == 0 then answered answer.Granted else GoingOn) ∷ []) (tried view)
 
--- where a look of `lock` leads: it is counted where it finds the flag set, until the party has looked often enough
+-- the view after a look of `lock`; a look that found the flag set is counted, until there are enough to register
 abbrev pub looked : Option View → ℕ → View
 looked view n = if is_set n then (if nat_lt (looks_of view) patience then Looking (looks_of view + 1) else Loading) else Trying (looks_of view)
 
-abbrev pub looked_by : Option View → Says
+abbrev pub looked_by : {T : Type 0} → Option View → Says T
 looked_by view = steps_by true Lock (λ n. GoingOn ∷ []) (looked view)
 
 abbrev pub registered : FairCall → View
 registered Lock = Setting Lock
 registered _ = Starving
 
--- at the cap `lock` looks again, and `starve` gives up
+-- if no more may starve, `lock` looks again, and `starve` fails
 abbrev pub finds_no_room : FairCall → View
 finds_no_room Lock = Looking patience
 finds_no_room _ = Idle
 
--- a party that found this word tries to exchange it for the next one, if there is one
+-- a party that found this word tries to exchange it for the one after it has registered, if there is one
 abbrev pub goes_for : FairCall → ℕ → View
 goes_for c n = if is_some (starve most_starvers n) then Registering c n else finds_no_room c
 
--- where an exchange leads that is to register
+-- the view after an exchange that would register
 abbrev pub registered_by : Option View → ℕ → ℕ → View
 registered_by view old n = if n == old then registered (call_of view) else goes_for (call_of view) n
 
--- of a party that registers, or finds no room: `lock` goes on, and `starve` is answered
-abbrev pub registered_end : FairCall → Ending
+-- the outcome of a step that registers; below, of one that finds no room
+abbrev pub registered_end : {T : Type 0} → FairCall → Ending T
 registered_end Lock = GoingOn
 registered_end _ = answered answer.Granted
 
-abbrev pub no_room_end : FairCall → Ending
+abbrev pub no_room_end : {T : Type 0} → FairCall → Ending T
 no_room_end Lock = GoingOn
 no_room_end _ = answered answer.Refused
 
--- a first exchange is of 0: it is the load and the exchange where it wins, and the load where it loses
-abbrev pub loads : Option View → List Ending
+-- A first exchange expects 0. If it succeeds it is the model's load and exchange, and if it fails only the load.
+abbrev pub loads : {T : Type 0} → Option View → List (Ending T)
 loads (Some (Registering c n)) = []
 loads _ = GoingOn ∷ []
 
-abbrev pub register_ends : Option View → ℕ → ℕ → List Ending
+abbrev pub register_ends : {T : Type 0} → Option View → ℕ → ℕ → List (Ending T)
 register_ends view old n = if n == old then loads view ++ registered_end (call_of view) ∷ [] else (if is_some (starve most_starvers n) then GoingOn else no_room_end (call_of view)) ∷ []
 
-abbrev pub registers_by : Option View → ℕ → Says
+abbrev pub registers_by : {T : Type 0} → Option View → ℕ → Says T
 registers_by view old = steps_by (in_call view) (call_of view) (register_ends view old) (registered_by view old)
 
--- a party comes to register, or goes on from a word that it found
+-- the call begins to register, or continues with a word that it found
 abbrev pub Registers : Option View → ℕ → Option View → Type 0
 Registers first word view = ((view ≡ first) × (word ≡ 0)) ⊎ (view ≡ Some (goes_for (call_of first) word))
 
--- it comes, or has looked often enough
+-- the call has just begun, or has looked often enough
 abbrev pub MayRegister : Option View → Type 0
 MayRegister (Some Loading) = Unit {0}
 MayRegister view = IsOut view
 
--- it comes, or goes on with its exchange, after so many looks
+-- the call has just begun, or continues with its exchange, after n looks
 abbrev pub MayTry : ℕ → Option View → Type 0
 MayTry n None = n ≡ 0
 MayTry n (Some Idle) = n ≡ 0
@@ -277,24 +295,24 @@ abbrev pub finds_flag_set : FairCall → View
 finds_flag_set StarverTryLock = Starving
 finds_flag_set c = Awaiting c
 
--- where the operation leads that sets the flag in this call
+-- the view after the operation that sets the flag in this call
 abbrev pub set_by : FairCall → ℕ → View
 set_by c n = if n % 2 == 0 then HoldingStarving c else finds_flag_set c
 
-abbrev pub flag_set_end : FairCall → Ending
+abbrev pub flag_set_end : {T : Type 0} → FairCall → Ending T
 flag_set_end StarverTryLock = answered answer.Refused
 flag_set_end c = GoingOn
 
-abbrev pub sets_by : FairCall → Says
+abbrev pub sets_by : {T : Type 0} → FairCall → Says T
 sets_by c = steps_by true c (λ n. (if n % 2 == 0 then GoingOn else flag_set_end c) ∷ []) (set_by c)
 
--- a starver waits in this call
+-- in this call a starver waits
 abbrev pub waits : FairCall → Bool
 waits Lock = true
 waits StarverLock = true
 waits _ = false
 
--- a starver sets the flag in this call
+-- in this call a starver sets the flag
 abbrev pub sets : FairCall → Bool
 sets StarverTryLock = true
 sets c = waits c
@@ -303,7 +321,7 @@ abbrev pub MaySet : Option View → Type 0
 MaySet (Some (Setting c)) = sets c ≡ true
 MaySet _ = ⊥
 
--- the same in a call that waits
+-- in a call that waits, the party's next step sets the flag
 abbrev pub MayAwait : Option View → Type 0
 MayAwait (Some (Setting c)) = waits c ≡ true
 MayAwait _ = ⊥
@@ -320,17 +338,17 @@ abbrev pub awaited_by : Option View → ℕ → View
 awaited_by (Some (Awaiting c)) n = if is_set n then Awaiting c else Setting c
 awaited_by _ n = Idle
 
-abbrev pub awaits_by : Option View → Says
+abbrev pub awaits_by : {T : Type 0} → Option View → Says T
 awaits_by view = steps_by true (call_of view) (λ n. GoingOn ∷ []) (awaited_by view)
 
-abbrev pub served_by : Option View → Says
+abbrev pub served_by : {T : Type 0} → Option View → Says T
 served_by view = steps_by true (call_of view) (λ n. answered answer.Granted ∷ []) (λ n. Served)
 
--- what the parties are
+-- the views of the parties
 abbrev pub views_of : List (Numbered View) → List View
 views_of parties = map (λ v. v.0) parties
 
--- the party with this number holds the lock, and starves no more
+-- the party with this number holds the lock, and no longer starves
 abbrev pub HoldsAt : List View → ℕ → Type 0
 HoldsAt vs p = part_at part vs p ≡ holds writing
 
@@ -338,33 +356,37 @@ HoldsAt vs p = part_at part vs p ≡ holds writing
 abbrev pub StarvesAt : List View → ℕ → Type 0
 StarvesAt vs p = (part_at part vs p ≡ starves) ⊎ (part_at part vs p ≡ holds_starving)
 
--- What becomes of a party that keeps its number
+-- What a party that keeps its number does
 
--- moves of a call that goes on (true), or of this one from its beginning: it goes on, or is answered so
-abbrev pub Comes : Bool → FairCall → Option (Answer (Unit {0})) → Course (Unit {0}) FairCall (Answer (Unit {0}))
+-- the moves of a call under way (true), or of this call from its beginning; then it waits, or has this answer
+abbrev pub Comes : {T : Type 0} → Bool → FairCall → Option (Answer T) → Course T FairCall (Answer T)
 Comes true c None = Waits
 Comes true c (Some a) = Ends a
 Comes false c None = Begins c Waits
 Comes false c (Some a) = IsCall c a
 
--- since it knew `old` it has made moves of this course, and no others
-abbrev pub Moves : Course (Unit {0}) FairCall (Answer (Unit {0})) → Option (Numbered View) → List Done → Option (Numbered View) → List Done → Type 0
-Moves course view old view' new = Made model view old view' new course
+-- of a lock that opened with this value: since it knew `old` it has made moves of this course, and no others
+abbrev pub Moves : {T : Type 0} → T → Course T FairCall (Answer T) → Option (Numbered View) → List (Done T) → Option (Numbered View) → List (Done T) → Type 0
+Moves v course view old view' new = Made (model v) view old view' new course
 
 -- it has made exactly this call, with this answer
-abbrev pub Called : FairCall → Answer (Unit {0}) → Option (Numbered View) → List Done → Option (Numbered View) → List Done → Type 0
-Called c a = Moves (IsCall c a)
+abbrev pub Called : {T : Type 0} → T → FairCall → Answer T → Option (Numbered View) → List (Done T) → Option (Numbered View) → List (Done T) → Type 0
+Called v c a = Moves v (IsCall c a)
 
--- what `lock` and `starve` come to where they register, and where they find no room
-abbrev pub registered_so : FairCall → Option (Answer (Unit {0}))
+-- it has written a value of which this holds, and then made the release
+abbrev pub Left : {T : Type 0} → T → (T → Type 0) → Option (Numbered View) → List (Done T) → Option (Numbered View) → List (Done T) → Type 0
+Left v Q = Moves v (WritesSome Q (IsCall Release answer.Done))
+
+-- the answer of `lock` and `starve`, if any, when they register; below, when they find no room
+abbrev pub registered_so : {T : Type 0} → FairCall → Option (Answer T)
 registered_so Lock = None
 registered_so _ = Some answer.Granted
 
-abbrev pub no_room_so : FairCall → Option (Answer (Unit {0}))
+abbrev pub no_room_so : {T : Type 0} → FairCall → Option (Answer T)
 no_room_so Lock = None
 no_room_so _ = Some answer.Refused
 
--- what a starver's call comes to that finds the flag set
-abbrev pub flag_set_so : FairCall → Option (Answer (Unit {0}))
+-- the answer of a starver's call, if any, that finds the flag set
+abbrev pub flag_set_so : {T : Type 0} → FairCall → Option (Answer T)
 flag_set_so StarverTryLock = Some answer.Refused
 flag_set_so c = None

@@ -1,4 +1,4 @@
-//! A spinning mutex in which starvers come before newcomers. Begin at [`FairMutex::lock`] and [`FairMutex::starve`].
+//! A spinning mutex in which starvers go before newcomers. Begin at [`FairMutex::lock`] and [`FairMutex::starve`].
 ghost use Rattle.std.specs.Prelude.{◌≡◌, Some, None, [], true, IfSome, IfOk};
 ghost use Rattle.spin_core.specs.Guard.{IsHolder};
 ghost use Rattle.spin_fair.specs.Fair.{use_of_party};
@@ -10,6 +10,7 @@ use spin_core::cell::Cell;
 use spin_core::guard::{self, Guard};
 use spin_core::lock::{Lock, with_guard};
 use spin_core::relax::{RelaxStrategy, Spin, Strategy};
+use spin_core::tie::Opening;
 use spin_core::trace::Trace;
 use spin_step_more::fair;
 use std::sync::Wait;
@@ -26,20 +27,20 @@ pub use self::pass::Pass;
 pub use self::rule::{Entry, FairRule, Party, View};
 pub use self::starvation::Starvation;
 pub use self::starving::StarvingPass;
+pub use crate::laws::a_guard_reads_the_last_value_written;
 pub use spin_step_more::fair::LockRejectReason;
 
-/// The patience of [`FairMutex::lock`]: after more looks than this that found the lock held, it starves.
+/// The patience of [`FairMutex::lock`]. After more looks than this that found the lock held, it starves.
 pub const STARVATION_SPINS: usize = 1024;
 
-/// A spinning mutual exclusion lock in which a thread that has waited for long comes before newcomers.
+/// A spinning mutual exclusion lock in which a thread that has waited for long goes before newcomers.
 ///
 /// A thread that waits for long registers as a starver. While a starver is registered, only starvers acquire the lock.
 /// Starvers may overtake each other, and so may newcomers. A waiting thread passes the time with the strategy `R`.
 ///
-/// # Contract
-/// While a guard or a hold of the lock lives, no other call acquires it. A newcomer that holds the lock came before
-/// each registered starver (`no_newcomer_holds_that_came_behind_a_starver`). A guard gives a value of `T`, with all
-/// that the invariant of `T` says. Nothing else is promised of what other threads wrote.
+/// While a guard or a hold of the lock lives, no other call acquires it. A newcomer that holds the lock acquired it
+/// before the last move of each registered starver (`no_newcomer_holds_that_came_behind_a_starver`). A guard gives a
+/// value of `T`, with all that the invariant of `T` says. Nothing else is promised of what other threads wrote.
 ///
 /// # Examples
 /// ```
@@ -74,12 +75,14 @@ impl<T, R> FairMutex<T, R> {
     /// Creates an unlocked mutex that holds `value` and has no starvers.
     ///
     /// # Contract
-    /// No clause. The call returns.
-    pub fn new(value: T) -> Self {
+    /// The lock's history begins with this value (`opens`). The call returns.
+    pub fn new(value: T) -> Self
+        ensures opens { (result.cell.value ≡ value) × (result.cell.told ≡ true) }
+    {
         let trace = Trace::new(());
-        let start = trace.watch();
+        let opening = Opening::of(&trace, &value);
         FairMutex {
-            cell: Cell::new(value, 0, trace, &start),
+            cell: Cell::new(value, 0, trace, &opening),
             strategy: Strategy::named(),
         }
     }
@@ -96,7 +99,7 @@ impl<T, R> FairMutex<T, R> {
 
     // Returns a party that has taken no step.
     pub(crate) fn account(&self) -> Account<'_, T>
-        ensures { (result.permit.view ≡ None) × (result.seen.name ≡ self.now.cell.name) × (result.seen.entries ≡ []) }
+        ensures { (result.permit.view ≡ None) × (result.permit.key ≡ self.now.cell) × (result.seen.name ≡ self.now.cell.name) × (result.seen.entries ≡ []) }
     {
         Account {
             permit: self.cell.enter(),
@@ -117,7 +120,7 @@ impl<T, R: RelaxStrategy> FairMutex<T, R> {
     pub fn lock<W: Wait>(&self, rt: &W) -> FairMutexGuard<'_, T, R>
         ensures { IsHolder use_of_party result }
     {
-        // As `Pass::lock`: through it, the path of a free lock would be longer.
+        // Not by `Pass::lock`: that would make the path for a free lock longer.
         let (guard, _) = match try_with(self.account(), 0) {
             Ok(held) => held,
             Err(waiting) => waiting.wait(rt),
@@ -173,8 +176,8 @@ impl<T, R> FairMutex<T, R> {
     /// Registers the caller as a starver. Returns `None` if [`fair::MAX_STARVERS`] are registered.
     ///
     /// From then on no newcomer acquires the lock, until the starver has the lock or is dropped. The first
-    /// compare-exchange takes the word for 0. If it is another, a second one is of the word found, and more follow only
-    /// while other threads change it.
+    /// compare-exchange expects the word to be 0. If it fails, a second one expects the word found. More follow only
+    /// while other threads change the word.
     ///
     /// # Contract
     /// `Some` is registered, as each `Starvation` is. `None` promises nothing. Whether and when the call returns is not

@@ -1,7 +1,9 @@
 //! What follows from the rule of a `FairMutex`. Each law is the contract of a function that does nothing; begin at
 //! [`every_run_of_a_fair_mutex_is_a_schedule`].
-ghost use Rattle.std.specs.Prelude.{◌≡◌, ◌<◌, ◌≤◌, ◌+◌, ◌-◌, ◌%◌, ◌^◌, ℕ, List, Some, true, bit_or, slice_get, unwrap_or};
+ghost use Rattle.std.specs.Prelude.{◌≡◌, ◌++◌, ◌<◌, ◌≤◌, ◌+◌, ◌-◌, ◌%◌, ◌^◌, ℕ, List, Some, true, bit_or, slice_get, unwrap_or};
 ghost use Rattle.spin_core.specs.Own.{Numbered, IsRun};
+ghost use Rattle.spin_core.specs.Values.{IsLast, latest};
+ghost use Rattle.spin_core.specs.declared.tie.Opening.{Opening};
 ghost use Rattle.spin_core.specs.declared.trace.Trace.{Trace};
 ghost use Rattle.spin_step.specs.Plain.{holder_weight, starver_weight};
 ghost use Rattle.spin_step_more.specs.Starvers.{is_set, unlocked, unstarved, lock_starved};
@@ -11,14 +13,26 @@ ghost use Rattle.spin_fair.specs.Fair.{Done, IsFair, model, seat_of, words_of, s
 
 /// Each run of a [`FairMutex`](crate::fair::FairMutex) on threads is a schedule of its model.
 ///
-/// The lock's cell keeps, without a byte, the list of all moves that threads have made in it so far: who, and which
+/// The lock's cell keeps, without a byte, the list of all moves that threads have made in it: which party, and which
 /// move.
 ///
 /// # Contract
-/// Whatever holds between any two steps of threads (`IsFair`): no move of the list is passed over in the model. After
-/// the list the model has the lock's word, and has each party where the lock has it.
-pub fn every_run_of_a_fair_mutex_is_a_schedule()
-    ensures { (name word : ℕ) (trace : Trace Done (Unit {0})) (parties : List (Numbered View)) → IsFair name word trace parties → IsRun model seat_of words_of trace.entries (word, trace.word) parties }
+/// The law holds between any two steps of threads (`IsFair`): no move of the list is skipped in the model. After the
+/// list the model has the lock's word, and each party is where the lock has it.
+pub fn every_run_of_a_fair_mutex_is_a_schedule<T>()
+    ensures { (opening : Opening T) (word : ℕ) (trace : Trace (Done T) (Unit {0})) (parties : List (Numbered View)) → IsFair opening word trace parties → IsRun (model opening.value) seat_of words_of trace.entries (word, trace.word) parties }
+{}
+
+/// A guard reads the value that was written last in the lock's history, by whichever thread.
+///
+/// The calls of a [`Pass`](crate::fair::Pass) and of a [`StarvingPass`](crate::fair::StarvingPass) say which value was
+/// last in the history that the pass knows: `found` of a guard, and `left` of its release.
+///
+/// # Contract
+/// Let `x` be the last value of a history `old`, and `y` that of a longer history of the lock (`IsLast`). Then `y` is what
+/// the further moves write last, or `x` where they write nothing (`latest`).
+pub fn a_guard_reads_the_last_value_written<T>()
+    ensures { (opening : Opening T) (old new more : List (Done T)) (x y : T) → opening.told ≡ true → new ≡ old ++ more → IsLast opening old x → IsLast opening new y → latest x more ≡ y }
 {}
 
 /// States that a newcomer that holds a `FairMutex` acquired it before each registered starver made its last move.
@@ -26,22 +40,22 @@ pub fn every_run_of_a_fair_mutex_is_a_schedule()
 /// So no newcomer acquires the lock while a starver is registered: its move would be the later one.
 ///
 /// # Contract
-/// Where the rule holds (`IsFair`), the trace was no longer after the last move of a newcomer that holds, by which it
-/// acquired the lock, than after the last move of a registered starver.
-pub fn no_newcomer_holds_that_came_behind_a_starver()
-    ensures { (name word : ℕ) (trace : Trace Done (Unit {0})) (parties : List (Numbered View)) → IsFair name word trace parties → (i j : ℕ) (v w : Numbered View) → slice_get parties i ≡ Some v → slice_get parties j ≡ Some w → v.0 ≡ Holding → 0 < starver w.0 → v.2 ≤ w.2 }
+/// The rule has to hold (`IsFair`). The last move of a newcomer that holds is the one by which it acquired the lock.
+/// The trace after that move is no longer than after the last move of any registered starver.
+pub fn no_newcomer_holds_that_came_behind_a_starver<T>()
+    ensures { (opening : Opening T) (word : ℕ) (trace : Trace (Done T) (Unit {0})) (parties : List (Numbered View)) → IsFair opening word trace parties → (i j : ℕ) (v w : Numbered View) → slice_get parties i ≡ Some v → slice_get parties j ≡ Some w → v.0 ≡ Holding → 0 < starver w.0 → v.2 ≤ w.2 }
 {}
 
 /// States that the blind operations on the word of a `FairMutex` do what its step functions say.
 ///
-/// The holder leaves and a starver stops starving by a subtraction; a starver sets the flag by a bit operation. None of
-/// them sees the word first.
+/// The holder releases and a starver stops starving by a subtraction; a starver sets the flag by a bit operation. None
+/// of them loads the word first.
 ///
 /// # Contract
-/// On each word that the rule allows, the operation makes the word that the step function gives (`unlocked`,
-/// `unstarved`, `lock_starved`). Where `lock_starved` gives none, the word stays as it is.
-pub fn an_addition_is_its_step_function()
-    ensures unlock { (name word : ℕ) (trace : Trace Done (Unit {0})) (parties : List (Numbered View)) (p : ℕ) → IsFair name word trace parties → HoldsAt (views_of parties) p → (is_set word ≡ true) × ((word + (2 ^ 64 - holder_weight)) % 2 ^ 64 ≡ unlocked word) }
-    ensures unstarve { (name word : ℕ) (trace : Trace Done (Unit {0})) (parties : List (Numbered View)) (p : ℕ) → IsFair name word trace parties → StarvesAt (views_of parties) p → (starver_weight ≤ word) × ((word + (2 ^ 64 - starver_weight)) % 2 ^ 64 ≡ unstarved word) }
+/// On each word that the rule allows, the result is that of the step function (`unlocked`, `unstarved`,
+/// `lock_starved`). If `lock_starved` gives none, the word does not change.
+pub fn an_addition_is_its_step_function<T>()
+    ensures unlock { (opening : Opening T) (word : ℕ) (trace : Trace (Done T) (Unit {0})) (parties : List (Numbered View)) (p : ℕ) → IsFair opening word trace parties → HoldsAt (views_of parties) p → (is_set word ≡ true) × ((word + (2 ^ 64 - holder_weight)) % 2 ^ 64 ≡ unlocked word) }
+    ensures unstarve { (opening : Opening T) (word : ℕ) (trace : Trace (Done T) (Unit {0})) (parties : List (Numbered View)) (p : ℕ) → IsFair opening word trace parties → StarvesAt (views_of parties) p → (starver_weight ≤ word) × ((word + (2 ^ 64 - starver_weight)) % 2 ^ 64 ≡ unstarved word) }
     ensures lock_starved { (word : ℕ) → bit_or word holder_weight ≡ unwrap_or (lock_starved word) word }
 {}

@@ -1,4 +1,4 @@
-//! `FairMutex`: a spinning mutex in which starvers come before newcomers.
+//! `FairMutex`: a spinning mutex in which starvers go before newcomers.
 //!
 //! Begin at [`fair::FairMutex`], and there at `lock` and `starve`. [`laws`] says what follows from its rule.
 #![tactic(auto)]

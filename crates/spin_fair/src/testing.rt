@@ -11,7 +11,7 @@ use std::sync::Wait;
 
 /// Begins a call of `lock`, and returns it if it has to wait.
 ///
-/// It is made for tests, since no caller can count the looks of `lock` itself: a strategy has nothing to count in.
+/// It exists for tests: a caller cannot count the looks of `lock`, since a strategy has no state to count in.
 ///
 /// # Contract
 /// The guard belongs to a holder of the lock (`IsHolder`).

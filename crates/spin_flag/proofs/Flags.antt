@@ -1,4 +1,5 @@
--- The steps of a lock of one flag keep its rule: each is the plain step that its step function makes, and moves of the lock's model.
+-- The steps of a lock of one flag keep its rule. Each is the plain step that its step function makes, and moves of the
+-- lock's model.
 use Rattle.std.proofs.Common.{◌≡◌, ℕ, [], ◌∷◌, ◌==◌, Bool, true, false, List, Option, Some, None, if◌then◌else◌, refl, sym, ap, ◌∙◌, subst, arith, length}
 use prog.Atomic.{either}
 use Rattle.spin_step.specs.Plain.{Plain, Kind, writing, gets, releases, to_write, flag_word}
@@ -57,7 +58,7 @@ flag = record {
   names_nobody = (flag_word-up, no_word-up);
 }
 
--- The moves of each step: its one move, behind the beginning of its call where it begins one
+-- The moves of each step: its one move, after the beginning of its call if it begins one
 
 module _ {T : Type 0} (v₀ : T) where
   abbrev Goes : Option View → (ℕ → ℕ) → (ℕ → View → Type 0) → (List (OneMove T) → List (Ending T) → ℕ → View → Type 0) → Type 0
@@ -112,7 +113,7 @@ none_looked : (free : Bool) → part (if free then Trying else Looking) ≡ idle
 none_looked true = refl
 none_looked false = refl
 
--- it comes, or made its last call to the end
+-- the party is new, or its last call has ended
 pub is_out : (view : Option (Numbered View)) → stands view ≡ Idle → IsOut (what view)
 is_out None is = tt
 is_out (Some v) is = subst (λ w. IsOut (Some w)) (sym is) tt
@@ -139,7 +140,7 @@ may_off (Some Idle) may = refl
 may_off (Some Trying) may = refl
 may_off (Some _) may = absurd may
 
--- an exchange by a party that has nothing: the step function's own lemma says that the flag is free where it grants
+-- an exchange by a party that has nothing; the lemma of the step function says that the flag is clear if it grants
 exchanges_flag : (view : Option View) (lost : View) → part_before part view ≡ idle → part lost ≡ idle → (taken : ℕ) → ((s : Plain) (p : ℕ) → flag_word s ≡ 0 → Decides s (gets p to_write) flag_word (Some taken))
     → AllowsAt (Holds flag) (ways flag) view None (λ n. either (n == 0) taken n) (exchanges (λ _. Holding) lost 0 taken view)
 exchanges_flag view lost nothing still taken plain =
@@ -159,7 +160,7 @@ module _ {T : Type 0} (opening : Opening T) where
       tie.traces (model opening.value) seat_of words_of Word opening.name T alone use_of_view (last opening) view shown f tells says moves
       (λ own outs n u said t word p. owed opening own t word p (use_of use_of_view (what view)) (use_of_view u) shown (leaves own outs n u said)) allowed
 
-  -- a step by which a party that does not use the value begins a call, or goes on with it
+  -- a step by which a party that does not use the value begins a call, or continues it
   step_keeps : (view : Option (Numbered View)) (shown : Option T) → use_of use_of_view (what view) ≡ off → (f : ℕ → ℕ) (tells : ℕ → View → Type 0) (goes_on : Bool) (c : FlagCall) (end : ℕ → Ending T) (to : ℕ → View)
       → Goes opening.value (what view) f tells (step_by goes_on c end to) → AllowsAt (Holds flag) (ways flag) (what view) None f tells → Keeps view shown f (step_by goes_on c end to)
   step_keeps view shown unused f tells goes_on c end to =
@@ -203,7 +204,7 @@ module _ {T : Type 0} (opening : Opening T) where
       let holds = is_holder-from_entries p writing s.holders (ap (λ e. e.holders) has.0) in
       (Idle, by_step flag (Some Holding) Idle s (releases p writing) freed tt holds (release-own s p writing) tt (plain s p writing (writes_alone s p order.exclusive holds) holds) refl, refl)))))
 
--- Who may go, and what a step tells its party
+-- Who may leave, and what a step tells its party
 
 module _ {T : Type 0} (opening : Opening T) where
   pub rests : (view : Option (Numbered View)) → stands view ≡ Idle → Rests (IsFlag opening) use_of_party view
@@ -220,13 +221,13 @@ module _ {T : Type 0} (opening : Opening T) where
   pub may_know : (before : Watch (flags.Done T)) → opening.name ≡ before.name → Named (IsFlag opening) (flag_ways opening) before.name
   may_know before = passes.may_know (IsFlag opening) (flag_ways opening) opening.name (λ n t vs is. is.0) before.name
 
-  -- what a step tells a party that knew all up to its last step
+  -- what a step tells a party that knew everything up to its last step
   pub learnt : (goes_on : Bool) (c : FlagCall) (end : ℕ → Ending T) (to : ℕ → View) (view view' : Option (Numbered View)) (before now : Watch (flags.Done T)) (found : ℕ) → mark_of view ≡ length before.entries → opening.name ≡ before.name
       → Steps (step_by goes_on c end to) before now view view' found → Learnt (model opening.value) view view' before now (to found) (IsStep goes_on c (end found))
   learnt goes_on c end to view view' before now found knew same =
       passes.learnt (model opening.value) seat_of words_of (step_by goes_on c end to) to (λ n. IsStep goes_on c (end n)) (λ own outs n v said. said) (Named (IsFlag opening) (flag_ways opening) before.name) (may_know before same) view view' before now found knew
 
-  -- what a party finds that comes to hold
+  -- what a party finds when it begins to hold
   pub holder_finds : (view view' : Option (Numbered View)) (before after : Option T) (seen : Watch (flags.Done T)) (x : T) → use_of use_of_view (what view) ≡ off → after ≡ Some x → Found (flag_ways opening) view view' before after seen → IsLast opening seen.entries x
   holder_finds view view' before after seen x unused is known = found opening (use_of use_of_party view) (use_of use_of_party view') before after seen.entries x known (sym (tie.same_use use_of_view view) ∙ unused) is
 
@@ -266,18 +267,18 @@ module _ {T : Type 0} (v₀ : T) (end : Ending T) (view view' : Option (Numbered
   out_begins (Some Trying) out = absurd out
   out_begins (Some Looking) out = absurd out
 
-  -- the exchange of a party that comes, and of one that is in its `lock`
+  -- the exchange of a new call, and that of a call under way
   pub comes : IsOut (what view) → flags.Moves v₀ (IsStep (has_begun (what view)) Lock end) view old view' new → flags.Moves v₀ (IsStep false Lock end) view old view' new
   comes out made = subst (λ b. flags.Moves v₀ (IsStep b Lock end) view old view' new) (out_begins (what view) out) made
 
   pub begun : what view ≡ Some Trying → flags.Moves v₀ (IsStep (has_begun (what view)) Lock end) view old view' new → flags.Moves v₀ (IsStep true Lock end) view old view' new
   begun is made = subst (λ b. flags.Moves v₀ (IsStep b Lock end) view old view' new) (ap has_begun is) made
 
--- what was written, whatever it was
+-- the same without saying which value was written
 pub left_weaker : {T : Type 0} (v₀ : T) (Q : T → Type 0) (view view' : Option (Numbered View)) (old new : List (flags.Done T)) → flags.Left v₀ Q view old view' new → flags.Left v₀ (λ x. Unit {0}) view old view' new
 left_weaker v₀ Q view view' old new = passes.weaker (model v₀) view view' old new (WritesSome Q (IsCall Release Done)) (WritesSome (λ x. Unit {0}) (IsCall Release Done)) (λ own outs (x, so, by). (x, tt, by))
 
--- whether the flag is clear, by what the code asks
+-- the flag is clear, as the code tests it
 pub is_clear : (n : ℕ) → false ≡ flags.set n → (n == 0) ≡ true
 is_clear n is = at (n == 0) is where
   at : (b : Bool) → false ≡ (if b then false else true) → b ≡ true

@@ -1,4 +1,5 @@
--- The rule of a lock of one flag: its word is that of a plain lock whose holders are the parties that hold, and its trace is a schedule of the lock's model, which leads there.
+-- The rule of a lock of one flag. Its word is that of a plain lock whose holders are the holding parties. Its trace
+-- is a schedule of the lock's model, which leads there.
 use Rattle.std.specs.Prelude.{◌≡◌, ℕ, List, Bool, true, false, Option, Some, None, ◌==◌, if◌then◌else◌}
 use Rattle.spin_step.specs.Plain.{writing, flag_word}
 use Rattle.spin_step.specs.Steps.{bit}
@@ -46,39 +47,39 @@ seat_of Holding = seat.Holding Write
 seat_of Trying = seat.Calling Lock First None
 seat_of Looking = seat.Calling Lock Second None
 
--- the lock's words, by the model's
+-- the words of the lock, from those of the model
 abbrev pub words_of : Bool → ℕ × Unit {0}
 words_of b = (bit b, tt)
 
 abbrev pub Word : ℕ → Unit {0} → List View → Type 0
 Word = Encodes part 0 flag_word no_word
 
--- whether a word is that of a set flag
+-- the word is that of a set flag
 abbrev pub set : ℕ → Bool
 set n = if n == 0 then false else true
 
--- it has begun its `lock`
+-- the party has begun its `lock`
 abbrev pub has_begun : Option View → Bool
 has_begun (Some Trying) = true
 has_begun _ = false
 
--- it is in no call, and holds nothing
+-- the party is in no call, and holds nothing
 abbrev pub IsOut : Option View → Type 0
 IsOut None = Unit {0}
 IsOut (Some Idle) = Unit {0}
 IsOut _ = ⊥
 
--- it comes, or goes on with its exchange
+-- the party has just begun its call, or continues with its exchange
 abbrev pub MayTry : Option View → Type 0
 MayTry (Some Trying) = Unit {0}
 MayTry view = IsOut view
 
--- what the party is; one that has not come yet is idle
+-- the party's view; a party that is new is idle
 abbrev pub stands : Option (Numbered View) → View
 stands None = Idle
 stands (Some v) = v.0
 
--- Of a lock of values of type T
+-- For a lock of values of type T
 
 abbrev pub OneMove : Type 0 → Type 0
 OneMove T = Move FlagCall T
@@ -93,11 +94,11 @@ abbrev pub Says : Type 0 → Type 1
 Says T = List (OneMove T) → List (Ending T) → ℕ → View → Type 0
 
 module _ {T : Type 0} where
-  -- the model that opens with this value
+  -- the model, with this value at the opening
   abbrev pub model : T → Machine Bool T FlagCall FlagPoint (Answer T)
   model = flag_machine
 
-  -- of the first word, the trace and the parties, of a lock that opened so
+  -- what holds of the first word, the trace and the parties of a lock with this opening
   abbrev pub IsFlag : Opening T → ℕ → Trace (Done T) (Unit {0}) → List (Numbered View) → Type 0
   IsFlag opening = Runs (model opening.value) seat_of words_of Word opening.name
 
@@ -105,11 +106,11 @@ module _ {T : Type 0} where
   abbrev pub flag_ways : Opening T → Ways T (Numbered View) (Trace (Done T) (Unit {0}))
   flag_ways opening = (alone, use_of_party, last opening)
 
-  -- what a step tells of its moves, of a lock that opened with this value
+  -- what a step tells of its moves, for a lock that opened with this value
   abbrev pub Told : T → Says T → Option (Numbered View) → List (Done T) → List (Done T) → ℕ → Numbered View → Type 0
   Told v = Tells (model v) seat_of words_of
 
-  -- The steps: what each comes to and where it leads, by the number found
+  -- The steps: the outcome and the next view of each, by the number found
 
   abbrev pub looks_by : Says T
   looks_by = step_by false IsLocked (λ n. Answered (Is (set n)) None) (λ n. Idle)
@@ -124,14 +125,15 @@ module _ {T : Type 0} where
   abbrev pub looked_by : Says T
   looked_by = step_by true Lock (λ n. GoingOn) (λ n. if n == 0 then Trying else Looking)
 
-  -- the release: the holder writes the value that it leaves, one of which this holds, and gives the lock back
+  -- the release: the holder writes the value that it leaves, which satisfies Q, and releases the lock
   abbrev pub frees_with : (T → Type 0) → Says T
   frees_with Q own outs n v = (v ≡ Idle) × WritesSome Q (IsStep false Release (Answered answer.Done None)) own outs
 
   abbrev pub frees_by : Says T
   frees_by = frees_with (λ x. Unit {0})
 
-  -- Of a pass of a lock that opened with this value: since it knew `old` it has made moves of this course, and no others
+  -- For a pass of a lock that opened with the value v: since it knew `old` it has made exactly the moves of this
+  -- course
   abbrev pub Moves : T → Course T FlagCall (Answer T) → Option (Numbered View) → List (Done T) → Option (Numbered View) → List (Done T) → Type 0
   Moves v course view old view' new = Made (model v) view old view' new course
 
@@ -139,6 +141,6 @@ module _ {T : Type 0} where
   abbrev pub Called : T → FlagCall → Answer T → Option (Numbered View) → List (Done T) → Option (Numbered View) → List (Done T) → Type 0
   Called v c a = Moves v (IsCall c a)
 
-  -- it has written a value of which this holds, and then made the release
+  -- it has written a value that satisfies Q, and then released the lock
   abbrev pub Left : T → (T → Type 0) → Option (Numbered View) → List (Done T) → Option (Numbered View) → List (Done T) → Type 0
   Left v Q = Moves v (WritesSome Q (IsCall Release answer.Done))

@@ -1,4 +1,4 @@
--- What a pass knows: the lock's history so far, and which moves in it are its own.
+-- What a pass knows: the lock's history so far, and which of its moves are the pass's own.
 use Rattle.std.specs.Prelude.{◌≡◌, ℕ, Bool, Option, List}
 use Rattle.spin_core.specs.Own.{Numbered}
 use Rattle.spin_model.specs.declared.answer.Answer.TheVariants.{Granted, Is}
@@ -10,33 +10,33 @@ use Rattle.spin_flag.specs.declared.spin.pass.Pass.{Pass}
 use Rattle.spin_flag.specs.declared.spin.rule.View.{View}
 
 module _ {T R : Type 0} where
-  -- all moves in the lock up to the pass's last step
+  -- all moves in the lock, up to the pass's last step
   abbrev pub history : Pass T R → List (Done T)
   history it = it.seen.entries
 
-  -- the name of the history of a lock, and of the lock of a pass
+  -- the name of a lock's history; also by a pass of the lock
   abbrev pub name_of : SpinMutex T R → ℕ
   name_of lock = lock.cell.name
 
   abbrev pub lock_of : Pass T R → ℕ
   lock_of it = it.seen.name
 
-  -- what was settled when a lock was made, and of the lock of a pass: that name, and the value that the lock opened with
+  -- what was fixed when the lock was made: that name, and the opening value; also by a pass of the lock
   abbrev pub opening : SpinMutex T R → Opening T
   opening lock = lock.cell
 
   abbrev pub opening_of : Pass T R → Opening T
   opening_of it = it.permit.key
 
-  -- the party of the pass: none before its first call
+  -- the party of the pass; there is none before its first call
   abbrev pub party : Pass T R → Option (Numbered View)
   party it = it.permit.view
 
-  -- since then the pass has looked once, and was told this
+  -- since then the pass has called `is_locked` once, with this answer
   abbrev pub Looked : Bool → Pass T R → Pass T R → Type 0
   Looked set before now = Called (opening_of before).value IsLocked (Is set) (party before) (history before) (party now) (history now)
 
-  -- since then the pass has acquired the lock and released it, once; it left a value of which this holds
+  -- since then the pass has acquired the lock and released it, once; it left a value that satisfies Q
   abbrev pub HeldWith : (T → Type 0) → Pass T R → Pass T R → Type 0
   HeldWith Q before now =
       (view : Option (Numbered View)) × (seen : List (Done T)) × (lock : Opening T) × (lock ≡ opening_of before) × Called (opening_of before).value Lock Granted (party before) (history before) view seen

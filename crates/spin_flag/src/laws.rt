@@ -9,24 +9,24 @@ ghost use Rattle.spin_flag.specs.declared.spin.rule.View.{View};
 
 /// Each run of a [`SpinMutex`](crate::spin::SpinMutex) on threads is a schedule of its model.
 ///
-/// The lock's cell keeps, without a byte, the list of all moves that threads have made in it so far: who, and which
+/// The lock's cell keeps, without a byte, the list of all moves that threads have made in it: which party, and which
 /// move.
 ///
 /// # Contract
-/// Whatever holds between any two steps of threads (`IsFlag`): no move of the list is passed over in the model. After
-/// the list the model has the lock's word, and has each party where the lock has it.
+/// The law holds between any two steps of threads (`IsFlag`): no move of the list is skipped in the model. After the
+/// list the model has the lock's word, and each party is where the lock has it.
 pub fn every_run_of_a_spin_mutex_is_a_schedule<T>()
     ensures { (opening : Opening T) (word : ℕ) (trace : Trace (Done T) (Unit {0})) (parties : List (Numbered View)) → IsFlag opening word trace parties → IsRun (model opening.value) seat_of words_of trace.entries (word, trace.word) parties }
 {}
 
-/// A guard reads the value that was written last in the lock's history, by whichever thread.
+/// A guard reads the value that any thread wrote last in the lock's history.
 ///
 /// The calls of a [`Pass`](crate::spin::Pass) say which value was last in the history that the pass knows: `found` of a
 /// guard, and `left` of its release.
 ///
 /// # Contract
-/// Let `x` be the last value of a history `old`, and `y` that of a longer history of the lock (`IsLast`). Then `y` is what
-/// the further moves write last, or `x` where they write nothing (`latest`).
+/// Let `x` be the last value of a history `old`, and `y` that of a longer history of the lock (`IsLast`). Then `y` is
+/// the value that the further moves write last, or `x` if they write nothing (`latest`).
 pub fn a_guard_reads_the_last_value_written<T>()
     ensures { (opening : Opening T) (old new more : List (Done T)) (x y : T) → opening.told ≡ true → new ≡ old ++ more → IsLast opening old x → IsLast opening new y → latest x more ≡ y }
 {}

@@ -28,8 +28,8 @@ pub use crate::laws::a_guard_reads_the_last_value_written;
 
 /// A mutual exclusion lock with one flag as its state, on which a waiting thread spins.
 ///
-/// Waiting threads may overtake each other. Where they have to be served in the order in which they came, take
-/// `TicketMutex`, which serves them by their tickets. A waiting thread passes the time with the strategy `R`.
+/// Waiting threads may overtake each other. If they have to be served in order of arrival, use `TicketMutex`. A
+/// waiting thread relaxes with strategy `R`.
 ///
 /// # Contract
 /// While a guard or a hold of the lock lives, no other call acquires it. A guard gives a value of `T`, with all that
@@ -53,7 +53,7 @@ pub struct SpinMutex<T, R = Spin> {
 /// The guard of a [`SpinMutex`]. Dropping it releases the lock.
 ///
 /// # Contract
-/// `guard_value` is the value behind the guard. What is written through the guard is read through it.
+/// `guard_value` is the lock's value. What is written through the guard is read through it.
 ///
 /// # Examples
 /// ```
@@ -130,7 +130,7 @@ impl<T, R: RelaxStrategy> SpinMutex<T, R> {
     pub fn lock<W: Wait>(&self, rt: &W) -> SpinMutexGuard<'_, T, R>
         ensures { IsHolder use_of_party result }
     {
-        // This repeats `Pass::lock`: a call of that would make the path of a free lock two instructions longer.
+        // This repeats `Pass::lock`: calling that would make the path for a free lock two instructions longer.
         let Grant { writer, seen: _ } = match try_with(self.cell.enter(), self.cell.watch()) {
             Ok(grant) => grant,
             Err(waiting) => R::back_off(rt, waiting, Waiting::look_and_try),
@@ -221,7 +221,7 @@ impl<T, R> From<T> for SpinMutex<T, R> {
     }
 }
 
-/// Tries once to acquire the lock, and holds it while it writes the value. Where the lock is held it writes `<locked>`.
+/// Tries once to acquire the lock, and holds it while it writes the value. If the lock is held it writes `<locked>`.
 impl<T: Debug, R> Debug for SpinMutex<T, R> {
     fn fmt<W: fmt::Write>(&self, f: &mut Formatter<W>) -> fmt::Result
         ensures { (found : Option T) × DisplaysOnOk W.write_str_gives f.old result (lock_text T.debug_output found) f.new }

@@ -4,12 +4,12 @@ ghost use Rattle.std.specs.Prelude.{◌≡◌};
 
 use crate::register::Register;
 
-/// A preorder on `T`: which value may come after which.
+/// A preorder on `T`: which value may follow which.
 ///
 /// # Examples
 /// ```
-/// use spin::growing::{Growing, Order};
-/// use spin::history::{BlankLog, History, Work, open};
+/// use spin_history::growing::{Growing, Order};
+/// use spin_history::history::{BlankLog, History, Work, open};
 ///
 /// struct Descending;
 ///
@@ -54,7 +54,7 @@ pub trait Order<T> {
     ghost transitive: { (x y z : T) → le x y → le y z → le x z };
 }
 
-/// The order in which any value may come after any other. It is that of a plain [`Register`].
+/// The order in which any value may follow any other. A plain [`Register`] uses it.
 pub struct Unordered;
 
 impl<T> Order<T> for Unordered {
@@ -87,14 +87,15 @@ impl Order<u64> for Ascending {
     ghost transitive = { λ x y z h k. le_trans h k };
 }
 
-/// A register whose values change only as the order `P` allows. No caller reads a value from before one that it has
-/// seen.
+/// A register whose values change only as the order `P` allows. After a caller has seen a value, it never reads an
+/// earlier one.
 ///
 /// # Examples
 /// ```
-/// use spin::growing::{Ascending, Growing};
-/// use spin::history::{BlankLog, History, Work, open};
-/// use spin::{RwLock, register};
+/// use spin::RwLock;
+/// use spin_history::growing::{Ascending, Growing};
+/// use spin_history::history::{BlankLog, History, Work, open};
+/// use spin_history::register;
 /// use std::sync::Wait;
 ///
 /// #[derive(Drop)]

@@ -1,4 +1,4 @@
-//! A monotone log and snapshots of it, as ghost state: tokens that have no bytes and take no steps. Begin with
+//! A log that only grows, and snapshots of it, as ghost state: tokens that have no bytes and take no steps. Begin with
 //! [`BlankLog::new`] and [`Snapshot`].
 ghost use Rattle.std.specs.Prelude.{◌≡◌, ◌⊎◌, ℕ, List, [], ◌∷◌, ◌++◌, ⊤};
 ghost use Rattle.std.specs.Coded.{coded_list};
@@ -11,7 +11,7 @@ use std::marker::{Brand, Model, PhantomData};
 
 /// The name of a log in the types of its tokens. Tokens of one type belong to one log.
 ///
-/// A caller takes a type parameter `H: History`, and passes `Brand` for it where the log is opened.
+/// A caller takes a type parameter `H: History`. Where it opens the log it passes `Brand` for `H`.
 pub trait History {
     ghost name: { ℕ };
 }
@@ -30,11 +30,11 @@ impl Model for BlankLog {
     ghost also_owns = { λ blank. blank_owns blank.name };
 }
 
-/// Work that has a log of its own, which [`open`] names.
+/// Work that has a log of its own. [`open`] names that log.
 ///
 /// # Contract
-/// `asks` is what the work asks of its own fields, and `gives` what an answer of it may be. Both say nothing unless the
-/// work names them.
+/// `asks` is what the work asks of its own fields, and `gives` says which answers it may give. Both say nothing unless
+/// the work defines them.
 pub trait Work {
     type Answer;
 
@@ -45,7 +45,7 @@ pub trait Work {
     /// Does the work with a log that `H` names.
     ///
     /// # Contract
-    /// What it asks has to hold, and `H` has to name the log. The answer is one that it may give.
+    /// What the work asks has to hold, and `H` has to name the log. The answer is one that the work may give.
     fn run<H: History + Send + Sync>(self, blank: BlankLog) -> Self::Answer
         requires asked { asks self }
         requires name { blank.name ≡ H.name }
@@ -60,15 +60,15 @@ fn open_by<K: Work, H: History + Send + Sync>(work: K, blank: BlankLog) -> K::An
     work.run::<H>(blank)
 }
 
-/// Names a new log, and does the work with it. The work may open a further one inside.
+/// Names a new log, and does the work with it. The work may open another log inside.
 ///
 /// # Contract
-/// What the work asks has to hold. Its answer is one that it may give.
+/// What the work asks has to hold. The answer is one that the work may give.
 ///
 /// # Examples
 /// ```
-/// use spin::history::{BlankLog, History, Work, open};
-/// use spin::register::Register;
+/// use spin_history::history::{BlankLog, History, Work, open};
+/// use spin_history::register::Register;
 ///
 /// #[derive(Drop)]
 /// struct WriteTwo;
@@ -96,8 +96,8 @@ pub fn open<K: Work>(work: K) -> K::Answer
 
 /// A monotone log: a list that only grows, and the right to append to it. There is one for each history.
 ///
-/// A log is kept with the value that it tells of, under the same lock. The struct that holds them says in an invariant
-/// of its own how they belong together, as [`Register`](crate::register::Register) does.
+/// A log is kept with the value that it is about, under the same lock. The struct that has both says in an invariant of
+/// its own how they belong together, as [`Register`](crate::register::Register) does.
 pub struct Log<T, H: History> {
     marker: PhantomData<(T, H)>,
     pub ghost entries: { List T } by { coded_list T.code },
@@ -111,7 +111,7 @@ impl<T, H: History> Model for Log<T, H> {
 
 /// A lower bound of a log: its entries are a prefix of the log's, now and ever after.
 ///
-/// Any number of threads may have a snapshot each, whether or not they hold the lock.
+/// Any number of threads may each have a snapshot, whether or not they hold the lock.
 pub struct Snapshot<T, H: History> {
     marker: PhantomData<(T, H)>,
     pub ghost entries: { List T } by { coded_list T.code },
@@ -146,7 +146,7 @@ impl BlankLog {
     /// Opens the log as that of the history `H`.
     ///
     /// # Contract
-    /// `H` has to name this log, which the caller picks by passing `Brand` for `H`. The log is empty.
+    /// `H` has to name this log: the caller passes `Brand` for `H`. The log is empty.
     pub fn open<T, H: History>(self) -> Log<T, H>
         requires { self.name ≡ H.name }
         ensures { result.entries ≡ [] }
@@ -162,7 +162,7 @@ impl<T, H: History> Log<T, H> {
     /// Appends an entry.
     ///
     /// # Contract
-    /// The log has the entries that it had, and then this one.
+    /// The log has its former entries, and then this one.
     pub fn append(&mut self, value: &T)
         ensures { self.new.entries ≡ self.old.entries ++ value.now ∷ [] }
     {}
@@ -182,7 +182,7 @@ impl<T, H: History> Log<T, H> {
     /// Brings a snapshot up to date.
     ///
     /// # Contract
-    /// What the snapshot had is a prefix of the log. Afterwards it has all of the log.
+    /// The snapshot's former entries are a prefix of the log. Afterwards it has the whole log.
     pub fn observe(&self, snapshot: &mut Snapshot<T, H>)
         ensures { IsPrefix snapshot.old.entries self.now.entries × (snapshot.new.entries ≡ self.now.entries) }
     {}
@@ -222,10 +222,10 @@ impl<T, H: History> ClosedLog<T, H> {
         }
     }
 
-    /// Brings a snapshot up to date, for good.
+    /// Brings a snapshot up to date, for ever.
     ///
     /// # Contract
-    /// As that of [`Log::observe`].
+    /// That of [`Log::observe`].
     pub fn observe(&self, snapshot: &mut Snapshot<T, H>)
         ensures { IsPrefix snapshot.old.entries self.now.entries × (snapshot.new.entries ≡ self.now.entries) }
     {}
@@ -291,14 +291,14 @@ unsafe impl<T, H: History> Send for Log<T, H> {}
 // SAFETY: a shared log tells its entries and no more.
 unsafe impl<T, H: History> Sync for Log<T, H> {}
 
-// SAFETY: as a log.
+// SAFETY: like a log.
 unsafe impl<T, H: History> Send for Snapshot<T, H> {}
 
-// SAFETY: as a log.
+// SAFETY: like a log.
 unsafe impl<T, H: History> Sync for Snapshot<T, H> {}
 
-// SAFETY: as a log.
+// SAFETY: like a log.
 unsafe impl<T, H: History> Send for ClosedLog<T, H> {}
 
-// SAFETY: as a log.
+// SAFETY: like a log.
 unsafe impl<T, H: History> Sync for ClosedLog<T, H> {}

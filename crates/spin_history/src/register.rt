@@ -1,12 +1,12 @@
-//! A value whose callers know the history of what was written there. Begin with [`Register::new`]; the functions
-//! [`read`], [`write`], [`update`] and [`change`] work on a register under a lock, and those whose names begin with
-//! `try` do not wait for it.
+//! A value whose callers know the history of its writes. Begin with [`Register::new`]. The functions [`read`],
+//! [`write`], [`update`] and [`change`] work on a register under a lock. Those whose names begin with `try` do not wait
+//! for it.
 //!
 //! # Examples
 //! ```
 //! use spin::RwLock;
-//! use spin::history::{BlankLog, History, Work, open};
-//! use spin::register::{self, Register};
+//! use spin_history::history::{BlankLog, History, Work, open};
+//! use spin_history::register::{self, Register};
 //! use std::sync::Wait;
 //!
 //! #[derive(Drop)]
@@ -39,10 +39,10 @@ use spin_core::lock::{Lock, SharedLock};
 use std::marker::PhantomData;
 use std::sync::Wait;
 
-/// A value, and the log of all that was ever written there: its last entry is the value.
+/// A value, and the log of all its writes: the last entry is the value.
 ///
-/// Put it under any lock. Each call takes a [`Snapshot`] of the caller's, and brings it up to date. The values change
-/// only as the order `P` allows, which by default allows each change.
+/// Put it under any lock. Each call takes a [`Snapshot`] of the caller, and brings it up to date. The values change
+/// only as the order `P` allows; by default it allows each change.
 #[derive(Drop)]
 pub struct Register<T, H: History, P: Order<T> = Unordered> {
     value: T,
@@ -56,7 +56,8 @@ impl<T, H: History, P: Order<T>> Register<T, H, P> {
     /// Creates a register that holds `value`.
     ///
     /// # Contract
-    /// The value is the next entry of the log, and has to be in order there. Nothing is asked of an empty log.
+    /// The value becomes the next entry of the log, and has to follow in order there. To an empty log any value may be
+    /// added.
     #[tactic(auto, using(crate::proofs::Entries::last_is))]
     pub fn new(value: T, log: Log<T, H>) -> Self
         requires { InOrder P.le (log.entries ++ value ∷ []) }
@@ -86,8 +87,8 @@ impl<T, H: History, P: Order<T>> Register<T, H, P> {
     /// Returns a reference to the value.
     ///
     /// # Contract
-    /// It is the last write of a history that extends what the caller knew, and is in order (`order`). So it is at
-    /// or after the last value that the caller saw (`grown`), whichever thread wrote.
+    /// It is the last write of a history that extends what the caller knew, and is in order (`order`). So it is the
+    /// last value that the caller saw, or a later one (`grown`), whichever thread wrote.
     pub fn get(&self, seen: &mut Snapshot<T, H>) -> &T
         ensures order { InOrder P.le seen.new.entries }
         ensures grown { IsAtOrAfter P.le seen.old.entries result.now }
@@ -119,14 +120,14 @@ impl<T, H: History, P: Order<T>> Register<T, H, P> {
     /// Calls a closure with the value, which it may change in place, and returns its answer.
     ///
     /// # Contract
-    /// The closure has to be always callable. For each value that it may find, it has to leave a value that may come
-    /// after that one. It is called with the last write, and what it leaves is the next write (`Updates`). That is at
-    /// or after the last value that the caller saw.
+    /// The closure has to be always callable. For each value that it may find, it has to leave one that may follow it.
+    /// It is called with the last write, and what it leaves is the next write (`Updates`). The new value is the last
+    /// one that the caller saw, or a later one.
     ///
     /// # Examples
     /// ```
-    /// use spin::history::{BlankLog, History, Work, open};
-    /// use spin::register::Register;
+    /// use spin_history::history::{BlankLog, History, Work, open};
+    /// use spin_history::register::Register;
     ///
     /// #[derive(Drop)]
     /// struct AddInPlace;
@@ -188,7 +189,7 @@ impl<T, H: History, P: Order<T>> Register<T, H, P> {
         self.log.same(&other.log);
     }
 
-    /// Returns the value and the whole history, to which nothing is added any more.
+    /// Consumes the register. Returns the value and the whole history, which nobody can extend any more.
     ///
     /// # Contract
     /// The history is in order, and the value is its last entry. Every snapshot is a prefix of it, by
@@ -196,8 +197,8 @@ impl<T, H: History, P: Order<T>> Register<T, H, P> {
     ///
     /// # Examples
     /// ```
-    /// use spin::history::{BlankLog, History, Work, open};
-    /// use spin::register::Register;
+    /// use spin_history::history::{BlankLog, History, Work, open};
+    /// use spin_history::register::Register;
     ///
     /// #[derive(Drop)]
     /// struct WriteAndClose;
@@ -237,8 +238,8 @@ impl<T: Drop, H: History, P: Order<T>> Register<T, H, P> {
     /// Writes a value.
     ///
     /// # Contract
-    /// The value has to be one that may come after any other. It is the last entry of a history that extends what
-    /// the caller knew (`Writes`). Nothing comes between what the register had and this write.
+    /// The value has to be one that may follow any other. It is the last entry of a history that extends what the
+    /// caller knew (`Writes`). No other write is between the register's former value and this write.
     pub fn write(&mut self, new: T, seen: &mut Snapshot<T, H>)
         requires { (x : T) → P.le x new }
         ensures order { InOrder P.le seen.new.entries }
@@ -262,9 +263,9 @@ impl<T: Drop, H: History, P: Order<T>> Register<T, H, P> {
     /// Writes what a closure makes of the value.
     ///
     /// # Contract
-    /// The closure has to be always callable. For each value that it may find, it has to answer a value that may come
-    /// after that one. It is called with the last write, and its answer is the next write (`Updates`). That is at or
-    /// after the last value that the caller saw.
+    /// The closure has to be always callable. For each value that it may find, it has to return one that may follow it.
+    /// It is called with the last write, and its answer is the next write (`Updates`). The new value is the last one
+    /// that the caller saw, or a later one.
     pub fn update<F: FnOnce(&T) -> T>(&mut self, by: F, seen: &mut Snapshot<T, H>)
         requires callable { F.IsAlwaysCallable by }
         requires grows { (x y : T) → FnOnceReturnsAt F.FnOnce by x y → P.le x y }
@@ -293,7 +294,7 @@ impl<T: Copy, H: History, P: Order<T>> Register<T, H, P> {
     /// Returns a copy of the value.
     ///
     /// # Contract
-    /// As that of [`get`](Register::get).
+    /// That of [`get`](Register::get).
     pub fn read(&self, seen: &mut Snapshot<T, H>) -> T
         ensures order { InOrder P.le seen.new.entries }
         ensures grown { IsAtOrAfter P.le seen.old.entries result }
@@ -342,8 +343,9 @@ pub fn inspect<
 /// Reads a register under a lock.
 ///
 /// # Contract
-/// The answer is the last write of a history that extends what the caller knew, and is in order. So it is at or
-/// after the last value that the caller saw, whichever thread wrote. Whether and when the call returns is not promised.
+/// The answer is the last write of a history that extends what the caller knew, and is in order. So it is the last
+/// value that the caller saw, or a later one, whichever thread wrote. Whether and when the call returns is not
+/// promised.
 pub fn read<T: Copy, P: Order<T>, H: History, L: Lock<Register<T, H, P>>, W: Wait>(
     rt: &W,
     lock: &L,
@@ -367,7 +369,7 @@ pub fn read<T: Copy, P: Order<T>, H: History, L: Lock<Register<T, H, P>>, W: Wai
 /// Calls a closure with the value of a register under a lock, with other readers, and returns its answer.
 ///
 /// # Contract
-/// As that of [`inspect`].
+/// That of [`inspect`].
 pub fn inspect_shared<
     T,
     P: Order<T>,
@@ -399,7 +401,7 @@ pub fn inspect_shared<
 /// Reads a register under a lock, with other readers.
 ///
 /// # Contract
-/// As that of [`read`].
+/// That of [`read`].
 pub fn read_shared<T: Copy, P: Order<T>, H: History, L: SharedLock<Register<T, H, P>>, W: Wait>(
     rt: &W,
     lock: &L,
@@ -423,8 +425,8 @@ pub fn read_shared<T: Copy, P: Order<T>, H: History, L: SharedLock<Register<T, H
 /// Tries to read a register under a lock, and does not wait for it.
 ///
 /// # Contract
-/// A value is as that of [`read`]. With `None` the caller knows what it knew. `None` comes only where `try_with` of the
-/// lock hands its closure back, which is what a test shows.
+/// A value is as [`read`] returns it. After `None` the caller knows what it knew before. A test shows that `None` is
+/// returned only if the lock's `try_with` returns its closure.
 pub fn try_read<T: Copy, P: Order<T>, H: History, L: Lock<Register<T, H, P>>>(
     lock: &L,
     seen: &mut Snapshot<T, H>,
@@ -447,10 +449,10 @@ pub fn try_read<T: Copy, P: Order<T>, H: History, L: Lock<Register<T, H, P>>>(
     Some(value)
 }
 
-/// Tries to read a register under a lock, with other readers, and does not wait while a writer has it.
+/// Tries to read a register under a lock, with other readers. Does not wait while a writer holds the lock.
 ///
 /// # Contract
-/// As that of [`try_read`]. Whether and when the call returns is not promised.
+/// That of [`try_read`]. Whether and when the call returns is not promised.
 pub fn try_read_shared<T: Copy, P: Order<T>, H: History, L: SharedLock<Register<T, H, P>>, W: Wait>(
     rt: &W,
     lock: &L,
@@ -478,10 +480,10 @@ pub fn try_read_shared<T: Copy, P: Order<T>, H: History, L: SharedLock<Register<
 /// Calls a closure with the value of a register under a lock, which it may change in place, and returns its answer.
 ///
 /// # Contract
-/// The closure has to be always callable. For each value that it may find, it has to leave a value that may come after
-/// that one. It is called with the last write of a history that extends what the caller knew. What it leaves is the
-/// next write: no write comes between. That is at or after the last value that the caller saw. Afterwards the caller
-/// knows it as the last write (`UpdatesIn`). Whether and when the call returns is not promised.
+/// The closure has to be always callable. For each value that it may find, it has to leave one that may follow it. It
+/// is called with the last write of a history that extends what the caller knew. What it leaves is the next write: no
+/// other write is in between. It is the last value that the caller saw, or a later one. Afterwards the caller knows it
+/// as the last write (`UpdatesIn`). Whether and when the call returns is not promised.
 pub fn change<
     T,
     P: Order<T>,
@@ -515,7 +517,7 @@ pub fn change<
 /// Writes to a register under a lock.
 ///
 /// # Contract
-/// The new value has to be one that may come after any value. It is the last entry of a history that extends what the
+/// The new value has to be one that may follow any other. It is the last entry of a history that extends what the
 /// caller knew. Whether and when the call returns is not promised.
 pub fn write<T: Drop, P: Order<T>, H: History, L: Lock<Register<T, H, P>>, W: Wait>(
     rt: &W,
@@ -544,9 +546,9 @@ pub fn write<T: Drop, P: Order<T>, H: History, L: Lock<Register<T, H, P>>, W: Wa
 /// Writes what a closure makes of the value of a register under a lock.
 ///
 /// # Contract
-/// The closure has to be always callable. For each value that it may find, it has to answer a value that may come after
-/// that one. It is called with the last write, and its answer is the next write, as with [`change`] (`UpdatesIn`).
-/// Whether and when the call returns is not promised.
+/// The closure has to be always callable. For each value that it may find, it has to return one that may follow it. It
+/// is called with the last write, and its answer is the next write, as with [`change`] (`UpdatesIn`). Whether and when
+/// the call returns is not promised.
 pub fn update<
     T: Drop,
     P: Order<T>,
@@ -575,15 +577,15 @@ pub fn update<
 /// Tries to write to a register under a lock, and does not wait for it. Returns whether it wrote.
 ///
 /// # Contract
-/// The value has to be one that may come after any other. After `true` it is as that of [`write`], after `false` the
-/// caller knows what it knew. `false` comes only where `try_with` of the lock hands its closure back, which is what a
-/// test shows.
+/// The value has to be one that may follow any other. After `true` it is written as by [`write`]. After `false` the
+/// caller knows what it knew before. A test shows that `false` is returned only if the lock's `try_with` returns its
+/// closure.
 ///
 /// # Examples
 /// ```
 /// use spin::RwLock;
-/// use spin::history::{BlankLog, History, Work, open};
-/// use spin::register::{self, Register};
+/// use spin_history::history::{BlankLog, History, Work, open};
+/// use spin_history::register::{self, Register};
 /// use std::sync::Wait;
 ///
 /// #[derive(Drop)]

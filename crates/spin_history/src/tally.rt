@@ -1,10 +1,10 @@
-//! A number that threads add to, whose total is exactly what was added. Begin with [`Tally::new`]; the functions
+//! A number that threads add to, whose total is exactly what they added. Begin with [`Tally::new`]. The functions
 //! [`add`] and [`total`] work on a tally under a lock.
 //!
 //! # Examples
 //! ```
 //! use spin::mutex::SpinMutex;
-//! use spin::tally::{self, Tally, Work};
+//! use spin_history::tally::{self, Tally, Work};
 //! use std::sync::Wait;
 //! use std::sync::ledger::{Ledger, Share};
 //!
@@ -34,10 +34,10 @@ use std::mem;
 use std::sync::Wait;
 use std::sync::ledger::{Blank, Book, Ledger, Share};
 
-/// A number that threads add to, and the ledger's book of what they added: its total is the number.
+/// A number that threads add to, and the ledger's book of what they added. The book's total is the number.
 ///
-/// Put it under a mutex: a `Book` is not `Sync`, so threads cannot share an `RwLock` around a tally. Each thread that adds
-/// has a `Share` of the ledger, in which its additions are counted.
+/// Put it under a mutex: a `Book` is not `Sync`, so threads cannot share an `RwLock` around a tally. Each thread that
+/// adds has a `Share` of the ledger, which counts its additions.
 #[derive(Drop)]
 pub struct Tally<L: Ledger> {
     count: u64,
@@ -46,7 +46,7 @@ pub struct Tally<L: Ledger> {
 }
 
 impl<L: Ledger> Tally<L> {
-    /// Creates a tally to which nothing was added yet.
+    /// Creates a tally to which nothing is added yet.
     ///
     /// # Contract
     /// Nothing may have been added to the book either. The count is 0.
@@ -63,13 +63,13 @@ impl<L: Ledger> Tally<L> {
     /// Adds `more`, and counts it in the caller's share. Returns `false`, and adds nothing, if the sum would not fit.
     ///
     /// # Contract
-    /// The share must not be empty. It and the tally count `more` if the answer is `true`, and stay as they are
-    /// otherwise. `false` comes exactly if the sum would not fit. A share counts no more than the tally (`bound`), and one
-    /// with all parts exactly as much (`whole`).
+    /// The share must not be empty. If the answer is `true`, the share and the tally count `more`. Otherwise both are
+    /// unchanged. The answer is `false` exactly if the sum would not fit. A share counts at most as much as the tally
+    /// (`bound`), and one with all parts exactly as much (`whole`).
     ///
     /// # Examples
     /// ```
-    /// use spin::tally::{self, Tally, Work};
+    /// use spin_history::tally::{self, Tally, Work};
     /// use std::sync::ledger::{Ledger, Share};
     ///
     /// #[derive(Drop)]
@@ -125,11 +125,11 @@ impl<L: Ledger> Tally<L> {
     }
 }
 
-/// Work that has a ledger of its own, which [`open`] names.
+/// Work that has a ledger of its own. [`open`] names that ledger.
 ///
 /// # Contract
-/// `asks` is what the work asks of its own fields, and `gives` what an answer of it may be. Both say nothing unless the
-/// work names them.
+/// `asks` is what the work asks of its own fields, and `gives` says which answers it may give. Both say nothing unless
+/// the work defines them.
 pub trait Work {
     type Answer;
 
@@ -137,10 +137,10 @@ pub trait Work {
 
     ghost gives: { Self → Self.Answer → Type 0 } = { λ _ _. ⊤ };
 
-    /// Does the work with a tally to which nothing was added yet.
+    /// Does the work with a tally to which nothing is added yet.
     ///
     /// # Contract
-    /// What it asks has to hold. The share has every part of the ledger, which are `u64::MAX`, and counts nothing yet. The
+    /// What the work asks has to hold. The share has all `u64::MAX` parts of the ledger, and counts nothing yet. The
     /// answer is one that the work may give.
     fn run<L: Ledger + Send + Sync>(self, tally: Tally<L>, all: Share<L>) -> Self::Answer
         requires asked { asks self }
@@ -165,7 +165,7 @@ fn open_by<K: Work, L: Ledger + Send + Sync>(work: K, blank: Blank) -> K::Answer
 /// Names a new ledger, and does the work with a tally of it.
 ///
 /// # Contract
-/// What the work asks has to hold. Its answer is one that it may give.
+/// What the work asks has to hold. The answer is one that the work may give.
 pub fn open<K: Work>(work: K) -> K::Answer
     requires asked { K.asks work }
     ensures { K.gives work result }
@@ -176,10 +176,10 @@ pub fn open<K: Work>(work: K) -> K::Answer
 /// Adds `more` to a tally under a lock. Returns `false`, and adds nothing, if the sum would not fit.
 ///
 /// # Contract
-/// The share must not be empty. It counts `more` if the answer is `true`, and stays as it is otherwise. After a `false`
-/// there is a number to which `more` cannot be added (`full`). That the tally held such a number is what a test shows.
-/// With all parts of the ledger the answer is `true` exactly if the sum fits (`whole`). Whether and when the call returns
-/// is not promised.
+/// The share must not be empty. If the answer is `true`, it counts `more`; otherwise it is unchanged. After `false`
+/// there is some number to which `more` cannot be added (`full`). A test shows that the tally held such a number. If
+/// the share has all parts of the ledger, the answer is `true` exactly if the sum fits (`whole`). Whether and when the
+/// call returns is not promised.
 pub fn add<L: Ledger, K: Lock<Tally<L>>, W: Wait>(
     rt: &W,
     lock: &K,

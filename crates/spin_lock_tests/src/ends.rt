@@ -1,4 +1,4 @@
-//! Where the value of a lock ends: once, whichever way the lock was used before.
+//! A lock's value is dropped exactly once, however the lock was used.
 mod counted;
 mod locks;
 mod made_once;

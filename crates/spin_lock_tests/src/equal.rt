@@ -1,4 +1,4 @@
-//! What each test asks: that what was found is what was wanted.
+//! What each test asserts: the found value is the wanted one.
 use std::fmt::Debug;
 use std::process::Abort;
 

@@ -1,12 +1,15 @@
-//! What has to be granted: tries of a lock as a trait, shared access beside other readers, and places in any number.
-//! And who waits, and for whom.
+//! What has to succeed: tries of a lock as a trait, shared access with other readers, and registrations in any number.
+//! Also who waits, and for whom.
 use crate::equal::equal;
 use crate::waiting::{await_number, comes_to, has_turn, pause};
 use spin_core::lock::{Lock, SharedLock};
 use spin_core::relax::{RelaxStrategy, Spin, Yield};
-use spin_mutex::mutex::{FairMutex, Mutex, SpinMutex, TicketMutex};
+use spin_fair::fair::FairMutex;
+use spin_flag::spin::SpinMutex;
+use spin_mutex::mutex::Mutex;
 use spin_once::once::Once;
 use spin_rwlock::rwlock::RwLock;
+use spin_ticket::ticket::TicketMutex;
 use std::process::Abort;
 use std::sync::Wait;
 use std::sync::atomic::AtomicU64;
@@ -40,7 +43,7 @@ fn a_shared_try_is_granted_beside_a_reader(rt: HostRuntime) {
     drop(writer);
 }
 
-// Whether the other came while this one read.
+// Returns `true` if the other thread arrived while this one read.
 fn meet<R: Wait>(rt: &R, lock: &RwLock<u64, Yield>, came: &AtomicU64) -> bool {
     lock.with_shared(rt, |_value| {
         came.fetch_add(1, SeqCst);
@@ -56,7 +59,7 @@ fn two_share_a_lock_at_once(rt: HostRuntime) {
     equal(&rt, met, (true, true));
 }
 
-// Lets the other thread come, then releases what it waits for. The other has to go on.
+// Waits until the other thread waits, and then releases what it waits for. The other thread has to continue.
 fn lets_go<G: Drop, R: Abort + Wait>(rt: &R, guard: G, came: &AtomicU64, done: &AtomicU64) {
     await_number(rt, came, 1);
     pause(rt);
@@ -148,7 +151,7 @@ fn a_waiter_runs_its_closure_where_another_failed(rt: HostRuntime) {
     equal(&rt, (failed, made), (true, 7));
 }
 
-/// A strategy that takes its time.
+/// A slow strategy.
 struct Slow;
 
 impl RelaxStrategy for Slow {
@@ -161,7 +164,7 @@ impl RelaxStrategy for Slow {
 
 const SLOW_LOOKS: u32 = 200;
 
-// Whether readers come to be refused while this thread relaxes so often.
+// Returns `true` if a reader is refused within this many looks.
 fn comes_to_ask<R: Wait>(rt: &R, lock: &RwLock<u64, Slow>) -> bool {
     for _ in 0..SLOW_LOOKS {
         if lock.try_read(rt).is_none() {
@@ -195,7 +198,7 @@ fn an_upgrade_asks_before_it_relaxes(rt: HostRuntime) {
 
 const TURNS: u64 = 600_000;
 
-// Whether each try was granted, while turns are left.
+// Returns `true` if each try succeeded, while turns are left.
 fn reads_beside_counts<R: Wait>(rt: &R, lock: &RwLock<u64>, turns: &AtomicU64) -> bool {
     let mut granted = true;
     for _ in 0..TURNS {

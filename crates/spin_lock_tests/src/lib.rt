@@ -1,4 +1,4 @@
-//! Tests of the locks over the raw cell, each kind in a module of its own: what no contract says of them.
+//! Tests of the locks over the raw cell, each kind of lock in a module of its own: what no contract says of them.
 #![tactic(auto)]
 
 #[cfg(test)]

@@ -1,4 +1,4 @@
-//! The mutexes, each of which is held to the same.
+//! The mutexes. Each has to pass the same tests.
 mod calls;
 mod fair;
 mod patience;

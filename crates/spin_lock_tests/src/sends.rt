@@ -1,17 +1,17 @@
-//! The locks are as strict as a `&mut` to their value, or as a `&` to it, whatever the strategy is. These tests show the
-//! "if"; the edits of the crates show that a wider `Send` or `Sync` cannot be used, but for the `Sync` of a `Held`, which
-//! is stricter than it has to be.
+//! The locks ask of their value as much as a `&mut` to it, or a `&` to it, whatever the strategy is. These tests show
+//! that this is enough. The edits of the crates show that less is not, except for the `Sync` of a `Held`, which asks
+//! more than it needs.
 use spin_core::relax::Spin;
+use spin_fair::fair::{FairMutex, FairMutexGuard, Starvation};
+use spin_flag::spin::{SpinMutex, SpinMutexGuard};
 use spin_mutex::mutex;
-use spin_mutex::mutex::{
-    FairMutex, FairMutexGuard, Mutex, MutexGuard, SpinMutex, SpinMutexGuard, Starvation,
-    TicketMutex, TicketMutexGuard,
-};
+use spin_mutex::mutex::{Mutex, MutexGuard};
 use spin_once::lazylock::LazyLock;
 use spin_once::once::Once;
 use spin_rwlock::rwlock::{
     ReadHeld, RwLock, RwLockReadGuard, RwLockUpgradableGuard, RwLockWriteGuard, WriteHeld,
 };
+use spin_ticket::ticket::{TicketMutex, TicketMutexGuard};
 use std::cell::Cell;
 
 fn is_send<T: Send>() {}
@@ -29,9 +29,9 @@ macro_rules! travels {
 }
 
 fn travel<'a, T: Send + 'a, R: 'a>() {
-    travels!(SpinMutex<T, R>, SpinMutexGuard<'a, T, R>, mutex::spin::Held<'a, T, R>);
-    travels!(TicketMutex<T, R>, TicketMutexGuard<'a, T, R>, mutex::ticket::Held<'a, T, R>);
-    travels!(FairMutex<T, R>, FairMutexGuard<'a, T, R>, mutex::fair::Held<'a, T, R>);
+    travels!(SpinMutex<T, R>, SpinMutexGuard<'a, T, R>, spin_flag::spin::Held<'a, T, R>);
+    travels!(TicketMutex<T, R>, TicketMutexGuard<'a, T, R>, spin_ticket::ticket::Held<'a, T, R>);
+    travels!(FairMutex<T, R>, FairMutexGuard<'a, T, R>, spin_fair::fair::Held<'a, T, R>);
     is_send::<Starvation<'a, T, R>>();
     is_sync::<Starvation<'a, T, R>>();
     travels!(Mutex<T, R>, MutexGuard<'a, T, R>, mutex::Held<'a, T, R>);
@@ -49,7 +49,7 @@ fn are_shared<'a, T: Sync + 'a, R: 'a>() {
     is_sync::<RwLockWriteGuard<'a, T, R>>();
 }
 
-// What lends its value to several threads. An initialiser need not be shared, since nobody reads it through a `&`.
+// These lend their value to several threads. An initialiser need not be shared, since nobody reads it through a `&`.
 fn travel_and_are_shared<'a, T: Send + Sync + 'a, F: Send, R: 'a>() {
     is_sync::<RwLock<T, R>>();
     is_send::<RwLockReadGuard<'a, T, R>>();

@@ -1,10 +1,13 @@
-//! The texts as they are printed, with options too, and that a lock is left as it was.
+//! The texts as they are printed, also with options. Printing does not change a lock.
 use crate::equal::equal;
 use spin_core::relax::Yield;
-use spin_mutex::mutex::{FairMutex, Mutex, SpinMutex, TicketMutex};
+use spin_fair::fair::FairMutex;
+use spin_flag::spin::SpinMutex;
+use spin_mutex::mutex::Mutex;
 use spin_once::lazylock::LazyLock;
 use spin_once::once::Once;
 use spin_rwlock::rwlock::RwLock;
+use spin_ticket::ticket::TicketMutex;
 use std::fmt;
 use std::fmt::{Debug, Display, Write};
 use std::process::Abort;
@@ -14,7 +17,7 @@ fn debug_is<T: Debug>(rt: &(impl Abort + AllocGlobal), value: &T, text: &str) {
     equal(rt, found.as_str(), text);
 }
 
-// Both texts of a guard.
+// Checks both texts of a guard.
 fn prints<G: Debug + Display>(
     rt: &(impl Abort + AllocGlobal),
     guard: &G,
@@ -111,7 +114,7 @@ fn options_go_to_the_value(rt: HostRuntime) {
     equal(&rt, text.as_str(), "Mutex { data: Some(\n    5,\n) }");
 }
 
-/// A writer that takes `room` pieces, and counts those at which the lock was open.
+/// A writer with room for `room` pieces. It counts the pieces at which the lock was free.
 #[derive(Drop)]
 struct Watch<'a> {
     lock: &'a SpinMutex<u64>,

@@ -1,4 +1,5 @@
--- An object as a table: for each point of a call the shape of its next step. From the shapes the machine is made, and what has to be proved of each step.
+-- An object as a table: the shape of the next step for each point of a call. The shapes determine the machine, and what
+-- has to be shown of each step.
 use Rattle.std.specs.Prelude.{ℕ, zero, suc, ◌+◌, ◌%◌, Bool, true, false, Option, Some, None, List, [], ◌∷◌, is_some, ◌==◌, if◌then◌else◌, get_or, unwrap_or}
 use Rattle.spin_step.specs.Plain.{Change}
 use Rattle.spin_model.specs.declared.place.Hold.{Hold}
@@ -14,7 +15,7 @@ use Rattle.spin_model.specs.Machines.{Machine}
 use Rattle.spin_model.specs.Operations.{Operation, loads, exchanges, sets_lowest_bit, performed}
 use Rattle.spin_model.specs.Schedules.{placed}
 
--- The numbers of an object's words, and the words after the i-th is replaced by this number
+-- The numbers of an object's words, and the words after this number has replaced the i-th
 pub record Memory (W : Type 0) : Type 0 where
   pub numbers : W → List ℕ
   pub put : ℕ → ℕ → W → W
@@ -31,48 +32,50 @@ put_in_two f g zero k w = f k w
 put_in_two f g (suc zero) k w = g k w
 put_in_two f g _ k w = w
 
--- what each of the two numbers is, and how it is put in its place
+-- how each of the two numbers is read, and how it is replaced
 abbrev pub two_numbers : {W : Type 0} → (W → ℕ) → (W → ℕ) → (ℕ → W → W) → (ℕ → W → W) → Memory W
 two_numbers a b f g = record { numbers = λ w. a w ∷ b w ∷ []; put = put_in_two f g }
 
 abbrev pub number_at : {W : Type 0} → Memory W → ℕ → W → ℕ
 number_at m i w = get_or (m.numbers w) i 0
 
--- The shape of a step of a call on one word, by the number that it finds there. A step function gives the next number, or refuses. The plain step that a party then makes is given after it
+-- The shape of a step of a call on one word, by the number that it finds. A step function gives the next number, or
+-- refuses. Then comes the plain step that the party makes.
 pub data Act (W L A : Type 0) : Type 0 where
   load : (ℕ → Next L A) → Act W L A
-  -- a load that goes on by whether the number passes a test
+  -- a load; how the call continues depends on whether the number passes a test
   load_if : (ℕ → Bool) → (ℕ → Next L A) → (ℕ → Next L A) → Act W L A
-  -- a load that goes on by whether the step function would give a new number
+  -- a load; how the call continues depends on whether the step function gives a new number
   load_for : (ℕ → Option ℕ) → (ℕ → Change) → (ℕ → Next L A) → Next L A → Act W L A
-  -- the number stays; if it passes a test the plain step is made, and if not the plain step is closed
+  -- the number does not change; if it passes a test, the plain step is made, and otherwise the plain step is closed
   enter : (ℕ → Bool) → (ℕ → Change) → Next L A → Next L A → Act W L A
-  -- the operation changes the number; if it finds another number instead, the plain step is closed
+  -- the operation changes the number; if it finds another number, the plain step is closed
   exchange : Operation → (ℕ → Change) → Next L A → (ℕ → Next L A) → Act W L A
-  -- an exchange of this number for what the step function gives for it; the exchange may also fail without cause
+  -- an exchange of this number for the one that the step function gives for it; the exchange may fail spuriously
   weak_exchange : ℕ → (ℕ → Option ℕ) → (ℕ → Change) → Next L A → Next L A → Act W L A
-  -- an exchange whose failure alone shows nothing
+  -- an exchange; if it fails, that alone shows nothing
   attempt : ℕ → (ℕ → Option ℕ) → (ℕ → Change) → Next L A → Next L A → Act W L A
   -- an exchange if the first word is still the number found before; if not, a load of the number for the next exchange
   retry : ℕ → (ℕ → Option ℕ) → (ℕ → Change) → Next L A → (ℕ → Next L A) → Next L A → Act W L A
-  -- an operation that does not look first; it may be made only where the number passes a test
+  -- an operation without a look before it; it may be made only if the number passes a test
   store : (ℕ → Bool) → Operation → (ℕ → Change) → Next L A → Act W L A
-  -- not one operation but a section on all words, made only where they pass a test. It gives new words, or refuses, and then the plain step is closed
+  -- A section on all words, not one operation. It may be made only if they pass a test. It gives new words, or refuses,
+  -- and then the plain step is closed.
   section : (W → Bool) → (W → Option W) → (ℕ → Change) → (W → Next L A) → (W → Next L A) → Act W L A
 
--- What a step results in
+-- The outcome of a step
 
--- this number for what the step function gives for it
+-- an exchange of this number for the one that the step function gives for it
 abbrev pub swap : ℕ → (ℕ → Option ℕ) → Operation
 swap k f = exchanges k (unwrap_or (f k) k)
 
--- the number that an operation leaves, where it makes its change
+-- the number after an operation, if it makes its change
 abbrev pub tried : Operation → ℕ → Option ℕ
 tried (exchanges from to) n = if n == from then Some to else None
 tried sets_lowest_bit n = if n % 2 == 0 then Some (n + 1) else None
 tried operation n = Some (performed operation n)
 
--- what the step function gives, where the number is this one
+-- what the step function gives, if the number is this one
 abbrev pub guessed : ℕ → (ℕ → Option ℕ) → ℕ → Option ℕ
 guessed k f n = if n == k then f n else None
 
@@ -83,7 +86,7 @@ either false a b = b
 abbrev pub stays : {W V L A : Type 0} → W → Next L A → Stepped W V L A
 stays w next = record { words = w; placed = None; next = next }
 
--- the first argument puts a new number in its place
+-- if there is a new number, `put` stores it
 abbrev pub becomes : {X W V L A : Type 0} → (X → W) → W → Option X → Next L A → Next L A → Stepped W V L A
 becomes put w None won lost = stays w lost
 becomes put w (Some x) won lost = stays (put x) won
@@ -117,7 +120,7 @@ step_at m i n (section can f step won lost) w = becomes (λ u. u) w (f w) (won w
 abbrev pub step_by : {W V L A : Type 0} → Memory W → ℕ → Act W L A → W → Stepped W V L A
 step_by m i act w = step_at m (place_of i act) (number_at m (place_of i act) w) act w
 
--- the plain step is made where there is a new number
+-- the plain step is made if there is a new number
 abbrev pub made_if : {X : Type 0} → Option X → Change → Option Change
 made_if None c = None
 made_if (Some x) c = Some c
@@ -144,7 +147,7 @@ abbrev pub refusal_by : {W L A : Type 0} → Act W L A → Option (Next L A)
 refusal_by (weak_exchange k f step won lost) = Some lost
 refusal_by _ = None
 
--- the plain step that it makes, if it makes one, and the operation that it is
+-- the plain step of a shape, if it makes one, and its operation
 abbrev pub makes_by : {W L A : Type 0} → Act W L A → ℕ → Option Change
 makes_by (enter test step won lost) p = Some (step p)
 makes_by (exchange operation step won lost) p = Some (step p)
@@ -188,8 +191,8 @@ pub record Table (W V C L A : Type 0) : Type 0 where
   pub group : ℕ
   pub first : ℕ
   pub memory : Memory W
-  pub start : C → Option Hold → L  -- where a call begins, of a party that holds what it is for
-  pub word : L → ℕ  -- the place of the word that a step is on
+  pub start : C → Option Hold → L  -- where a call begins, if the party holds what the call needs
+  pub word : L → ℕ  -- which word a step is on
   pub act : C → L → Option Hold → Act W L A
   pub asks : C → Option Hold → Asked
   pub says : A → Said
@@ -197,7 +200,8 @@ pub record Table (W V C L A : Type 0) : Type 0 where
 abbrev pub begin_of : {W V C L A : Type 0} → Table W V C L A → C → Option Hold → Option L
 begin_of t c h = passing ((t.asks c h).begins h) (t.start c h)
 
--- The machine of a table: what comes of a weak refusal and of a step, and what its answers say and give, which may be other answers than the table's
+-- The machine of a table, with its own results of a weak refusal and of a step, and with what its answers say and give.
+-- The answers may be others than the table's.
 abbrev pub machine_by : {W V C L A B : Type 0} → Table W V C L A → (C → L → Option Hold → Option (Next L B)) → (W → Option V → C → L → Option Hold → Stepped W V L B) → (B → Said) → (C → Option V) → (B → Option V) → Machine W V C L B
 machine_by t refuse step says brings gives =
     record {
@@ -224,9 +228,10 @@ machine_by t refuse step says brings gives =
 abbrev pub machine_of : {W V C L A : Type 0} → Table W V C L A → Machine W V C L A
 machine_of t = machine_by t (λ c l h. refusal_by (t.act c l h)) (λ w v c l h. step_by t.memory (t.word l) (t.act c l h) w) t.says (λ c. None) (λ a. None)
 
--- An object whose closures make its value. Its table leaves values out: a call that gives one answers the value that lies there after its last step
+-- An object whose closures make its value. Its table has no values: a call that gives one answers the value that is
+-- there after its last step
 
--- only a store completes a closure, and then it places the value that its call brings
+-- only a store completes a closure, and it stores the value that its call brings
 abbrev pub completes_by : {W L A : Type 0} → Act W L A → Bool
 completes_by (store can f step next) = is_completion (step 0)
 completes_by _ = false

@@ -38,7 +38,7 @@ says_of Failed = failed
 says_of Leader = leads
 says_of Follower = follows
 
--- a step of a call: whose it is, the plain step that it makes, its kind, and the states before and after it
+-- a step of a call: its party, its plain step, its kind, and the plain lock before and after it
 pub record Mark : Type 0 where
   pub party : ℕ
   pub change : Option Change
@@ -62,7 +62,7 @@ readers s = reader_count s.holders
 abbrev pub writers : Plain → ℕ
 writers s = count_kind writing s.holders
 
--- at this step of its own the party finds that what it asks is closed to it
+-- at this step of its own the party finds closed what it asks
 abbrev pub FindsClosed : ℕ → Ask → Mark → Type 0
 FindsClosed p ask m = (m.party ≡ p) × (is_open_to m.before p ask ≡ false)
 
@@ -78,12 +78,13 @@ TriesToStarve p m = Registers p m ⊎ FindsClosed p to_starve m
 pub data Limit : Type 0 where
   unlimited : Limit
   within : ℕ → Limit
-  within_changes : ℕ → Limit  -- and one more for each change of the first word by another party in the call's span
-  gets_within : Ask → ℕ → Limit  -- a call that waits has got this by then, the changes counted too, or has found it closed
-  changes_within : ℕ → Limit  -- a call that waits has made a plain step by then
+  within_changes : ℕ → Limit  -- and one more for each change of the first word by another party during the call
+  gets_within : Ask → ℕ → Limit  -- by then a call that waits has got this, or has found it closed; others' changes count too
+  changes_within : ℕ → Limit  -- by then a call that waits has made a plain step
   registers_after : ℕ → ℕ → Limit  -- from each look on that finds the lock held after so many others, a call that waits registers as a starver by so many steps, others' changes since that look counted too, or finds the cap
 
--- a party is granted what it asks; one that enters has taken its ticket before, one that waits to upgrade has asked before, and a starver who gets the lock leaves the starvers
+-- The plain steps by which a party is granted what it asks. To enter it takes a ticket first. To upgrade after waiting
+-- it asks first. A starver that gets the lock stops starving.
 abbrev pub grant : ℕ → Ask → List Change
 grant p to_upgrade_asked = turns p upgradable asking ∷ gets p to_upgrade_asked ∷ []
 grant p to_enter = gets p to_take_ticket ∷ gets p to_enter ∷ []
@@ -174,14 +175,15 @@ HasMoment what said p span = moment (what.answers said) p span ≡ true
 abbrev pub HasWeakMoment : Asked → Said → ℕ → List Mark → Type 0
 HasWeakMoment what said p span = (what.needs_no_cause said || moment (what.answers said) p span) ≡ true
 
--- A kind of lock, which its object brings. The laws are of the kind that a machine brings, so each object says by name which it has
+-- A kind of lock, which its object provides. The laws speak of the kind that a machine has, so each object says by name
+-- which kind that is.
 pub record LockKind : Type 0 where
   pub word : Plain → ℕ  -- its first word, as a sum
   pub further_words : List (Plain → ℕ)  -- its other words, as sums
-  pub plain_steps : Change → Bool  -- the plain steps that it makes; that a closure completes follows from `makes_value`
+  pub plain_steps : Change → Bool  -- the plain steps that it makes; `makes_value` says whether closures complete
   -- the calls that it has, for a party that holds this; the number is one that a call may bring
   pub calls : ℕ → Option Hold → List Asked
-  pub spins_on_exchange : Bool  -- a call that waits without a look first makes its exchange again and again, and never looks between
+  pub spins_on_exchange : Bool  -- a call that waits and does not look first repeats its exchange without looks
   pub makes_value : Bool  -- closures make its value
   pub steps_in_sections : Bool  -- a step is a whole section under a lock of its own, not one operation
 
@@ -202,17 +204,17 @@ usual word further plain_steps calls =
 abbrev pub encoded : LockKind → Plain → List ℕ
 encoded kind s = kind.word s ∷ map (λ sum. sum s) kind.further_words
 
--- the plain steps that it makes: a closure completes just where closures make the value
+-- the plain steps that it makes; a closure completes exactly if closures make the value
 abbrev pub is_step_of : LockKind → Change → Bool
 is_step_of kind (completes p) = kind.makes_value
 is_step_of kind c = kind.plain_steps c
 
--- a step, if it is one, is one that this kind of lock makes
+-- the step is one that this kind of lock makes, or there is none
 abbrev pub BelongsTo : LockKind → Option Change → Type 0
 BelongsTo kind None = Unit {0}
 BelongsTo kind (Some c) = is_step_of kind c ≡ true
 
--- the word that the exchanges are on which a call makes again
+-- the word on which a call repeats its exchange
 abbrev pub first_word : LockKind → Plain → ℕ
 first_word kind s = kind.word s
 

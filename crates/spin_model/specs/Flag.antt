@@ -1,4 +1,4 @@
--- The flag's calls, step by step, and how they read on the plain lock.
+-- The flag's calls, step by step, and what each step is in the plain lock.
 use Rattle.std.specs.Prelude.{ℕ, ◌==◌, Bool, false, Option, Some, None, [], ◌∷◌}
 use Rattle.spin_step.specs.Plain.{writing, to_write, gets, releases}
 use Rattle.spin_step.specs.Steps.{bit}
@@ -35,7 +35,8 @@ flag_memory = record { numbers = λ w. bit w ∷ []; put = λ i n w. is_set n }
 abbrev pub granted : {V : Type 0} → Next FlagPoint (Answer V)
 granted = Answers Granted (Some Write)
 
--- the exchange of `Lock` is weak, and `Lock` looks until the flag is clear before the next one; only a set flag is cleared
+-- Each call's steps. The exchange of `Lock` is weak, and after it has failed `Lock` looks until the flag is clear. Only
+-- a set flag is released.
 abbrev pub act_of : {V : Type 0} → FlagCall → FlagPoint → Option Hold → Act Bool FlagPoint (Answer V)
 act_of Lock First h = weak_exchange 0 lock (λ p. gets p to_write) granted (Continue Second)
 act_of Lock Second h = load_if is_set (λ n. Continue Second) (λ n. Continue First)

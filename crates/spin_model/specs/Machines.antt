@@ -1,4 +1,4 @@
--- An object as the world sees it: where its calls begin, what their steps do, and how both read on the plain lock.
+-- An object as the world sees it: where its calls begin, what their steps do, and what both are in the plain lock.
 use Rattle.std.specs.Prelude.{ℕ, Bool, true, List, Option, Some}
 use Rattle.spin_step.specs.Plain.{Plain, Phase, nothing, complete, Change, fresh}
 use Rattle.spin_model.specs.declared.place.Hold.{Hold}
@@ -13,11 +13,11 @@ pub record Machine (W V C L A : Type 0) : Type 0 where
   pub words : W  -- at first
   pub value : Option V  -- at first
   pub owned : Bool  -- an owner may look at the value
-  pub begin : C → Option Hold → Option L  -- where a call begins, of a party that holds this
-  pub refuse : C → L → Option Hold → Option (Next L A)  -- where the next step is a weak exchange: what comes of its refusal
+  pub begin : C → Option Hold → Option L  -- where a call begins, for a party that holds this
+  pub refuse : C → L → Option Hold → Option (Next L A)  -- the result of a failure, if the next step is a weak exchange
   pub can : W → C → L → Option Hold → Bool  -- whether the next step may be taken
   pub step : W → Option V → C → L → Option Hold → Stepped W V L A
-  -- how they read
+  -- what they are in the plain lock
   pub lock_kind : LockKind
   pub cap : ℕ
   pub group : ℕ
@@ -30,7 +30,7 @@ pub record Machine (W V C L A : Type 0) : Type 0 where
   pub brings : C → Option V  -- the value that the call's own closure gives
   pub gives : A → Option V  -- the value that an answer gives
 
--- where a closure makes the value, a lock that opens with one is complete
+-- if a closure makes the value, a lock that opens with one is complete
 abbrev pub opening_phase : {V : Type 0} → Bool → Option V → Phase
 opening_phase true (Some v) = complete
 opening_phase _ _ = nothing

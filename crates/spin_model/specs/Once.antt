@@ -1,4 +1,4 @@
--- The calls of a `Once`, step by step, and how they read on the plain lock.
+-- The calls of a `Once`, step by step, and what each step is in the plain lock.
 use Rattle.std.specs.Prelude.{ℕ, Bool, Option, Some, None, ◌==◌}
 use Rattle.spin_step.specs.Plain.{to_begin, gets, completes, fails}
 use Rattle.spin_step.specs.Flags.{begun, completed, failed}
@@ -23,21 +23,21 @@ use Rattle.spin_model.specs.Asks.{initializes, fails_to_initialize, waits_for_va
 abbrev pub is_there : ℕ → Bool
 is_there w = w == 2
 
--- the answer is the value that lies there
+-- the answer is the present value
 abbrev pub tells : Option Hold → Next OncePoint (Answer (Unit {0}))
 tells h = Answers (Value tt) h
 
 abbrev pub OnceAct : Type 0
 OnceAct = Act ℕ OncePoint (Answer (Unit {0}))
 
--- a call with a closure looks, begins where there is nothing, and waits while another one runs
+-- A call with a closure looks first. It begins its closure if there is no value, and waits while another one runs.
 abbrev pub runs : OnceAct → OncePoint → Option Hold → OnceAct
 runs end Look h = load_if is_there (λ w. tells h) (λ w. Continue TryBegin)
 runs end TryBegin h = exchange (swap 0 begun) (λ p. gets p to_begin) (Continue Run) (λ w. either (is_there w) (tells h) (Continue Await))
 runs end Await h = load_if is_there (λ w. tells h) (λ w. either (w == 0) (Continue TryBegin) (Continue Await))
 runs end Run h = end
 
--- the end of its closure, which gives a value that is placed in the same step, or fails
+-- the end of its closure: it gives a value, which the same step stores, or it fails
 abbrev pub ends : {V : Type 0} → Option V → Option Hold → OnceAct
 ends (Some v) h = store (λ w. w == 1) (stores (completed 1)) (λ p. completes p) (tells h)
 ends None h = store (λ w. w == 1) (stores (failed 1)) (λ p. fails p) (Answers Failed h)

@@ -1,4 +1,4 @@
--- What a step of a call is: one operation on one word, as a processor makes it.
+-- What a step of a call is: one operation on one word, such as a processor makes.
 use Rattle.std.specs.Prelude.{◌≡◌, ℕ, ◌+◌, ◌-◌, ◌%◌, ◌==◌, Bool, true, false, Option, Some, is_some, if◌then◌else◌, get_or, slice_set}
 use Rattle.std.specs.List.{list_all}
 use Rattle.spin_model.specs.declared.place.Hold.{Hold}
@@ -10,13 +10,13 @@ use Rattle.spin_model.specs.Machines.{Machine}
 
 pub data Operation : Type 0 where
   loads : Operation
-  exchanges : ℕ → ℕ → Operation  -- the first number, where it is found, for the second
+  exchanges : ℕ → ℕ → Operation  -- it replaces the first number, if it finds that, by the second
   adds : ℕ → Operation
   subtracts : ℕ → Operation
   sets_lowest_bit : Operation
   stores : ℕ → Operation
 
--- what lies there after it
+-- the number after the operation
 abbrev pub performed : Operation → ℕ → ℕ
 performed loads n = n
 performed (exchanges from to) n = if n == from then to else n
@@ -25,18 +25,19 @@ performed (subtracts k) n = n - k
 performed sets_lowest_bit n = if n % 2 == 0 then n + 1 else n
 performed (stores k) n = k
 
--- wherever the step may be taken, it makes this operation on the i-th word and leaves the others; and what comes of it depends on the number that lies there, and on no other
+-- Whenever the step is possible, it makes this operation on the i-th word and leaves the others. Its outcome depends
+-- only on the number in that word.
 pub record Performs {W V C L A : Type 0} (m : Machine W V C L A) (c : C) (l : L) (h : Option Hold) (i : ℕ) (operation : Operation) : Type 0 where
   pub words : (w : W) (v : Option V) → m.can w c l h ≡ true → m.numbers (m.step w v c l h).words ≡ slice_set (m.numbers w) i (performed operation (get_or (m.numbers w) i 0))
   pub next : (w u : W) (v : Option V) → m.can w c l h ≡ true → m.can u c l h ≡ true → get_or (m.numbers w) i 0 ≡ get_or (m.numbers u) i 0 → (m.step w v c l h).next ≡ (m.step u v c l h).next
   pub placed : (w u : W) (v : Option V) → (m.step w v c l h).placed ≡ (m.step u v c l h).placed
 
--- a step is one operation, unless this kind of lock steps in whole sections, under a lock of its own
+-- a step is one operation, unless steps of this kind of lock are whole sections under a lock of its own
 abbrev pub IsOneOperation : {W V C L A : Type 0} → Bool → Machine W V C L A → C → L → Option Hold → Type 0
 IsOneOperation true m c l h = Unit {0}
 IsOneOperation false m c l h = (i : ℕ) × (operation : Operation) × Performs m c l h i operation
 
--- a refusal without cause is that of an exchange: the call goes on as it does where another number lies there
+-- A spurious failure is that of an exchange. The call continues as it does when it finds another number.
 abbrev pub RefusesAsLost : {W V C L A : Type 0} → Machine W V C L A → C → L → Option Hold → Next L A → Type 0
 RefusesAsLost {W} {V} m c l h next =
     (i from to : ℕ) × Performs m c l h i (exchanges from to) × ((w : W) (v : Option V) → (get_or (m.numbers w) i 0 == from) ≡ false → (m.step w v c l h).next ≡ next)
@@ -44,7 +45,7 @@ RefusesAsLost {W} {V} m c l h next =
 
 -- what holds of the calls and steps of an object, whatever the schedule
 pub record Stepwise {W V C L A : Type 0} (m : Machine W V C L A) : Type 0 where
-  -- its calls are those of its kind of lock, and each begins just where its party holds what it is for
+  -- the calls are those of the kind of lock, and each begins exactly if its party holds what it needs
   pub calls : (c : C) (h : Option Hold) → (n : ℕ) × AnyOf (λ what. m.asks c h ≡ what) (m.lock_kind.calls n h)
   pub begins : (c : C) (h : Option Hold) → is_some (m.begin c h) ≡ (m.asks c h).begins h
   -- a call that begins makes the plain steps of its kind of lock

@@ -1,4 +1,4 @@
--- What a schedule does: which moves are open, and what each results in.
+-- What a schedule does: which moves are open, and the outcome of each.
 use Rattle.std.specs.Prelude.{ℕ, ◌+◌, Bool, true, false, ◌&&◌, Option, Some, None, List, [], ◌∷◌, ◌++◌, map, replicate, ◌==◌, if◌then◌else◌, slice_get, slice_set, unwrap_or}
 use Rattle.std.specs.List.{list_all}
 use Rattle.spin_model.specs.declared.place.Hold.{Hold}
@@ -32,12 +32,12 @@ pub record Shown (O W V C L : Type 0) : Type 0 where
 abbrev pub Entry : Type 0 → Type 0 → Type 0
 Entry C V = ℕ × Move C V
 
--- what an entry results in
+-- the outcome of an entry
 pub record Happened (W V C L A : Type 0) : Type 0 where
   pub outcome : Outcome A V
   pub next : State W V C L
 
--- whose hold reads the value, and whose may replace it
+-- a party with this hold may read the value; `may_write`: may replace it
 abbrev pub may_read : Hold → Bool
 may_read hold.Starver = false
 may_read _ = true
@@ -47,7 +47,7 @@ may_write hold.Write = true
 may_write (hold.Ticket t) = true
 may_write _ = false
 
--- the party shares the value no more
+-- the party no longer shares the value
 abbrev pub yields_to_owner : {C L : Type 0} → Seat C L → Bool
 yields_to_owner Idle = true
 yields_to_owner (Calling c l h) = false
@@ -55,7 +55,7 @@ yields_to_owner (Holding h) = false
 yields_to_owner (Leaked h) = true
 yields_to_owner (Gone h) = true
 
--- what the owner's look makes of a seat
+-- the seat after the owner has used the value
 abbrev pub seen_by_owner : {C L : Type 0} → Seat C L → Seat C L
 seen_by_owner Idle = Idle
 seen_by_owner (Calling c l h) = Calling c l h
@@ -63,7 +63,7 @@ seen_by_owner (Holding h) = Holding h
 seen_by_owner (Leaked h) = Gone h
 seen_by_owner (Gone h) = Gone h
 
--- the place of a party that is in no call
+-- the seat of a party that is in no call
 abbrev pub resting : {C L : Type 0} → Option Hold → Seat C L
 resting None = Idle
 resting (Some h) = Holding h
@@ -87,7 +87,7 @@ abbrev pub goes_on : {W V C L A : Type 0} → State W V C L → ℕ → C → Op
 goes_on s p c h (Continue l) = record { outcome = outcome.GoingOn; next = seated s p (Calling c l h) }
 goes_on s p c h (Answers a after) = record { outcome = outcome.Answered a None; next = seated s p (resting after) }
 
--- a value that a step places stands from then on
+-- a value that a step stores is the value from then on
 abbrev pub placed : {V : Type 0} → Option V → Option V → Option V
 placed None old = old
 placed (Some v) old = Some v
@@ -133,7 +133,7 @@ leaks s p _ = skipped s
 abbrev pub is_owners : {W V C L A : Type 0} → Machine W V C L A → State W V C L → Bool
 is_owners m s = m.owned && list_all yields_to_owner s.seats
 
--- every leaked party is gone
+-- every leaked party is then gone
 abbrev pub let_go : {W V C L : Type 0} → State W V C L → State W V C L
 let_go s = record s { seats = map seen_by_owner s.seats }
 
@@ -141,7 +141,7 @@ abbrev pub owner_gets : {W V C L A : Type 0} → State W V C L → Bool → Happ
 owner_gets s true = record { outcome = outcome.Value s.value; next = let_go s }
 owner_gets s false = skipped s
 
--- where there is no value, nothing is written
+-- if there is no value, the owner writes nothing
 abbrev pub owner_writes : {W V C L A : Type 0} → State W V C L → V → Option V → Happened W V C L A
 owner_writes s v None = record { outcome = outcome.Value None; next = let_go s }
 owner_writes s v (Some old) = record { outcome = outcome.Written; next = let_go (record s { value = Some v }) }
@@ -150,7 +150,7 @@ abbrev pub owner_sets : {W V C L A : Type 0} → State W V C L → V → Bool �
 owner_sets s v true = owner_writes s v s.value
 owner_sets s v false = skipped s
 
--- a move of a party that stands so
+-- a move of a party with this seat
 abbrev pub moves : {W V C L A : Type 0} → Machine W V C L A → State W V C L → ℕ → Move C V → Seat C L → Happened W V C L A
 moves m s p (Begin c) seat = begins m s p c seat
 moves m s p Step seat = steps m s p seat
@@ -161,16 +161,16 @@ moves m s p Leak seat = leaks s p seat
 moves m s p OwnerGet seat = owner_gets s (is_owners m s)
 moves m s p (OwnerSet v) seat = owner_sets s v (is_owners m s)
 
--- a party that doesn't exist is skipped
+-- a party that does not exist is skipped
 abbrev pub moves_at : {W V C L A : Type 0} → Machine W V C L A → State W V C L → ℕ → Move C V → Option (Seat C L) → Happened W V C L A
 moves_at m s p move None = skipped s
 moves_at m s p move (Some seat) = moves m s p move seat
 
--- what one entry results in
+-- the outcome of one entry
 abbrev pub happens : {W V C L A : Type 0} → Machine W V C L A → State W V C L → ℕ → Move C V → Happened W V C L A
 happens m s p move = moves_at m s p move (slice_get s.seats p)
 
--- all parties are idle at first
+-- at first all parties are idle
 abbrev pub at_first : {W V C L A : Type 0} → Machine W V C L A → ℕ → State W V C L
 at_first m n = record { words = m.words; value = m.value; seats = replicate n Idle }
 
@@ -179,7 +179,7 @@ abbrev pub after : {W V C L A : Type 0} → Machine W V C L A → State W V C L 
 after m s [] = s
 after m s (e ∷ es) = after m (happens m s e.0 e.1).next es
 
--- its events, each without the place of its call's beginning
+-- the events of the schedule, without the places where calls began
 abbrev pub events_of : {W V C L A : Type 0} → Machine W V C L A → State W V C L → List (ℕ × Move C V) → List (Event W V A)
 events_of m s [] = []
 events_of m s (e ∷ es) =
@@ -190,7 +190,7 @@ abbrev pub is_begun : {V A : Type 0} → Outcome A V → Bool
 is_begun outcome.Begun = true
 is_begun _ = false
 
--- the place of the party's last beginning among these events, which are counted from k on
+-- the place of the party's last beginning among these events; the first event has the place k
 abbrev pub last_begin : {W V A : Type 0} → ℕ → ℕ → Option ℕ → List (Event W V A) → Option ℕ
 last_begin p k found [] = found
 last_begin p k found (e ∷ es) = last_begin p (k + 1) (if (e.party == p) && is_begun e.outcome then Some k else found) es
@@ -199,12 +199,12 @@ abbrev pub with_begin : {V A : Type 0} → Option ℕ → Outcome A V → Outcom
 with_begin began (outcome.Answered a b) = outcome.Answered a began
 with_begin began o = o
 
--- the events with, at each answer, the place of the call's beginning among those before it
+-- the events, with the place of the call's beginning added to each answer
 abbrev pub with_begins : {W V A : Type 0} → List (Event W V A) → List (Event W V A) → List (Event W V A)
 with_begins before [] = []
 with_begins before (e ∷ es) = record e { outcome = with_begin (last_begin e.party 0 None before) e.outcome } ∷ with_begins (before ++ e ∷ []) es
 
--- where each party's call began, as a table: a party past its end has begun none
+-- where each party's call began, as a table; a party beyond its end has begun none
 abbrev pub begin_of : List (Option ℕ) → ℕ → Option ℕ
 begin_of begins p = unwrap_or (slice_get begins p) None
 
@@ -212,7 +212,7 @@ abbrev pub begins_after : {V A : Type 0} → List (Option ℕ) → ℕ → ℕ �
 begins_after begins p k outcome.Begun = slice_set begins p (Some k)
 begins_after begins p k _ = begins
 
--- a party's place, as the world shows it
+-- a party's place as a program sees it
 abbrev pub place_of : {C L : Type 0} → Seat C L → Place
 place_of Idle = place.Idle
 place_of (Calling c l h) = place.InCall

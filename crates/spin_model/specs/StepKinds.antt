@@ -1,11 +1,11 @@
--- Of which kind a step of a call is.
+-- The kind of a step of a call.
 use Rattle.std.specs.Prelude.{Bool, true, false}
 
 pub data StepKind : Type 0 where
   plain : StepKind  -- it is made once
-  again : StepKind  -- an exchange, which the call makes again where it fails
+  again : StepKind  -- an exchange that the call repeats if it fails
   look : StepKind  -- a look of a call that waits
-  weak : StepKind  -- a weak exchange that refuses, whatever the word is: only the move `Weak` makes such a step
+  weak : StepKind  -- a weak exchange that fails, whatever the word is; only the move `Weak` makes such a step
 
 abbrev pub is_again : StepKind → Bool
 is_again again = true
@@ -19,7 +19,7 @@ abbrev pub is_weak : StepKind → Bool
 is_weak weak = true
 is_weak _ = false
 
--- the kind of a step by the move `Step`, which never refuses without cause
+-- the kind of a step made by the move `Step`, which never fails spuriously
 abbrev pub by_step : StepKind → StepKind
 by_step weak = plain
 by_step step_kind = step_kind

@@ -1,4 +1,4 @@
--- The ticket lock's calls, step by step, and how they read on the plain lock.
+-- The ticket lock's calls, step by step, and what each step is in the plain lock.
 use Rattle.std.specs.Prelude.{ℕ, Bool, not, ◌&&◌, Option, Some, None, ◌==◌, nat_lt}
 use Rattle.spin_step.specs.Plain.{ticket_limit, to_take_ticket, to_enter, to_take_and_enter, gets, serves}
 use Rattle.spin_step.specs.Tickets.{take, served}
@@ -21,7 +21,7 @@ use Rattle.spin_model.specs.Acts.{Memory, two_numbers, Act, load, load_if, load_
 use Rattle.spin_model.specs.Tables.{usual_table}
 use Rattle.spin_model.specs.Operations.{stores}
 
--- where calls begin; a release with the ticket that it holds
+-- where calls begin; a release begins with the ticket that its party holds
 abbrev pub starts_at : TicketCall → Option Hold → TicketPoint
 starts_at Lock h = LoadNext
 starts_at TryLock h = TryLoadNext
@@ -29,7 +29,7 @@ starts_at IsLocked h = LookServing
 starts_at Release (Some (hold.Ticket t)) = Serve t
 starts_at Release _ = Serve 0
 
--- its two words: the next ticket, and the one that is served
+-- its two words: the next number, and the served one
 abbrev pub ticket_memory : Memory TicketWords
 ticket_memory = two_numbers (λ w. w.next) (λ w. w.serving) (λ k w. record w { next = k }) (λ k w. record w { serving = k })
 
@@ -40,11 +40,11 @@ word_of LookServing = 1
 word_of (Serve t) = 1
 word_of _ = 0
 
--- some tickets are left where this one is next
+-- if this number is next, some tickets are left
 abbrev pub is_left : ℕ → Bool
 is_left n = nat_lt n ticket_limit
 
--- the number that is served is this one, and its ticket is left
+-- this number is served, and its ticket is left
 abbrev pub is_free : ℕ → ℕ → Bool
 is_free n serving = (serving == n) && is_left n
 

@@ -6,7 +6,7 @@ pub enum FlagCall {
     Lock,
     /// Tries to acquire the lock. It fails if a party holds it.
     TryLock,
-    /// Like `TryLock`, but makes a weak exchange, which may also fail without cause.
+    /// Like `TryLock`, but makes a weak exchange, which may also fail spuriously.
     TryLockWeak,
     /// Answers whether a party holds the lock.
     IsLocked,
@@ -14,7 +14,7 @@ pub enum FlagCall {
     Release,
 }
 
-/// The point of a call: which step comes next. Only `Lock` has a second one.
+/// The point of a call: which step is next. Only `Lock` has a second one.
 #[derive(Copy)]
 pub enum FlagPoint {
     /// The first step of any call, and of each further attempt.

@@ -1,7 +1,7 @@
-//! The model of parties: the place of a party, what its steps result in, and what a schedule does.
+//! The model of parties: a party's place, the outcomes of its moves, and what a schedule does.
 //!
-//! Definitions, and types that they name. `spin_world_core` plays them, and proves what holds of every schedule. Begin
-//! with [`Move`] and [`Stepped`]; `after` of specs/Schedules.antt says what a schedule does.
+//! It has definitions, and types that they use. `spin_world_core` plays them, and proves what holds of every schedule.
+//! Begin with [`Move`] and [`Stepped`]. `after` in specs/Schedules.antt says what a schedule does.
 #![tactic(auto)]
 
 mod answer;

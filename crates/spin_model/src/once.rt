@@ -1,8 +1,8 @@
-//! The calls of the once-only cell, and their points. Begin with [`OnceCall`].
-/// A call of a `OnceObject`. `OnceObject::new` of `spin_world` promises that each call asks what stands here.
+//! The calls of a `Once`, and their points. Begin with [`OnceCall`].
+/// A call of a `OnceObject`. `OnceObject::new` of `spin_world` promises that each call asks what is said here.
 ///
-/// If there is a value, a call with a closure answers that one. If there is none, the call runs its closure, but waits
-/// while another closure runs.
+/// If there is a value, a call with a closure answers it. If there is none, the call runs its closure. While another
+/// closure runs, it waits.
 #[derive(Copy)]
 pub enum OnceCall<V> {
     /// Runs a closure that gives this value.
@@ -23,15 +23,15 @@ pub enum OnceCall<V> {
     IsCompleted,
 }
 
-/// The point of a call: which step comes next.
+/// The point of a call: which step is next.
 #[derive(Copy)]
 pub enum OncePoint {
     /// The first look of any call, and each further look of `Wait` and `Poll`.
     Look,
     /// A call with a closure begins to run it by an exchange.
     TryBegin,
-    /// It looks until no other closure runs.
+    /// The call looks until no other closure runs.
     Await,
-    /// Its closure ends.
+    /// The call's closure ends.
     Run,
 }

@@ -1,4 +1,4 @@
-//! Where a party stands, and what it holds. Begin with [`Place`].
+//! The place of a party, and what it holds. Begin with [`Place`].
 /// What a party holds.
 #[derive(Copy)]
 pub enum Hold {
@@ -10,11 +10,11 @@ pub enum Hold {
     Write,
     /// A ticket that has entered, by its number. It may read and write the value.
     Ticket(u64),
-    /// A place among the starvers. It may neither read nor write the value.
+    /// A registration as a starver. It may neither read nor write the value.
     Starver,
 }
 
-/// Where a party stands, as `World::place` returns it.
+/// The place of a party, as `World::place` returns it.
 #[derive(Copy)]
 pub enum Place {
     /// The party holds nothing, and is in no call.
@@ -23,21 +23,20 @@ pub enum Place {
     InCall,
     /// The party holds this, and is in no call.
     Holding(Hold),
-    /// The party forgot its guard: it holds for good, and makes no further call.
+    /// The party forgot its guard. It holds for ever, and makes no further call.
     Leaked(Hold),
-    /// The party has leaked, and the owner has since looked at the value or replaced it. It touches the value no
-    /// more.
+    /// The party has leaked, and the owner has used the value since. The party no longer uses the value.
     Gone,
 }
 
-/// Where a party stands, with all that the world keeps of it. Contracts name it; a program uses [`Place`].
+/// The place of a party, with all that the world keeps of it. Contracts use it; a program uses [`Place`].
 #[derive(Copy)]
 pub enum Seat<C, L> {
     Idle,
-    /// In a call, at this point of it, with what the party held as the call began.
+    /// The party is in this call, at this point. The last part is what it held when the call began.
     Calling(C, L, Option<Hold>),
     Holding(Hold),
     Leaked(Hold),
-    /// Gone. What the party leaked stays in the words.
+    /// The party is gone. What it leaked still counts in the words.
     Gone(Hold),
 }

@@ -1,15 +1,15 @@
-//! What a step of a call results in. Begin with [`Stepped`].
+//! The outcome of a step of a call. Begin with [`Stepped`].
 ghost use Rattle.std.specs.Prelude.{◌≡◌};
 ghost use Rattle.spin_model.specs.Acts.{stays, becomes};
 
 use crate::place::Hold;
 
-/// How a call continues after a step.
+/// How a call continues after a step, if at all.
 #[derive(Copy)]
 pub enum Next<L, A> {
     /// The call continues at this point.
     Continue(L),
-    /// The call ends with this answer, and the party holds this from then on.
+    /// The call ends with this answer. From then on the party holds this.
     Answers(A, Option<Hold>),
 }
 
@@ -20,15 +20,15 @@ pub struct Stepped<W, V, L, A> {
     pub words: W,
     /// The new value, if the step replaces the value.
     pub placed: Option<V>,
-    /// How the call continues.
+    /// How the call continues, if at all.
     pub next: Next<L, A>,
 }
 
 impl<W, V, L, A> Stepped<W, V, L, A> {
-    /// Creates a step after which the words are these, and the value is as before.
+    /// Creates a step after which the words are these, and the value is unchanged.
     ///
     /// # Contract
-    /// The step is `stays` of the words and of how the call continues.
+    /// The step is `stays` of these arguments.
     pub fn stay(words: W, next: Next<L, A>) -> Self
         ensures { result ≡ stays words next }
     {
@@ -41,11 +41,12 @@ impl<W, V, L, A> Stepped<W, V, L, A> {
 }
 
 impl<W: Copy, V, L: Copy, A: Copy> Stepped<W, V, L, A> {
-    /// Creates a step that tries an exchange of the words. With `Some` the call continues as `won`, with `None` as
+    /// Creates a step that tries an exchange of the words. With `Some` the call continues with `won`, with `None` with
     /// `lost`.
     ///
     /// # Contract
-    /// With `Some` the words after the step are these. With `None` they stay. The value is as before (`becomes`).
+    /// With `Some` the words after the step are these. With `None` they do not change. The value does not change
+    /// (`becomes`).
     ///
     /// # Examples
     /// ```

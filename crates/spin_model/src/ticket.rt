@@ -1,47 +1,47 @@
-//! The calls of the lock of two numbers, their points, and its words. Begin with [`TicketCall`].
+//! The calls of the ticket lock, their points, and its words. Begin with [`TicketCall`].
 /// The two words of a `Ticket`.
 #[derive(Copy)]
 pub struct TicketWords {
     /// The number of the next ticket.
     pub next: u64,
-    /// The number that is served. The party with this ticket may hold the lock.
+    /// The number served. The party with this ticket may hold the lock.
     pub serving: u64,
 }
 
-/// A call of a `Ticket`. `Ticket::new` of `spin_world` promises that each call asks what stands here.
+/// A call of a `Ticket`. `Ticket::new` of `spin_world` promises that each call asks what is said here.
 #[derive(Copy)]
 pub enum TicketCall {
     /// Takes a ticket, in as many steps as it needs, and then waits until it is served. If no number is left, it looks
-    /// without end.
+    /// for ever.
     Lock,
-    /// Tries to acquire the lock, without waiting. It fails only if a ticket stood at some moment of the call, or if no
-    /// number is left.
+    /// Tries to acquire the lock, without waiting. It fails only if some party had a ticket at some moment of the call,
+    /// or if no number is left.
     TryLock,
-    /// Answers whether a ticket stands.
+    /// Answers whether some party has a ticket.
     IsLocked,
     /// Releases the lock: the next ticket is served.
     Release,
 }
 
-/// The point of a call: which step comes next, with what the party has found or taken so far.
+/// The point of a call: which step is next, with what the party has found or taken so far.
 #[derive(Copy)]
 pub enum TicketPoint {
     /// `Lock` loads the next number.
     LoadNext,
-    /// `Lock` takes the ticket of this number by an exchange.
+    /// `Lock` takes the ticket with this number, by an exchange.
     Take(u64),
-    /// `Lock` loads the number that is served, and has the ticket of this one.
+    /// `Lock` loads the served number. The party has the ticket with this number.
     Await(u64),
     /// `TryLock` loads the next number.
     TryLoadNext,
-    /// `TryLock` loads the number that is served. It found this one to be next.
+    /// `TryLock` loads the served number. It found this number to be next.
     TryLoadServing(u64),
-    /// `TryLock` takes the ticket of this number by an exchange. It found it to be next, and served.
+    /// `TryLock` takes the ticket with this number, by an exchange. It found it to be next, and served.
     TryTake(u64),
-    /// `IsLocked` loads the number that is served.
+    /// `IsLocked` loads the served number.
     LookServing,
-    /// `IsLocked` loads the next number. It found this one to be served.
+    /// `IsLocked` loads the next number. It found this number to be served.
     LookNext(u64),
-    /// `Release` stores the number after this one, its ticket's.
+    /// `Release` stores the number after this one, which is its ticket's.
     Serve(u64),
 }

@@ -1,4 +1,4 @@
-//! `Mutex`, which uses only the contract of a `TicketMutex`; and the three other mutexes by their own names.
+//! `Mutex`, a spinning mutex that uses only the contract of a `TicketMutex`.
 //!
 //! Begin at [`mutex::Mutex`], and there at `lock`.
 #![tactic(auto)]

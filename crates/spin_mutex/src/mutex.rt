@@ -1,26 +1,16 @@
-//! `Mutex`, which uses only the contract of an inner lock, and three other mutexes by their own names. Begin at
-//! [`Mutex::lock`].
+//! `Mutex`, which uses only the contract of an inner lock. Begin at [`Mutex::lock`].
 ghost use Rattle.std.specs.Prelude.{◌≡◌, Some, None, [], IfSome, true};
 ghost use Rattle.spin_ticket.specs.TicketPasses.{history, party, lock_of, name_of, opening, opening_of};
 ghost use Rattle.spin_mutex.specs.MutexGuard.{value_of, holds, held_value};
 
 use spin_core::lock::{Lock, with_guard};
 use spin_core::relax::{RelaxStrategy, Spin};
+use spin_ticket::ticket::{self, TicketMutex, TicketMutexGuard};
 use std::marker::PhantomData;
 use std::ops::{Deref, DerefMut};
 use std::sync::Wait;
 
 mod texts;
-
-pub use spin_fair::fair;
-pub use spin_fair::fair::{FairMutex, FairMutexGuard, Starvation};
-pub use spin_flag::spin;
-pub use spin_flag::spin::{SpinMutex, SpinMutexGuard};
-pub use spin_ticket::laws::{
-    the_parties_of_a_ticket_mutex_enter_in_turn, the_words_of_a_ticket_mutex_are_its_queue,
-};
-pub use spin_ticket::ticket;
-pub use spin_ticket::ticket::{TicketMutex, TicketMutexGuard};
 
 /// A mutual exclusion lock on which a waiting thread spins.
 ///
@@ -50,12 +40,12 @@ pub struct Mutex<T, R = Spin> {
 /// It gives access to the value by `Deref` and `DerefMut`.
 ///
 /// # Contract
-/// `value_of` is the value behind the guard. What is written through the guard is read through it.
+/// `value_of` is the lock's value. What is written through the guard is read through it.
 #[derive(Drop)]
 #[must_use = "dropping the guard at once releases the lock: bind it, or write `drop(..)`"]
 pub struct MutexGuard<'a, T, R = Spin> {
     inner: TicketMutexGuard<'a, T, R>,
-    // The clause of `deref_mut` names this lifetime, and a lender's type has to name it itself.
+    // The clause of `deref_mut` needs this lifetime, and a lender's type has to name it itself.
     life: PhantomData<&'a ()>,
 }
 
@@ -109,7 +99,7 @@ impl<T, R> Mutex<T, R> {
         Self::over(TicketMutex::new(value))
     }
 
-    // Wraps a lock that exists.
+    // Wraps an existing lock.
     pub(crate) fn over(inner: TicketMutex<T, R>) -> Self
         ensures { result.inner ≡ inner }
     {
@@ -198,7 +188,7 @@ impl<T, R> Mutex<T, R> {
 
     /// Returns a pass that has made no call. It makes no operation on the lock.
     ///
-    /// Its calls are those of the queue of tickets that this mutex is: a guard of a pass is a [`TicketMutexGuard`].
+    /// The calls of the pass are those of the inner queue of tickets: its guard is a [`TicketMutexGuard`].
     ///
     /// # Contract
     /// The pass is of this mutex (`lock`), and knows nothing of its history yet (`new`).
@@ -353,19 +343,19 @@ impl<T, R: RelaxStrategy> Lock<T> for Mutex<T, R> {
     }
 }
 
-// SAFETY: the lock inside goes along, which owns the value.
+// SAFETY: the inner lock, which owns the value, is sent too.
 unsafe impl<T: Send, R> Send for Mutex<T, R> {}
 
-// SAFETY: the lock inside gives the value to one holder at a time, in whatever thread that is.
+// SAFETY: the inner lock gives the value to one holder at a time, in whatever thread.
 unsafe impl<T: Send, R> Sync for Mutex<T, R> {}
 
-// SAFETY: its new thread has the value to itself, as its old one had.
+// SAFETY: the new thread has the value to itself, like the old one.
 unsafe impl<T: Send, R> Send for MutexGuard<'_, T, R> {}
 
 // SAFETY: a shared guard lends a `&T` and no more.
 unsafe impl<T: Sync, R> Sync for MutexGuard<'_, T, R> {}
 
-// SAFETY: its new thread passes the value on to the next user: what a guard asks.
+// SAFETY: the new thread releases the lock, and so passes the value to its next user. That asks what a guard asks.
 unsafe impl<T: Send, R> Send for Held<'_, T, R> {}
 
 // SAFETY: a shared hold lends nothing. It asks what the lock asks.

@@ -1,4 +1,4 @@
-//! What tests need that look at the tickets. Begin at [`starting_at`].
+//! What tests need to see the tickets. Begin at [`starting_at`].
 use crate::mutex::Mutex;
 
 /// Creates an unlocked mutex whose first ticket has the number `first`.

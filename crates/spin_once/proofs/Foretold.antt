@@ -1,4 +1,6 @@
--- A run of a `Once` on threads is a schedule of its object: it leads to the same words and value, and to the same seats, in which each call is named by whether its closure will fail.
+-- A run of a `Once` on threads is a schedule of its object. It leads to the same words and value, and to the same
+-- seats.
+-- In these each call is named by whether its closure will fail.
 use Rattle.std.proofs.Common.{◌≡◌, ℕ, zero, suc, ◌+◌, ◌≤◌, ◌==◌, if◌then◌else◌, Bool, true, false, ◌&&◌, Option, Some, None, List, [], ◌∷◌, ◌++◌, length, map, take, drop, replicate, slice_get, slice_set, refl, sym, ap, ◌∙◌, subst, arith, eq-eqb, ne_eqb, eqb-true}
 use Rattle.std.specs.Option.{option_map}
 use Rattle.std.specs.List.{list_all}
@@ -18,14 +20,15 @@ use Rattle.spin_core.specs.Own.{Numbered, IsRun, Rested, present_from, kind, ent
 use Rattle.spin_core.specs.Run.{is_played, outcomes, IsPlayed, LeadsTo, sits}
 use Rattle.spin_once.specs.Foretold.{fails_by, will_fail, named, told_of, foretold, place_of, counted}
 use Rattle.spin_once.specs.Model.{Point, at, failed}
-use Rattle.spin_once.specs.Once.{OneMove, Made, seat_of, words_of}
+use Rattle.spin_once.specs.OnceValues.{Made}
+use Rattle.spin_once.specs.Once.{OneMove, seat_of, words_of}
 use Rattle.spin_once.specs.declared.once_core.rule.View.{View}
 use Rattle.spin_once.specs.declared.once_core.rule.View.TheVariants as view
 use Rattle.spin_once.specs.declared.once_core.rule.View.TheVariants.{Reading, InCall}
 use Rattle.spin_once.proofs.Resting.{Call, World, is_step, rests, rests_after}
 use Rattle.spin_once.proofs.Named.{Object, seat_named, seats_named, object, Alike, renamed, t, m, named_get, named_set, named_alike, named_idle, put_same, moves_alike}
 
--- the part of the object's schedule that these moves are, where others follow them
+-- the part of the object's schedule for these moves, if others follow them
 abbrev before : List Made → List Made → List Made
 before [] later = []
 before (e ∷ es) later = told_of e.0 e.1 (will_fail (es ++ later) e.0) (before es later)
@@ -54,12 +57,12 @@ till es later = ap (λ k. take k (foretold (es ++ later))) (sym (as_long es late
 before_nil : (es : List Made) → before es [] ≡ foretold es
 before_nil es = sym (append-nil (before es [])) ∙ sym (joined es []) ∙ ap foretold (append-nil es)
 
--- so the schedule is that part, and what comes of the later moves
+-- so the schedule is that part, and then the part for the later moves
 pub split : (es later : List Made) → foretold (es ++ later) ≡ take (length (foretold es)) (foretold (es ++ later)) ++ foretold later
 split es later = joined es later ∙ ap (λ l. l ++ foretold later) (sym (till es later))
 
 module _ (given : Option (Unit {0})) where
-  -- a party that is in no call takes no step, and no closure of it fails, before it begins one
+  -- a party in no call makes no step before it begins one, and no closure of it fails
   own_quiet : (s : World) (q : ℕ) (move : OneMove) (later : Bool) (o : Option (Seat Call Point)) → rests o ≡ true → is_played (moves_at (m given) s q move o).outcome ≡ true → ((is_step move ≡ true → ⊥) → later ≡ false)
       → fails_by move later ≡ false
   own_quiet s q (Begin c) later o is played still = refl
@@ -85,7 +88,7 @@ module _ (given : Option (Unit {0})) where
       let each = and_parts (is_played (happens (m given) s e.0 e.1).outcome) (list_all is_played (outcomes (m given) s' es)) played in
       quiet_by s e.0 p e.1 (will_fail es p) is each.0 (λ ne. quiet es s' p each.1 (rests_after given s e.0 p is e.1 (slice_get s.seats e.0) ne)) (e.0 == p) refl
 
-  -- from this state the object is led by these entries to that state, and passes none over
+  -- from this state these entries lead the object to that state, and none of them is skipped
   abbrev Leads : Object → List Made → Object → Type 0
   Leads o es end = (after (t given) o es ≡ end) × (list_all is_played (outcomes (t given) o es) ≡ true)
 
@@ -101,7 +104,7 @@ module _ (given : Option (Unit {0})) where
       → Alike f (happens (m given) s p move) (happens (t given) (object f s) p (renamed move (f p)))
   happens_alike f s p move still ne = rw (named_get f s.seats p) (at_alike f s p move (slice_get s.seats p) refl still ne)
 
-  -- the closure fails: in the object the call was named so from its beginning
+  -- the closure fails; in the object the call had that name from its beginning
   failed_seats : (f g : ℕ → Bool) (xs : List (Seat Call Point)) (p : ℕ) (v : Unit {0}) (h : Option Hold) → slice_get xs p ≡ Some (Calling (TryCallOnceOk v) (at Run) h) → f p ≡ true → ((q : ℕ) → (p ≡ q → ⊥) → f q ≡ g q)
       → seats_named f xs ≡ seats_named g (slice_set xs p (Calling (TryCallOnceOk v) failed h))
   failed_seats f g xs p v h there fails others =
@@ -122,7 +125,7 @@ module _ (given : Option (Unit {0})) where
       ap (λ xs. let o : Object = record { words = s.words; value = s.value; seats = xs } in o) (failed_seats (will_fail ((p, Weak) ∷ es)) (will_fail es) s.seats p v h there (rw (eq-eqb p p refl) refl) (λ q ne. rw (ne_eqb p q ne) refl))
   weak_alike s p es _ there played = absurd (let d : false ≡ true = played in cc)
 
-  -- what comes later says of another party what it said, and of a party that rests nothing
+  -- later moves name another party's call as before, and say nothing of a party that rests
   pub named_later : (s : World) (p : ℕ) (move : OneMove) (es : List Made) (o : Option (Seat Call Point)) → slice_get s.seats p ≡ o → is_played (moves_at (m given) s p move o).outcome ≡ true → (move ≡ Weak → ⊥)
       → object (will_fail ((p, move) ∷ es)) s ≡ object (will_fail es) s
   named_later s p move es o there played ne =
@@ -164,18 +167,18 @@ module _ (given : Option (Unit {0})) where
       one_more s p Weak es later head tail ends = subst (λ o. Leads o (before es later) (object (will_fail later) (after (m given) s ((p, Weak) ∷ es)))) (sym (weak_alike s p (es ++ later) (slice_get s.seats p) refl head)) ends
       one_more s p move es later head tail ends = other_alike s p move (es ++ later) (before es later) (object (will_fail later) (after (m given) s ((p, move) ∷ es))) head tail (λ e. absurd (cc e)) ends
 
-  -- where others follow these moves: their part of the schedule leads the object to where they lead
+  -- if others follow these moves, their part of the schedule leads the object to where they lead
   pub leads_on : (es later : List Made) (s : World) → list_all is_played (outcomes (m given) s (es ++ later)) ≡ true
       → after (t given) (object (will_fail (es ++ later)) s) (take (length (foretold es)) (foretold (es ++ later))) ≡ object (will_fail later) (after (m given) s es)
   leads_on es later s played = ap (after (t given) (object (will_fail (es ++ later)) s)) (till es later) ∙ (run_alike es later s played).0
 
-  -- and the whole of them
+  -- and so does the whole schedule
   pub all_alike : (es : List Made) (s : World) → list_all is_played (outcomes (m given) s es) ≡ true → Leads (object (will_fail es) s) (foretold es) (object (λ p. false) (after (m given) s es))
   all_alike es s played =
       subst (λ xs. Leads (object (will_fail xs) s) (foretold es) (object (λ p. false) (after (m given) s es))) (append-nil es)
       (subst (λ ys. Leads (object (will_fail (es ++ [])) s) ys (object (λ p. false) (after (m given) s es))) (before_nil es) (run_alike es [] s (subst (λ xs. list_all is_played (outcomes (m given) s xs) ≡ true) (sym (append-nil es)) played)))
 
--- ---- from the beginning to where all parties stand between two steps
+-- ---- from the beginning to the seats of all parties between two steps
 pub named_kept : (c : Call) → named c false ≡ c
 named_kept (TryCallOnceOk v) = refl
 named_kept c = refl

@@ -1,4 +1,5 @@
--- The moves of each step of a value that is made once, by computation: a call of the model and its first step, or the next step of a call.
+-- The moves of each step of a value that is made once, by computation: a call of the model and its first step, or the
+-- next step of a call under way.
 use Rattle.std.proofs.Common.{◌≡◌, Bool, true, false, ℕ, zero, suc, ◌==◌, [], ◌∷◌, List, Option, Some, None, refl, arith}
 use prog.Atomic.{either}
 use Rattle.spin_core.specs.Run.{AreMoves, on_first, first}
@@ -13,11 +14,18 @@ use Rattle.spin_once.specs.declared.once_core.rule.View.{View}
 use Rattle.spin_once.specs.declared.once_core.rule.View.TheVariants.{Idle, Reading, InCall}
 use Rattle.spin_once.proofs.Steps.{ComesTo}
 
+-- where a closure ends, the word is 1
+abbrev pub AtOne : View → ℕ → View → Type 0
+AtOne w n v = (v ≡ w) × (n ≡ 1)
+
+abbrev pub at_one : Says → Says
+at_one says own outs n v = says own outs n v × (n ≡ 1)
+
 module _ (given : Option (Unit {0})) where
   abbrev pub Moves : Option View → (ℕ → ℕ) → (ℕ → View → Type 0) → (List OneMove → List Ending → ℕ → View → Type 0) → Type 0
   Moves view f = AreMoves (model given) seat_of words_of view (on_first f) first
 
-  -- what a party does that has not come yet, one does that is in no call
+  -- a party that is in no call makes the moves of a new party
   out_moves : (view : Option View) → is_out view ≡ true → (to : ℕ → View) (says : Says) → Moves None (λ n. n) (ComesTo None to) says → Moves view (λ n. n) (ComesTo view to) says
   out_moves None out to says moves = moves
   out_moves (Some Idle) out to says moves = moves
@@ -125,12 +133,12 @@ module _ (given : Option (Unit {0})) where
   poll_moves (Some (InCall Poll Look)) may = next_poll
   poll_moves (Some _) may = absurd (cc (may))
 
-  pub end_moves : (view : View) → is_running view ≡ true → Moves (Some view) (λ _. 2) (λ _ v. v ≡ Reading) (ends_by (call_of (Some view)))
+  pub end_moves : (view : View) → is_running view ≡ true → Moves (Some view) (λ _. 2) (AtOne Reading) (at_one (ends_by (call_of (Some view))))
   end_moves (InCall c Look) may w value v is = absurd (cc (may))
-  end_moves (InCall (CallOnce u) Run) may w value v is = rw is (Step ∷ [], Answered (Value tt) None ∷ [], (refl, (refl, refl)), refl, refl, 2, Some tt, refl, refl, refl)
-  end_moves (InCall (TryCallOnceOk u) Run) may w value v is = rw is (Step ∷ [], Answered (Value tt) None ∷ [], (refl, (refl, refl)), refl, refl, 2, Some tt, refl, refl, refl)
+  end_moves (InCall (CallOnce u) Run) may w value v is = rw is.0 (Step ∷ [], Answered (Value tt) None ∷ [], ((refl, (refl, refl)), is.1), refl, refl, 2, Some tt, refl, refl, refl)
+  end_moves (InCall (TryCallOnceOk u) Run) may w value v is = rw is.0 (Step ∷ [], Answered (Value tt) None ∷ [], ((refl, (refl, refl)), is.1), refl, refl, 2, Some tt, refl, refl, refl)
   end_moves _ may w value v is = absurd (cc (may))
 
-  -- its closure has failed: the model's call goes on as one whose closure fails
-  pub fail_moves : Moves (Some (InCall (TryCallOnceOk tt) Run)) (λ _. 0) (λ _ v. v ≡ Idle) fails_by
-  fail_moves w value v is = rw is (Weak ∷ Step ∷ [], GoingOn ∷ Answered Failed None ∷ [], (refl, (refl, refl)), refl, refl, 0, value, refl, refl, refl)
+  -- its closure has failed: the model's call continues as one whose closure fails
+  pub fail_moves : Moves (Some (InCall (TryCallOnceOk tt) Run)) (λ _. 0) (AtOne Idle) (at_one fails_by)
+  fail_moves w value v is = rw is.0 (Weak ∷ Step ∷ [], GoingOn ∷ Answered Failed None ∷ [], ((refl, (refl, refl)), is.1), refl, refl, 0, value, refl, refl, refl)

@@ -1,4 +1,5 @@
--- The seats of the object, where each call is named by whether its closure will fail; and that a move of a party comes to the same there.
+-- The seats of the object, where each call is named by whether its closure will fail. A party's move has the same
+-- outcome there.
 use Rattle.std.proofs.Common.{◌≡◌, ℕ, zero, suc, Bool, true, false, Option, Some, None, List, [], ◌∷◌, map, replicate, slice_get, slice_set, refl, sym, ap, ◌∙◌}
 use Rattle.std.specs.Option.{option_map}
 use Rattle.std.specs.List.{list_all}
@@ -83,7 +84,7 @@ named_seen f (x ∷ xs) = ap (λ y. y ∷ map seen_by_owner (seats_named (λ q. 
     seen (Calling c failed h) b = refl
     seen _ b = refl
 
--- ---- a move of a party comes to the same in the object
+-- ---- a party's move has the same outcome in the object
 abbrev Ending : Type 0 → Type 0
 Ending L = Happened ℕ (Unit {0}) Call L (Answer (Unit {0}))
 
@@ -134,7 +135,7 @@ module _ (f : ℕ → Bool) (s : World) (p : ℕ) where
   sets_alike v true = put_alike v s.value
   sets_alike v false = (refl, refl)
 
--- the table's step, with the value that lies there left out
+-- the table's step, without the present value
 abbrev raw : ℕ → Call → OncePoint → Option Hold → Stepped ℕ (Unit {0}) OncePoint (Answer (Unit {0}))
 raw w c l h = step_by one_number 0 (act_of c l h) w
 

@@ -1,4 +1,4 @@
--- A party that is in no call of a `Once` comes into none but by beginning it.
+-- A party in no call of a `Once` gets into a call only by beginning it.
 use Rattle.std.proofs.Common.{◌≡◌, ℕ, zero, suc, Bool, true, false, Option, Some, None, List, [], ◌∷◌, map, slice_get, slice_set, refl, ap}
 use Rattle.spin_model.specs.declared.answer.Answer.{Answer}
 use Rattle.spin_model.specs.declared.once.OnceCall.{OnceCall}
@@ -18,7 +18,7 @@ Call = OnceCall (Unit {0})
 abbrev pub World : Type 0
 World = State ℕ (Unit {0}) Call Point
 
--- the moves that change where a party stands in a call
+-- the moves that change a party's point in a call
 abbrev pub is_step : OneMove → Bool
 is_step (Begin c) = true
 is_step Step = true

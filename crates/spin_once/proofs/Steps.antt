@@ -1,10 +1,10 @@
--- The steps of a value that is made once keep its rule: each is the plain step that its step function makes, and moves of the model.
+-- The steps of a value that is made once keep its rule. Each is the plain step that its step function makes, and moves
+-- of the model.
 use Rattle.std.proofs.Common.{◌≡◌, true, ℕ, zero, suc, ◌+◌, ◌==◌, ◌<◌, List, [], ◌∷◌, ◌++◌, Option, Some, None, refl, sym, ap, subst, arith, ◌∙◌, eq-eqb}
 use mathlib.Core.Logic.{◌⊎◌, inl, inr}
 use mathlib.Core.Option.{some}
 use lib.ListN.{get_elem?}
 use prog.Atomic.{either}
-use Rattle.core.specs.declared.snapshot.Snapshot.{Snapshot}
 use Rattle.spin_step.specs.Plain as plain
 use Rattle.spin_step.specs.Plain.{Plain, Phase, nothing, complete, gets, completes, fails, to_begin, once_word}
 use Rattle.spin_step.specs.Steps.{Decides, Gives}
@@ -15,12 +15,13 @@ use Rattle.spin_core.proofs.CellCounts.{moves, without}
 use Rattle.spin_model.specs.declared.once.OnceCall.{OnceCall}
 use Rattle.spin_model.specs.declared.once.OncePoint.TheVariants.{Run}
 use Rattle.spin_once.specs.Once.{use_of_view, readers, runs, IsPhaseOf, in_phase, Word, once_ways, finds, is_out, at_rest, begun, looked, polled}
+use Rattle.spin_once.specs.declared.once_core.rule.Key.{Key}
 use Rattle.spin_once.specs.declared.once_core.rule.View.{View}
 use Rattle.spin_once.specs.declared.once_core.rule.View.TheVariants.{Idle, Reading, InCall}
 use Rattle.spin_once.specs.declared.once_core.rule.Stage.{Stage}
 use Rattle.spin_once.specs.declared.once_core.rule.Stage.TheVariants.{Seed, Done}
 
--- how many read the value and how many run, after a party has come to another view
+-- how many read the value and how many run a closure, after a party has got another view
 see_after : (id : ℕ) (view : Option View) (vs : List View) (w : View) → Stands id view vs → readers (after id view vs w) + reading (use_of use_of_view view) ≡ readers vs + reading (use_of_view w)
 see_after id None vs w at = moves (λ v. reading (use_of_view v)) id None vs w at
 see_after id (Some v) vs w at = moves (λ v. reading (use_of_view v)) id (Some v) vs w at
@@ -29,13 +30,13 @@ run_after : (id : ℕ) (view : Option View) (vs : List View) (w : View) → Stan
 run_after id None vs w at = moves (λ v. writing (use_of_view v)) id None vs w at
 run_after id (Some v) vs w at = moves (λ v. writing (use_of_view v)) id (Some v) vs w at
 
--- where one runs, it stands somewhere
+-- if a closure runs, some party runs it
 stands_somewhere : (vs : List View) → 0 < runs vs → (p : ℕ) × (c : OnceCall (Unit {0})) × (get_elem? vs p ≡ some (InCall c Run))
 stands_somewhere [] few = absurd (omega (arith, few))
 stands_somewhere (InCall c Run ∷ vs) few = (0, c, refl)
 stands_somewhere (_ ∷ vs) few = let later = stands_somewhere vs few in (suc later.0, later.1, later.2)
 
--- the rule by numbers alone: the word, how many read, how many run
+-- the rule by numbers only: the word, how many read, and how many run a closure
 abbrev Numbers : ℕ → ℕ → ℕ → Type 0
 Numbers zero r w = (r ≡ 0) × (w ≡ 0)
 Numbers (suc zero) r w = (r ≡ 0) × (w ≡ 1)
@@ -61,7 +62,7 @@ few_words (suc zero) r w has = omega arith
 few_words (suc (suc zero)) r w has = omega arith
 few_words (suc (suc (suc n))) r w has = absurd has
 
--- a step that leaves the word where a party comes to this view: it uses nothing, or it reads where the word is 2
+-- for a step that does not change the word: its party gets a view that uses nothing, or one that reads if it found 2
 abbrev Leads : (ℕ → View) → Type 0
 Leads to = (n r w : ℕ) → Numbers n r w → (use_of_view (to n) ≡ off) ⊎ ((use_of_view (to n) ≡ reads) × (n ≡ 2))
 
@@ -83,12 +84,12 @@ polled_leads (suc zero) r w has = inl refl
 polled_leads (suc (suc zero)) r w has = inr (refl, refl)
 polled_leads (suc (suc (suc n))) r w has = absurd has
 
--- a party that reads finds the value, and others one of three numbers
+-- a party that reads finds the value; any other finds one of three numbers
 abbrev pub Finds : Option View → ℕ → Type 0
 Finds (Some Reading) n = n ≡ 2
 Finds _ n = n < 3
 
--- the party comes to this view by the number found
+-- the party gets this view, by the number found
 abbrev pub ComesTo : Option View → (ℕ → View) → ℕ → View → Type 0
 ComesTo view to n v = (v ≡ to n) × Finds view n
 
@@ -98,19 +99,19 @@ few_where_off (Some Idle) none n few = few
 few_where_off (Some Reading) none n few = absurd (let d : reads ≡ off = none in cc)
 few_where_off (Some (InCall c l)) none n few = few
 
--- where one reads there is the value
+-- if somebody reads, there is the value
 read_at : (n r w : ℕ) → Numbers n r w → 0 < r → n ≡ 2
 read_at zero r w has few = absurd (omega (arith, has, few))
 read_at (suc zero) r w has few = absurd (omega (arith, has, few))
 read_at (suc (suc zero)) r w has few = refl
 read_at (suc (suc (suc n))) r w has few = absurd has
 
-module _ {T S : Type 0} (makes : S → T → Type 0) (seed : Snapshot S) where
+module _ {T S : Type 0} (makes : S → T → Type 0) (key : Key T S) where
   abbrev Content : Type 0
   Content = MaybeStable (Stage T S)
 
   abbrev pub way : Way Content
-  way = (once_ways makes seed).0
+  way = (once_ways makes key).0
 
   abbrev plain_ways : Ways Content View (Unit {0})
   plain_ways = (way, use_of_view, no_fact)
@@ -126,7 +127,7 @@ module _ {T S : Type 0} (makes : S → T → Type 0) (seed : Snapshot S) where
   pub meets : (n : ℕ) (m : Unit {0}) (vs : List View) → Numbers n (readers vs) (runs vs) → m ≡ tt → Meets Word plain_ways n m vs
   meets n m vs has e = (is_word n m vs has e, limits n (readers vs) (runs vs) has)
 
-  -- ---- a step that leaves the word
+  -- ---- a step that does not change the word
   by_use : (u : Use) (shown : Option Content) (n : ℕ) (m : Unit {0}) (us : List View) (r w : ℕ) → Numbers n r w → readers us + 0 ≡ r + reading u → runs us + 0 ≡ w + writing u → (u ≡ off) ⊎ ((u ≡ reads) × (n ≡ 2)) → m ≡ tt
       → Going way off u shown r (Meets Word plain_ways n m us)
   by_use off shown n m us r w has see run how e =
@@ -162,7 +163,7 @@ module _ {T S : Type 0} (makes : S → T → Type 0) (seed : Snapshot S) where
       let same : readers us ≡ readers vs = omega (arith, see) in let alike : runs us ≡ runs vs = omega (arith, run) in
       (Reading, (λ e. e, tt, meets n m us (subst (λ (z : ℕ × ℕ). Numbers n z.0 z.1) (λ i. (sym same i, sym alike i)) known) has.0.3), (sym (ap to two ∙ is), two))
 
-  -- one that is in no call looks
+  -- a party in no call looks
   pub looks_out : (view : Option View) → is_out view ≡ true → (shown : Option Content) (to : ℕ → View) → Leads to → to 2 ≡ Reading → Allowed view shown (λ n. n) (ComesTo view to)
   looks_out None out shown to leads is = looks None shown to refl leads
   looks_out (Some Idle) out shown to leads is = looks (Some Idle) shown to refl leads
@@ -192,27 +193,27 @@ module _ {T S : Type 0} (makes : S → T → Type 0) (seed : Snapshot S) where
   begins view shown c none new decides id (suc (suc zero)) m vs has at small = stays view shown (begun c) none id 2 m vs has at (inr (refl, refl))
   begins view shown c none new decides id (suc (suc (suc n))) m vs has at small = absurd (numbers (suc (suc (suc n))) m vs has.0)
 
-  -- ---- the party that runs
+  -- ---- the party that runs its closure
   alone : (c : OnceCall (Unit {0})) (n id : ℕ) (vs : List View) → Stands id (Some (InCall c Run)) vs → Numbers n (readers vs) (runs vs) → (n ≡ 1) × (readers vs ≡ 0) × (runs vs ≡ 1)
   alone c (suc zero) id vs at has = (refl, has.0, has.1)
   alone c (suc (suc (suc n))) id vs at has = absurd has
   alone c _ id vs at has = absurd (let run = run_after id (Some (InCall c Run)) vs Idle at in omega (arith, has, run))
 
-  pub ends : (c : OnceCall (Unit {0})) (new : ℕ) (value : T) → ((s : Plain) (p : ℕ) → once_word s ≡ 1 → Gives s (completes p) once_word new) → makes seed.value value
-      → Allowed (Some (InCall c Run)) (Some (maybe_stable (Done value))) (λ _. new) (λ _ v. v ≡ Reading)
+  pub ends : (c : OnceCall (Unit {0})) (new : ℕ) (value : T) → ((s : Plain) (p : ℕ) → once_word s ≡ 1 → Gives s (completes p) once_word new) → makes key.seed.value value
+      → Allowed (Some (InCall c Run)) (Some (maybe_stable (Done value))) (λ _. new) (λ n v. (v ≡ Reading) × (n ≡ 1))
   ends c new value gives made id n m vs has at small =
       let one = alone c n id vs at (numbers n m vs has.0) in let us = after id (Some (InCall c Run)) vs Reading in
       let see = see_after id (Some (InCall c Run)) vs Reading at in let run = run_after id (Some (InCall c Run)) vs Reading at in
       let next : new ≡ 2 = gives (in_phase (plain.running id)) id refl (eq-eqb id id refl) in
-      (Reading, (λ e. refl, made, subst (λ k. Meets Word plain_ways k m us) (sym next) (meets 2 m us (omega (arith, see, one), omega (arith, run, one)) has.0.3)), refl)
+      (Reading, (λ e. refl, made, subst (λ k. Meets Word plain_ways k m us) (sym next) (meets 2 m us (omega (arith, see, one), omega (arith, run, one)) has.0.3)), (refl, one.0))
 
-  pub gives_up : (c : OnceCall (Unit {0})) (new : ℕ) (it : S) → ((s : Plain) (p : ℕ) → once_word s ≡ 1 → Gives s (fails p) once_word new) → it ≡ seed.value
-      → Allowed (Some (InCall c Run)) (Some (maybe_stable (Seed it))) (λ _. new) (λ _ v. v ≡ Idle)
+  pub gives_up : (c : OnceCall (Unit {0})) (new : ℕ) (it : S) → ((s : Plain) (p : ℕ) → once_word s ≡ 1 → Gives s (fails p) once_word new) → it ≡ key.seed.value
+      → Allowed (Some (InCall c Run)) (Some (maybe_stable (Seed it))) (λ _. new) (λ n v. (v ≡ Idle) × (n ≡ 1))
   gives_up c new it gives same id n m vs has at small =
       let one = alone c n id vs at (numbers n m vs has.0) in let us = after id (Some (InCall c Run)) vs Idle in
       let see = see_after id (Some (InCall c Run)) vs Idle at in let run = run_after id (Some (InCall c Run)) vs Idle at in
       let next : new ≡ 0 = gives (in_phase (plain.running id)) id refl (eq-eqb id id refl) in
-      (Idle, (λ e. absurd (let d : writes ≡ reads = e in cc), same, subst (λ k. Meets Word plain_ways k m us) (sym next) (meets 0 m us (omega (arith, see, one), omega (arith, run, one)) has.0.3)), refl)
+      (Idle, (λ e. absurd (let d : writes ≡ reads = e in cc), same, subst (λ k. Meets Word plain_ways k m us) (sym next) (meets 0 m us (omega (arith, see, one), omega (arith, run, one)) has.0.3)), (refl, one.0))
 
 -- which parties may leave
 pub idle_rests : Rests Word use_of_view (Some Idle)

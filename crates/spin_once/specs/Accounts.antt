@@ -1,4 +1,4 @@
--- What a party's account of its calls says from one of its steps to another: which moves the party has made between.
+-- What a party's record of its calls says from one of its steps to a later one: which moves it has made in between.
 use Rattle.std.specs.Prelude.{◌≡◌, Bool, true, Option, Some, None, Result, Ok, Err, IfOk, IfErr}
 use Rattle.spin_core.specs.Own.{Numbered, what}
 use Rattle.spin_core.specs.Passes.{Ends, Waits, IsCall, IsStep}
@@ -9,7 +9,8 @@ use Rattle.spin_model.specs.declared.once.OnceCall.TheVariants.{Wait as ForValue
 use Rattle.spin_model.specs.declared.schedule.Outcome.TheVariants.{Answered, GoingOn}
 use Rattle.spin_model.specs.declared.once.OnceCall.{OnceCall}
 use Rattle.spin_model.specs.declared.once.OncePoint.TheVariants.{Run}
-use Rattle.spin_once.specs.Once.{Made, Moving, Moves, has_begun, trying}
+use Rattle.spin_once.specs.OnceValues.{Valued, bare, given_of}
+use Rattle.spin_once.specs.Once.{Moving, Moves, has_begun, trying}
 use Rattle.spin_once.specs.declared.once_core.account.Account.{Account}
 use Rattle.spin_once.specs.declared.once_core.account.Awaiting.{Awaiting}
 use Rattle.spin_once.specs.declared.once_core.account.Claim.{Claim}
@@ -24,25 +25,25 @@ use Rattle.spin_once.specs.declared.once_core.rule.Stage.TheVariants.{Seed}
 use Rattle.spin_once.specs.declared.once_core.rule.View.{View}
 use Rattle.spin_once.specs.declared.once_core.rule.View.TheVariants.{Idle, InCall}
 
--- where a party stands: the key of its cell, its view, and what it knows of the trace
-abbrev pub Place : Type 0 → Type 0
-Place S = Key S × Option (Numbered View) × Watch Made
+-- a point of a record: the key of its cell, the party's view, and what it knows of the trace
+abbrev pub Place : Type 0 → Type 0 → Type 0
+Place T S = Key T S × Option (Numbered View) × Watch (Valued T)
 
--- from the one place to the other the party has made moves of this course, and no others, in one cell
-abbrev pub Since : {S : Type 0} → Place S → Moving → Place S → Type 0
-Since p course q = (q.0 ≡ p.0) × (q.2.name ≡ p.2.name) × Moves p.0.given.value course p.1 p.2.entries q.1 q.2.entries
+-- from the first point to the second the party has made exactly the moves of this course, in one cell
+abbrev pub Since : {T S : Type 0} → Place T S → Moving → Place T S → Type 0
+Since p course q = (q.0 ≡ p.0) × (q.2.name ≡ p.2.name) × Moves (given_of p.0.opening.value) course p.1 (bare p.2.entries) q.1 (bare q.2.entries)
 
-abbrev pub Same : {S : Type 0} → Place S → Place S → Type 0
+abbrev pub Same : {T S : Type 0} → Place T S → Place T S → Type 0
 Same p q = (q.0 ≡ p.0) × (q.1 ≡ p.1) × (q.2 ≡ p.2)
 
 module _ {T S : Type 0} where
-  abbrev pub here : Account T S → Place S
+  abbrev pub here : Account T S → Place T S
   here it = (it.party.key, it.party.view, it.seen)
 
-  abbrev pub running : InitPermit T S → Place S
+  abbrev pub running : InitPermit T S → Place T S
   running it = (it.writer.key, Some it.writer.view, it.seen)
 
-  -- it is a call with a closure that may fail, or with one that does not
+  -- it is a call with a closure that may fail (true), or with one that does not
   abbrev pub Wants : Bool → Wanting T S → Type 0
   Wants may_fail wanting = what wanting.account.party.view ≡ Some (trying may_fail)
 
@@ -50,26 +51,26 @@ module _ {T S : Type 0} where
   abbrev pub seed_of : Account T S → S
   seed_of it = it.party.key.seed.value
 
-  -- the seed lies there
+  -- the cell has the seed
   abbrev pub HasSeed : InitPermit T S → Type 0
   HasSeed permit = permit.writer.value ≡ maybe_stable (Seed permit.writer.key.seed.value)
 
-  -- where there is no value: the right of this call to make one
+  -- the value, or this call's right to make it
   abbrev pub IsClaimOf : OnceCall (Unit {0}) → Claim T S → Type 0
   IsClaimOf call (claim.Found found) = Unit {0}
   IsClaimOf call (claim.Init permit) = HasSeed permit × (permit.writer.view.0 ≡ InCall call Run)
 
-  -- a call with a closure is answered, or goes on to its closure
-  abbrev pub Claims : Place S → Claim T S → Type 0
+  -- a call with a closure is answered, or continues to its closure
+  abbrev pub Claims : Place T S → Claim T S → Type 0
   Claims p (claim.Found found) = Since p (Ends (Value tt)) (here found.account)
   Claims p (claim.Init permit) = Since p Waits (running permit)
 
-  -- what the exchange of a call with a closure results in, and a look before it
-  abbrev pub Attempts : Place S → Result (Claim T S) (Awaiting T S) → Type 0
+  -- the result of the exchange of a call with a closure, and of a look before it
+  abbrev pub Attempts : Place T S → Result (Claim T S) (Awaiting T S) → Type 0
   Attempts p (Ok claim) = Claims p claim
   Attempts p (Err awaiting) = Since p Waits (here awaiting.account)
 
-  -- what a look of `wait` comes to, and one of `poll`; the first one begins the call
+  -- the result of a look of `wait`; below, of `poll`; the first look begins the call
   abbrev pub WaitsOn : Waiting T S → Result (Found T S) (Waiting T S) → Type 0
   WaitsOn was (Ok found) = Since (here was.account) (IsStep (has_begun (what was.account.party.view)) ForValue (Answered (Value tt) None)) (here found.account)
   WaitsOn was (Err next) = Since (here was.account) (IsStep (has_begun (what was.account.party.view)) ForValue GoingOn) (here next.account) × (has_begun (what next.account.party.view) ≡ true)
@@ -80,5 +81,5 @@ module _ {T S : Type 0} where
   PollsOn was (Err next) = Since (here was) (IsStep (has_begun (what was.party.view)) Poll GoingOn) (here next.account) × (has_begun (what next.account.party.view) ≡ true)
 
   -- a whole call of `poll`
-  abbrev pub IsPolled : Place S → Result (Found T S) (Account T S) → Type 0
+  abbrev pub IsPolled : Place T S → Result (Found T S) (Account T S) → Type 0
   IsPolled p r = IfOk r (λ found. Since p (IsCall Poll (Value tt)) (here found.account)) × IfErr r (λ none. Since p (IsCall Poll NoValue) (here none) × (what none.party.view ≡ Some Idle))

@@ -1,4 +1,4 @@
--- What a lazy value comes from.
+-- What a lazy value is made from.
 use Rattle.spin_once.specs.declared.lazylock.LazyLock.{LazyLock}
 
 module _ {T F R M : Type 0} where

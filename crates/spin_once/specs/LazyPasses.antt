@@ -1,24 +1,34 @@
--- What a pass of a `LazyLock` knows: its history so far, and which moves in it are its own.
+-- What a pass of a `LazyLock` knows: its history so far, and which of its moves are the pass's own.
 use Rattle.std.specs.Prelude.{ℕ, List}
 use Rattle.spin_core.specs.Passes.{IsCall}
 use Rattle.spin_model.specs.declared.answer.Answer.TheVariants.{Value}
 use Rattle.spin_model.specs.declared.once.OnceCall.TheVariants.{CallOnce}
 use Rattle.spin_once.specs.Accounts.{here, seed_of, Since}
-use Rattle.spin_once.specs.Once.{Made}
+use Rattle.spin_core.specs.declared.tie.Opening.{Opening}
+use Rattle.spin_once.specs.OnceValues.{Valued}
 use Rattle.spin_once.specs.declared.lazylock.LazyLock.{LazyLock}
+use Rattle.spin_once.specs.declared.lazylock.Initialiser.{Initialiser}
 use Rattle.spin_once.specs.declared.lazylock.pass.Pass.{Pass}
+use Rattle.spin_once.specs.declared.once_core.rule.Stage.{Stage}
 
 module _ {T F R M : Type 0} where
   -- all moves in the `LazyLock` up to the pass's last step
-  abbrev pub history : Pass T F R M → List Made
+  abbrev pub history : Pass T F R M → List (Valued T)
   history it = it.account.seen.entries
 
-  -- the name of the history of a `LazyLock`, and of the `LazyLock` of a pass
+  -- the name of a `LazyLock`'s history; also by a pass of it
   abbrev pub name_of : LazyLock T F R M → ℕ
-  name_of lazy = lazy.core.cell.start.name
+  name_of lazy = lazy.core.cell.opening.name
 
   abbrev pub lock_of : Pass T F R M → ℕ
   lock_of it = it.account.seen.name
+
+  -- what was settled when a `LazyLock` was made, and of the `LazyLock` of a pass: that name, and what lay there at first
+  abbrev pub opening : LazyLock T F R M → Opening (Stage T (Initialiser F M))
+  opening lazy = lazy.core.cell.opening
+
+  abbrev pub opening_of : Pass T F R M → Opening (Stage T (Initialiser F M))
+  opening_of it = it.account.party.key.opening
 
   -- the initialiser of the `LazyLock` of a pass, and what is promised of its value
   abbrev pub initialiser_of : Pass T F R M → F

@@ -1,4 +1,5 @@
 pub mod Model
+pub mod OnceValues
 pub mod Once
 pub mod Foretold
 pub mod Accounts

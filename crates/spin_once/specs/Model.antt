@@ -1,4 +1,7 @@
--- The model of a `Once` on threads: the table of its object, but for one thing. The table names beforehand whether a closure fails. On threads that shows where it ends: the move `Weak` says that it has failed, and the call's last step is then that of a call whose closure fails.
+-- The model of a `Once` on threads: the table of its object, with one difference. The table names from the beginning
+-- whether a closure fails. On threads that shows only at its end.
+-- Then the move `Weak` says that the closure has failed, and the call's last step is that of a call whose closure
+-- fails.
 use Rattle.std.specs.Prelude.{ℕ, Option, Some, None}
 use Rattle.std.specs.Option.{option_map}
 use Rattle.spin_model.specs.declared.answer.Answer.{Answer}
@@ -13,12 +16,12 @@ use Rattle.spin_model.specs.declared.step.Stepped.{Stepped}
 use Rattle.spin_model.specs.Machines.{Machine}
 use Rattle.spin_model.specs.Once.{OnceMachine, once_machine}
 
--- a point of the table, or that the call's closure has failed
+-- a point of the table; or the call's closure has failed
 pub data Point : Type 0 where
   at : OncePoint → Point
   failed : Point
 
--- where the closure has failed the call is as one whose closure fails
+-- once the closure has failed, the call is one whose closure fails
 abbrev pub call_at : OnceCall (Unit {0}) → Point → OnceCall (Unit {0})
 call_at c (at l) = c
 call_at c failed = TryCallOnceErr
@@ -34,12 +37,12 @@ onward (Answers a h) = Answers a h
 abbrev on_points : Stepped ℕ (Unit {0}) OncePoint (Answer (Unit {0})) → Stepped ℕ (Unit {0}) Point (Answer (Unit {0}))
 on_points st = record { words = st.words; placed = st.placed; next = onward st.next }
 
--- the closure that runs, and may fail, fails
+-- the running closure fails, if it may
 abbrev pub fails_at : OnceCall (Unit {0}) → Point → Option Hold → Option (Next Point (Answer (Unit {0})))
 fails_at (TryCallOnceOk v) (at Run) h = Some (Continue failed)
 fails_at _ _ h = None
 
--- made with this value, or with none; there is but one value to answer
+-- with this opening value, or with none; there is only one value to answer
 abbrev pub model : Option (Unit {0}) → Machine ℕ (Unit {0}) (OnceCall (Unit {0})) Point (Answer (Unit {0}))
 model given =
     let m : OnceMachine (Unit {0}) = once_machine given in

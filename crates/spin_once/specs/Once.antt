@@ -1,16 +1,18 @@
--- The rule of a value that is made once, from a seed: its word is that of a plain lock in whose phase its parties are, and its trace is a schedule of the model, which leads there.
-use Rattle.std.specs.Prelude.{◌≡◌, ◌<◌, ℕ, Bool, true, false, Option, Some, None, List, [], ◌∷◌, ◌++◌, replicate, if◌then◌else◌, ◌==◌}
+-- The rule of a value that is made once, from a seed. Its word is that of a plain lock in the phase of its parties. Its
+-- trace is a schedule of the model, which leads there.
+use Rattle.std.specs.Prelude.{◌≡◌, ◌<◌, ◌≤◌, ℕ, Bool, true, false, Option, Some, None, List, [], ◌∷◌, ◌++◌, length, replicate, if◌then◌else◌, ◌==◌}
 use mathlib.Core.Option.{some}
 use lib.ListN.{get_elem?}
 use Rattle.core.specs.declared.snapshot.Snapshot.{Snapshot}
 use Rattle.spin_step.specs.Plain as plain
 use Rattle.spin_step.specs.Plain.{Plain, Phase, nothing, complete, fresh, once_word}
-use Rattle.spin_core.specs.Cell.{Use, off, reads, writes, fixes, no_fact, Ways, readers_of, writers_of}
+use Rattle.spin_core.specs.Cell.{Use, off, reads, writes, fixes, knows, Ways, readers_of, writers_of}
 use Rattle.spin_core.specs.Own.{Numbered, Runs, Tells}
 use Rattle.spin_core.specs.Passes as passes
 use Rattle.spin_core.specs.Passes.{Course, Begins, step_by}
 use Rattle.spin_core.specs.Views.{no_word}
 use Rattle.spin_core.specs.declared.cell.stable.MaybeStable.{MaybeStable}
+use Rattle.spin_core.specs.declared.tie.Opening.{Opening}
 use Rattle.spin_core.specs.declared.trace.Trace.{Trace}
 use Rattle.spin_model.specs.declared.answer.Answer.{Answer}
 use Rattle.spin_model.specs.declared.answer.Answer.TheVariants.{Value, NoValue, Is, Failed}
@@ -24,8 +26,9 @@ use Rattle.spin_model.specs.declared.schedule.Move.{Move}
 use Rattle.spin_model.specs.declared.schedule.Move.TheVariants.{Step, Weak}
 use Rattle.spin_model.specs.declared.schedule.Outcome.{Outcome}
 use Rattle.spin_model.specs.declared.schedule.Outcome.TheVariants.{GoingOn, Answered}
-use Rattle.spin_model.specs.Schedules.{Entry}
 use Rattle.spin_once.specs.Model.{Point, at, model}
+use Rattle.spin_once.specs.OnceValues.{Valued, Made, bare, bare_trace, given_of, made, AtMostOne, IsMade}
+use Rattle.spin_once.specs.declared.once_core.rule.Key.{Key}
 use Rattle.spin_once.specs.declared.once_core.rule.View.{View}
 use Rattle.spin_once.specs.declared.once_core.rule.View.TheVariants.{Idle, Reading, InCall}
 use Rattle.spin_once.specs.declared.once_core.rule.Stage.{Stage}
@@ -40,11 +43,11 @@ use_of_view Idle = off
 use_of_view Reading = reads
 use_of_view (InCall c l) = used_at l
 
--- how a party uses what lies in the cell
+-- how a party uses the content of the cell
 abbrev pub use_of_party : Numbered View → Use
 use_of_party v = use_of_view v.0
 
--- so many parties read the value, and so many run
+-- how many parties read the value, and how many run a closure
 abbrev pub readers : List View → ℕ
 readers = readers_of use_of_view
 
@@ -57,14 +60,14 @@ IsPhaseOf vs nothing = (readers vs ≡ 0) × (runs vs ≡ 0)
 IsPhaseOf vs (plain.running p) = (readers vs ≡ 0) × (runs vs ≡ 1) × ((c : OnceCall (Unit {0})) × (get_elem? vs p ≡ some (InCall c Run)))
 IsPhaseOf vs complete = (0 < readers vs) × (runs vs ≡ 0)
 
--- a plain lock of which nothing but the phase is used
+-- a plain lock that uses only its phase
 abbrev pub in_phase : Phase → Plain
 in_phase s = record (fresh 0 0 0) { phase = s }
 
 abbrev pub Word : ℕ → Unit {0} → List View → Type 0
 Word n m vs = (s : Phase) × IsPhaseOf vs s × (n ≡ once_word (in_phase s)) × (m ≡ no_word (in_phase s))
 
--- it was made
+-- the value was made
 abbrev pub is_done : {T S : Type 0} → Stage T S → Bool
 is_done (Done value) = true
 is_done _ = false
@@ -75,18 +78,16 @@ OneMove = Move (OnceCall (Unit {0})) (Unit {0})
 abbrev pub Ending : Type 0
 Ending = Outcome (Answer (Unit {0})) (Unit {0})
 
-abbrev pub Made : Type 0
-Made = Entry (OnceCall (Unit {0})) (Unit {0})
-
 module _ {T S : Type 0} (makes : S → T → Type 0) where
-  -- a value that somebody reads may be made from the seed, and what nobody uses is the seed itself
+  -- a value that somebody reads may be made from the seed; one that nobody uses is the seed itself
   abbrev pub IsMadeFrom : Snapshot S → Bool → Stage T S → Type 0
   IsMadeFrom seed true (Done value) = makes seed.value value
   IsMadeFrom seed false (Seed it) = it ≡ seed.value
   IsMadeFrom _ _ _ = ⊥
 
-  abbrev pub once_ways : Snapshot S → Ways (MaybeStable (Stage T S)) (Numbered View) (Trace Made (Unit {0}))
-  once_ways seed = (fixes (λ read x. IsMadeFrom seed read x.value), use_of_party, no_fact)
+  -- and what is known of a value that lies there: it is the one that was made
+  abbrev pub once_ways : Key T S → Ways (MaybeStable (Stage T S)) (Numbered View) (Trace (Valued T) (Unit {0}))
+  once_ways key = (fixes (λ read x. IsMadeFrom key.seed read x.value), use_of_party, knows (λ t x. IsMade key.opening.told (made key.opening.value t.entries) x.value))
 
 -- where a party sits in the model: one that reads has its answer
 abbrev pub seat_of : View → Seat (OnceCall (Unit {0})) Point
@@ -94,42 +95,43 @@ seat_of Idle = seat.Idle
 seat_of Reading = seat.Idle
 seat_of (InCall c l) = seat.Calling c (at l) None
 
--- the lock's words, by the model's
+-- the words of the lock, from those of the model
 abbrev pub words_of : ℕ → ℕ × Unit {0}
 words_of w = (w, tt)
 
--- of the first word, the trace and the parties, where the value given at first is this, under the name of the trace
-abbrev pub IsOnce : Option (Unit {0}) → ℕ → ℕ → Trace Made (Unit {0}) → List (Numbered View) → Type 0
-IsOnce given = Runs (model given) seat_of words_of Word
+module _ {T S : Type 0} where
+  -- of the first word, the trace and the parties, of a lock that opened so
+  abbrev pub IsOnce : Opening (Stage T S) → ℕ → Trace (Valued T) (Unit {0}) → List (Numbered View) → Type 0
+  IsOnce opening n t vs = Runs (model (given_of opening.value)) seat_of words_of Word opening.name n (bare_trace t) vs × AtMostOne n (made opening.value t.entries)
 
--- what a step tells of its moves
-abbrev pub Told : Option (Unit {0}) → (List OneMove → List Ending → ℕ → View → Type 0) → Option (Numbered View) → List Made → List Made → ℕ → Numbered View → Type 0
-Told given = Tells (model given) seat_of words_of
+  -- what a step tells of its moves, and that there is at most one value still
+  abbrev pub Told : Opening (Stage T S) → (List OneMove → List Ending → ℕ → View → Type 0) → Option (Numbered View) → List (Valued T) → List (Valued T) → ℕ → Numbered View → Type 0
+  Told opening says view log es n v = Tells (model (given_of opening.value)) seat_of words_of says view (bare log) (bare es) n v × (length (made opening.value (log ++ es)) ≤ 1)
 
--- The steps: what each results in and where it leads, by the number found
+-- The steps: the outcome and the next view of each, by the number found
 
 abbrev pub Says : Type 1
 Says = List OneMove → List Ending → ℕ → View → Type 0
 
--- there is a value, and the party reads it; or else it is this
+-- if there is a value the party reads it, otherwise its view is `other`
 abbrev pub finds : View → ℕ → View
 finds other n = if n == 2 then Reading else other
 
--- what the call answers at once, or that it goes on
+-- if there is a value it is the answer, otherwise the outcome is `other`
 abbrev pub tells : Ending → ℕ → Ending
 tells other n = if n == 2 then Answered (Value tt) None else other
 
--- it is in no call: it comes, or made its last call to the end
+-- the party is in no call: it is new, or its last call has ended
 abbrev pub is_out : Option View → Bool
 is_out (Some (InCall c l)) = false
 is_out _ = true
 
--- it has begun its call
+-- the party has begun its call
 abbrev pub has_begun : Option View → Bool
 has_begun (Some (InCall c l)) = true
 has_begun _ = false
 
--- a party that reads the value reads it for good
+-- a party that reads the value reads it for ever
 abbrev pub at_rest : Option View → View
 at_rest (Some Reading) = Reading
 at_rest _ = Idle
@@ -140,7 +142,8 @@ gets_by = step_by false Get (tells (Answered NoValue None)) (finds Idle)
 abbrev pub completes_by : Option View → Says
 completes_by view = step_by false IsCompleted (λ n. Answered (Is (n == 2)) None) (λ n. at_rest view)
 
--- a call with a closure; where that may fail the model names the call as one that does not, until it has failed
+-- A call with a closure. If the closure may fail, the model names the call as one whose closure does not, until it has
+-- failed.
 abbrev pub closure_call : Bool → OnceCall (Unit {0})
 closure_call may_fail = if may_fail then TryCallOnceOk tt else CallOnce tt
 
@@ -158,7 +161,8 @@ abbrev pub call_of : Option View → OnceCall (Unit {0})
 call_of (Some (InCall c l)) = c
 call_of _ = Get
 
--- where the exchange of a call with a closure leads, where its next look leads, and where the looks of `wait` and `poll` lead
+-- The view after the exchange of a call with a closure; below, after its next look, and after the looks of `wait` and
+-- `poll`.
 abbrev pub begun : OnceCall (Unit {0}) → ℕ → View
 begun c n = if n == 0 then InCall c Run else finds (InCall c Await) n
 
@@ -200,19 +204,19 @@ fails_by own outs n v = (v ≡ Idle) × IsFailure own outs
 abbrev pub Moving : Type 1
 Moving = Course (Unit {0}) (OnceCall (Unit {0})) (Answer (Unit {0}))
 
--- since it knew `old` it has made moves of this course, and no others
+-- since it knew `old` it has made exactly the moves of this course
 abbrev pub Moves : Option (Unit {0}) → Moving → Option (Numbered View) → List Made → Option (Numbered View) → List Made → Type 0
 Moves given course view old view' new = passes.Made (model given) view old view' new course
 
--- steps by which a call goes on, and the end of a closure that fails
+-- steps after which the call still waits, and then the end of a closure that fails
 abbrev pub Fails : Moving
 Fails own outs = (n : ℕ) × (own ≡ replicate n Step ++ Weak ∷ Step ∷ []) × (outs ≡ replicate n GoingOn ++ GoingOn ∷ Answered Failed None ∷ [])
 
--- A whole call whose closure fails. The model names it as one whose closure does not, until it has failed
+-- A whole call whose closure fails. Until the failure the model names it as one whose closure does not fail.
 abbrev pub IsFailedCall : Moving
 IsFailedCall = Begins (TryCallOnceOk tt) Fails
 
--- at which views these steps are taken
+-- at which views these steps are made
 
 abbrev pub has_closure : OnceCall (Unit {0}) → Bool
 has_closure (CallOnce v) = true

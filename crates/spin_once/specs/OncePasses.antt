@@ -1,4 +1,4 @@
--- What a pass knows: the history of its `Once` so far, and which moves in it are its own.
+-- What a pass knows: the history of its `Once` so far, and which of its moves are the pass's own.
 use Rattle.std.specs.Prelude.{ℕ, Bool, Option, Some, None, List, Result, Ok, Err}
 use Rattle.spin_core.specs.Own.{Numbered}
 use Rattle.spin_core.specs.Passes.{IsCall}
@@ -7,9 +7,12 @@ use Rattle.spin_model.specs.declared.answer.Answer.TheVariants.{Value, NoValue, 
 use Rattle.spin_model.specs.declared.once.OnceCall.{OnceCall}
 use Rattle.spin_model.specs.declared.once.OnceCall.TheVariants.{CallOnce, TryCallOnceOk, IsCompleted}
 use Rattle.spin_once.specs.Accounts.{here, Since}
-use Rattle.spin_once.specs.Once.{Made, IsFailedCall}
+use Rattle.spin_core.specs.declared.tie.Opening.{Opening}
+use Rattle.spin_once.specs.OnceValues.{Valued, Made, bare, given_of}
+use Rattle.spin_once.specs.Once.{IsFailedCall}
 use Rattle.spin_once.specs.declared.once.Once.{Once}
 use Rattle.spin_once.specs.declared.once.pass.Pass.{Pass}
+use Rattle.spin_once.specs.declared.once_core.rule.Stage.{Stage}
 use Rattle.spin_once.specs.declared.once_core.rule.View.{View}
 
 -- the answer to a caller that got the value or none
@@ -19,21 +22,32 @@ found_or_none (Some value) = Value tt
 
 module _ {T R : Type 0} where
   -- all moves in the `Once` up to the pass's last step
-  abbrev pub history : Pass T R → List Made
+  abbrev pub history : Pass T R → List (Valued T)
   history it = it.account.seen.entries
 
-  -- the name of the history of a `Once`, and of the `Once` of a pass
+  -- the same without the values, as the model has them
+  abbrev pub schedule : Pass T R → List Made
+  schedule it = bare (history it)
+
+  -- the name of a `Once`'s history; also by a pass of it
   abbrev pub name_of : Once T R → ℕ
-  name_of once = once.core.cell.start.name
+  name_of once = once.core.cell.opening.name
 
   abbrev pub lock_of : Pass T R → ℕ
   lock_of it = it.account.seen.name
 
-  -- the value that the `Once` of a pass was made with, if any
-  abbrev pub given_of : Pass T R → Option (Unit {0})
-  given_of it = it.account.party.key.given.value
+  -- what was settled when a `Once` was made, and of the `Once` of a pass: that name, and what lay there at first
+  abbrev pub opening : Once T R → Opening (Stage T (Unit {0}))
+  opening once = once.core.cell.opening
 
-  -- the party of the pass: none before its first call
+  abbrev pub opening_of : Pass T R → Opening (Stage T (Unit {0}))
+  opening_of it = it.account.party.key.opening
+
+  -- whether the `Once` of a pass was made with a value
+  abbrev pub given : Pass T R → Option (Unit {0})
+  given it = given_of (opening_of it).value
+
+  -- the party of the pass; there is none before its first call
   abbrev pub party : Pass T R → Option (Numbered View)
   party it = it.account.party.view
 
@@ -41,7 +55,7 @@ module _ {T R : Type 0} where
   abbrev pub Called : OnceCall (Unit {0}) → Answer (Unit {0}) → Pass T R → Pass T R → Type 0
   Called c a before now = Since (here before.account) (IsCall c a) (here now.account)
 
-  -- since then it has made one call with a closure that may fail, which got the value, or whose closure failed
+  -- since then it has made one call with a closure that may fail; it got the value, or its closure failed
   abbrev pub Tried : {X E : Type 0} → Result X E → Pass T R → Pass T R → Type 0
   Tried (Ok value) before now = Called (TryCallOnceOk tt) (Value tt) before now
   Tried (Err e) before now = Since (here before.account) IsFailedCall (here now.account)
@@ -50,6 +64,6 @@ module _ {T R : Type 0} where
   abbrev pub CalledOnce : Pass T R → Pass T R → Type 0
   CalledOnce before now = Called (CallOnce tt) (Value tt) before now
 
-  -- since then it has looked once, and was told this
+  -- since then it has asked once whether there is a value, with this answer
   abbrev pub Looked : Bool → Pass T R → Pass T R → Type 0
   Looked there before now = Called IsCompleted (Is there) before now

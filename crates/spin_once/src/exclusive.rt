@@ -1,11 +1,11 @@
-//! A value that is moved in and out, and never read through a `&`. So a `LazyLock` may be shared though its initialiser
-//! may not.
+//! A value that is moved in and out, and never read through a `&`. So a `LazyLock` may be shared even if its
+//! initialiser may not.
 ghost use Rattle.std.specs.Prelude.{◌≡◌};
 ghost use base.Fml.{ftrue};
 
 use std::marker::Model;
 
-/// A value of which a `&` shows nothing, so that it may be shared if it may be sent.
+/// A value that a `&` does not show, so that it may be shared if it may be sent.
 pub(crate) struct Exclusive<F> {
     inner: F,
 }
@@ -35,8 +35,8 @@ impl<F: Drop> Drop for Exclusive<F> {
     }
 }
 
-// SAFETY: it owns the value and nothing else.
+// SAFETY: it owns only the value.
 unsafe impl<F: Send> Send for Exclusive<F> {}
 
-// SAFETY: a `&` to it shows nothing of the value. Only its owner, maybe in another thread, moves the value out.
+// SAFETY: a `&` to it does not show the value. Only its owner, maybe in another thread, moves the value out.
 unsafe impl<F: Send> Sync for Exclusive<F> {}

@@ -1,10 +1,14 @@
-//! What holds of each `Once` and `LazyLock` between any two steps of threads.
-ghost use Rattle.std.specs.Prelude.{ℕ, List, Option, map};
+//! What holds of each `Once` and `LazyLock` between any two steps of threads, and what follows for their callers.
+ghost use Rattle.std.specs.Prelude.{◌≡◌, ℕ, List, true, map};
+ghost use mathlib.Core.List.{IsPrefix};
 ghost use Rattle.spin_core.specs.Own.{Numbered, IsRun};
+ghost use Rattle.spin_core.specs.declared.tie.Opening.{Opening};
 ghost use Rattle.spin_core.specs.declared.trace.Trace.{Trace};
 ghost use Rattle.spin_model.specs.Once.{once_machine};
 ghost use Rattle.spin_once.specs.Foretold.{foretold, counted, place_of};
-ghost use Rattle.spin_once.specs.Once.{Made, IsOnce, words_of};
+ghost use Rattle.spin_once.specs.Once.{IsOnce, words_of};
+ghost use Rattle.spin_once.specs.OnceValues.{Valued, bare, given_of, IsValue};
+ghost use Rattle.spin_once.specs.declared.once_core.rule.Stage.{Stage};
 ghost use Rattle.spin_once.specs.declared.once_core.rule.View.{View};
 
 /// Each run of a [`Once`](crate::once::Once) or a [`LazyLock`](crate::lazylock::LazyLock) on threads is a schedule of
@@ -12,12 +16,25 @@ ghost use Rattle.spin_once.specs.declared.once_core.rule.View.{View};
 ///
 /// The cell keeps, without a byte, the list of all moves that threads have made in it so far: who, and which move. The
 /// object's table names beforehand whether the closure of a call fails. On threads that shows where it ends. So the
-/// schedule is the list with each such call named by how it ends, and without the moves that say so (`foretold`).
+/// schedule is the list with each such call named by how it ends, and without the moves that say so (`foretold`). A
+/// write of the list is the last step of its call in the schedule (`bare`).
 ///
 /// # Contract
 /// Whatever holds between any two steps of threads (`IsOnce`): no move of the schedule is passed over in the object.
-/// After it the object has the cell's word, and has each party where the cell has it. `given` is the value that the cell
-/// was made with, or none. The marks of the parties count the moves of the schedule (`counted`).
-pub fn every_run_of_a_once_is_a_schedule()
-    ensures { (given : Option (Unit {0})) (name word : ℕ) (trace : Trace Made (Unit {0})) (parties : List (Numbered View)) → IsOnce given name word trace parties → IsRun (once_machine given) place_of words_of (foretold trace.entries) (word, trace.word) (map (counted trace.entries) parties) }
+/// After it the object has the cell's word, and has each party where the cell has it. `opening` says whether the cell
+/// was made with a value. The marks of the parties count the moves of the schedule (`counted`).
+pub fn every_run_of_a_once_is_a_schedule<T, S>()
+    ensures { (opening : Opening (Stage T S)) (word : ℕ) (trace : Trace (Valued T) (Unit {0})) (parties : List (Numbered View)) → IsOnce opening word trace parties → IsRun (once_machine (given_of opening.value)) place_of words_of (foretold (bare trace.entries)) (word, trace.word) (map (counted (bare trace.entries)) parties) }
+{}
+
+/// All calls of one `Once` or `LazyLock` that answer with its value answer with the same one.
+///
+/// Each call of a [`Pass`](crate::once::Pass) that answers with a reference says that its value is the only one in the
+/// history that the pass knows (`found`). Of two passes one history is a beginning of the other (`compare`).
+///
+/// # Contract
+/// Let `x` be the value of a history `old`, and `y` that of a history `new` that begins with it (`IsValue`). Then both
+/// are one value.
+pub fn two_answers_of_a_once_agree<T, S>()
+    ensures { (opening : Opening (Stage T S)) (old new : List (Valued T)) (x y : T) → opening.told ≡ true → IsPrefix old new → IsValue opening old x → IsValue opening new y → x ≡ y }
 {}

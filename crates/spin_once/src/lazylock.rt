@@ -1,13 +1,15 @@
 //! A value that its own initialiser makes when a thread first asks for it. Begin with [`LazyLock::new`] and
-//! [`LazyLock::force`]; [`LazyLock::promising`] tells callers more of the value than its type does.
-ghost use Rattle.std.specs.Prelude.{◌≡◌, true};
+//! [`LazyLock::force`]. [`LazyLock::promising`] tells callers more of the value than its type does.
+ghost use Rattle.std.specs.Prelude.{◌≡◌, true, []};
 ghost use Rattle.spin_core.specs.Own.{what};
 ghost use Rattle.spin_core.specs.Passes.{Ends, IsCall};
 ghost use Rattle.spin_model.specs.declared.answer.Answer.TheVariants.{Value};
 ghost use Rattle.spin_model.specs.declared.once.OnceCall.TheVariants.{CallOnce};
 ghost use Rattle.spin_once.specs.Accounts.{here, seed_of, Since};
 ghost use Rattle.spin_once.specs.Lazy.{initialiser, promise};
+ghost use Rattle.spin_once.specs.LazyPasses.{opening};
 ghost use Rattle.spin_once.specs.Once.{is_out};
+ghost use Rattle.spin_once.specs.OnceValues.{lies_in};
 
 use crate::exclusive::Exclusive;
 use crate::once_core::{Account, Claim, Found, OnceCore, Seed, Sure, Wanting};
@@ -19,6 +21,7 @@ mod pass;
 mod texts;
 
 pub use self::pass::Pass;
+pub use crate::laws::two_answers_of_a_once_agree;
 
 /// A promise on a value: what callers may rely on, whoever made it.
 pub trait Promise<T> {
@@ -26,15 +29,14 @@ pub trait Promise<T> {
     ghost keeps: { Self → T → Type 0 };
 }
 
-/// The promise of nothing.
+/// The promise that says nothing.
 impl<T> Promise<T> for () {
     ghost keeps = { λ _ _. Unit {0} };
 }
 
-/// An initialiser: it makes a value that keeps a promise. Each closure is one, and so may be a struct of the caller's
-/// own.
+/// An initialiser: it makes a value that keeps a promise. Each closure is one, and a caller's own struct may be one.
 ///
-/// A struct may always make its value, unless its `can` asks for more. It may hold borrowed data.
+/// A struct may always make its value, unless its `can` asks for more. It may have borrowed data.
 ///
 /// # Examples
 /// ```
@@ -112,9 +114,10 @@ impl<T, F: FnOnce() -> T, R> LazyLock<T, F, R> {
     /// Creates a `LazyLock` whose initialiser is `f`. It runs nothing, and promises nothing of the value.
     ///
     /// # Contract
-    /// Its `initialiser` is `f`.
+    /// Its `initialiser` is `f`. There is no value in it at first (`opens`).
     pub fn new(f: F) -> Self
-        ensures { initialiser result ≡ f }
+        ensures made { initialiser result ≡ f }
+        ensures opens { (lies_in (opening result).value ≡ []) × ((opening result).told ≡ true) }
     {
         Self::promising((), f)
     }
@@ -124,7 +127,7 @@ impl<T, F, R, M: Promise<T>> LazyLock<T, F, R, M> {
     /// Creates a `LazyLock` whose initialiser is `f`, with a promise that the value will keep. It runs nothing.
     ///
     /// # Contract
-    /// Its `initialiser` is `f`, and its `promise` is the one given.
+    /// Its `initialiser` is `f`, and its `promise` is the one given. There is no value in it at first (`opens`).
     ///
     /// # Examples
     /// ```
@@ -146,6 +149,7 @@ impl<T, F, R, M: Promise<T>> LazyLock<T, F, R, M> {
     pub fn promising(promised: M, f: F) -> Self
         ensures made { initialiser result ≡ f }
         ensures kept { promise result ≡ promised }
+        ensures opens { (lies_in (opening result).value ≡ []) × ((opening result).told ≡ true) }
     {
         LazyLock {
             core: OnceCore::new(Initialiser {
@@ -158,7 +162,7 @@ impl<T, F, R, M: Promise<T>> LazyLock<T, F, R, M> {
 }
 
 impl<T, F: Makes<T, M>, R: RelaxStrategy, M: Promise<T>> LazyLock<T, F, R, M> {
-    /// Returns the value, and runs the initialiser first if no caller has.
+    /// Returns the value. If no caller has run the initialiser yet, it runs it first.
     ///
     /// While another caller runs the initialiser, the thread waits with strategy `R` until that has ended. The call
     /// never returns if the initialiser asks for the value of this `LazyLock`.
@@ -192,7 +196,7 @@ impl<T, F: Makes<T, M>, R: RelaxStrategy, M: Promise<T>> LazyLock<T, F, R, M> {
         }
     }
 
-    // Kept out of line: inlined, it would lengthen the path of each caller that finds a value.
+    // It is not inlined, since that would lengthen the path of each caller that finds a value.
     #[cold]
     #[inline(never)]
     fn make<'a, W: Wait>(
@@ -212,9 +216,9 @@ impl<T, F: Makes<T, M>, R: RelaxStrategy, M: Promise<T>> LazyLock<T, F, R, M> {
     }
 }
 
-// SAFETY: it owns its cell, and that owns the initialiser, the promise and the value.
+// SAFETY: it owns its cell, which owns the initialiser, the promise and the value.
 unsafe impl<T: Send, F: Send, R, M: Promise<T> + Send> Send for LazyLock<T, F, R, M> {}
 
-// SAFETY: any thread may run the initialiser, and does so alone. Then all threads read the value, at the same time.
+// SAFETY: any thread may run the initialiser, and does so alone. Then all threads may read the value at once.
 unsafe impl<T: Send + Sync, F: Send, R, M: Promise<T> + Send + Sync> Sync
     for LazyLock<T, F, R, M> {}

@@ -1,6 +1,6 @@
-//! `Once` and `LazyLock`: a value that is made once, and then read at the price of a load.
+//! `Once` and `LazyLock`: a value that is made once, and then read at the cost of a load.
 //!
-//! Begin with [`once::Once`]. A [`lazylock::LazyLock`] brings its own initialiser.
+//! Begin with [`once::Once`]. A [`lazylock::LazyLock`] has its own initialiser.
 #![tactic(auto)]
 
 mod exclusive;
@@ -10,4 +10,4 @@ pub mod once;
 mod once_core;
 mod texts;
 
-pub use laws::every_run_of_a_once_is_a_schedule;
+pub use laws::{every_run_of_a_once_is_a_schedule, two_answers_of_a_once_agree};

@@ -1,5 +1,7 @@
 //! A value that one closure makes. Begin with [`Once::new`] and [`Once::call_once`].
-ghost use Rattle.std.specs.Prelude.{IfErr, Err};
+ghost use Rattle.std.specs.Prelude.{◌≡◌, true, [], ◌∷◌, IfErr, Err};
+ghost use Rattle.spin_once.specs.OncePasses.{opening};
+ghost use Rattle.spin_once.specs.OnceValues.{lies_in};
 
 use self::make::{find_or_try, make};
 use crate::once_core::{OnceCore, Seed, Sure};
@@ -12,18 +14,19 @@ mod pass;
 mod texts;
 
 pub use self::pass::Pass;
+pub use crate::laws::two_answers_of_a_once_agree;
 
-/// A `Once` starts from nothing, so the closure of a caller may give any value.
+/// A `Once` starts without anything, so a caller's closure may give any value.
 impl<T> Seed<T> for () {
     ghost makes = { λ _ _. Unit {0} };
 }
 
-/// A value that is made at most once, by a closure that one of its callers brings.
+/// A value that is made at most once, by a closure of one of its callers.
 ///
 /// Once there is a value it stays, and reading it costs one load. At most one closure runs at a time, and none runs
 /// once there is a value. A caller that finds one running spins until it has ended.
 ///
-/// A closure that waits for the value of its own `Once` never returns. A call that does not wait, as
+/// A closure that waits for the value of its own `Once` never returns. A call that does not wait, such as
 /// [`get`](Once::get), finds that there is no value yet.
 ///
 /// # Examples
@@ -44,7 +47,12 @@ pub struct Once<T = (), R = Spin> {
 
 impl<T, R> Once<T, R> {
     /// Creates a `Once` without a value.
-    pub fn new() -> Self {
+    ///
+    /// # Contract
+    /// There is no value in it at first, and its history will have the one that a closure gives (`opens`).
+    pub fn new() -> Self
+        ensures opens { (lies_in (opening result).value ≡ []) × ((opening result).told ≡ true) }
+    {
         Once {
             core: OnceCore::new(()),
             strategy: PhantomData,
@@ -52,7 +60,12 @@ impl<T, R> Once<T, R> {
     }
 
     /// Creates a `Once` that holds `value`.
-    pub fn initialized(value: T) -> Self {
+    ///
+    /// # Contract
+    /// The value is there at first, so none is made (`opens`).
+    pub fn initialized(value: T) -> Self
+        ensures opens { (lies_in (opening result).value ≡ value ∷ []) × ((opening result).told ≡ true) }
+    {
         Once {
             core: OnceCore::initialized(value, &()),
             strategy: PhantomData,
@@ -75,7 +88,7 @@ impl<T, R> Once<T, R> {
     /// Returns a mutable reference to the value, or `None` if there is none.
     ///
     /// The borrow shows that no other thread has the `Once`. What is written through the reference is the value from
-    /// then on.
+    /// then on. From the borrow on the history does not tell the value.
     pub fn get_mut(&mut self) -> Option<&mut T> {
         self.core.get_mut()
     }
@@ -116,7 +129,8 @@ impl<T, R: RelaxStrategy> Once<T, R> {
 
     /// Like [`call_once`](Once::call_once), with a closure that may fail.
     ///
-    /// If `f` fails, the call returns its `Err`, and there is no value still: another caller's closure may give one.
+    /// If `f` fails, the call returns its `Err`, and there is still no value. Another caller's closure may then give
+    /// one.
     ///
     /// # Contract
     /// The precondition of `f` has to hold. An `Err` is one that this caller's own `f` may return. Whether and when
@@ -227,8 +241,8 @@ impl<T, R> From<T> for Once<T, R> {
     }
 }
 
-// SAFETY: it owns its cell, and that owns the value.
+// SAFETY: it owns its cell, which owns the value.
 unsafe impl<T: Send, R> Send for Once<T, R> {}
 
-// SAFETY: all threads read the value that one of them made, at the same time, and any of them may drop it.
+// SAFETY: all threads may read the value at once, and any of them may drop it.
 unsafe impl<T: Send + Sync, R> Sync for Once<T, R> {}

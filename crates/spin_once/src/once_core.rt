@@ -1,5 +1,6 @@
 //! A value that is made once, from a seed: what `Once` and `LazyLock` share. Begin with [`OnceCore::account`].
-ghost use Rattle.std.specs.Prelude.{◌≡◌, None, [], IfSome};
+ghost use Rattle.std.specs.Prelude.{◌≡◌, true, None, [], IfSome};
+ghost use Rattle.spin_once.specs.declared.once_core.rule.Stage.TheVariants.{Seed as InSeed, Done};
 
 use self::rule::{COMPLETE, SeedCell, Stage};
 
@@ -13,8 +14,8 @@ pub(crate) use self::rule::{Seed, Sure, Unsure};
 
 /// A cell that holds a seed, and later the value made from it.
 ///
-/// A thread that begins has the seed alone. It gives a value, or leaves the seed for the next. Once there is a value,
-/// all threads see that one.
+/// A thread that begins has the seed to itself. It gives a value, or leaves the seed for the next thread. Once there is
+/// a value, all threads see it.
 #[derive(Drop)]
 pub(crate) struct OnceCore<T, S: Seed<T>> {
     cell: SeedCell<T, S>,
@@ -23,7 +24,8 @@ pub(crate) struct OnceCore<T, S: Seed<T>> {
 impl<T, S: Seed<T>> OnceCore<T, S> {
     /// Creates a cell with a seed.
     pub(crate) fn new(seed: S) -> Self
-        ensures { result.cell.seed.value ≡ seed }
+        ensures seed { result.cell.seed.value ≡ seed }
+        ensures opens { (result.cell.opening.value ≡ InSeed seed) × (result.cell.opening.told ≡ true) }
     {
         OnceCore {
             cell: rule::with_seed(seed),
@@ -33,7 +35,8 @@ impl<T, S: Seed<T>> OnceCore<T, S> {
     /// Creates a cell with a value that may be made from `seed`.
     pub(crate) fn initialized(value: T, seed: &S) -> Self
         requires { S.makes seed.now value }
-        ensures { result.cell.seed.value ≡ seed.now }
+        ensures seed { result.cell.seed.value ≡ seed.now }
+        ensures opens { (result.cell.opening.value ≡ Done value) × (result.cell.opening.told ≡ true) }
     {
         OnceCore {
             cell: rule::completed(value, seed),
@@ -43,7 +46,7 @@ impl<T, S: Seed<T>> OnceCore<T, S> {
     /// Returns the account of a party that has made no call.
     pub(crate) fn account(&self) -> Account<'_, T, S>
         ensures party { (result.party.key ≡ self.now.cell) × (result.party.view ≡ None) }
-        ensures seen { (result.seen.name ≡ self.now.cell.start.name) × (result.seen.entries ≡ []) }
+        ensures seen { (result.seen.name ≡ self.now.cell.opening.name) × (result.seen.entries ≡ []) }
     {
         Account::new(self.cell.enter(), self.cell.watch())
     }
@@ -61,7 +64,7 @@ impl<T, S: Seed<T>> OnceCore<T, S> {
         }
     }
 
-    /// Returns the value. It reads no word, since the cell is not shared any more.
+    /// Returns the value. It loads no word, since the cell is no longer shared.
     pub(crate) fn into_inner(self) -> Option<T>
     where
         S: Drop,

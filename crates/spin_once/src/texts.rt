@@ -1,4 +1,4 @@
-//! How a value that is made once prints: `Debug` of [`Once`](crate::once::Once) and of
+//! How `{:?}` prints a value that is made once: `Debug` of [`Once`](crate::once::Once) and of
 //! [`LazyLock`](crate::lazylock::LazyLock).
 ghost use Rattle.std.specs.Fmt.{DisplaysOnOk};
 ghost use Rattle.std.specs.Option.{option_copied};

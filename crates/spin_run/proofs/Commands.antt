@@ -2,18 +2,20 @@
 use Rattle.std.proofs.Common.{◌≡◌, ℕ, ◌≤◌, Bool, true, false, not, Option, Result, Ok, Err, IfErr, List, [], ◌∷◌, length, get_or, arith, ap, inl, inr, Bor, codes}
 use Rattle.std.specs.Str.{bytes_eq}
 use Rattle.std.proofs.lemmas.Slice.Eq.{bytes_eq-Decides}
+use Rattle.spin_text.specs.Failures.{Told}
+use Rattle.spin_text.specs.Lines.{texts_of}
 use Rattle.spin_text.specs.Numbers.{IsNumber}
-use Rattle.spin_run.specs.Command.{AsksCount, AsksWorld, AsksNothing, Tells, texts_of, usage_line}
+use Rattle.spin_run.specs.Command.{AsksCount, AsksWorld, AsksNothing, usage_line}
 use Rattle.spin_text.specs.Texts.{Streams}
 use Rattle.spin_run.specs.declared.run.faults.Fault.{Fault}
 use Rattle.spin_run.specs.declared.run.faults.Fault.TheVariants.{Usage, Refused, Memory, Read, BadLine, Write}
 use Rattle.spin_run.specs.Faults.{Stops, StopsCount, status_of, line_of}
 
--- two texts are one where a test says that they do not differ
+-- two texts are equal if a test says that they do not differ
 is_text : (xs ys : List ℕ) (other : Bool) → other ≡ not (bytes_eq xs ys) → other ≡ false → xs ≡ ys
 is_text xs ys other is same = (bytes_eq-Decides xs ys).0 (grind (arith, is, same))
 
--- three words, of which the first is `count` and the others are numbers within the limits, ask for a count
+-- Three words ask for a count if the first is `count` and the others are numbers within the limits.
 pub asks_count : (words : List (Bor (List ℕ))) (d e f : Bor (List ℕ)) (workers times : ℕ) → length words ≡ 3 → (other : Bool) → other ≡ not (bytes_eq (get_or words 0 d).now (codes "count")) → other ≡ false → IsNumber (get_or words 1 e).now workers → workers ≤ 64 → IsNumber (get_or words 2 f).now times → times ≤ 1000000 → AsksCount (texts_of words) workers times
 asks_count [] d e f workers times three other is same first few second small = absurd (omega arith)
 asks_count (a ∷ []) d e f workers times three other is same first few second small = absurd (omega arith)
@@ -28,7 +30,7 @@ asks_world [] d one same = absurd (omega (arith, one))
 asks_world (a ∷ []) d one same = ap (λ w. w ∷ []) ((bytes_eq-Decides a.now (codes "world")).0 same)
 asks_world (a ∷ b ∷ words) d one same = absurd (omega (arith, one))
 
--- a count's fault is a fault of the program
+-- a fault of a count is a fault of the program
 pub count_stops : (words : List (List ℕ)) (workers times : ℕ) (Unread Unwritten : Type 0) (t : Streams) (r : Result (Unit {0}) Fault) → AsksCount words workers times → Unread
     → IfErr r (StopsCount workers times Unwritten t.sink_failed t.written t.written_after) → IfErr r (Stops words Unread Unwritten t)
 count_stops words workers times Unread Unwritten t (Ok x) asks unread stops = tt
@@ -39,9 +41,9 @@ count_stops words workers times Unread Unwritten t (Err Read) asks unread stops 
 count_stops words workers times Unread Unwritten t (Err (BadLine n)) asks unread stops = absurd stops
 count_stops words workers times Unread Unwritten t (Err Write) asks unread stops = inl (unread, stops.0, (workers, times, asks, stops.1))
 
--- a command line that asks for nothing is answered with the usage
-pub told_usage : (words : List (List ℕ)) (Unread Unwritten : Type 0) (t : Streams) (failed : Bool) (old new : Option (List ℕ)) (f : Fault) (status : ℕ) → Stops words Unread Unwritten t f → status ≡ status_of f → Tells failed old new (line_of f)
-    → AsksNothing words → (status ≡ 2) × Tells failed old new usage_line
+-- the usage is the answer to a command line that asks for nothing
+pub told_usage : (words : List (List ℕ)) (Unread Unwritten : Type 0) (t : Streams) (failed : Bool) (old new : Option (List ℕ)) (f : Fault) (status : ℕ) → Stops words Unread Unwritten t f → status ≡ status_of f → Told failed old new (line_of f)
+    → AsksNothing words → (status ≡ 2) × Told failed old new usage_line
 told_usage words Unread Unwritten t failed old new Usage status stops is told none = (is, told)
 told_usage words Unread Unwritten t failed old new Refused status stops is told none = absurd (none.0 stops.0.0 stops.0.1 stops.0.2)
 told_usage words Unread Unwritten t failed old new Memory status stops is told none =

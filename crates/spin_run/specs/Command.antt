@@ -1,14 +1,8 @@
--- What the program's words ask for, and what it writes.
-use Rattle.std.specs.Prelude.{◌≡◌, ℕ, ◌*◌, ◌≤◌, ◌++◌, ◌⊎◌, List, [], ◌∷◌, Bool, false, MatchBool, Option, map, codes, decimal}
-use Rattle.std.specs.Borrow.{Bor}
+-- What the words of the command line ask for, and what the program writes.
+use Rattle.std.specs.Prelude.{◌≡◌, ℕ, ◌*◌, ◌≤◌, ◌++◌, ◌⊎◌, List, [], ◌∷◌, false, codes, decimal}
 use Rattle.std.specs.Io.KnownBytes.{Appends}
-use Rattle.spin_text.specs.Ends.{AppendsBeginning}
 use Rattle.spin_text.specs.Numbers.{IsNumber}
 use Rattle.spin_text.specs.Texts.{Streams, Plays}
-
--- the texts of the words
-abbrev pub texts_of : List (Bor (List ℕ)) → List (List ℕ)
-texts_of words = map (λ w. w.now) words
 
 -- the words are `count WORKERS TIMES`, with numbers within the limits of the program
 abbrev pub AsksCount : List (List ℕ) → ℕ → ℕ → Type 0
@@ -27,7 +21,7 @@ AsksWorld words = words ≡ codes "world" ∷ []
 abbrev pub AsksNothing : List (List ℕ) → Type 0
 AsksNothing words = ((workers times : ℕ) → ¬ (AsksCount words workers times)) × (¬ (AsksWorld words))
 
--- what a count of this many workers, each this many times, writes
+-- what a count writes, with so many workers that each count so many times
 abbrev pub total_text : ℕ → ℕ → List ℕ
 total_text workers times = decimal (workers * times) ++ 10 ∷ []
 
@@ -36,7 +30,7 @@ abbrev pub Counts : List (List ℕ) → Streams → Type 0
 Counts words t =
     (t.sink_failed ≡ false) × ((workers : ℕ) × (times : ℕ) × AsksCount words workers times × Appends t.written t.written_after (total_text workers times))
 
--- what was asked for was written, and no read and no write failed. Only a world reads
+-- the program wrote what the words ask for, and no read or write failed; only a world reads
 abbrev pub Does : List (List ℕ) → Type 0 → Streams → Type 0
 Does words Unread t = (Unread × Counts words t) ⊎ (AsksWorld words × (t.source_failed ≡ false) × (t.sink_failed ≡ false) × Plays t)
 
@@ -58,7 +52,3 @@ refused_line = codes "count refused\n"
 
 abbrev pub bad_line : ℕ → List ℕ
 bad_line n = codes "bad line " ++ decimal n ++ codes "\n"
-
--- a line was written whole, or, where the sink has failed, a beginning of it
-abbrev pub Tells : Bool → Option (List ℕ) → Option (List ℕ) → List ℕ → Type 0
-Tells failed old new line = MatchBool failed (AppendsBeginning old new line) (Appends old new line)

@@ -1,4 +1,4 @@
-//! The program over streams that the caller names. Begin with [`program`] and [`count_with`];
+//! The program over streams that the caller names. Begin with [`program`] and [`count_with`]. The function
 //! [`program_over_arguments`] takes the words from the process.
 mod command;
 mod counting;

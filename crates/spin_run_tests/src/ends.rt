@@ -1,18 +1,18 @@
-//! Ends in memory, which count their calls and fail where a test wants it.
+//! Streams in memory, which count their calls and fail when a test wants it.
 ghost use Rattle.std.specs.Prelude.{◌≡◌, Some, None, false};
 
 use spin_run::run::{Failed, Sink, Source};
 use std::alloc::Global;
 use std::process::Abort;
 
-/// A sink in memory. It takes at most `step` bytes at a time, and fails once it holds `room` bytes.
+/// A sink in memory. It accepts at most `step` bytes at a time, and fails once it holds `room` bytes.
 #[derive(Drop)]
 pub struct Paper {
     pub bytes: Vec<u8>,
     pub step: usize,
     pub room: usize,
     pub failed: bool,
-    /// How often it was written.
+    /// How many writes there were.
     pub writes: u64,
 }
 
@@ -41,8 +41,8 @@ impl Paper {
         str::from_utf8(&self.bytes).expect(rt, "text")
     }
 
-    /// Compares what was written with the beginning of that text for which there is room. A write has failed where that is
-    /// not all of it.
+    /// Compares what was written with the beginning of the text that has room. If that is not the whole text, a write
+    /// has failed.
     pub fn shows(&self, rt: &impl Abort, text: &[u8]) {
         let (fits, rest) = text.split_at(text.len().min(self.room));
         assert_eq!(rt; self.bytes.as_slice(), fits);
@@ -71,14 +71,14 @@ impl Sink for Paper {
     }
 }
 
-/// Bytes that are read at most `step` at a time. Where `fails`, a read fails once they are used up.
+/// A source that returns at most `step` bytes at a time. If `fails`, a read fails once the bytes are used up.
 #[derive(Drop)]
 pub struct Tape<'a> {
     pub rest: &'a [u8],
     pub step: usize,
     pub fails: bool,
     pub failed: bool,
-    /// How often it was read.
+    /// How many reads there were.
     pub reads: u64,
 }
 

@@ -1,4 +1,5 @@
-//! What no contract says: worked rows with their texts, that a call succeeds where nothing is refused, and that workers run at once.
+//! What no contract says: worked examples with their texts, that a call succeeds if nothing is refused, and that
+//! workers run at once.
 ghost use Rattle.std.specs.Prelude.{◌≡◌, Some, None, false};
 
 use crate::ends::{Paper, Tape};
@@ -15,7 +16,7 @@ use std::thread::Threads;
 
 const USAGE: &str = "usage: spin-run count WORKERS TIMES | spin-run world\n";
 
-/// How many bytes a sink takes: at a time, and in all.
+/// How many bytes a sink accepts: at a time, and in all.
 #[derive(Clone, Copy)]
 struct Room {
     step: usize,
@@ -32,7 +33,7 @@ const ENDLESS: Room = Room {
 #[derive(Drop)]
 struct Run<'a> {
     words: &'a [&'a str],
-    /// What there is to be read. Where it is `None`, nothing is to be read.
+    /// The text to read. `None`: nothing may be read.
     text: Option<&'a str>,
     /// Whether a read fails behind the text.
     read_fails: bool,
@@ -40,7 +41,7 @@ struct Run<'a> {
     errors: Room,
 }
 
-/// What a run came to.
+/// The results of a run.
 #[derive(Drop)]
 struct Ended {
     status: u8,
@@ -50,7 +51,7 @@ struct Ended {
 }
 
 impl Ended {
-    /// Compares all that a run of these words did. `text`: what it was given to read.
+    /// Compares all that a run with these words did. `text` is what it had to read.
     fn is(
         &self,
         rt: &impl Abort,
@@ -67,7 +68,7 @@ impl Ended {
     }
 }
 
-/// Runs the program. A caller learns nothing of what [`program`] ensures: the tests look for themselves.
+/// Runs the program. A caller learns nothing of what [`program`] ensures: the tests check the results themselves.
 fn program_of<R: AllocGlobal + Threads + Wait + Sync, A: Allocator>(
     rt: &R,
     alloc: A,
@@ -153,7 +154,7 @@ fn counts(rt: HostRuntime) {
     }
 }
 
-/// Words that are those of no command.
+/// Words that are no command.
 const OTHER_WORDS: &[&[&str]] = &[
     &[],
     &["count"],
@@ -287,7 +288,7 @@ fn tells_a_failed_write(rt: HostRuntime) {
     }
 }
 
-/// A reader of std's that gives its bytes, tells its end, fails once, and then gives bytes again.
+/// A reader of std that returns its bytes, reports its end, fails once, and then returns bytes again.
 #[derive(Drop)]
 struct Faltering<'a> {
     bytes: &'a [u8],
@@ -316,7 +317,7 @@ fn reads_of_std(rt: HostRuntime) {
         calls: 0,
     });
     let mut to = [0u8; 4];
-    // A failure is for good, also where the reader goes on.
+    // A failure is permanent, even if the reader would continue.
     for (room, answer, failed) in [
         (4, Ok(2), false),
         (4, Ok(0), false),
@@ -365,7 +366,7 @@ fn keeps_its_status_where_errors_fail(rt: HostRuntime) {
     }
 }
 
-/// A gate at which two workers meet: each raises its flag, a bit, and looks for the other's.
+/// A gate at which two workers meet: each sets its flag, a bit, and waits for the other's.
 #[derive(Drop)]
 struct Meeting {
     raised: AtomicU64,
@@ -469,7 +470,7 @@ fn tells_refused_memory(rt: HostRuntime) {
     ends_by_memory(&rt, &["count", "0", "5"], "0\n", "out of memory\n");
 }
 
-/// Stands for an argument that is not text. No argument of a process has this byte.
+/// An argument that is not text. No argument of a process has this byte.
 const NO_TEXT: &str = "\0";
 
 /// A runtime with other arguments.
@@ -514,7 +515,7 @@ impl<R> Env for Told<'_, R> {
     }
 }
 
-/// What the program does with those arguments.
+/// Runs the program with those arguments.
 fn ended_over<R: AllocGlobal + Threads + Wait + Sync>(rt: &R, arguments: &[&str]) -> Ended {
     let mut input = Tape::new(b"");
     let mut output = Paper::endless(rt.alloc());

@@ -1,5 +1,5 @@
-//! Schedules in rounds. Each meets the premises of a law of `spin_world_progress`, and reaches its bound. Begin with
-//! [`first_goal`].
+//! Schedules in rounds. Each satisfies the premises of a law of `spin_world_progress`, and reaches its bound. Begin
+//! with [`first_goal`].
 
 use crate::text::worlds::run;
 use spin_world::{
@@ -9,7 +9,7 @@ use spin_world::{
 use spin_world_seats::{Seats, SeatsCall};
 use std::process::Abort;
 
-/// Whether a call gives back what its party holds.
+/// Whether a call releases what its party holds.
 trait Releases: Copy {
     fn releases(self) -> bool;
 }
@@ -56,14 +56,14 @@ impl Releases for BarrierCall {
     }
 }
 
-/// One step of a party's call, or a beginning that gives back what it holds.
+/// One step of a party's call, or the beginning of a release.
 #[derive(Clone, Copy, PartialEq, Eq)]
 enum Owed {
     Step,
     Release,
 }
 
-/// What a party that stands so owes in a round.
+/// Returns what a party at this place has to do in a round.
 fn due_in_round(rt: &impl Abort, place: Option<Place>) -> Option<Owed> {
     match place {
         Some(Place::InCall) => Some(Owed::Step),
@@ -77,9 +77,9 @@ fn due_in_round(rt: &impl Abort, place: Option<Place>) -> Option<Owed> {
     }
 }
 
-/// Plays `past`, and then each round. Checks that each is a round: each party that is in a call at its start takes a step
-/// in it, and each that holds the lock begins to release it. Returns the number of the first round in which a party that
-/// `counts` is answered, counted from 1, or 0 if there is none. A party from 10 on stands for each.
+/// Plays `past`, and then each round. Checks that each is a round: each party that is in a call at its start takes a
+/// step, and each holder begins to release. Returns the number of the first round, counted from 1, in which a party
+/// that `counts` is answered, or 0. A number from 10 on means any party.
 fn first_goal<O, T, W>(
     rt: &impl Abort,
     world: &mut World<O>,
@@ -201,8 +201,8 @@ fn a_lock_alone_is_granted_in_the_third_round(rt: HostRuntime) {
     assert_eq!(&rt; first_goal(&rt, &mut world, 1, &past, &rounds, 0), 3);
 }
 
-/// Two tickets are taken in the rounds, so the bound is 4 and 2. The other's costs this one an exchange, and its own
-/// follows in the same round.
+/// Two tickets are taken in the rounds, so the bound is 4 rounds and 2 more. The other party's ticket costs this one an
+/// exchange. It gets its own in the same round.
 #[test]
 fn a_lock_of_two_parties_is_granted_four_rounds_after_the_tickets(rt: HostRuntime) {
     let mut world = World::new(rt.alloc(), Ticket::new(5, 0), 2).expect(&rt, "memory");
@@ -290,7 +290,7 @@ fn a_read_beside_the_only_reader_is_granted_in_the_fourth_round(rt: HostRuntime)
     assert_eq!(&rt; first_goal(&rt, &mut world, 2, &past, &rounds, 10), 4);
 }
 
-/// The readers leave side by side, and each costs the one that waits an exchange.
+/// The readers leave in the same round, and each costs the waiting party an exchange.
 #[test]
 fn a_read_beside_two_readers_is_granted_in_the_fourth_round(rt: HostRuntime) {
     let mut world = World::new(rt.alloc(), Rw::new(5, 3), 3).expect(&rt, "memory");
@@ -317,7 +317,7 @@ fn a_read_beside_two_readers_is_granted_in_the_fourth_round(rt: HostRuntime) {
     assert_eq!(&rt; first_goal(&rt, &mut world, 3, &past, &rounds, 10), 4);
 }
 
-/// Before it leaves, the one that may upgrade downgrades.
+/// The upgradable reader downgrades before it leaves.
 #[test]
 fn a_read_beside_one_that_may_upgrade_is_granted_in_the_fifth_round(rt: HostRuntime) {
     let mut world = World::new(rt.alloc(), Rw::new(5, 1), 2).expect(&rt, "memory");
@@ -338,7 +338,7 @@ fn a_read_beside_one_that_may_upgrade_is_granted_in_the_fifth_round(rt: HostRunt
     assert_eq!(&rt; first_goal(&rt, &mut world, 2, &past, &rounds, 10), 5);
 }
 
-/// The one that may upgrade tries to, until the reader has gone, and then downgrades.
+/// The upgradable reader tries to upgrade until the reader has left, and then downgrades.
 #[test]
 fn a_write_beside_one_that_may_upgrade_is_granted_in_the_sixth_round(rt: HostRuntime) {
     let mut world = World::new(rt.alloc(), Rw::new(5, 3), 3).expect(&rt, "memory");
@@ -414,7 +414,7 @@ fn one_that_asks_to_upgrade_beside_a_reader_is_granted_in_the_third_round(rt: Ho
     assert_eq!(&rt; first_goal(&rt, &mut world, 3, &past, &rounds, 10), 3);
 }
 
-/// The writer downgrades twice before it releases, and the reader that waits finds no room until then.
+/// The writer downgrades twice before it releases, and the waiting reader finds no room until then.
 #[test]
 fn a_read_beside_a_writer_is_granted_in_the_sixth_round(rt: HostRuntime) {
     let mut world = World::new(rt.alloc(), Rw::new(5, 1), 2).expect(&rt, "memory");

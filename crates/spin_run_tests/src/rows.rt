@@ -1,5 +1,5 @@
-//! Worked schedules that no text tells: those of the seats, runs one after the other, places, and
-//! objects that no header makes.
+//! Worked schedules that no text can spell: those of the seats, of several runs, of places, and of objects that no
+//! header makes.
 
 use crate::alike::{Alike, are_alike};
 use crate::text::worlds::run;
@@ -18,7 +18,7 @@ struct Rows<'a, C, T, W, A = Answer<T>> {
     events: &'a [Event<W, T, A>],
 }
 
-/// Rows, each of a party, its move, the outcome, and the words after it.
+/// Rows: each has a party, its move, the outcome, and the words after it.
 macro_rules! rows {
     ($($party:literal $action:expr => $outcome:expr, $words:expr;)*) => {
         Rows {
@@ -28,7 +28,7 @@ macro_rules! rows {
     };
 }
 
-/// The answer of a call that began at this place of its schedule. With no place: that began in an earlier run.
+/// The answer of a call that began at this place of its schedule, or in an earlier run if no place is given.
 macro_rules! answered {
     ($answer:expr) => {
         Outcome::Answered {
@@ -49,7 +49,7 @@ fn world<O: Object>(rt: &impl Abort, alloc: Global, object: O, parties: usize) -
     World::new(alloc, object, parties).expect(rt, "memory")
 }
 
-/// Compares where each party of a world stands, and its value.
+/// Compares the place of each party of a world, and its value.
 fn stands<O, T>(rt: &impl Abort, world: &World<O>, places: &[Place], value: T)
 where
     O: Object<Value = T>,
@@ -65,8 +65,7 @@ where
     assert!(rt; world.value() == Some(value));
 }
 
-/// Plays rows as one schedule. Compares each event, the words after the last, where each party stands then, and the
-/// value.
+/// Plays rows as one schedule. Compares each event, the last words, the place of each party at the end, and the value.
 fn plays<O, T, W, A>(
     rt: &impl Abort,
     world: &mut World<O>,

@@ -1,4 +1,4 @@
-//! What no contract says: worked texts byte for byte, lines that are in the grammar and lines that are not, and ends that fail.
+//! What no contract says: worked texts byte for byte, good and bad lines, and streams that fail.
 ghost use Rattle.std.specs.Prelude.{◌≡◌, Some, None, false};
 
 mod gallery;
@@ -19,7 +19,7 @@ use std::cell::Cell;
 use std::io;
 use std::process::Abort;
 
-/// Plays a text. A caller learns nothing of what [`world_text`] ensures: the tests look for themselves.
+/// Plays a text. A caller learns nothing of what [`world_text`] ensures: the tests check the results themselves.
 fn play<I: Source, O: Sink>(alloc: Global, input: &mut I, output: &mut O) -> Result<(), RunError>
     requires input { I.failed input.old ≡ false }
     requires output { O.failed output.old ≡ false }
@@ -27,7 +27,7 @@ fn play<I: Source, O: Sink>(alloc: Global, input: &mut I, output: &mut O) -> Res
     world_text(alloc, input, output)
 }
 
-/// Plays a text over those ends, and compares the answer and what was written.
+/// Plays a text over these streams, and compares the answer and what was written.
 fn plays(
     rt: &impl Abort,
     alloc: Global,
@@ -44,7 +44,7 @@ fn plays(
     output.shows(rt, told);
 }
 
-/// Plays a text over ends that do not fail.
+/// Plays a text over streams that do not fail.
 fn comes_to(
     rt: &impl Abort,
     alloc: Global,
@@ -56,7 +56,7 @@ fn comes_to(
     plays(rt, alloc, &mut Tape::new(text), &mut output, answer, told);
 }
 
-/// Plays a schedule in reads and writes of at most so many bytes, and compares what was written.
+/// Plays a schedule in reads and writes of at most `step` bytes, and compares what was written.
 fn tells(rt: &impl Abort, alloc: Global, step: usize, shows: &str, text: &[u8], told: &str) {
     let mut input = Tape::new(text);
     input.step = step;
@@ -65,7 +65,7 @@ fn tells(rt: &impl Abort, alloc: Global, step: usize, shows: &str, text: &[u8], 
     assert_eq!(rt; output.text(rt), told, "{shows}");
 }
 
-/// Plays a schedule so, with its last line feed and without.
+/// Plays a schedule in this way, with its last line feed and without.
 fn tells_ended(rt: &impl Abort, alloc: Global, step: usize, shows: &str, text: &str, told: &str) {
     let text = text.as_bytes();
     tells(rt, alloc, step, shows, text, told);
@@ -73,7 +73,7 @@ fn tells_ended(rt: &impl Abort, alloc: Global, step: usize, shows: &str, text: &
     tells(rt, alloc, step, shows, without_end, told);
 }
 
-/// Plays a schedule so, whole and in small steps.
+/// Plays a schedule in this way, whole and in small steps.
 fn tells_in_steps(rt: &impl Abort, alloc: Global, shows: &str, text: &str, told: &str) {
     for step in [usize::MAX, 1, 2, 3, 4, 5, 6, 7, 8] {
         tells_ended(rt, alloc, step, shows, text, told);
@@ -130,7 +130,7 @@ fn tells_a_failed_write(rt: HostRuntime) {
     }
 }
 
-/// Texts over a writer of so much room, each with whether a read fails behind it, and the fault that is met first.
+/// Texts with a writer's room, whether a read fails behind the text, and the first fault.
 const FAULTS: &[(&str, bool, usize, RunError)] = &[
     ("", true, usize::MAX, RunError::Read),
     ("flag 5 1", true, usize::MAX, RunError::Read),
@@ -163,7 +163,7 @@ fn tells_the_fault_that_is_met_first(rt: HostRuntime) {
     }
 }
 
-/// A writer of std's that takes nothing, or fails, behind the first bytes. It counts its calls.
+/// A writer of std that accepts nothing, or fails, behind its first bytes. It counts its calls.
 #[derive(Drop)]
 struct Stuck<'a> {
     room: usize,

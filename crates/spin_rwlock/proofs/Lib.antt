@@ -1,3 +1,4 @@
 pub mod Steps
 pub mod Passes
+pub mod Waits
 pub mod Standing

@@ -1,66 +1,126 @@
--- What the steps of a read-write lock tell a pass, and how those of a call that comes to read follow one another.
+-- What the steps of a read-write lock tell a pass, and how the steps of a call that wants to read follow one another.
 use Rattle.std.proofs.Common.{◌≡◌, ◌≢◌, ℕ, eq-eqb, ne_eqb, Bool, true, false, List, [], ◌∷◌, ◌++◌, length, Option, Some, None, if◌then◌else◌, refl, sym, ap, ◌∙◌, subst}
-use Rattle.std.specs.Prelude.{◌⊎◌, Result, Ok, Err, IfOk, IfErr}
+use Rattle.std.specs.Prelude.{◌⊎◌, Result, Ok, Err, IfOk, IfErr, IfSome}
 use mathlib.Core.Logic.{inl, inr}
-use Rattle.spin_core.specs.Cell.{Moved}
+use Rattle.spin_core.specs.Cell.{Use, off, reads, writes, use_of, Shows, Moved, Keeps as Kept}
 use Rattle.spin_core.specs.Own.{Numbered, what}
-use Rattle.spin_core.specs.Passes.{mark_of, Waits, Begins, IsCall, IsStep}
-use Rattle.spin_core.specs.Traced.{Watches, Named}
+use Rattle.spin_core.specs.Passes.{mark_of, Waits, Begins, IsCall, IsStep, WritesSome}
+use Rattle.spin_core.specs.Traced.{Watches, Named, Found}
+use Rattle.spin_core.specs.Values.{IsLast}
+use Rattle.spin_core.specs.declared.tie.Opening.{Opening}
 use Rattle.spin_core.specs.declared.trace.Watch.{Watch}
 use Rattle.spin_core.proofs.Passes as passes
-use Rattle.spin_core.proofs.Passes.{waits_on, waits_out, made_both, weaker, whole, call_ends, call_waits}
+use Rattle.spin_core.proofs.Passes.{waits_on, waits_out, made_both, weaker, whole, whole_behind, call_ends, call_waits}
+use Rattle.spin_core.proofs.Ties as tie
+use Rattle.spin_core.proofs.Values.{write_leaves, shows_last, read_last, gave, wrote}
 use Rattle.spin_model.specs.declared.answer.Answer.{Answer}
-use Rattle.spin_model.specs.declared.answer.Answer.TheVariants.{Granted, Refused, Count}
+use Rattle.spin_model.specs.declared.answer.Answer.TheVariants.{Granted, Refused, Count, Done as Ended}
 use Rattle.spin_model.specs.declared.schedule.Move.TheVariants.{Step}
 use Rattle.spin_model.specs.declared.schedule.Outcome.TheVariants.{GoingOn, Answered}
 use Rattle.spin_step_more.specs.declared.rw_calls.RwCall.{RwCall}
 use Rattle.spin_step_more.specs.declared.rw_calls.RwCall.TheVariants.{TryRead, TryUpgradeableRead}
 use Rattle.spin_rwlock.specs.declared.rwlock.rule.View.{View}
 use Rattle.spin_rwlock.specs.declared.rwlock.rule.View.TheVariants.{Idle, Reading, Upgradable}
-use Rattle.spin_rwlock.specs.Rw.{Done, IsRw, Told, Says, ends_by, counts_by, either_at, OneMove, Ending, OneCourse, seat_of, model, words_of, grants, call_of, Comes, still, missed, IsGrant, Left, Seeks, Moves, Called}
-use Rattle.spin_rwlock.proofs.Steps.{own_ways}
+use Rattle.spin_rwlock.specs.Rw.{Done, IsRw, rw_ways, Told, Says, ends_by, leaves_with, leaves_by, counts_by, either_at, OneMove, Ending, OneCourse, seat_of, use_of_view, use_of_party, model, words_of, grants, call_of, Comes, still, missed, IsGrant, Left, Seeks, Moves, Called, Wrote}
 
-named_so : (name : ℕ) (before : Watch Done) → name ≡ before.name → Named (IsRw name) own_ways before.name
-named_so name before same = passes.may_know (IsRw name) own_ways name (λ n t vs is. is.0) before.name same
+-- the value that is there
+is_there : {T : Type 0} (P : T → Type 0) (shown : Option T) (x : T) → Some x ≡ shown → IfSome shown P → P x
+is_there P shown x is known = subst (λ o. IfSome o P) (sym is) known
 
--- the watch is of the lock's trace, or knows nothing
-pub may : (name : ℕ) (before : Watch Done) → (before.entries ≡ []) ⊎ (name ≡ before.name) → (before.entries ≡ []) ⊎ Named (IsRw name) own_ways before.name
-may name before (inl nothing) = inl nothing
-may name before (inr same) = inr (named_so name before same)
+module _ {T : Type 0} (opening : Opening T) where
+  named_so : (before : Watch (Done T)) → opening.name ≡ before.name → Named (IsRw opening) (rw_ways opening) before.name
+  named_so before same = passes.may_know (IsRw opening) (rw_ways opening) opening.name (λ n t vs is. is.0) before.name same
 
-pub may_as : (name name' : ℕ) (before : Watch Done) → name ≡ name' → (before.entries ≡ []) ⊎ (name' ≡ before.name) → (before.entries ≡ []) ⊎ (name ≡ before.name)
-may_as name name' before same (inl nothing) = inl nothing
-may_as name name' before same (inr is) = inr (same ∙ is)
+  -- the watch is of the lock's trace, or knows nothing
+  pub may : (before : Watch (Done T)) → (before.entries ≡ []) ⊎ (opening.name ≡ before.name) → (before.entries ≡ []) ⊎ Named (IsRw opening) (rw_ways opening) before.name
+  may before (inl nothing) = inl nothing
+  may before (inr same) = inr (named_so before same)
 
--- What a step tells, whose play says so much
-module _ (says : Says) (to : ℕ → View) (course : ℕ → OneCourse) (means : (own : List OneMove) (outs : List Ending) (n : ℕ) (v : View) → says own outs n v → (v ≡ to n) × course n own outs) (view : Option (Numbered View)) (before now : Watch Done) (found : ℕ) where
-  -- where it led
-  pub stood : (named : Type 0) (view' : Option (Numbered View)) → Moved (Watches named before now (Told says view) found) view' → what view' ≡ Some (to found)
-  stood named None moved = absurd moved
-  stood named (Some v) moved = ap Some (means moved.1.4.0 moved.1.4.1 found v.0 moved.1.4.6).0
+  pub may_as : (other : Opening T) (before : Watch (Done T)) → opening ≡ other → (before.entries ≡ []) ⊎ (other.name ≡ before.name) → (before.entries ≡ []) ⊎ (opening.name ≡ before.name)
+  may_as other before same (inl nothing) = inl nothing
+  may_as other before same (inr is) = inr (ap (λ o. o.name) same ∙ is)
 
-  -- to a party whose watch knew all: it knows all again, and has made just this
-  pub told : (name name' : ℕ) → name' ≡ name → (view' : Option (Numbered View)) → (name ≡ before.name) × (mark_of view ≡ length before.entries) → Moved (Watches (Named (IsRw name) own_ways before.name) before now (Told says view) found) view'
-      → ((name' ≡ now.name) × (mark_of view' ≡ length now.entries)) × (now.name ≡ before.name) × Moves (course found) view before.entries view' now.entries
-  told name name' same view' knew moved =
-      let t = passes.learnt model seat_of words_of says to course means (Named (IsRw name) own_ways before.name) (named_so name before knew.0) view view' before now found knew.1 moved in
-      ((same ∙ knew.0 ∙ sym t.named, t.knows), t.named, t.made)
+  -- what a step tells that says so much
+  abbrev Steps : Says T → Watch (Done T) → Watch (Done T) → Option (Numbered View) → Option (Numbered View) → ℕ → Type 0
+  Steps says before now view view' found = Moved (Watches (Named (IsRw opening) (rw_ways opening) before.name) before now (Told opening.value says view) found) view'
 
--- a whole call in one step
-pub answered : (call : RwCall) (answer : ℕ → Answer (Unit {0})) (to : ℕ → View) (view : Option (Numbered View)) (before now : Watch Done) (found name name' : ℕ) → name' ≡ name → (view' : Option (Numbered View))
-    → (name ≡ before.name) × (mark_of view ≡ length before.entries) → Moved (Watches (Named (IsRw name) own_ways before.name) before now (Told (ends_by call answer to) view) found) view'
-    → ((name' ≡ now.name) × (mark_of view' ≡ length now.entries)) × (now.name ≡ before.name) × Called call (answer found) view before.entries view' now.entries
-answered call answer to view before now found name name' same view' knew moved =
-    let t = told (ends_by call answer to) to (λ n. IsStep false call (Answered (answer n) None)) (λ own outs n v said. said) view before now found name name' same view' knew moved in
-    (t.0, t.1, whole model view view' before.entries now.entries call (answer found) t.2)
+  module _ (view view' : Option (Numbered View)) (before now : Watch (Done T)) (found : ℕ) where
+    -- What a step tells, whose play says so much: where it led
+    pub stood : (says : Says T) (to : ℕ → View) → ((own : List (OneMove T)) (outs : List (Ending T)) (n : ℕ) (v : View) → says own outs n v → v ≡ to n) → (at : Option (Numbered View)) → Steps says before now view at found → what at ≡ Some (to found)
+    stood says to means None moved = absurd moved
+    stood says to means (Some v) moved = ap Some (means moved.1.4.0 moved.1.4.1 found v.0 moved.1.4.6)
 
--- a count by the word
-pub counted : (call : RwCall) (count : ℕ → ℕ) (view : Option (Numbered View)) (before now : Watch Done) (found name name' : ℕ) → name' ≡ name → (view' : Option (Numbered View))
-    → (name ≡ before.name) × (mark_of view ≡ length before.entries) → Moved (Watches (Named (IsRw name) own_ways before.name) before now (Told (counts_by call count) view) found) view'
-    → Called call (Count (count found)) view before.entries view' now.entries
-counted call count view before now found name name' same view' knew moved =
-    let t = told (counts_by call count) (λ n. Idle) (λ n. IsStep false call (Answered (Count (count n)) None)) (λ own outs n v said. said.1) view before now found name name' same view' knew moved in
-    whole model view view' before.entries now.entries call (Count (count found)) t.2
+    module _ (other : Opening T) (same : other ≡ opening) (knew : (opening.name ≡ before.name) × (mark_of view ≡ length before.entries)) where
+      abbrev Learnt : (OneCourse T) → Type 0
+      Learnt course = ((other.name ≡ now.name) × (mark_of view' ≡ length now.entries)) × (now.name ≡ before.name) × Moves opening.value course view before.entries view' now.entries
+
+      -- to a party whose watch knew all: it knows all again, and has made just this
+      pub told : (says : Says T) (to : ℕ → View) (course : ℕ → OneCourse T) → ((own : List (OneMove T)) (outs : List (Ending T)) (n : ℕ) (v : View) → says own outs n v → (v ≡ to n) × course n own outs) → Steps says before now view view' found → Learnt (course found)
+      told says to course means moved =
+          let t = passes.learnt (model opening.value) seat_of words_of says to course means (Named (IsRw opening) (rw_ways opening) before.name) (named_so before knew.0) view view' before now found knew.1 moved in
+          ((ap (λ o. o.name) same ∙ knew.0 ∙ sym t.named, t.knows), t.named, t.made)
+
+      -- a whole call in one step
+      pub answered : (call : RwCall) (answer : ℕ → Answer T) (to : ℕ → View) → Steps (ends_by call answer to) before now view view' found → Learnt (IsCall call (answer found))
+      answered call answer to moved =
+          let t = told (ends_by call answer to) to (λ n. IsStep false call (Answered (answer n) None)) (λ own outs n v said. said) moved in
+          (t.0, t.1, whole (model opening.value) view view' before.entries now.entries call (answer found) t.2)
+
+      -- a count by the word
+      pub counted : (call : RwCall) (count : ℕ → ℕ) → Steps (counts_by call count) before now view view' found → Learnt (IsCall call (Count (count found)))
+      counted call count moved =
+          let t = told (counts_by call count) (λ n. Idle) (λ n. IsStep false call (Answered (Count (count n)) None)) (λ own outs n v said. said.1) moved in
+          (t.0, t.1, whole (model opening.value) view view' before.entries now.entries call (Count (count found)) t.2)
+
+      -- a call by which a writer ends, which left x
+      module _ (x : T) (last : IsLast opening now.entries x) (call : RwCall) (to : View) where
+        abbrev Told_left : T → Type 0
+        Told_left y = opening.told ≡ true → y ≡ x
+
+        exactly : (w : Option (Numbered View)) → Steps (leaves_by call to) before now view w found → Steps (leaves_with Told_left call to) before now view w found
+        exactly None made = absurd made
+        exactly (Some w) (named, (log, es, known, grew, (own, outs, mine, mark, none, alike, (is, (y, any, by))))) =
+            (named, (log, es, known, grew, (own, outs, mine, mark, none, alike, (is, (y, wrote opening log es now.entries w.1 own x y grew mine (write_leaves y false call (Answered Ended None) own outs by) last, by)))))
+
+        pub ended : (key : Opening T) → opening ≡ key → (v : Numbered View) → view ≡ Some v → Steps (leaves_by call to) before now view view' found
+            → ((other.name ≡ now.name) × (mark_of view' ≡ length now.entries)) × (now.name ≡ before.name) × Wrote key.value (λ y. key.told ≡ true → y ≡ x) call (Some v) before.entries view' now.entries
+        ended key is v was moved =
+            let t = told (leaves_with Told_left call to) (λ n. to) (λ n. WritesSome Told_left (IsStep false call (Answered Ended None))) (λ own outs n v said. said) (exactly view' moved) in
+            let made = whole_behind (model opening.value) view view' before.entries now.entries Told_left call Ended t.2 in
+            (t.0, t.1, subst (λ (z : Opening T × Option (Numbered View)). Wrote z.0.value (λ y. z.0.told ≡ true → y ≡ x) call z.1 before.entries view' now.entries) (λ i. (is i, was i)) made)
+
+  -- What a step tells of the value
+  module _ (view view' : Option (Numbered View)) (before after : Option T) (seen : Watch (Done T)) (known : Found (rw_ways opening) view view' before after seen) (kept : Kept (rw_ways opening) view view' before after) where
+    -- to a party that reads it then, or writes it and did not write before
+    pub shown_last : (use_of use_of_party view ≡ writes → use_of use_of_party view' ≡ reads) → IfSome after (λ x. IsLast opening seen.entries x)
+    shown_last so = shows_last opening (use_of use_of_party view) (use_of use_of_party view') before after seen.entries known so kept.0
+
+    -- to a party that did not write it, and reads it or writes it then
+    pub reads_found : use_of use_of_view (what view) ≢ writes → (key : Opening T) → key ≡ opening → IfSome after (λ x. IsLast key seen.entries x)
+    reads_found not key same = subst (λ k. IfSome after (λ x. IsLast k seen.entries x)) (sym same) (shown_last (λ e. absurd (not (tie.same_use use_of_view view ∙ e))))
+
+    pub writes_found : use_of use_of_view (what view) ≢ writes → (key : Opening T) → key ≡ opening → (x : T) → Some x ≡ after → IsLast key seen.entries x
+    writes_found not key same x is = is_there (λ y. IsLast key seen.entries y) after x is (reads_found not key same)
+
+    -- to a reader that has gone
+    pub still_last : use_of use_of_view (what view) ≡ reads → use_of use_of_view (what view') ≡ off → IfSome before (λ x. IsLast opening seen.entries x)
+    still_last read gone = read_last opening (use_of use_of_party view) (use_of use_of_party view') before after seen.entries known (sym (tie.same_use use_of_view view) ∙ read) (sym (tie.same_use use_of_view view') ∙ gone)
+
+    -- to a writer that reads on, and to one that has gone
+    module _ (x : T) (here : before ≡ Some x) (key : Opening T) (same : opening ≡ key) where
+      pub left_reading : use_of use_of_view (what view') ≡ reads → IsLast key seen.entries x
+      left_reading on =
+          let reads_on = sym (tie.same_use use_of_view view') ∙ on in
+          let still = subst (λ (z : Use × Option T). Shows z.0 z.1 after) (λ i. (reads_on i, here i)) kept.0 in
+          subst (λ k. IsLast k seen.entries x) same (is_there (λ y. IsLast opening seen.entries y) after x (sym still) (shown_last (λ e. reads_on)))
+
+      pub left_gone : use_of use_of_party view ≡ writes → use_of use_of_view (what view') ≡ off → IsLast key seen.entries x
+      left_gone held gone =
+          subst (λ k. IsLast k seen.entries x) same (gave opening (use_of use_of_party view) (use_of use_of_party view') before after seen.entries x known held (sym (tie.same_use use_of_view view') ∙ gone) here)
+
+-- what was written, whatever it was
+pub wrote_some : {T : Type 0} (v₀ : T) (Q : T → Type 0) (call : RwCall) (view view' : Option (Numbered View)) (old new : List (Done T)) → Wrote v₀ Q call view old view' new → Wrote v₀ (λ x. Unit {0}) call view old view' new
+wrote_some v₀ Q call view view' old new = passes.weaker (model v₀) view view' old new (WritesSome Q (IsCall call Ended)) (WritesSome (λ x. Unit {0}) (IsCall call Ended)) (λ own outs (x, so, by). (x, tt, by))
 
 -- an exchange, by whether it found the number that it expected
 pub won_by : {X : Type 0} (old found : ℕ) (won lost : X) → found ≡ old → either_at old won lost found ≡ won
@@ -70,11 +130,15 @@ pub lost_by : {X : Type 0} (old found : ℕ) (won lost : X) → found ≢ old �
 lost_by old found won lost other = ap (λ b. if b then won else lost) (ne_eqb found old other)
 
 -- what is known of a party is known of it as a writer, and the other way round
-module _ {A : Type 0} (R : Option (Numbered View) → Type 0) (now : Watch Done) (name name' : ℕ) (v : Numbered View) (view : Option (Numbered View)) where
-  pub to_writer : name ≡ name' → Some v ≡ view → ((name' ≡ now.name) × (mark_of view ≡ length now.entries)) × A × R view → ((name ≡ now.name) × (v.2 ≡ length now.entries)) × A × R (Some v)
-  to_writer same is (knows, a, r) = ((same ∙ knows.0, ap mark_of is ∙ knows.1), a, subst R (sym is) r)
+module _ {T A : Type 0} (R : Option (Numbered View) → Type 0) (now : Watch (Done T)) (it other : Opening T) (v : Numbered View) (view : Option (Numbered View)) where
+  pub to_writer : it ≡ other → Some v ≡ view → ((other.name ≡ now.name) × (mark_of view ≡ length now.entries)) × A × R view → ((it.name ≡ now.name) × (v.2 ≡ length now.entries)) × A × R (Some v)
+  to_writer same is (knows, a, r) = ((ap (λ o. o.name) same ∙ knows.0, ap mark_of is ∙ knows.1), a, subst R (sym is) r)
 
--- two facts of what a result has
+-- two facts of what a result has, and three
+pub all_ok : {X Y : Type 0} (r : Result X Y) (P Q S R : X → Type 0) → ((x : X) → P x → Q x → S x → R x) → IfOk r P → IfOk r Q → IfOk r S → IfOk r R
+all_ok (Ok x) P Q S R so p q s = so x p q s
+all_ok (Err y) P Q S R so p q s = tt
+
 pub both_ok : {X Y : Type 0} (r : Result X Y) (P Q R : X → Type 0) → ((x : X) → P x → Q x → R x) → IfOk r P → IfOk r Q → IfOk r R
 both_ok (Ok x) P Q R so p q = so x p q
 both_ok (Err y) P Q R so p q = tt
@@ -83,22 +147,22 @@ pub both_err : {X Y : Type 0} (r : Result X Y) (P Q R : Y → Type 0) → ((y : 
 both_err (Ok x) P Q R so p q = tt
 both_err (Err y) P Q R so p q = so y p q
 
--- A call that comes to read
+-- A call that wants to read
 
-missed_is : (call : RwCall) (n : ℕ) → missed call n ≡ (if still call n then GoingOn else Answered Refused None)
+missed_is : {T : Type 0} (call : RwCall) (n : ℕ) → missed {T = T} call n ≡ (if still call n then GoingOn else Answered Refused None)
 missed_is TryRead n = refl
 missed_is TryUpgradeableRead n = refl
 missed_is _ n = refl
 
-left_by : (b : Bool) (o : Ending) → o ≡ (if b then GoingOn else Answered Refused None) → (own : List OneMove) (outs : List Ending) → own ≡ Step ∷ [] → outs ≡ o ∷ [] → Left b own outs
+left_by : {T : Type 0} (b : Bool) (o : Ending T) → o ≡ (if b then GoingOn else Answered Refused None) → (own : List (OneMove T)) (outs : List (Ending T)) → own ≡ Step ∷ [] → outs ≡ o ∷ [] → Left b own outs
 left_by true o e own outs is are = (1, is, are ∙ ap (λ x. x ∷ []) e)
 left_by false o e own outs is are = (0, is, are ∙ ap (λ x. x ∷ []) e)
 
-waits_left : (b : Bool) (own own' : List OneMove) (outs outs' : List Ending) → Waits own outs → Left b own' outs' → Left b (own ++ own') (outs ++ outs')
+waits_left : {T : Type 0} (b : Bool) (own own' : List (OneMove T)) (outs outs' : List (Ending T)) → Waits own outs → Left b own' outs' → Left b (own ++ own') (outs ++ outs')
 waits_left true = waits_on
 waits_left false = waits_out Refused
 
--- while the word that it found lets it in, a call goes on; and so does one that waits
+-- while the word that it found admits it, a call continues; so does a call that waits
 pub lets_in : (won : View) (waits : Bool) → Comes won → (n next : ℕ) → grants (call_of won waits) n ≡ Some next → still (call_of won waits) n ≡ true
 lets_in Reading true cm n next grant = refl
 lets_in Reading false cm n next grant = rw grant refl
@@ -116,33 +180,33 @@ keeps_out Reading cm n none = rw none refl
 keeps_out Upgradable cm n none = rw none refl
 keeps_out _ cm n none = absurd cm
 
-module _ (call : RwCall) (view view' : Option (Numbered View)) (old new : List Done) where
+module _ {T : Type 0} (v₀ : T) (call : RwCall) (view view' : Option (Numbered View)) (old new : List (Done T)) where
   -- the exchange that begins it
-  pub begins_granted : Moves (IsGrant false call) view old view' new → Called call Granted view old view' new
-  begins_granted = weaker model view view' old new (IsGrant false call) (IsCall call Granted) (λ own outs s. (Step ∷ Step ∷ [], GoingOn ∷ Answered Granted None ∷ [], s.0, s.1, (1, refl, refl)))
+  pub begins_granted : Moves v₀ (IsGrant false call) view old view' new → Called v₀ call Granted view old view' new
+  begins_granted = weaker (model v₀) view view' old new (IsGrant false call) (IsCall call Granted) (λ own outs s. (Step ∷ Step ∷ [], GoingOn ∷ Answered Granted None ∷ [], s.0, s.1, (1, refl, refl)))
 
-  pub begins_missed : (n : ℕ) → Moves (IsStep false call (missed call n)) view old view' new → Moves (Seeks call n) view old view' new
-  begins_missed n = weaker model view view' old new (IsStep false call (missed call n)) (Seeks call n) (λ own outs s. (Step ∷ [], missed call n ∷ [], s.0, s.1, left_by (still call n) (missed call n) (missed_is call n) (Step ∷ []) (missed call n ∷ []) refl refl))
+  pub begins_missed : (n : ℕ) → Moves v₀ (IsStep false call (missed call n)) view old view' new → Moves v₀ (Seeks call n) view old view' new
+  begins_missed n = weaker (model v₀) view view' old new (IsStep false call (missed call n)) (Seeks call n) (λ own outs s. (Step ∷ [], missed call n ∷ [], s.0, s.1, left_by (still call n) (missed call n) (missed_is call n) (Step ∷ []) (missed call n ∷ []) refl refl))
 
   -- a refusal is the answer of the call
-  pub is_refused : (n : ℕ) → still call n ≡ false → Moves (Seeks call n) view old view' new → Called call Refused view old view' new
-  is_refused n kept made = subst (λ b. Moves (Begins call (Left b)) view old view' new) kept made
+  pub is_refused : (n : ℕ) → still call n ≡ false → Moves v₀ (Seeks call n) view old view' new → Called v₀ call Refused view old view' new
+  is_refused n kept made = subst (λ b. Moves v₀ (Begins call (Left b)) view old view' new) kept made
 
-module _ (call : RwCall) (u v w : Option (Numbered View)) (a b c : List Done) (n : ℕ) (goes : still call n ≡ true) (so_far : Moves (Seeks call n) u a v b) where
-  begun : Moves (Begins call Waits) u a v b
-  begun = subst (λ x. Moves (Begins call (Left x)) u a v b) goes so_far
+module _ {T : Type 0} (v₀ : T) (call : RwCall) (u v w : Option (Numbered View)) (a b c : List (Done T)) (n : ℕ) (goes : still call n ≡ true) (so_far : Moves v₀ (Seeks call n) u a v b) where
+  begun : Moves v₀ (Begins call Waits) u a v b
+  begun = subst (λ x. Moves v₀ (Begins call (Left x)) u a v b) goes so_far
 
   -- an exchange of the call that goes on
-  pub then_granted : Moves (IsStep true call (Answered Granted None)) v b w c → Called call Granted u a w c
-  then_granted made = call_ends model u v w a b c call Granted begun (passes.ends model v w b c call Granted made)
+  pub then_granted : Moves v₀ (IsStep true call (Answered Granted None)) v b w c → Called v₀ call Granted u a w c
+  then_granted made = call_ends (model v₀) u v w a b c call Granted begun (passes.ends (model v₀) v w b c call Granted made)
 
-  pub then_missed : (m : ℕ) → Moves (IsStep true call (missed call m)) v b w c → Moves (Seeks call m) u a w c
+  pub then_missed : (m : ℕ) → Moves v₀ (IsStep true call (missed call m)) v b w c → Moves v₀ (Seeks call m) u a w c
   then_missed m made =
-      made_both model u v w a b c (Begins call Waits) (Left (still call m)) (Seeks call m) (passes.begun call Waits (Left (still call m)) (Left (still call m)) (waits_left (still call m))) begun
-      (weaker model v w b c (IsStep true call (missed call m)) (Left (still call m)) (λ own outs s. left_by (still call m) (missed call m) (missed_is call m) own outs s.0 s.1) made)
+      made_both (model v₀) u v w a b c (Begins call Waits) (Left (still call m)) (Seeks call m) (passes.begun call Waits (Left (still call m)) (Left (still call m)) (waits_left (still call m))) begun
+      (weaker (model v₀) v w b c (IsStep true call (missed call m)) (Left (still call m)) (λ own outs s. left_by (still call m) (missed call m) (missed_is call m) own outs s.0 s.1) made)
 
 -- a look of a call that waits
-pub then_looked : (won : View) → Comes won → (u v w : Option (Numbered View)) (a b c : List Done) (n m : ℕ) → Moves (Seeks (call_of won true) n) u a v b → Moves (IsStep true (call_of won true) GoingOn) v b w c → Moves (Seeks (call_of won true) m) u a w c
-then_looked won cm u v w a b c n m so_far made =
+pub then_looked : {T : Type 0} (v₀ : T) (won : View) → Comes won → (u v w : Option (Numbered View)) (a b c : List (Done T)) (n m : ℕ) → Moves v₀ (Seeks (call_of won true) n) u a v b → Moves v₀ (IsStep true (call_of won true) GoingOn) v b w c → Moves v₀ (Seeks (call_of won true) m) u a w c
+then_looked v₀ won cm u v w a b c n m so_far made =
     let call = call_of won true in
-    subst (λ x. Moves (Begins call (Left x)) u a w c) (sym (waiting won cm m)) (call_waits model u v w a b c call (begun call u v w a b c n (waiting won cm n) so_far) (passes.goes model v w b c call made))
+    subst (λ x. Moves v₀ (Begins call (Left x)) u a w c) (sym (waiting won cm m)) (call_waits (model v₀) u v w a b c call (begun v₀ call u v w a b c n (waiting won cm n) so_far) (passes.goes (model v₀) v w b c call made))

@@ -1,10 +1,11 @@
--- The steps of a read-write lock keep its rule: each is the plain step that its step function makes, and moves of the lock's model.
+-- The steps of a read-write lock keep its rule. Each is the plain step that its step function makes, and moves of the
+-- lock's model.
 use Rattle.std.proofs.Common.{◌≡◌, ◌≢◌, ℕ, ◌+◌, ◌-◌, ◌%◌, ◌^◌, ◌<◌, ◌≤◌, Bool, true, false, List, [], ◌∷◌, length, ◌==◌, Option, Some, None, if◌then◌else◌, refl, sym, ap, ◌∙◌, subst, arith, eq-eqb, ne_eqb}
 use Rattle.std.proofs.lemmas.List.Sums.{count_by-le-length}
 use Rattle.std.specs.List.{list_all}
 use mathlib.Core.Logic.{inl, inr}
 use prog.Atomic.{either}
-use Rattle.spin_step.specs.Plain.{Plain, Kind, reading, upgradable, asking, writing, Holder, is_holder, may_turn, with_kind, weight, is_reader, reader_count, Ask, apply, gets, releases, turns, to_read, to_read_upgradable, to_write, to_upgrade, to_upgrade_asked, rw_word}
+use Rattle.spin_step.specs.Plain.{Plain, Kind, reading, upgradable, asking, writing, Holder, is_holder, may_turn, with_kind, weight, is_reader, reader_count, apply, gets, turns, to_read, to_read_upgradable, to_write, to_upgrade, to_upgrade_asked, rw_word}
 use Rattle.spin_step.specs.Parties.{entries_after}
 use Rattle.spin_step.specs.Steps.{Decides}
 use Rattle.spin_step_more.specs.Readers.{reader_limit, OneOfEach, readers_in, writers_in}
@@ -15,28 +16,32 @@ use Rattle.spin_model.specs.declared.place.Seat.{Seat}
 use Rattle.spin_model.specs.declared.place.Seat.TheVariants as seat
 use Rattle.spin_model.specs.Schedules.{after}
 use Rattle.spin_step_more.specs.declared.rw_calls.RwPoint.{RwPoint}
-use Rattle.spin_model.specs.declared.schedule.Move.TheVariants.{Begin, Step}
-use Rattle.spin_model.specs.declared.schedule.Outcome.TheVariants.{Begun, Answered, GoingOn}
-use Rattle.spin_core.specs.Cell.{Ways, lends, no_fact, writes, Meets, Allows, Rests}
+use Rattle.spin_model.specs.declared.schedule.Move.TheVariants.{Begin, Step, Write}
+use Rattle.spin_model.specs.declared.schedule.Outcome.TheVariants.{Begun, Answered, GoingOn, Written}
+use Rattle.spin_core.specs.Cell.{Use, off, reads, lends, writes, use_of, Meets, Allows, Rests}
 use Rattle.spin_core.specs.Own.{Numbered, what}
 use Rattle.spin_core.specs.Run.{AreMoves, on_first, first, Goes, is_of_call, is_played, outcomes, of_one}
+use Rattle.spin_core.specs.Passes.{step_by}
 use Rattle.spin_core.specs.Traced.{Traces}
-use Rattle.spin_core.specs.Views.{Knows, idle, holds, entries_of, HasPart, no_word}
+use Rattle.spin_core.specs.Values.{left, Leaves, last}
+use Rattle.spin_core.specs.Views.{Knows, idle, holds, entries_of, no_word}
+use Rattle.spin_core.specs.declared.tie.Opening.{Opening}
 use Rattle.spin_core.specs.declared.trace.Trace.{Trace}
 use Rattle.spin_step.specs.Orders.{IsInOrder}
-use Rattle.spin_step.proofs.Sums.{by_kinds, all_kinds, sum-less, sum-turned, length-with_kind}
+use Rattle.spin_step.proofs.Sums.{by_kinds, all_kinds, sum-turned, length-with_kind}
 use Rattle.spin_step.proofs.Holders.{is_holder-from_entries}
 use Rattle.spin_core.proofs.Leaving.{rw_word-up, no_word-up}
 use Rattle.spin_core.proofs.Owners.{OfReaders, readers_or_writer}
 use Rattle.spin_core.proofs.Plays as plays
 use Rattle.spin_core.proofs.Plays.{Lock, ways, allows, allows_among, by_step, by_none, Weighs, less_by, looks_at, gets_at, exchanges_at, leaves_at, begins}
 use Rattle.spin_core.proofs.Ties as tie
+use Rattle.spin_core.proofs.Values.{step_leaves, write_leaves, owed}
 use Rattle.spin_step_more.proofs.Readers.{one_of_each, word_of}
-use Rattle.spin_core.proofs.Views.{part_before, release-own, turn-own}
+use Rattle.spin_core.proofs.Views.{part_before, turn-own}
 use Rattle.spin_rwlock.specs.declared.rwlock.rule.View.{View}
 use Rattle.spin_rwlock.specs.declared.rwlock.rule.View.TheVariants.{Idle, Reading, Upgradable, Asking, Writing, WritingAsked, Coming, WaitingToWrite}
 use Rattle.spin_rwlock.specs.Rw as rws
-use Rattle.spin_rwlock.specs.Rw.{part, Word, IsRw, IsRwWord, Told, Says, OneMove, Ending, use_of_view, use_of_party, seat_of, model, words_of, in_call, IsOut, grants, missed, call_of, asks, came, Comes, MayCome, MayWrite, ends_by, counts_by, writes_by, asks_by, upgrades_by, looks_by, comes_by, peeks_by, either_at, given, granted_or_on}
+use Rattle.spin_rwlock.specs.Rw.{part, Word, IsRw, rw_ways, IsRwWord, Told, Says, OneMove, Ending, use_of_view, use_of_party, seat_of, model, words_of, in_call, IsOut, grants, missed, call_of, asks, came, Comes, MayCome, MayWrite, IsGrant, IsArrival, IsPeek, ends_by, leaves_with, leaves_by, counts_by, writes_by, asks_by, upgrades_by, looks_by, comes_by, peeks_by, either_at, given, granted_or_on}
 
 pub kind : (v : View) → OfReaders part v
 kind Reading = (λ p. refl, λ p. refl)
@@ -61,7 +66,7 @@ rw-lock = record {
   names_nobody = (rw_word-up, no_word-up);
 }
 
--- What the rule says of the word and of the party where it steps
+-- What the rule says of the word and of the party when the party steps
 
 -- no sum wraps below the cap
 pub bounded : (hs : List Holder) → length hs ≤ reader_limit → word_of hs < 2 ^ 63
@@ -70,11 +75,11 @@ bounded hs within = omega (arith, by_kinds weight hs, all_kinds hs, within)
 pub fits_cap : (s : Plain) → s.cap ≡ reader_limit → IsInOrder s → length s.holders ≤ reader_limit
 fits_cap s room order = omega (arith, order.holders_fit, room)
 
--- so many read in a lock whose holders are within its cap
+-- if the holders are within the cap, so are the readers
 pub readers_fit : (word count : ℕ) → IsRwWord word → ((s : Plain) → OneOfEach s → rw_word s ≡ word → count ≡ reader_count s.holders) → count ≤ reader_limit
 readers_fit word count (s, room, order, e) plain = omega (arith, plain s (one_of_each s order.exclusive) (sym e), count_by-le-length (λ (h : Holder). is_reader h.kind) s.holders, fits_cap s room order)
 
--- The party comes to a view by the number found, where this holds of the number
+-- The party gets a view by the number found, and this holds of the number
 abbrev To : (ℕ → Type 0) → (ℕ → View) → ℕ → View → Type 0
 To P to n v = P n × (v ≡ to n)
 
@@ -117,7 +122,7 @@ turns_by v w k l by was now knows down less = allows rw-lock (Some v) (λ n. (n 
 goes : (v : View) (k : Kind) → ((p : ℕ) → entries_of p (part v) ≡ entries_of p (holds k)) → Allows Word (ways rw-lock) (Some v) (λ n. (n + (2 ^ 64 - weight k)) % 2 ^ 64) (To (Weighs (weight k)) (λ n. Idle))
 goes v k was = leaves_at rw-lock weight (λ s. refl) (λ s room order. bounded s.holders (fits_cap s room order)) v k was
 
--- a free lock lets each in
+-- a free lock admits everyone
 pub opens_free : (won : View) → Comes won → (waits : Bool) → grants (call_of won waits) 0 ≡ None → ⊥
 opens_free Reading cm true none = absurd cc
 opens_free Reading cm false none = absurd cc
@@ -125,7 +130,7 @@ opens_free Upgradable cm true none = absurd cc
 opens_free Upgradable cm false none = absurd cc
 opens_free _ cm waits none = absurd cm
 
--- a reader comes, of the kind of this view
+-- a reader of this view's kind acquires the lock
 abbrev Admits : View → ℕ → ℕ → Type 0
 Admits won old new = (s : Plain) (p : ℕ) → OneOfEach s → s.cap ≡ reader_limit → rw_word s ≡ old → Decides s (gets p (asks won)) rw_word (Some new)
 
@@ -162,149 +167,18 @@ writes_as Writing e p = refl
 writes_as WritingAsked e p = refl
 writes_as _ e p = absurd cc
 
--- The moves of each: a call of the model and its one step, or a step of a call that has begun
-
-abbrev Moves : Option View → (ℕ → ℕ) → (ℕ → View → Type 0) → Says → Type 0
-Moves view f = AreMoves model seat_of words_of view (on_first f) first
-
--- a party that is out sits as one that has not come yet
-module _ (f : ℕ → ℕ) (so : ℕ → View → Type 0) (says : Says) where
-  abbrev FromSeat : Seat RwCall RwPoint → Type 0
-  FromSeat sits =
-      (w : ℕ) (value : Option (Unit {0})) (u : View) → so w u
-      → (own : List OneMove) × (outs : List Ending) × says own outs w u × (list_all is_of_call own ≡ true) × (list_all is_played outs ≡ true) × (w' : ℕ) × (now : Option (Unit {0}))
-      × (after model (record { words = w; value = value; seats = sits ∷ [] }) (of_one model seat_of words_of own) ≡ record { words = w'; value = now; seats = seat_of u ∷ [] }) × (outcomes model (record { words = w; value = value; seats = sits ∷ [] }) (of_one model seat_of words_of own) ≡ outs) × (words_of w' ≡ on_first f (words_of w))
-
-  as_new : (view : Option View) → IsOut view → Moves None f so says → Moves view f so says
-  as_new None out moves = moves
-  as_new (Some v) out moves = subst FromSeat (sym (seat_idle (seat_of v) out)) moves
-
 pub not_in_call : (view : Option View) → IsOut view → in_call view ≡ false
 not_in_call None out = refl
 not_in_call (Some v) out = ap rws.is_calling (seat_idle (seat_of v) out)
 
-readers_moves : Moves None (λ n. n) (To IsRwWord (λ n. Idle)) (counts_by call.ReaderCount readers_in)
-readers_moves w value v (word, is) = rw is (Begin call.ReaderCount ∷ Step ∷ [], Begun ∷ Answered (Count (readers_in w)) None ∷ [], (word, (refl, (refl, refl))), refl, refl, w, value, refl, refl, refl)
-
-writers_moves : Moves None (λ n. n) (To IsRwWord (λ n. Idle)) (counts_by call.WriterCount writers_in)
-writers_moves w value v (word, is) = rw is (Begin call.WriterCount ∷ Step ∷ [], Begun ∷ Answered (Count (writers_in w)) None ∷ [], (word, (refl, (refl, refl))), refl, refl, w, value, refl, refl, refl)
-
 abbrev swaps : ℕ → ℕ → ℕ → ℕ
 swaps old new n = either (n == old) new n
 
-try_write_moves : Moves None (swaps 0 1) (λ n v. v ≡ either_at 0 Writing Idle n) (ends_by call.TryWrite (given 0) (either_at 0 Writing Idle))
-try_write_moves w value v is = (Begin call.TryWrite ∷ Step ∷ [], Begun ∷ Answered (given 0 w) None ∷ [], (is, (refl, refl)), refl, refl, swaps 0 1 w, value, grind (arith, is), grind arith, refl)
-
-write_moves : Moves None (swaps 0 1) (λ n v. v ≡ either_at 0 Writing WaitingToWrite n) (writes_by false 0)
-write_moves w value v is = (Begin call.Write ∷ Step ∷ [], Begun ∷ granted_or_on 0 w ∷ [], (is, (refl, refl)), refl, grind arith, swaps 0 1 w, value, grind (arith, is), grind arith, refl)
-
-write_again : Moves (Some WaitingToWrite) (swaps 0 1) (λ n v. v ≡ either_at 0 Writing WaitingToWrite n) (writes_by true 0)
-write_again w value v is = (Step ∷ [], granted_or_on 0 w ∷ [], (is, (refl, refl)), refl, grind arith, swaps 0 1 w, value, grind (arith, is), grind arith, refl)
-
-write_moves_of : (view : Option View) → MayWrite view → Moves view (swaps 0 1) (λ n v. v ≡ either_at 0 Writing WaitingToWrite n) (writes_by (in_call view) 0)
-write_moves_of view (inl out) = rw (not_in_call view out) (as_new (swaps 0 1) (λ n v. v ≡ either_at 0 Writing WaitingToWrite n) (writes_by false 0) view out write_moves)
-write_moves_of view (inr is) = rw is write_again
-
-try_upgrade_moves : Moves (Some Upgradable) (swaps 2 1) (λ n v. v ≡ either_at 2 Writing Upgradable n) (ends_by call.TryUpgrade (given 2) (either_at 2 Writing Upgradable))
-try_upgrade_moves w value v is = (Begin call.TryUpgrade ∷ Step ∷ [], Begun ∷ Answered (given 2 w) None ∷ [], (is, (refl, refl)), refl, refl, swaps 2 1 w, value, grind (arith, is), grind arith, refl)
-
-ask_moves : Moves (Some Upgradable) (λ n. (n + 4) % 2 ^ 64) (To (Weighs 0) (λ n. Asking)) asks_by
-ask_moves w value v (small, is) = rw is (Begin call.Upgrade ∷ Step ∷ [], Begun ∷ GoingOn ∷ [], (refl, (refl, refl)), refl, refl, w + 4, value, refl, refl, rw (fits_in w 4 small.1 (omega arith)) refl)
-
-upgrade_moves : Moves (Some Asking) (swaps 6 1) (λ n v. v ≡ either_at 6 WritingAsked Asking n) (upgrades_by 6)
-upgrade_moves w value v is = (Step ∷ [], granted_or_on 6 w ∷ [], (is, (refl, refl)), refl, grind arith, swaps 6 1 w, value, grind (arith, is), grind arith, refl)
-
-downgrade_moves : Moves (Some Upgradable) (λ n. (n + 6) % 2 ^ 64) (To (Weighs 0) (λ n. Reading)) (ends_by call.Downgrade (λ n. Done) (λ n. Reading))
-downgrade_moves w value v (small, is) = rw is (Begin call.Downgrade ∷ Step ∷ [], Begun ∷ Answered Done None ∷ [], (refl, (refl, refl)), refl, refl, w + 6, value, refl, refl, rw (fits_in w 6 small.1 (omega arith)) refl)
-
--- a party that writes, whether it asked or not
-writer_reads_moves : (u : View) → use_of_view u ≡ writes → Moves (Some u) (λ n. (n + 7) % 2 ^ 64) (To (Weighs 0) (λ n. Reading)) (ends_by call.Downgrade (λ n. Done) (λ n. Reading))
-writer_reads_moves Writing e w value v (small, is) = rw is (Begin call.Downgrade ∷ Step ∷ [], Begun ∷ Answered Done None ∷ [], (refl, (refl, refl)), refl, refl, w + 7, value, refl, refl, rw (fits_in w 7 small.1 (omega arith)) refl)
-writer_reads_moves WritingAsked e w value v (small, is) = rw is (Begin call.Downgrade ∷ Step ∷ [], Begun ∷ Answered Done None ∷ [], (refl, (refl, refl)), refl, refl, w + 7, value, refl, refl, rw (fits_in w 7 small.1 (omega arith)) refl)
-writer_reads_moves _ e w value v so = absurd cc
-
-writer_upgradable_moves : (u : View) → use_of_view u ≡ writes → Moves (Some u) (λ n. (n + 1) % 2 ^ 64) (To (Weighs 0) (λ n. Upgradable)) (ends_by call.DowngradeToUpgradeable (λ n. Done) (λ n. Upgradable))
-writer_upgradable_moves Writing e w value v (small, is) = rw is (Begin call.DowngradeToUpgradeable ∷ Step ∷ [], Begun ∷ Answered Done None ∷ [], (refl, (refl, refl)), refl, refl, w + 1, value, refl, refl, rw (fits_in w 1 small.1 (omega arith)) refl)
-writer_upgradable_moves WritingAsked e w value v (small, is) = rw is (Begin call.DowngradeToUpgradeable ∷ Step ∷ [], Begun ∷ Answered Done None ∷ [], (refl, (refl, refl)), refl, refl, w + 1, value, refl, refl, rw (fits_in w 1 small.1 (omega arith)) refl)
-writer_upgradable_moves _ e w value v so = absurd cc
-
--- a holder leaves, of this weight
+-- a reader leaves, of this weight
 abbrev Holds : View → ℕ → Type 0
 Holds Reading k = k ≡ 8
 Holds Upgradable k = k ≡ 2
-Holds Writing k = k ≡ 1
-Holds WritingAsked k = k ≡ 1
 Holds _ k = ⊥
-
-release_moves : (u : View) (k : ℕ) → Holds u k → Moves (Some u) (λ n. (n + (2 ^ 64 - k)) % 2 ^ 64) (To (Weighs k) (λ n. Idle)) (ends_by call.Release (λ n. Done) (λ n. Idle))
-release_moves Reading k e w value v (some, is) = rw (is, e) (Begin call.Release ∷ Step ∷ [], Begun ∷ Answered Done None ∷ [], (refl, (refl, refl)), refl, refl, w - 8, value, refl, refl, rw (less_by w 8 (rw e at some)) refl)
-release_moves Upgradable k e w value v (some, is) = rw (is, e) (Begin call.Release ∷ Step ∷ [], Begun ∷ Answered Done None ∷ [], (refl, (refl, refl)), refl, refl, w - 2, value, refl, refl, rw (less_by w 2 (rw e at some)) refl)
-release_moves Writing k e w value v (some, is) = rw (is, e) (Begin call.Release ∷ Step ∷ [], Begun ∷ Answered Done None ∷ [], (refl, (refl, refl)), refl, refl, w - 1, value, refl, refl, rw (less_by w 1 (rw e at some)) refl)
-release_moves WritingAsked k e w value v (some, is) = rw (is, e) (Begin call.Release ∷ Step ∷ [], Begun ∷ Answered Done None ∷ [], (refl, (refl, refl)), refl, refl, w - 1, value, refl, refl, rw (less_by w 1 (rw e at some)) refl)
-release_moves _ k e w value v so = absurd e
-
-one_of_writers : (u : View) → use_of_view u ≡ writes → Holds u 1
-one_of_writers Writing e = refl
-one_of_writers WritingAsked e = refl
-one_of_writers _ e = absurd cc
-
--- The moves of a reader that comes
-
-abbrev Leads : Option View → ℕ → ℕ → (ℕ → View) → Says → Type 0
-Leads view old new to says = (w : ℕ) (value : Option (Unit {0})) (v : View) → v ≡ to w → (b : Bool) → (w == old) ≡ b → Goes model seat_of words_of view v w value (swaps old new w, tt) (λ own outs. says own outs w v)
-
-by_found : (view : Option View) (old new : ℕ) (to : ℕ → View) (says : Says) → Leads view old new to says → Moves view (swaps old new) (λ n v. v ≡ to n) says
-by_found view old new to says goes w value v is = goes w value v is (w == old) refl
-
--- the exchange of 0, by which it comes: two steps of the model where it wins, and one where it loses
-try_read_first : (new : ℕ) → grants call.TryRead 0 ≡ Some new → Leads None 0 new (came Reading call.TryRead 0) (comes_by false Reading call.TryRead 0)
-try_read_first new grant w value v is true e = (Begin call.TryRead ∷ Step ∷ Step ∷ [], Begun ∷ GoingOn ∷ Answered Granted None ∷ [], (is, rw e (refl, refl)), refl, refl, new, value, grind (arith, is, e, grant), grind (arith, is, e, grant), grind (arith, e))
-try_read_first new grant w value v is false e = (Begin call.TryRead ∷ Step ∷ [], Begun ∷ missed call.TryRead w ∷ [], (is, rw e (refl, refl)), refl, grind arith, w, value, grind (arith, is, e, grant), grind (arith, e), grind (arith, e))
-
-read_first : (new : ℕ) → grants call.Read 0 ≡ Some new → Leads None 0 new (came Reading call.Read 0) (comes_by false Reading call.Read 0)
-read_first new grant w value v is true e = (Begin call.Read ∷ Step ∷ Step ∷ [], Begun ∷ GoingOn ∷ Answered Granted None ∷ [], (is, rw e (refl, refl)), refl, refl, new, value, grind (arith, is, e, grant), grind (arith, is, e, grant), grind (arith, e))
-read_first new grant w value v is false e = (Begin call.Read ∷ Step ∷ [], Begun ∷ missed call.Read w ∷ [], (is, rw e (refl, refl)), refl, grind arith, w, value, grind (arith, is, e, grant), grind (arith, e), grind (arith, e))
-
-try_upgradable_first : (new : ℕ) → grants call.TryUpgradeableRead 0 ≡ Some new → Leads None 0 new (came Upgradable call.TryUpgradeableRead 0) (comes_by false Upgradable call.TryUpgradeableRead 0)
-try_upgradable_first new grant w value v is true e = (Begin call.TryUpgradeableRead ∷ Step ∷ Step ∷ [], Begun ∷ GoingOn ∷ Answered Granted None ∷ [], (is, rw e (refl, refl)), refl, refl, new, value, grind (arith, is, e, grant), grind (arith, is, e, grant), grind (arith, e))
-try_upgradable_first new grant w value v is false e = (Begin call.TryUpgradeableRead ∷ Step ∷ [], Begun ∷ missed call.TryUpgradeableRead w ∷ [], (is, rw e (refl, refl)), refl, grind arith, w, value, grind (arith, is, e, grant), grind (arith, e), grind (arith, e))
-
-upgradable_first : (new : ℕ) → grants call.UpgradeableRead 0 ≡ Some new → Leads None 0 new (came Upgradable call.UpgradeableRead 0) (comes_by false Upgradable call.UpgradeableRead 0)
-upgradable_first new grant w value v is true e = (Begin call.UpgradeableRead ∷ Step ∷ Step ∷ [], Begun ∷ GoingOn ∷ Answered Granted None ∷ [], (is, rw e (refl, refl)), refl, refl, new, value, grind (arith, is, e, grant), grind (arith, is, e, grant), grind (arith, e))
-upgradable_first new grant w value v is false e = (Begin call.UpgradeableRead ∷ Step ∷ [], Begun ∷ missed call.UpgradeableRead w ∷ [], (is, rw e (refl, refl)), refl, grind arith, w, value, grind (arith, is, e, grant), grind (arith, e), grind (arith, e))
-
--- a further exchange, of the word that it found
-try_read_again : (old new : ℕ) → grants call.TryRead old ≡ Some new → Leads (Some (Coming call.TryRead old)) old new (came Reading call.TryRead old) (comes_by true Reading call.TryRead old)
-try_read_again old new grant w value v is true e = (Step ∷ [], Answered Granted None ∷ [], (is, rw e (refl, refl)), refl, refl, new, value, grind (arith, is, e, grant), grind (arith, is, e, grant), grind (arith, e))
-try_read_again old new grant w value v is false e = (Step ∷ [], missed call.TryRead w ∷ [], (is, rw e (refl, refl)), refl, grind arith, w, value, grind (arith, is, e, grant), grind (arith, e, grant), grind (arith, e))
-
-read_again : (old new : ℕ) → grants call.Read old ≡ Some new → Leads (Some (Coming call.Read old)) old new (came Reading call.Read old) (comes_by true Reading call.Read old)
-read_again old new grant w value v is true e = (Step ∷ [], Answered Granted None ∷ [], (is, rw e (refl, refl)), refl, refl, new, value, grind (arith, is, e, grant), grind (arith, is, e, grant), grind (arith, e))
-read_again old new grant w value v is false e = (Step ∷ [], missed call.Read w ∷ [], (is, rw e (refl, refl)), refl, grind arith, w, value, grind (arith, is, e, grant), grind (arith, e, grant), grind (arith, e))
-
-try_upgradable_again : (old new : ℕ) → grants call.TryUpgradeableRead old ≡ Some new → Leads (Some (Coming call.TryUpgradeableRead old)) old new (came Upgradable call.TryUpgradeableRead old) (comes_by true Upgradable call.TryUpgradeableRead old)
-try_upgradable_again old new grant w value v is true e = (Step ∷ [], Answered Granted None ∷ [], (is, rw e (refl, refl)), refl, refl, new, value, grind (arith, is, e, grant), grind (arith, is, e, grant), grind (arith, e))
-try_upgradable_again old new grant w value v is false e = (Step ∷ [], missed call.TryUpgradeableRead w ∷ [], (is, rw e (refl, refl)), refl, grind arith, w, value, grind (arith, is, e, grant), grind (arith, e, grant), grind (arith, e))
-
-upgradable_again : (old new : ℕ) → grants call.UpgradeableRead old ≡ Some new → Leads (Some (Coming call.UpgradeableRead old)) old new (came Upgradable call.UpgradeableRead old) (comes_by true Upgradable call.UpgradeableRead old)
-upgradable_again old new grant w value v is true e = (Step ∷ [], Answered Granted None ∷ [], (is, rw e (refl, refl)), refl, refl, new, value, grind (arith, is, e, grant), grind (arith, is, e, grant), grind (arith, e))
-upgradable_again old new grant w value v is false e = (Step ∷ [], missed call.UpgradeableRead w ∷ [], (is, rw e (refl, refl)), refl, grind arith, w, value, grind (arith, is, e, grant), grind (arith, e, grant), grind (arith, e))
-
--- where the call begins it may be any party that is out
-first_moves : (won : View) (waits : Bool) → Comes won → (new : ℕ) → grants (call_of won waits) 0 ≡ Some new → Moves None (swaps 0 new) (λ n v. v ≡ came won (call_of won waits) 0 n) (comes_by false won (call_of won waits) 0)
-first_moves Reading false cm new grant = by_found None 0 new (came Reading call.TryRead 0) (comes_by false Reading call.TryRead 0) (try_read_first new grant)
-first_moves Reading true cm new grant = by_found None 0 new (came Reading call.Read 0) (comes_by false Reading call.Read 0) (read_first new grant)
-first_moves Upgradable false cm new grant = by_found None 0 new (came Upgradable call.TryUpgradeableRead 0) (comes_by false Upgradable call.TryUpgradeableRead 0) (try_upgradable_first new grant)
-first_moves Upgradable true cm new grant = by_found None 0 new (came Upgradable call.UpgradeableRead 0) (comes_by false Upgradable call.UpgradeableRead 0) (upgradable_first new grant)
-first_moves _ waits cm new grant = absurd cm
-
-again_moves : (won : View) (waits : Bool) → Comes won → (old new : ℕ) → grants (call_of won waits) old ≡ Some new
-    → Moves (Some (Coming (call_of won waits) old)) (swaps old new) (λ n v. v ≡ came won (call_of won waits) old n) (comes_by true won (call_of won waits) old)
-again_moves Reading false cm old new grant = by_found (Some (Coming call.TryRead old)) old new (came Reading call.TryRead old) (comes_by true Reading call.TryRead old) (try_read_again old new grant)
-again_moves Reading true cm old new grant = by_found (Some (Coming call.Read old)) old new (came Reading call.Read old) (comes_by true Reading call.Read old) (read_again old new grant)
-again_moves Upgradable false cm old new grant = by_found (Some (Coming call.TryUpgradeableRead old)) old new (came Upgradable call.TryUpgradeableRead old) (comes_by true Upgradable call.TryUpgradeableRead old) (try_upgradable_again old new grant)
-again_moves Upgradable true cm old new grant = by_found (Some (Coming call.UpgradeableRead old)) old new (came Upgradable call.UpgradeableRead old) (comes_by true Upgradable call.UpgradeableRead old) (upgradable_again old new grant)
-again_moves _ waits cm old new grant = absurd cm
 
 -- a party in the call that goes on
 pub in_its_call : (won : View) (waits : Bool) → Comes won → (old new : ℕ) → grants (call_of won waits) old ≡ Some new → in_call (Some (Coming (call_of won waits) old)) ≡ true
@@ -314,126 +188,391 @@ in_its_call Upgradable false cm old new grant = rw grant refl
 in_its_call Upgradable true cm old new grant = rw grant refl
 in_its_call _ waits cm old new grant = absurd cm
 
-come_moves : (won : View) (waits : Bool) → Comes won → (view : Option View) (old new : ℕ) → MayCome (call_of won waits) old view → grants (call_of won waits) old ≡ Some new
-    → Moves view (swaps old new) (λ n v. v ≡ came won (call_of won waits) old n) (comes_by (in_call view) won (call_of won waits) old)
-come_moves won waits cm view old new (inl (out, free)) grant =
-    let c = call_of won waits in
-    rw (not_in_call view out, free) (as_new (swaps 0 new) (λ n v. v ≡ came won c 0 n) (comes_by false won c 0) view out (first_moves won waits cm new (rw free at grant)))
-come_moves won waits cm view old new (inr is) grant = rw (is, in_its_call won waits cm old new grant) (again_moves won waits cm old new grant)
-
--- the load of a call that waits, after a word that keeps it out
-look_moves : (won : View) → Comes won → (old : ℕ) → grants (call_of won true) old ≡ None → Moves (Some (Coming (call_of won true) old)) (λ n. n) (λ n v. v ≡ Coming (call_of won true) n) (looks_by (call_of won true))
-look_moves Reading cm old none w value v is = rw is (Step ∷ [], GoingOn ∷ [], (refl, (refl, refl)), refl, refl, w, value, grind (arith, none), grind (arith, none), refl)
-look_moves Upgradable cm old none w value v is = rw is (Step ∷ [], GoingOn ∷ [], (refl, (refl, refl)), refl, refl, w, value, grind (arith, none), grind (arith, none), refl)
-look_moves _ cm old none w value v is = absurd cm
-
--- the exchange of `{:?}`: a try where it wins, and else a look, which its party makes of no more use than a count
-peek_first : (old new : ℕ) → grants call.TryRead old ≡ Some new → Leads None old new (either_at old Reading Idle) (peeks_by old)
-peek_first old new grant w value v is true e = (Begin call.TryRead ∷ Step ∷ Step ∷ [], Begun ∷ GoingOn ∷ Answered Granted None ∷ [], (is, rw e (refl, refl)), refl, refl, new, value, grind (arith, is, e, grant), grind (arith, is, e, grant), grind (arith, e))
-peek_first old new grant w value v is false e = (Begin call.ReaderCount ∷ Step ∷ [], Begun ∷ Answered (Count (readers_in w)) None ∷ [], (is, rw e (refl, refl)), refl, refl, w, value, grind (arith, is, e), refl, grind (arith, e))
-
 sits_idle : (won : View) → Comes won → (n : ℕ) → grants (call_of won false) n ≡ None → seat_of (Coming (call_of won false) n) ≡ seat.Idle
 sits_idle Reading cm n none = rw none refl
 sits_idle Upgradable cm n none = rw none refl
 sits_idle _ cm n none = absurd cm
 
+-- The moves of each: a call of the model and its one step, or a step of a call that has begun
+
+module _ {T : Type 0} (v₀ : T) where
+  abbrev Moves : Option View → (ℕ → ℕ) → (ℕ → View → Type 0) → Says T → Type 0
+  Moves view f = AreMoves (model v₀) seat_of words_of view (on_first f) first
+
+  -- a party that is out sits as one that has not come yet
+  module _ (f : ℕ → ℕ) (so : ℕ → View → Type 0) (says : Says T) where
+    abbrev FromSeat : Seat RwCall RwPoint → Type 0
+    FromSeat sits =
+        (w : ℕ) (value : Option T) (u : View) → so w u
+        → (own : List (OneMove T)) × (outs : List (Ending T)) × says own outs w u × (list_all is_of_call own ≡ true) × (list_all is_played outs ≡ true) × (w' : ℕ) × (now : Option T)
+        × (after (model v₀) (record { words = w; value = value; seats = sits ∷ [] }) (of_one (model v₀) seat_of words_of own) ≡ record { words = w'; value = now; seats = seat_of u ∷ [] }) × (outcomes (model v₀) (record { words = w; value = value; seats = sits ∷ [] }) (of_one (model v₀) seat_of words_of own) ≡ outs) × (words_of w' ≡ on_first f (words_of w))
+
+    as_new : (view : Option View) → IsOut view → Moves None f so says → Moves view f so says
+    as_new None out moves = moves
+    as_new (Some v) out moves = subst FromSeat (sym (seat_idle (seat_of v) out)) moves
+
+  readers_moves : Moves None (λ n. n) (To IsRwWord (λ n. Idle)) (counts_by call.ReaderCount readers_in)
+  readers_moves w value v (word, is) = rw is (Begin call.ReaderCount ∷ Step ∷ [], Begun ∷ Answered (Count (readers_in w)) None ∷ [], (word, (refl, (refl, refl))), refl, refl, w, value, refl, refl, refl)
+
+  writers_moves : Moves None (λ n. n) (To IsRwWord (λ n. Idle)) (counts_by call.WriterCount writers_in)
+  writers_moves w value v (word, is) = rw is (Begin call.WriterCount ∷ Step ∷ [], Begun ∷ Answered (Count (writers_in w)) None ∷ [], (word, (refl, (refl, refl))), refl, refl, w, value, refl, refl, refl)
+
+  try_write_moves : Moves None (swaps 0 1) (λ n v. v ≡ either_at 0 Writing Idle n) (ends_by call.TryWrite (given 0) (either_at 0 Writing Idle))
+  try_write_moves w value v is = (Begin call.TryWrite ∷ Step ∷ [], Begun ∷ Answered (given 0 w) None ∷ [], (is, (refl, refl)), refl, refl, swaps 0 1 w, value, grind (arith, is), grind arith, refl)
+
+  write_moves : Moves None (swaps 0 1) (λ n v. v ≡ either_at 0 Writing WaitingToWrite n) (writes_by false 0)
+  write_moves w value v is = (Begin call.Write ∷ Step ∷ [], Begun ∷ granted_or_on 0 w ∷ [], (is, (refl, refl)), refl, grind arith, swaps 0 1 w, value, grind (arith, is), grind arith, refl)
+
+  write_again : Moves (Some WaitingToWrite) (swaps 0 1) (λ n v. v ≡ either_at 0 Writing WaitingToWrite n) (writes_by true 0)
+  write_again w value v is = (Step ∷ [], granted_or_on 0 w ∷ [], (is, (refl, refl)), refl, grind arith, swaps 0 1 w, value, grind (arith, is), grind arith, refl)
+
+  write_moves_of : (view : Option View) → MayWrite view → Moves view (swaps 0 1) (λ n v. v ≡ either_at 0 Writing WaitingToWrite n) (writes_by (in_call view) 0)
+  write_moves_of view (inl out) = rw (not_in_call view out) (as_new (swaps 0 1) (λ n v. v ≡ either_at 0 Writing WaitingToWrite n) (writes_by false 0) view out write_moves)
+  write_moves_of view (inr is) = rw is write_again
+
+  try_upgrade_moves : Moves (Some Upgradable) (swaps 2 1) (λ n v. v ≡ either_at 2 Writing Upgradable n) (ends_by call.TryUpgrade (given 2) (either_at 2 Writing Upgradable))
+  try_upgrade_moves w value v is = (Begin call.TryUpgrade ∷ Step ∷ [], Begun ∷ Answered (given 2 w) None ∷ [], (is, (refl, refl)), refl, refl, swaps 2 1 w, value, grind (arith, is), grind arith, refl)
+
+  ask_moves : Moves (Some Upgradable) (λ n. (n + 4) % 2 ^ 64) (To (Weighs 0) (λ n. Asking)) asks_by
+  ask_moves w value v (small, is) = rw is (Begin call.Upgrade ∷ Step ∷ [], Begun ∷ GoingOn ∷ [], (refl, (refl, refl)), refl, refl, w + 4, value, refl, refl, rw (fits_in w 4 small.1 (omega arith)) refl)
+
+  upgrade_moves : Moves (Some Asking) (swaps 6 1) (λ n v. v ≡ either_at 6 WritingAsked Asking n) (upgrades_by 6)
+  upgrade_moves w value v is = (Step ∷ [], granted_or_on 6 w ∷ [], (is, (refl, refl)), refl, grind arith, swaps 6 1 w, value, grind (arith, is), grind arith, refl)
+
+  downgrade_moves : Moves (Some Upgradable) (λ n. (n + 6) % 2 ^ 64) (To (Weighs 0) (λ n. Reading)) (ends_by call.Downgrade (λ n. Done) (λ n. Reading))
+  downgrade_moves w value v (small, is) = rw is (Begin call.Downgrade ∷ Step ∷ [], Begun ∷ Answered Done None ∷ [], (refl, (refl, refl)), refl, refl, w + 6, value, refl, refl, rw (fits_in w 6 small.1 (omega arith)) refl)
+
+  -- a party that writes, whether it asked or not: it writes the value x first
+  writer_moves : (x : T) (u : View) → use_of_view u ≡ writes → (f : ℕ → ℕ) (so : ℕ → View → Type 0) (c : RwCall) (to : View)
+      → ((w : ℕ) (v : View) → so w v → (v ≡ to) × ((value : Option T) → Goes (model v₀) seat_of words_of (Some Writing) to w value (f w, tt) (λ own outs. leaves_with (λ y. y ≡ x) c to own outs w to))) → Moves (Some u) f so (leaves_with (λ y. y ≡ x) c to)
+  writer_moves x Writing e f so c to goes w value v is = let g = goes w v is in rw g.0 (g.1 value)
+  writer_moves x WritingAsked e f so c to goes w value v is = let g = goes w v is in rw g.0 (g.1 value)
+  writer_moves x _ e f so c to goes w value v is = absurd cc
+
+  writer_reads_moves : (x : T) (u : View) → use_of_view u ≡ writes → Moves (Some u) (λ n. (n + 7) % 2 ^ 64) (To (Weighs 0) (λ n. Reading)) (leaves_with (λ y. y ≡ x) call.Downgrade Reading)
+  writer_reads_moves x u e = writer_moves x u e (λ n. (n + 7) % 2 ^ 64) (To (Weighs 0) (λ n. Reading)) call.Downgrade Reading (λ w v (small, is). (
+    is,
+    λ value. (
+      Write x ∷ Begin call.Downgrade ∷ Step ∷ [],
+      Written ∷ Begun ∷ Answered Done None ∷ [],
+      (refl, (x, refl, (Begin call.Downgrade ∷ Step ∷ [], Begun ∷ Answered Done None ∷ [], refl, refl, (refl, refl)))),
+      refl,
+      refl,
+      w + 7,
+      Some x,
+      refl,
+      refl,
+      rw (fits_in w 7 small.1 (omega arith)) refl,
+    ),
+  ))
+
+  writer_upgradable_moves : (x : T) (u : View) → use_of_view u ≡ writes → Moves (Some u) (λ n. (n + 1) % 2 ^ 64) (To (Weighs 0) (λ n. Upgradable)) (leaves_with (λ y. y ≡ x) call.DowngradeToUpgradeable Upgradable)
+  writer_upgradable_moves x u e = writer_moves x u e (λ n. (n + 1) % 2 ^ 64) (To (Weighs 0) (λ n. Upgradable)) call.DowngradeToUpgradeable Upgradable (λ w v (small, is). (
+    is,
+    λ value. (
+      Write x ∷ Begin call.DowngradeToUpgradeable ∷ Step ∷ [],
+      Written ∷ Begun ∷ Answered Done None ∷ [],
+      (refl, (x, refl, (Begin call.DowngradeToUpgradeable ∷ Step ∷ [], Begun ∷ Answered Done None ∷ [], refl, refl, (refl, refl)))),
+      refl,
+      refl,
+      w + 1,
+      Some x,
+      refl,
+      refl,
+      rw (fits_in w 1 small.1 (omega arith)) refl,
+    ),
+  ))
+
+  writer_leaves_moves : (x : T) (u : View) → use_of_view u ≡ writes → Moves (Some u) (λ n. (n + (2 ^ 64 - 1)) % 2 ^ 64) (To (Weighs 1) (λ n. Idle)) (leaves_with (λ y. y ≡ x) call.Release Idle)
+  writer_leaves_moves x u e = writer_moves x u e (λ n. (n + (2 ^ 64 - 1)) % 2 ^ 64) (To (Weighs 1) (λ n. Idle)) call.Release Idle (λ w v (some, is). (
+    is,
+    λ value. (
+      Write x ∷ Begin call.Release ∷ Step ∷ [],
+      Written ∷ Begun ∷ Answered Done None ∷ [],
+      (refl, (x, refl, (Begin call.Release ∷ Step ∷ [], Begun ∷ Answered Done None ∷ [], refl, refl, (refl, refl)))),
+      refl,
+      refl,
+      w - 1,
+      Some x,
+      refl,
+      refl,
+      rw (less_by w 1 some) refl,
+    ),
+  ))
+
+  release_moves : (u : View) (k : ℕ) → Holds u k → Moves (Some u) (λ n. (n + (2 ^ 64 - k)) % 2 ^ 64) (To (Weighs k) (λ n. Idle)) (ends_by call.Release (λ n. Done) (λ n. Idle))
+  release_moves Reading k e w value v (some, is) = rw (is, e) (Begin call.Release ∷ Step ∷ [], Begun ∷ Answered Done None ∷ [], (refl, (refl, refl)), refl, refl, w - 8, value, refl, refl, rw (less_by w 8 (rw e at some)) refl)
+  release_moves Upgradable k e w value v (some, is) = rw (is, e) (Begin call.Release ∷ Step ∷ [], Begun ∷ Answered Done None ∷ [], (refl, (refl, refl)), refl, refl, w - 2, value, refl, refl, rw (less_by w 2 (rw e at some)) refl)
+  release_moves _ k e w value v so = absurd e
+
+  -- The moves of a reader that comes
+
+  abbrev Leads : Option View → ℕ → ℕ → (ℕ → View) → Says T → Type 0
+  Leads view old new to says = (w : ℕ) (value : Option T) (v : View) → v ≡ to w → (b : Bool) → (w == old) ≡ b → Goes (model v₀) seat_of words_of view v w value (swaps old new w, tt) (λ own outs. says own outs w v)
+
+  by_found : (view : Option View) (old new : ℕ) (to : ℕ → View) (says : Says T) → Leads view old new to says → Moves view (swaps old new) (λ n v. v ≡ to n) says
+  by_found view old new to says goes w value v is = goes w value v is (w == old) refl
+
+  -- the exchange of 0, by which it comes: two steps of the model where it wins, and one where it loses
+  try_read_first : (new : ℕ) → grants call.TryRead 0 ≡ Some new → Leads None 0 new (came Reading call.TryRead 0) (comes_by false Reading call.TryRead 0)
+  try_read_first new grant w value v is true e = (Begin call.TryRead ∷ Step ∷ Step ∷ [], Begun ∷ GoingOn ∷ Answered Granted None ∷ [], (is, rw e (refl, refl)), refl, refl, new, value, grind (arith, is, e, grant), grind (arith, is, e, grant), grind (arith, e))
+  try_read_first new grant w value v is false e = (Begin call.TryRead ∷ Step ∷ [], Begun ∷ missed call.TryRead w ∷ [], (is, rw e (refl, refl)), refl, grind arith, w, value, grind (arith, is, e, grant), grind (arith, e), grind (arith, e))
+
+  read_first : (new : ℕ) → grants call.Read 0 ≡ Some new → Leads None 0 new (came Reading call.Read 0) (comes_by false Reading call.Read 0)
+  read_first new grant w value v is true e = (Begin call.Read ∷ Step ∷ Step ∷ [], Begun ∷ GoingOn ∷ Answered Granted None ∷ [], (is, rw e (refl, refl)), refl, refl, new, value, grind (arith, is, e, grant), grind (arith, is, e, grant), grind (arith, e))
+  read_first new grant w value v is false e = (Begin call.Read ∷ Step ∷ [], Begun ∷ missed call.Read w ∷ [], (is, rw e (refl, refl)), refl, grind arith, w, value, grind (arith, is, e, grant), grind (arith, e), grind (arith, e))
+
+  try_upgradable_first : (new : ℕ) → grants call.TryUpgradeableRead 0 ≡ Some new → Leads None 0 new (came Upgradable call.TryUpgradeableRead 0) (comes_by false Upgradable call.TryUpgradeableRead 0)
+  try_upgradable_first new grant w value v is true e = (Begin call.TryUpgradeableRead ∷ Step ∷ Step ∷ [], Begun ∷ GoingOn ∷ Answered Granted None ∷ [], (is, rw e (refl, refl)), refl, refl, new, value, grind (arith, is, e, grant), grind (arith, is, e, grant), grind (arith, e))
+  try_upgradable_first new grant w value v is false e = (Begin call.TryUpgradeableRead ∷ Step ∷ [], Begun ∷ missed call.TryUpgradeableRead w ∷ [], (is, rw e (refl, refl)), refl, grind arith, w, value, grind (arith, is, e, grant), grind (arith, e), grind (arith, e))
+
+  upgradable_first : (new : ℕ) → grants call.UpgradeableRead 0 ≡ Some new → Leads None 0 new (came Upgradable call.UpgradeableRead 0) (comes_by false Upgradable call.UpgradeableRead 0)
+  upgradable_first new grant w value v is true e = (Begin call.UpgradeableRead ∷ Step ∷ Step ∷ [], Begun ∷ GoingOn ∷ Answered Granted None ∷ [], (is, rw e (refl, refl)), refl, refl, new, value, grind (arith, is, e, grant), grind (arith, is, e, grant), grind (arith, e))
+  upgradable_first new grant w value v is false e = (Begin call.UpgradeableRead ∷ Step ∷ [], Begun ∷ missed call.UpgradeableRead w ∷ [], (is, rw e (refl, refl)), refl, grind arith, w, value, grind (arith, is, e, grant), grind (arith, e), grind (arith, e))
+
+  -- a further exchange, of the word that it found
+  try_read_again : (old new : ℕ) → grants call.TryRead old ≡ Some new → Leads (Some (Coming call.TryRead old)) old new (came Reading call.TryRead old) (comes_by true Reading call.TryRead old)
+  try_read_again old new grant w value v is true e = (Step ∷ [], Answered Granted None ∷ [], (is, rw e (refl, refl)), refl, refl, new, value, grind (arith, is, e, grant), grind (arith, is, e, grant), grind (arith, e))
+  try_read_again old new grant w value v is false e = (Step ∷ [], missed call.TryRead w ∷ [], (is, rw e (refl, refl)), refl, grind arith, w, value, grind (arith, is, e, grant), grind (arith, e, grant), grind (arith, e))
+
+  read_again : (old new : ℕ) → grants call.Read old ≡ Some new → Leads (Some (Coming call.Read old)) old new (came Reading call.Read old) (comes_by true Reading call.Read old)
+  read_again old new grant w value v is true e = (Step ∷ [], Answered Granted None ∷ [], (is, rw e (refl, refl)), refl, refl, new, value, grind (arith, is, e, grant), grind (arith, is, e, grant), grind (arith, e))
+  read_again old new grant w value v is false e = (Step ∷ [], missed call.Read w ∷ [], (is, rw e (refl, refl)), refl, grind arith, w, value, grind (arith, is, e, grant), grind (arith, e, grant), grind (arith, e))
+
+  try_upgradable_again : (old new : ℕ) → grants call.TryUpgradeableRead old ≡ Some new → Leads (Some (Coming call.TryUpgradeableRead old)) old new (came Upgradable call.TryUpgradeableRead old) (comes_by true Upgradable call.TryUpgradeableRead old)
+  try_upgradable_again old new grant w value v is true e = (Step ∷ [], Answered Granted None ∷ [], (is, rw e (refl, refl)), refl, refl, new, value, grind (arith, is, e, grant), grind (arith, is, e, grant), grind (arith, e))
+  try_upgradable_again old new grant w value v is false e = (Step ∷ [], missed call.TryUpgradeableRead w ∷ [], (is, rw e (refl, refl)), refl, grind arith, w, value, grind (arith, is, e, grant), grind (arith, e, grant), grind (arith, e))
+
+  upgradable_again : (old new : ℕ) → grants call.UpgradeableRead old ≡ Some new → Leads (Some (Coming call.UpgradeableRead old)) old new (came Upgradable call.UpgradeableRead old) (comes_by true Upgradable call.UpgradeableRead old)
+  upgradable_again old new grant w value v is true e = (Step ∷ [], Answered Granted None ∷ [], (is, rw e (refl, refl)), refl, refl, new, value, grind (arith, is, e, grant), grind (arith, is, e, grant), grind (arith, e))
+  upgradable_again old new grant w value v is false e = (Step ∷ [], missed call.UpgradeableRead w ∷ [], (is, rw e (refl, refl)), refl, grind arith, w, value, grind (arith, is, e, grant), grind (arith, e, grant), grind (arith, e))
+
+  -- where the call begins it may be any party that is out
+  first_moves : (won : View) (waits : Bool) → Comes won → (new : ℕ) → grants (call_of won waits) 0 ≡ Some new → Moves None (swaps 0 new) (λ n v. v ≡ came won (call_of won waits) 0 n) (comes_by false won (call_of won waits) 0)
+  first_moves Reading false cm new grant = by_found None 0 new (came Reading call.TryRead 0) (comes_by false Reading call.TryRead 0) (try_read_first new grant)
+  first_moves Reading true cm new grant = by_found None 0 new (came Reading call.Read 0) (comes_by false Reading call.Read 0) (read_first new grant)
+  first_moves Upgradable false cm new grant = by_found None 0 new (came Upgradable call.TryUpgradeableRead 0) (comes_by false Upgradable call.TryUpgradeableRead 0) (try_upgradable_first new grant)
+  first_moves Upgradable true cm new grant = by_found None 0 new (came Upgradable call.UpgradeableRead 0) (comes_by false Upgradable call.UpgradeableRead 0) (upgradable_first new grant)
+  first_moves _ waits cm new grant = absurd cm
+
+  again_moves : (won : View) (waits : Bool) → Comes won → (old new : ℕ) → grants (call_of won waits) old ≡ Some new
+      → Moves (Some (Coming (call_of won waits) old)) (swaps old new) (λ n v. v ≡ came won (call_of won waits) old n) (comes_by true won (call_of won waits) old)
+  again_moves Reading false cm old new grant = by_found (Some (Coming call.TryRead old)) old new (came Reading call.TryRead old) (comes_by true Reading call.TryRead old) (try_read_again old new grant)
+  again_moves Reading true cm old new grant = by_found (Some (Coming call.Read old)) old new (came Reading call.Read old) (comes_by true Reading call.Read old) (read_again old new grant)
+  again_moves Upgradable false cm old new grant = by_found (Some (Coming call.TryUpgradeableRead old)) old new (came Upgradable call.TryUpgradeableRead old) (comes_by true Upgradable call.TryUpgradeableRead old) (try_upgradable_again old new grant)
+  again_moves Upgradable true cm old new grant = by_found (Some (Coming call.UpgradeableRead old)) old new (came Upgradable call.UpgradeableRead old) (comes_by true Upgradable call.UpgradeableRead old) (upgradable_again old new grant)
+  again_moves _ waits cm old new grant = absurd cm
+
+  come_moves : (won : View) (waits : Bool) → Comes won → (view : Option View) (old new : ℕ) → MayCome (call_of won waits) old view → grants (call_of won waits) old ≡ Some new
+      → Moves view (swaps old new) (λ n v. v ≡ came won (call_of won waits) old n) (comes_by (in_call view) won (call_of won waits) old)
+  come_moves won waits cm view old new (inl (out, free)) grant =
+      let c = call_of won waits in
+      rw (not_in_call view out, free) (as_new (swaps 0 new) (λ n v. v ≡ came won c 0 n) (comes_by false won c 0) view out (first_moves won waits cm new (rw free at grant)))
+  come_moves won waits cm view old new (inr is) grant = rw (is, in_its_call won waits cm old new grant) (again_moves won waits cm old new grant)
+
+  -- the load of a call that waits, after a word that keeps it out
+  look_moves : (won : View) → Comes won → (old : ℕ) → grants (call_of won true) old ≡ None → Moves (Some (Coming (call_of won true) old)) (λ n. n) (λ n v. v ≡ Coming (call_of won true) n) (looks_by (call_of won true))
+  look_moves Reading cm old none w value v is = rw is (Step ∷ [], GoingOn ∷ [], (refl, (refl, refl)), refl, refl, w, value, grind (arith, none), grind (arith, none), refl)
+  look_moves Upgradable cm old none w value v is = rw is (Step ∷ [], GoingOn ∷ [], (refl, (refl, refl)), refl, refl, w, value, grind (arith, none), grind (arith, none), refl)
+  look_moves _ cm old none w value v is = absurd cm
+
+  -- the exchange of `{:?}`: a try where it wins, and else a look, which its party makes of no more use than a count
+  peek_first : (old new : ℕ) → grants call.TryRead old ≡ Some new → Leads None old new (either_at old Reading Idle) (peeks_by old)
+  peek_first old new grant w value v is true e = (Begin call.TryRead ∷ Step ∷ Step ∷ [], Begun ∷ GoingOn ∷ Answered Granted None ∷ [], (is, rw e (refl, refl)), refl, refl, new, value, grind (arith, is, e, grant), grind (arith, is, e, grant), grind (arith, e))
+  peek_first old new grant w value v is false e = (Begin call.ReaderCount ∷ Step ∷ [], Begun ∷ Answered (Count (readers_in w)) None ∷ [], (is, rw e (refl, refl)), refl, refl, w, value, grind (arith, is, e), refl, grind (arith, e))
+
 -- Each step keeps the rule, and appends its moves
 
-abbrev pub own_ways : Ways (Unit {0}) (Numbered View) (Trace rws.Done (Unit {0}))
-own_ways = (lends, use_of_party, no_fact)
+-- who does not use the value
+pub out_uses_none : (view : Option View) → IsOut view → use_of use_of_view view ≢ writes
+out_uses_none None out e = absurd cc
+out_uses_none (Some Idle) out e = absurd cc
+out_uses_none (Some (Coming c n)) out e = absurd cc
+out_uses_none (Some _) out e = absurd cc
 
-module _ (name : ℕ) where
-  abbrev Keeps : Option (Numbered View) → (ℕ → ℕ) → Says → Type 0
-  Keeps view f says = Traces (IsRw name) own_ways view None f (Told says view)
+pub is_not_writing : (u : View) → use_of_view u ≢ writes → (view : Option View) → view ≡ Some u → use_of use_of_view view ≢ writes
+is_not_writing u not view is = rw is not
 
-  keeps : (view : Option (Numbered View)) (f : ℕ → ℕ) (so : ℕ → View → Type 0) (says : List OneMove → List Ending → ℕ → View → Type 0) → Moves (what view) f so says → Allows Word (ways rw-lock) (what view) f so → Keeps view f says
-  keeps view f so says moves allows = tie.traces model seat_of words_of Word name (Unit {0}) lends use_of_view no_fact view None f so says moves (λ own outs n u said t word p. tt) allows
+pub may_come_unused : (c : RwCall) (n : ℕ) (view : Option View) → MayCome c n view → use_of use_of_view view ≢ writes
+may_come_unused c n view (inl (out, free)) = out_uses_none view out
+may_come_unused c n view (inr is) = is_not_writing (Coming c n) (λ e. absurd cc) view is
 
-  pub starts : (t : Trace rws.Done (Unit {0})) → t.name ≡ name → t.entries ≡ [] → Meets (IsRw name) own_ways 0 t []
-  starts t named empty = tie.opens model seat_of words_of Word name (Unit {0}) lends use_of_view no_fact 0 t named empty refl (begins rw-lock 0 0 0 tt (omega arith) refl refl)
+pub may_write_unused : (view : Option View) → MayWrite view → use_of use_of_view view ≢ writes
+may_write_unused view (inl out) = out_uses_none view out
+may_write_unused view (inr is) = is_not_writing WaitingToWrite (λ e. absurd cc) view is
 
-  pub counts : (call : RwCall) (count : ℕ → ℕ) → Moves None (λ n. n) (To IsRwWord (λ n. Idle)) (counts_by call count) → (view : Option (Numbered View)) → IsOut (what view) → Keeps view (λ n. n) (counts_by call count)
-  counts call count moves view out = keeps view (λ n. n) (To IsRwWord (λ n. Idle)) (counts_by call count) (as_new (λ n. n) (To IsRwWord (λ n. Idle)) (counts_by call count) (what view) out moves) (looks (what view) out)
+module _ {T : Type 0} where
+  -- moves that write nothing, and those of a writer that writes x last
+  writes_none : (u u' : Use) (shown : Option T) (own : List (OneMove T)) → u ≢ writes → ((v : T) → left own v ≡ v) → Leaves u u' shown own
+  writes_none off u' shown own not same = same
+  writes_none reads u' shown own not same = same
+  writes_none writes u' shown own not same = absurd (not refl)
 
-  pub counts_readers : (view : Option (Numbered View)) → IsOut (what view) → Keeps view (λ n. n) (counts_by call.ReaderCount readers_in)
-  counts_readers = counts call.ReaderCount readers_in readers_moves
+  writes_last : (u u' : Use) (x : T) (own : List (OneMove T)) → u ≡ writes → ((v : T) → left own v ≡ x) → Leaves u u' (Some x) own
+  writes_last writes writes x own is all = tt
+  writes_last writes off x own is all = all
+  writes_last writes reads x own is all = all
+  writes_last off u' x own is all = absurd (let e : off ≡ writes = is in cc)
+  writes_last reads u' x own is all = absurd (let e : reads ≡ writes = is in cc)
 
-  pub counts_writers : (view : Option (Numbered View)) → IsOut (what view) → Keeps view (λ n. n) (counts_by call.WriterCount writers_in)
-  counts_writers = counts call.WriterCount writers_in writers_moves
+  abbrev WritesNothing : Says T → Type 0
+  WritesNothing says = (own : List (OneMove T)) (outs : List (Ending T)) (n : ℕ) (u : View) → says own outs n u → (v : T) → left own v ≡ v
 
-  pub comes_in : (won : View) (waits : Bool) → Comes won → (view : Option (Numbered View)) (old new : ℕ) → MayCome (call_of won waits) old (what view) → grants (call_of won waits) old ≡ Some new → Admits won old new
-      → Keeps view (swaps old new) (comes_by (in_call (what view)) won (call_of won waits) old)
-  comes_in won waits cm view old new may grant plain =
-      let c = call_of won waits in
-      keeps view (swaps old new) (λ n v. v ≡ came won c old n) (comes_by (in_call (what view)) won c old) (come_moves won waits cm (what view) old new may grant) (comes won c cm (what view) old new may plain)
+  nothing_by : (goes_on : Bool) (c : RwCall) (end : ℕ → Ending T) (to : ℕ → View) → WritesNothing (step_by goes_on c end to)
+  nothing_by goes_on c end to own outs n u said = step_leaves goes_on c (end n) own outs said.1
 
-  pub looks_on : (won : View) → Comes won → (view : Option (Numbered View)) (old : ℕ) → what view ≡ Some (Coming (call_of won true) old) → grants (call_of won true) old ≡ None → Keeps view (λ n. n) (looks_by (call_of won true))
-  looks_on won cm view old is none = keeps view (λ n. n) (λ n v. v ≡ Coming (call_of won true) n) (looks_by (call_of won true)) (rw is (look_moves won cm old none)) (rw is (looks_again (call_of won true) old))
+  nothing_granted : (goes_on : Bool) (c : RwCall) (own : List (OneMove T)) (outs : List (Ending T)) → IsGrant goes_on c own outs → (v : T) → left own v ≡ v
+  nothing_granted true c own outs said v = ap (λ o. left o v) said.0
+  nothing_granted false c own outs said v = ap (λ o. left o v) said.0
 
-  pub peeks : (old new : ℕ) → grants call.TryRead old ≡ Some new → Admits Reading old new → Keeps None (swaps old new) (peeks_by old)
-  peeks old new grant plain =
-      keeps None (swaps old new) (λ n v. v ≡ either_at old Reading Idle n) (peeks_by old) (by_found None old new (either_at old Reading Idle) (peeks_by old) (peek_first old new grant))
-      (exchanges_at rw-lock None to_read Reading (λ n. Idle) old new refl (λ n. refl) (λ s p. refl) (λ s. tt) (λ s p order room e. plain s p (one_of_each s order.exclusive) room e))
+  nothing_arrived : (goes_on : Bool) (c : RwCall) (b : Bool) (n : ℕ) (own : List (OneMove T)) (outs : List (Ending T)) → IsArrival goes_on c b n own outs → (v : T) → left own v ≡ v
+  nothing_arrived goes_on c true n own outs said = nothing_granted goes_on c own outs said
+  nothing_arrived goes_on c false n own outs said = step_leaves goes_on c (missed c n) own outs said
 
-  pub tries_to_write : (view : Option (Numbered View)) → IsOut (what view) → ((s : Plain) (p : ℕ) → rw_word s ≡ 0 → Decides s (gets p to_write) rw_word (Some 1)) → Keeps view (swaps 0 1) (ends_by call.TryWrite (given 0) (either_at 0 Writing Idle))
-  tries_to_write view out plain =
-      let so : ℕ → View → Type 0 = λ n v. v ≡ either_at 0 Writing Idle n in let says : Says = ends_by call.TryWrite (given 0) (either_at 0 Writing Idle) in
-      keeps view (swaps 0 1) so says (as_new (swaps 0 1) so says (what view) out try_write_moves) (writes_at (what view) (out_holds_none (what view) out) Idle refl 0 1 plain)
+  nothing_peeked : (b : Bool) (n : ℕ) (own : List (OneMove T)) (outs : List (Ending T)) → IsPeek b n own outs → (v : T) → left own v ≡ v
+  nothing_peeked true n own outs said v = ap (λ o. left o v) said.0
+  nothing_peeked false n own outs said v = ap (λ o. left o v) said.0
 
-  pub writes_on : (view : Option (Numbered View)) → MayWrite (what view) → ((s : Plain) (p : ℕ) → rw_word s ≡ 0 → Decides s (gets p to_write) rw_word (Some 1)) → Keeps view (swaps 0 1) (writes_by (in_call (what view)) 0)
-  writes_on view may plain = keeps view (swaps 0 1) (λ n v. v ≡ either_at 0 Writing WaitingToWrite n) (writes_by (in_call (what view)) 0) (write_moves_of (what view) may) (writes_at (what view) (may_write (what view) may) WaitingToWrite refl 0 1 plain)
+module _ {T : Type 0} (opening : Opening T) where
+  abbrev Keeps : Option (Numbered View) → Option T → (ℕ → ℕ) → Says T → Type 0
+  Keeps view shown f says = Traces (IsRw opening) (rw_ways opening) view shown f (Told opening.value says view)
 
-  module _ (view : Option (Numbered View)) where
+  -- moves that keep what is known of the value, or leave it
+  abbrev Leaving : Option View → Option T → Says T → Type 0
+  Leaving view shown says = (own : List (OneMove T)) (outs : List (Ending T)) (n : ℕ) (u : View) → says own outs n u → Leaves (use_of use_of_view view) (use_of_view u) shown own
+
+  keeps : (view : Option (Numbered View)) (shown : Option T) (f : ℕ → ℕ) (so : ℕ → View → Type 0) (says : Says T) → Leaving (what view) shown says → Moves opening.value (what view) f so says → Allows Word (ways rw-lock) (what view) f so → Keeps view shown f says
+  keeps view shown f so says leaves moves allows =
+      tie.traces (model opening.value) seat_of words_of Word opening.name T lends use_of_view (last opening) view shown f so says moves
+      (λ own outs n u said t word p. owed opening own t word p (use_of use_of_view (what view)) (use_of_view u) shown (leaves own outs n u said)) allows
+
+  -- of a party that does not write the value
+  keeps_still : (view : Option (Numbered View)) (shown : Option T) → use_of use_of_view (what view) ≢ writes → (f : ℕ → ℕ) (so : ℕ → View → Type 0) (says : Says T) → WritesNothing says → Moves opening.value (what view) f so says → Allows Word (ways rw-lock) (what view) f so
+      → Keeps view shown f says
+  keeps_still view shown not f so says none = keeps view shown f so says (λ own outs n u said. writes_none (use_of use_of_view (what view)) (use_of_view u) shown own not (none own outs n u said))
+
+  -- of a writer, which writes the value that it leaves
+  keeps_written : (v : Numbered View) (x : T) → use_of_view v.0 ≡ writes → (f : ℕ → ℕ) (so : ℕ → View → Type 0) (c : RwCall) (to : View) → Moves opening.value (Some v.0) f so (leaves_with (λ y. y ≡ x) c to) → Allows Word (ways rw-lock) (Some v.0) f so
+      → Keeps (Some v) (Some x) f (leaves_by c to)
+  keeps_written v x e f so c to moves allows =
+      let exact : Says T = leaves_with (λ y. y ≡ x) c to in
+      tie.tells_less (model opening.value) seat_of words_of (Some v) exact (leaves_by c to) (λ own outs n u (is, (y, same, by)). (is, (y, tt, by))) (IsRw opening) (rw_ways opening) (Some x) f
+      (keeps (Some v) (Some x) f so exact (λ own outs n u (is, (y, same, by)). writes_last (use_of_view v.0) (use_of_view u) x own e (λ z. write_leaves y false c (Answered Done None) own outs by z ∙ same)) moves allows)
+
+  pub starts : (t : Trace (rws.Done T) (Unit {0})) → t.name ≡ opening.name → t.entries ≡ [] → Meets (IsRw opening) (rw_ways opening) 0 t []
+  starts t named empty = tie.opens (model opening.value) seat_of words_of Word opening.name T lends use_of_view (last opening) 0 t named empty refl (begins rw-lock 0 0 0 tt (omega arith) refl refl)
+
+  module _ (view : Option (Numbered View)) (shown : Option T) where
+    counts : (call : RwCall) (count : ℕ → ℕ) → Moves opening.value None (λ n. n) (To IsRwWord (λ n. Idle)) (counts_by call count) → IsOut (what view) → Keeps view shown (λ n. n) (counts_by call count)
+    counts call count moves out =
+        let so : ℕ → View → Type 0 = To IsRwWord (λ n. Idle) in
+        keeps_still view shown (out_uses_none (what view) out) (λ n. n) so (counts_by call count) (λ own outs n u said. nothing_by false call (λ m. Answered (Count (count m)) None) (λ m. Idle) own outs n u said.1)
+        (as_new opening.value (λ n. n) so (counts_by call count) (what view) out moves) (looks (what view) out)
+
+    pub counts_readers : IsOut (what view) → Keeps view shown (λ n. n) (counts_by call.ReaderCount readers_in)
+    counts_readers = counts call.ReaderCount readers_in (readers_moves opening.value)
+
+    pub counts_writers : IsOut (what view) → Keeps view shown (λ n. n) (counts_by call.WriterCount writers_in)
+    counts_writers = counts call.WriterCount writers_in (writers_moves opening.value)
+
+    pub comes_in : (won : View) (waits : Bool) → Comes won → (old new : ℕ) → MayCome (call_of won waits) old (what view) → grants (call_of won waits) old ≡ Some new → Admits won old new
+        → Keeps view shown (swaps old new) (comes_by (in_call (what view)) won (call_of won waits) old)
+    comes_in won waits cm old new may grant plain =
+        let c = call_of won waits in
+        keeps_still view shown (may_come_unused c old (what view) may) (swaps old new) (λ n v. v ≡ came won c old n) (comes_by (in_call (what view)) won c old)
+        (λ own outs n u said. nothing_arrived (in_call (what view)) c (n == old) n own outs said.1) (come_moves opening.value won waits cm (what view) old new may grant) (comes won c cm (what view) old new may plain)
+
+    pub looks_on : (won : View) → Comes won → (old : ℕ) → what view ≡ Some (Coming (call_of won true) old) → grants (call_of won true) old ≡ None → Keeps view shown (λ n. n) (looks_by (call_of won true))
+    looks_on won cm old is none =
+        let c = call_of won true in
+        keeps_still view shown (is_not_writing (Coming c old) (λ e. absurd cc) (what view) is) (λ n. n) (λ n v. v ≡ Coming c n) (looks_by c) (nothing_by true c (λ n. GoingOn) (Coming c)) (rw is (look_moves opening.value won cm old none)) (rw is (looks_again c old))
+
+    pub tries_to_write : IsOut (what view) → ((s : Plain) (p : ℕ) → rw_word s ≡ 0 → Decides s (gets p to_write) rw_word (Some 1)) → Keeps view shown (swaps 0 1) (ends_by call.TryWrite (given 0) (either_at 0 Writing Idle))
+    tries_to_write out plain =
+        let so : ℕ → View → Type 0 = λ n v. v ≡ either_at 0 Writing Idle n in let says : Says T = ends_by call.TryWrite (given 0) (either_at 0 Writing Idle) in
+        keeps_still view shown (out_uses_none (what view) out) (swaps 0 1) so says (nothing_by false call.TryWrite (λ n. Answered (given 0 n) None) (either_at 0 Writing Idle))
+        (as_new opening.value (swaps 0 1) so says (what view) out (try_write_moves opening.value)) (writes_at (what view) (out_holds_none (what view) out) Idle refl 0 1 plain)
+
+    pub writes_on : MayWrite (what view) → ((s : Plain) (p : ℕ) → rw_word s ≡ 0 → Decides s (gets p to_write) rw_word (Some 1)) → Keeps view shown (swaps 0 1) (writes_by (in_call (what view)) 0)
+    writes_on may plain =
+        keeps_still view shown (may_write_unused (what view) may) (swaps 0 1) (λ n v. v ≡ either_at 0 Writing WaitingToWrite n) (writes_by (in_call (what view)) 0) (nothing_by (in_call (what view)) call.Write (granted_or_on 0) (either_at 0 Writing WaitingToWrite))
+        (write_moves_of opening.value (what view) may) (writes_at (what view) (may_write (what view) may) WaitingToWrite refl 0 1 plain)
+
     pub tries_to_upgrade : what view ≡ Some Upgradable → ((s : Plain) (p : ℕ) → OneOfEach s → is_holder p upgradable s.holders ≡ true → rw_word s ≡ 2 → Decides s (gets p to_upgrade) rw_word (Some 1))
-        → Keeps view (swaps 2 1) (ends_by call.TryUpgrade (given 2) (either_at 2 Writing Upgradable))
-    tries_to_upgrade is plain = keeps view (swaps 2 1) (λ n v. v ≡ either_at 2 Writing Upgradable n) (ends_by call.TryUpgrade (given 2) (either_at 2 Writing Upgradable)) (rw is try_upgrade_moves) (rw is (upgrades_at 2 1 plain))
+        → Keeps view shown (swaps 2 1) (ends_by call.TryUpgrade (given 2) (either_at 2 Writing Upgradable))
+    tries_to_upgrade is plain =
+        keeps_still view shown (is_not_writing Upgradable (λ e. absurd cc) (what view) is) (swaps 2 1) (λ n v. v ≡ either_at 2 Writing Upgradable n) (ends_by call.TryUpgrade (given 2) (either_at 2 Writing Upgradable))
+        (nothing_by false call.TryUpgrade (λ n. Answered (given 2 n) None) (either_at 2 Writing Upgradable)) (rw is (try_upgrade_moves opening.value)) (rw is (upgrades_at 2 1 plain))
 
     pub upgrades : what view ≡ Some Asking → ((s : Plain) (p : ℕ) → OneOfEach s → is_holder p asking s.holders ≡ true → rw_word s ≡ 6 → Decides s (gets p to_upgrade_asked) rw_word (Some 1))
-        → Keeps view (swaps 6 1) (upgrades_by 6)
-    upgrades is plain = keeps view (swaps 6 1) (λ n v. v ≡ either_at 6 WritingAsked Asking n) (upgrades_by 6) (rw is upgrade_moves) (rw is (upgrades_asked_at 6 1 plain))
+        → Keeps view shown (swaps 6 1) (upgrades_by 6)
+    upgrades is plain =
+        keeps_still view shown (is_not_writing Asking (λ e. absurd cc) (what view) is) (swaps 6 1) (λ n v. v ≡ either_at 6 WritingAsked Asking n) (upgrades_by 6) (nothing_by true call.Upgrade (granted_or_on 6) (either_at 6 WritingAsked Asking))
+        (rw is (upgrade_moves opening.value)) (rw is (upgrades_asked_at 6 1 plain))
 
-    pub asks_on : what view ≡ Some Upgradable → Keeps view (λ n. (n + 4) % 2 ^ 64) asks_by
-    asks_on is = keeps view (λ n. (n + 4) % 2 ^ 64) (To (Weighs 0) (λ n. Asking)) asks_by (rw is ask_moves) (rw is (turns_by Upgradable Asking upgradable asking 4 (λ p. refl) (λ p. refl) (λ s. tt) refl refl))
+    -- the upgradable reader turns by an addition
+    turns_on : what view ≡ Some Upgradable → (f : ℕ → ℕ) (so : ℕ → View → Type 0) (c : RwCall) (end : ℕ → Ending T) (to : ℕ → View) → Moves opening.value (Some Upgradable) f so (step_by false c end to) → Allows Word (ways rw-lock) (Some Upgradable) f so → Keeps view shown f (step_by false c end to)
+    turns_on is f so c end to moves allows = keeps_still view shown (is_not_writing Upgradable (λ e. absurd cc) (what view) is) f so (step_by false c end to) (nothing_by false c end to) (rw is moves) (rw is allows)
 
-    pub upgradable_reads : what view ≡ Some Upgradable → Keeps view (λ n. (n + 6) % 2 ^ 64) (ends_by call.Downgrade (λ n. Done) (λ n. Reading))
-    upgradable_reads is = keeps view (λ n. (n + 6) % 2 ^ 64) (To (Weighs 0) (λ n. Reading)) (ends_by call.Downgrade (λ n. Done) (λ n. Reading)) (rw is downgrade_moves) (rw is (turns_by Upgradable Reading upgradable reading 6 (λ p. refl) (λ p. refl) (λ s. tt) refl refl))
+    pub asks_on : what view ≡ Some Upgradable → Keeps view shown (λ n. (n + 4) % 2 ^ 64) asks_by
+    asks_on is =
+        turns_on is (λ n. (n + 4) % 2 ^ 64) (To (Weighs 0) (λ n. Asking)) call.Upgrade (λ n. GoingOn) (λ n. Asking) (ask_moves opening.value)
+        (turns_by Upgradable Asking upgradable asking 4 (λ p. refl) (λ p. refl) (λ s. tt) refl refl)
 
-    leaves : (k : Kind) (u : View) → what view ≡ Some u → Holds u (weight k) → ((p : ℕ) → entries_of p (part u) ≡ entries_of p (holds k)) → Keeps view (λ n. (n + (2 ^ 64 - weight k)) % 2 ^ 64) (ends_by call.Release (λ n. Done) (λ n. Idle))
-    leaves k u is held was = keeps view (λ n. (n + (2 ^ 64 - weight k)) % 2 ^ 64) (To (Weighs (weight k)) (λ n. Idle)) (ends_by call.Release (λ n. Done) (λ n. Idle)) (rw is (release_moves u (weight k) held)) (rw is (goes u k was))
+    pub upgradable_reads : what view ≡ Some Upgradable → Keeps view shown (λ n. (n + 6) % 2 ^ 64) (ends_by call.Downgrade (λ n. Done) (λ n. Reading))
+    upgradable_reads is =
+        turns_on is (λ n. (n + 6) % 2 ^ 64) (To (Weighs 0) (λ n. Reading)) call.Downgrade (λ n. Answered Done None) (λ n. Reading) (downgrade_moves opening.value)
+        (turns_by Upgradable Reading upgradable reading 6 (λ p. refl) (λ p. refl) (λ s. tt) refl refl)
 
-    pub reader_leaves : what view ≡ Some Reading → Keeps view (λ n. (n + (2 ^ 64 - 8)) % 2 ^ 64) (ends_by call.Release (λ n. Done) (λ n. Idle))
-    reader_leaves is = leaves reading Reading is refl (λ p. refl)
+    leaves : (k : Kind) (u : View) → what view ≡ Some u → use_of_view u ≢ writes → Holds u (weight k) → ((p : ℕ) → entries_of p (part u) ≡ entries_of p (holds k)) → Keeps view shown (λ n. (n + (2 ^ 64 - weight k)) % 2 ^ 64) (ends_by call.Release (λ n. Done) (λ n. Idle))
+    leaves k u is not held was =
+        keeps_still view shown (is_not_writing u not (what view) is) (λ n. (n + (2 ^ 64 - weight k)) % 2 ^ 64) (To (Weighs (weight k)) (λ n. Idle)) (ends_by call.Release (λ n. Done) (λ n. Idle)) (nothing_by false call.Release (λ n. Answered Done None) (λ n. Idle))
+        (rw is (release_moves opening.value u (weight k) held)) (rw is (goes u k was))
 
-    pub upgradable_leaves : what view ≡ Some Upgradable → Keeps view (λ n. (n + (2 ^ 64 - 2)) % 2 ^ 64) (ends_by call.Release (λ n. Done) (λ n. Idle))
-    upgradable_leaves is = leaves upgradable Upgradable is refl (λ p. refl)
+    pub reader_leaves : what view ≡ Some Reading → Keeps view shown (λ n. (n + (2 ^ 64 - 8)) % 2 ^ 64) (ends_by call.Release (λ n. Done) (λ n. Idle))
+    reader_leaves is = leaves reading Reading is (λ e. absurd cc) refl (λ p. refl)
 
-  module _ (v : Numbered View) (e : use_of_view v.0 ≡ writes) where
-    pub writer_reads : Keeps (Some v) (λ n. (n + 7) % 2 ^ 64) (ends_by call.Downgrade (λ n. Done) (λ n. Reading))
-    writer_reads = keeps (Some v) (λ n. (n + 7) % 2 ^ 64) (To (Weighs 0) (λ n. Reading)) (ends_by call.Downgrade (λ n. Done) (λ n. Reading)) (writer_reads_moves v.0 e) (turns_by v.0 Reading writing reading 7 (writes_as v.0 e) (λ p. refl) (λ s. tt) refl refl)
+    pub upgradable_leaves : what view ≡ Some Upgradable → Keeps view shown (λ n. (n + (2 ^ 64 - 2)) % 2 ^ 64) (ends_by call.Release (λ n. Done) (λ n. Idle))
+    upgradable_leaves is = leaves upgradable Upgradable is (λ e. absurd cc) refl (λ p. refl)
 
-    pub writer_reads_upgradable : Keeps (Some v) (λ n. (n + 1) % 2 ^ 64) (ends_by call.DowngradeToUpgradeable (λ n. Done) (λ n. Upgradable))
-    writer_reads_upgradable = keeps (Some v) (λ n. (n + 1) % 2 ^ 64) (To (Weighs 0) (λ n. Upgradable)) (ends_by call.DowngradeToUpgradeable (λ n. Done) (λ n. Upgradable)) (writer_upgradable_moves v.0 e) (turns_by v.0 Upgradable writing upgradable 1 (writes_as v.0 e) (λ p. refl) (λ s. tt) refl refl)
+  pub peeks : (shown : Option T) (old new : ℕ) → grants call.TryRead old ≡ Some new → Admits Reading old new → Keeps None shown (swaps old new) (peeks_by old)
+  peeks shown old new grant plain =
+      keeps_still None shown (λ e. absurd cc) (swaps old new) (λ n v. v ≡ either_at old Reading Idle n) (peeks_by old) (λ own outs n u said. nothing_peeked (n == old) n own outs said.1)
+      (by_found opening.value None old new (either_at old Reading Idle) (peeks_by old) (peek_first opening.value old new grant))
+      (exchanges_at rw-lock None to_read Reading (λ n. Idle) old new refl (λ n. refl) (λ s p. refl) (λ s. tt) (λ s p order room e. plain s p (one_of_each s order.exclusive) room e))
 
-    pub writer_leaves : Keeps (Some v) (λ n. (n + (2 ^ 64 - 1)) % 2 ^ 64) (ends_by call.Release (λ n. Done) (λ n. Idle))
-    writer_leaves = leaves (Some v) writing v.0 refl (one_of_writers v.0 e) (writes_as v.0 e)
+  module _ (v : Numbered View) (x : T) (e : use_of_view v.0 ≡ writes) where
+    pub writer_reads : Keeps (Some v) (Some x) (λ n. (n + 7) % 2 ^ 64) (leaves_by call.Downgrade Reading)
+    writer_reads =
+        keeps_written v x e (λ n. (n + 7) % 2 ^ 64) (To (Weighs 0) (λ n. Reading)) call.Downgrade Reading (writer_reads_moves opening.value x v.0 e)
+        (turns_by v.0 Reading writing reading 7 (writes_as v.0 e) (λ p. refl) (λ s. tt) refl refl)
 
-  -- Who may go
+    pub writer_reads_upgradable : Keeps (Some v) (Some x) (λ n. (n + 1) % 2 ^ 64) (leaves_by call.DowngradeToUpgradeable Upgradable)
+    writer_reads_upgradable =
+        keeps_written v x e (λ n. (n + 1) % 2 ^ 64) (To (Weighs 0) (λ n. Upgradable)) call.DowngradeToUpgradeable Upgradable (writer_upgradable_moves opening.value x v.0 e)
+        (turns_by v.0 Upgradable writing upgradable 1 (writes_as v.0 e) (λ p. refl) (λ s. tt) refl refl)
 
-  rests_at : (v : View) → seat_of v ≡ seat.Idle → part v ≡ part Idle → (m k : ℕ) → Rests (IsRw name) use_of_party (Some (v, m, k))
-  rests_at v sits is m k = tie.rests model seat_of words_of Word name (Unit {0}) lends use_of_view no_fact (v, m, k) sits (plays.rests rw-lock v (rw is refl) (λ p. rw is refl))
+    pub writer_leaves : Keeps (Some v) (Some x) (λ n. (n + (2 ^ 64 - 1)) % 2 ^ 64) (leaves_by call.Release Idle)
+    writer_leaves =
+        keeps_written v x e (λ n. (n + (2 ^ 64 - 1)) % 2 ^ 64) (To (Weighs 1) (λ n. Idle)) call.Release Idle (writer_leaves_moves opening.value x v.0 e) (goes v.0 writing (writes_as v.0 e))
 
-  pub idle_rests : (v : Numbered View) → v.0 ≡ Idle → Rests (IsRw name) use_of_party (Some v)
+  -- Who may leave
+
+  rests_at : (v : View) → seat_of v ≡ seat.Idle → part v ≡ part Idle → (m k : ℕ) → Rests (IsRw opening) use_of_party (Some (v, m, k))
+  rests_at v sits is m k = tie.rests (model opening.value) seat_of words_of Word opening.name T lends use_of_view (last opening) (v, m, k) sits (plays.rests rw-lock v (rw is refl) (λ p. rw is refl))
+
+  pub idle_rests : (v : Numbered View) → v.0 ≡ Idle → Rests (IsRw opening) use_of_party (Some v)
   idle_rests v is = rw is (rests_at Idle refl refl v.1 v.2)
 
   -- a party that is out
-  pub out_rests : (view : Option (Numbered View)) → IsOut (what view) → Rests (IsRw name) use_of_party view
+  pub out_rests : (view : Option (Numbered View)) → IsOut (what view) → Rests (IsRw opening) use_of_party view
   out_rests None out = tt
   out_rests (Some v) out = rests_at v.0 (seat_idle (seat_of v.0) out) (out_holds_none (Some v.0) out) v.1 v.2
 
   -- an exchange that found another word
-  pub missed_rests : (won : View) (old found : ℕ) → found ≢ old → (v : Numbered View) → v.0 ≡ either_at old won Idle found → Rests (IsRw name) use_of_party (Some v)
+  pub missed_rests : (won : View) (old found : ℕ) → found ≢ old → (v : Numbered View) → v.0 ≡ either_at old won Idle found → Rests (IsRw opening) use_of_party (Some v)
   missed_rests won old found other v is = idle_rests v (is ∙ ap (λ b. if b then won else Idle) (ne_eqb found old other))
 
--- a try that is kept out has been refused, and is out
+-- a try whose word does not admit it has failed, and its party is out
 pub refused_out : (won : View) → Comes won → (n : ℕ) → grants (call_of won false) n ≡ None → (view : Option View) → view ≡ Some (Coming (call_of won false) n) → IsOut view
 refused_out won cm n none view is = rw is (ap rws.is_idle (sits_idle won cm n none))

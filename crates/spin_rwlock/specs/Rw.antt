@@ -1,4 +1,5 @@
--- The rule of a read-write lock: its word is that of a plain lock whose holders are its parties, and its trace is a schedule of the lock's model, which leads there.
+-- The rule of a read-write lock. Its word is that of a plain lock whose holders are its parties. Its trace is a
+-- schedule of the lock's model, which leads there.
 use Rattle.std.specs.Prelude.{◌≡◌, ◌≢◌, ◌⊎◌, ℕ, List, [], ◌∷◌, Bool, true, false, Option, Some, None, is_some, ◌==◌, if◌then◌else◌, map}
 use Rattle.spin_step.specs.Plain.{Plain, reading, upgradable, asking, writing, Ask, to_read, to_read_upgradable, rw_word}
 use Rattle.spin_step.specs.Orders.{IsInOrder}
@@ -13,6 +14,7 @@ use Rattle.spin_model.specs.declared.place.Seat.{Seat}
 use Rattle.spin_model.specs.declared.place.Seat.TheVariants as seat
 use Rattle.spin_model.specs.declared.answer.Answer.{Answer}
 use Rattle.spin_model.specs.declared.answer.Answer.TheVariants.{Granted, Refused, Count}
+use Rattle.spin_model.specs.declared.answer.Answer.TheVariants as answer
 use Rattle.spin_model.specs.declared.schedule.Move.{Move}
 use Rattle.spin_model.specs.declared.schedule.Move.TheVariants.{Begin, Step}
 use Rattle.spin_model.specs.declared.schedule.Outcome.{Outcome}
@@ -20,11 +22,13 @@ use Rattle.spin_model.specs.declared.schedule.Outcome.TheVariants.{Begun, GoingO
 use Rattle.spin_model.specs.Acts.{either}
 use Rattle.spin_model.specs.Machines.{Machine}
 use Rattle.spin_model.specs.Schedules.{Entry}
-use Rattle.spin_core.specs.Cell.{Use, lends, no_fact, Ways}
+use Rattle.spin_core.specs.Cell.{Use, lends, Ways}
 use Rattle.spin_core.specs.Views.{Part, idle, holds, Encodes, used_by, no_word}
 use Rattle.spin_core.specs.Own.{Numbered, Runs, Tells, what}
-use Rattle.spin_core.specs.Passes.{Course, Waits, Ends, Begins, IsCall, IsStep, step_by, Made}
+use Rattle.spin_core.specs.Passes.{Course, Waits, Ends, Begins, IsCall, IsStep, WritesSome, step_by, Made}
+use Rattle.spin_core.specs.Values.{last}
 use Rattle.spin_core.specs.declared.cell.Permit.{Permit}
+use Rattle.spin_core.specs.declared.tie.Opening.{Opening}
 use Rattle.spin_core.specs.declared.trace.Trace.{Trace}
 use Rattle.spin_rwlock.specs.declared.rwlock.rule.View.{View}
 use Rattle.spin_rwlock.specs.declared.rwlock.rule.View.TheVariants.{Idle, Reading, Upgradable, Asking, Writing, WritingAsked, Coming, WaitingToWrite}
@@ -44,9 +48,6 @@ use_of_view = used_by part
 abbrev pub use_of_party : Numbered View → Use
 use_of_party v = use_of_view v.0
 
-abbrev pub rw_ways : {X S : Type 0} → Ways X (Numbered View) S
-rw_ways = (lends, use_of_party, no_fact)
-
 -- the word that a call which comes to read makes of the word that it found, if that lets it in
 abbrev pub grants : RwCall → ℕ → Option ℕ
 grants TryRead n = read reader_limit n
@@ -55,7 +56,7 @@ grants TryUpgradeableRead n = read_upgradable reader_limit n
 grants UpgradeableRead n = read_upgradable reader_limit n
 grants _ n = None
 
--- where such a call stands in the model that found a word which keeps it out: at its first step again, or it has been refused
+-- where such a call sits in the model after a word that does not admit it: at its first step again, or it has failed
 abbrev pub kept_out : RwCall → Seat RwCall RwPoint
 kept_out Read = seat.Calling Read point.First None
 kept_out UpgradeableRead = seat.Calling UpgradeableRead point.First None
@@ -72,30 +73,38 @@ seat_of WritingAsked = seat.Holding hold.Write
 seat_of (Coming call n) = either (is_some (grants call n)) (seat.Calling call (point.Exchange n) None) (kept_out call)
 seat_of WaitingToWrite = seat.Calling Write point.First None
 
-abbrev pub model : Machine ℕ (Unit {0}) RwCall RwPoint (Answer (Unit {0}))
-model = rw_machine tt reader_limit
-
 -- the lock's words, by the model's
 abbrev pub words_of : ℕ → ℕ × Unit {0}
 words_of n = (n, tt)
 
-abbrev pub OneMove : Type 0
-OneMove = Move RwCall (Unit {0})
-
-abbrev pub Ending : Type 0
-Ending = Outcome (Answer (Unit {0})) (Unit {0})
-
-abbrev pub Done : Type 0
-Done = Entry RwCall (Unit {0})
-
 abbrev pub Word : ℕ → Unit {0} → List View → Type 0
 Word = Encodes part reader_limit rw_word no_word
 
--- of the word, the trace and the parties, under the name of the lock's trace
-abbrev pub IsRw : ℕ → ℕ → Trace Done (Unit {0}) → List (Numbered View) → Type 0
-IsRw = Runs model seat_of words_of Word
+-- Of a lock of values of type T
 
--- what the parties are
+abbrev pub OneMove : Type 0 → Type 0
+OneMove T = Move RwCall T
+
+abbrev pub Ending : Type 0 → Type 0
+Ending T = Outcome (Answer T) T
+
+abbrev pub Done : Type 0 → Type 0
+Done T = Entry RwCall T
+
+module _ {T : Type 0} where
+  -- the model that opens with this value
+  abbrev pub model : T → Machine ℕ T RwCall RwPoint (Answer T)
+  model v = rw_machine v reader_limit
+
+  -- of the word, the trace and the parties, of a lock that opened so
+  abbrev pub IsRw : Opening T → ℕ → Trace (Done T) (Unit {0}) → List (Numbered View) → Type 0
+  IsRw opening = Runs (model opening.value) seat_of words_of Word opening.name
+
+  -- readers share the value, or one writer has it; the value that nobody writes is the one written last
+  abbrev pub rw_ways : Opening T → Ways T (Numbered View) (Trace (Done T) (Unit {0}))
+  rw_ways opening = (lends, use_of_party, last opening)
+
+-- the views of the parties
 abbrev pub views : List (Numbered View) → List View
 views vs = map (λ v. v.0) vs
 
@@ -103,9 +112,9 @@ views vs = map (λ v. v.0) vs
 abbrev pub IsRwWord : ℕ → Type 0
 IsRwWord word = (s : Plain) × (s.cap ≡ reader_limit) × IsInOrder s × (word ≡ rw_word s)
 
--- Where a party stands in its calls
+-- Where a party is in its calls
 
--- a party that sits so is in a call
+-- a party with this seat is in a call
 abbrev pub is_calling : Seat RwCall RwPoint → Bool
 is_calling (seat.Calling call point held) = true
 is_calling _ = false
@@ -114,7 +123,7 @@ abbrev pub in_call : Option View → Bool
 in_call None = false
 in_call (Some v) = is_calling (seat_of v)
 
--- it is in no call, and holds nothing
+-- the party is in no call, and holds nothing
 abbrev pub is_idle : Seat RwCall RwPoint → Bool
 is_idle seat.Idle = true
 is_idle _ = false
@@ -126,136 +135,150 @@ is_out (Some v) = is_idle (seat_of v)
 abbrev pub IsOut : Option View → Type 0
 IsOut view = is_out view ≡ true
 
--- The courses of a call: its moves, and what they result in
+-- The courses of a call: its moves and their outcomes
 
-abbrev pub OneCourse : Type 1
-OneCourse = Course (Unit {0}) RwCall (Answer (Unit {0}))
+abbrev pub OneCourse : Type 0 → Type 1
+OneCourse T = Course T RwCall (Answer T)
 
--- a call that wants to read goes on after an exchange that found this word
+-- after an exchange that found this word, a call that wants to read continues
 abbrev pub still : RwCall → ℕ → Bool
 still TryRead n = is_some (grants TryRead n)
 still TryUpgradeableRead n = is_some (grants TryUpgradeableRead n)
 still _ n = true
 
--- what that exchange is to the call
-abbrev pub missed : RwCall → ℕ → Ending
-missed TryRead n = if is_some (grants TryRead n) then GoingOn else Answered Refused None
-missed TryUpgradeableRead n = if is_some (grants TryUpgradeableRead n) then GoingOn else Answered Refused None
-missed _ n = GoingOn
-
--- The exchange that lets it in. By one that begins the call (false) the model's party first looks, and finds a free lock
-abbrev pub IsGrant : Bool → RwCall → OneCourse
-IsGrant true call own outs = IsStep true call (Answered Granted None) own outs
-IsGrant false call own outs = (own ≡ Begin call ∷ Step ∷ Step ∷ []) × (outs ≡ Begun ∷ GoingOn ∷ Answered Granted None ∷ [])
-
--- by whether it found the word that it expected
-abbrev pub IsArrival : Bool → RwCall → Bool → ℕ → OneCourse
-IsArrival goes_on call true n = IsGrant goes_on call
-IsArrival goes_on call false n = IsStep goes_on call (missed call n)
-
--- a call that goes on, or has been refused
-abbrev pub Left : Bool → OneCourse
-Left true = Waits
-Left false = Ends Refused
-
--- a call that wants to read, and found this word last
-abbrev pub Seeks : RwCall → ℕ → OneCourse
-Seeks call n = Begins call (Left (still call n))
-
--- The steps: which moves, with which outcomes, by the number found, and the view after
-
-abbrev pub Says : Type 1
-Says = List OneMove → List Ending → ℕ → View → Type 0
-
-abbrev pub Told : Says → Option (Numbered View) → List Done → List Done → ℕ → Numbered View → Type 0
-Told = Tells model seat_of words_of
-
--- a whole call in one step, with its answer
-abbrev pub ends_by : RwCall → (ℕ → Answer (Unit {0})) → (ℕ → View) → Says
-ends_by call answer to = step_by false call (λ n. Answered (answer n) None) to
-
--- a call that counts so by the word of the lock
-abbrev pub counts_by : RwCall → (ℕ → ℕ) → Says
-counts_by call count own outs n v = IsRwWord n × ends_by call (λ m. Count (count m)) (λ m. Idle) own outs n v
-
 -- an exchange that finds the number which it expected, and one that finds another
 abbrev pub either_at : {X : Type 0} → ℕ → X → X → ℕ → X
 either_at old won lost n = if n == old then won else lost
 
-abbrev pub given : ℕ → ℕ → Answer (Unit {0})
-given old = either_at old Granted Refused
-
-abbrev pub granted_or_on : ℕ → ℕ → Ending
-granted_or_on old = either_at old (Answered Granted None) GoingOn
-
--- the exchange of `write`, by whether its call has begun
-abbrev pub writes_by : Bool → ℕ → Says
-writes_by goes_on old = step_by goes_on Write (granted_or_on old) (either_at old Writing WaitingToWrite)
-
--- the addition by which `upgrade` asks, and its exchange
-abbrev pub asks_by : Says
-asks_by = step_by false Upgrade (λ n. GoingOn) (λ n. Asking)
-
-abbrev pub upgrades_by : ℕ → Says
-upgrades_by old = step_by true Upgrade (granted_or_on old) (either_at old WritingAsked Asking)
-
--- the load of a call that waits to read
-abbrev pub looks_by : RwCall → Says
-looks_by call = step_by true call (λ n. GoingOn) (Coming call)
-
--- where the exchange of a reader that comes leads, and what it is
+-- where the exchange of a reader that comes leads
 abbrev pub came : View → RwCall → ℕ → ℕ → View
 came won call old n = if n == old then won else Coming call n
 
-abbrev pub comes_by : Bool → View → RwCall → ℕ → Says
-comes_by goes_on won call old own outs n v = (v ≡ came won call old n) × IsArrival goes_on call (n == old) n own outs
+-- The steps: which moves, with which outcomes, by the number found, and the view after
 
--- the exchange of `{:?}`: a try where it wins, and else one more look
-abbrev pub IsPeek : Bool → ℕ → OneCourse
-IsPeek true n = IsGrant false TryRead
-IsPeek false n = IsStep false ReaderCount (Answered (Count (readers_in n)) None)
+abbrev pub Says : Type 0 → Type 1
+Says T = List (OneMove T) → List (Ending T) → ℕ → View → Type 0
 
-abbrev pub peeks_by : ℕ → Says
-peeks_by old own outs n v = (v ≡ either_at old Reading Idle n) × IsPeek (n == old) n own outs
+module _ {T : Type 0} where
+  -- what the exchange of a call that wants to read is to the call
+  abbrev pub missed : RwCall → ℕ → Ending T
+  missed TryRead n = if is_some (grants TryRead n) then GoingOn else Answered Refused None
+  missed TryUpgradeableRead n = if is_some (grants TryUpgradeableRead n) then GoingOn else Answered Refused None
+  missed _ n = GoingOn
+
+  -- The exchange that lets it in. By one that begins the call (false) the model's party first looks, and finds a free lock
+  abbrev pub IsGrant : Bool → RwCall → OneCourse T
+  IsGrant true call own outs = IsStep true call (Answered Granted None) own outs
+  IsGrant false call own outs = (own ≡ Begin call ∷ Step ∷ Step ∷ []) × (outs ≡ Begun ∷ GoingOn ∷ Answered Granted None ∷ [])
+
+  -- by whether it found the word that it expected
+  abbrev pub IsArrival : Bool → RwCall → Bool → ℕ → OneCourse T
+  IsArrival goes_on call true n = IsGrant goes_on call
+  IsArrival goes_on call false n = IsStep goes_on call (missed call n)
+
+  -- a call that goes on, or has been refused
+  abbrev pub Left : Bool → OneCourse T
+  Left true = Waits
+  Left false = Ends Refused
+
+  -- a call that wants to read, and found this word last
+  abbrev pub Seeks : RwCall → ℕ → OneCourse T
+  Seeks call n = Begins call (Left (still call n))
+
+  -- what a step tells of its moves, of a lock that opened with this value
+  abbrev pub Told : T → Says T → Option (Numbered View) → List (Done T) → List (Done T) → ℕ → Numbered View → Type 0
+  Told v = Tells (model v) seat_of words_of
+
+  -- a whole call in one step, with its answer
+  abbrev pub ends_by : RwCall → (ℕ → Answer T) → (ℕ → View) → Says T
+  ends_by call answer to = step_by false call (λ n. Answered (answer n) None) to
+
+  -- a call that counts so by the word of the lock
+  abbrev pub counts_by : RwCall → (ℕ → ℕ) → Says T
+  counts_by call count own outs n v = IsRwWord n × ends_by call (λ m. Count (count m)) (λ m. Idle) own outs n v
+
+  abbrev pub given : ℕ → ℕ → Answer T
+  given old = either_at old Granted Refused
+
+  abbrev pub granted_or_on : ℕ → ℕ → Ending T
+  granted_or_on old = either_at old (Answered Granted None) GoingOn
+
+  -- the exchange of `write`, by whether its call has begun
+  abbrev pub writes_by : Bool → ℕ → Says T
+  writes_by goes_on old = step_by goes_on Write (granted_or_on old) (either_at old Writing WaitingToWrite)
+
+  -- the addition by which `upgrade` asks, and its exchange
+  abbrev pub asks_by : Says T
+  asks_by = step_by false Upgrade (λ n. GoingOn) (λ n. Asking)
+
+  abbrev pub upgrades_by : ℕ → Says T
+  upgrades_by old = step_by true Upgrade (granted_or_on old) (either_at old WritingAsked Asking)
+
+  -- the load of a call that waits to read
+  abbrev pub looks_by : RwCall → Says T
+  looks_by call = step_by true call (λ n. GoingOn) (Coming call)
+
+  -- the exchange of a reader that comes: where it leads, and what it is
+  abbrev pub comes_by : Bool → View → RwCall → ℕ → Says T
+  comes_by goes_on won call old own outs n v = (v ≡ came won call old n) × IsArrival goes_on call (n == old) n own outs
+
+  -- the exchange of `{:?}`: a try where it wins, and else one more look
+  abbrev pub IsPeek : Bool → ℕ → OneCourse T
+  IsPeek true n = IsGrant false TryRead
+  IsPeek false n = IsStep false ReaderCount (Answered (Count (readers_in n)) None)
+
+  abbrev pub peeks_by : ℕ → Says T
+  peeks_by old own outs n v = (v ≡ either_at old Reading Idle n) × IsPeek (n == old) n own outs
+
+  -- the call by which a writer ends: it writes the value that it leaves, one of which this holds, and becomes this
+  abbrev pub leaves_with : (T → Type 0) → RwCall → View → Says T
+  leaves_with Q call to own outs n v = (v ≡ to) × WritesSome Q (IsStep false call (Answered answer.Done None)) own outs
+
+  abbrev pub leaves_by : RwCall → View → Says T
+  leaves_by = leaves_with (λ x. Unit {0})
 
 -- Who wants to read
 
--- the call by which a reader of this view comes: it waits, or tries
+-- the call of a reader of this view: it waits, or tries
 abbrev pub call_of : View → Bool → RwCall
 call_of Upgradable true = UpgradeableRead
 call_of Upgradable false = TryUpgradeableRead
 call_of _ true = Read
 call_of _ false = TryRead
 
--- what it asks of the plain lock
+-- what the call asks of the plain lock
 abbrev pub asks : View → Ask
 asks Upgradable = to_read_upgradable
 asks _ = to_read
 
--- a reader of this view comes
+-- a reader acquires with this view
 abbrev pub Comes : View → Type 0
 Comes Reading = Unit {0}
 Comes Upgradable = Unit {0}
 Comes _ = ⊥
 
--- it comes, and its exchange is that of a free lock's word; or it is in the call, and found this word
+-- The call has just begun, and its exchange is that of a free lock's word. Or the call is under way, and found this
+-- word.
 abbrev pub MayCome : RwCall → ℕ → Option View → Type 0
 MayCome call n view = (IsOut view × (n ≡ 0)) ⊎ (view ≡ Some (Coming call n))
 
--- it comes to write, or waits for that
+-- the call to write has just begun, or waits
 abbrev pub MayWrite : Option View → Type 0
 MayWrite view = IsOut view ⊎ (view ≡ Some WaitingToWrite)
 
--- a party with this view, which is shown a value
+-- a party with this view, to which a value is shown
 abbrev pub IsLent : {T P K S : Type 0} → Permit T (Numbered View) P K S → View → Type 0
 IsLent it v = (what it.view ≡ Some v) × (it.value ≢ None)
 
--- What a pass knows
+-- Of a pass of a lock that opened with this value: since it knew `old` it has made moves of this course, and no others
+module _ {T : Type 0} (v : T) where
+  abbrev pub Moves : OneCourse T → Option (Numbered View) → List (Done T) → Option (Numbered View) → List (Done T) → Type 0
+  Moves course view old view' new = Made (model v) view old view' new course
 
--- since it knew `old` it has made moves of this course, and no others
-abbrev pub Moves : OneCourse → Option (Numbered View) → List Done → Option (Numbered View) → List Done → Type 0
-Moves course view old view' new = Made model view old view' new course
+  -- it has made exactly this call, with this answer
+  abbrev pub Called : RwCall → Answer T → Option (Numbered View) → List (Done T) → Option (Numbered View) → List (Done T) → Type 0
+  Called call answer = Moves (IsCall call answer)
 
--- it has made exactly this call, with this answer
-abbrev pub Called : RwCall → Answer (Unit {0}) → Option (Numbered View) → List Done → Option (Numbered View) → List Done → Type 0
-Called call answer = Moves (IsCall call answer)
+  -- it has written a value of which this holds, and then made this call
+  abbrev pub Wrote : (T → Type 0) → RwCall → Option (Numbered View) → List (Done T) → Option (Numbered View) → List (Done T) → Type 0
+  Wrote Q call = Moves (WritesSome Q (IsCall call answer.Done))

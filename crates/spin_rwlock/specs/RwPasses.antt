@@ -1,53 +1,64 @@
 -- What a pass knows: the lock's history so far, and which moves in it are its own.
-use Rattle.std.specs.Prelude.{ℕ, Option, List}
+use Rattle.std.specs.Prelude.{◌≡◌, ℕ, Option, List}
 use Rattle.spin_core.specs.Own.{Numbered}
-use Rattle.spin_core.specs.declared.trace.Watch.{Watch}
-use Rattle.spin_model.specs.declared.answer.Answer.TheVariants.{Granted, Done, Count}
-use Rattle.spin_step_more.specs.declared.rw_calls.RwCall.{RwCall}
+use Rattle.spin_core.specs.declared.tie.Opening.{Opening}
+use Rattle.spin_model.specs.declared.answer.Answer.TheVariants.{Granted, Count}
+use Rattle.spin_model.specs.declared.answer.Answer.TheVariants as answer
 use Rattle.spin_step_more.specs.declared.rw_calls.RwCall.TheVariants.{Read, UpgradeableRead, Write, Upgrade, ReaderCount, WriterCount, Release}
-use Rattle.spin_rwlock.specs.Rw as rws
-use Rattle.spin_rwlock.specs.Rw.{Called}
+use Rattle.spin_rwlock.specs.Rw.{Done, Called, Wrote}
 use Rattle.spin_rwlock.specs.declared.rwlock.RwLock.{RwLock}
 use Rattle.spin_rwlock.specs.declared.rwlock.pass.Pass.{Pass}
 use Rattle.spin_rwlock.specs.declared.rwlock.rule.View.{View}
 
 module _ {T R : Type 0} where
   -- all moves in the lock up to the pass's last step
-  abbrev pub history : Pass T R → List rws.Done
+  abbrev pub history : Pass T R → List (Done T)
   history it = it.seen.entries
 
   -- the name of the history of a lock, and of the lock of a pass
-  abbrev pub name_of : {P S : Type 0} → RwLock T R (Numbered View) P (Watch rws.Done) S → ℕ
+  abbrev pub name_of : {P S : Type 0} → RwLock T R (Numbered View) P (Opening T) S → ℕ
   name_of lock = lock.cell.name
 
   abbrev pub lock_of : Pass T R → ℕ
   lock_of it = it.seen.name
 
+  -- what was settled when a lock was made, and of the lock of a pass: that name, and the value that the lock opened with
+  abbrev pub opening : {P S : Type 0} → RwLock T R (Numbered View) P (Opening T) S → Opening T
+  opening lock = lock.cell
+
+  abbrev pub opening_of : Pass T R → Opening T
+  opening_of it = it.permit.key
+
   -- the party of the pass: none before its first call
   abbrev pub party : Pass T R → Option (Numbered View)
   party it = it.permit.view
 
-  -- since then the pass has counted the readers once, and was told this
+  -- since then the pass has counted the readers once, with this answer
   abbrev pub CountedReaders : ℕ → Pass T R → Pass T R → Type 0
-  CountedReaders readers before now = Called ReaderCount (Count readers) (party before) (history before) (party now) (history now)
+  CountedReaders readers before now = Called (opening_of before).value ReaderCount (Count readers) (party before) (history before) (party now) (history now)
 
-  -- since then the pass has counted the writers once, and was told this
+  -- since then the pass has counted the writers once, with this answer
   abbrev pub CountedWriters : ℕ → Pass T R → Pass T R → Type 0
-  CountedWriters writers before now = Called WriterCount (Count writers) (party before) (history before) (party now) (history now)
+  CountedWriters writers before now = Called (opening_of before).value WriterCount (Count writers) (party before) (history before) (party now) (history now)
 
-  -- since then the pass has been granted this call and has released the lock, once
-  abbrev pub HeldOnceBy : RwCall → Pass T R → Pass T R → Type 0
-  HeldOnceBy call before now =
-      (view : Option (Numbered View)) × (seen : List rws.Done) × Called call Granted (party before) (history before) view seen × Called Release Done view seen (party now) (history now)
-
+  -- since then the pass has read once, and has released the lock
   abbrev pub ReadOnce : Pass T R → Pass T R → Type 0
-  ReadOnce = HeldOnceBy Read
+  ReadOnce before now =
+      (view : Option (Numbered View)) × (seen : List (Done T)) × (lock : Opening T) × (lock ≡ opening_of before) × Called (opening_of before).value Read Granted (party before) (history before) view seen
+      × Called lock.value Release answer.Done view seen (party now) (history now)
+
+  -- since then the pass has acquired the lock as a writer and has released it, once; it left a value of which this holds
+  abbrev pub WroteWith : (T → Type 0) → Pass T R → Pass T R → Type 0
+  WroteWith Q before now =
+      (view : Option (Numbered View)) × (seen : List (Done T)) × (lock : Opening T) × (lock ≡ opening_of before) × Called (opening_of before).value Write Granted (party before) (history before) view seen
+      × Wrote lock.value Q Release view seen (party now) (history now)
 
   abbrev pub WroteOnce : Pass T R → Pass T R → Type 0
-  WroteOnce = HeldOnceBy Write
+  WroteOnce = WroteWith (λ x. Unit {0})
 
-  -- since then the pass has come as an upgradable reader, has become the writer, and has released the lock, once
+  -- since then the pass has acquired the lock as an upgradable reader, become the writer, and released the lock, once
   abbrev pub RaisedOnce : Pass T R → Pass T R → Type 0
   RaisedOnce before now =
-      (reader : Option (Numbered View)) × (seen : List rws.Done) × Called UpgradeableRead Granted (party before) (history before) reader seen
-      × ((writer : Option (Numbered View)) × (more : List rws.Done) × Called Upgrade Granted reader seen writer more × Called Release Done writer more (party now) (history now))
+      (reader : Option (Numbered View)) × (seen : List (Done T)) × Called (opening_of before).value UpgradeableRead Granted (party before) (history before) reader seen
+      × ((writer : Option (Numbered View)) × (more : List (Done T)) × (lock : Opening T) × (lock ≡ opening_of before) × Called lock.value Upgrade Granted reader seen writer more
+      × ((held : Opening T) × (held ≡ lock) × Wrote held.value (λ x. Unit {0}) Release writer more (party now) (history now)))

@@ -1,4 +1,4 @@
--- Who stands in a read-write lock, counted over its parties.
+-- Who holds a read-write lock, counted over its parties.
 use Rattle.std.specs.Prelude.{◌≡◌, ℕ, ◌+◌, ◌<◌, ◌≤◌, Bool, false, List, count_by}
 use Rattle.spin_step.specs.Plain.{Kind, reading, upgradable, asking, writing, same_kind}
 use Rattle.spin_step_more.specs.Readers.{reader_limit}
@@ -6,7 +6,7 @@ use Rattle.spin_core.specs.Views.{Part, holds, holds_starving, part_at}
 use Rattle.spin_rwlock.specs.Rw.{part}
 use Rattle.spin_rwlock.specs.declared.rwlock.rule.View.{View}
 
--- a party that is this to the plain lock holds it so
+-- a party with this part holds the lock with this kind
 abbrev pub is_of_kind : Kind → Part → Bool
 is_of_kind k (holds j) = same_kind k j
 is_of_kind k holds_starving = same_kind k writing
@@ -15,7 +15,7 @@ is_of_kind k _ = false
 abbrev pub has_kind : Kind → View → Bool
 has_kind k v = is_of_kind k (part v)
 
--- how many hold so
+-- how many hold with this kind
 abbrev pub held : Kind → List View → ℕ
 held k vs = count_by (has_kind k) vs
 
@@ -34,12 +34,12 @@ writers vs = held writing vs
 abbrev pub holders : List View → ℕ
 holders vs = ((readers vs + upgradables vs) + askers vs) + writers vs
 
--- readers stand beside at most one that may upgrade, whether it asks or not, a writer stands alone, and no more hold than may
+-- At most one reader may upgrade, whether it has asked or not. A writer holds alone, and no more parties hold than may.
 pub record ReadersOrWriter (vs : List View) : Type 0 where
   pub one_upgradable : upgradables vs + askers vs ≤ 1
   pub writer_alone : 0 < writers vs → holders vs ≡ 1
   pub within_limit : holders vs ≤ reader_limit
 
--- the party with this number holds the lock so
+-- the party with this number holds the lock with this kind
 abbrev pub HoldsAt : List View → ℕ → Kind → Type 0
 HoldsAt vs p k = part_at part vs p ≡ holds k

@@ -1,58 +1,81 @@
 //! What follows from the rule of an `RwLock`. Each law is the contract of a function that does nothing; begin at
 //! [`the_parties_of_a_rwlock_read_or_one_writes`].
-ghost use Rattle.std.specs.Prelude.{◌≡◌, ◌+◌, ◌-◌, ◌*◌, ◌%◌, ◌^◌, ℕ, List, true};
+ghost use Rattle.std.specs.Prelude.{◌≡◌, ◌++◌, ◌+◌, ◌-◌, ◌*◌, ◌%◌, ◌^◌, ℕ, List, true};
 ghost use Rattle.spin_step.specs.Plain.{Kind, reading, upgradable, asking, writing, weight, may_turn};
 ghost use Rattle.spin_step_more.specs.Readers.{tells, released, turned};
 ghost use Rattle.spin_rwlock.specs.declared.rwlock.rule.View.{View};
 ghost use Rattle.spin_core.specs.Own.{Numbered, IsRun};
+ghost use Rattle.spin_core.specs.Values.{IsLast, latest};
+ghost use Rattle.spin_core.specs.declared.tie.Opening.{Opening};
 ghost use Rattle.spin_core.specs.declared.trace.Trace.{Trace};
 ghost use Rattle.spin_rwlock.specs.Rw.{Done, IsRw, views, model, seat_of, words_of};
 ghost use Rattle.spin_rwlock.specs.Standing.{readers, upgradables, askers, writers, holders, ReadersOrWriter, HoldsAt};
 
 /// Each run of an [`RwLock`](crate::rwlock::RwLock) on threads is a schedule of its model.
 ///
-/// The lock's cell keeps, without a byte, the list of all moves that threads have made in it so far: who, and which
+/// The lock's cell keeps, without a byte, the list of all moves that threads have made in it: which party, and which
 /// move.
 ///
 /// # Contract
 /// Whatever holds between any two steps of threads (`IsRw`): no move of the list is passed over in the model. After
 /// the list the model has the lock's word, and has each party where the lock has it.
-pub fn every_run_of_a_rwlock_is_a_schedule()
-    ensures { (name word : ℕ) (trace : Trace Done (Unit {0})) (parties : List (Numbered View)) → IsRw name word trace parties → IsRun model seat_of words_of trace.entries (word, trace.word) parties }
+pub fn every_run_of_a_rwlock_is_a_schedule<T>()
+    ensures { (opening : Opening T) (word : ℕ) (trace : Trace (Done T) (Unit {0})) (parties : List (Numbered View)) → IsRw opening word trace parties → IsRun (model opening.value) seat_of words_of trace.entries (word, trace.word) parties }
 {}
 
 /// States that the word of an `RwLock` is the sum of the weights of its holders.
 ///
 /// # Contract
 /// Where the rule holds (`IsRw`), the word is the number of holders of each kind, times the weight of that kind.
-pub fn the_word_of_a_rwlock_counts_its_parties()
-    ensures { (name word : ℕ) (trace : Trace Done (Unit {0})) (parties : List (Numbered View)) → IsRw name word trace parties → word ≡ ((weight reading * readers (views parties) + weight upgradable * upgradables (views parties)) + weight asking * askers (views parties)) + weight writing * writers (views parties) }
+pub fn the_word_of_a_rwlock_counts_its_parties<T>()
+    ensures { (opening : Opening T) (word : ℕ) (trace : Trace (Done T) (Unit {0})) (parties : List (Numbered View)) → IsRw opening word trace parties → word ≡ ((weight reading * readers (views parties) + weight upgradable * upgradables (views parties)) + weight asking * askers (views parties)) + weight writing * writers (views parties) }
 {}
 
-/// States that many parties read an `RwLock`, or one writes it alone.
+/// States that several parties read an `RwLock`, or one writes it alone.
 ///
 /// # Contract
 /// Where the rule holds (`IsRw`), at most one holder is upgradable, whether it has asked or not. Where a party writes,
 /// it is the only holder (`ReadersOrWriter`).
-pub fn the_parties_of_a_rwlock_read_or_one_writes()
-    ensures { (name word : ℕ) (trace : Trace Done (Unit {0})) (parties : List (Numbered View)) → IsRw name word trace parties → ReadersOrWriter (views parties) }
+pub fn the_parties_of_a_rwlock_read_or_one_writes<T>()
+    ensures { (opening : Opening T) (word : ℕ) (trace : Trace (Done T) (Unit {0})) (parties : List (Numbered View)) → IsRw opening word trace parties → ReadersOrWriter (views parties) }
 {}
 
 /// States that the word of an `RwLock` is zero exactly when the lock has no holder.
 ///
 /// # Contract
 /// Where the rule holds (`IsRw`), a word of 0 means no holder, and no holder means a word of 0.
-pub fn the_word_of_a_rwlock_is_zero_when_nobody_holds()
-    ensures { (name word : ℕ) (trace : Trace Done (Unit {0})) (parties : List (Numbered View)) → IsRw name word trace parties → (word ≡ 0 → holders (views parties) ≡ 0) × (holders (views parties) ≡ 0 → word ≡ 0) }
+pub fn the_word_of_a_rwlock_is_zero_when_nobody_holds<T>()
+    ensures { (opening : Opening T) (word : ℕ) (trace : Trace (Done T) (Unit {0})) (parties : List (Numbered View)) → IsRw opening word trace parties → (word ≡ 0 → holders (views parties) ≡ 0) × (holders (views parties) ≡ 0 → word ≡ 0) }
 {}
 
 /// States that the blind operations on the word of an `RwLock` do what its step functions say.
 ///
-/// A holder releases by a subtraction, and downgrades or asks to upgrade by an addition. Neither sees the word first.
+/// A holder releases by a subtraction, and downgrades or asks to upgrade by an addition. Neither loads the word first.
 ///
 /// # Contract
 /// On each word that the rule allows, the operation makes the word that the step function gives (`released`, `turned`).
-pub fn an_addition_is_its_step_function()
-    ensures release { (name word : ℕ) (trace : Trace Done (Unit {0})) (parties : List (Numbered View)) (p : ℕ) (k : Kind) → IsRw name word trace parties → HoldsAt (views parties) p k → (tells k word ≡ true) × ((word + (2 ^ 64 - weight k)) % 2 ^ 64 ≡ released k word) }
-    ensures downgrade { (name word : ℕ) (trace : Trace Done (Unit {0})) (parties : List (Numbered View)) (p : ℕ) (j k : Kind) → IsRw name word trace parties → HoldsAt (views parties) p j → may_turn j k ≡ true → (tells j word ≡ true) × ((word + (weight k - weight j)) % 2 ^ 64 ≡ turned j k word) }
+pub fn an_addition_is_its_step_function<T>()
+    ensures release { (opening : Opening T) (word : ℕ) (trace : Trace (Done T) (Unit {0})) (parties : List (Numbered View)) (p : ℕ) (k : Kind) → IsRw opening word trace parties → HoldsAt (views parties) p k → (tells k word ≡ true) × ((word + (2 ^ 64 - weight k)) % 2 ^ 64 ≡ released k word) }
+    ensures downgrade { (opening : Opening T) (word : ℕ) (trace : Trace (Done T) (Unit {0})) (parties : List (Numbered View)) (p : ℕ) (j k : Kind) → IsRw opening word trace parties → HoldsAt (views parties) p j → may_turn j k ≡ true → (tells j word ≡ true) × ((word + (weight k - weight j)) % 2 ^ 64 ≡ turned j k word) }
+{}
+
+/// A guard reads the value that was written last in the lock's history, by whichever thread.
+///
+/// The calls of a [`Pass`](crate::rwlock::Pass) say which value was last in the history that the pass knows: `found` of
+/// a guard, and `left` of a writer's release and of its downgrade.
+///
+/// # Contract
+/// Let `x` be the last value of a history `old`, and `y` that of a longer history of the lock (`IsLast`). Then `y` is
+/// what the further moves write last, or `x` where they write nothing (`latest`).
+pub fn a_guard_reads_the_last_value_written<T>()
+    ensures { (opening : Opening T) (old new more : List (Done T)) (x y : T) → opening.told ≡ true → new ≡ old ++ more → IsLast opening old x → IsLast opening new y → latest x more ≡ y }
+{}
+
+/// Two guards read one value, if nothing was written between.
+///
+/// # Contract
+/// Let `x` be the last value of a history `old`, and `y` that of a longer history of the lock (`IsLast`). Where the
+/// further moves write nothing (`latest`), `x` and `y` are the same.
+pub fn two_guards_read_one_value<T>()
+    ensures { (opening : Opening T) (old new more : List (Done T)) (x y : T) → opening.told ≡ true → new ≡ old ++ more → ((z : T) → latest z more ≡ z) → IsLast opening old x → IsLast opening new y → x ≡ y }
 {}

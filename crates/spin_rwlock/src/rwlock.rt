@@ -1,10 +1,11 @@
 //! A spinning lock for many readers or one writer. Begin at [`RwLock::read`] and [`RwLock::write`].
-ghost use Rattle.std.specs.Prelude.{◌≤◌};
+ghost use Rattle.std.specs.Prelude.{◌≡◌, ◌≤◌, true};
 ghost use Rattle.spin_step_more.specs.Readers.{reader_limit};
 
 use spin_core::cell::{Cell, Rule};
 use spin_core::lock::{Lock, SharedLock, with_guard};
 use spin_core::relax::{RelaxStrategy, Spin};
+use spin_core::tie::Opening;
 use spin_core::trace::Trace;
 use std::marker::PhantomData;
 use std::sync::Wait;
@@ -22,18 +23,19 @@ pub use self::reader::{ReadHeld, RwLockReadGuard, SharedGuard};
 pub use self::rule::{Entry, Party, RwRule, View};
 pub use self::upgradable::RwLockUpgradableGuard;
 pub use self::writer::{RwLockWriteGuard, WriteHeld};
+pub use crate::laws::{a_guard_reads_the_last_value_written, two_guards_read_one_value};
 
 /// A reader-writer lock: many readers share the value, or one writer has it alone. A waiting thread spins.
 ///
-/// One reader at a time may be upgradable: it may become the writer without releasing the lock. Until its
-/// [`upgrade`](RwLockUpgradableGuard::upgrade) asks, it keeps no reader out; from then on no new reader is admitted.
-/// Writers are not preferred: readers that keep coming may keep a writer out. A waiting thread passes the time with the
-/// strategy `R`. `V` is always `Party` and `P` always `RwRule<T>`, and neither is ever named.
+/// One reader at a time may be upgradable: it may become the writer without releasing the lock. It admits other readers
+/// until its [`upgrade`](RwLockUpgradableGuard::upgrade) asks; from then on no new reader is admitted. Writers are not
+/// preferred: readers that keep acquiring the lock may keep a writer out. A waiting thread relaxes with strategy `R`.
+/// `V` is always `Party` and `P` always `RwRule<T>`, and neither is ever named.
 ///
 /// # Contract
 /// While the guard or the hold of a writer lives, no other guard gives access to the value. A guard gives a value of
-/// `T`, with all that the invariant of `T` says. An upgrade and a downgrade keep the value. Nothing else is promised of
-/// what other threads wrote.
+/// `T`, with all that the invariant of `T` says. An upgrade and a downgrade keep the value. Without a [`Pass`] nothing
+/// else is promised of what other threads wrote.
 ///
 /// # Examples
 /// ```
@@ -55,12 +57,14 @@ impl<T, R> RwLock<T, R> {
     /// Creates an unlocked lock that holds `value`.
     ///
     /// # Contract
-    /// No clause. The call returns.
-    pub fn new(value: T) -> Self {
+    /// The lock's history begins with this value (`opens`). The call returns.
+    pub fn new(value: T) -> Self
+        ensures opens { (result.cell.value ≡ value) × (result.cell.told ≡ true) }
+    {
         let trace = Trace::new(());
-        let start = trace.watch();
+        let opening = Opening::of(&trace, &value);
         RwLock {
-            cell: Cell::new(value, 0, trace, &start),
+            cell: Cell::new(value, 0, trace, &opening),
             strategy: PhantomData,
         }
     }
@@ -77,8 +81,9 @@ impl<T, R> RwLock<T, R> {
 
     /// Tries to acquire shared access. Returns `None` if a writer holds the lock or an upgrade is pending.
     ///
-    /// It also returns `None` at the limit of readers, `rw::MAX_READERS`. The first compare-exchange takes the lock for
-    /// free. Beside readers a second one is of the word found, and more follow only while other threads change it.
+    /// It also returns `None` at the limit of readers, `rw::MAX_READERS`. The first compare-exchange expects a free
+    /// lock. If there are readers, a second one expects the word found. More follow only while other threads change the
+    /// word.
     ///
     /// # Contract
     /// A guard is that of a reader. `None` promises nothing. Whether and when the call returns is not promised.
@@ -135,7 +140,7 @@ impl<T, R> RwLock<T, R> {
         self.try_write()
     }
 
-    /// Returns the number of readers at some moment during this call, the upgradable reader included.
+    /// Returns the number of readers at some moment during this call, including the upgradable reader.
     ///
     /// It makes one load. By the time the caller reads the answer it may be out of date.
     ///
@@ -218,8 +223,8 @@ impl<T, R, V, P: Rule<T, V>> RwLock<T, R, V, P> {
 impl<T, R: RelaxStrategy> RwLock<T, R> {
     /// Acquires shared access, spinning while a writer holds the lock or an upgrade is pending.
     ///
-    /// It also spins at the limit of readers, `rw::MAX_READERS`. A waiting thread passes the time with strategy `R`; a
-    /// reader that was too late twice backs off. The call never returns if its own thread holds the lock as a writer.
+    /// It also spins at the limit of readers, `rw::MAX_READERS`. A waiting thread relaxes with strategy `R`; a reader
+    /// whose exchange fails twice backs off. The call never returns if its own thread holds the lock as a writer.
     ///
     /// # Contract
     /// The guard is that of a reader. Whether and when the call returns is not promised.
@@ -310,7 +315,7 @@ impl<T, R: RelaxStrategy> SharedLock<T> for RwLock<T, R> {
     }
 }
 
-// SAFETY: its cell goes along, which owns the value. Of the rule no value is made.
+// SAFETY: its cell, which owns the value, is sent too. No value of the rule exists.
 unsafe impl<T: Send, R, V, P: Rule<T, V>> Send for RwLock<T, R, V, P> {}
 
 // SAFETY: any thread may write the value, and several may read it at once. The cell asks it of the rule.

@@ -1,4 +1,5 @@
--- What the mutex owes for each kind of step: the call may be made, the words become those of the state after it, and the answer is the plain one.
+-- What the mutex must show for each kind of step: the call may be made, the words become those of the next state, and
+-- the answer is the plain one.
 use Rattle.std.proofs.Common.{◌≡◌, ℕ, ◌==◌, Bool, true, false, not, List, [], ◌∷◌, length, Some, refl, sym, ap, subst, ◌∙◌, ne_eqb, arith}
 use prog.Atomic.{either}
 use Rattle.spin_step.specs.Plain.{Plain, Holder, writing, gets, releases, to_write, is_open, apply, flag_word}
@@ -9,11 +10,11 @@ use Rattle.spin_seated.specs.Locked.{Locked}
 use Rattle.spin_seated.specs.Mutex.{mutex, Knows, holds, tries, loads, reads, writes, frees}
 use Rattle.spin_seated.proofs.Holders.{held_by, alone_state, alone_is, is_held_by}
 
--- the step function's theorem: on a clear flag the lock is open, and new is the flag after it
+-- the theorem of the step function: if the flag is clear the lock is open, and new is the flag after it
 abbrev pub Takes : ℕ → Type 0
 Takes new = (s : Plain) (p : ℕ) → flag_word s ≡ 0 → (is_open s (gets p to_write) ≡ true) × (new ≡ flag_word (apply s (gets p to_write)))
 
--- on a set flag, new is the flag after the holder has let go
+-- if the flag is set, new is the flag after the holder has released
 abbrev pub Leaves : ℕ → Type 0
 Leaves new = (s : Plain) (p : ℕ) → flag_word s ≡ 1 → is_open s (releases p writing) ≡ true → new ≡ flag_word (apply s (releases p writing))
 

@@ -1,4 +1,4 @@
--- The table's rule under each step: a call, a look of two passes at one history, and how seats come and go.
+-- The table's rule under each step: a call, a look of two passes at one history, and how seats are added and merged.
 use Rattle.std.proofs.Common.{◌≡◌, ℕ, zero, suc, ◌+◌, ◌≤◌, ◌<◌, ◌≢◌, ◌==◌, ⊎_elim, Bool, true, false, cond, List, [], ◌∷◌, ◌++◌, map, take, drop, slice_index, slice_set, set, Option, Some, None, refl, sym, ap, subst, ◌∙◌, append-nil, eq-eqb, eqb-true, arith}
 use Rattle.std.specs.List.{range_with_len}
 use Rattle.std.proofs.lemmas.List.{set-get_or}
@@ -28,7 +28,7 @@ module _ {K C A : Type 0} where
   names-cut p (x ∷ xs) = omega arith
 
 module _ {K S C A H : Type 0} (m : Machine K S C A H) where
-  -- the history of all, and what each seat knows after it has gone on by one call
+  -- the history of all calls, and what each seat knows after one more call
   module _ (k : K) (log : List (Entry C A)) where
     stays : (x : Known K C A) (p : ℕ) (c : C) (a : A) → p ≢ x.pass → Fits m k log x → Fits m k (log ++ entry p c a ∷ []) x
     stays x p c a apart fits =
@@ -118,7 +118,7 @@ module _ {K S C A H : Type 0} (m : Machine K S C A H) where
             legal = grown;
           }
 
-    -- what the step comes to, where its word is found as it stands in the history's state
+    -- the result of the step, if it finds its word as in the history's state
     abbrev Steps : List ℕ → Option (C × A) → Type 0
     Steps words t =
         (w : List (Known K C A)) × (act : Act X) × Valid s.homes [] act × OneHistory m x.opening (stepped (record s { words = words }) i (f (slice_index words i)) id [] w act)
@@ -134,7 +134,7 @@ module _ {K S C A H : Type 0} (m : Machine K S C A H) where
         subst (λ (words : List ℕ). Steps words (told (slice_index words i))) (sym kept.words)
         (steps (told (slice_index (m.words now) i)) (owes kept.log kept.legal (still m tracked x kept.log own_fits.begins own_fits.own) (subst (λ (words : List ℕ). slice_index words i < 18446744073709551616) kept.words small)))
 
-  -- a step of a pass that owes what the lock owes for it
+  -- a step of a pass, if the lock shows what it must for it
   pub allows : {X : Type 0} → IsTracked m → (k : K) (slots id : ℕ) (me : Me X (List (Known K C A))) (x : Known K C A) (i : ℕ) (f : ℕ → ℕ) (st : Step X) (told : ℕ → ℕ → Option (C × A))
       → me ≡ (x ∷ [], []) → x.opening ≡ k → Owes m x i f (told st.first) → Allows (OneHistory m k) slots id me i f (Tells m told st me)
   allows {X} tracked k slots id me x i f st told is opening owes =
@@ -163,7 +163,7 @@ module _ {K S C A H : Type 0} (m : Machine K S C A H) where
         ((kept.log, meets k kept.log x of_x kept.legal fits.0, meets k kept.log y of_y kept.legal fits.1.0), refl),
       ))
 
-  -- the first pass of a seat goes to a seat of its own
+  -- the first pass of a seat gets a seat of its own
   pub splits : {X : Type 0} (k : K) (id : ℕ) (v : List (Known K C A)) → Splits {S = X} (OneHistory m k) id v (drop 1 v) (take 1 v)
   splits k id v s kept at =
       let cut = fit-cut k kept.log v (kept.fit id v at) in
@@ -177,7 +177,7 @@ module _ {K S C A H : Type 0} (m : Machine K S C A H) where
             let parts = names-cut p v in let most : total (names p) s.views ≤ 1 = kept.once p in omega arith;
       }
 
-  -- a seat comes to stand for another's passes too
+  -- a seat takes over another's passes
   pub joins : {X : Type 0} (k : K) (id : ℕ) (v : List (Known K C A)) (other : ℕ) (w : List (Known K C A)) → Joins {S = X} (OneHistory m k) id v other w (w ++ v) []
   joins k id v other w s kept at apart there =
       let w_there : get_elem? s.views other ≡ some w = sym (set_else s.views id other (w ++ v) apart) ∙ there in
@@ -196,7 +196,7 @@ module _ {K S C A H : Type 0} (m : Machine K S C A H) where
   fit-newcomers k a zero room = tt
   fit-newcomers k a (suc n) room = (record { opening = refl; given = omega arith; begins = begins_here []; own = refl }, fit-newcomers k (a + 1) n (omega arith))
 
-  -- of passes numbered from a on, none is named twice, and none below a
+  -- among passes numbered from a on, none is named twice, and none is below a
   abbrev NamedOnce : ℕ → ℕ → ℕ → Type 0
   NamedOnce p a times = (times ≤ 1) × (p < a → times ≡ 0)
 

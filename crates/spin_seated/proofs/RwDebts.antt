@@ -1,4 +1,4 @@
--- What the read-write lock owes for each kind of step.
+-- What the read-write lock must show for each kind of step.
 use Rattle.std.proofs.Common.{◌≡◌, ℕ, ◌+◌, ◌-◌, ◌%◌, ◌^◌, ◌==◌, ◌&&◌, Bool, true, false, if◌then◌else◌, List, [], ◌∷◌, Some, None, refl, sym, ap, ◌∙◌, eqb-true, arith}
 use prog.Atomic.{either}
 use Rattle.spin_step.specs.Plain.{Plain, reading, writing, Change, gets, releases, turns, to_read, to_write, is_open, apply, is_holder, weight, rw_word}
@@ -14,7 +14,7 @@ use Rattle.spin_seated.specs.Rw.{Locked, Answer, Truth, Value, Call, TryRead, Tr
 use Rattle.spin_seated.proofs.Histories.{after_own}
 use Rattle.spin_seated.proofs.RwSteps.{places, there, Standing, standing, tracked}
 
--- the step function's theorem: at this word the lock is open to a reader, and new is the word after it
+-- the theorem of the step function: at this word the lock is open to a reader, and new is the word after it
 abbrev pub LetsRead : ℕ → ℕ → Type 0
 LetsRead old new =
     (s : Plain) (p : ℕ) → OneOfEach s → s.cap ≡ reader_limit → rw_word s ≡ old → (is_open s (gets p to_read) ≡ true) × (new ≡ rw_word (apply s (gets p to_read)))
@@ -22,7 +22,7 @@ LetsRead old new =
 abbrev pub LetsWrite : ℕ → Type 0
 LetsWrite new = (s : Plain) (p : ℕ) → rw_word s ≡ 0 → (is_open s (gets p to_write) ≡ true) × (new ≡ rw_word (apply s (gets p to_write)))
 
--- a step of a pass, at a state that stands
+-- a step of a pass, in a given state
 module _ (p : ℕ) (s : Locked) (st : Standing s) where
   abbrev word : ℕ
   word = rw_word s.lock
@@ -33,7 +33,7 @@ module _ (p : ℕ) (s : Locked) (st : Standing s) where
   one : OneOfEach s.lock
   one = one_of_each s.lock st.exclusive
 
-  -- the words after a change that is open, or not
+  -- the words after a step that is open, or is not
   ends : (d : Change) (b : Bool) (n : ℕ) → is_open s.lock d ≡ b → n ≡ rw_word (apply_some s.lock (if b then Some d else None)) → n ∷ s.value ∷ [] ≡ words_if d (is_open s.lock d)
   ends d b n is to = ap (λ (n : ℕ). n ∷ s.value ∷ []) to ∙ sym (ap (words_if d) is)
 
@@ -56,7 +56,7 @@ module _ (p : ℕ) (s : Locked) (st : Standing s) where
       let shut : is_open s.lock (gets p to_write) ≡ false = empty-word s.lock.holders word refl ∙ taken in
       (ap (may_with TryWrite) free, ends (gets p to_write) false word shut refl, ap Truth (sym shut))
 
-  -- what a holder gives up stands there
+  -- what a holder releases is in the plain lock
   stands : (k : SeatedHold) → hold_in p s ≡ Some k → is_holder p (kind_of k) s.lock.holders ≡ true
   stands k has = there p s k (st.one_place p ∙ ap (places p) has)
 
@@ -70,7 +70,7 @@ loads_owed x free log legal has small = looks_at x.pass (found x log) (standing 
 pub acquires_read_owed : (x : Knows) (old new : ℕ) → LetsRead old new → holds x ≡ None → Owes rw x 0 (λ n. either (n == old) new n) (acquires_read old)
 acquires_read_owed x old new lets free log legal has small = comes_at x.pass (found x log) (standing x.opening log legal) old new (rw_word (found x log).lock == old) (has ∙ free) refl lets
 
--- a pass that a call has open, and as the call found it
+-- the pass of an open call, now and when the call began
 module _ {v w : Seated Call} (same : v ≡ w) where
   held_now : holds v.known ≡ holds w.known
   held_now = ap (λ (u : Seated Call). holds u.known) same
@@ -110,7 +110,7 @@ module _ {v w : Seated Call} (same : v ≡ w) where
       let to = rw_turn-gives s.lock v.known.pass writing reading (rw_word s.lock) (omega arith) refl may in let alone = writer-word s.lock v.known.pass st.exclusive mine in
       (ap (may_with Downgrade) (has ∙ (held_now ∙ held)), ends v.known.pass s st (turns v.known.pass writing reading) true _ may (omega (arith, to, alone)), refl)
 
--- a refusal leaves what is held, as does a step that told nothing
+-- a refusal does not change what is held, nor does a step that told nothing
 pub held_still : (b : Bool) (x y : Knows) → Turned rw (if b then None else Some (TryRead, Truth false)) x y → holds y ≡ holds x
 held_still true x y told = ap holds told
 held_still false x y told = after_own rw tracked x TryRead (Truth false) y told

@@ -1,4 +1,4 @@
--- What a call makes of the plain read-write lock, and what is so of it after a legal history.
+-- What a call does to the plain read-write lock, and what holds after a legal history.
 use Rattle.std.proofs.Common.{◌≡◌, ℕ, ◌≢◌, ◌==◌, ◌&&◌, Bool, true, false, if◌then◌else◌, List, [], ◌∷◌, ◌++◌, Option, Some, None, filter, refl, sym, ap, subst, ◌∙◌, eq-eqb}
 use mathlib.Core.Logic.{dite}
 use native.Mathlib.Decide.{ℕ_discrete}
@@ -15,7 +15,7 @@ use Rattle.spin_seated.specs.Histories.{state, IsLegal, IsTracked}
 use Rattle.spin_seated.specs.Rw.{Opening, Locked, Answer, Call, TryRead, TryWrite, ReaderCount, WriterCount, Read, Write, UnlockRead, UnlockWrite, Downgrade, SeatedHold, kind_of, held, hold_in, may_with, change, where_open, after_call, plain_answer, held_after, rw}
 use Rattle.spin_seated.proofs.Histories.{always}
 
--- where a call makes a step, it is the pass's own, and open
+-- if a call makes a step, it is the pass's own, and open
 opens : (c : Change) (s : Plain) (b : Bool) → is_open s c ≡ b → IsOpenStep s (party_of c) (if b then Some c else None)
 opens c s true is = (refl, is)
 opens c s false is = tt
@@ -31,14 +31,14 @@ step_opens p _ s = tt
 abbrev pub own : ℕ → Locked → List Holder
 own p s = filter (λ h. h.party == p) s.lock.holders
 
--- what a pass holds is left as it is by the calls of others
+-- calls of others do not change what a pass holds
 others : (p q : ℕ) (c : Call) (s : Locked) → q ≢ p → own p (after_call q c s) ≡ own p s
 others p q c s apart = ap (λ (e : Entries). e.holders) (entries-other s.lock q p (where_open s.lock (change q c)) apart (step_opens q c s.lock))
 
 pub steady : (p q : ℕ) (c : Call) (s : Locked) → q ≢ p → hold_in p (after_call q c s) ≡ hold_in p s
 steady p q c s apart = ap held (others p q c s apart)
 
--- the places of a pass that holds so
+-- the holders of a pass that holds in this way
 abbrev pub places : ℕ → Option SeatedHold → List Holder
 places p None = []
 places p (Some k) = holder p (kind_of k) ∷ []
@@ -48,14 +48,14 @@ held-places p None = refl
 held-places p (Some hold.Read) = refl
 held-places p (Some hold.Write) = refl
 
--- after each legal history nobody stands beside a writer, and each pass has one place at most
+-- after each legal history nobody holds with a writer, and each pass is at most one holder
 pub record Standing (s : Locked) : Type 0 where
   pub exclusive : IsExclusive s.lock
   pub cap : s.lock.cap ≡ reader_limit
   pub one_place : (p : ℕ) → own p s ≡ places p (hold_in p s)
 
 module _ (p : ℕ) (s : Locked) where
-  -- the places of a pass after a step, or none, of its own
+  -- the holders of a pass after a step of its own, or none
   abbrev places_after : Option Change → List Holder
   places_after step = (entries_after s.lock step (entries p s.lock)).holders
 

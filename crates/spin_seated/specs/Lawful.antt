@@ -1,4 +1,4 @@
--- What a history of a mutex says, in the words of its users.
+-- What a history of a mutex tells its users.
 use Rattle.std.specs.Prelude.{◌≡◌, ℕ, Bool, true, false, List, map, Option, Some, None}
 use Rattle.spin_seated.specs.declared.history.Entry.{Entry}
 use Rattle.spin_seated.specs.declared.lock.Opening.{Opening}
@@ -17,23 +17,23 @@ History = List (Entry Call Answer)
 abbrev pub holders : Opening → History → List ℕ
 holders k log = map (λ h. h.party) (state mutex k log).lock.holders
 
--- a pass holds from a try that is granted to it until it unlocks
+-- a pass holds the lock from a `try_lock` that succeeds until it unlocks
 abbrev pub holds_then : Call → Answer → Bool → Bool
 holds_then TryLock (Truth true) held = true
 holds_then Unlock a held = false
 holds_then c a held = held
 
--- it holds after these calls of its own
+-- what it holds after these calls of its own
 abbrev pub holds_by : History → Bool
 holds_by own = hold_after holds_then false own
 
--- which calls come from a pass that holds, or not
+-- which calls a pass may make while it holds, and while it does not
 abbrev pub MayCall : Call → Bool → Type 0
 MayCall TryLock held = Unit {0}
 MayCall IsLocked held = Unit {0}
 MayCall c held = held ≡ true
 
--- the value that a call writes, and that a call reads
+-- the value that a call writes; the value that a call reads
 abbrev pub written : Call → Option ℕ
 written (Write w) = Some w
 written _ = None
@@ -42,11 +42,11 @@ abbrev pub read_by : Call → Answer → Option ℕ
 read_by Read (Value v) = Some v
 read_by _ _ = None
 
--- the value of the last write, or the one that stood there before
+-- the value of the last write, or v if there is none
 abbrev pub last_written : ℕ → History → ℕ
 last_written v log = value_after written v log
 
--- all values that were written, and all that were read, in the order of the history
+-- all values written, and all values read, in the order of the history
 abbrev pub values_written : History → List ℕ
 values_written log = all_written written log
 

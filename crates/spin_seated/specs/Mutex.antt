@@ -14,7 +14,7 @@ use Rattle.spin_seated.specs.Locked.{Locked}
 abbrev pub opened : Opening → Locked
 opened k = record { lock = fresh 1 1 0; value = k.value }
 
--- what comes from the holder alone
+-- only the holder may make the other calls
 abbrev pub may_call : ℕ → Call → Locked → Bool
 may_call p TryLock s = true
 may_call p IsLocked s = true
@@ -58,11 +58,11 @@ mutex =
 abbrev pub Knows : Type 0
 Knows = Known Opening Call Answer
 
--- the pass holds at the end of its history
+-- the pass holds the lock at the end of its history
 abbrev pub holds : Knows → Bool
 holds x = histories.holds mutex x
 
--- what a step tells, by its operand and the word that it found
+-- what a step tells, by its operand and the word found
 abbrev pub tries : ℕ → ℕ → Option (Call × Answer)
 tries old found = Some (TryLock, Truth (found == 0))
 

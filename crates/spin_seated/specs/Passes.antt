@@ -1,4 +1,4 @@
--- A pass as clauses see it, and which passes belong to a lock.
+-- A pass as contracts see it, and which passes belong to a lock.
 use Rattle.std.specs.Prelude.{◌≡◌, ℕ, List, [], ◌∷◌, Option, Some, None, map}
 use Rattle.std.specs.List.{range_with_len}
 use Rattle.atomic_table.specs.Seated.{TableId}
@@ -16,7 +16,7 @@ no_table = record { words = 0; slots = 0; views_name = 0; atom = 0; block = 0; o
 abbrev pub Knows : Type 0 → Type 0
 Knows C = Known Opening C Answer
 
--- a pass: whose it is, and what it knows
+-- a pass: the table of its lock, and what it knows
 pub record Seated (C : Type 0) : Type 0 where
   pub table : TableId
   pub known : Known Opening C Answer
@@ -33,12 +33,12 @@ module _ {C : Type 0} where
   seated_of None = record { table = no_table; known = nobody }
   seated_of (Some s) = record { table = s.table_id; known = first_of_view s.me.0 }
 
-  -- there is a seat, and it stands for one pass
+  -- there is a seat, and exactly one pass sits there
   abbrev pub IsOneSeat : Option (Seat ℕ (List (Knows C))) → Type 0
   IsOneSeat None = ⊥
   IsOneSeat (Some s) = s.me ≡ (first_of_view s.me.0 ∷ [], [])
 
-  -- a pass of this table that has made no call, and knows of none
+  -- a pass of this table that has made no call and knows of none
   abbrev pub new_pass : TableId → Opening → ℕ → Seated C
   new_pass table opening p = record { table = table; known = newcomer opening p }
 
@@ -50,10 +50,10 @@ module _ {C A H : Type 0} where
   abbrev pub IsPassOf : SeatedLock C A H → Seated C → Type 0
   IsPassOf lock p = (p.table ≡ lock.table.shared.table_id) × (p.known.opening ≡ opening_of lock)
 
-  -- the pass of this number, as `new` gave it
+  -- the pass with this number, as `new` returned it
   abbrev pub pass_of : SeatedLock C A H → ℕ → Seated C
   pass_of lock p = new_pass lock.table.shared.table_id (opening_of lock) p
 
-  -- a pass for each number below that which `new` was asked for
+  -- one pass for each number below the count that `new` was given
   abbrev pub all_passes_of : SeatedLock C A H → List (Seated C)
   all_passes_of lock = map (pass_of lock) (range_with_len 0 (opening_of lock).passes)

@@ -1,4 +1,4 @@
--- The plain read-write lock. It passes on the types that its words are about.
+-- The plain read-write lock. It also exports the types of its words.
 use Rattle.std.specs.Prelude.{ℕ, ◌==◌, Bool, true, false, if◌then◌else◌, List, [], ◌∷◌, Option, Some, None, filter}
 use Rattle.std.specs.Option.{unwrap_or}
 use Rattle.spin_step.specs.Plain.{Plain, Kind, reading, writing, Holder, fresh, Change, gets, releases, turns, to_read, to_write, is_open, count_kind, reader_count, rw_word}
@@ -19,7 +19,7 @@ pub use Rattle.spin_seated.specs.Locked.{Locked}
 abbrev pub opened : Opening → Locked
 opened k = record { lock = fresh reader_limit 1 0; value = k.value }
 
--- how a holder of this kind holds; nobody here is upgradable
+-- what a holder of this kind holds; there are no upgradable holders here
 abbrev pub hold_of : Kind → SeatedHold
 hold_of writing = hold.Write
 hold_of _ = hold.Read
@@ -28,7 +28,7 @@ abbrev pub kind_of : SeatedHold → Kind
 kind_of hold.Read = reading
 kind_of hold.Write = writing
 
--- of the places that a pass has among the holders, the first
+-- the first hold of a pass among its holders
 abbrev pub held : List Holder → Option SeatedHold
 held [] = None
 held (h ∷ hs) = Some (hold_of h.kind)
@@ -36,7 +36,7 @@ held (h ∷ hs) = Some (hold_of h.kind)
 abbrev pub hold_in : ℕ → Locked → Option SeatedHold
 hold_in p s = held (filter (λ h. h.party == p) s.lock.holders)
 
--- which calls a pass may make that holds this
+-- which calls a pass may make while it holds this
 abbrev pub may_with : Call → Option SeatedHold → Bool
 may_with TryRead None = true
 may_with TryWrite None = true
@@ -49,7 +49,7 @@ may_with UnlockWrite (Some hold.Write) = true
 may_with Downgrade (Some hold.Write) = true
 may_with _ _ = false
 
--- the plain step that a call is for
+-- the plain step of a call
 abbrev pub change : ℕ → Call → Option Change
 change p TryRead = Some (gets p to_read)
 change p TryWrite = Some (gets p to_write)
@@ -58,12 +58,12 @@ change p UnlockWrite = Some (releases p writing)
 change p Downgrade = Some (turns p writing reading)
 change p _ = None
 
--- it is made where it is open
+-- the step, if it is open
 abbrev pub where_open : Plain → Option Change → Option Change
 where_open s None = None
 where_open s (Some c) = if is_open s c then Some c else None
 
--- the value that it writes
+-- the value that a call writes
 abbrev pub written : Call → Option ℕ
 written (Write w) = Some w
 written _ = None
@@ -108,9 +108,9 @@ Knows = Known Opening Call Answer
 abbrev pub holds : Knows → Option SeatedHold
 holds x = histories.holds rw x
 
--- what a step tells, by its operand and the word that it found
+-- what a step tells, by its operand and the word found
 
--- a try to read is refused by a word that has no room, and granted by an exchange that found what it looked for
+-- A `try_read` is refused by a word without room. It succeeds by an exchange that found what it expected.
 abbrev pub refused_by : ℕ → Option (Call × Answer)
 refused_by found = if has_room reading found reader_limit then None else Some (TryRead, Truth false)
 
@@ -135,6 +135,6 @@ reads none found = Some (Read, Value found)
 abbrev pub writes : ℕ → ℕ → Option (Call × Answer)
 writes new found = Some (Write new, Done)
 
--- a step that is this call, whatever it finds
+-- a step that is this call, whatever word it finds
 abbrev pub is_call : Call → ℕ → ℕ → Option (Call × Answer)
 is_call c by found = Some (c, Done)

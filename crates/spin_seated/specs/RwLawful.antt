@@ -1,4 +1,4 @@
--- What a history of a read-write lock says, in the words of its users.
+-- What a history of a read-write lock tells its users.
 use Rattle.std.specs.Prelude.{◌≡◌, ℕ, true, List, [], ◌∷◌, Option, Some, None}
 use Rattle.spin_step.specs.Plain.{reading, writing, Holder, holder}
 use Rattle.spin_seated.specs.declared.history.Entry.{Entry}
@@ -20,7 +20,7 @@ History = List (Entry Call Answer)
 abbrev pub holders : Opening → History → List Holder
 holders k log = (state rw k log).lock.holders
 
--- a pass reads or writes from a try on that is granted to it until it unlocks, and reads on after a downgrade
+-- A pass reads or writes from a try that succeeds until it unlocks. After a downgrade it reads.
 abbrev pub holds_then : Call → Answer → Option SeatedHold → Option SeatedHold
 holds_then TryRead (Truth true) held = Some hold.Read
 holds_then TryWrite (Truth true) held = Some hold.Write
@@ -33,13 +33,13 @@ holds_then c a held = held
 abbrev pub holds_by : History → Option SeatedHold
 holds_by own = hold_after holds_then None own
 
--- its place among the holders
+-- the holder that it is, as a list
 abbrev pub place_of : ℕ → Option SeatedHold → List Holder
 place_of p None = []
 place_of p (Some hold.Read) = holder p reading ∷ []
 place_of p (Some hold.Write) = holder p writing ∷ []
 
--- which calls come from a pass that holds nothing, that holds, that reads, or that writes
+-- which calls a pass may make while it holds nothing, reads, or writes
 abbrev pub MayCall : Call → Option SeatedHold → Type 0
 MayCall TryRead held = held ≡ None
 MayCall TryWrite held = held ≡ None
@@ -55,7 +55,7 @@ abbrev pub written : Call → Option ℕ
 written (Write w) = Some w
 written _ = None
 
--- the value of the last write, or the one that stood there before
+-- the value of the last write, or v if there is none
 abbrev pub last_written : ℕ → History → ℕ
 last_written v log = value_after written v log
 
@@ -64,7 +64,7 @@ abbrev pub read_by : Call → Answer → Option ℕ
 read_by Read (Value v) = Some v
 read_by _ _ = None
 
--- all values that were written, and all that were read, in the order of the history
+-- all values written, and all values read, in the order of the history
 abbrev pub values_written : History → List ℕ
 values_written log = all_written written log
 

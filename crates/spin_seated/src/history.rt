@@ -1,4 +1,4 @@
-//! What a pass knows. No value of these types is made: clauses speak of them, and they cost nothing. Begin with
+//! What a pass knows. No value of these types is made: only contracts use them, and they cost nothing. Begin with
 //! [`Known`].
 use atomic_table::{Join, Split};
 use std::collections::LinkedList;
@@ -17,7 +17,7 @@ pub struct Known<K, C, A> {
     pub seen: LinkedList<Entry<C, A>>,
 }
 
-/// What a seat at the table knows, of each pass that it stands for.
+/// What a seat at the table knows of each of its passes.
 pub type View<K, C, A> = LinkedList<Known<K, C, A>>;
 
 /// The first pass of a view gets a seat of its own.
@@ -31,7 +31,7 @@ impl<K, C, A> Split<View<K, C, A>> for First {
     ghost right = { λ v. take 1 v };
 }
 
-/// One seat stands for the passes of two.
+/// The passes of two seats get one seat.
 pub(crate) struct Both;
 
 impl<K, C, A> Join<View<K, C, A>> for Both {

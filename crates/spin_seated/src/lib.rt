@@ -2,7 +2,7 @@
 //! that meet know the same one.
 //!
 //! Begin with [`mutex::SeatedMutex`]; [`laws`] has what follows from a history. A *pass* is a place among the callers
-//! of one lock: each call takes a pass, and a clause sees the history that the pass knows.
+//! of one lock. Each call takes a pass, and contracts see the history that the pass knows.
 #![tactic(auto)]
 
 pub mod history;

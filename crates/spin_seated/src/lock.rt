@@ -1,5 +1,5 @@
-//! A lock on a table of two words, whose calls are in one history. Begin with [`SeatedLock`]; each lock says by a
-//! machine of plain answers which calls may be made and what they answer ([`Calls`]).
+//! A lock on a table of two words, whose calls are in one history. Begin with [`SeatedLock`]. Each lock has a machine
+//! that says which calls may be made and what they answer ([`Calls`]).
 ghost use Rattle.std.specs.Prelude.{◌≡◌, ℕ};
 ghost use Rattle.spin_seated.specs.Histories.{Machine};
 ghost use Rattle.spin_seated.specs.Locked.{Locked, IsLock};
@@ -23,7 +23,7 @@ pub struct Opening {
     pub passes: usize,
 }
 
-/// What a call answers.
+/// The answer of a call.
 #[derive(Clone, Copy)]
 pub enum Answer {
     Truth(bool),
@@ -31,7 +31,7 @@ pub enum Answer {
     Done,
 }
 
-/// The calls of a lock, which say what lock it is.
+/// The calls of a lock. They determine what lock it is.
 pub trait Calls {
     /// What a pass may hold.
     type Hold: Copy;
@@ -39,10 +39,10 @@ pub trait Calls {
     ghost use Rattle.spin_seated.specs.declared.lock.Opening.{Opening};
     ghost use Rattle.spin_seated.specs.declared.lock.Answer.{Answer};
 
-    // The plain lock: which calls a pass may make, what they are answered, and what a pass holds after them.
+    // The plain lock: which calls a pass may make, their answers, and what a pass holds after them.
     ghost machine: { Machine Opening Locked Self Answer Self.Hold };
 
-    /// Returns what a pass holds that has made no call.
+    /// Returns what a pass holds before its first call.
     ///
     /// # Contract
     /// It is what each pass holds in the machine's first state.

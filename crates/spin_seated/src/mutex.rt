@@ -33,7 +33,7 @@ impl Calls for Call {
 
 /// A mutex of one number, whose calls are in one history.
 ///
-/// Like a `Mutex`, and callers can also prove what happened, not only what holds now.
+/// It is like a `Mutex`, but callers can also prove what happened, not only what holds now.
 ///
 /// # Examples
 /// ```
@@ -52,5 +52,5 @@ impl Calls for Call {
 /// ```
 pub type SeatedMutex<A = Global> = SeatedLock<Call, A>;
 
-/// A place among the callers of one `SeatedMutex`. `holds` says whether it holds the lock.
+/// A place among the callers of one `SeatedMutex`. `holds` says whether the pass holds the lock.
 pub type Pass = lock::Pass<Call>;

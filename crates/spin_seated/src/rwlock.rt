@@ -63,5 +63,5 @@ impl Calls for Call {
 /// ```
 pub type SeatedRwLock<A = Global> = SeatedLock<Call, A>;
 
-/// A place among the callers of one `SeatedRwLock`. `holds` says how it holds the lock.
+/// A place among the callers of one `SeatedRwLock`. `holds` says how the pass holds the lock.
 pub type RwPass = lock::Pass<Call>;

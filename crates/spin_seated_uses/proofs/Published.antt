@@ -1,4 +1,4 @@
--- What passes read and wrote, by the calls that they made, and what that is in one history of all.
+-- What passes read and wrote, by their calls, and what that is in one history of all calls.
 use Rattle.std.proofs.Common.{◌≡◌, ℕ, zero, suc, ◌<◌, ◌≢◌, ◌==◌, Bool, true, false, if◌then◌else◌, List, [], ◌∷◌, ◌++◌, refl, sym, ap, subst, ◌∙◌, eq-eqb, arith}
 use Rattle.std.proofs.lemmas.Grind.{flat_map-append}
 use Rattle.std.specs.Option.{option_to_list}
@@ -16,7 +16,7 @@ use Rattle.spin_seated.proofs.Histories.{calls_by-append}
 values_written-append : (xs ys : History) → values_written (xs ++ ys) ≡ values_written xs ++ values_written ys
 values_written-append xs ys = flat_map-append (λ (e : Entry Call Answer). option_to_list (written e.call)) xs ys
 
--- where one pass alone writes, all that is written is its own
+-- if only one pass writes, all that is written is its own
 none_after : (xs ys : List ℕ) → xs ++ ys ≡ [] → (xs ≡ []) × (ys ≡ [])
 none_after [] ys none = (refl, none)
 none_after (x ∷ xs) ys none = absurd (cc none)
@@ -42,7 +42,7 @@ one_writes n p s (e ∷ es) legal silent =
     (λ other. silent_now e es (silent e.pass legal.0 (λ same. false≢true (sym other ∙ eq-eqb e.pass p same))))
     (one_writes n p (after_call e.pass e.call s) es legal.3 (λ q below apart. silent_after e (calls_by q es) (e.pass == q) (silent q below apart)))
 
--- what is seen in the order of some values is so in the order of those and more
+-- values seen in the order of some values are also in the order of those and further ones
 longer : (values more seen : List ℕ) → InOrderOf values seen → InOrderOf (values ++ more) seen
 longer _ more _ done = done
 longer _ more _ (looks rest) = looks (longer _ more _ rest)

@@ -1,4 +1,4 @@
--- Passes that add: the value is what the lock was opened with, and one more for each write.
+-- Passes that add: the value is the opening value plus one for each write.
 use Rattle.std.proofs.Common.{◌≡◌, ℕ, zero, suc, ◌+◌, ◌<◌, ◌≢◌, ◌==◌, ◌&&◌, ◌||◌, Bool, true, false, if◌then◌else◌, List, [], ◌∷◌, ◌++◌, Option, Some, None, option_and_then, append_assoc, refl, sym, ap, subst, ◌∙◌, eqb-true, eq-eqb, arith}
 use Rattle.std.proofs.lemmas.Bool.{false≢true}
 use Rattle.spin_step.specs.Plain.{Holder, holder, writing, same_kind, is_holder, is_empty}
@@ -40,14 +40,14 @@ module _ (x : Knows) (c : Call) (a : Answer) (y : Knows) (made : Made mutex x c 
   pub writes_grow : writes_in (own_calls y) ≡ writes_in (own_calls x) + is_write c
   writes_grow = let e = ap writes_in own_grows in let t = total-append (λ (e : Entry Call Answer). is_write e.call) (own_calls x) (entry x.pass c a ∷ []) in omega arith
 
--- what is so of the lock where a pass is that far
+-- what holds of the lock while a pass is this far
 abbrev pub Matches : ℕ → Section → Locked → Type 0
 Matches p away s = is_held_by p s ≡ false
 Matches p entered s = is_held_by p s ≡ true
 Matches p (has_read v) s = (is_held_by p s ≡ true) × (s.value ≡ v)
 Matches p has_written s = is_held_by p s ≡ true
 
--- one call: what becomes of the value and of each pass's section
+-- one call: what happens to the value, and to each pass's section
 module _ (n : ℕ) (s : Locked) (alone : Alone n s.lock.holders) where
   only_one : (p q : ℕ) → is_held_by p s ≡ true → is_held_by q s ≡ true → q ≡ p
   only_one p q held too =
@@ -55,7 +55,7 @@ module _ (n : ℕ) (s : Locked) (alone : Alone n s.lock.holders) where
       let h : holder q writing ≡ holder p writing = cc one in
       ap (λ (h : Holder). h.party) h
 
-  -- a write comes from the holder, so a pass that has read and isn't the writer doesn't hold
+  -- only the holder writes; so a pass that has read, and is not the writer, does not hold
   value_stays : (p q : ℕ) (c : Call) → may_call p c s ≡ true → q ≢ p → is_held_by q s ≡ true → (after_call p c s).value ≡ s.value
   value_stays p q TryLock may apart held = value_tried p s (is_empty s.lock.holders)
   value_stays p q IsLocked may apart held = refl
@@ -203,7 +203,7 @@ nobody (h ∷ []) alone first second =
     not_either q below zero_no one_no = omega arith
 nobody (h ∷ g ∷ hs) alone first second = absurd alone
 
--- Two passes that have added meet, and the first, whose number is 0, tries the lock
+-- Two passes that have added meet. Then the first one, whose number is 0, tries to acquire the lock.
 module _ (k : Opening) (a b met_a met_b tried_a : Knows) (granted : Bool) (two : k.passes ≡ 2) (of_a : a.opening ≡ k) (number_a : a.pass ≡ 0) (number_b : b.pass ≡ 1)
     (turn_a : section_of a ≡ Some away) (turn_b : section_of b ≡ Some away)
     (first : Met mutex a met_a.seen met_a) (second : Met mutex b met_a.seen met_b) (tries : Made mutex met_a TryLock (Truth granted) tried_a) where
@@ -222,7 +222,7 @@ module _ (k : Opening) (a b met_a met_b tried_a : Knows) (granted : Bool) (two :
   number_met_b : met_b.pass ≡ 1
   number_met_b = second.pass ∙ number_b
 
-  -- then they meet again, and by the history that both know the try was granted
+  -- then they meet again, and the history that both know shows that the try succeeded
   pub is_granted : (end_a end_b : Knows) → Met mutex tried_a end_a.seen end_a → Met mutex met_b end_a.seen end_b → granted ≡ true
   is_granted end_a end_b third fourth =
       let at = made_at mutex met_a TryLock (Truth granted) tried_a tries in

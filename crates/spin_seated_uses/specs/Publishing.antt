@@ -8,14 +8,14 @@ use Rattle.spin_seated.specs.Passes.{Seated, IsPassOf, pass_of}
 use Rattle.spin_seated.specs.Rw.{Knows}
 use Rattle.spin_seated.specs.RwLawful.{values_written, values_read}
 
--- what a pass knows extends what it knew: it has read and written these values more
+-- what a pass knows extends what it knew: it has also read and written these values
 pub record Extends (x y : Knows) (read written : List ℕ) : Type 0 where
   pub number : y.pass ≡ x.pass
   pub reads : values_read (own_calls y) ≡ values_read (own_calls x) ++ read
   pub writes : values_written (own_calls y) ≡ values_written (own_calls x) ++ written
 
 module _ {A : Type 0} where
-  -- the pass of this number has read these values, so many, and has written none
+  -- the pass with this number has read so many values, these ones, and has written none
   pub record HasLooked (lock : SeatedLock Call A (Option SeatedHold)) (number times : ℕ) (p : Seated Call) (seen : List ℕ) : Type 0 where
     pub own : IsPassOf lock p
     pub goes_on : Extends (pass_of lock number).known p.known seen []

@@ -1,4 +1,5 @@
--- A pass that adds: each time that it is granted the lock, it reads, writes one more than it read or writes nothing, and releases.
+-- A pass that adds. Each time it acquires the lock it reads, writes one more than it read or writes nothing, and
+-- releases.
 use Rattle.std.specs.Prelude.{◌≡◌, ℕ, Bool, ◌+◌, ◌==◌, true, false, if◌then◌else◌, List, [], ◌∷◌, Option, Some, None, option_and_then}
 use Rattle.spin_seated.specs.declared.history.Entry.{Entry}
 use Rattle.spin_seated.specs.declared.mutex.Call.{Call}
@@ -10,14 +11,14 @@ use Rattle.spin_seated.specs.declared.lock.SeatedLock.{SeatedLock}
 use Rattle.spin_seated.specs.Mutex.{Knows}
 use Rattle.spin_seated.specs.Passes.{Seated, IsPassOf}
 
--- how far it is in its critical section
+-- how far the pass is in its critical section
 pub data Section : Type 0 where
   away : Section
   entered : Section
   has_read : ℕ → Section
   has_written : Section
 
--- how far it is after one more call; None where a pass that adds makes no such call
+-- how far it is after one more call; None if a pass that adds makes no such call
 abbrev pub next_section : Section → Call → Answer → Option Section
 next_section away TryLock (Truth true) = Some entered
 next_section away TryLock (Truth false) = Some away
@@ -43,6 +44,6 @@ abbrev pub writes_in : List (Entry Call Answer) → ℕ
 writes_in log = total (λ e. is_write e.call) log
 
 module _ {A : Type 0} where
-  -- a pass of this mutex that has done nothing but add, and has written so often
+  -- a pass of this mutex that has only added, and has written n times
   abbrev pub HasAdded : SeatedLock Call A Bool → Seated Call → ℕ → Type 0
   HasAdded lock p n = IsPassOf lock p × (section_of p.known ≡ Some away) × (writes_in (own_calls p.known) ≡ n)

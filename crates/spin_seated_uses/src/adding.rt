@@ -1,7 +1,7 @@
-//! A proved caller: two threads add under one lock, and what is read in the end is the number of their additions. Begin
-//! with [`add_in_two`].
+//! A proved caller: two threads add under one lock, and the value read at the end is the number of their additions.
+//! Begin with [`add_in_two`].
 //!
-//! The proof is from the one history that both passes know once they have met. No call says what another thread did.
+//! The proof uses the one history that both passes know once they have met. No call says what another thread did.
 ghost use Rattle.std.specs.Prelude.{◌≡◌, ◌+◌, Some, if◌then◌else◌, IfOk, IfSome};
 ghost use Rattle.spin_seated.specs.Histories.{own_calls};
 ghost use Rattle.spin_seated.specs.Passes.{IsPassOf, opening_of, pass_of};
@@ -14,7 +14,7 @@ use std::thread::{Threads, join};
 /// Creates a lock for two callers, and their passes. Fails if there is no memory.
 ///
 /// # Contract
-/// The lock was opened with `value` and two passes. The passes are its first and its second, and have made no call.
+/// The lock opens with `value` and two passes. These are its first and its second pass, and have made no call.
 pub fn open_for_two(alloc: Global, value: u64) -> Result<(SeatedMutex, Pass, Pass), AllocError>
     ensures opening { IfOk result (λ r. opening_of r.0 ≡ record { value = value; passes = 2 }) }
     ensures passes { IfOk result (λ r. (r.1 ≡ pass_of r.0 0) × (r.2 ≡ pass_of r.0 1)) }
@@ -29,11 +29,11 @@ pub fn open_for_two(alloc: Global, value: u64) -> Result<(SeatedMutex, Pass, Pas
     Ok((lock, first, second))
 }
 
-/// Adds 1 if the lock is granted and there is room. Returns whether it did.
+/// Adds 1 if it acquires the lock and there is room. Returns whether it did.
 ///
 /// # Contract
-/// The pass has to be one of this lock, outside its critical section, and is so again. Its own calls have one write
-/// more if the answer is `true`, and as many as before otherwise (`added`).
+/// The pass has to be one of this lock, outside its critical section. Afterwards it is outside again. Its own calls
+/// have one more write if the answer is `true`, otherwise as many as before (`added`).
 pub fn add(lock: &SeatedMutex, pass: &mut Pass) -> bool
     requires own { IsPassOf lock.now pass.old }
     requires section { section_of pass.old.known ≡ Some away }
@@ -55,10 +55,10 @@ pub fn add(lock: &SeatedMutex, pass: &mut Pass) -> bool
     true
 }
 
-/// Tries to add 1, `turns` times. Returns the pass, and how often it did.
+/// Tries to add 1, `turns` times. Returns the pass, and how often it added.
 ///
 /// # Contract
-/// The pass has to be one of this lock, outside its critical section, and to have added nothing. Afterwards it has
+/// The pass has to be one of this lock, outside its critical section, and must not have added yet. Afterwards it has
 /// added as often as the answer says (`HasAdded`).
 pub fn add_some(lock: &SeatedMutex, mut pass: Pass, turns: u64) -> (Pass, u64)
     requires { HasAdded lock.now pass 0 }
@@ -74,14 +74,14 @@ pub fn add_some(lock: &SeatedMutex, mut pass: Pass, turns: u64) -> (Pass, u64)
     (pass, added)
 }
 
-/// Reads what the lock holds once two passes have added.
+/// Reads the lock's value after two passes have added.
 ///
-/// They meet, so that the first pass's next call comes after all that the second did. They meet again after it, so that
-/// no other call came between. The first pass holds the lock afterwards.
+/// First the passes meet, so the next call of the first pass follows all calls of the second. After that call they meet
+/// again. This shows that no other call was in between. The first pass holds the lock afterwards.
 ///
 /// # Contract
-/// The lock has to have two passes, and these have to be both, each outside its critical section. The answer is what
-/// the lock was opened with, and the additions of both.
+/// The lock has to have two passes: `a` is the first, and `b` is the second. Each has to be outside its critical
+/// section. The answer is the opening value plus the additions of both.
 pub fn read_sum(lock: &SeatedMutex, a: &mut Pass, b: &mut Pass) -> u64
     requires own { IsPassOf lock.now a.old × IsPassOf lock.now b.old }
     requires two { (opening_of lock.now).passes ≡ 2 }
@@ -100,11 +100,11 @@ pub fn read_sum(lock: &SeatedMutex, a: &mut Pass, b: &mut Pass) -> u64
     value
 }
 
-/// Adds from two threads under one lock, from each up to `turns` times. Returns what is read in the end, and how often
-/// each added.
+/// Adds from two threads under one lock, each up to `turns` times. Returns the value read at the end, and how often
+/// each thread added.
 ///
 /// # Contract
-/// What is read is the sum of both numbers. That a thread adds at all is not promised.
+/// The value read is the sum of both numbers. That a thread adds at all is not promised.
 pub fn add_in_two<R: Threads + Sync>(
     rt: &R,
     alloc: Global,

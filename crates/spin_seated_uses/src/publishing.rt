@@ -1,7 +1,7 @@
-//! A proved caller: one thread publishes values under one lock while two read it, and no reader sees an older value
-//! than it saw before. Begin with [`publish_to_two`].
+//! A proved caller: one thread publishes values under one lock while two read it. No reader sees an older value than it
+//! saw before. Begin with [`publish_to_two`].
 //!
-//! The proof is from the one history that all three know once they have met. No call says what another thread did.
+//! The proof uses the one history that all three know once they have met. No call says what another thread did.
 ghost use Rattle.std.specs.Prelude.{◌≡◌, [], ◌∷◌, None, Some, IfOk, length};
 ghost use Rattle.spin_seated.specs.Histories.{own_calls};
 ghost use Rattle.spin_seated.specs.Locked.{InOrderOf};
@@ -20,8 +20,7 @@ use std::thread::{Threads, join};
 /// Creates a lock for three callers, and their passes. Fails if there is no memory.
 ///
 /// # Contract
-/// The lock was opened with `value` and three passes. The passes are its first, second and third, and have made no
-/// call.
+/// The lock opens with `value` and three passes. These are its first, second and third pass, and have made no call.
 pub fn open_for_three(
     alloc: Global,
     value: u64,
@@ -42,7 +41,7 @@ pub fn open_for_three(
     Ok((lock, first, second, third))
 }
 
-/// Tries until the lock is granted in this way.
+/// Tries until it acquires the lock in this way.
 fn acquire<W: Wait>(rt: &W, lock: &SeatedRwLock, pass: &mut RwPass, hold: SeatedHold)
     requires own { IsPassOf lock.now pass.old }
     requires free { holds pass.old.known ≡ None }
@@ -63,7 +62,7 @@ fn acquire<W: Wait>(rt: &W, lock: &SeatedRwLock, pass: &mut RwPass, hold: Seated
     unreachable!()
 }
 
-/// Publishes a value as soon as the lock is granted.
+/// Publishes a value once it has acquired the lock.
 fn publish<W: Wait>(rt: &W, lock: &SeatedRwLock, pass: &mut RwPass, value: u64)
     requires own { IsPassOf lock.now pass.old }
     requires free { holds pass.old.known ≡ None }
@@ -76,7 +75,7 @@ fn publish<W: Wait>(rt: &W, lock: &SeatedRwLock, pass: &mut RwPass, value: u64)
     lock.unlock_write(pass);
 }
 
-/// Reads the value as soon as the lock is granted.
+/// Reads the value once it has acquired the lock.
 fn look<W: Wait>(rt: &W, lock: &SeatedRwLock, pass: &mut RwPass) -> u64
     requires own { IsPassOf lock.now pass.old }
     requires free { holds pass.old.known ≡ None }
@@ -149,7 +148,7 @@ fn look_in_two<R: Threads + Wait + Sync>(
     )
 }
 
-/// Compares what two readers saw with what a third pass published, once all have met.
+/// Compares what two readers saw with what a third pass published, after all have met.
 ///
 /// The readers meet first, and then one of them meets the writer. So the writer knows all that both readers know.
 ///
@@ -171,7 +170,7 @@ pub fn compare(lock: &SeatedRwLock, writer: &mut RwPass, first: &mut RwPass, sec
 }
 
 /// Publishes values from one thread in their order, while two others read, each `times` times. Returns what the two
-/// read. Each thread waits until the lock is granted.
+/// read. Each thread waits until it acquires the lock.
 ///
 /// # Contract
 /// Each reader read `times` values: the opening value and those published, in their order, so never an older one than

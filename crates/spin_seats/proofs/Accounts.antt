@@ -1,4 +1,4 @@
--- What a party knows of its own moves after a step, and after one step of a call behind another.
+-- What a party knows of its own moves after a step, and after several steps of a call.
 use Rattle.std.proofs.Common.{◌≡◌, ℕ, Bool, true, false, Option, Some, None, List, length, is_some, nat_lt, arith, ◌==◌, if◌then◌else◌, refl, subst}
 use mathlib.Core.Logic.{inr}
 use Rattle.spin_core.specs.Cell.{Ways, Moved}
@@ -39,7 +39,7 @@ module _ (n name : ℕ) (seen : Watch rule.Done) (same : name ≡ seen.name) whe
   pub may_know : MayKnow (IsSeats n name) ways seen
   may_know = inr named
 
-  -- what a step tells a party that knew all up to its last one
+  -- what a step tells a party that knew everything up to its last step
   module _ (view : Option (Numbered View)) (now : Option (Numbered View) × Watch rule.Done) (found : ℕ) (knew : mark_of view ≡ length seen.entries) where
     abbrev Tells : Says → Type 0
     Tells says = Moved (Watches (Named (IsSeats n name) ways seen.name) seen now.1 (Told n says view) found) now.0

@@ -1,4 +1,5 @@
--- The steps of a lock of seats keep its rule: each is the plain step of its step function, and moves of the lock's model.
+-- The steps of a lock of seats keep its rule. Each is the plain step of its step function, and moves of the lock's
+-- model.
 use Rattle.std.proofs.Common.{◌≡◌, ℕ, ◌+◌, ◌-◌, ◌≤◌, ◌%◌, ◌^◌, ◌==◌, Bool, true, false, if◌then◌else◌, cond, List, [], ◌∷◌, length, filter, Option, Some, None, refl, sym, ap, ◌∙◌, subst, arith}
 use Rattle.std.specs.Prelude.{max, sum_by}
 use Rattle.std.proofs.lemmas.List.Sums.{sum_by-cons}
@@ -99,7 +100,7 @@ count_moves n None out w value v is = rw is.0 (Begin call.Count ∷ Step ∷ [],
 count_moves n (Some Idle) out w value v is = rw is.0 (Begin call.Count ∷ Step ∷ [], Begun ∷ Answered (Count w) None ∷ [], ((refl, (refl, refl)), is.1), refl, refl, w, value, refl, refl, refl)
 count_moves n (Some _) out w value v is = absurd out
 
--- a look finds a seat free, or not
+-- a look finds a free seat, or none
 try_moves : (n : ℕ) (view : Option View) → IsOut view → Moves n view (λ w. w) (becomes_by (at_word n false) 0 0 view) (looks_by n false view)
 try_moves n None out w value v is = (Begin call.TryEnter ∷ Step ∷ [], Begun ∷ met n false w ∷ [], (is, (refl, refl)), refl, grind arith, w, value, grind (arith, is), grind arith, refl)
 try_moves n (Some Idle) out w value v is = (Begin call.TryEnter ∷ Step ∷ [], Begun ∷ met n false w ∷ [], (is, (refl, refl)), refl, grind arith, w, value, grind (arith, is), grind arith, refl)
@@ -126,7 +127,8 @@ either_fits : (b : Bool) (x y most : ℕ) → x ≤ most → y ≤ most → eith
 either_fits true x y most h k = h
 either_fits false x y most h k = k
 
--- A lock in order lets one hold where its cap is 0. So that no more sit than there are seats is shown of each step by its word.
+-- A plain lock in order may have a holder even if its cap is 0. So the word of each step is used to show that no more
+-- sit than there are seats.
 within : (n : ℕ) (view : Option View) (f : ℕ → ℕ) (says tells : ℕ → View → Type 0) → ((w : ℕ) → w ≤ seats n → f w ≤ max 1 (seats n) → f w ≤ seats n) → ((w : ℕ) (v : View) → w ≤ seats n → says w v → tells w v)
     → Allows (Holds (lock n)) ways view f says → Allows (IsWord n) ways view f tells
 within n view f says tells few told step id w m vs meets at small =
@@ -164,7 +166,7 @@ counts_at : (n : ℕ) (view : Option View) → IsOut view → Allows (IsWord n) 
 counts_at n view out = within n view (λ w. w) (becomes Idle 0 0 view) (λ w v. (v ≡ Idle) × (w ≤ seats n)) (λ w few most. few) (λ w v few is. (is, few))
     (plays.looks_at (lock n) view (λ w. Idle) (out_has_none view out) (λ w. refl))
 
--- the step function's own lemma says that a seat is open where it grants one
+-- the lemma of the step function says that a seat is open if it grants one
 sits_at : (n old new : ℕ) (waits : Bool) → ((s : Plain) (p : ℕ) → AllRead s → s.cap ≡ seats n → seats_word s ≡ old → Decides s (gets p to_read) seats_word (Some new)) → new ≤ seats n
     → Allows (IsWord n) ways (Some (Coming waits old)) (λ w. either (w == old) new w) (becomes_by (led_to n old waits) old new (Some (Coming waits old)))
 sits_at n old new waits plain room = let view = Some (Coming waits old) in let says = becomes_by (led_to n old waits) old new view in
@@ -208,7 +210,7 @@ module _ (n name : ℕ) where
   pub looks : (view : Option (Numbered View)) → MayLook (what view) → Keeps view (λ w. w) (looks_by n true (what view))
   looks view may = let th = becomes_by (at_word n true) 0 0 (what view) in traces view (λ w. w) th (looks_by n true (what view)) (look_moves n (what view) may) (looks_at n true (what view) (may_look (what view) may))
 
-  -- where the step function grants, the call is at a word with a free seat
+  -- if the step function grants, the call has found a word with a free seat
   pub is_coming : (old new : ℕ) (waits : Bool) (view : Option View) → Some new ≡ entered n old → view ≡ Some (at_word n waits old) → view ≡ Some (Coming waits old)
   is_coming old new waits view free is = grind (arith, free, is)
 
@@ -224,7 +226,7 @@ module _ (n name : ℕ) where
   pub gets_up : (view : Option (Numbered View)) → what view ≡ Some Seated → Keeps view (λ w. (w + (2 ^ 64 - 1)) % 2 ^ 64) gets_up_by
   gets_up view is = traces view (λ w. (w + (2 ^ 64 - 1)) % 2 ^ 64) (λ w v. (v ≡ Idle) × (1 ≤ w) × (w ≤ seats n)) gets_up_by (rw is (leave_moves n)) (rw is (gets_up_at n))
 
--- Who may go
+-- Who may leave
 
 also : (n : ℕ) (v : View) → Rests (Holds (lock n)) use_of_view (Some v) → Rests (IsWord n) use_of_view (Some v)
 also n v rest = (rest.0, λ w m before behind is. (rest.1 w m before behind is.0, is.1))

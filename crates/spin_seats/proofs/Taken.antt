@@ -1,4 +1,4 @@
--- What the step functions of seats are to the plain lock.
+-- What the step functions of seats are in the plain lock.
 use Rattle.std.proofs.Common.{◌≡◌, ℕ, ◌-◌, ◌≤◌, Some, arith, nat_lt, length-append}
 use Rattle.spin_step.specs.Plain.{Plain, reading, gets, releases, to_read, may_come}
 use Rattle.spin_step.specs.Steps.{Decides, Gives}
@@ -6,7 +6,7 @@ use Rattle.spin_step.proofs.Holders.{length-without_holder}
 use Rattle.spin_step_more.proofs.Readers.{nobody_against}
 use Rattle.spin_seats.specs.Seats.{AllRead, seats, seats_word, entered}
 
--- where all read, a seat is open exactly where the word is below the cap
+-- if all holders read, a seat is open exactly if the word is below the cap
 pub open_is : (s : Plain) (n w : ℕ) → AllRead s → s.cap ≡ seats n → seats_word s ≡ w → may_come reading s ≡ nat_lt w (seats n)
 open_is s n w all room is = grind (arith, nobody_against s.holders all)
 

@@ -1,4 +1,4 @@
--- What a party knows of its own moves, from one step or call of it to a later one.
+-- What a party knows of its own moves, from one of its steps or calls to a later one.
 use Rattle.std.specs.Prelude.{Bool, ℕ, true, false, Option, nat_lt}
 use Rattle.spin_core.specs.Own.{Numbered}
 use Rattle.spin_core.specs.Passes as passes
@@ -13,15 +13,15 @@ use Rattle.spin_seats.specs.declared.seats.rule.Account.{Account}
 use Rattle.spin_seats.specs.declared.seats.rule.View.{View}
 
 module _ (n : ℕ) where
-  -- what it is, and what it knows
+  -- the party's view, and what it knows
   abbrev pub known : Account n → Option (Numbered View) × Watch Done
   known account = (account.permit.view, account.seen)
 
-  -- since then it has made one step of this call, which came to this, and is this now
+  -- since then it has made one step of this call, with this outcome, and now has this view
   abbrev pub Stepped : Bool → SeatsCall → Ending → View → Account n → Account n → Type 0
   Stepped goes_on call end view before now = passes.Stepped (model n) goes_on call end view (known before) (known now)
 
-  -- it is in this call, which it began then
+  -- it is in this call, which it has begun since
   abbrev pub IsIn : SeatsCall → Account n → Account n → Type 0
   IsIn call before now = passes.IsIn (model n) call (known before) (known now)
 
@@ -29,7 +29,7 @@ module _ (n : ℕ) where
   abbrev pub Called : SeatsCall → Answer (Unit {0}) → Account n → Account n → Type 0
   Called call answer before now = passes.HasCalled (model n) call answer (known before) (known now)
 
-  -- it came to this word in its `try_enter`, which is refused where no seat is free there
+  -- its `try_enter` found this word: it continues if a seat is free, and is refused if none is
   abbrev pub GoesFor : Bool → Account n → Account n → Type 0
   GoesFor true = IsIn TryEnter
   GoesFor false = Called TryEnter Refused

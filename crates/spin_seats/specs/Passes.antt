@@ -1,4 +1,4 @@
--- What a pass knows: the lock's history so far, and which moves in it are its own.
+-- What a pass knows: the lock's history so far, and which of its moves are the pass's own.
 use Rattle.std.specs.Prelude.{ℕ, List}
 use Rattle.spin_model.specs.declared.answer.Answer.TheVariants as answer
 use Rattle.spin_seats.specs.Accounts.{Called}
@@ -9,11 +9,11 @@ use Rattle.spin_seats.specs.declared.seats.pass.Pass.{Pass}
 use Rattle.spin_seats.specs.declared.seats.rule.Account.{Account}
 
 module _ {n : ℕ} where
-  -- all moves in the lock up to the pass's last one
+  -- all moves in the lock, up to the pass's last step
   abbrev pub history : Pass n → List Done
   history pass = pass.account.seen.entries
 
-  -- the name of the history of a lock, and of the lock of a pass
+  -- the name of a lock's history; also by a pass of the lock
   abbrev pub name_of : Seats n → ℕ
   name_of lock = lock.cell.name
 
@@ -24,10 +24,10 @@ module _ {n : ℕ} where
   abbrev pub SatOnce : Pass n → Pass n → Type 0
   SatOnce before now = (seated : Account n) × Called n call.Enter answer.Granted before.account seated × Called n call.Leave answer.Done seated now.account
 
-  -- since then it has tried once to take a seat, and all were taken
+  -- since then it has tried once to take a seat, and found none free
   abbrev pub WasRefused : Pass n → Pass n → Type 0
   WasRefused before now = Called n call.TryEnter answer.Refused before.account now.account
 
-  -- since then it has counted the taken seats once, and was told this
+  -- since then it has counted the taken seats once, with this answer
   abbrev pub Counted : ℕ → Pass n → Pass n → Type 0
   Counted count before now = Called n call.Count (answer.Count count) before.account now.account

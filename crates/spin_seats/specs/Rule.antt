@@ -1,4 +1,5 @@
--- The rule of a lock of seats: its word is that of a plain lock whose holders are the parties that sit, no more than there are seats; and its trace is a schedule of the lock's model, which leads there.
+-- The rule of a lock of seats. Its word is that of a plain lock whose holders are the parties that sit, at most as many
+-- as there are seats. Its trace is a schedule of the lock's model, which leads there.
 use Rattle.std.specs.Prelude.{◌≡◌, ℕ, ◌≤◌, ◌==◌, Bool, true, false, if◌then◌else◌, nat_lt, List, Option, Some, None, count_by}
 use Rattle.spin_step.specs.Plain.{reading}
 use Rattle.spin_core.specs.Cell.{Use, lends, no_fact, Ways}
@@ -35,7 +36,7 @@ use_of_view = used_by part
 abbrev pub use_of_party : Numbered View → Use
 use_of_party v = use_of_view v.0
 
--- where a party is in the model
+-- where a party sits in the model
 abbrev pub seat_of : View → Seat SeatsCall SeatsPoint
 seat_of Idle = seat.Idle
 seat_of Seated = seat.Holding Read
@@ -46,7 +47,7 @@ seat_of Waiting = seat.Calling call.Enter First None
 abbrev pub model : ℕ → SeatsMachine
 model = seats_machine
 
--- the lock's words, by the model's
+-- the words of the lock, from those of the model
 abbrev pub words_of : ℕ → ℕ × Unit {0}
 words_of w = (w, tt)
 
@@ -72,40 +73,40 @@ Says = List OneMove → List Ending → ℕ → View → Type 0
 abbrev pub Told : ℕ → Says → Option (Numbered View) → List Done → List Done → ℕ → Numbered View → Type 0
 Told n = Tells (model n) seat_of words_of
 
--- a party that sits reads: sitting beside one another is what readers may
+-- a party that sits counts as a reader, since readers may hold together
 abbrev pub seat_ways : {X S : Type 0} → Ways X (Numbered View) S
 seat_ways = (lends, use_of_party, no_fact)
 
--- what a call that takes a seat is where it found none free: it waits, or is refused
+-- the view of a call that found no free seat: it waits, or is refused
 abbrev pub gone : Bool → View
 gone true = Waiting
 gone false = Idle
 
--- at the word that it found
+-- the view after the call has found this word
 abbrev pub at_word : ℕ → Bool → ℕ → View
 at_word n waits word = if nat_lt word (seats n) then Coming waits word else gone waits
 
--- a call that takes a seat is at this word
+-- a call that takes a seat has found this word
 abbrev pub IsAtWord : ℕ → Option View → ℕ → Type 0
 IsAtWord n view word = (waits : Bool) × (view ≡ Some (at_word n waits word))
 
--- The steps: what each results in and where it leads, by the number found
+-- The steps: the outcome and the next view of each, by the number found
 
--- it has begun its `enter`, and looks again
+-- the party has begun its `enter`, and looks again
 abbrev pub has_begun : Option View → Bool
 has_begun (Some Waiting) = true
 has_begun _ = false
 
--- a look at how many sit: it finds no more than there are seats
+-- a look at how many sit: it finds at most as many as there are seats
 abbrev pub counts_by : ℕ → Says
 counts_by n own outs found v = step_by false call.Count (λ w. Answered (Count w) None) (λ w. Idle) own outs found v × (found ≤ seats n)
 
--- the call that takes a seat, and waits for one or not
+-- the call that takes a seat: `enter` if it waits for one, else `try_enter`
 abbrev pub call_of : Bool → SeatsCall
 call_of true = call.Enter
 call_of false = call.TryEnter
 
--- what it results in if it finds this word
+-- the outcome of a step that finds this word and takes no seat
 abbrev pub met : ℕ → Bool → ℕ → Ending
 met n true found = GoingOn
 met n false found = if nat_lt found (seats n) then GoingOn else Answered Refused None
@@ -113,12 +114,12 @@ met n false found = if nat_lt found (seats n) then GoingOn else Answered Refused
 abbrev pub looks_by : ℕ → Bool → Option View → Says
 looks_by n waits view = step_by (has_begun view) (call_of waits) (met n waits) (at_word n waits)
 
--- whether a call that tries to take a seat waits
+-- whether the call of this view waits for a seat
 abbrev pub waits_in : Option View → Bool
 waits_in (Some (Coming waits word)) = waits
 waits_in _ = true
 
--- its exchange: it sits where it finds the word that it expects, and else goes on at the word that it found
+-- its exchange: if it finds the word that it expected, it sits; else it continues at the word that it found
 abbrev pub led_to : ℕ → ℕ → Bool → ℕ → View
 led_to n old waits found = if found == old then Seated else at_word n waits found
 
@@ -131,18 +132,18 @@ sits_by n old view = takes_by n old (waits_in view)
 abbrev pub gets_up_by : Says
 gets_up_by = step_by false call.Leave (λ w. Answered answer.Done None) (λ w. Idle)
 
--- it is in no call, and has no seat
+-- the party is in no call, and has no seat
 abbrev pub IsOut : Option View → Type 0
 IsOut None = Unit {0}
 IsOut (Some Idle) = Unit {0}
 IsOut _ = ⊥
 
--- what the party is; one that has not come yet is idle
+-- the party's view; a party that is new is idle
 abbrev pub stands : Option (Numbered View) → View
 stands None = Idle
 stands (Some v) = v.0
 
--- it comes, or looks again
+-- the call has just begun, or looks again
 abbrev pub MayLook : Option View → Type 0
 MayLook (Some Waiting) = Unit {0}
 MayLook view = IsOut view

@@ -1,12 +1,12 @@
--- A lock of seats: a plain lock whose holders all read, as many as the cap lets in. Its word is their number.
+-- A lock of seats: a plain lock whose holders all read, at most as many as the cap says. Its word is their number.
 use Rattle.std.specs.Prelude.{◌≡◌, ℕ, ◌+◌, ◌-◌, Option, Some, None, length, min, nat_lt, if◌then◌else◌}
 use Rattle.spin_step.specs.Plain.{Plain, reading, count_kind}
 
--- the most seats that there may be, usize::MAX / 8
+-- the most seats that a lock may have, usize::MAX / 8
 abbrev pub seat_limit : ℕ
 seat_limit = 2305843009213693951
 
--- the cap of a lock that was asked to have n
+-- the cap of a lock that was made for n seats
 abbrev pub seats : ℕ → ℕ
 seats n = min n seat_limit
 
@@ -16,7 +16,7 @@ seats_word s = length s.holders
 abbrev pub AllRead : Plain → Type 0
 AllRead s = count_kind reading s.holders ≡ length s.holders
 
--- the word after one more has sat down, where a seat is free
+-- the word after one more party has taken a seat, if one is free
 abbrev pub entered : ℕ → ℕ → Option ℕ
 entered n w = if nat_lt w (seats n) then Some (w + 1) else None
 

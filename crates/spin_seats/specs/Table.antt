@@ -1,4 +1,4 @@
--- The calls of a lock of seats, step by step, and how they read on the plain lock.
+-- The calls of a lock of seats, step by step, and what each step is in the plain lock.
 use Rattle.std.specs.Prelude.{ℕ, ◌==◌, Option, Some, None, is_some, nat_lt}
 use Rattle.spin_step.specs.Plain.{reading, to_read, gets, releases}
 use Rattle.spin_seats.specs.Seats.{seats, entered}
@@ -27,16 +27,16 @@ Answered = Next SeatsPoint (Answer (Unit {0}))
 abbrev pub granted : Answered
 granted = Answers Granted (Some Read)
 
--- a call that takes a seat tries to exchange the word that it found
+-- a call that takes a seat then tries to exchange the word that it found
 abbrev pub goes_for : ℕ → Answered
 goes_for w = Continue (Exchange w)
 
--- it looks first, and then makes its exchange for as long as each word that it finds has a free seat
+-- It looks first. It then repeats its exchange while each word that it finds has a free seat.
 abbrev pub comes_by : ℕ → Answered → SeatsPoint → Act ℕ SeatsPoint (Answer (Unit {0}))
 comes_by n missed First = load_for (entered n) (λ p. gets p to_read) goes_for missed
 comes_by n missed (Exchange k) = retry k (entered n) (λ p. gets p to_read) granted goes_for missed
 
--- what its step results in, where the step function answers so
+-- the outcome of that call's step, if the step function returns `to`
 abbrev pub comes_at : SeatsPoint → ℕ → Option ℕ → Answered → Stepped ℕ (Unit {0}) SeatsPoint (Answer (Unit {0}))
 comes_at First w to missed = stays w (either (is_some to) (goes_for w) missed)
 comes_at (Exchange k) w to missed = retried (λ n. n) (w == k) w to granted (goes_for w) missed

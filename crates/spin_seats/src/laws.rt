@@ -8,25 +8,25 @@ ghost use Rattle.spin_core.specs.Own.{Numbered, IsRun};
 ghost use Rattle.spin_core.specs.declared.trace.Trace.{Trace};
 ghost use Rattle.spin_seats.specs.Rule.{Done, IsSeats, IsWord, model, part, seat_of, seated, words_of};
 
-/// States what the rule of a lock of `n` seats says of its word: it is the number of parties that sit, and at most `n`.
+/// States what the rule of a lock of `n` seats says of its word: it is the number of parties that sit, at most `n`.
 pub fn no_more_sit_than_there_are_seats()
     ensures { (n word : ℕ) (views : List View) → IsWord n word tt views → (word ≡ seated views) × (word ≤ n) }
 {}
 
-/// States that a subtraction is the step function. A thread that frees its seat subtracts without a look at the word.
-/// On each word that the rule allows, that gives what the step function gives.
+/// States that a subtraction is the step function. A thread that frees its seat subtracts without a load of the word.
+/// On each word that the rule allows, the result is that of the step function.
 pub fn a_subtraction_is_its_step_function()
     ensures { (n word : ℕ) (views : List View) (p : ℕ) → IsWord n word tt views → part_at part views p ≡ holds reading → (1 ≤ word) × ((word + (2 ^ 64 - 1)) % 2 ^ 64 ≡ left word) }
 {}
 
 /// Each run of a [`Seats`](crate::seats::Seats) on threads is a schedule of its model.
 ///
-/// The lock's cell keeps, without a byte, the list of all moves that threads have made in it so far: who, and which
+/// The lock's cell keeps, without a byte, the list of all moves that threads have made in it: which party, and which
 /// move.
 ///
 /// # Contract
-/// Whatever holds between any two steps of threads (`IsSeats`): no move of the list is passed over in the model. After
-/// the list the model has the lock's word, and has each party where the lock has it.
+/// The law holds between any two steps of threads (`IsSeats`): no move of the list is skipped in the model. After the
+/// list the model has the lock's word, and each party is where the lock has it.
 pub fn every_run_of_seats_is_a_schedule()
     ensures { (n name word : ℕ) (trace : Trace Done (Unit {0})) (parties : List (Numbered View)) → IsSeats n name word trace parties → IsRun (model n) seat_of words_of trace.entries (word, trace.word) parties }
 {}

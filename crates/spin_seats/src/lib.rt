@@ -1,6 +1,6 @@
-//! `Seats`: a counting semaphore that spins. It is the example of a lock of one's own.
+//! `Seats`: a counting semaphore that spins. It is the example of a new lock of a caller's own.
 //!
-//! Begin with [`seats::Seats`], and with [`steps`] for what each call makes of the word.
+//! Begin with [`seats::Seats`]. [`steps`] has the effect of each call on the word.
 #![tactic(auto)]
 
 pub mod calls;

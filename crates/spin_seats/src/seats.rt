@@ -16,10 +16,10 @@ mod rule;
 pub use self::pass::Pass;
 pub use self::rule::{Entry, View};
 
-/// A lock of `N` seats, but at most [`MAX_SEATS`](crate::steps::MAX_SEATS): at most so many threads have a guard at
+/// A lock of `N` seats, but at most [`MAX_SEATS`](crate::steps::MAX_SEATS). At most this many threads have a guard at
 /// the same time.
 ///
-/// Waiting threads may overtake one another.
+/// Waiting threads may overtake each other.
 ///
 /// # Examples
 /// ```
@@ -74,7 +74,7 @@ impl<const N: usize> Seats<N> {
     /// Whether and when the call returns is not promised.
     #[must_use = "dropping the guard at once gives the seat back: bind the answer, or write `drop(..)`"]
     pub fn try_enter<W: Wait>(&self, rt: &W) -> Option<SeatGuard<'_, N>> {
-        // As `Pass::try_enter`: a call of it that may wait would cost more.
+        // Not by `Pass::try_enter`: one more call that may wait would cost more.
         match self.pass().try_come().take(rt) {
             Ok(guard) => Some(guard),
             Err(_pass) => None,
@@ -87,7 +87,7 @@ impl<const N: usize> Seats<N> {
     /// # Contract
     /// Whether and when the call returns is not promised.
     pub fn enter<W: Wait>(&self, rt: &W) -> SeatGuard<'_, N> {
-        // As `Pass::enter`: a call of it that may wait would cost more.
+        // Not by `Pass::enter`: one more call that may wait would cost more.
         match self.pass().come() {
             Ok(guard) => guard,
             Err(entering) => entering.wait(rt),

@@ -20,7 +20,7 @@ pub const MAX_SEATS: usize = usize::MAX / 8;
 /// [`MAX_SEATS`].
 ///
 /// # Contract
-/// The answer is exact, and decides as a plain lock of readers does whose cap is the number of seats (`Decides`).
+/// The answer is exact. It decides like a plain lock of readers whose cap is the number of seats (`Decides`).
 pub fn enter(word: usize, room: usize) -> Option<usize>
     ensures exact { result ≡ entered room word }
     ensures plain { (s : Plain) (party : ℕ) → AllRead s → s.cap ≡ seats room → seats_word s ≡ word → Decides s (gets party to_read) seats_word result }

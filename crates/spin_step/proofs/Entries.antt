@@ -13,7 +13,7 @@ filter-more test xs x = grind (arith, filter-append test xs (x ∷ []), append-n
 
 -- Nobody else's entries change
 
--- of two lists of which each is filtered so, one holder more, or one in its place
+-- two lists that differ by one holder of another party have the same holders of this one
 others-less : (p q : ℕ) (b : Bool) (h : Holder) (hs rest : List Holder) → (p ≡ q → ⊥) → filter (λ i. i.party == q) rest ≡ filter (λ i. i.party == q) hs → filter (λ i. i.party == q) (if (h.party == p) && b then hs else h ∷ rest) ≡ filter (λ i. i.party == q) (h ∷ hs)
 others-less p q b h hs rest ne e = grind arith
 
@@ -35,7 +35,7 @@ others-without_starver p q (r ∷ rs) ne = grind (arith, others-without_starver 
 others-given : (s : Plain) (p : ℕ) (e : Effect) (q : ℕ) → (p ≡ q → ⊥) → Lets s p e → entries q (given s p e) ≡ entries q s
 others-given s p e q ne let_in = grind (arith, filter-more, others-with_kind)
 
--- another party's open step leaves a party's entries as they were
+-- another party's open step does not change a party's entries
 pub entries-others : (s : Plain) (c : Change) (q : ℕ) → (party_of c ≡ q → ⊥) → is_open s c ≡ true → entries q (apply s c) ≡ entries q s
 entries-others s (gets p ask) q ne may = others-given s p (effect ask) q ne (lets s p ask may)
 entries-others s c q ne may = grind (arith, others-without_holder, others-with_kind, others-without_starver)
@@ -44,7 +44,7 @@ pub entries-other : (s : Plain) (p q : ℕ) (step : Option Change) → (p ≡ q 
 entries-other s p q None ne may = refl
 entries-other s p q (Some c) ne may = entries-others s c q (λ e. ne (sym may.0 ∙ e)) may.1
 
--- Its own change as they would alone
+-- Its own entries change as they would alone
 
 cond-ap : (f : List Holder → List Holder) (a : Bool) (xs ys : List Holder) → cond a (f xs) (f ys) ≡ f (cond a xs ys)
 cond-ap f true xs ys = refl

@@ -1,4 +1,4 @@
--- What the flag's step functions are to the plain lock.
+-- What the flag's step functions are in the plain lock.
 use Rattle.std.proofs.Common.{◌≡◌, ℕ, Bool, false, arith, length-append}
 use Rattle.std.specs.Option.{option_map}
 use Rattle.spin_step.specs.Plain.{Plain, Kind, gets, releases, to_write, flag_word}

@@ -12,15 +12,15 @@ sum_kinds f hs = sum_by (λ h. f h.kind) hs
 abbrev pub one_of : Kind → Kind → ℕ
 one_of j k = cond (same_kind j k) 1 0
 
--- one for a holder who may become the writer
+-- one for a holder that may become the writer
 abbrev pub upgrader : Kind → ℕ
 upgrader k = cond (may_upgrade k) 1 0
 
--- one for a holder of kind j who keeps out one of kind k
+-- one for a holder of kind j that does not admit one of kind k
 abbrev pub against : Kind → Kind → ℕ
 against k j = cond (not (admits j k)) 1 0
 
--- what each kind has, together
+-- the sum over all kinds
 abbrev pub over_kinds : (Kind → ℕ) → ℕ
 over_kinds f = ((f reading + f upgradable) + f asking) + f writing
 
@@ -30,7 +30,7 @@ cons f h hs = sum_by-cons (λ (h : Holder). f h.kind) h hs
 one_more : (f : Kind → ℕ) (k : Kind) (n : Kind → ℕ) → f k + over_kinds (λ j. f j * n j) ≡ over_kinds (λ j. f j * (one_of j k + n j))
 one_more f k n = grind (arith, mul-suc (f k) (n k))
 
--- each holder is of one of the kinds
+-- each holder has one of the kinds
 pub by_kinds : (f : Kind → ℕ) (hs : List Holder) → sum_kinds f hs ≡ over_kinds (λ k. f k * count_kind k hs)
 by_kinds f [] = omega arith
 by_kinds f (h ∷ hs) =
@@ -44,7 +44,7 @@ all_kinds hs = omega (arith, by_kinds (λ k. 1) hs, ones hs)
     ones [] = refl
     ones (h ∷ hs) = omega (arith, ones hs, cons (λ k. 1) h hs)
 
--- What a sum is after a holder has come, gone, or become of another kind
+-- A sum after a holder was added, was removed, or got another kind
 
 pub sum-more : (f : Kind → ℕ) (hs : List Holder) (p : ℕ) (k : Kind) → sum_kinds f (hs ++ holder p k ∷ []) ≡ sum_kinds f hs + f k
 sum-more f hs p k = sum_by_push (λ (h : Holder). f h.kind) hs (holder p k)

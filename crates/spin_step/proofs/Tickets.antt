@@ -1,4 +1,4 @@
--- A queue of tickets that is numbered one by one.
+-- A queue of tickets whose numbers follow one another.
 use Rattle.std.proofs.Common.{◌≡◌, ℕ, suc, ◌+◌, ◌-◌, ◌<◌, ◌≤◌, ◌==◌, Bool, true, false, cond, List, [], ◌∷◌, ◌++◌, length, filter, refl, sym, ap, subst, arith, length-append, inl, inr}
 use Rattle.std.specs.Prelude.{◌⊎◌, sum_by}
 use Rattle.std.proofs.lemmas.List.Sums.{sum_by-cons}
@@ -9,7 +9,7 @@ use Rattle.spin_step.specs.Tickets.{numbered_from, Numbered, gone}
 abbrev own : ℕ → List Ticket → List Ticket
 own p ts = filter (λ t. t.party == p) ts
 
--- a party's only ticket is numbered no lower than the first
+-- a party's only ticket has at least the first number
 within : (p n k : ℕ) (ts : List Ticket) → numbered_from k ts → own p ts ≡ ticket p n false ∷ [] → k ≤ n
 within p n k [] numbers e = absurd (cc (e))
 within p n k (t ∷ ts) numbers e = grind (arith, within p n (suc k) ts)
@@ -17,7 +17,7 @@ within p n k (t ∷ ts) numbers e = grind (arith, within p n (suc k) ts)
 turn : (p n k : ℕ) (ts : List Ticket) → numbered_from k ts → own p ts ≡ ticket p n false ∷ [] → is_first p false ts ≡ (k == n)
 turn p n k ts numbers e = grind (arith, within)
 
--- it is a party's turn exactly where its number is served
+-- it is a party's turn exactly if its number is served
 pub enters_in_turn : (s : Plain) (p k n : ℕ) → Numbered s → serving_word s ≡ k → own p s.tickets ≡ ticket p n false ∷ [] → is_first p false s.tickets ≡ (k == n)
 enters_in_turn s p k n numbers served e = grind (arith, turn)
 
@@ -53,7 +53,7 @@ numbered-entered k ts numbers = grind arith
 length-entered : (ts : List Ticket) → length (with_first_entered ts) ≡ length ts
 length-entered ts = grind arith
 
--- a party that has taken the next number stands at the end
+-- a party that has taken the next number is at the end
 numbered-taken : (s : Plain) (p : ℕ) (b : Bool) → Numbered s → Numbered (record s { tickets = s.tickets ++ ticket p s.next b ∷ []; next = s.next + 1 })
 numbered-taken s p b numbered =
     let more = length-append s.tickets (ticket p s.next b ∷ []) in
@@ -62,7 +62,7 @@ numbered-taken s p b numbered =
       subst (λ k. numbered_from k (s.tickets ++ ticket p s.next b ∷ [])) same (numbered-more (serving_word s) s.tickets p s.next b numbered.1 (omega (arith, numbered.0))),
     )
 
--- what is served stays where a ticket is taken
+-- taking a ticket does not change the served number
 pub serving-taken : (s : Plain) (p : ℕ) (b : Bool) → Numbered s → (s.next + 1) - length (s.tickets ++ ticket p s.next b ∷ []) ≡ serving_word s
 serving-taken s p b numbered = omega (arith, length-append s.tickets (ticket p s.next b ∷ []), numbered.0)
 
@@ -72,7 +72,7 @@ serving-entered s = ap (λ n. s.next - n) (length-entered s.tickets)
 numbered-gone : (n : ℕ) (ts : List Ticket) → (length ts ≤ n) × numbered_from (n - length ts) ts → (length (without_first ts) ≤ n) × numbered_from (n - length (without_first ts)) (without_first ts)
 numbered-gone n ts numbered = grind arith
 
--- the number after it is served where the first ticket goes
+-- when the first ticket leaves, the next number is served
 pub serving-gone : (n : ℕ) (ts : List Ticket) → length ts ≤ n → is_empty ts ≡ false → n - length (without_first ts) ≡ (n - length ts) + 1
 serving-gone n ts within some = grind arith
 
@@ -93,13 +93,13 @@ first_stands p b ts e = grind arith
 serving-given : (s : Plain) (p : ℕ) (e : Effect) → Numbered s → serving_word (given s p e) ≡ serving_word s
 serving-given s p e numbered = grind (arith, serving-taken, length-entered)
 
--- what is served grows by one with each ticket that goes, and by nothing else
+-- the served number grows by one with each ticket that leaves, and otherwise never
 pub serving-moves : (s : Plain) (c : Change) → Numbered s → is_open s c ≡ true → serving_word (apply s c) ≡ serving_word s + gone c
 serving-moves s (gets p ask) numbered may = omega (arith, serving-given s p (effect ask) numbered)
 serving-moves s (serves p) numbered may = serving-gone s.next s.tickets numbered.0 (first_stands p true s.tickets may)
 serving-moves s _ numbered may = omega arith
 
--- what is served stays, or the first ticket goes and the next one is served
+-- the served number stays; or the first ticket leaves, and the next number is served
 abbrev pub Advances : Plain → Change → Type 0
 Advances s c = (serving_word (apply s c) ≡ serving_word s) ⊎ ((is_empty s.tickets ≡ false) × (serving_word (apply s c) ≡ serving_word s + 1))
 
@@ -108,13 +108,13 @@ serving-advances s (gets p ask) numbered may = inl (serving-given s p (effect as
 serving-advances s (serves p) numbered may = let some = first_stands p true s.tickets may in inr (some, serving-gone s.next s.tickets numbered.0 some)
 serving-advances s _ numbered may = inl refl
 
--- Who stands
+-- Who has a ticket
 
--- nobody stands where the next number is served
+-- nobody has one if the next number is served
 pub nobody_stands : (n : ℕ) (ts : List Ticket) → length ts ≤ n → n ≤ n - length ts → is_empty ts ≡ true
 nobody_stands n ts within all = grind arith
 
--- somebody stands where another number is served
+-- somebody has one if another number is served
 pub somebody_stands : (n : ℕ) (ts : List Ticket) → (n - length ts ≡ n → ⊥) → is_empty ts ≡ false
 somebody_stands n ts other = grind arith
 
@@ -125,11 +125,11 @@ none_own p n (t ∷ ts) none e = grind (arith, none_own p n ts)
 entered : (p n k : ℕ) (ts : List Ticket) → numbered_from k ts → first_alone_entered ts ≡ true → own p ts ≡ ticket p n true ∷ [] → (is_first p true ts ≡ true) × (k ≡ n)
 entered p n k ts numbers alone same = grind (arith, none_own)
 
--- the ticket that has entered is the first, and its number is served
+-- a ticket that has entered is the first one, and its number is served
 pub entered_is_served : (s : Plain) (p n : ℕ) → Numbered s → first_alone_entered s.tickets ≡ true → own p s.tickets ≡ ticket p n true ∷ [] → (is_first p true s.tickets ≡ true) × (serving_word s ≡ n)
 entered_is_served s p n numbered alone same = entered p n (serving_word s) s.tickets numbered.1 alone same
 
--- a party with a ticket stands
+-- a party with a ticket is in the queue
 pub stands : (p n : ℕ) (b : Bool) (ts : List Ticket) → own p ts ≡ ticket p n b ∷ [] → is_empty ts ≡ false
 stands p n b ts same = grind arith
 

@@ -1,4 +1,4 @@
--- The barrier as its step functions see it.
+-- The barrier, as its step functions see it.
 use Rattle.std.specs.Prelude.{◌≡◌, ℕ, ◌+◌, ◌-◌, ◌*◌, ◌/◌, ◌%◌, ◌^◌, ◌==◌, Bool, true, false, not, max, nat_lt, if◌then◌else◌}
 use Rattle.spin_step.specs.Plain.{Plain, count_word, generation_word}
 
@@ -8,7 +8,7 @@ pub record IsBarrier (s : Plain) (n count generation : ℕ) : Type 0 where
   pub counts : count_word s ≡ count
   pub generations : generation_word s ≡ generation
 
--- count and generation after one more arrival, and whether that one leads
+-- count and generation after one more arrival, and whether that arrival leads
 abbrev pub arrived : ℕ → ℕ → ℕ → (ℕ × ℕ) × Bool
 arrived n count generation =
     if nat_lt (count + 1) n then ((count + 1, generation), false) else ((0, (generation + 1) % 2 ^ 64), true)
@@ -17,14 +17,14 @@ arrived n count generation =
 abbrev pub is_leading : Plain → ℕ → Bool
 is_leading s k = (k % max s.group 1) == 0
 
--- the number of the arrival that fills the group of this one
+-- the number of the arrival that fills the group of arrival k
 abbrev pub filled_by : Plain → ℕ → ℕ
 filled_by s k = ((k - 1) / max s.group 1 + 1) * max s.group 1
 
--- the generation that the party of this arrival finds with it
+-- the generation that the party of arrival k finds when it arrives
 abbrev pub generation_at : Plain → ℕ → ℕ
 generation_at s k = (k / max s.group 1) % 2 ^ 64
 
--- a group has been filled since that arrival, as far as a generation of 64 bits tells
+-- the group of arrival k is full, as far as a generation of 64 bits can tell
 abbrev pub may_leave : Plain → ℕ → Bool
 may_leave s k = not (((s.arrivals / max s.group 1 - k / max s.group 1) % 2 ^ 64) == 0)

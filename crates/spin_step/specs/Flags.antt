@@ -1,4 +1,4 @@
--- The results of the step functions of a flag, and of a once-only cell.
+-- The results of the step functions of a flag, and of a `Once`.
 use Rattle.std.specs.Prelude.{ℕ, ◌+◌, ◌-◌, ◌==◌, Bool, true, Option, Some, None, if◌then◌else◌}
 
 abbrev pub lock : Bool → Option Bool

@@ -1,4 +1,4 @@
--- What open steps keep of every plain lock.
+-- An invariant of every plain lock: open steps keep it.
 use Rattle.std.specs.Prelude.{◌≤◌, length, max}
 use Rattle.spin_step.specs.Plain.{Plain, ticket_limit}
 use Rattle.spin_step.specs.Parties.{IsExclusive}

@@ -1,8 +1,8 @@
--- What one party has in a plain lock, and what no two may have at once.
+-- What one party has in a plain lock, and what no two parties may have at once.
 use Rattle.std.specs.Prelude.{◌≡◌, ℕ, ◌<◌, ◌≤◌, Bool, true, not, ◌&&◌, Option, Some, None, List, [], ◌∷◌, length, filter, ◌==◌}
 use Rattle.spin_step.specs.Plain.{Plain, writing, upgraders, Holder, Ticket, Change, gets, releases, serves, stops_starving, turns, completes, fails, arrives, apply, is_open, is_empty, count_kind}
 
--- whose step it is
+-- the party that makes the step
 abbrev pub party_of : Change → ℕ
 party_of (gets p ask) = p
 party_of (releases p k) = p
@@ -18,12 +18,12 @@ abbrev pub apply_some : Plain → Option Change → Plain
 apply_some s None = s
 apply_some s (Some c) = apply s c
 
--- a step is the party's own, and open
+-- there is no step, or the step is the party's own and open
 abbrev pub IsOpenStep : Plain → ℕ → Option Change → Type 0
 IsOpenStep s p None = Unit {0}
 IsOpenStep s p (Some c) = (party_of c ≡ p) × (is_open s c ≡ true)
 
--- what stands in the lock under one party's name
+-- all that the lock has of one party
 pub record Entries : Type 0 where
   pub holders : List Holder
   pub tickets : List Ticket
@@ -40,11 +40,11 @@ entries p s =
 abbrev pub no_entries : Entries
 no_entries = record { holders = []; tickets = []; starvers = [] }
 
--- the lock with these entries and no others
+-- the lock with exactly these entries
 abbrev pub with_entries : Plain → Entries → Plain
 with_entries s e = record s { holders = e.holders; tickets = e.tickets; starvers = e.starvers }
 
--- a party's entries after a step of its own, which is made in the state s
+-- a party's entries after a step of its own in the state s
 abbrev pub entries_after : Plain → Option Change → Entries → Entries
 entries_after s step e =
     let t = apply_some (with_entries s e) step in

@@ -1,62 +1,62 @@
 -- The plain lock: lists of named parties and a few numbers, without a word, a bit or a loop.
--- One record serves every lock here; each lock uses the part that it needs, and leaves the rest as it was at first.
+-- One record serves every lock here. Each lock uses the fields that it needs, and never changes the others.
 use Rattle.std.specs.Prelude.{ℕ, ◌+◌, ◌-◌, ◌*◌, ◌/◌, ◌%◌, ◌^◌, Bool, true, false, not, ◌&&◌, ◌||◌, if◌then◌else◌, List, [], ◌∷◌, ◌++◌, length, max, nat_lt, ◌==◌, count_by, sum_by}
 
 -- how a holder holds the lock
 pub data Kind : Type 0 where
   reading : Kind
   upgradable : Kind  -- it reads, and may upgrade
-  asking : Kind  -- it reads still, and has asked to upgrade
+  asking : Kind  -- it still reads, and has asked to upgrade
   writing : Kind
 
 pub record Holder : Type 0 where
   pub party : ℕ
   pub kind : Kind
 
--- a place in the queue; the party of a ticket that has entered holds the lock, and writes
+-- A place in the queue. The party of a ticket that has entered holds the lock, and writes.
 pub record Ticket : Type 0 where
   pub party : ℕ
   pub number : ℕ
   pub entered : Bool
 
--- how far a `Once` has come
+-- the phase of a `Once`
 pub data Phase : Type 0 where
   nothing : Phase
   running : ℕ → Phase
   complete : Phase
 
--- The lock itself. By its cap only so many may hold at a time; the cap of a fair lock says how many may starve
+-- The lock itself. The cap limits how many may hold at once, or how many may starve in a fair lock.
 pub record Plain : Type 0 where
-  pub cap : ℕ  -- the most holders, or the most starvers, that may stand
+  pub cap : ℕ  -- the most holders, or the most starvers, at a time
   pub group : ℕ  -- how many arrivals make a group at a barrier
   pub holders : List Holder
-  pub tickets : List Ticket  -- those that stand, in the order in which they were taken
+  pub tickets : List Ticket  -- in the order in which they were taken
   pub next : ℕ  -- the number of the next ticket
   pub starvers : List ℕ
   pub phase : Phase
   pub arrivals : ℕ
 
--- nobody has come yet
+-- a lock that no party has used yet
 abbrev pub fresh : ℕ → ℕ → ℕ → Plain
 fresh cap group first = record { cap = cap; group = group; holders = []; tickets = []; next = first; starvers = []; phase = nothing; arrivals = 0 }
 
--- tickets are numbered below this, u64::MAX
+-- every ticket's number is below this, u64::MAX
 abbrev pub ticket_limit : ℕ
 ticket_limit = 18446744073709551615
 
--- What a party may ask of the lock. To ask `to_lock_starving_alone` is to ask for the lock only if there is no other starver
+-- What a party may ask of the lock. `to_lock_starving_alone` asks for the lock on condition that nobody else starves.
 pub data Ask : Type 0 where
   to_read : Ask
   to_read_upgradable : Ask
   to_write : Ask
   to_upgrade : Ask
-  to_upgrade_asked : Ask  -- by a party that has asked before
+  to_upgrade_asked : Ask  -- by a party that has asked already
   to_take_ticket : Ask
   to_enter : Ask
-  to_take_and_enter : Ask  -- the ticket lock's try
-  to_lock_unregistered : Ask  -- of the fair lock, by a party that is no starver
+  to_take_and_enter : Ask  -- the `try_lock` of a ticket lock
+  to_lock_unregistered : Ask  -- of a fair lock, by a party that is no starver
   to_lock_starving : Ask  -- by a starver
-  to_lock_starving_alone : Ask  -- by a starver, and only beside no other one
+  to_lock_starving_alone : Ask  -- by a starver, if nobody else starves
   to_starve : Ask
   to_begin : Ask  -- a `Once`'s closure
 
@@ -92,7 +92,7 @@ is_only_starver p [] = false
 is_only_starver p (q ∷ []) = q == p
 is_only_starver p (q ∷ r ∷ qs) = false
 
--- the ticket that was taken first is the party's own, and has or hasn't entered
+-- the first ticket is the party's own, and has or has not entered
 abbrev pub is_first : ℕ → Bool → List Ticket → Bool
 is_first p entered [] = false
 is_first p entered (t ∷ ts) = (t.party == p) && (if entered then t.entered else not t.entered)
@@ -116,7 +116,7 @@ is_reader _ = true
 abbrev pub reader_count : List Holder → ℕ
 reader_count hs = count_by (λ h. is_reader h.kind) hs
 
--- a party that may become the writer
+-- a holder of this kind may become the writer
 abbrev pub may_upgrade : Kind → Bool
 may_upgrade upgradable = true
 may_upgrade asking = true
@@ -125,22 +125,22 @@ may_upgrade _ = false
 abbrev pub upgraders : List Holder → ℕ
 upgraders hs = count_by (λ h. may_upgrade h.kind) hs
 
--- a holder of the first kind lets one of the second come
+-- a holder of the first kind admits a newcomer of the second
 abbrev pub admits : Kind → Kind → Bool
 admits reading reading = true
 admits reading upgradable = true
 admits upgradable reading = true
 admits _ _ = false
 
--- how many keep a newcomer of this kind out
+-- how many holders do not admit a newcomer of this kind
 abbrev pub count_against : Kind → List Holder → ℕ
 count_against k hs = count_by (λ h. not (admits h.kind k)) hs
 
--- everybody who stands lets a newcomer of this kind come, and there is room below the cap
+-- every holder admits a newcomer of this kind, and fewer parties hold than the cap
 abbrev pub may_come : Kind → Plain → Bool
 may_come k s = (count_against k s.holders == 0) && nat_lt (length s.holders) s.cap
 
--- whether what the party asks for is open to it
+-- what the party asks is open to it
 abbrev pub is_open_to : Plain → ℕ → Ask → Bool
 is_open_to s p to_read = may_come reading s
 is_open_to s p to_read_upgradable = may_come upgradable s
@@ -158,16 +158,16 @@ is_open_to s p to_begin = is_nothing s.phase
 
 -- the plain steps
 pub data Change : Type 0 where
-  gets : ℕ → Ask → Change  -- a party gets what it asks for
-  releases : ℕ → Kind → Change  -- a holder goes
-  serves : ℕ → Change  -- a ticket that has entered goes
+  gets : ℕ → Ask → Change  -- a party gets what it asks
+  releases : ℕ → Kind → Change  -- a holder of this kind releases
+  serves : ℕ → Change  -- the first ticket, which has entered, leaves the queue
   stops_starving : ℕ → Change
-  turns : ℕ → Kind → Kind → Change  -- a holder goes on with less
+  turns : ℕ → Kind → Kind → Change  -- a holder gets another kind
   completes : ℕ → Change
   fails : ℕ → Change
   arrives : ℕ → Change
 
--- which kind may become which, whoever else stands
+-- a holder of the first kind may become one of the second, whoever else holds
 abbrev pub may_turn : Kind → Kind → Bool
 may_turn writing reading = true
 may_turn writing upgradable = true
@@ -191,12 +191,12 @@ holder p k = record { party = p; kind = k }
 abbrev pub ticket : ℕ → ℕ → Bool → Ticket
 ticket p n entered = record { party = p; number = n; entered = entered }
 
--- the first hold of this kind by the party goes
+-- the holders without the party's first hold of this kind
 abbrev pub without_holder : ℕ → Kind → List Holder → List Holder
 without_holder p k [] = []
 without_holder p k (h ∷ hs) = if (h.party == p) && same_kind k h.kind then hs else h ∷ without_holder p k hs
 
--- the same becomes one of another kind
+-- the holders, with that hold turned to another kind
 abbrev pub with_kind : ℕ → Kind → Kind → List Holder → List Holder
 with_kind p k l [] = []
 with_kind p k l (h ∷ hs) = if (h.party == p) && same_kind k h.kind then holder p l ∷ hs else h ∷ with_kind p k l hs
@@ -205,7 +205,7 @@ abbrev pub without_starver : ℕ → List ℕ → List ℕ
 without_starver p [] = []
 without_starver p (q ∷ qs) = if q == p then qs else q ∷ without_starver p qs
 
--- the ticket that was taken first enters
+-- the tickets, after the first one has entered
 abbrev pub with_first_entered : List Ticket → List Ticket
 with_first_entered [] = []
 with_first_entered (t ∷ ts) = ticket t.party t.number true ∷ ts
@@ -214,11 +214,11 @@ abbrev pub without_first : List Ticket → List Ticket
 without_first [] = []
 without_first (t ∷ ts) = ts
 
--- what a party changes as it gets what it asks for
+-- what changes for a party when it gets what it asks
 pub data Effect : Type 0 where
   comes : Kind → Effect  -- it is one more holder, of this kind
-  becomes : Kind → Kind → Effect  -- it holds by another kind
-  queues : Bool → Effect  -- it takes the next ticket, and has or hasn't entered with it
+  becomes : Kind → Kind → Effect  -- its hold gets another kind
+  queues : Bool → Effect  -- it takes the next ticket, and has or has not entered with it
   enters : Effect
   starves : Effect
   runs : Effect  -- its closure runs
@@ -256,11 +256,11 @@ apply s (completes p) = record s { phase = complete }
 apply s (fails p) = record s { phase = nothing }
 apply s (arrives p) = record s { arrivals = s.arrivals + 1 }
 
--- what the words encode, as sums
+-- the words, as sums over the parties
 abbrev pub flag_word : Plain → ℕ
 flag_word s = length s.holders
 
--- how much of a read-write lock's word a holder of each kind is
+-- what a holder of each kind adds to a read-write lock's word
 abbrev pub weight : Kind → ℕ
 weight reading = 8
 weight upgradable = 2
@@ -270,7 +270,7 @@ weight writing = 1
 abbrev pub rw_word : Plain → ℕ
 rw_word s = sum_by (λ h. weight h.kind) s.holders
 
--- how much of a fair lock's word its holder is, and each starver
+-- what the holder adds to a fair lock's word, and what each starver adds
 abbrev pub holder_weight : ℕ
 holder_weight = 1
 

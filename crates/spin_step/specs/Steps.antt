@@ -1,17 +1,18 @@
--- What a step function owes to the plain lock.
+-- How a step function relates to the plain lock.
 use Rattle.std.specs.Prelude.{◌≡◌, ℕ, Bool, true, false, Option, Some, None}
 use Rattle.spin_step.specs.Plain.{Plain, Change, is_open, apply}
 
--- a flag, as a number
+-- a flag as a number
 abbrev pub bit : Bool → ℕ
 bit true = 1
 bit false = 0
 
--- on a word that encodes s, the function refuses exactly where the change isn't open, and else gives the word of the state after it
+-- On a word that encodes s the function refuses if the step c is not open. If c is open, it returns the word of the
+-- next state.
 abbrev pub Decides : Plain → Change → (Plain → ℕ) → Option ℕ → Type 0
 Decides s c word None = is_open s c ≡ false
 Decides s c word (Some w) = (is_open s c ≡ true) × (w ≡ word (apply s c))
 
--- the same of a function that never refuses, where the change is open
+-- the same for a function that never refuses: if c is open, w is the word of the next state
 abbrev pub Gives : Plain → Change → (Plain → ℕ) → ℕ → Type 0
 Gives s c word w = is_open s c ≡ true → w ≡ word (apply s c)

@@ -1,11 +1,11 @@
-//! Every change of a lock's word, as a pure function from the word before to the word after; and the plain lock, on
-//! which each of these functions makes one step.
+//! Every change of a lock's word, as a pure function from the word before to the word after. Also the plain lock: each
+//! of these functions makes one step of it.
 //!
 //! Begin with [`flag`], the smallest lock. A function that may refuse returns `None` and gives no new word.
 //!
 //! # Contract
 //! The plain lock is a state without words or bits: lists of the threads that hold or wait (`specs/Plain.antt`). Most
-//! functions have two clauses, and a few have more:
+//! Most functions have two clauses:
 //!
 //! - `exact`: the answer is the one of the function's definition in `specs/`.
 //! - `plain`: on the word of a plain state that the lock may be in, the function refuses exactly where the plain lock

@@ -1,5 +1,5 @@
-//! How far a once-only cell has come, in one byte: 0 without a value, 1 while a closure runs, 2 with a value. Begin
-//! with [`begin`].
+//! The state of a `Once`, in one byte: 0 without a value, 1 while a closure runs, 2 with a value. Begin with
+//! [`begin`].
 //!
 //! # Examples
 //! ```
@@ -15,7 +15,7 @@ ghost use Rattle.spin_step.specs.Plain.{Plain, gets, completes, fails, to_begin,
 ghost use Rattle.spin_step.specs.Flags.{begun, completed, failed};
 ghost use Rattle.spin_step.specs.Steps.{Decides, Gives};
 
-/// Returns the state after a thread begins to run its closure, or `None` if one runs or there is a value.
+/// Returns the state after a thread begins to run its closure. Returns `None` if a closure runs or there is a value.
 ///
 /// # Contract
 /// The answer is exact, and decides as the plain lock does (`Decides`).
@@ -38,7 +38,7 @@ pub fn complete(state: u8) -> u8
     state + 1
 }
 
-/// Returns the state after the closure that runs ends without a value. The next closure may begin.
+/// Returns the state after the running closure ends without a value. Then the next closure may begin.
 ///
 /// # Contract
 /// A closure has to run: the state is 1. The answer is exact, and gives the plain lock's next state (`Gives`).

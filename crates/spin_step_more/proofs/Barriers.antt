@@ -7,11 +7,11 @@ use Rattle.std.proofs.Math.Nat.{mod-lt, mod-eq_of_lt, mul-add-mod_self_right, su
 use Rattle.spin_step.specs.Plain.{Plain, arrives, apply}
 use Rattle.spin_step.specs.Barriers.{IsBarrier, arrived, is_leading, filled_by, generation_at, may_leave}
 
--- quotient and remainder are what they add up to
+-- quotient and remainder follow from their sum
 parts : (n q g r : ℕ) → n ≡ q * g + r → r < g → (n / g ≡ q) × (n % g ≡ r)
 parts n q g r sum less = (ap (λ j. j / g) sum ∙ div-mul-add q g r less, ap (λ j. j % g) sum ∙ (mul-add-mod_self_right q g r ∙ mod-eq_of_lt less))
 
--- the next arrival of a group that isn't full then
+-- the next arrival of a group that is not full afterwards
 within : (k g : ℕ) → k % g + 1 < g → ((k + 1) / g ≡ k / g) × ((k + 1) % g ≡ k % g + 1)
 within k g less = parts (k + 1) (k / g) g (k % g + 1) (omega (arith, div-add-mod' k g)) less
 
@@ -22,7 +22,7 @@ fills k g last = parts (k + 1) (k / g + 1) g 0 (omega (arith, div-add-mod' k g, 
 some-group : (s : Plain) → 0 < max s.group 1
 some-group s = le-max_right s.group 1
 
--- One more arrival: the words after it, and whether it leads. One that follows finds the generation that stays
+-- One more arrival: the words after it, and whether it leads. An arrival that follows finds the generation unchanged.
 pub record Arrival (s : Plain) (n : ℕ) (a : (ℕ × ℕ) × Bool) (generation : ℕ) : Type 0 where
   pub words : IsBarrier (apply s (arrives 0)) n a.0.0 a.0.1
   pub leads : a.1 ≡ is_leading s (s.arrivals + 1)
@@ -46,12 +46,12 @@ barrier_arrive-words s n count generation is =
 quotients-grow : (j k g : ℕ) → 0 < g → j ≤ k → j / g ≤ k / g
 quotients-grow j k g some le = le-div (j / g) k g some (omega (arith, div-mul-le_self j g, le))
 
--- two generations are equal just where a multiple of 2^64 groups lies between them
+-- two generations are equal exactly if a multiple of 2^64 groups lies between them
 pub barrier_may_leave-tells : (s : Plain) (k n count generation own : ℕ) → IsBarrier s n count generation → k ≤ s.arrivals → generation_at s k ≡ own → not (generation == own) ≡ may_leave s k
 barrier_may_leave-tells s k n count generation own is le at =
     grind (arith, quotients-grow k s.arrivals (max s.group 1) (some-group s) le, at, is.generations)
 
--- a party that finds another generation, and didn't lead, finds its group full
+-- a party that finds another generation, and did not lead, finds its group full
 pub barrier_may_leave-full : (s : Plain) (k n count generation own : ℕ) → IsBarrier s n count generation → k ≤ s.arrivals → generation_at s k ≡ own → is_leading s k ≡ false → not (generation == own) ≡ true → filled_by s k ≤ s.arrivals
 barrier_may_leave-full s k n count generation own is le at follows leave =
     let g : ℕ = max s.group 1 in

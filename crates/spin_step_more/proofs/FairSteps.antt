@@ -1,4 +1,4 @@
--- What the step functions of the flag with its starvers are to the plain lock.
+-- What the fair lock's step functions are in the plain lock.
 use Rattle.std.proofs.Common.{◌≡◌, ℕ, ◌/◌, ◌%◌, true, [], length, arith, length-append}
 use Rattle.std.specs.Prelude.{min}
 use Rattle.spin_step.specs.Plain.{Plain, Kind, is_starver, gets, releases, stops_starving, to_lock_unregistered, to_lock_starving, to_lock_starving_alone, to_starve, fair_word}

@@ -1,4 +1,4 @@
--- What the word of the read-write lock tells, in which nobody stands beside a writer.
+-- What the word of the read-write lock tells, if nobody holds with a writer.
 use Rattle.std.proofs.Common.{◌≡◌, ℕ, ◌+◌, ◌*◌, ◌/◌, ◌%◌, ◌<◌, ◌≤◌, ◌==◌, true, List, length, refl, arith, cond}
 use Rattle.std.specs.Prelude.{min}
 use Rattle.spin_step.specs.Plain.{Plain, Kind, reading, upgradable, asking, writing, Holder, weight, count_against, count_kind, is_reader, reader_count, is_empty, is_holder, is_only, may_come, rw_word}
@@ -23,7 +23,7 @@ counts : (s : Plain) (word : ℕ) → OneOfEach s → rw_word s ≡ word → Cou
 counts s word one is =
     record { all = all_kinds s.holders; word = omega (arith, by_kinds weight s.holders, is); upgraders = omega (arith, by_kinds upgrader s.holders, one.0); writers = one.1 }
 
--- the low bits tell which holder keeps a newcomer out, and the word how many read
+-- the low bits tell which holders do not admit a newcomer, and the word how many read
 pub read-word : (s : Plain) (word cap : ℕ) → OneOfEach s → s.cap ≡ min cap reader_limit → rw_word s ≡ word → may_come reading s ≡ has_room reading word cap
 read-word s word cap one room is =
     let c = counts s word one is in let others = by_kinds (against reading) s.holders in grind arith
@@ -32,7 +32,7 @@ pub upgradable_read-word : (s : Plain) (word cap : ℕ) → OneOfEach s → s.ca
 upgradable_read-word s word cap one room is =
     let c = counts s word one is in let others = by_kinds (against upgradable) s.holders in grind arith
 
--- the word is zero exactly when nobody holds
+-- the word is zero exactly if nobody holds
 pub empty-word : (hs : List Holder) (word : ℕ) → word_of hs ≡ word → is_empty hs ≡ (word == 0)
 empty-word hs word is = grind (arith, all_kinds hs, by_kinds weight hs)
 
@@ -41,11 +41,11 @@ empty-word hs word is = grind (arith, all_kinds hs, by_kinds weight hs)
 pub only_holds : (p : ℕ) (k : Kind) (hs : List Holder) → is_only p k hs ≡ true → (is_holder p k hs ≡ true) × (length hs ≡ 1)
 only_holds p k hs only = grind arith
 
--- a party of this kind is alone exactly where as many hold
+-- a party of this kind is alone exactly if as many hold
 pub only-length : (p : ℕ) (k : Kind) (hs : List Holder) → is_holder p k hs ≡ true → is_only p k hs ≡ (length hs == 1)
 only-length p k hs found = grind arith
 
--- a party that may upgrade is alone exactly at its own weight
+-- a party that may upgrade is alone exactly if the word is its weight
 pub only_upgradable-word : (s : Plain) (p word : ℕ) → OneOfEach s → is_holder p upgradable s.holders ≡ true → rw_word s ≡ word → is_only p upgradable s.holders ≡ (word == weight upgradable)
 only_upgradable-word s p word one found is =
     let c = counts s word one is in grind (arith, only-length p upgradable s.holders found, sum-less (one_of upgradable) p upgradable s.holders found)
@@ -63,7 +63,7 @@ pub upgradable-word : (s : Plain) (p : ℕ) → IsExclusive s → length s.holde
 upgradable-word s p alone few found =
     let c = counts s (rw_word s) (one_of_each s alone) refl in grind (arith, alone.writer, sum-less (one_of upgradable) p upgradable s.holders found)
 
--- beside one that asks only readers stand
+-- with a holder that asks, only readers hold
 pub beside_asking : (s : Plain) (p : ℕ) → IsExclusive s → is_holder p asking s.holders ≡ true → (count_kind asking s.holders ≡ 1) × (count_kind upgradable s.holders ≡ 0) × (count_kind writing s.holders ≡ 0)
 beside_asking s p alone found =
     let c = counts s (rw_word s) (one_of_each s alone) refl in grind (arith, alone.writer, sum-less (one_of asking) p asking s.holders found)
@@ -79,7 +79,7 @@ tells-holder s p upgradable alone few found = grind (arith, upgradable-word s p 
 tells-holder s p asking alone few found = grind (arith, beside_asking s p alone found, by_kinds weight s.holders)
 tells-holder s p writing alone few found = grind (arith, writer-word s p alone found)
 
--- Where all holders read
+-- If all holders read
 
 pub nobody_against : (hs : List Holder) → count_kind reading hs ≡ length hs → count_against reading hs ≡ 0
 nobody_against hs all = omega (arith, all, all_kinds hs, by_kinds (against reading) hs)

@@ -1,4 +1,4 @@
--- While a reader asks to upgrade the readers only go, and it is alone once all have gone.
+-- While a reader asks to upgrade readers only leave, and it is alone once all have left.
 use Rattle.std.proofs.Common.{◌≡◌, ℕ, ◌+◌, ◌↔◌, true, false, cond, List, [], ◌∷◌, Some, refl, arith}
 use Rattle.std.proofs.lemmas.List.Sums.{sum_by-cons}
 use Rattle.spin_step.specs.Plain.{Plain, Kind, reading, upgradable, asking, writing, Effect, comes, becomes, effect, given, Change, gets, releases, turns, to_write, to_upgrade_asked, apply, is_open, is_open_to, is_holder, is_only, count_kind, with_kind}
@@ -11,11 +11,11 @@ use Rattle.spin_step.proofs.Holders.{length-without_holder}
 use Rattle.spin_step.proofs.Sums.{against, one_of, by_kinds, all_kinds, sum-less, length-with_kind}
 use Rattle.spin_step_more.proofs.Readers.{beside_asking, only_holds, only-length}
 
--- nobody else may come where it stands
+-- nobody else may join it
 nobody_comes : (s : Plain) (p q : ℕ) (k : Kind) → IsExclusive s → is_holder p asking s.holders ≡ true → Lets s q (comes k) → ⊥
 nobody_comes s p q k alone found let_in = grind (arith, beside_asking s p alone found, all_kinds s.holders, by_kinds (against k) s.holders)
 
--- a party that gets something leaves the readers as they are, or upgrades
+-- a party that gets something does not change the readers, unless it upgrades
 readers_stay : (s : Plain) (p q : ℕ) (e : Effect) → IsExclusive s → is_holder p asking s.holders ≡ true → Lets s q e → is_holder p asking (given s q e).holders ≡ true → count_kind reading (given s q e).holders ≡ count_kind reading s.holders
 readers_stay s p q (comes k) alone found let_in stays = absurd (nobody_comes s p q k alone found let_in)
 readers_stay s p q (becomes j k) alone found let_in stays =
@@ -24,7 +24,7 @@ readers_stay s p q (becomes j k) alone found let_in stays =
     grind (arith, only_holds q j s.holders let_in, all_kinds s.holders, beside_asking s p alone found, length-with_kind q j k s.holders, all_kinds after)
 readers_stay s p q _ alone found let_in stays = omega arith
 
--- each step through which it stays leaves the readers as they are, or is a reader's that goes
+-- each step through which it stays does not change the readers, or is a reader's release
 pub readers_only_go : (s : Plain) (p : ℕ) (c : Change) → IsExclusive s → is_holder p asking s.holders ≡ true → is_open s c ≡ true → is_holder p asking (apply s c).holders ≡ true
     → count_kind reading (apply s c).holders + bit (reader_goes c) ≡ count_kind reading s.holders
 readers_only_go s p (gets q ask) alone found may stays = omega (arith, readers_stay s p q (effect ask) alone found (lets s q ask may) stays)

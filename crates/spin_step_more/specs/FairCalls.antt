@@ -1,4 +1,4 @@
--- The fair lock's calls, step by step, and how they read on the plain lock.
+-- The fair lock's calls, step by step, and what each step is in the plain lock.
 use Rattle.std.specs.Prelude.{ℕ, ◌+◌, Option, Some, None, ◌==◌, nat_lt, min}
 use Rattle.spin_step.specs.Plain.{writing, to_lock_unregistered, to_lock_starving, to_lock_starving_alone, to_starve, gets, releases, stops_starving, holder_weight, starver_weight}
 use Rattle.spin_step_more.specs.Starvers.{most_starvers, is_set, lock, starve, lock_fair}
@@ -20,7 +20,7 @@ use Rattle.spin_model.specs.Acts.{one_number, Act, either, load, load_if, load_f
 use Rattle.spin_model.specs.Tables.{usual_table}
 use Rattle.spin_model.specs.Operations.{subtracts, sets_lowest_bit}
 
--- where calls begin
+-- the point at which a call begins
 abbrev pub starts_at : FairCall → FairPoint
 starts_at Lock = Attempt 0
 starts_at Starve = Load
@@ -28,20 +28,20 @@ starts_at StarverTryLock = SetFlag
 starts_at StarverLock = SetFlag
 starts_at _ = First
 
--- how the calls go on
+-- the next point or answer of a call
 
 abbrev pub granted : {V : Type 0} → Next FairPoint (Answer V)
 granted = Answers Granted (Some Write)
 
--- why a word refuses a party that is no starver
+-- the reason for which a word refuses a party that is no starver
 abbrev pub rejects : {V : Type 0} → Option Hold → ℕ → Next FairPoint (Answer V)
 rejects h w = Answers (either (w == holder_weight) Locked Starved) h
 
--- `lock` looks on, or has looked often enough to register
+-- `lock` looks again, or has looked often enough to register
 abbrev pub looks_on : {V : Type 0} → ℕ → ℕ → Next FairPoint (Answer V)
 looks_on patience n = either (nat_lt n patience) (Continue (Look (n + 1))) (Continue Load)
 
--- at the cap `lock` looks again, and `starve` is refused
+-- no more starvers fit: `lock` looks again, and `starve` is refused
 abbrev pub finds_no_room : {V : Type 0} → ℕ → FairCall → Option Hold → Next FairPoint (Answer V)
 finds_no_room patience Lock h = Continue (Look patience)
 finds_no_room patience _ h = Answers Refused h
@@ -86,7 +86,7 @@ asks_of patience StarverLock h = waits_starving
 asks_of patience StarverDrop h = gives_back is_registered (Some Starver)
 asks_of patience Release h = gives_back is_write (Some Write)
 
--- the cap, and after so many looks at a set flag the next one makes `lock` register
+-- the fair lock that opens with v and has this cap of starvers; `lock` registers after `patience` looks at a set flag
 abbrev pub fair_table : {V : Type 0} → V → ℕ → ℕ → Table ℕ V FairCall FairPoint (Answer V)
 fair_table v cap patience =
     record (usual_table (Some v) fair 0 one_number (λ c h. starts_at c) (act_of cap patience) (asks_of patience)) { cap = min cap most_starvers }

@@ -1,8 +1,8 @@
--- The read-write lock as its step functions see it.
+-- The read-write lock, as its step functions see it.
 use Rattle.std.specs.Prelude.{ℕ, ◌≤◌, ◌+◌, ◌-◌, ◌/◌, ◌%◌, ◌==◌, ◌&&◌, ◌||◌, Bool, false, not, Option, Some, None, if◌then◌else◌, nat_lt, min}
 use Rattle.spin_step.specs.Plain.{Plain, Kind, reading, upgradable, asking, writing, same_kind, Change, releases, weight, count_kind, upgraders}
 
--- the limit of holders, usize::MAX / 8 / 2
+-- the most holders, usize::MAX / 8 / 2
 abbrev pub reader_limit : ℕ
 reader_limit = 1152921504606846975
 
@@ -12,26 +12,26 @@ OneOfEach s = (upgraders s.holders ≤ 1) × (count_kind writing s.holders ≤ 1
 
 -- What a word tells
 
--- how many read, the one that may upgrade included
+-- how many parties read, including the one that may upgrade
 abbrev pub readers_in : ℕ → ℕ
 readers_in word = word / weight reading + (word % (weight asking - weight upgradable)) / weight upgradable
 
 abbrev pub writers_in : ℕ → ℕ
 writers_in word = word % weight upgradable
 
--- whether a holder of this kind stands
+-- a party holds with this kind
 abbrev pub tells : Kind → ℕ → Bool
 tells reading word = not (nat_lt word (weight reading))
 tells upgradable word = (word % weight reading) == weight upgradable
 tells asking word = (word % weight reading) == weight asking
 tells writing word = word == weight writing
 
--- no holder keeps out one that wants to read, or to read and upgrade
+-- every holder admits a newcomer of this kind
 abbrev pub lets_in : Kind → ℕ → Bool
 lets_in reading word = (word % weight reading == 0) || (word % weight reading == weight upgradable)
 lets_in _ word = word % weight reading == 0
 
--- so it may come, and the word counts fewer readers than the cap
+-- every holder admits it, and the word counts fewer readers than the cap
 abbrev pub has_room : Kind → ℕ → ℕ → Bool
 has_room k word cap = lets_in k word && nat_lt (readers_in word) (min cap reader_limit)
 
@@ -52,15 +52,15 @@ upgrade word = if word == weight upgradable then Some (weight writing) else None
 abbrev pub upgrade_asked : ℕ → Option ℕ
 upgrade_asked word = if word == weight asking then Some (weight writing) else None
 
--- a holder of this kind has gone
+-- the word after a holder of this kind has left
 abbrev pub released : Kind → ℕ → ℕ
 released k word = word - weight k
 
--- a holder of the first kind has become one of the second
+-- the word after a holder of the first kind has become one of the second
 abbrev pub turned : Kind → Kind → ℕ → ℕ
 turned j k word = word + (weight k - weight j)
 
--- the change is a reader that goes
+-- the step is a reader's release
 abbrev pub reader_goes : Change → Bool
 reader_goes (releases p k) = same_kind reading k
 reader_goes _ = false

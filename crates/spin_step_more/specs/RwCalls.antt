@@ -1,4 +1,4 @@
--- The calls of the read-write lock, step by step, and how they read on the plain lock.
+-- The calls of the read-write lock, step by step, and what each step is in the plain lock.
 use Rattle.std.specs.Prelude.{ℕ, ◌-◌, ◌/◌, ◌==◌, ◌&&◌, Option, Some, None, is_some, nat_lt, min}
 use Rattle.spin_step.specs.Plain.{reading, upgradable, asking, writing, weight, Ask, to_read, to_read_upgradable, to_write, to_upgrade, to_upgrade_asked, gets, releases, turns}
 use Rattle.spin_step_more.specs.Readers.{reader_limit, readers_in, writers_in, tells, read, read_upgradable, write, upgrade, upgrade_asked}
@@ -24,21 +24,22 @@ use Rattle.spin_model.specs.Operations.{adds, subtracts}
 abbrev pub granted : {V : Type 0} → Hold → Next RwPoint (Answer V)
 granted held = Answers Granted (Some held)
 
--- a call that looks first tries to exchange the word that it found
+-- a call that looks first then tries to exchange the word that it found
 abbrev pub goes_for : {V : Type 0} → ℕ → Next RwPoint (Answer V)
 goes_for w = Continue (Exchange w)
 
--- a call that looks first, and then makes its exchange for as long as each word that it finds lets it in
+-- A call that looks first. It then repeats its exchange while each word that it finds admits it.
 abbrev pub comes_by : {V : Type 0} → (ℕ → Option ℕ) → Ask → Hold → Next RwPoint (Answer V) → RwPoint → Act ℕ RwPoint (Answer V)
 comes_by f ask held missed (Exchange n) = retry n f (λ p. gets p ask) (granted held) goes_for missed
 comes_by f ask held missed _ = load_for f (λ p. gets p ask) goes_for missed
 
--- what its step results in, where the step function answers so
+-- the outcome of that call's step, if the step function returns `to`
 abbrev pub comes_at : {V : Type 0} → RwPoint → ℕ → Option ℕ → Hold → Next RwPoint (Answer V) → Stepped ℕ V RwPoint (Answer V)
 comes_at (Exchange n) w to held missed = retried (λ k. k) (w == n) w to (granted held) (goes_for w) missed
 comes_at _ w to held missed = stays w (either (is_some to) (goes_for w) missed)
 
--- the waiting exchanges of `Write` and `Upgrade` are weak, and `Upgrade` asks before it; a conversion and a release are an addition or a subtraction, by what is held
+-- Each call's steps. The waiting exchanges of `Write` and `Upgrade` are weak. `Upgrade` first asks to upgrade.
+-- A conversion and a release add or subtract an amount that depends on what is held.
 abbrev pub act_of : {V : Type 0} → ℕ → RwCall → RwPoint → Option Hold → Act ℕ RwPoint (Answer V)
 act_of cap TryRead l h = comes_by (read cap) to_read hold.Read (Answers Refused h) l
 act_of cap Read l h = comes_by (read cap) to_read hold.Read (Continue First) l

@@ -1,19 +1,19 @@
--- The lock of holders and starvers: what its word tells.
+-- The lock of a holder and starvers: what its word tells.
 use Rattle.std.specs.Prelude.{◌≡◌, ℕ, ◌+◌, ◌-◌, ◌/◌, ◌%◌, ◌==◌, Bool, true, false, Option, Some, None, List, codes, if◌then◌else◌, nat_lt, min}
 use Rattle.spin_step.specs.Plain.{Plain, holder_weight, starver_weight, is_empty}
 use Rattle.spin_step_more.specs.declared.fair.LockRejectReason.{LockRejectReason}
 use Rattle.spin_step_more.specs.declared.fair.LockRejectReason.TheVariants.{Locked, Starved}
 
--- as many starvers may stand at a time, isize::MAX / 2
+-- the most starvers at a time, isize::MAX / 2
 abbrev pub most_starvers : ℕ
 most_starvers = 4611686018427387903
 
--- why an unregistered party is refused: a holder and no starver stands, or a starver stands
+-- why a party that is no starver is refused: somebody holds and nobody starves, or somebody starves
 abbrev pub Tells : Plain → LockRejectReason → Type 0
 Tells s Locked = (is_empty s.holders ≡ false) × (is_empty s.starvers ≡ true)
 Tells s Starved = is_empty s.starvers ≡ false
 
--- whether somebody holds the lock
+-- somebody holds the lock
 abbrev pub is_set : ℕ → Bool
 is_set word = word % starver_weight == holder_weight
 

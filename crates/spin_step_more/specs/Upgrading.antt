@@ -1,9 +1,9 @@
--- How a plain lock goes on while a reader asks to upgrade.
+-- The steps of a plain lock while a reader asks to upgrade.
 use Rattle.std.specs.Prelude.{◌≡◌, ℕ, true, List, [], ◌∷◌, count_by}
 use Rattle.spin_step.specs.Plain.{Plain, asking, Change, apply, is_open, is_holder}
 use Rattle.spin_step_more.specs.Readers.{reader_goes}
 
--- open steps, one after another, through which the party stays the reader that asks
+-- open steps one after another; the party remains the reader that asks to upgrade
 abbrev pub StaysAsking : ℕ → Plain → List Change → Type 0
 StaysAsking p s [] = is_holder p asking s.holders ≡ true
 StaysAsking p s (c ∷ cs) = (is_holder p asking s.holders ≡ true) × (is_open s c ≡ true) × StaysAsking p (apply s c) cs

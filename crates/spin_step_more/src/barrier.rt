@@ -1,10 +1,9 @@
-//! Arrivals in groups: the last of each group leads it, and the others may leave when it has come. Begin with
-//! [`State`].
+//! Arrivals in groups: the last arrival of each group leads it, and then the others may leave. Begin with [`State`].
 ghost use Rattle.std.specs.Prelude.{◌≡◌, ◌<◌, ◌≤◌, ◌+◌, ◌==◌, ℕ, true, false, not, max};
 ghost use Rattle.spin_step.specs.Plain.{Plain, arrives, apply, fresh};
 ghost use Rattle.spin_step.specs.Barriers.{IsBarrier, arrived, is_leading, filled_by, generation_at, may_leave};
 
-/// How far a barrier has come: how many threads of the present group have arrived.
+/// The state of a barrier: how many threads of the present group have arrived.
 ///
 /// # Examples
 /// ```
@@ -21,9 +20,9 @@ ghost use Rattle.spin_step.specs.Barriers.{IsBarrier, arrived, is_leading, fille
 pub struct State {
     /// How many arrivals make a group. 0 counts as 1.
     pub n: usize,
-    /// How many threads of the group that gathers have arrived.
+    /// How many threads of the present group have arrived.
     pub count: usize,
-    /// How many groups were filled. It wraps.
+    /// How many groups are full so far. It wraps.
     pub generation: usize,
     pub ghost below: { count < max n 1 },
 }
@@ -44,11 +43,11 @@ impl State {
         }
     }
 
-    /// Counts one more arrival, and returns `true` if that one leads: it is the last of its group.
+    /// Counts one more arrival. Returns `true` if that arrival leads: it is the last of its group.
     ///
     /// # Contract
-    /// The state and the answer are exact. From the state of a plain barrier it leads to that of the same barrier with
-    /// one arrival more (`IsBarrier`). The answer is the plain one (`is_leading`).
+    /// The state and the answer are exact. If the state is that of a plain barrier, the new state is that of the same
+    /// barrier after one more arrival (`IsBarrier`). The answer is the plain one (`is_leading`).
     pub fn arrive(&mut self) -> bool
         ensures n { self.new.n ≡ self.old.n }
         ensures exact { ((self.new.count, self.new.generation), result) ≡ arrived self.old.n self.old.count self.old.generation }
@@ -61,10 +60,10 @@ impl State {
     }
 }
 
-/// Returns the state after one more arrival, and `true` if that one leads: it is the last of its group.
+/// Returns the state after one more arrival, and `true` if that arrival leads: it is the last of its group.
 ///
 /// # Contract
-/// As that of [`State::arrive`].
+/// That of [`State::arrive`].
 pub fn arrive(state: State) -> (State, bool)
     ensures n { result.0.n ≡ state.n }
     ensures exact { ((result.0.count, result.0.generation), result.1) ≡ arrived state.n state.count state.generation }
@@ -95,7 +94,8 @@ pub fn arrive(state: State) -> (State, bool)
 
 /// Returns `true` if a thread that arrived in `generation`, and does not lead, may leave.
 ///
-/// It may leave when its group is full. After a multiple of 2^64 groups more it may not, until the next one is full.
+/// It may leave when its group is full. Exactly a multiple of 2^64 groups later it may not; then it may leave when one
+/// more group is full.
 ///
 /// # Contract
 /// The answer is exact, and that of the plain barrier. If it is `true`, the group of that arrival is full.

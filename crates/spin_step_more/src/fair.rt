@@ -1,6 +1,6 @@
 //! The holder and the starvers in one word: the sum of what each weighs. Begin with [`lock`] and [`starve`].
 //!
-//! A starver is a thread that has registered so as to come before all others, which are newcomers.
+//! A starver is a thread that has registered in order to go first. All other threads are newcomers.
 //!
 //! # Examples
 //! ```
@@ -41,7 +41,7 @@ pub const MAX_STARVERS: usize = isize::MAX as usize / 2;
 pub enum LockRejectReason {
     /// The lock is held, and no thread starves.
     Locked,
-    /// A thread starves, and comes first.
+    /// A thread starves, and goes first.
     Starved,
 }
 

@@ -1,9 +1,9 @@
-//! The calls of the lock of a flag with its starvers, and their points. Begin with [`FairCall`].
+//! The calls of the fair lock, and their points. Begin with [`FairCall`].
 ghost use Rattle.std.specs.Prelude.{◌≡◌, ⊤};
 
 use std::alloc::AllocError;
 
-/// A call of a `Fair`. `Fair::new` of `spin_world` promises that each call asks what stands here.
+/// A call of a `Fair`. `Fair::new` of `spin_world` promises that each call asks what is said here.
 #[derive(Copy)]
 pub enum FairCall {
     /// Acquires the lock, in as many steps as it needs. After too many looks that find the flag set it registers as a
@@ -18,7 +18,7 @@ pub enum FairCall {
     /// Tries to register as a starver. It fails only if the cap was reached at some moment of the call.
     Starve,
     /// Tries to acquire the lock as a starver, and ends the registration. It fails if a party holds the lock or another
-    /// starver is registered; the party stays a starver then.
+    /// starver is registered. Then the party stays a starver.
     StarverTryLockFair,
     /// Like `StarverTryLockFair`, but fails only if a party holds the lock.
     StarverTryLock,
@@ -35,19 +35,19 @@ pub enum FairCall {
 pub enum FairPoint {
     /// The only step of a one-step call, or the exchange of `StarverTryLockFair`.
     First,
-    /// `Lock` tries to set the flag, after so many looks that found it set.
+    /// `Lock` tries to set the flag, after this many looks that found it set.
     Attempt(usize),
-    /// `Lock` looks at the flag, after so many looks that found it set. They are not counted past its patience.
+    /// `Lock` looks at the flag, after this many looks that found it set. Past its patience it counts no further.
     Look(usize),
     /// `Lock` or `Starve` loads the word, to register.
     Load,
-    /// `Lock` or `Starve` registers by an exchange of this word, the one that it found.
+    /// `Lock` or `Starve` registers by an exchange of this word, which it found.
     Register(usize),
     /// A starver sets the flag.
     SetFlag,
     /// A starver looks at the flag.
     Await,
-    /// A starver that holds the lock leaves the starvers.
+    /// A starver that holds the lock ends its registration.
     Unregister,
 }
 

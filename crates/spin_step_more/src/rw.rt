@@ -1,7 +1,7 @@
-//! Readers, one of which may upgrade, or one writer in one word: the sum of what each holder weighs. Begin with
-//! [`read`] and [`write`].
+//! A read-write lock in one word, which is the sum of the weights of its holders. They are readers, one of which may
+//! upgrade, or one writer. Begin with [`read`] and [`write`].
 //!
-//! The upgradable reader keeps no reader out until it asks to upgrade. From then on the readers only leave.
+//! The upgradable reader admits other readers until it asks to upgrade. From then on readers only leave.
 //!
 //! # Examples
 //! ```
@@ -33,10 +33,10 @@ pub const ASKING: usize = 4;
 /// The weight of the writer in the word.
 pub const WRITER: usize = 1;
 
-/// The most readers that may hold the lock at the same time, with the upgradable one.
+/// The most readers that may hold the lock at the same time, including the upgradable one.
 pub const MAX_READERS: usize = usize::MAX / READER / 2;
 
-// Whether the lock lets a reader in.
+// Returns `true` if the lock admits a reader.
 fn may_read(word: usize, cap: usize) -> bool
     ensures { result ≡ has_room reading word cap }
 {
@@ -44,15 +44,15 @@ fn may_read(word: usize, cap: usize) -> bool
     (low == 0 || low == UPGRADABLE) && readers(word) < cap.min(MAX_READERS)
 }
 
-// Whether the lock lets an upgradable reader in.
+// Returns `true` if the lock admits an upgradable reader.
 fn may_read_upgradable(word: usize, cap: usize) -> bool
     ensures { result ≡ has_room upgradable word cap }
 {
     word % READER == 0 && readers(word) < cap.min(MAX_READERS)
 }
 
-/// Returns the word after a reader acquires the lock. It is `None` beside a writer or a reader that asks to upgrade,
-/// and at the cap: the smaller of `cap` and [`MAX_READERS`].
+/// Returns the word after a reader acquires the lock. Returns `None` if a writer or a reader that asks to upgrade holds
+/// it, and at the cap: the smaller of `cap` and [`MAX_READERS`].
 ///
 /// # Contract
 /// The answer is exact, and decides as the plain lock does (`Decides`).
@@ -68,8 +68,8 @@ pub fn read(word: usize, cap: usize) -> Option<usize>
     }
 }
 
-/// Returns the word after an upgradable reader acquires the lock. It is `None` beside a writer or another upgradable
-/// reader, and at the cap: the smaller of `cap` and [`MAX_READERS`].
+/// Returns the word after an upgradable reader acquires the lock. Returns `None` if a writer or another upgradable
+/// reader holds it, and at the cap: the smaller of `cap` and [`MAX_READERS`].
 ///
 /// # Contract
 /// The answer is exact, and decides as the plain lock does (`Decides`).
@@ -85,7 +85,7 @@ pub fn upgradable(word: usize, cap: usize) -> Option<usize>
     }
 }
 
-/// Returns the word after a writer acquires the lock, or `None` beside any holder.
+/// Returns the word after a writer acquires the lock, or `None` if anybody holds it.
 ///
 /// # Contract
 /// The answer is exact, and decides as the plain lock does (`Decides`).
@@ -96,7 +96,7 @@ pub fn write(word: usize) -> Option<usize>
     if word == 0 { Some(WRITER) } else { None }
 }
 
-/// Returns the word after the upgradable reader becomes the writer, or `None` beside another holder.
+/// Returns the word after the upgradable reader becomes the writer, or `None` if anybody else holds the lock.
 ///
 /// # Contract
 /// The answer is exact, and decides as the plain lock does (`Decides`).
@@ -136,7 +136,7 @@ pub fn ask(word: usize) -> usize
     word + ASKING
 }
 
-/// Returns the word after the reader that asks becomes the writer, or `None` beside another holder.
+/// Returns the word after the reader that asks becomes the writer, or `None` if anybody else holds the lock.
 ///
 /// # Contract
 /// The answer is exact, and decides as the plain lock does (`Decides`).
@@ -233,7 +233,7 @@ pub fn upgradable_to_read(word: usize) -> usize
     word + (READER - UPGRADABLE)
 }
 
-/// Returns how many threads read, with the upgradable reader, whether or not it asks.
+/// Returns how many threads read, including the upgradable reader, whether or not it asks.
 ///
 /// # Contract
 /// The answer is exact, and that of the plain lock.

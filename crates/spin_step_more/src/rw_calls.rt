@@ -3,35 +3,35 @@ ghost use Rattle.std.specs.Prelude.{◌≡◌, ⊤};
 
 use std::alloc::AllocError;
 
-/// A call of an `Rw`. `Rw::new` of `spin_world` promises that each call asks what stands here.
+/// A call of an `Rw`. `Rw::new` of `spin_world` promises that each call asks what is said here.
 ///
 /// A try fails only if, at some moment of the call, what it asks is closed to the party. A weak try may also fail
-/// without cause.
+/// spuriously.
 #[derive(Copy)]
 pub enum RwCall {
-    /// Tries to acquire shared access. It fails beside the writer, beside a reader that asks to upgrade, or at the cap.
+    /// Tries to acquire shared access. It fails if a writer or a reader that asks to upgrade holds the lock, or at the
+    /// cap.
     TryRead,
     /// Acquires shared access, in as many steps as it needs.
     Read,
-    /// Tries to acquire shared access with the right to upgrade. It also fails beside another party that has this
-    /// right.
+    /// Tries to acquire shared access with the right to upgrade. It also fails if another party has this right.
     TryUpgradeableRead,
     /// Acquires shared access with the right to upgrade, in as many steps as it needs.
     UpgradeableRead,
-    /// Tries to acquire exclusive access. It fails beside any holder.
+    /// Tries to acquire exclusive access. It fails if anybody holds the lock.
     TryWrite,
-    /// Like `TryWrite`, but makes a weak exchange, which may also fail without cause.
+    /// Like `TryWrite`, but makes a weak exchange, which may also fail spuriously.
     TryWriteWeak,
     /// Acquires exclusive access, in as many steps as it needs.
     Write,
-    /// Counts the readers, the upgradable one included.
+    /// Counts the readers, including the upgradable one.
     ReaderCount,
     /// Counts the writers.
     WriterCount,
-    /// Tries to turn the upgradable reader into the writer. It fails beside a reader, and the party stays upgradable
-    /// then.
+    /// Tries to turn the upgradable reader into the writer. It fails if another party reads. Then the party stays
+    /// upgradable.
     TryUpgrade,
-    /// Like `TryUpgrade`, but makes a weak exchange, which may also fail without cause.
+    /// Like `TryUpgrade`, but makes a weak exchange, which may also fail spuriously.
     TryUpgradeWeak,
     /// Asks to turn the upgradable reader into the writer, and does so in as many steps as it needs.
     Upgrade,
@@ -43,7 +43,7 @@ pub enum RwCall {
     Release,
 }
 
-/// The point of a call: which step comes next. Only a call that acquires shared access, or that waits to upgrade, has a
+/// The point of a call: which step is next. Only a call that acquires shared access, or that waits to upgrade, has a
 /// second one.
 #[derive(Copy)]
 pub enum RwPoint {

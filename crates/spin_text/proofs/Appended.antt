@@ -7,14 +7,14 @@ use Rattle.std.proofs.lemmas.Grind.{common_steps}
 use Rattle.std.specs.Io.KnownBytes.{Appends}
 use Rattle.spin_text.specs.Ends.{AppendsBeginning, AppendsBut}
 
--- what grows by one text and then by another grows by both
+-- bytes that grow by one text and then by another grow by both
 pub Appends-append : (a b c : Option (List ℕ)) (xs ys : List ℕ) → Appends a b xs → Appends b c ys → Appends a c (xs ++ ys)
 Appends-append None b c xs ys p q = tt
 Appends-append (Some s) None c xs ys p q = absurd p
 Appends-append (Some s) (Some t) None xs ys p q = absurd q
 Appends-append (Some s) (Some t) (Some u) xs ys p q = q ∙ (ap (λ w. w ++ ys) p ∙ append_assoc s xs ys)
 
--- fewer of the first bytes are the same
+-- a first part of the first bytes of a text is a first part of the text
 take-take : (text : List ℕ) (n k : ℕ) → take n (take (n + k) text) ≡ take n text
 take-take text n k = grind (arith, common_steps)
 
@@ -23,7 +23,7 @@ take_more : (text rest : List ℕ) (n k : ℕ) → rest ≡ drop n text → take
 take_more text rest n k is =
     ap (λ w. w ++ take k rest) (sym (take-take text n k)) ∙ (ap (λ w. take n (take (n + k) text) ++ w) (ap (take k) is ∙ sym (drop-take n k text)) ∙ take-append-drop n (take (n + k) text))
 
--- where the first n bytes of a text were written, and then the next k of it, its first n + k were
+-- if the first n bytes of a text were written, and then the next k, its first n + k were
 pub Appends-take : (a b c : Option (List ℕ)) (text rest : List ℕ) (n k : ℕ) → rest ≡ drop n text → Appends a b (take n text) → Appends b c (take k rest) → Appends a c (take (n + k) text)
 Appends-take a b c text rest n k is p q =
     let P : List ℕ → Type 0 = λ w. Appends a c w in
@@ -33,7 +33,7 @@ Appends-take a b c text rest n k is p q =
 pub drop_more : (text rest : List ℕ) (n k : ℕ) → rest ≡ drop n text → take (length rest - k) (drop k rest) ≡ drop (n + k) text
 drop_more text rest n k is = grind (arith, common_steps, is, drop-drop, length-drop)
 
--- where nothing was written, all is still to be
+-- if nothing was written, all is left to write
 Appends-none : (a : Option (List ℕ)) → Appends a a []
 Appends-none None = tt
 Appends-none (Some s) = sym (append-nil s)
@@ -41,15 +41,15 @@ Appends-none (Some s) = sym (append-nil s)
 pub but_all : (a : Option (List ℕ)) (text piece : List ℕ) → text ≡ piece → AppendsBut a a text piece
 but_all a text piece is = ([], Appends-none a, is)
 
--- where a piece was written, nothing is still to be
+-- if a piece was written, nothing is left to write
 pub but_none : (a b : Option (List ℕ)) (text : List ℕ) → Appends a b text → AppendsBut a b text []
 but_none a b text all = (text, all, sym (append-nil text))
 
--- the text and the piece take a line
+-- the text and the piece get one more line
 pub but_line : (a b : Option (List ℕ)) (text piece line : List ℕ) → AppendsBut a b text piece → AppendsBut a b (text ++ line) (piece ++ line)
 but_line a b text piece line so_far = (so_far.0, so_far.1, ap (λ t. t ++ line) so_far.2 ∙ append_assoc so_far.0 piece line)
 
--- what comes of the piece, comes of the text
+-- what happens to the piece happens to the text
 module _ (a b c : Option (List ℕ)) (text piece : List ℕ) (so_far : AppendsBut a b text piece) where
   pub but_then : (rest : List ℕ) → AppendsBut b c piece rest → AppendsBut a c text rest
   but_then rest next = (
@@ -79,6 +79,6 @@ beginning_longer a b text more all is part =
     let Q : List ℕ → Type 0 = λ t. Appends a b t in
     subst P (sym is) (part.0, omega (arith, part.1, length-append text more), subst Q (sym (take-append-le part.0 text more part.1)) part.2)
 
--- what stands from a place on
+-- what the list has from a place on
 pub rest_is : (xs line : List ℕ) (n i : ℕ) → length xs ≡ n → drop i xs ≡ line → take (n - i) (drop i xs) ≡ line
 rest_is xs line n i count is = grind (arith, common_steps, length-drop)

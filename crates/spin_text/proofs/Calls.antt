@@ -40,7 +40,7 @@ module _ {C : Type 0} (calls : Calls C) where
   are_calls [] = true
   are_calls (row ∷ rows) = (calls.fits row.1 && is_word (calls.words row.1) row.0) && are_calls rows
 
-  -- a word that such a table names is that call
+  -- a word in such a table is the call of its row
   pub named_takes : (rows : List (List ℕ × C)) → are_calls rows ≡ true → (w : List ℕ) (c : C) → named rows w ≡ Some c → IsCall (w ∷ []) c
   unfolding named
   named_takes [] each w c = λ is. absurd (cc)
@@ -51,13 +51,18 @@ module _ {C : Type 0} (calls : Calls C) where
       let this = and_true _ _ all.0 in
       subst P (some_is is) (this.0, ap (λ x. x ∷ []) (is_text w row.0 same) ∙ word_is (calls.words row.1) row.0 this.1)) (λ _. named_takes rows all.1 w c)
 
-  -- where all calls are of one word
-  pub word_takes : (rows : List (List ℕ × C)) → are_calls rows ≡ true → (ws : List (List ℕ)) (c : C) → (last_word ws >>= named rows) ≡ Some c → IsCall ws c
-  word_takes rows each ws c =
-      bound (last_word ws) (named rows) c (IsCall ws c) (λ w one is.
-      let call = named_takes rows each w c is in (call.0, last_word_takes ws w one ∙ call.1))
+  -- if all calls have one word
+  pub word_reads : (rows : List (List ℕ × C)) → are_calls rows ≡ true
+      → ((c : C) → calls.fits c ≡ true → only_named rows (calls.words c) ≡ Some c) → ReadsCalls calls (only_named rows)
+  unfolding only_named
+  word_reads rows each again =
+      record {
+        takes = λ ws c. bound (last_word ws) (named rows) c (IsCall ws c) (λ w one is.
+            let call = named_takes rows each w c is in (call.0, last_word_takes ws w one ∙ call.1));
+        again = again;
+      }
 
-  -- a call that is found is the one that is told
+  -- the call found is the one that the words spell
   pub told : (ws : List (List ℕ)) (this c : C) → IsCall ws this → Some this ≡ Some c → IsCall ws c
   told ws this c call is = let P : C → Type 0 = IsCall ws in subst P (some_is is) call
 
@@ -68,21 +73,14 @@ module _ {C : Type 0} (calls : Calls C) where
       let number = last_number_takes ws n found in
       told all (this n) c (call n number.0 number.1))
 
-flag_takes : (ws : List (List ℕ)) (c : FlagCall) → read_flag_call ws ≡ Some c → IsCall flag_calls ws c
-unfolding read_flag_call only_named
-flag_takes = word_takes flag_calls _ refl
-
 flag_again : (c : FlagCall) → flag_calls.fits c ≡ true → read_flag_call (flag_calls.words c) ≡ Some c
 unfolding read_flag_call only_named last_word named
 flag_again flag.Lock fits = refl
 flag_again _ fits = refl
 
 pub flag_reads : ReadsCalls flag_calls read_flag_call
-flag_reads = record { takes = flag_takes; again = flag_again }
-
-ticket_takes : (ws : List (List ℕ)) (c : TicketCall) → read_ticket_call ws ≡ Some c → IsCall ticket_calls ws c
-unfolding read_ticket_call only_named
-ticket_takes = word_takes ticket_calls _ refl
+unfolding read_flag_call
+flag_reads = word_reads flag_calls _ refl flag_again
 
 ticket_again : (c : TicketCall) → ticket_calls.fits c ≡ true → read_ticket_call (ticket_calls.words c) ≡ Some c
 unfolding read_ticket_call only_named last_word named
@@ -90,11 +88,8 @@ ticket_again ticket.Lock fits = refl
 ticket_again _ fits = refl
 
 pub ticket_reads : ReadsCalls ticket_calls read_ticket_call
-ticket_reads = record { takes = ticket_takes; again = ticket_again }
-
-rw_takes : (ws : List (List ℕ)) (c : RwCall) → read_rw_call ws ≡ Some c → IsCall rw_calls ws c
-unfolding read_rw_call only_named
-rw_takes = word_takes rw_calls _ refl
+unfolding read_ticket_call
+ticket_reads = word_reads ticket_calls _ refl ticket_again
 
 rw_again : (c : RwCall) → rw_calls.fits c ≡ true → read_rw_call (rw_calls.words c) ≡ Some c
 unfolding read_rw_call only_named last_word named
@@ -102,11 +97,8 @@ rw_again rw.TryRead fits = refl
 rw_again _ fits = refl
 
 pub rw_reads : ReadsCalls rw_calls read_rw_call
-rw_reads = record { takes = rw_takes; again = rw_again }
-
-fair_takes : (ws : List (List ℕ)) (c : FairCall) → read_fair_call ws ≡ Some c → IsCall fair_calls ws c
-unfolding read_fair_call only_named
-fair_takes = word_takes fair_calls _ refl
+unfolding read_rw_call
+rw_reads = word_reads rw_calls _ refl rw_again
 
 fair_again : (c : FairCall) → fair_calls.fits c ≡ true → read_fair_call (fair_calls.words c) ≡ Some c
 unfolding read_fair_call only_named last_word named
@@ -114,18 +106,16 @@ fair_again fair.Lock fits = refl
 fair_again _ fits = refl
 
 pub fair_reads : ReadsCalls fair_calls read_fair_call
-fair_reads = record { takes = fair_takes; again = fair_again }
-
-barrier_takes : (ws : List (List ℕ)) (c : BarrierCall) → read_barrier_call ws ≡ Some c → IsCall barrier_calls ws c
-unfolding read_barrier_call only_named
-barrier_takes = word_takes barrier_calls _ refl
+unfolding read_fair_call
+fair_reads = word_reads fair_calls _ refl fair_again
 
 barrier_again : (c : BarrierCall) → barrier_calls.fits c ≡ true → read_barrier_call (barrier_calls.words c) ≡ Some c
 unfolding read_barrier_call only_named last_word named
 barrier_again barrier.Wait fits = refl
 
 pub barrier_reads : ReadsCalls barrier_calls read_barrier_call
-barrier_reads = record { takes = barrier_takes; again = barrier_again }
+unfolding read_barrier_call
+barrier_reads = word_reads barrier_calls _ refl barrier_again
 
 try_call_once_takes : (w : List ℕ) (ws : List (List ℕ)) (c : OnceCall ℕ) → bytes_eq w (codes "try_call_once") ≡ true → read_try_call_once ws ≡ Some c → IsCall once_calls (w ∷ ws) c
 unfolding read_try_call_once

@@ -11,7 +11,7 @@ use Rattle.memchr.specs.Find.{Nowhere, NoneBefore, Passes, is_byte}
 use Rattle.spin_text.specs.Reading.{is_end, parts_left, lines_left}
 use Rattle.spin_text.specs.Lines.{lines_of, words_of, words_by_line, first_and_further, further_lines}
 
--- how many bytes are left, and 1 where there is a line
+-- how many bytes are left, plus 1 if there is a line
 abbrev pub bytes_left : Option (Bor (List ℕ)) → ℕ
 bytes_left None = 0
 bytes_left (Some bytes) = length bytes.now + 1
@@ -25,7 +25,8 @@ pub cut_none : (a : ℕ) (bs : List ℕ) → Nowhere (Passes (is_byte a) bs) 0 (
 cut_none a bs nowhere =
     slice_split_none (is_byte a) bs (λ k d l. ap (is_byte a) (get_or_default bs k d 0 l) ∙ not_passing _ (nowhere k (omega arith) l))
 
--- the first word of a line, and the words behind it. No space is before place i, so the word begins as the line does
+-- The first word of a line, and the words behind it. There is no space before place i, so the word begins at the line's
+-- beginning.
 pub record FirstWord (line : List ℕ) (i : ℕ) : Type 0 where
   pub word : List ℕ
   pub more : List (List ℕ)
@@ -63,7 +64,7 @@ cut_some a bs at first here =
     ap (is_byte a) (get_or-take at bs k d below ∙ get_or_default bs k d 0 (omega (arith, below, first.high))) ∙ not_passing _ (first.before k (omega arith) below)) here
     ∙ ap (λ rest. take at bs ∷ slice_split (is_byte a) rest) (sym (all_of_rest bs (at + 1)))
 
--- where bytes are behind a line feed, the lines behind it are theirs
+-- if there are bytes behind a line feed, the lines behind it are theirs
 further_same : (parts : List (List ℕ)) → ((x : List ℕ) → parts ≡ x ∷ [] → 0 < length x) → further_lines parts ≡ first_and_further parts
 further_same [] some = refl
 further_same ([] ∷ []) some = absurd (omega (arith, some [] refl))
@@ -102,7 +103,7 @@ split_after bs line further split true test =
     lines_behind bs line _ [] split (ap (λ b. further_lines (slice_split (is_byte 10) b)) (no_bytes further.now test))
 split_after bs line further split false test = lines_behind bs line _ _ split (further_lines_of further.now (some_bytes further.now test))
 
--- behind the first line: nothing, where no byte is behind the line feed
+-- behind the first line there is nothing, if no byte follows the line feed
 pub lines_after : (bs line : List ℕ) (rest : Option (Bor (List ℕ))) (further : Bor (List ℕ)) → slice_split (is_byte 10) bs ≡ line ∷ parts_left 10 rest → rest ≡ Some further
     → (left : Option (Bor (List ℕ))) (over : Bool) → over ≡ (length further.now == 0) → left ≡ cond over None (Some further) → words_by_line bs ≡ words_of line ∷ lines_left left
 lines_after bs line rest further parts is left over test made =
@@ -118,7 +119,7 @@ first_within : (parts : List (List ℕ)) → length (first_and_further parts) �
 first_within [] = omega arith
 first_within (x ∷ more) = omega (arith, further_within more)
 
--- there are no more lines than bytes and one
+-- there is at most one line more than bytes
 pub lines_within : (bs : List ℕ) → length (words_by_line bs) ≤ length bs + 1
 lines_within bs =
     omega (arith, length-map (lines_of bs) words_of, first_within (slice_split (is_byte 10) bs), length-slice_split (is_byte 10) bs, count_by-le-length (is_byte 10) bs)

@@ -1,4 +1,4 @@
--- The lines of a transcript, one after the other, as the moves are played.
+-- The lines of a transcript, one after another, while the moves are played.
 use Rattle.std.proofs.Common.{◌≡◌, ℕ, zero, suc, ◌+◌, ◌<◌, ◌^◌, ◌==◌, ◌&&◌, Bool, true, false, if◌then◌else◌, Option, Some, None, List, [], ◌∷◌, ◌++◌, length, take, drop, get_or, sym, ◌∙◌, ap, refl, subst, arith, append_assoc, append-nil, zero-add, length-take-le}
 use Rattle.std.proofs.lemmas.List.{take-append-drop}
 use Rattle.spin_model.specs.declared.answer.Answer.{Answer}
@@ -23,7 +23,7 @@ event_lines_more numbers line (x ∷ es) e =
     ap (λ l. first ++ l) (event_lines_more numbers (line + 1) es e ∙ ap (λ n. event_lines numbers (line + 1) es ++ event_line n e.party e.outcome (numbers e.words)) place)
     ∙ sym (append_assoc first (event_lines numbers (line + 1) es) (event_line (line + suc (length es)) e.party e.outcome (numbers e.words)))
 
--- a beginning is among the events so far
+-- the beginning is among the events so far
 abbrev IsBelow : ℕ → Option ℕ → Type 0
 IsBelow n None = Unit {0}
 IsBelow n (Some k) = k < n
@@ -43,7 +43,7 @@ begin_below p k found (e ∷ es) below =
     let next = if (e.party == p) && is_begun e.outcome then Some k else found in
     subst (λ n. IsBelow n (last_begin p (k + 1) next es)) place (begin_below p (k + 1) next es (next_below ((e.party == p) && is_begun e.outcome) k found below))
 
--- the first of what is left of a list behind its first k
+-- the first of what is left of a list after its first k
 pub first_left : {X : Type 0} → (xs : List X) (k : ℕ) (x : X) (rest : List X) → drop k xs ≡ x ∷ rest
     → (k < length xs) × ((d : X) → x ≡ get_or xs k d) × (drop (suc k) xs ≡ rest)
 first_left [] zero x rest is = absurd (cc)
@@ -51,13 +51,14 @@ first_left [] (suc k) x rest is = absurd (cc)
 first_left (y ∷ ys) zero x rest is = (omega arith, λ d. sym (ap (λ l. get_or l 0 y) is), ap (drop 1) is)
 first_left (y ∷ ys) (suc k) x rest is = let next = first_left ys k x rest is in (omega (arith, next.0), next.1, next.2)
 
--- nothing is left, so all is in front
+-- if nothing is left, the front is everything
 pub all_in_front : {X : Type 0} → (xs : List X) (k : ℕ) → drop k xs ≡ [] → take k xs ≡ xs
 all_in_front xs k none = sym (append-nil (take k xs)) ∙ ap (λ l. take k xs ++ l) (sym none) ∙ take-append-drop k xs
 
 -- the first k moves of a schedule were played
-abbrev pub Told : {W C L : Type 0} → Machine W ℕ C L (Answer ℕ) → State W ℕ C L → State W ℕ C L → List (Option ℕ) → List (ℕ × Move C ℕ) → ℕ → Type 0
-Told m from now begins schedule k = Played m from now begins (with_begins [] (events_of m from (take k schedule))) (take k schedule)
+abbrev pub PlayedFirst : {W C L : Type 0} → Machine W ℕ C L (Answer ℕ) → State W ℕ C L → State W ℕ C L → List (Option ℕ)
+    → List (ℕ × Move C ℕ) → ℕ → Type 0
+PlayedFirst m from now begins schedule k = Played m from now begins (with_begins [] (events_of m from (take k schedule))) (take k schedule)
 
 has_line : (place : ℕ) (began : Option ℕ) → IsBelow place began → place < 2 ^ 64 → HasLine began
 has_line place None below fits = tt
@@ -72,10 +73,10 @@ tells_line began (outcome.Value v) has = tt
 tells_line began outcome.Written has = tt
 tells_line began outcome.Leaked has = tt
 
--- an answer has a line to be told from
+-- an answer has a line at which its call began
 pub told_line : {W C L : Type 0} (m : Machine W ℕ C L (Answer ℕ)) (from now : State W ℕ C L) (begins : List (Option ℕ))
     (schedule rest : List (ℕ × Move C ℕ)) (k : ℕ) (entry : ℕ × Move C ℕ) (o o' : Outcome (Answer ℕ) ℕ)
-    → Told m from now begins schedule k → drop k schedule ≡ entry ∷ rest → k < 2 ^ 64 → o' ≡ with_begin (begin_of begins entry.0) o → TellsLine o'
+    → PlayedFirst m from now begins schedule k → drop k schedule ≡ entry ∷ rest → k < 2 ^ 64 → o' ≡ with_begin (begin_of begins entry.0) o → TellsLine o'
 told_line m from now begins schedule rest k entry o o' told left fits is =
     let p = entry.0 in
     let lt = (first_left schedule k entry rest left).0 in
@@ -93,10 +94,10 @@ length-with_begins before (e ∷ es) = ap suc (length-with_begins (before ++ e �
 pub told_next : {O W C L : Type 0} (machine : O → Machine W ℕ C L (Answer ℕ)) (object held : O) (from now next : State W ℕ C L)
     (begins begins' : List (Option ℕ)) (schedule rest : List (ℕ × Move C ℕ)) (k : ℕ)
     (entry : ℕ × Move C ℕ) (o o' : Outcome (Answer ℕ) ℕ) (words : W) (numbers : List ℕ)
-    → held ≡ object → Told (machine object) from now begins schedule k → drop k schedule ≡ entry ∷ rest
+    → held ≡ object → PlayedFirst (machine object) from now begins schedule k → drop k schedule ≡ entry ∷ rest
     → (let h : Happened W ℕ C L (Answer ℕ) = record { outcome = o; next = next } in h ≡ happens (machine held) now entry.0 entry.1) → words ≡ next.words → (machine object).numbers words ≡ numbers
     → o' ≡ with_begin (begin_of begins entry.0) o → begins' ≡ begins_after begins entry.0 k o
-    → Told (machine object) from next begins' schedule (k + 1) × (drop (k + 1) schedule ≡ rest)
+    → PlayedFirst (machine object) from next begins' schedule (k + 1) × (drop (k + 1) schedule ≡ rest)
     × (schedule_lines (machine object) from (take (k + 1) schedule)
     ≡ schedule_lines (machine object) from (take k schedule) ++ event_line (k + 1) entry.0 o' numbers)
 told_next {W = W} machine object held from now next begins begins' schedule rest k entry o o' words numbers same told left acted is_words is_numbers told_o put =

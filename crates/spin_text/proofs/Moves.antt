@@ -33,7 +33,7 @@ module _ {C : Type 0} (calls : Calls C) (read : List (List ℕ) → Option C) (r
   abbrev IsMove : List (List ℕ) → Move C ℕ → Type 0
   IsMove ws m = MoveFits calls m × (ws ≡ move_words calls m)
 
-  -- a move that is found is the one that is told
+  -- the move found is the one that the words spell
   told : (ws : List (List ℕ)) (m n : Move C ℕ) → IsMove ws m → Some m ≡ Some n → IsMove ws n
   told ws m n move is = let P : Move C ℕ → Type 0 = IsMove ws in subst P (some_is is) move
 

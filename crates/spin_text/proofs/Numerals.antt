@@ -1,4 +1,4 @@
--- Numbers as words: what is printed is read, and what is read was printed so.
+-- Numbers as words: what is printed is read back, and what is read was printed like this.
 use Rattle.std.proofs.Common.{◌≡◌, ℕ, suc, zero, ◌+◌, ◌*◌, ◌<◌, ◌≤◌, ◌^◌, true, ◌&&◌, Option, Some, None, IfSome, IfNone, nat_lt, List, [], ◌∷◌, decimal, length, take, get_or, arith, sym, ◌∙◌, ap, slice_index, subst, refl, cond, length-take, get_or-take, take_all, eqb-true}
 use Rattle.std.specs.Char.{digit_value}
 use Rattle.std.specs.List.{join_with_byte}
@@ -23,12 +23,12 @@ prints_back word n fits is =
     let small : digits_value 10 word < 2 ^ 64 = omega (arith, is.value) in
     sym (decimal-digits_value (numerals_by_value (AllDigits 10) tells_digits) word is.digits.1 is.digits.0 is.no_leading_zero small) ∙ ap decimal is.value
 
--- what a number is printed as has no leading zero, but for 0 itself
+-- a printed number has no leading zero, unless it is 0
 no_leading_zero : (n : ℕ) → n < 2 ^ 64 → slice_index (decimal n) 0 ≡ 48 → length (decimal n) ≡ 1
 no_leading_zero zero fits is = ap length (decimal_digit 0 (omega arith))
 no_leading_zero (suc n) fits is = absurd (omega (arith, is, first_decimal (suc n) (omega arith) fits))
 
--- what a number is printed as is that number
+-- the word printed for a number spells that number
 pub is_number : (n : ℕ) → n < 2 ^ 64 → IsNumber (decimal n) n
 is_number n fits =
     let numeral = decimal_is_IsNumeral n fits in
@@ -58,7 +58,7 @@ pub read_number_none : (w : List ℕ) (r : Option ℕ) → r ≡ read_number w �
 read_number_none w None is none = refl
 read_number_none w (Some n) is none = let found = read_number_takes w n (sym is) in absurd (none n found.0 found.1)
 
--- a line whose first word is no number begins with none
+-- if the first word of a line is no number, the line begins with no number
 pub no_number_first : (line word : List ℕ) (more : List (List ℕ)) → words_of line ≡ word ∷ more
     → ((n : ℕ) → n < 2 ^ 64 → ¬ (IsNumber word n)) → number_at (words_of line) ≡ None
 unfolding number_at
@@ -67,7 +67,7 @@ no_number_first line word more is none =
     none n fits (subst (λ w. IsNumber w n) (sym prints) (is_number n fits))) in
     ap number_at is ∙ sym (ap (λ r. r >>= λ n. Some (n, more)) unread)
 
--- digits are a number, unless there are none, or more than one of which the first is 0
+-- Digits spell a number, unless there are none, or there are more than one and the first is 0.
 pub number_first : (line word : List ℕ) (more : List (List ℕ)) (n : ℕ) → words_of line ≡ word ∷ more
     → n < 2 ^ 64 → AllDigits 10 word → digits_value 10 word ≡ n → 0 < length word → (slice_index word 0 ≡ 48 → length word ≡ 1)
     → number_at (words_of line) ≡ Some (n, more)
@@ -82,7 +82,7 @@ digit_value_at [] i digits lt = absurd (omega (arith, lt))
 digit_value_at (c ∷ word) zero digits lt = digits.0
 digit_value_at (c ∷ word) (suc i) digits lt = digit_value_at word i digits.1 (omega (arith, lt))
 
--- behind digits, which stand for this number, comes a byte that is no digit, or takes the number past 64 bits
+-- After digits with this value comes a byte that is no digit, or one with which the number exceeds 64 bits.
 module _ (line : List ℕ) (i number : ℕ) (lt : i < length line) (so_far : digits_value 10 (take i line) ≡ number)
     (past : digit_value (get_or line i 0) < 10 → 2 ^ 64 ≤ number * 10 + digit_value (get_or line i 0)) where
   -- a word with these bytes in front is no number
@@ -116,7 +116,7 @@ no_space line i there digits k low high here =
     not_in_digits numerals (take i line) 32 digits (λ range. absurd (omega (arith, range))) k (omega (arith, high, there, length-take i line))
     (get_or-take i line k 0 high ∙ eqb-true _ _ here)
 
--- so a number is a line of one word
+-- so the word of a number is a line of one word
 alone : (word : List ℕ) (n : ℕ) → IsNumber word n → words_of word ≡ word ∷ []
 alone word n is =
     let digits = subst (AllDigits 10) (sym (take_all (length word) word (omega arith))) is.digits.1 in
@@ -158,7 +158,7 @@ pub last_number_again : (n : ℕ) → n < 2 ^ 64 → last_number (decimal n ∷ 
 unfolding last_number
 last_number_again n fits = ap (λ o. o >>= λ x. cond (is_end x.1) (Some x.0) None) (number_at_again n [] fits)
 
--- what is read of a word as a line is the number that it is
+-- a word read as a line gives the number that it spells
 pub number_alone : (word : List ℕ) (r : Option ℕ) → r ≡ last_number (words_of word) → IfSome r (λ n. IsNumber word n)
 number_alone word None read = tt
 number_alone word (Some n) read =

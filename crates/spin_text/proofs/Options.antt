@@ -8,12 +8,12 @@ use Rattle.spin_text.specs.Reading.{◌>>=◌}
 pub some_is : {A : Type 0} {x y : A} → Some x ≡ Some y → x ≡ y
 some_is is = cc
 
--- a test leads one way or the other
+-- a test chooses one of two results
 pub chosen : {A : Type 0} (test : Bool) (this other : Option A) (y : A) (P : Type 0) → (test ≡ true → this ≡ Some y → P) → (test ≡ false → other ≡ Some y → P) → cond test this other ≡ Some y → P
 chosen true this other y P if_so otherwise is = if_so refl is
 chosen false this other y P if_so otherwise is = otherwise refl is
 
--- what comes of a result and then of the next
+-- first a result, and then the next
 pub bound : {A B : Type 0} (o : Option A) (f : A → Option B) (y : B) (P : Type 0) → ((x : A) → o ≡ Some x → f x ≡ Some y → P) → (o >>= f) ≡ Some y → P
 bound None f y P then is = absurd (cc)
 bound (Some x) f y P then is = then x refl is
@@ -22,7 +22,7 @@ pub and_true : (a b : Bool) → (a && b) ≡ true → (a ≡ true) × (b ≡ tru
 and_true true b is = (refl, is)
 and_true false b is = absurd (cc)
 
--- what holds of a result, as far as one thing gives the other
+-- what holds of a result, if one property implies the other
 
 pub on_ok : {X E : Type 0} (r : Result X E) (P Q : Type 0) → (P → Q) → OnOk r P → OnOk r Q
 on_ok (Ok x) P Q then p = then p

@@ -1,4 +1,4 @@
--- Texts that are put before one another, from the end of a buffer on.
+-- Texts that are put in front of each other, from the end of a buffer.
 use Rattle.std.proofs.Common.{◌≡◌, ℕ, List, ◌++◌, length, drop, ap, sym, ◌∙◌, arith, length-append, drop_of_length-le}
 use Rattle.std.proofs.lemmas.List.{append_assoc, append-nil}
 use Rattle.spin_text.specs.Pieces.{PutBefore}

@@ -1,5 +1,5 @@
--- A whole text is read as it is spelled: so it has one reading, and its first bad line is where reading stops.
-use Rattle.std.proofs.Common.{◌≡◌, ℕ, suc, Bool, true, false, ◌<◌, Result, OnOk, IfErr, ◌+◌, ◌-◌, Option, Some, None, List, [], ◌∷◌, ◌++◌, length, map, take, arith, refl, sym, ◌∙◌, ap, subst, length-append, append_assoc, append-nil}
+-- A whole text is read as it is spelled. So it has one reading, and its first bad line is where reading stops.
+use Rattle.std.proofs.Common.{◌≡◌, ℕ, suc, Bool, true, false, Result, OnOk, IfErr, ◌+◌, ◌-◌, Option, Some, None, IsSome, List, [], ◌∷◌, ◌++◌, length, map, take, arith, refl, sym, ◌∙◌, ap, subst, length-append, append_assoc, append-nil}
 use Rattle.std.specs.List.{cons_option}
 use Rattle.std.proofs.lemmas.List.{length-map, map-append}
 use Rattle.spin_model.specs.declared.answer.Answer.{Answer}
@@ -9,11 +9,11 @@ use Rattle.spin_text.specs.declared.header.Header.{Header}
 use Rattle.spin_text.specs.declared.text.RunError.{RunError}
 use Rattle.spin_text.specs.declared.text.RunError.TheVariants as errors
 use Rattle.spin_text.specs.Ends.{AppendsSome, AppendsSomeBeginning}
-use Rattle.spin_text.specs.Lines.{words_by_line, header_line, entry_lines}
+use Rattle.spin_text.specs.Lines.{words_by_line}
 use Rattle.spin_text.specs.Spelling.{Calls, entry_words, EntryFits, EntriesFit}
 use Rattle.spin_text.specs.Objects.{CallOf, calls_of, header_words, HeaderFits}
 use Rattle.spin_text.specs.Reading.{◌>>=◌, read_entry, entries_in, read_header}
-use Rattle.spin_text.specs.Readable.{ReadsCalls, AllSpell, StopsEntries}
+use Rattle.spin_text.specs.Readable.{ReadsCalls, AllSpell, AllRead, StopsEntries}
 use Rattle.spin_text.specs.Transcripts.{transcript_text}
 use Rattle.spin_text.specs.Texts.{Script, script_words, ScriptFits, Spells, AreOfScript, IsFirstBad, played, PlaysBytes, PlaysLines, StopsPlaying, StopsWriting, ReadsAll, Streams, Plays, Stops}
 use Rattle.spin_text.proofs.Options.{some_is, on_ok, if_err}
@@ -32,7 +32,7 @@ module _ {C : Type 0} (calls : Calls C) (read : List (List ℕ) → Option C) (r
       ap (λ o. o >>= λ x. (read_entries read (map (entry_words calls) es) >>= λ xs. Some (x ∷ xs))) (entry_again calls read reads e fits.0)
       ∙ ap (λ o. o >>= λ xs. Some (e ∷ xs)) (entries_again es fits.1)
 
-  -- one line that spells no entry is enough
+  -- one line that spells no entry is enough to stop
   pub entries_stop : (es : List (ℕ × Move C ℕ)) (line : List (List ℕ)) → EntriesFit calls es → read_entry read line ≡ None → read_entries read (map (entry_words calls) es ++ (line ∷ [])) ≡ None
   entries_stop [] line fits is = ap (λ o. o >>= λ x. Some (x ∷ [])) is
   entries_stop (e ∷ es) line fits is =
@@ -62,7 +62,7 @@ pub first_entry : {C : Type 0} (read : List (List ℕ) → Option C) (left furth
     → read_entry read line ≡ Some e → entries_in read left ≡ e ∷ entries_in read further
 first_entry read left further line e next found = ap (entries_in read) next ∙ ap (λ o. cons_option o (entries_in read further)) found
 
--- the lines before those that are left spell entries, so many of them
+-- the lines before the remaining ones spell this many entries
 abbrev pub Checked : {C : Type 0} → Calls C → List (List (List ℕ)) → List (List (List ℕ)) → ℕ → Type 0
 Checked {C} calls left all n = (es : List (ℕ × Move C ℕ)) × EntriesFit calls es × (map (entry_words calls) es ++ left ≡ all) × (n ≡ length es)
 
@@ -73,6 +73,11 @@ module _ {C : Type 0} (calls : Calls C) (read : List (List ℕ) → Option C) (r
   entries_found (e ∷ es) fits =
       ap (λ o. cons_option o (entries_in read (map (entry_words calls) es))) (entry_again calls read reads e fits.0)
       ∙ ap (λ l. e ∷ l) (entries_found es fits.1)
+
+  -- and each line is read
+  pub all_read : (es : List (ℕ × Move C ℕ)) → EntriesFit calls es → AllRead read (map (entry_words calls) es)
+  all_read [] fits = tt
+  all_read (e ∷ es) fits = (subst IsSome (sym (entry_again calls read reads e fits.0)) refl, all_read es fits.1)
 
   pub checked_next : (n : ℕ) (e : ℕ × Move C ℕ) (line : List (List ℕ)) (left further all : List (List (List ℕ))) → Checked calls left all n
       → left ≡ line ∷ further → read_entry read line ≡ Some e → Checked calls further all (n + 1)
@@ -100,12 +105,12 @@ script_again s fits =
     ap (λ o. o >>= λ h. (read_entries (read_of h) rest >>= λ es. Some (record { header = h; entries = es }))) (header_again s.header fits.0)
     ∙ ap (λ o. o >>= λ es. Some (record { header = s.header; entries = es })) (entries_again (calls_of s.header) (read_of s.header) (reads_of s.header) s.entries fits.1)
 
--- two scripts of one text are one
+-- two scripts of one text are equal
 pub one_script : (bytes : List ℕ) (s t : Script) → Spells bytes s → Spells bytes t → s ≡ t
 one_script bytes s t first second =
     some_is (sym (script_again s first.fits) ∙ ap read_script (sym first.words ∙ second.words) ∙ script_again t second.fits)
 
--- lines that are read as none are no script's
+-- lines that cannot be read are no script's
 no_script : (lines : List (List (List ℕ))) → read_script lines ≡ None → ¬ AreOfScript lines
 no_script lines none script =
     let found : Some script.0 ≡ None = sym (script_again script.0 script.1) ∙ ap read_script (sym script.2) ∙ none in absurd (cc)
@@ -114,18 +119,13 @@ header_stops : (line : List (List ℕ)) → read_header line ≡ None → read_s
 unfolding read_script
 header_stops line none = ap (λ o. o >>= λ h. (read_entries (read_of h) [] >>= λ es. Some (record { header = h; entries = es }))) none
 
-bad_first : (lines : List (List (List ℕ))) → 0 < length lines → None ≡ read_header (header_line lines) → IsFirstBad lines 1
-bad_first [] there none = absurd (omega (arith, there))
-bad_first (line ∷ more) there none =
-    record {
+pub bad_header : (line : List (List ℕ)) (all more : List (List (List ℕ))) → all ≡ line ∷ more → None ≡ read_header line → IsFirstBad all 1
+bad_header line all more is none =
+    subst (λ lines. IsFirstBad lines 1) (sym is) (record {
       there = (omega arith, omega arith);
       before = λ less. absurd (omega (arith, less));
       bad = no_script (line ∷ []) (header_stops line (sym none));
-    }
-
-pub bad_header : (bytes given : List ℕ) → given ≡ bytes → 0 < length (words_by_line given) → None ≡ read_header (header_line (words_by_line given)) → IsFirstBad (words_by_line bytes) 1
-bad_header bytes given is =
-    subst (λ b. 0 < length (words_by_line given) → None ≡ read_header (header_line (words_by_line given)) → IsFirstBad (words_by_line b) 1) is (bad_first (words_by_line given))
+    })
 
 entry_stops : (h : Header) (es : List (ℕ × Move (CallOf h) ℕ)) (line : List (List ℕ)) → HeaderFits h → EntriesFit (calls_of h) es → read_entry (read_of h) line ≡ None
     → read_script (header_words h ∷ (map (entry_words (calls_of h)) es ++ (line ∷ []))) ≡ None
@@ -135,7 +135,7 @@ entry_stops h es line fits each none =
     ap (λ o. o >>= λ k. (read_entries (read_of k) rest >>= λ xs. Some (record { header = k; entries = xs }))) (header_again h fits)
     ∙ ap (λ o. o >>= λ xs. Some (record { header = h; entries = xs })) (entries_stop (calls_of h) (read_of h) (reads_of h) es line each none)
 
--- the first elements of a list, where it is known how many they are
+-- the first elements of a list, if it is known how many they are
 
 take_all_before : {X : Type 0} → (xs : List X) (y : X) (ys : List X) → take (length xs) (xs ++ (y ∷ ys)) ≡ xs
 take_all_before [] y ys = refl
@@ -159,16 +159,12 @@ first_bad h es line more fits each none =
       bad = λ script. no_script _ (entry_stops h es line fits each none) (let P : List (List (List ℕ)) → Type 0 = AreOfScript in subst P (ap (λ n. take n all) with_line ∙ ap (λ l. header_words h ∷ l) (take_one_more rest line more)) script);
     }
 
--- the first line is the header that it is read as
-headed_lines : (lines : List (List (List ℕ))) (h : Header) → read_header (header_line lines) ≡ Some h → HeaderFits h × (lines ≡ header_words h ∷ entry_lines lines)
-unfolding read_header
-headed_lines [] h found = absurd (cc)
-headed_lines (line ∷ lines) h found = let header = header_takes line h found in (header.0, ap (λ w. w ∷ lines) header.1)
+-- the first line is that of the header read from it
+pub headed : (line : List (List ℕ)) (all more : List (List (List ℕ))) (h : Header) → all ≡ line ∷ more → read_header line ≡ Some h
+    → HeaderFits h × (all ≡ header_words h ∷ more)
+headed line all more h is found = let header = header_takes line h found in (header.0, is ∙ ap (λ w. w ∷ more) header.1)
 
-pub headed : (bytes : List ℕ) (h : Header) (given : List ℕ) → given ≡ bytes → read_header (header_line (words_by_line given)) ≡ Some h → HeaderFits h × (words_by_line bytes ≡ header_words h ∷ entry_lines (words_by_line bytes))
-headed bytes h given is found = headed_lines (words_by_line bytes) h (ap (λ b. read_header (header_line (words_by_line b))) (sym is) ∙ found)
-
--- where the entries stop, the text stops
+-- if the entries stop, the text stops
 pub bad_entry : (bytes : List ℕ) (h : Header) (rest : List (List (List ℕ))) (e : RunError) → HeaderFits h → words_by_line bytes ≡ header_words h ∷ rest → StopsEntries (calls_of h) (read_of h) rest e → StopsPlaying bytes e
 bad_entry bytes h rest errors.Read fits is stops = absurd stops
 bad_entry bytes h rest errors.Memory fits is stops = tt
@@ -179,13 +175,13 @@ bad_entry bytes h rest (errors.BadLine n) fits is stops =
     let Q : ℕ → Type 0 = IsFirstBad (header_words h ∷ (map (entry_words (calls_of h)) stops.0 ++ (found.0 ∷ found.1))) in
     subst P (sym (is ∙ ap (λ r. header_words h ∷ r) found.2)) (subst Q (sym found.4) (first_bad h stops.0 found.0 found.1 fits stops.1 found.3))
 
--- what the entries come to, the text comes to
+-- the result for the entries is the result for the text
 pub whole_text : {W L : Type 0} → (bytes : List ℕ) (h : Header) (rest : List (List (List ℕ))) (m : Machine W ℕ (CallOf h) L (Answer ℕ)) (parties : ℕ) (text : List ℕ) → HeaderFits h → words_by_line bytes ≡ header_words h ∷ rest
     → ((es : List (ℕ × Move (CallOf h) ℕ)) → transcript_text m parties es ≡ played h es) → PlaysLines (calls_of h) m parties rest text → PlaysBytes bytes text
 whole_text bytes h rest m parties text fits is same plays =
     (record { header = h; entries = plays.0 }, record { fits = (fits, plays.1); words = is ∙ ap (λ r. header_words h ∷ r) plays.2 }, plays.3 ∙ same plays.0)
 
--- the same, of what a call answers that writes
+-- the same for the answer of a call that writes
 
 stops_so : (B C : RunError → Type 0) (U P Q : Type 0) → ((e : RunError) → B e → C e) → (P → Q) → (e : RunError) → StopsWriting B U P e → StopsWriting C U Q e
 stops_so B C U P Q before at_write errors.Read stops = (before errors.Read stops.0, stops.1)
@@ -194,7 +190,7 @@ stops_so B C U P Q before at_write (errors.BadLine n) stops = (before (errors.Ba
 stops_so B C U P Q before at_write errors.Write stops = at_write stops
 
 module _ {X : Type 0} (r : Result X RunError) (P Q : List ℕ → Type 0) (each : (text : List ℕ) → P text → Q text) (a b : Option (List ℕ)) where
-  -- a text of which one thing holds is one of which another holds
+  -- if every text of which P holds has the property Q, some text with P is some text with Q
   pub some_so : OnOk r (AppendsSome P a b) → OnOk r (AppendsSome Q a b)
   some_so = on_ok r _ _ (λ t. (t.0, each t.0 t.1, t.2))
 
@@ -202,23 +198,24 @@ module _ {X : Type 0} (r : Result X RunError) (P Q : List ℕ → Type 0) (each 
       → IfErr r (StopsWriting B U (F × AppendsSomeBeginning P a b)) → IfErr r (StopsWriting C U (F × AppendsSomeBeginning Q a b))
   beginning_so B C U F before = if_err r _ _ (stops_so B C U _ _ before (λ t. (t.0, (t.1.0, each t.1.0 t.1.1, t.1.2))))
 
--- what the lines behind the header come to, the bytes come to
+-- the result for the lines behind the header is the result for the bytes
 module _ {X W L : Type 0} (r : Result X RunError) (bytes : List ℕ) (h : Header) (m : Machine W ℕ (CallOf h) L (Answer ℕ)) (parties : ℕ)
-    (headed_so : HeaderFits h × (words_by_line bytes ≡ header_words h ∷ entry_lines (words_by_line bytes)))
-    (same : (es : List (ℕ × Move (CallOf h) ℕ)) → transcript_text m parties es ≡ played h es) (a b : Option (List ℕ)) where
-  each_text : (text : List ℕ) → PlaysLines (calls_of h) m parties (entry_lines (words_by_line bytes)) text → PlaysBytes bytes text
-  each_text text = whole_text bytes h _ m parties text headed_so.0 headed_so.1 same
+    (rest : List (List (List ℕ))) (headed_so : HeaderFits h × (words_by_line bytes ≡ header_words h ∷ rest))
+    (same : (es : List (ℕ × Move (CallOf h) ℕ)) → transcript_text m parties es ≡ played h es) (a b : Option (List ℕ)) (U F : Type 0) where
+  each_text : (text : List ℕ) → PlaysLines (calls_of h) m parties rest text → PlaysBytes bytes text
+  each_text text = whole_text bytes h rest m parties text headed_so.0 headed_so.1 same
 
-  pub plays_so : OnOk r (AppendsSome (PlaysLines (calls_of h) m parties (entry_lines (words_by_line bytes))) a b) → OnOk r (AppendsSome (PlaysBytes bytes) a b)
-  plays_so = some_so r _ _ each_text a b
+  pub plays_so : OnOk r (AppendsSome (PlaysLines (calls_of h) m parties rest) a b)
+      → IfErr r (StopsWriting (StopsEntries (calls_of h) (read_of h) rest) U
+      (F × AppendsSomeBeginning (PlaysLines (calls_of h) m parties rest) a b))
+      → OnOk r (AppendsSome (PlaysBytes bytes) a b)
+      × IfErr r (StopsWriting (StopsPlaying bytes) U (F × AppendsSomeBeginning (PlaysBytes bytes) a b))
+  plays_so plays stops = (
+    some_so r _ _ each_text a b plays,
+    beginning_so r _ _ each_text a b _ _ U F (λ e. bad_entry bytes h rest e headed_so.0 headed_so.1) stops,
+  )
 
-  pub stops_so_far : (U F : Type 0)
-      → IfErr r (StopsWriting (StopsEntries (calls_of h) (read_of h) (entry_lines (words_by_line bytes))) U
-      (F × AppendsSomeBeginning (PlaysLines (calls_of h) m parties (entry_lines (words_by_line bytes))) a b))
-      → IfErr r (StopsWriting (StopsPlaying bytes) U (F × AppendsSomeBeginning (PlaysBytes bytes) a b))
-  stops_so_far U F = beginning_so r _ _ each_text a b _ _ U F (λ e. bad_entry bytes h _ e headed_so.0 headed_so.1)
-
--- what playing comes to, the whole call comes to
+-- the result of playing is the result of the whole call
 module _ {X : Type 0} (r : Result X RunError) (bytes : List ℕ) (left left_after written written_after : Option (List ℕ))
     (source_failed sink_failed : Bool) (reads : ReadsAll left left_after bytes) where
   abbrev streams : Streams

@@ -7,5 +7,6 @@ pub mod Reading
 pub mod Readable
 pub mod Objects
 pub mod Transcripts
+pub mod Failures
 pub mod Pieces
 pub mod Texts

@@ -1,8 +1,9 @@
 -- The lines of bytes, and the words of a line.
 use Rattle.std.specs.Prelude.{ℕ, List, [], ◌∷◌, map, ◌==◌}
 use Rattle.std.specs.List.{slice_split}
+use Rattle.std.specs.Borrow.{Bor}
 
--- behind a line feed stands another line only where there are bytes
+-- the lines behind a line feed: another line follows only if there are more bytes
 abbrev pub further_lines : List (List ℕ) → List (List ℕ)
 further_lines [] = []
 further_lines ([] ∷ []) = []
@@ -13,11 +14,12 @@ abbrev pub first_and_further : List (List ℕ) → List (List ℕ)
 first_and_further [] = []
 first_and_further (x ∷ more) = x ∷ further_lines more
 
--- each line ends at a line feed, which the last may lack. Where there are no bytes there is one line, and it is empty
+-- Each line ends at a line feed, which may be missing at the end. An empty text has one line, and it is empty.
 abbrev pub lines_of : List ℕ → List (List ℕ)
 lines_of bytes = first_and_further (slice_split (λ b. b == 10) bytes)
 
--- two words of a line have one space between them. Two spaces have an empty word between them, and so has an end of the line and a space beside it
+-- One space separates two words of a line. Between two spaces is an empty word; so is one before a first space and
+-- after a last one.
 abbrev pub words_of : List ℕ → List (List ℕ)
 words_of line = slice_split (λ b. b == 32) line
 
@@ -25,11 +27,6 @@ words_of line = slice_split (λ b. b == 32) line
 abbrev pub words_by_line : List ℕ → List (List (List ℕ))
 words_by_line bytes = map words_of (lines_of bytes)
 
--- the first line is the header's, and each further one an entry's
-abbrev pub header_line : List (List (List ℕ)) → List (List ℕ)
-header_line [] = []
-header_line (line ∷ lines) = line
-
-abbrev pub entry_lines : List (List (List ℕ)) → List (List (List ℕ))
-entry_lines [] = []
-entry_lines (line ∷ lines) = lines
+-- the texts of words
+abbrev pub texts_of : List (Bor (List ℕ)) → List (List ℕ)
+texts_of words = map (λ word. word.now) words

@@ -2,7 +2,8 @@
 use Rattle.std.specs.Prelude.{◌≡◌, ℕ, List, length, slice_index}
 use Rattle.std.specs.Str.Parse.{IsNumeral, digits_value}
 
--- the word is decimal digits, at least one, without a sign and without leading zeros, `0` itself aside, and they stand for n
+-- The word is decimal digits, at least one, without a sign, and n is their value. It has no leading zero, unless it
+-- is `0`.
 pub record IsNumber (word : List ℕ) (n : ℕ) : Type 0 where
   pub digits : IsNumeral 10 word
   pub no_leading_zero : slice_index word 0 ≡ 48 → length word ≡ 1

@@ -1,4 +1,4 @@
--- The objects that a text can be of. Each is a row: its calls, its header and the limits of that.
+-- The objects that a text can describe. Each has its calls, its header, and the limits of the header's numbers.
 use Rattle.std.specs.Prelude.{ℕ, ◌≤◌, ◌<◌, ◌^◌, Bool, true, nat_lt, List, [], ◌∷◌, codes, decimal}
 use Rattle.spin_step_more.specs.Readers.{reader_limit}
 use Rattle.spin_step_more.specs.Starvers.{most_starvers}
@@ -18,7 +18,7 @@ use Rattle.spin_text.specs.declared.header.Header.{Header}
 use Rattle.spin_text.specs.declared.header.Header.TheVariants.{Flag, Ticket, Rw, Fair, Barrier, Once}
 use Rattle.spin_text.specs.Spelling.{Calls}
 
--- the calls by their words
+-- the words of the calls
 
 abbrev pub flag_call_words : FlagCall → List (List ℕ)
 flag_call_words flag.Lock = codes "lock" ∷ []
@@ -112,7 +112,7 @@ header_words (Once parties) = codes "once" ∷ decimal parties ∷ []
 abbrev pub IsWithin : ℕ → ℕ → ℕ → Type 0
 IsWithin least most n = (least ≤ n) × (n ≤ most)
 
--- from 1 to 1000 parties
+-- there are 1 to 1000 parties
 abbrev pub PartiesFit : ℕ → Type 0
 PartiesFit parties = IsWithin 1 1000 parties
 
@@ -124,7 +124,7 @@ HeaderFits (Fair value cap spins parties) = (value < 2 ^ 64) × IsWithin 1 most_
 HeaderFits (Barrier n parties) = (n < 2 ^ 64) × PartiesFit parties
 HeaderFits (Once parties) = PartiesFit parties
 
--- what the header says of the lines behind it, and of the world that they are played in
+-- what the header says about the lines behind it, and about their world
 
 abbrev pub CallOf : Header → Type 0
 CallOf (Flag value parties) = FlagCall

@@ -1,15 +1,15 @@
--- Text that is made from its end on, in a buffer.
+-- Text that is written into a buffer from its end towards its start.
 use Rattle.std.specs.Prelude.{◌≡◌, ℕ, ◌+◌, ◌<◌, ◌^◌, List, length, drop, ◌++◌, Option, Some, None}
 use Rattle.spin_model.specs.declared.answer.Answer.{Answer}
 use Rattle.spin_model.specs.declared.schedule.Outcome.{Outcome}
 use Rattle.spin_model.specs.declared.schedule.Outcome.TheVariants as outcome
 
--- the text begins at `start`, and goes on with what stood from `end` on
+-- the text begins at `start`; behind it follows what the buffer had from `end` on
 pub record PutBefore (text before : List ℕ) (end : ℕ) (now : List ℕ) (start : ℕ) : Type 0 where
   pub begins : start + length text ≡ end
   pub stands : drop start now ≡ text ++ drop end before
 
--- the line of the call's beginning is a number of 64 bits
+-- the line at which the call began is a number of 64 bits
 abbrev pub HasLine : Option ℕ → Type 0
 HasLine None = Unit {0}
 HasLine (Some began) = began + 1 < 2 ^ 64

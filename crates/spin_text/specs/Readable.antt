@@ -1,21 +1,26 @@
--- What reading owes to spelling.
-use Rattle.std.specs.Prelude.{◌≡◌, ℕ, true, ◌+◌, Option, Some, None, List, ◌∷◌, ◌++◌, map, length}
+-- How reading relates to spelling.
+use Rattle.std.specs.Prelude.{◌≡◌, ℕ, true, ◌+◌, Option, Some, None, IsSome, List, ◌∷◌, ◌++◌, map, length}
+use Rattle.std.specs.List.{AllByRecursion}
 use Rattle.spin_model.specs.declared.schedule.Move.{Move}
 use Rattle.spin_text.specs.declared.text.RunError.{RunError}
 use Rattle.spin_text.specs.declared.text.RunError.TheVariants as errors
 use Rattle.spin_text.specs.Spelling.{Calls, entry_words, EntriesFit}
 use Rattle.spin_text.specs.Reading.{read_entry, entries_in}
 
--- what is read is spelled so, and what is spelled so is read
+-- the function reads exactly the words that spell a call, and reads them as that call
 pub record ReadsCalls {C : Type 0} (calls : Calls C) (read : List (List ℕ) → Option C) : Type 0 where
   pub takes : (ws : List (List ℕ)) (c : C) → read ws ≡ Some c → (calls.fits c ≡ true) × (ws ≡ calls.words c)
   pub again : (c : C) → calls.fits c ≡ true → read (calls.words c) ≡ Some c
 
--- each line spells an entry: the lines are spelled as the entries in them
+-- each line spells an entry
 abbrev pub AllSpell : {C : Type 0} → Calls C → (List (List ℕ) → Option C) → List (List (List ℕ)) → Type 0
 AllSpell calls read lines = EntriesFit calls (entries_in read lines) × (lines ≡ map (entry_words calls) (entries_in read lines))
 
--- the lines behind the first are read up to one that spells no entry, or memory was refused
+-- each line is read as an entry
+abbrev pub AllRead : {C : Type 0} → (List (List ℕ) → Option C) → List (List (List ℕ)) → Type 0
+AllRead read lines = AllByRecursion (λ line. IsSome (read_entry read line)) lines
+
+-- reading the lines behind the first stops: at one that spells no entry, or because memory was refused
 abbrev pub StopsEntries : {C : Type 0} → Calls C → (List (List ℕ) → Option C) → List (List (List ℕ)) → RunError → Type 0
 StopsEntries {C} calls read lines (errors.BadLine n) =
     (es : List (ℕ × Move C ℕ)) × EntriesFit calls es × ((line : List (List ℕ)) × (more : List (List (List ℕ))) × (lines ≡ map (entry_words calls) es ++ (line ∷ more)) × (read_entry read line ≡ None) × (n ≡ length es + 2))

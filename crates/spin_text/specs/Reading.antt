@@ -1,4 +1,4 @@
--- A line read from left to right. What this finds is what is spelled, which laws say.
+-- A line read from left to right. Laws say that reading finds what is spelled.
 use Rattle.std.specs.Prelude.{ℕ, ◌^◌, Bool, true, false, ◌&&◌, nat_lt, nat_le, ◌==◌, List, [], ◌∷◌, Option, Some, None, codes, decimal, map, if◌then◌else◌}
 use Rattle.std.specs.Borrow.{Bor}
 use Rattle.std.specs.List.{slice_split, filter_map}
@@ -25,12 +25,12 @@ abbrev pub ◌>>=◌ : {A B : Type 0} → Option A → (A → Option B) → Opti
 None >>= f = None
 (Some x) >>= f = f x
 
--- what is left of a line: None where no word is
+-- the words left of a line; None if there are none
 abbrev pub words_left : Option (Bor (List ℕ)) → List (List ℕ)
 words_left None = []
 words_left (Some bytes) = words_of bytes.now
 
--- what is left of bytes: None where no line is
+-- the lines left of the bytes; None if there are none
 abbrev pub lines_left : Option (Bor (List ℕ)) → List (List (List ℕ))
 lines_left None = []
 lines_left (Some bytes) = words_by_line bytes.now
@@ -39,13 +39,13 @@ abbrev pub is_end : List (List ℕ) → Bool
 is_end [] = true
 is_end (w ∷ ws) = false
 
--- the word is what some number of 64 bits prints as
+-- the number of 64 bits that prints as this word, if any
 unfoldable pub read_number : List ℕ → Option ℕ
 read_number w =
     let n = digits_value 10 w in
     if bytes_eq w (decimal n) && nat_lt n (2 ^ 64) then Some n else None
 
--- one word, and those behind it
+-- the first word, and those behind it
 abbrev pub word_at : List (List ℕ) → Option (List ℕ × List (List ℕ))
 word_at [] = None
 word_at (w ∷ ws) = Some (w, ws)
@@ -56,7 +56,7 @@ number_at ws = do
   n ← read_number w.0
   Some (n, w.1)
 
--- the rest of a line
+-- the only word left
 
 unfoldable pub last_word : List (List ℕ) → Option (List ℕ)
 last_word ws = do
@@ -73,7 +73,7 @@ last_parties ws = do
   n ← last_number ws
   if nat_le 1 n && nat_le n 1000 then Some n else None
 
--- a number within these limits, and the words behind it
+-- a number between `least` and `most`, and the words behind it
 unfoldable pub number_within : ℕ → ℕ → List (List ℕ) → Option (ℕ × List (List ℕ))
 number_within least most ws = do
   n ← number_at ws
@@ -110,12 +110,12 @@ read_entry call ws = do
 abbrev pub entries_in : {C : Type 0} → (List (List ℕ) → Option C) → List (List (List ℕ)) → List (ℕ × Move C ℕ)
 entries_in call lines = filter_map (read_entry call) lines
 
--- what a table has beside a word
+-- the entry that a table has for a word
 unfoldable pub named : {C : Type 0} → List (List ℕ × C) → List ℕ → Option C
 named [] w = None
 named (row ∷ rows) w = if bytes_eq w row.0 then Some row.1 else named rows w
 
--- what a table has beside the one word of a line
+-- the entry that a table has for the only word of a line
 unfoldable pub only_named : {C : Type 0} → List (List ℕ × C) → List (List ℕ) → Option C
 only_named rows ws = last_word ws >>= named rows
 
@@ -136,7 +136,7 @@ read_fair_call ws = only_named (map (λ row. (row.0.now, row.1)) FAIR_CALLS) ws
 unfoldable pub read_barrier_call : List (List ℕ) → Option BarrierCall
 read_barrier_call ws = only_named (map (λ row. (row.0.now, row.1)) BARRIER_CALLS) ws
 
--- a call that may fail, behind its name
+-- a call that may fail, by the words behind its name
 unfoldable pub read_try_call_once : List (List ℕ) → Option (OnceCall ℕ)
 read_try_call_once ws = do
   w ← word_at ws
@@ -200,7 +200,7 @@ read_header ws = do
       else if bytes_eq w.0 (codes "barrier") then read_barrier_header w.1
       else if bytes_eq w.0 (codes "once") then read_once_header w.1 else None
 
--- what is left behind a separator: None where there was none
+-- what is left behind a separator; None if there was none
 abbrev pub parts_left : ℕ → Option (Bor (List ℕ)) → List (List ℕ)
 parts_left separator None = []
 parts_left separator (Some bytes) = slice_split (λ b. b == separator) bytes.now

@@ -1,4 +1,4 @@
--- Which bytes are the text of a schedule, which line of others is the first bad one, and what is written.
+-- Which bytes are the text of a schedule, which line of other bytes is the first bad one, and what is written.
 use Rattle.std.specs.Prelude.{◌≡◌, ℕ, ◌+◌, ◌-◌, ◌<◌, ◌≤◌, Bool, true, false, List, ◌∷◌, length, map, take, Option, None}
 use Rattle.std.specs.Io.KnownBytes.{Appends, Consumes, IsAtEnd}
 use Rattle.spin_model.specs.declared.answer.Answer.{Answer}
@@ -29,41 +29,42 @@ pub record Script : Type 0 where
 abbrev pub script_words : Script → List (List (List ℕ))
 script_words s = header_words s.header ∷ map (entry_words (calls_of s.header)) s.entries
 
--- its numbers are within their limits
+-- the numbers of the script are within their limits
 abbrev pub ScriptFits : Script → Type 0
 ScriptFits s = HeaderFits s.header × EntriesFit (calls_of s.header) s.entries
 
--- the bytes are a text of it
+-- the bytes are a text of the script
 pub record Spells (bytes : List ℕ) (s : Script) : Type 0 where
   pub fits : ScriptFits s
   pub words : words_by_line bytes ≡ script_words s
 
--- lines that are a script's
+-- the lines are those of a script
 abbrev pub AreOfScript : List (List (List ℕ)) → Type 0
 AreOfScript lines = (s : Script) × ScriptFits s × (lines ≡ script_words s)
 
--- line n, counted from 1, is the first outside the grammar: the lines before it are a script's, and with it they are no script's
+-- Line n, counted from 1, is the first bad one: the lines before it are those of a script, and together with line n
+-- they are not.
 pub record IsFirstBad (lines : List (List (List ℕ))) (n : ℕ) : Type 0 where
   pub there : (1 ≤ n) × (n ≤ length lines)
   pub before : 1 < n → AreOfScript (take (n - 1) lines)
   pub bad : ¬ AreOfScript (take n lines)
 
--- what is written of it
+-- what is written for a script
 abbrev pub played : (h : Header) → List (ℕ × Move (CallOf h) ℕ) → List ℕ
 played (Flag value parties) entries = transcript_text (flag_machine value) parties entries
 played (Ticket value first parties) entries = transcript_text (ticket_machine value first) parties entries
 played (Rw value cap parties) entries = transcript_text (rw_machine value cap) parties entries
--- the patience of a lock with this many spins is one look more
+-- the patience of a lock with this many spins is one more
 played (Fair value cap spins parties) entries = transcript_text (fair_machine value cap (spins + 1)) parties entries
 played (Barrier n parties) entries = transcript_text (barrier_machine n) parties entries
 played (Once parties) entries = transcript_text (once_machine None) parties entries
 
--- the source gave these bytes, and is at its end
+-- the source gave these bytes, and has no more
 pub record ReadsAll (old new : Option (List ℕ)) (bytes : List ℕ) : Type 0 where
   pub gave : Consumes old new bytes
   pub whole : IsAtEnd new
 
--- what the source and the sink show before and after
+-- what the source and the sink show, before and after
 pub record Streams : Type 0 where
   pub left : Option (List ℕ)
   pub left_after : Option (List ℕ)
@@ -72,17 +73,18 @@ pub record Streams : Type 0 where
   pub written_after : Option (List ℕ)
   pub sink_failed : Bool
 
--- the text is the result of the bytes
+-- the text is what is written for a script with these bytes
 abbrev pub PlaysBytes : List ℕ → List ℕ → Type 0
 PlaysBytes bytes text = (s : Script) × Spells bytes s × (text ≡ played s.header s.entries)
 
--- the text of what was read to its end was written
+-- the whole source was read, and its text was written
 abbrev pub Plays : Streams → Type 0
 Plays t =
     (bytes : List ℕ) × (text : List ℕ) × ReadsAll t.left t.left_after bytes × PlaysBytes bytes text × Appends t.written t.written_after text
 
--- why nothing was written, or at a failed write no more than a beginning of the text. A failed read is always told as one, whatever else is wrong;
--- a bad line, before anything is written; and a failed write, only where all lines are good
+-- Why a run stopped. It wrote nothing, or after a failed write only a beginning of the text. A failed read is always
+-- reported as such, whatever else is wrong.
+-- A bad line is reported before anything is written. A failed write is reported only if all lines are good.
 abbrev pub Stops : Streams → Type 0 → RunError → Type 0
 Stops t Unwritten errors.Read = (t.source_failed ≡ true) × Unwritten
 Stops t Unwritten errors.Memory = (t.source_failed ≡ false) × Unwritten
@@ -91,7 +93,7 @@ Stops t Unwritten errors.Write =
     (t.source_failed ≡ false) × (t.sink_failed ≡ true)
     × ((bytes : List ℕ) × (text : List ℕ) × ReadsAll t.left t.left_after bytes × PlaysBytes bytes text × AppendsBeginning t.written t.written_after text)
 
--- the same, of the parts of a call
+-- the same for the reading part of a call
 
 abbrev pub StopsReading : Bool → Bool → RunError → Type 0
 StopsReading failed failed_after errors.Read = failed_after ≡ true
@@ -103,14 +105,14 @@ StopsPlaying bytes (errors.BadLine n) = IsFirstBad (words_by_line bytes) n
 StopsPlaying bytes errors.Memory = Unit {0}
 StopsPlaying bytes _ = ⊥
 
--- a call that writes stops before the first write, or at a failed one
+-- a call that writes stops before its first write, or at a failed write
 abbrev pub StopsWriting : (RunError → Type 0) → Type 0 → Type 0 → RunError → Type 0
 StopsWriting Before Unwritten AtWrite errors.Read = Before errors.Read × Unwritten
 StopsWriting Before Unwritten AtWrite errors.Memory = Before errors.Memory × Unwritten
 StopsWriting Before Unwritten AtWrite (errors.BadLine n) = Before (errors.BadLine n) × Unwritten
 StopsWriting Before Unwritten AtWrite errors.Write = AtWrite
 
--- the text is the result of the entries that the lines spell
+-- the text is what is written for the entries that the lines spell
 abbrev pub PlaysLines : {W C L : Type 0} → Calls C → Machine W ℕ C L (Answer ℕ) → ℕ → List (List (List ℕ)) → List ℕ → Type 0
 PlaysLines {C = C} calls m parties lines text =
     (es : List (ℕ × Move C ℕ)) × EntriesFit calls es × (lines ≡ map (entry_words calls) es) × (text ≡ transcript_text m parties es)

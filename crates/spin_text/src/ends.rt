@@ -14,9 +14,9 @@ pub struct Failed;
 /// A stream to read bytes from.
 ///
 /// # Contract
-/// A failure is for good: from then on [`has_failed`](Source::has_failed) returns `true`.
+/// A failure is permanent: from then on [`has_failed`](Source::has_failed) returns `true`.
 pub trait Source {
-    /// The bytes that further reads will give, if they are known.
+    /// The bytes that further reads will return, if they are known.
     ghost remaining: { Self → Option (List ℕ) };
 
     /// Whether a read has failed.
@@ -25,7 +25,7 @@ pub trait Source {
     /// Reads bytes into the front of `to`, and returns their number. It is 0 only at the end, or if `to` is empty.
     ///
     /// # Contract
-    /// On `Ok` the bytes read are the next of the known ones. A failed read gives no byte, and the source has failed
+    /// On `Ok` the bytes read are the next of the known ones. A failed read returns no byte, and the source has failed
     /// from then on.
     fn read(&mut self, to: &mut [u8]) -> Result<usize, Failed>
         ensures bound { ReadsAtMost result to.new }
@@ -36,7 +36,7 @@ pub trait Source {
     /// Returns `true` if a read has failed.
     ///
     /// # Contract
-    /// It is `failed` of the source.
+    /// The answer is `failed` of the source.
     fn has_failed(&self) -> bool
         ensures { result ≡ failed self.now };
 }
@@ -44,9 +44,9 @@ pub trait Source {
 /// A stream to write bytes to.
 ///
 /// # Contract
-/// A failure is for good: from then on [`has_failed`](Sink::has_failed) returns `true`.
+/// A failure is permanent: from then on [`has_failed`](Sink::has_failed) returns `true`.
 pub trait Sink {
-    /// The bytes that were written, if they are known.
+    /// The bytes written so far, if they are known.
     ghost written: { Self → Option (List ℕ) };
 
     /// Whether a write has failed.
@@ -68,15 +68,14 @@ pub trait Sink {
     /// Returns `true` if a write has failed.
     ///
     /// # Contract
-    /// It is `failed` of the sink.
+    /// The answer is `failed` of the sink.
     fn has_failed(&self) -> bool
         ensures { result ≡ failed self.now };
 }
 
 /// A [`Source`] or [`Sink`] over a reader or writer of `std`.
 ///
-/// Each error of the reader or writer is a failure. So is a write that takes none of the bytes there. It tries
-/// nothing again.
+/// Each error of the reader or writer is a failure. So is a write that accepts no byte. It never tries again.
 #[derive(Drop)]
 pub struct OfStd<X> {
     inner: X,
@@ -146,7 +145,7 @@ impl<X: Write> Sink for OfStd<X> {
     }
 }
 
-/// Writes a whole text, by as many writes as that needs.
+/// Writes a whole text, in as many writes as that needs.
 ///
 /// # Contract
 /// On `Ok` the known bytes grow by the text. After an `Err` the sink has failed, and the known bytes grow by a

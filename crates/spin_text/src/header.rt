@@ -20,14 +20,14 @@ pub enum Header {
         first: u64,
         parties: usize,
     },
-    /// The line `rw VALUE CAP PARTIES`. At most `cap` parties read at a time, an upgradable reader included.
+    /// The line `rw VALUE CAP PARTIES`. At most `cap` parties read at a time, including an upgradable reader.
     Rw {
         value: u64,
         cap: usize,
         parties: usize,
     },
-    /// The line `fair VALUE CAP SPINS PARTIES`. At most `cap` parties starve at a time. A `lock` registers after more
-    /// than `spins` + 1 looks that found the flag set.
+    /// The line `fair VALUE CAP SPINS PARTIES`. At most `cap` parties starve at a time. A `lock` registers once more
+    /// than `spins` + 1 of its looks have found the flag set.
     Fair {
         value: u64,
         cap: usize,
@@ -39,7 +39,7 @@ pub enum Header {
         n: usize,
         parties: usize,
     },
-    /// The line `once PARTIES`. There is no value at first.
+    /// The line `once PARTIES`. At first there is no value.
     Once {
         parties: usize,
     },
@@ -54,7 +54,7 @@ const MAX_STARVERS: u64 = fair::MAX_STARVERS as u64;
 /// The largest number of spins of a `Fair`.
 const MAX_SPINS: u64 = 1024;
 
-/// Returns a number from `least` to `most`, and the words after it.
+/// Returns a number from `least` to `most`, and the words behind it.
 #[tactic(auto, unfolding(crate::specs::Reading::number_within))]
 fn within(line: Rest, least: u64, most: u64) -> Option<(usize, Rest)>
     ensures { option_map (λ x. (x.0, words_left x.1)) result ≡ number_within least most (words_left line.entry) }
@@ -156,7 +156,7 @@ fn once(line: Rest) -> Option<Header>
 /// Returns the header that a line spells, or `None` if it spells none.
 ///
 /// # Contract
-/// It is what the words of the line read as, with each number within its limits (`read_header`).
+/// The header is what the words of the line spell, with each number within its limits (`read_header`).
 #[tactic(auto, unfolding(crate::specs::Reading::read_header))]
 pub fn header_of(line: &[u8]) -> Option<Header>
     ensures { result ≡ read_header (words_of line.now) }

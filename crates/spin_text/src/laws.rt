@@ -1,4 +1,4 @@
-//! A law of every text: the contract of a function with an empty body. Begin with [`a_text_has_one_reading`].
+//! A law of every text: the contract of a function that does nothing. Begin with [`a_text_has_one_reading`].
 ghost use Rattle.std.specs.Prelude.{◌≡◌, ℕ, List};
 ghost use Rattle.spin_text.specs.Texts.{Script, Spells};
 

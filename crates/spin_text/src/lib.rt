@@ -1,7 +1,8 @@
 //! Reads a schedule as text, plays it in a world, and writes the transcript as text.
 //!
-//! Begin with [`world_text`], which says how a text is written: a line for the object and the number of parties, then
-//! a line for each move. To read or write other streams than `std`'s, implement [`Source`] and [`Sink`].
+//! Begin with [`world_text`], which says how a text is written. Its first line has the object and the number of
+//! parties, and each further line has a move. To read or write other streams than those of `std`, implement [`Source`]
+//! and [`Sink`].
 #![tactic(auto)]
 
 mod ends;
@@ -11,6 +12,7 @@ mod laws;
 mod numbers;
 mod objects;
 mod piece;
+pub mod program;
 mod put;
 mod text;
 mod transcript;

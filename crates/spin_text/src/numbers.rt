@@ -4,12 +4,12 @@ ghost use Rattle.spin_text.specs.Numbers.{IsNumber};
 
 use crate::words::only_number;
 
-/// Returns the number that a word is, or `None` if it is none.
+/// Returns the number that the word spells, or `None` if it spells none.
 ///
-/// A number is decimal digits without a sign and without leading zeros, at most `u64::MAX`. `0` is one.
+/// A number is decimal digits without a sign and without leading zeros, at most `u64::MAX`. `0` is allowed.
 ///
 /// # Contract
-/// The digits stand for the number (`IsNumber`). `None` means that the word is no number below 2^64.
+/// The digits have this value (`IsNumber`). `None` means that the word is no number below 2^64.
 ///
 /// # Examples
 /// ```
@@ -27,7 +27,7 @@ pub fn number(word: &str) -> Option<u64>
     only_number(Some(word.as_bytes()))
 }
 
-/// States that a word is a number exactly if it is what that number prints as.
+/// States that a word spells a number exactly if that number prints as this word.
 pub fn numbers_are_printed_texts()
     ensures { (word : List ℕ) (n : ℕ) → n < 2 ^ 64 → IsNumber word n ↔ (word ≡ decimal n) }
 {}

@@ -1,4 +1,4 @@
-//! How the calls of each object are spelled, and how its words print. Begin with [`Spelled`].
+//! How the calls of each object are spelled, and how its words are printed. Begin with [`Spelled`].
 ghost use Rattle.std.specs.Prelude.{◌≡◌, ◌∷◌, [], List, ℕ, Option};
 ghost use Rattle.spin_text.specs.Spelling.{Calls};
 ghost use Rattle.spin_text.specs.Reading.{words_left, numbers_of, read_try_call_once};
@@ -21,7 +21,7 @@ pub trait Spelled: Object<Value = u64, Answer = Answer<u64>> {
     /// Returns the call that the rest of a line spells, or `None` if it spells none.
     ///
     /// # Contract
-    /// It is what `read` says of the words left.
+    /// The call is `read` of the words left.
     fn call(line: Rest) -> Option<Self::Call>
         ensures { result ≡ read (words_left line.entry) };
 
@@ -185,7 +185,7 @@ impl Spelled for BarrierObject {
     }
 }
 
-/// Returns the call whose closure may fail, by the words after its name.
+/// Returns the call whose closure may fail, from the words behind its name.
 #[tactic(auto, unfolding(crate::specs::Reading::read_try_call_once))]
 fn try_call_once(line: Rest) -> Option<OnceCall<u64>>
     ensures { result ≡ read_try_call_once (words_left line.entry) }

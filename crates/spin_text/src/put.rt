@@ -1,10 +1,10 @@
-//! Text that is made from its end: each piece goes in front of what a buffer has already. Begin with [`put`].
+//! Text that is made from its end: each piece goes in front of what the buffer has already. Begin with [`put`].
 ghost use Rattle.std.specs.Prelude.{◌≡◌, ◌≤◌, ◌+◌, length, decimal};
 ghost use Rattle.spin_text.specs.Pieces.{PutBefore};
 
 use itoa::write_digits;
 
-/// Writes bytes in front of those that stand from `end` on, and returns the place of the first.
+/// Writes bytes in front of those from `end` on, and returns the place of the first.
 #[inline]
 pub fn put(bytes: &[u8], buffer: &mut [u8], end: usize) -> usize
     requires room { length bytes.now ≤ end }

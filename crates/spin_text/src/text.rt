@@ -1,8 +1,8 @@
-//! A whole text: it is read, checked, played, and its transcript written. Begin with [`world_text`].
-ghost use Rattle.std.specs.Prelude.{◌≡◌, ◌<◌, ◌^◌, false, true, length, OnOk, IfOk, IfErr};
+//! A whole text: reads it, checks it, plays it, and writes its transcript. Begin with [`world_text`].
+ghost use Rattle.std.specs.Prelude.{◌≡◌, ◌<◌, ◌+◌, ◌^◌, false, true, length, OnOk, IfOk, IfErr};
 ghost use Rattle.spin_text.specs.Ends.{AppendsSome, AppendsSomeBeginning};
-ghost use Rattle.spin_text.specs.Lines.{words_by_line, header_line, entry_lines};
-ghost use Rattle.spin_text.specs.Reading.{read_header};
+ghost use Rattle.spin_text.specs.Lines.{words_by_line};
+ghost use Rattle.spin_text.specs.Reading.{lines_left};
 ghost use Rattle.spin_text.specs.Readable.{StopsEntries};
 ghost use Rattle.spin_text.specs.Texts.{ReadsAll, Plays, Stops, StopsReading, StopsPlaying, StopsWriting, PlaysBytes, PlaysLines};
 
@@ -12,7 +12,7 @@ use crate::header::{Header, header_of};
 use crate::objects::Spelled;
 use crate::piece::buffer;
 use crate::transcript::write_transcript;
-use crate::words::first_line;
+use crate::words::{Rest, first_line};
 use spin_world::{BarrierObject, Fair, Flag, OnceObject, Rw, Ticket};
 use std::alloc::{AllocError, AllocFailed, Global};
 
@@ -23,8 +23,7 @@ pub enum RunError {
     Read,
     /// An allocation failed.
     Memory,
-    /// The first line that is no line of a schedule, counted from 1. A text without bytes has one line, which is
-    /// empty.
+    /// The first line that does not belong to a schedule, counted from 1. An empty text has one line, which is empty.
     BadLine(usize),
     /// A write failed. A beginning of the text may have been written.
     Write,
@@ -50,7 +49,7 @@ impl<T: Drop> From<AllocFailed<T>> for RunError {
     }
 }
 
-/// The number of bytes that one read asks for.
+/// How many bytes one read asks for.
 const CHUNK: usize = 65_536;
 
 /// Reads all bytes of a source, one chunk at a time.
@@ -82,37 +81,27 @@ pub fn read_all<I: Source>(alloc: Global, input: &mut I) -> Result<Vec<u8>, RunE
     read_by(alloc, input, &mut chunk)
 }
 
-/// Plays the lines after the header, and writes their transcript.
+/// Plays the lines behind the header, and writes their transcript.
 fn play_lines<O: Spelled, K: Sink>(
     alloc: Global,
     object: O,
     parties: usize,
-    bytes: &[u8],
+    lines: Rest,
     output: &mut K,
 ) -> Result<(), RunError>
-    requires counted { length (words_by_line bytes.now) < 2 ^ 64 }
+    requires counted { length (lines_left lines) + 1 < 2 ^ 64 }
     ensures bytes { OnOk result (AppendsSome
-        (PlaysLines O.calls (O.machine object) parties (entry_lines (words_by_line bytes.now)))
+        (PlaysLines O.calls (O.machine object) parties (lines_left lines.entry))
         (K.written output.old) (K.written output.new)) }
     ensures ok { OnOk result (K.failed output.new ≡ K.failed output.old) }
     ensures stops { IfErr result (StopsWriting
-        (StopsEntries O.calls O.read (entry_lines (words_by_line bytes.now))) (output.new ≡ output.old)
+        (StopsEntries O.calls O.read (lines_left lines.entry)) (output.new ≡ output.old)
         ((K.failed output.new ≡ true) × AppendsSomeBeginning
-        (PlaysLines O.calls (O.machine object) parties (entry_lines (words_by_line bytes.now)))
+        (PlaysLines O.calls (O.machine object) parties (lines_left lines.entry))
         (K.written output.old) (K.written output.new))) }
 {
-    let (_header, lines) = first_line(bytes);
     check_entries::<O>(lines)?;
     write_transcript(alloc, object, parties, lines, output)
-}
-
-/// Returns the header that the first line of the bytes spells, or `None` if it spells none.
-fn header(bytes: &[u8]) -> Option<Header>
-    ensures first { result ≡ read_header (header_line (words_by_line bytes.now)) }
-    ensures there { 0 < length (words_by_line bytes.now) }
-{
-    let (line, _further) = first_line(bytes);
-    header_of(line)
 }
 
 /// Plays the schedule that bytes spell, and writes its transcript.
@@ -124,10 +113,11 @@ fn play<K: Sink>(alloc: Global, bytes: &[u8], output: &mut K) -> Result<(), RunE
         ((K.failed output.new ≡ true) × AppendsSomeBeginning (PlaysBytes bytes.now)
         (K.written output.old) (K.written output.new))) }
 {
-    match header(bytes) {
+    let (line, lines) = first_line(bytes);
+    match header_of(line) {
         None => Err(RunError::BadLine(1)),
         Some(Header::Flag { value, parties }) => {
-            play_lines(alloc, Flag::new(value), parties, bytes, output)
+            play_lines(alloc, Flag::new(value), parties, lines, output)
         }
         Some(
             Header::Ticket {
@@ -135,14 +125,14 @@ fn play<K: Sink>(alloc: Global, bytes: &[u8], output: &mut K) -> Result<(), RunE
                 first,
                 parties,
             },
-        ) => play_lines(alloc, Ticket::new(value, first), parties, bytes, output),
+        ) => play_lines(alloc, Ticket::new(value, first), parties, lines, output),
         Some(
             Header::Rw {
                 value,
                 cap,
                 parties,
             },
-        ) => play_lines(alloc, Rw::new(value, cap), parties, bytes, output),
+        ) => play_lines(alloc, Rw::new(value, cap), parties, lines, output),
         Some(
             Header::Fair {
                 value,
@@ -150,15 +140,15 @@ fn play<K: Sink>(alloc: Global, bytes: &[u8], output: &mut K) -> Result<(), RunE
                 spins,
                 parties,
             },
-        ) => play_lines(alloc, Fair::new(value, cap, spins), parties, bytes, output),
+        ) => play_lines(alloc, Fair::new(value, cap, spins), parties, lines, output),
         Some(Header::Barrier { n, parties }) => {
-            play_lines(alloc, BarrierObject::new(n), parties, bytes, output)
+            play_lines(alloc, BarrierObject::new(n), parties, lines, output)
         }
         Some(Header::Once { parties }) => play_lines(
             alloc,
             OnceObject::new(),
             parties,
-            bytes,
+            lines,
             output,
         ),
     }
@@ -179,19 +169,19 @@ fn play<K: Sink>(alloc: Global, bytes: &[u8], output: &mut K) -> Result<(), RunE
 /// `owner set VALUE`. A call without a closure is spelled as its variant in snake case. Those with one are
 /// `call_once VALUE`, `init_from_ref VALUE`, `try_call_once ok VALUE` and `try_call_once err`.
 ///
-/// A line ends at a line feed, which the last line may lack. One space stands between two words. A number is decimal
-/// digits without a sign and without leading zeros, at most `u64::MAX`. Parties are numbered from 0. A move of a party
-/// that does not exist makes no bad line: it is skipped.
+/// A line ends at a line feed, which may be missing after the last line. One space separates two words. A number is
+/// decimal digits without a sign and without leading zeros, at most `u64::MAX`. Parties are numbered from 0. A line may
+/// name a party that does not exist: its move is skipped.
 ///
-/// It writes a line `LINE PARTY OUTCOME: WORDS` for each move, and at last `end: WORDS value VALUE`. An answer ends with
-/// ` from LINE`, the line at which its call began.
+/// It writes a line `LINE PARTY OUTCOME: WORDS` for each move, and finally `end: WORDS value VALUE`. An answer ends
+/// with ` from LINE`, the line at which its call began.
 ///
 /// # Contract
 /// The caller gives streams that have not failed. On `Ok` neither has failed, the source is at its end, and the known
 /// output grows by the transcript of what was read (`Plays`).
 ///
-/// The call reads and checks all lines before the world runs, and takes all memory before the first write. So an
-/// `Err` other than `Write` leaves the output as it was, and `Write` leaves a beginning of the text (`Stops`).
+/// The call reads and checks all lines before the world runs, and allocates all memory before the first write. So an
+/// `Err` other than `Write` leaves the output unchanged, and `Write` leaves a beginning of the text (`Stops`).
 ///
 /// # Examples
 /// ```

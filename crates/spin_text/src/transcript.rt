@@ -1,4 +1,4 @@
-//! The text of a transcript. Begin with [`write_transcript`]; it makes each line from its end, in a buffer.
+//! The text of a transcript. Begin with [`write_transcript`]. It makes each line from its end, in a buffer.
 ghost use Rattle.std.specs.Prelude.{◌≡◌, ◌≤◌, ◌<◌, ◌++◌, ◌+◌, ◌^◌, OnOk, OnErr, IfOk, IfErr, ℕ, None, true, take, drop, length};
 ghost use Rattle.std.specs.Io.KnownBytes.{Appends};
 ghost use Rattle.spin_model.specs.Schedules.{after, begin_of};
@@ -6,6 +6,7 @@ ghost use Rattle.spin_text.specs.declared.text.RunError.TheVariants.{Memory};
 ghost use Rattle.spin_text.specs.Ends.{AppendsBeginning, AppendsBut};
 ghost use Rattle.spin_text.specs.Texts.{StopsWriting};
 ghost use Rattle.spin_text.specs.Pieces.{PutBefore, HasLine, TellsLine};
+ghost use Rattle.spin_text.specs.Readable.{AllRead};
 ghost use Rattle.spin_text.specs.Reading.{entries_in, lines_left, numbers_of};
 ghost use Rattle.spin_text.specs.Transcripts.{value_text, number_text, answer_text, from_text, outcome_text, numbers_text, event_line, end_line, schedule_lines, transcript_from, transcript_text};
 
@@ -32,7 +33,7 @@ fn put_value(value: Option<u64>, buffer: &mut [u8], end: usize) -> usize
     }
 }
 
-/// Returns the words at the beginning of an answer's text, and the number after them.
+/// Returns the words at the beginning of an answer's text, and the number behind them.
 fn parts_of(answer: Answer<u64>) -> (&'static [u8], Option<u64>)
     ensures parts { result.0.now ++ number_text result.1 ≡ answer_text answer }
     ensures short { length result.0.now ≤ 8 }
@@ -164,7 +165,7 @@ fn put_end(numbers: (u64, Option<u64>), value: Option<u64>, buffer: &mut [u8]) -
     put(b"end: ", buffer, end)
 }
 
-/// Plays the entries in lines, and writes the line of each event. Returns how many bytes the piece then has.
+/// Plays the entries in lines, and writes a line for each event. Returns how many bytes the piece then has.
 fn write_events<O: Spelled, K: Sink>(
     world: &mut World<O>,
     begins: &mut [Option<usize>],
@@ -176,6 +177,7 @@ fn write_events<O: Spelled, K: Sink>(
     requires none_begun { (p : ℕ) → begin_of begins.old p ≡ None }
     requires room { length piece.old ≡ PIECE }
     requires counted { length (lines_left lines) < 2 ^ 64 }
+    requires read { AllRead O.read (lines_left lines) }
     ensures object { OnOk result (world.new.object ≡ world.old.object) }
     ensures state { OnOk result (world.new.state ≡ after (O.machine world.old.object) world.old.state
         (entries_in O.read (lines_left lines.entry))) }
@@ -194,13 +196,12 @@ fn write_events<O: Spelled, K: Sink>(
     let mut rest = lines;
     while let Some(bytes) = rest {
         let (line, further) = first_line(bytes);
-        if let Some((party, action)) = entry::<O>(line) {
-            let outcome = with_begin(begins, party, place, world.act(party, action));
-            let numbers = O::numbers(world.words());
-            let start = put_event(place + 1, party, outcome, numbers, &mut buffer);
-            used = write_line(&buffer[start..], piece, used, output)?;
-            place += 1;
-        }
+        let (party, action) = entry::<O>(line).unwrap();
+        let outcome = with_begin(begins, party, place, world.act(party, action));
+        let numbers = O::numbers(world.words());
+        let start = put_event(place + 1, party, outcome, numbers, &mut buffer);
+        used = write_line(&buffer[start..], piece, used, output)?;
+        place += 1;
         rest = further;
     }
     Ok(used)
@@ -241,6 +242,7 @@ fn play<O: Spelled, K: Sink>(
     requires none_begun { (p : ℕ) → begin_of begins.old p ≡ None }
     requires room { length piece.old ≡ PIECE }
     requires counted { length (lines_left lines) < 2 ^ 64 }
+    requires read { AllRead O.read (lines_left lines) }
     ensures bytes { OnOk result (Appends (K.written output.old) (K.written output.new)
         (transcript_from (O.machine world.old.object) world.old.state (entries_in O.read (lines_left lines.entry)))) }
     ensures ok { OnOk result (K.failed output.new ≡ K.failed output.old) }
@@ -261,7 +263,10 @@ fn play<O: Spelled, K: Sink>(
 /// Plays the entries in lines in a world of their own, and writes the text of the transcript.
 ///
 /// It reads each entry, plays it and writes its line, without a list of entries or events. All memory is there before
-/// that. A line that spells no entry is left out, so the caller checks the lines first.
+/// that.
+///
+/// # Contract
+/// The caller has checked that each line spells an entry (`AllRead`).
 pub fn write_transcript<O: Spelled, K: Sink>(
     alloc: Global,
     object: O,
@@ -270,6 +275,7 @@ pub fn write_transcript<O: Spelled, K: Sink>(
     output: &mut K,
 ) -> Result<(), RunError>
     requires counted { length (lines_left lines) < 2 ^ 64 }
+    requires read { AllRead O.read (lines_left lines) }
     ensures bytes { OnOk result (Appends (K.written output.old) (K.written output.new)
         (transcript_text (O.machine object) parties (entries_in O.read (lines_left lines.entry)))) }
     ensures ok { OnOk result (K.failed output.new ≡ K.failed output.old) }

@@ -1,4 +1,4 @@
-//! Lines of bytes, and words of a line. Begin with [`first_line`] and [`word`].
+//! The lines of bytes, and the words of a line. Begin with [`first_line`] and [`word`].
 ghost use Rattle.std.specs.Prelude.{◌≡◌, ◌<◌, ◌≤◌, ◌+◌, ◌*◌, ◌^◌, ◌∷◌, ◌==◌, [], length, IfSome, IfNone, None, option_map, map};
 ghost use Rattle.std.specs.Char.{digit_value};
 ghost use Rattle.std.specs.List.{slice_split};
@@ -13,10 +13,10 @@ use memchr::memchr;
 /// The rest of a line, or of all lines. `None` means that nothing is left, not even an empty word or line.
 pub type Rest<'a> = Option<&'a [u8]>;
 
-/// The number of bytes from which on [`memchr`] is quicker than a loop, since it compares as many at once.
+/// From how many bytes on [`memchr`] is quicker than a loop, since it compares several at once.
 const WIDE: usize = 32;
 
-/// Returns the place of the first such byte. Most lines are short, and what is left of all lines is not.
+/// Returns the place of the first such byte. Most lines are short, but the rest of all lines is long.
 #[inline(always)]
 fn first_place(separator: u8, bytes: &[u8]) -> Option<usize>
     ensures { IsFirstByte (is_byte separator) bytes.now result }
@@ -32,7 +32,7 @@ fn first_place(separator: u8, bytes: &[u8]) -> Option<usize>
     None
 }
 
-/// Returns the bytes before the first separator, and those after it.
+/// Returns the bytes before the first separator, and those behind it.
 #[inline(always)]
 fn cut(separator: u8, bytes: &[u8]) -> (&[u8], Rest<'_>)
     ensures parts { slice_split (λ b. b == separator) bytes.now ≡ result.0.now ∷ parts_left separator result.1 }
@@ -44,11 +44,11 @@ fn cut(separator: u8, bytes: &[u8]) -> (&[u8], Rest<'_>)
     }
 }
 
-/// Returns the first line of the bytes, and the lines after it. The line has no line feed.
+/// Returns the first line of the bytes, and the lines behind it. The line has no line feed.
 ///
 /// # Contract
-/// The words of the line, and the lines left, are those of the bytes line by line (`words_by_line`). A rest that
-/// is left is shorter than the bytes.
+/// The words of the line, and the lines left, are those of the bytes line by line (`words_by_line`). A rest is shorter
+/// than the bytes.
 pub fn first_line(bytes: &[u8]) -> (&[u8], Rest<'_>)
     ensures lines { words_by_line bytes.now ≡ words_of result.0.now ∷ lines_left result.1 }
     ensures shorter { IfSome result.1 (λ rest. length rest.now < length bytes.now) }
@@ -60,19 +60,19 @@ pub fn first_line(bytes: &[u8]) -> (&[u8], Rest<'_>)
     }
 }
 
-/// Returns the first word of a line, and the words after it.
+/// Returns the first word of a line, and the words behind it.
 pub fn word(line: Rest) -> Option<(&[u8], Rest)>
     ensures { option_map (λ x. (x.0.now, words_left x.1)) result ≡ word_at (words_left line.entry) }
 {
     Some(cut(b' ', line?))
 }
 
-/// Returns `true` if a word is this one.
+/// Returns `true` if the word is `name`.
 #[inline(always)]
 pub fn is_word(word: &[u8], name: &[u8]) -> bool
     ensures { result ≡ bytes_eq word.now name.now }
 {
-    // Where the name is known, `starts_with` compares in place. `==` calls a function from the fifth byte on.
+    // If the name is known, `starts_with` compares in place. `==` calls a function for more than four bytes.
     word.len() == name.len() && name.starts_with(word)
 }
 
@@ -96,8 +96,8 @@ fn with_digit(number: u64, digit: u8) -> Option<u64>
     number.checked_mul(10)?.checked_add((digit - b'0') as u64)
 }
 
-/// Returns the number that the digits before the first space stand for, these digits, and the words after them. `None`
-/// means that the line begins with no number.
+/// Returns the number that the digits before the first space spell, these digits, and the words behind them. Returns
+/// `None` if the line does not begin with a number.
 fn digits(line: &[u8]) -> Option<(u64, &[u8], Rest<'_>)>
     ensures fits { IfSome result (λ x. x.0 < 2 ^ 64) }
     ensures digits { IfSome result (λ x. AllDigits 10 x.1.now) }
@@ -119,7 +119,7 @@ fn digits(line: &[u8]) -> Option<(u64, &[u8], Rest<'_>)>
     Some((number, line, None))
 }
 
-/// Returns the number that the first word is, and the words after it.
+/// Returns the number that the first word spells, and the words behind it.
 pub fn number_then(line: Rest) -> Option<(u64, Rest)>
     ensures { option_map (λ x. (x.0, words_left x.1)) result ≡ number_at (words_left line.entry) }
 {
@@ -131,7 +131,7 @@ pub fn number_then(line: Rest) -> Option<(u64, Rest)>
     Some((number, rest))
 }
 
-/// Returns the only word of a line, or `None` if it has another.
+/// Returns the only word of a line, or `None` if the line has another.
 #[tactic(auto, unfolding(crate::specs::Reading::last_word))]
 fn only_word(line: Rest) -> Option<&[u8]>
     ensures { option_map (λ x. x.now) result ≡ last_word (words_left line.entry) }
@@ -140,7 +140,7 @@ fn only_word(line: Rest) -> Option<&[u8]>
     if is_over(rest) { Some(word) } else { None }
 }
 
-/// Returns the number that the only word of a line is.
+/// Returns the number that the only word of a line spells.
 #[tactic(auto, unfolding(crate::specs::Reading::last_number))]
 pub fn only_number(line: Rest) -> Option<u64>
     ensures { result ≡ last_number (words_left line.entry) }
@@ -149,7 +149,7 @@ pub fn only_number(line: Rest) -> Option<u64>
     if is_over(rest) { Some(number) } else { None }
 }
 
-/// Returns what a table has beside a word.
+/// Returns the table's entry for a word.
 #[tactic(auto, unfolding(crate::specs::Reading::named))]
 pub fn named<C: Copy>(mut table: &[(&[u8], C)], word: &[u8]) -> Option<C>
     ensures { result ≡ named (map (λ row. (row.0.now, row.1)) table.entry.now) word.now }
@@ -163,7 +163,7 @@ pub fn named<C: Copy>(mut table: &[(&[u8], C)], word: &[u8]) -> Option<C>
     None
 }
 
-/// Returns what a table has beside the only word of a line.
+/// Returns the table's entry for the only word of a line.
 #[tactic(auto, unfolding(crate::specs::Reading::only_named))]
 pub fn only_named<C: Copy>(table: &[(&[u8], C)], line: Rest) -> Option<C>
     ensures { result ≡ only_named (map (λ row. (row.0.now, row.1)) table.now) (words_left line.entry) }

@@ -1,4 +1,5 @@
--- Where the trace of a lock on threads is a run of its model, all that the model's laws say of that schedule holds of the lock.
+-- If the trace of a lock on threads is a run of its model, all that the model's laws say of that schedule holds of the
+-- lock.
 use Rattle.std.proofs.Common.{◌≡◌, ℕ, suc, ◌+◌, Option, Some, None, List, [], ◌∷◌, ◌++◌, length, map, slice_get, refl, sym, ap, ◌∙◌, subst, arith}
 use Rattle.std.specs.List.{All}
 use Rattle.std.proofs.lemmas.List.{append_assoc, append-nil, length-append}
@@ -19,7 +20,7 @@ module _ {W V C L A X S : Type 0} (m : Machine W V C L A) (seat_of : X → Seat 
   abbrev seats : List (Option (X × ℕ)) → List (Seat C L)
   seats us = map (sits m seat_of words_of) (map kind us)
 
-  -- each party that is there sits where its view says, at the place that is its number
+  -- each party that is present sits where its view says, at the place of its number
   sit : (P : Numbered X → Type 0) (k : ℕ) (front : List (Seat C L)) (came : List (Option (X × ℕ))) → k ≡ length front
       → ((v : Numbered X) → slice_get (front ++ seats came) v.1 ≡ Some (seat_of v.0) → P v) → All P (present_from k came)
   sit P k front [] is each = All-nil P

@@ -1,4 +1,4 @@
--- A call of a pass in the history: where its steps are made, and where it is answered.
+-- A call of a pass in the history: where its steps are, and where it is answered.
 use Rattle.std.proofs.Common.{◌≡◌, ◌⊎◌, ℕ, zero, suc, ◌+◌, ◌==◌, if◌then◌else◌, Bool, true, false, Option, Some, None, List, [], ◌∷◌, ◌++◌, length, replicate, slice_get, refl, sym, ap, ◌∙◌, subst, arith, eq-eqb}
 use mathlib.Core.List.{IsPrefix}
 use mathlib.Core.Logic.{inl, inr}
@@ -46,12 +46,12 @@ module _ {W V C L A : Type 0} (m : Machine W V C L A) (k : LocalInvariant V C L)
   longer old xs x (rest, is) = (rest ++ x ∷ [], sym (append_assoc old rest (x ∷ [])) ∙ ap (λ z. z ++ x ∷ []) is)
 
   module _ (p : ℕ) (start : Seen W V C L) (old new : Schedule) where
-    -- the step was made where a beginning of `new` leads that has `old` in it, and where the party was in this call
+    -- the step was made after a prefix of `new` that has `old` as a prefix, and the party was then in this call
     abbrev pub IsBetween : C → Option Hold → Mark → Type 0
     IsBetween c h mark =
         (past : Schedule) × IsPrefix old past × IsPrefix past new × (mark.before ≡ (seen_after m start past).plain) × ((l : L) × (slice_get (seen_after m start past).state.seats p ≡ Some (Calling c l h)))
 
-    -- The call is answered so by a step of the party behind a beginning of `new`. Its span has n steps of its own
+    -- The call gets this answer by a step of the party after a prefix of `new`. Its span has n steps of its own.
     pub record IsAnswered (c : C) (h : Option Hold) (a : A) (n : ℕ) : Type 0 where
       pub past : Schedule
       pub seen : Seen W V C L
@@ -91,7 +91,7 @@ module _ {W V C L A : Type 0} (m : Machine W V C L A) (k : LocalInvariant V C L)
     begins_by : (c : C) (o : Outcome A V) (seat now : Option (Seat C L)) → o ≡ Begun → InItsCall {V = V} {L = L} o (Begin c) seat now → (l : L) × (now ≡ Some (Calling c l (held_at seat)))
     begins_by c o seat now comes in_call = subst (λ r. InItsCall {V = V} {L = L} r (Begin c) seat now) comes in_call
 
-    -- what the party still makes in its call: steps that go on, and one that answers
+    -- what the party has left to do in its call: steps after which it waits, and one that answers
     abbrev to_make : ℕ → List (Move C V)
     to_make i = replicate i Step ++ Step ∷ []
 
@@ -105,7 +105,7 @@ module _ {W V C L A : Type 0} (m : Machine W V C L A) (k : LocalInvariant V C L)
     another : (q : ℕ) → (q == p) ≡ false → q ≡ p → ⊥
     another q other same = absurd (cc (other, eq-eqb q p same))
 
-    -- where a beginning of `new` leads that has `old` in it, with this rest
+    -- the state after a beginning of `new` that contains `old`, with this rest
     record IsAt (xs es : Schedule) (seen : Seen W V C L) : Type 0 where
       leads : seen ≡ seen_after m start xs
       known : IsPrefix old xs
@@ -121,7 +121,7 @@ module _ {W V C L A : Type 0} (m : Machine W V C L A) (k : LocalInvariant V C L)
           fine = (kept m k facts seen x.0 x.1 at.fine).good;
         }
 
-    -- From here on, of a party that is in its call
+    -- From here on, for a party that is in its call
     abbrev Walks : Schedule → Type 0
     Walks es =
         (xs : Schedule) (seen : Seen W V C L) → IsAt xs es seen → (c : C) (l : L) (h : Option Hold) → slice_get seen.state.seats p ≡ Some (Calling c l h) → All (IsBetween c h) (seen.span p)
@@ -178,7 +178,7 @@ module _ {W V C L A : Type 0} (m : Machine W V C L A) (k : LocalInvariant V C L)
     walk [] = λ xs seen at c l h there span i a made came. absurd (nothing_made i made)
     walk (x ∷ es) = one_event x es (walk es)
 
-    -- the same of a party that begins its call
+    -- the same for a party that begins its call
     abbrev Starts : Schedule → Type 0
     Starts es =
         (xs : Schedule) (seen : Seen W V C L) → IsAt xs es seen → (c : C) (i : ℕ) (a : A) → entries_by p es ≡ by_party p (Begin c ∷ to_make i) → outcomes_by m p seen.state es ≡ Begun ∷ to_come i a

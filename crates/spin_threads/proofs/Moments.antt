@@ -1,4 +1,5 @@
--- The moment of an answer: what the model's laws say of the steps of a call is so of a state of the history while the call ran.
+-- The moment of an answer: what the model's laws say of the steps of a call holds of some state of the history during
+-- the call.
 use Rattle.std.proofs.Common.{◌≡◌, ℕ, Bool, true, false, ◌||◌, Option, Some, None, List, [], ◌∷◌, refl, subst, arith}
 use Rattle.std.specs.List.{All, list_any}
 use Rattle.std.proofs.lemmas.Bool.{false≢true}

@@ -1,4 +1,5 @@
--- A call of a pass of a `Once` is one of its object: the object's schedule has the same moves of the pass, which come to the same.
+-- A call of a pass of a `Once` is a call of its object. The object's schedule has the same moves of the pass, with the
+-- same outcomes.
 use Rattle.std.proofs.Common.{◌≡◌, ℕ, zero, suc, ◌+◌, ◌==◌, if◌then◌else◌, Bool, true, false, Option, Some, None, List, [], ◌∷◌, ◌++◌, replicate, slice_get, refl, sym, ap, ◌∙◌, subst, eqb-true, is_some, arith}
 use Rattle.std.specs.Option.{option_map}
 use Rattle.std.specs.List.{list_all}
@@ -28,7 +29,8 @@ use Rattle.spin_model.specs.Schedules.{after, at_first, happens, moves, moves_at
 use Rattle.spin_model.proofs.Schedules.{after-append}
 use Rattle.spin_once.specs.Foretold.{fails_by, will_fail, named, told_of, foretold}
 use Rattle.spin_once.specs.Model.{Point, at, failed, onward}
-use Rattle.spin_once.specs.Once.{OneMove, Made}
+use Rattle.spin_once.specs.Once.{OneMove}
+use Rattle.spin_once.specs.OnceValues.{Made}
 use Rattle.spin_once.specs.declared.once_core.rule.View.{View}
 use Rattle.spin_once.proofs.Foretold.{split, quiet, leads_on, all_alike, happens_alike, weak_alike, named_later, first_named, named_kept}
 use Rattle.spin_once.proofs.Named.{Object, seat_named, object, renamed, t, m, named_get}
@@ -56,7 +58,7 @@ is_plain _ = false
 abbrev are_plain : List Made → Bool
 are_plain es = list_all (λ e. is_plain e.1) es
 
--- ---- of a party whose closure does not fail the schedule has the moves as they are
+-- ---- if a party's closure does not fail, the schedule has its moves unchanged
 none_fails : (p : ℕ) (es : List Made) → are_plain (entries_by p es) ≡ true → will_fail es p ≡ false
 none_fails p [] is = refl
 none_fails p (e ∷ es) is = by_turn (e.0 == p) e.1 is (none_fails p es)
@@ -98,11 +100,11 @@ abbrev Ending : Type 0
 Ending = Next OncePoint (Answer (Unit {0}))
 
 module _ (given : Option (Unit {0})) where
-  -- where the word says that there is a value, one lies there
+  -- if the word says that there is a value, there is one
   abbrev HasIt : World → Type 0
   HasIt s = s.words ≡ 2 → s.value ≡ Some tt
 
-  -- so a step comes to the same with the value that lies there
+  -- so a step has the same outcome with the present value
   step_same : (s : World) → HasIt s → (c : OnceCall (Unit {0})) (l : OncePoint) (h : Option Hold) → (t given).step s.words (Some tt) c l h ≡ (t given).step s.words s.value c l h
   step_same s has c l h = by_word (s.words == 2) refl
     where
@@ -110,7 +112,7 @@ module _ (given : Option (Unit {0})) where
       by_word true is = ap (λ v. (t given).step s.words v c l h) (sym (has (eqb-true s.words 2 is)))
       by_word false other = looks_where_complete given s.words (Some tt) s.value c l h (λ e. eqb-false s.words 2 other e)
 
-  -- what it comes to
+  -- the outcome of a step with this ending
   abbrev out : Ending → Outcome (Answer (Unit {0})) (Unit {0})
   out (Continue l) = GoingOn
   out (Answers a after) = Answered a None
@@ -127,7 +129,7 @@ module _ (given : Option (Unit {0})) where
   begun_same s o p c d h None = refl
   begun_same s o p c d h (Some l) = refl
 
-  -- a move of a party whose closure does not fail comes to the same
+  -- a move of a party whose closure does not fail has the same outcome
   own_same : (f : ℕ → Bool) (s : World) (p : ℕ) (move : OneMove) (y : Seat (OnceCall (Unit {0})) Point) → HasIt s → is_plain move ≡ true
       → (moves (t given) (object f s) p (renamed move false) (seat_named y false)).outcome ≡ (moves (m given) s p move y).outcome
   own_same f s p (Begin c) Idle has plain = ap (λ d. (begun {A = Answer (Unit {0})} (object f s) p d None ((t given).begin d None)).outcome) (named_kept c) ∙ begun_same s (object f s) p c c None ((t given).begin c None)
@@ -155,11 +157,11 @@ module _ (given : Option (Unit {0})) where
       ap (λ o. (moves_at (t given) (object f s) p (renamed move (f p)) o).outcome) (named_get f s.seats p)
       ∙ ap (λ b. (moves_at (t given) (object f s) p (renamed move b) (option_map (λ y. seat_named y b) (slice_get s.seats p))).outcome) fine ∙ same_at f s p move (slice_get s.seats p) has plain
 
-  -- of each beginning of these entries
+  -- for each beginning of these entries
   abbrev HasAlways : World → List Made → Type 0
   HasAlways s es = (ys zs : List Made) → es ≡ ys ++ zs → HasIt (after (m given) s ys)
 
-  -- so the party's moves come to the same
+  -- so the party's moves have the same outcomes
   outs_same : (p : ℕ) (es : List Made) (s : World) → list_all is_played (outcomes (m given) s es) ≡ true → HasAlways s es → are_plain (entries_by p es) ≡ true
       → outcomes_by (t given) p (object (will_fail es) s) (foretold es) ≡ outcomes_by (m given) p s es
   outs_same p [] s played has plain = refl
@@ -197,7 +199,7 @@ module _ (given : Option (Unit {0})) where
       one_more q Weak has head tail plain later = ap (λ o. outcomes_by (t given) p o (foretold es)) (weak_alike given s q es (slice_get s.seats q) refl head) ∙ later ∙ by_weak q (q == p) plain
       one_more q move has head tail plain later = other q move has head tail (λ e. absurd (cc e)) plain later
 
-  -- where a schedule without a move that is passed over leads, the word tells of the value
+  -- after a schedule without skipped moves, the word tells whether there is a value
   abbrev From : ℕ → World
   From n = at_first (m given) n
 
@@ -265,13 +267,13 @@ module _ (given : Option (Unit {0})) where
         (rest, comes, own_is, outs_is, (i, rest_is, comes_are)),
       )
 
-  -- so what is so of its answers is so here
+  -- so what holds of the object's answers holds here
   pub found_in : (c : OnceCall (Unit {0})) (a : Answer (Unit {0})) (test : Plain → Bool) (P : Plain → Type 0) → ((h : Option Hold) → ((t given).asks c h).answers ((t given).says a) ≡ meaning.found (λ p s. test s)) → ((s : Plain) → test s ≡ true → P s)
       → (before now : Option (Numbered View)) (old new : List Made) → Called given c a before old now new → AtAMoment (t given) c now (foretold_till old new) (foretold new) P
   found_in c a test P says so before now old new made =
       found (t given) (once_keeping given) (once_facts given) (λ p s. test s) says (λ p l h seen call is. so seen.plain is) before now (foretold_till old new) (foretold new) (called c a before now old new made)
 
-  -- a value lies there behind a step that gives one
+  -- after a step that gives a value there is one
   given_there : (seen : Seen ℕ (Unit {0}) (OnceCall (Unit {0})) OncePoint) (p : ℕ) → Invariant (t given) (once_keeping given) seen → (event (t given) (once_keeping given) (once_facts given) seen (p, Step)).outcome ≡ Answered (Value tt) None
       → is_complete (event (t given) (once_keeping given) (once_facts given) seen (p, Step)).after.plain.phase ≡ true
   given_there seen p good comes =

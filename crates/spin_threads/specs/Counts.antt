@@ -1,4 +1,4 @@
--- How many steps a call of a pass takes, beside those of others.
+-- How many steps a call of a pass takes, while others take theirs.
 use Rattle.std.specs.Prelude.{◌≡◌, ℕ, ◌≤◌, suc, Option, List, ◌++◌, length}
 use mathlib.Core.List.{IsPrefix}
 use Rattle.spin_core.specs.Own.{Numbered, entries_by}
@@ -11,32 +11,33 @@ use Rattle.spin_model.specs.Schedules.{Entry}
 use Rattle.spin_world_core.specs.Runs.{opening, own_count, failures, changes, EndsWithin}
 use Rattle.spin_world_core.specs.Users.{seen_after}
 
--- the steps of all parties behind the beginning of this party's last call, in a world of so many
+-- the steps of all parties since this party's last call began, in a world of so many parties
 abbrev pub steps_since : {W V C L A : Type 0} → Machine W V C L A → ℕ → ℕ → List (Entry C V) → List Mark
 steps_since m parties party history = (seen_after m (opening m parties) history).span party
 
--- A party has made this call and no other move since it knew `old`, and knows `new` now. It is of this view. The call kept within its limit
+-- Since it knew `old`, a party has made exactly this call, within the call's limit. It now knows `new`, and has this
+-- view.
 pub record IsWithinLimit {W V C L A X : Type 0} (m : Machine W V C L A) (call : C) (view : Option (Numbered X)) (old new : List (Entry C V)) : Type 0 where
   pub party : ℕ
   pub is_number : IsNumber party view
-  -- the history is that of a world with this many parties, in which no move of it is passed over
+  -- the history is that of a world with this many parties, and none of its moves is skipped
   pub parties : ℕ
   pub played : IsPlayed m parties new
-  -- it was so long as the call was answered
+  -- the history when the call was answered
   pub answered : List (Entry C V)
   pub behind : IsPrefix old answered
   pub before : IsPrefix answered new
-  -- the party's moves are the beginning of the call, and its steps till then
+  -- the party's moves are the beginning of the call, and its steps up to then
   pub more : List (Entry C V)
   pub grown : new ≡ old ++ more
   pub moves : length (entries_by party more) ≡ suc (own_count party (steps_since m parties party answered))
-  -- they are as few as the model says of a party that held this before
+  -- they are at most as many as the model says, for a party that held this before
   pub held : Option Hold
   pub in_time : EndsWithin (limit m.lock_kind (m.asks call held)) m.lock_kind party (steps_since m parties party answered)
-  -- and the exchanges that the call makes again failed at most as often as others changed the word
+  -- and the exchanges that the call repeats failed at most as often as others changed the word
   pub retries : failures party (steps_since m parties party answered) ≤ changes m.lock_kind party (steps_since m parties party answered)
 
--- So it is of each call of each pass with views of this type
+-- this holds of each call of each pass with views of this type
 abbrev pub KeepsLimits : {W V C L A : Type 0} → Machine W V C L A → Type 0 → Type 0
 KeepsLimits {V = V} {C = C} {A = A} m View =
     (call : C) (answer : A) (before now : Option (Numbered View)) (old new : List (Entry C V)) → Made m before old now new (IsCall call answer) → IsWithinLimit m call now old new

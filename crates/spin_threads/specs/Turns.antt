@@ -12,15 +12,16 @@ use Rattle.spin_world_core.specs.Runs.{opening}
 use Rattle.spin_world_core.specs.Users.{seen_after}
 use Rattle.spin_world.specs.Turns.{tickets_gone}
 
--- A party has entered with a ticket since it knew `old`, and knows `new` now. It is of this view. From each moment on till it entered,
--- exactly as many tickets went as stood between the number that was served then and its own
+-- Since it knew `old`, a party has entered with a ticket. It now knows `new`, and has this view.
+-- Take any moment before it entered. Until it did, exactly as many tickets left as were then between the served number
+-- and its own.
 pub record EntersInTurn {X T : Type 0} (key : Key T) (view : Option (Numbered X)) (old new : List (Made T)) : Type 0 where
   pub party : ℕ
   pub is_number : IsNumber party view
-  -- the history is that of a world with this many parties, in which no move of it is passed over
+  -- the history is that of a world with this many parties, and none of its moves is skipped
   pub parties : ℕ
   pub played : IsPlayed (model key) parties new
-  -- it was so long as the party had entered
+  -- the history when the party had entered
   pub entered : List (Made T)
   pub behind : IsPrefix old entered
   pub before : IsPrefix entered new

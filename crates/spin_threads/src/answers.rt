@@ -1,9 +1,9 @@
-//! The answer of a call was right at some moment while the call ran. Each law is the contract of a function that does
-//! nothing: a caller calls it for what it states.
+//! The answer of a call was right at some moment of the call. Each law is the contract of a function that does nothing.
+//! A caller calls it to learn what it states.
 //!
-//! Each says of every pass: where it has made one call with this answer (the clause of the call says so, by `Called`),
-//! the lock was so at a moment at which the pass was in that call (`Found`, `AtAMoment`). `is_held` says that a party
-//! holds the lock, or stands in its queue. [`crate::uses`] has callers.
+//! Each law speaks of every pass that has made one call with this answer, as `Called` in the call's clause says. At
+//! some moment at which the pass was in that call, the lock was as the answer says (`Found`, `AtAMoment`). `is_held`
+//! says that a party holds the lock, or is in its queue. [`crate::uses`] has callers.
 ghost use Rattle.std.specs.Prelude.{◌≡◌, ◌⊎◌, ◌<◌, ◌≤◌, ℕ, Bool, true, false, length};
 ghost use Rattle.spin_fair.specs.Fair as fair_mutex;
 ghost use Rattle.spin_fair.specs.declared.fair.rule.View.{View as FairMutexView};
@@ -41,7 +41,7 @@ pub fn a_refused_try_found_the_spin_mutex_held<T>()
     ensures { (opening : T) → Found (spin_mutex.model opening) SpinMutexView flag.TryLock Refused (Was is_held true) }
 {}
 
-/// If a pass looked once whether a `SpinMutex` is held, it was so at a moment while it looked.
+/// If a pass called `is_locked` of a `SpinMutex` once, the answer was true at a moment of the call.
 ///
 /// # Contract
 /// `Found`, of the lock's holders, tickets and starvers.
@@ -49,8 +49,8 @@ pub fn a_look_at_a_spin_mutex_was_so_at_a_moment<T>()
     ensures { (opening : T) (held : Bool) → Found (spin_mutex.model opening) SpinMutexView flag.IsLocked (Is held) (Was is_held held) }
 {}
 
-/// If a pass tried once to acquire a `TicketMutex` and failed, a party held the lock or waited for it at a moment while
-/// it tried, or all tickets had been taken.
+/// If a pass tried once to acquire a `TicketMutex` and failed, the failure was right at a moment of the call. A party
+/// held the lock then or waited for it, or all tickets had been taken.
 ///
 /// # Contract
 /// `Found`, of the lock's holders, tickets and starvers.
@@ -59,7 +59,7 @@ pub fn a_refused_try_found_the_ticket_mutex_held_or_used_up<T>()
         (is_held s ≡ true) ⊎ (is_left s.next ≡ false)) }
 {}
 
-/// If a pass looked once whether a `TicketMutex` is held, it was so at a moment while it looked.
+/// If a pass called `is_locked` of a `TicketMutex` once, the answer was true at a moment of the call.
 ///
 /// # Contract
 /// `Found`, of the lock's holders, tickets and starvers.
@@ -68,105 +68,106 @@ pub fn a_look_at_a_ticket_mutex_was_so_at_a_moment<T>()
         Found (ticket_mutex.model key) TicketMutexView ticket.IsLocked (Is held) (Was is_held held) }
 {}
 
-/// If a pass tried once to acquire a `FairMutex` and failed, a party held the lock or was registered as a starver at a
-/// moment while it tried.
+/// If a pass tried once to acquire a `FairMutex` and failed, the failure was right at a moment of the call. A party
+/// held the lock then, or was registered as a starver.
 ///
 /// # Contract
 /// `Found`, of the lock's holders, tickets and starvers.
-pub fn a_refused_try_found_the_fair_mutex_held_or_starved()
-    ensures { Found fair_mutex.model FairMutexView fair.TryLock Refused (λ s.
+pub fn a_refused_try_found_the_fair_mutex_held_or_starved<T>()
+    ensures { (opening : T) → Found (fair_mutex.model opening) FairMutexView fair.TryLock Refused (λ s.
         (is_held s ≡ true) ⊎ (is_starved s ≡ true)) }
 {}
 
-/// If a pass tried once to acquire a `FairMutex` and was told a reason for its failure, it was so at a moment while it
-/// tried: a party held the lock and none was registered as a starver, or one was.
+/// If a pass tried once to acquire a `FairMutex`, and failed with a reason, the reason was true at a moment of the
+/// call: a party held the lock and none was registered as a starver, or one was.
 ///
 /// # Contract
 /// `Found`, of the lock's holders, tickets and starvers.
-pub fn the_reason_for_a_refusal_was_so_at_a_moment()
-    ensures locked { Found fair_mutex.model FairMutexView fair.TryLockStarver Locked (λ s.
+pub fn the_reason_for_a_refusal_was_so_at_a_moment<T>()
+    ensures locked { (opening : T) → Found (fair_mutex.model opening) FairMutexView fair.TryLockStarver Locked (λ s.
         (is_held s ≡ true) × (is_starved s ≡ false)) }
-    ensures starved { Found fair_mutex.model FairMutexView fair.TryLockStarver Starved (Was is_starved true) }
+    ensures starved { (opening : T) → Found (fair_mutex.model opening) FairMutexView fair.TryLockStarver Starved (Was is_starved true) }
 {}
 
-/// If a pass looked once whether a `FairMutex` is held, it was so at a moment while it looked.
+/// If a pass called `is_locked` of a `FairMutex` once, the answer was true at a moment of the call.
 ///
 /// # Contract
 /// `Found`, of the lock's holders, tickets and starvers.
-pub fn a_look_at_a_fair_mutex_was_so_at_a_moment()
-    ensures { (held : Bool) → Found fair_mutex.model FairMutexView fair.IsLocked (Is held) (Was is_held held) }
+pub fn a_look_at_a_fair_mutex_was_so_at_a_moment<T>()
+    ensures { (opening : T) (held : Bool) →
+        Found (fair_mutex.model opening) FairMutexView fair.IsLocked (Is held) (Was is_held held) }
 {}
 
-/// If a pass tried once to register as a starver of a `FairMutex` and failed, as many were registered as may be at a
-/// moment while it tried.
+/// If a pass tried once to register as a starver of a `FairMutex` and failed, the failure was right at a moment of the
+/// call. As many starvers were registered then as may be.
 ///
 /// # Contract
 /// `Found`, of the lock's holders, tickets and starvers.
-pub fn a_refused_starve_found_as_many_as_may_starve()
-    ensures { Found fair_mutex.model FairMutexView fair.Starve Refused (λ s. most_starvers ≤ length s.starvers) }
+pub fn a_refused_starve_found_as_many_as_may_starve<T>()
+    ensures { (opening : T) → Found (fair_mutex.model opening) FairMutexView fair.Starve Refused (λ s. most_starvers ≤ length s.starvers) }
 {}
 
-/// If a pass that starves tried once to acquire a `FairMutex` and failed, a party held the lock at a moment while it
-/// tried. `try_lock_fair` also fails where a further party was registered as a starver.
+/// If a pass that starves tried once to acquire a `FairMutex` and failed, then at a moment of the call a party held the
+/// lock. `try_lock_fair` also fails if another party was registered as a starver.
 ///
 /// # Contract
 /// `Found`, of the lock's holders, tickets and starvers.
-pub fn a_refused_starver_was_kept_out_at_a_moment()
-    ensures try_lock { Found fair_mutex.model FairMutexView fair.StarverTryLock Refused (Was is_held true) }
-    ensures try_lock_fair { Found fair_mutex.model FairMutexView fair.StarverTryLockFair Refused (λ s.
+pub fn a_refused_starver_was_kept_out_at_a_moment<T>()
+    ensures try_lock { (opening : T) → Found (fair_mutex.model opening) FairMutexView fair.StarverTryLock Refused (Was is_held true) }
+    ensures try_lock_fair { (opening : T) → Found (fair_mutex.model opening) FairMutexView fair.StarverTryLockFair Refused (λ s.
         (is_held s ≡ true) ⊎ (1 < length s.starvers)) }
 {}
 
-/// If a pass tried once to acquire shared access to an `RwLock` and failed, a writer held the lock at a moment while it
-/// tried, or a reader that had asked to upgrade, or as many parties as may.
+/// If a pass tried once to acquire shared access to an `RwLock` and failed, the failure was right at a moment of the
+/// call. A writer held the lock then, or a reader that had asked to upgrade did, or as many parties held it as may.
 ///
 /// # Contract
 /// `Found`, of the lock's holders, tickets and starvers.
-pub fn a_refused_try_read_was_kept_out_at_a_moment()
-    ensures { Found rwlock.model RwLockView rw.TryRead Refused (λ s.
+pub fn a_refused_try_read_was_kept_out_at_a_moment<T>()
+    ensures { (opening : T) → Found (rwlock.model opening) RwLockView rw.TryRead Refused (λ s.
         (0 < writers s) ⊎ (0 < count_kind asking s.holders) ⊎ (length s.holders ≡ reader_limit)) }
 {}
 
-/// If a pass tried once to acquire upgradable access to an `RwLock` and failed, a writer held the lock at a moment
-/// while it tried, or an upgradable reader, or as many parties as may.
+/// If a pass tried once to acquire upgradable access to an `RwLock` and failed, the failure was right at a moment of
+/// the call. A writer held the lock then, or an upgradable reader did, or as many parties held it as may.
 ///
 /// # Contract
 /// `Found`, of the lock's holders, tickets and starvers.
-pub fn a_refused_try_upgradeable_read_was_kept_out_at_a_moment()
-    ensures { Found rwlock.model RwLockView rw.TryUpgradeableRead Refused (λ s.
+pub fn a_refused_try_upgradeable_read_was_kept_out_at_a_moment<T>()
+    ensures { (opening : T) → Found (rwlock.model opening) RwLockView rw.TryUpgradeableRead Refused (λ s.
         (0 < writers s) ⊎ (0 < upgraders s.holders) ⊎ (length s.holders ≡ reader_limit)) }
 {}
 
-/// If a pass tried once to acquire exclusive access to an `RwLock` and failed, a party held the lock at a moment while
-/// it tried.
+/// If a pass tried once to acquire exclusive access to an `RwLock` and failed, then at a moment of the call some party
+/// held the lock.
 ///
 /// # Contract
 /// `Found`, of the lock's holders, tickets and starvers.
-pub fn a_refused_try_write_was_kept_out_at_a_moment()
-    ensures { Found rwlock.model RwLockView rw.TryWrite Refused (Was is_held true) }
+pub fn a_refused_try_write_was_kept_out_at_a_moment<T>()
+    ensures { (opening : T) → Found (rwlock.model opening) RwLockView rw.TryWrite Refused (Was is_held true) }
 {}
 
-/// If a pass that reads an `RwLock` tried once to upgrade and failed, a further party held the lock at a moment while
-/// it tried.
+/// If a pass that reads an `RwLock` tried once to upgrade and failed, then at a moment of the call another party held
+/// the lock.
 ///
 /// # Contract
 /// `Found`, of the lock's holders, tickets and starvers.
-pub fn a_refused_try_upgrade_was_kept_out_at_a_moment()
-    ensures { Found rwlock.model RwLockView rw.TryUpgrade Refused (λ s. 1 < length s.holders) }
+pub fn a_refused_try_upgrade_was_kept_out_at_a_moment<T>()
+    ensures { (opening : T) → Found (rwlock.model opening) RwLockView rw.TryUpgrade Refused (λ s. 1 < length s.holders) }
 {}
 
-/// If a pass counted the readers or the writers of an `RwLock` once, there were so many at a moment while it counted.
+/// If a pass counted the readers or the writers of an `RwLock` once, the count was right at a moment of the call.
 ///
 /// # Contract
 /// `Found`, of the lock's holders, tickets and starvers.
-pub fn a_count_of_a_rwlock_was_so_at_a_moment()
-    ensures readers { (count : ℕ) →
-        Found rwlock.model RwLockView rw.ReaderCount (Count count) (Was readers count) }
-    ensures writers { (count : ℕ) →
-        Found rwlock.model RwLockView rw.WriterCount (Count count) (Was writers count) }
+pub fn a_count_of_a_rwlock_was_so_at_a_moment<T>()
+    ensures readers { (opening : T) (count : ℕ) →
+        Found (rwlock.model opening) RwLockView rw.ReaderCount (Count count) (Was readers count) }
+    ensures writers { (opening : T) (count : ℕ) →
+        Found (rwlock.model opening) RwLockView rw.WriterCount (Count count) (Was writers count) }
 {}
 
-/// If a pass counted the taken seats of a `Seats` once, so many parties sat at a moment while it did.
+/// If a pass counted the taken seats of a `Seats` once, the count was right at a moment of the call.
 ///
 /// # Contract
 /// `AtAMoment`, of the lock's holders, tickets and starvers.
@@ -176,8 +177,7 @@ pub fn a_count_of_seats_was_so_at_a_moment()
         (Was readers count) }
 {}
 
-/// If a pass tried once to take a seat and was refused, as many parties sat at a moment while it tried as there are
-/// seats.
+/// If a pass tried once to take a seat and was refused, all seats were taken at a moment of the call.
 ///
 /// # Contract
 /// `AtAMoment`, of the lock's holders, tickets and starvers.
@@ -187,7 +187,7 @@ pub fn a_refused_try_found_all_seats_taken()
         length s.holders ≡ as_many_as_seats n) }
 {}
 
-/// If a pass looked once whether a `Once` has a value, it was so at a moment while it looked.
+/// If a pass called `is_completed` of a `Once` once, the answer was true at a moment of the call.
 ///
 /// # Contract
 /// `FoundOnce`, of the phase of the `Once`.
@@ -195,8 +195,8 @@ pub fn a_look_at_a_once_was_so_at_a_moment()
     ensures { (there : Bool) → FoundOnce once.IsCompleted (Is there) (Was has_value there) }
 {}
 
-/// If a pass asked a `Once` for its value by `get` or `poll` and was told that there is none, it was so at a moment of
-/// the call. For `poll` no closure ran then either.
+/// If a pass called `get` or `poll` of a `Once`, and was told that there is no value, this was true at a moment of the
+/// call. For `poll` no closure ran at that moment either.
 ///
 /// # Contract
 /// `FoundOnce`, of the phase of the `Once`.
@@ -205,8 +205,7 @@ pub fn a_call_without_a_value_found_none_at_a_moment()
     ensures poll { FoundOnce once.Poll NoValue (λ s. is_nothing s.phase ≡ true) }
 {}
 
-/// If a pass was given a value by a `Once` or a `LazyLock`, whatever it called, there was a value as the call was
-/// answered.
+/// If a call of a pass of a `Once` or a `LazyLock` returned a value, there was a value when the call was answered.
 ///
 /// # Contract
 /// `GaveOnce`, which says so of each call with the answer `Value`.

@@ -1,5 +1,6 @@
-//! One law for each lock. Each is the contract of a function that does nothing: a caller calls it for what it states.
-ghost use Rattle.std.specs.Prelude.{ℕ, List, Option};
+//! One law for each lock. Each is the contract of a function that does nothing. A caller calls it to learn what it
+//! states.
+ghost use Rattle.std.specs.Prelude.{ℕ, List};
 ghost use Rattle.spin_core.specs.Own.{Numbered};
 ghost use Rattle.spin_core.specs.declared.tie.Opening.{Opening};
 ghost use Rattle.spin_core.specs.declared.trace.Trace.{Trace};
@@ -10,6 +11,8 @@ ghost use Rattle.spin_flag.specs.declared.spin.rule.View.{View as SpinMutexView}
 ghost use Rattle.spin_model.specs.Once.{once_machine};
 ghost use Rattle.spin_once.specs.Foretold.{foretold, place_of};
 ghost use Rattle.spin_once.specs.Once as once;
+ghost use Rattle.spin_once.specs.OnceValues as once_values;
+ghost use Rattle.spin_once.specs.declared.once_core.rule.Stage.{Stage as OnceStage};
 ghost use Rattle.spin_once.specs.declared.once_core.rule.View.{View as OnceView};
 ghost use Rattle.spin_rwlock.specs.Rw as rwlock;
 ghost use Rattle.spin_rwlock.specs.declared.rwlock.rule.View.{View as RwLockView};
@@ -19,8 +22,8 @@ ghost use Rattle.spin_ticket.specs.Queue as ticket_mutex;
 ghost use Rattle.spin_ticket.specs.declared.ticket.rule.View.{View as TicketMutexView};
 ghost use Rattle.spin_threads.specs.Between.{Between};
 
-/// Between any two steps of the threads that use a `SpinMutex`, its word is 1 if a party holds it, and else 0. At most
-/// one party holds it. Each guard and each call has in it what its type says.
+/// Between any two steps of the threads that use a `SpinMutex`, its word is 1 if a party holds it, else 0. At most one
+/// party holds it. Each guard and each call has in the plain lock what its type says.
 ///
 /// # Contract
 /// `Between`, of the moves that the lock's cell keeps, with the lock's word and parties.
@@ -29,7 +32,7 @@ pub fn between_any_two_steps_of_a_spin_mutex<T>()
 {}
 
 /// Between any two steps of the threads that use a `TicketMutex`, its words are the numbers of a queue of tickets. At
-/// most one of them is served. Each guard and each call has in it what its type says.
+/// most one ticket is served. Each guard and each call has in the plain lock what its type says.
 ///
 /// # Contract
 /// `Between`, of the moves that the lock's cell keeps, with the lock's words and parties.
@@ -38,16 +41,16 @@ pub fn between_any_two_steps_of_a_ticket_mutex<T>()
 {}
 
 /// Between any two steps of the threads that use a `FairMutex`, its word encodes exactly its holders and its registered
-/// starvers. At most one party holds it. Each guard and each call has in it what its type says.
+/// starvers. At most one party holds it. Each guard and each call has in the plain lock what its type says.
 ///
 /// # Contract
 /// `Between`, of the moves that the lock's cell keeps, with the lock's word and parties.
-pub fn between_any_two_steps_of_a_fair_mutex()
-    ensures { (name word : ℕ) (trace : Trace fair_mutex.Done (Unit {0})) (parties : List (Numbered FairMutexView)) → fair_mutex.IsFair name word trace parties → Between fair_mutex.model fair_mutex.seat_of fair_mutex.words_of trace.entries (word, trace.word) parties }
+pub fn between_any_two_steps_of_a_fair_mutex<T>()
+    ensures { (opening : Opening T) (word : ℕ) (trace : Trace (fair_mutex.Done T) (Unit {0})) (parties : List (Numbered FairMutexView)) → fair_mutex.IsFair opening word trace parties → Between (fair_mutex.model opening.value) fair_mutex.seat_of fair_mutex.words_of trace.entries (word, trace.word) parties }
 {}
 
 /// Between any two steps of the threads that use a `Seats`, its word is the number of parties that sit. Each guard and
-/// each call has in it what its type says.
+/// each call has in the plain lock what its type says.
 ///
 /// # Contract
 /// `Between`, of the moves that the lock's cell keeps, with the lock's word and parties.
@@ -55,22 +58,22 @@ pub fn between_any_two_steps_of_seats()
     ensures { (n name word : ℕ) (trace : Trace seats.Done (Unit {0})) (parties : List (Numbered SeatsView)) → seats.IsSeats n name word trace parties → Between (seats.model n) seats.seat_of seats.words_of trace.entries (word, trace.word) parties }
 {}
 
-/// Between any two steps of the threads that use an `RwLock`, its word counts exactly its holders. A writer stands alone,
-/// and at most one reader may upgrade. Each guard and each call has in it what its type says.
+/// Between any two steps of the threads that use an `RwLock`, its word counts exactly its holders. A writer holds
+/// alone, and at most one reader may upgrade. Each guard and each call has in the plain lock what its type says.
 ///
 /// # Contract
 /// `Between`, of the moves that the lock's cell keeps, with the lock's word and parties.
-pub fn between_any_two_steps_of_a_rwlock()
-    ensures { (name word : ℕ) (trace : Trace rwlock.Done (Unit {0})) (parties : List (Numbered RwLockView)) → rwlock.IsRw name word trace parties → Between rwlock.model rwlock.seat_of rwlock.words_of trace.entries (word, trace.word) parties }
+pub fn between_any_two_steps_of_a_rwlock<T>()
+    ensures { (opening : Opening T) (word : ℕ) (trace : Trace (rwlock.Done T) (Unit {0})) (parties : List (Numbered RwLockView)) → rwlock.IsRw opening word trace parties → Between (rwlock.model opening.value) rwlock.seat_of rwlock.words_of trace.entries (word, trace.word) parties }
 {}
 
-/// Between any two steps of the threads that use a `Once` or a `LazyLock`, its word is 0 where there is nothing, 1 while
-/// one closure runs, and 2 where there is a value. At most one closure runs, and none where there is a value. Each call
-/// has in it what its type says.
+/// Between any two steps of the threads that use a `Once` or a `LazyLock`, its word tells its phase: 0 without a value,
+/// 1 while a closure runs, 2 with a value. At most one closure runs, and none once there is a value. Each call has in
+/// the plain lock what its type says.
 ///
 /// # Contract
-/// `Between`, of the schedule of the object that the moves are which the cell keeps (`foretold`), with the cell's word
-/// and parties. `given` is the value that the cell was made with, or none.
-pub fn between_any_two_steps_of_a_once()
-    ensures { (given : Option (Unit {0})) (name word : ℕ) (trace : Trace once.Made (Unit {0})) (parties : List (Numbered OnceView)) → once.IsOnce given name word trace parties → Between (once_machine given) place_of once.words_of (foretold trace.entries) (word, trace.word) parties }
+/// `Between`, of the schedule of the object that the moves are which the cell keeps (`bare`, `foretold`), with the cell's
+/// word and parties. `opening` says whether the cell was made with a value.
+pub fn between_any_two_steps_of_a_once<T, S>()
+    ensures { (opening : Opening (OnceStage T S)) (word : ℕ) (trace : Trace (once_values.Valued T) (Unit {0})) (parties : List (Numbered OnceView)) → once.IsOnce opening word trace parties → Between (once_machine (once_values.given_of opening.value)) place_of once.words_of (foretold (once_values.bare trace.entries)) (word, trace.word) parties }
 {}

@@ -4,8 +4,8 @@
 //! model. So what is promised of every schedule holds between any two steps of running threads. Begin with
 //! [`between_any_two_steps_of_a_spin_mutex`]; its definition is `Between` of specs/Between.antt.
 //!
-//! What a call told a pass was true at a moment of that call: [`a_refused_try_found_the_spin_mutex_held`]. A call takes
-//! no more steps than in the model: [`a_call_of_a_ticket_mutex_keeps_its_limit`].
+//! The answer of a pass's call was right at some moment of the call: [`a_refused_try_found_the_spin_mutex_held`]. A
+//! call takes no more steps than in the model: [`a_call_of_a_ticket_mutex_keeps_its_limit`].
 #![tactic(auto)]
 
 mod answers;

@@ -1,9 +1,9 @@
-//! How many steps a call takes. Each law is the contract of a function that does nothing: a caller calls it for what it
-//! states.
+//! How many steps a call takes. Each law is the contract of a function that does nothing. A caller calls it to learn
+//! what it states.
 //!
-//! Each says of every call of every pass that it took no more steps than in the model (`limit` of `spin_model`), where
-//! changes of the lock's first word by others while the call ran count too. Exchanges that the call makes again failed at
-//! most as often as others changed that word (`KeepsLimits`, `IsWithinLimit`).
+//! Each law speaks of every call of every pass. The call took no more steps than in the model (`limit` of
+//! `spin_model`), where changes of the first word by others during the call count too. Exchanges that the call repeats
+//! failed at most as often as others changed that word (`KeepsLimits`, `IsWithinLimit`).
 ghost use Rattle.std.specs.Prelude.{ℕ, Option, List};
 ghost use Rattle.spin_core.specs.Own.{Numbered};
 ghost use Rattle.spin_fair.specs.Fair as fair_mutex;
@@ -21,52 +21,52 @@ ghost use Rattle.spin_ticket.specs.declared.ticket.rule.View.{View as TicketMute
 ghost use Rattle.spin_threads.specs.Counts.{KeepsLimits};
 ghost use Rattle.spin_threads.specs.Turns.{EntersInTurn};
 
-/// A try, a look and a release of a pass of a `SpinMutex` take one step each.
+/// A try, an `is_locked` and a release of a pass of a `SpinMutex` take one step each.
 ///
 /// # Contract
-/// `KeepsLimits`, which says it of the steps that all threads made while the call ran.
+/// `KeepsLimits`, for the steps that all threads made during the call.
 pub fn a_call_of_a_spin_mutex_keeps_its_limit<T>()
     ensures { (opening : T) → KeepsLimits (spin_mutex.model opening) SpinMutexView }
 {}
 
-/// A look of a pass of a `TicketMutex` takes two steps at most, a try three, and a release one. The exchange by which
-/// `lock` takes its ticket fails at most as often as others take one meanwhile.
+/// An `is_locked` of a pass of a `TicketMutex` takes at most two steps, a try three, and a release one. The exchange by
+/// which `lock` takes its ticket fails at most as often as others take one meanwhile.
 ///
 /// # Contract
-/// `KeepsLimits`, which says it of the steps that all threads made while the call ran.
+/// `KeepsLimits`, for the steps that all threads made during the call.
 pub fn a_call_of_a_ticket_mutex_keeps_its_limit<T>()
     ensures { (key : ticket_mutex.Key T) → KeepsLimits (ticket_mutex.model key) TicketMutexView }
 {}
 
-/// A try of a pass of a `FairMutex` takes one step, and one of a starver two at most. `starve` takes two at most, and
-/// one more for each change of the word by others meanwhile. A look and a release take one.
+/// A newcomer's try of a pass of a `FairMutex` takes one step, and a starver's try at most two. `starve` takes at most
+/// two, and one more for each change of the word by others meanwhile. An `is_locked` and a release take one.
 ///
 /// # Contract
-/// `KeepsLimits`, which says it of the steps that all threads made while the call ran.
-pub fn a_call_of_a_fair_mutex_keeps_its_limit()
-    ensures { KeepsLimits fair_mutex.model FairMutexView }
+/// `KeepsLimits`, for the steps that all threads made during the call.
+pub fn a_call_of_a_fair_mutex_keeps_its_limit<T>()
+    ensures { (opening : T) → KeepsLimits (fair_mutex.model opening) FairMutexView }
 {}
 
-/// A try to read of a pass of an `RwLock` takes two steps at most, and one more for each change of the word by others
-/// meanwhile. Each other try, a count, a downgrade and a release take one.
+/// A try to read of a pass of an `RwLock` takes at most two steps, and one more for each change of the word by others
+/// meanwhile. Any other try, a count, a downgrade and a release take one.
 ///
 /// # Contract
 /// `KeepsLimits`, which says it of the steps that all threads made while the call ran.
-pub fn a_call_of_a_rwlock_keeps_its_limit()
-    ensures { KeepsLimits rwlock.model RwLockView }
+pub fn a_call_of_a_rwlock_keeps_its_limit<T>()
+    ensures { (opening : T) → KeepsLimits (rwlock.model opening) RwLockView }
 {}
 
-/// A try of a pass of a `Seats` takes two steps at most, and one more for each change of the word by others meanwhile.
-/// A count and a leave take one.
+/// A try of a pass of a `Seats` takes at most two steps, and one more for each change of the word by others meanwhile.
+/// A count and a release take one.
 ///
 /// # Contract
-/// `KeepsLimits`, which says it of the steps that all threads made while the call ran.
+/// `KeepsLimits`, for the steps that all threads made during the call.
 pub fn a_call_of_seats_keeps_its_limit()
     ensures { (n : ℕ) → KeepsLimits (seats.model n) SeatsView }
 {}
 
-/// If a pass acquired a `TicketMutex` by `lock`, then from each moment on till it had, exactly as many tickets went as
-/// stood between the number that was served then and its own.
+/// If a pass acquired a `TicketMutex` by `lock`, take any moment of the call before that. Until it had, exactly as
+/// many tickets left as were then between the served number and its own.
 ///
 /// # Contract
 /// `EntersInTurn`, of the history that the pass knows after the call.

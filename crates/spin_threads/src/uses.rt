@@ -1,4 +1,4 @@
-//! How a caller cites the laws: it calls one for what it states, and then makes the call of its pass.
+//! How a caller uses the laws: it calls one to learn what it states, and then makes the call of its pass.
 ghost use Rattle.std.specs.Prelude.{◌≡◌, ◌⊎◌, true, false, IfErr};
 ghost use Rattle.spin_fair.specs.Fair as fair_mutex;
 ghost use Rattle.spin_fair.specs.FairPasses as fair_passes;
@@ -34,7 +34,7 @@ use spin_once::once::Pass as OncePass;
 use spin_rwlock::rwlock::Pass as RwPass;
 use spin_ticket::ticket::{Entry, Pass as TicketPass, TicketMutexGuard};
 
-/// Looks once whether a `SpinMutex` is held.
+/// Asks once whether a `SpinMutex` is held.
 pub fn look_at_a_spin_mutex<T, R>(pass: SpinPass<'_, T, R>) -> (bool, SpinPass<'_, T, R>)
     ensures { AtAMoment (spin_mutex.model (spin_passes.opening_of pass.entry).value) flag.IsLocked (spin_passes.party result.1)
         (spin_passes.history pass.entry) (spin_passes.history result.1) (Was is_held result.0) }
@@ -57,31 +57,31 @@ pub fn try_a_ticket_mutex<'a, T, R>(
     pass.try_lock()
 }
 
-/// Looks once whether a `FairMutex` is held.
+/// Asks once whether a `FairMutex` is held.
 pub fn look_at_a_fair_mutex<T, R>(pass: FairPass<'_, T, R>) -> (bool, FairPass<'_, T, R>)
-    ensures { AtAMoment fair_mutex.model fair.IsLocked (fair_passes.party result.1)
+    ensures { AtAMoment (fair_mutex.model (fair_passes.opening_of pass.entry).value) fair.IsLocked (fair_passes.party result.1)
         (fair_passes.history pass.entry) (fair_passes.history result.1) (Was is_held result.0) }
 {
-    a_look_at_a_fair_mutex_was_so_at_a_moment();
+    a_look_at_a_fair_mutex_was_so_at_a_moment::<T>();
     let (held, pass) = pass.is_locked();
     (held, pass)
 }
 
 /// Counts the readers of an `RwLock` once.
 pub fn count_the_readers<T, R>(pass: RwPass<'_, T, R>) -> (usize, RwPass<'_, T, R>)
-    ensures { AtAMoment rwlock.model rw.ReaderCount (rw_passes.party result.1)
+    ensures { AtAMoment (rwlock.model (rw_passes.opening_of pass.entry).value) rw.ReaderCount (rw_passes.party result.1)
         (rw_passes.history pass.entry) (rw_passes.history result.1) (Was readers result.0) }
 {
-    a_count_of_a_rwlock_was_so_at_a_moment();
+    a_count_of_a_rwlock_was_so_at_a_moment::<T>();
     let (readers, pass) = pass.reader_count();
     (readers, pass)
 }
 
-/// Looks once whether a `Once` has a value.
+/// Asks once whether a `Once` has a value.
 pub fn look_at_a_once<T, R>(pass: OncePass<'_, T, R>) -> (bool, OncePass<'_, T, R>)
-    ensures { AtAMoment (once_machine (once_passes.given_of pass.entry)) once.IsCompleted (once_passes.party result.1)
-        (foretold_till (once_passes.history pass.entry) (once_passes.history result.1))
-        (foretold (once_passes.history result.1)) (Was has_value result.0) }
+    ensures { AtAMoment (once_machine (once_passes.given pass.entry)) once.IsCompleted (once_passes.party result.1)
+        (foretold_till (once_passes.schedule pass.entry) (once_passes.schedule result.1))
+        (foretold (once_passes.schedule result.1)) (Was has_value result.0) }
 {
     a_look_at_a_once_was_so_at_a_moment();
     let (there, pass) = pass.is_completed();

@@ -1,3 +1,4 @@
 pub mod Queue
 pub mod TicketQueue
 pub mod Rows
+pub mod Accounts

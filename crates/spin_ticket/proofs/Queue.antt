@@ -1,19 +1,20 @@
--- The steps of a lock of tickets keep its rule: each is the plain step that its step function makes, and moves of the lock's model.
-use Rattle.std.proofs.Common.{◌≡◌, ℕ, ◌+◌, ◌<◌, ◌≤◌, ◌&&◌, Bool, true, false, if◌then◌else◌, ◌==◌, List, [], ◌∷◌, length, Option, Some, None, refl, sym, ap, ◌∙◌, subst, arith}
-use Rattle.std.specs.Prelude.{◌≢◌}
-use Rattle.std.proofs.lemmas.Bool.{eqb-true, eq-eqb, ne_eqb, and_parts}
+-- The steps of a lock of tickets keep its rule. Each is the plain step that its step function makes, and moves of the
+-- lock's model.
+use Rattle.std.proofs.Common.{◌≡◌, ℕ, ◌+◌, ◌<◌, ◌≤◌, ◌&&◌, Bool, true, false, if◌then◌else◌, ◌==◌, List, [], ◌∷◌, Option, Some, None, refl, sym, ap, ◌∙◌, subst, arith}
+use Rattle.std.proofs.lemmas.Bool.{eqb-true, eq-eqb, and_parts}
 use prog.Atomic.{either}
 use Rattle.spin_step.specs.Plain.{Plain, ticket_limit, gets, serves, to_take_ticket, to_take_and_enter, to_enter, is_open, next_word, serving_word}
 use Rattle.spin_step.specs.Steps.{Decides, Gives}
-use Rattle.spin_step.specs.Tickets.{take}
+use Rattle.spin_step.specs.Tickets.{take, served}
+use Rattle.spin_step.proofs.TicketSteps.{ticket_take-grants, ticket_take-grants_alone, ticket_serve-gives}
 use Rattle.spin_step.proofs.Tickets.{serving-taken, serving-entered, entered_is_served, first-length, enters_in_turn}
 use Rattle.spin_core.specs.Cell.{Use, off, alone, reads, writes, use_of, Meets, Allows, AllowsSecond, Rests, Moved, Preserves, Keeps as Keeps_value}
 use Rattle.spin_core.specs.Own.{Numbered, what}
-use Rattle.spin_core.specs.Passes.{Course, IsCall, IsStep, WritesSome, step_by, mark_of}
+use Rattle.spin_core.specs.Passes.{IsCall, WritesSome, step_by}
 use Rattle.spin_core.proofs.Passes as passes
 use Rattle.spin_core.proofs.Passes.{Learnt}
 use Rattle.spin_core.specs.Run.{AreMoves, on_first, on_second, first as first_word, second as second_word}
-use Rattle.spin_core.specs.Traced.{Traces, TracesSecond, Watches, Named, Found}
+use Rattle.spin_core.specs.Traced.{Traces, TracesSecond, Watches}
 use Rattle.spin_core.specs.Views.{idle, entries_of, queues}
 use Rattle.spin_core.proofs.Views.{part_before}
 use Rattle.spin_core.specs.declared.trace.Trace.{Trace}
@@ -23,10 +24,9 @@ use Rattle.spin_core.proofs.Owners.{OfTickets, one_ticket}
 use Rattle.spin_core.proofs.Plays as plays
 use Rattle.spin_core.proofs.Plays.{Lock as CellLock, ways, Reaches, allows, allows_second, by_step, by_grant, by_none, by_exchange, allows_among, begins}
 use Rattle.spin_core.proofs.Ties as tie
-use Rattle.spin_core.proofs.Values.{steps_leave, write_leaves, owed, found, gave, wrote}
-use Rattle.spin_core.specs.Values.{Leaves, IsLast, last}
-use Rattle.spin_model.specs.declared.answer.Answer.{Answer}
-use Rattle.spin_model.specs.declared.answer.Answer.TheVariants.{Refused, Done}
+use Rattle.spin_core.proofs.Values.{steps_leave, write_leaves, owed, found}
+use Rattle.spin_core.specs.Values.{Leaves, last}
+use Rattle.spin_model.specs.declared.answer.Answer.TheVariants.{Done}
 use Rattle.spin_model.specs.declared.schedule.Move.TheVariants.{Begin, Step, Write}
 use Rattle.spin_model.specs.declared.schedule.Outcome.TheVariants.{Begun, GoingOn, Answered, Written}
 use Rattle.spin_model.specs.declared.ticket.TicketCall.{TicketCall}
@@ -56,18 +56,38 @@ queue = record {
   names_nobody = (next_word-up, serving_word-up);
 }
 
--- it comes to this view by the number found
+-- the party gets this view, by the number found
 abbrev Comes : (ℕ → View) → ℕ → View → Type 0
 Comes to n v = v ≡ to n
 
--- what a load of the next number tells `is_locked`, and one of the served number a party that releases, beside its view
+-- the load of the next number in `is_locked` finds at least the number served, and leaves the party idle
 abbrev Compares : ℕ → ℕ → View → Type 0
 Compares served n v = (served ≤ n) × (v ≡ Idle)
 
+-- the load of the served number in a release finds the party's ticket
 abbrev Finds : ℕ → ℕ → View → Type 0
 Finds number n v = (n ≡ number) × (number < ticket_limit) × (v ≡ Entered number)
 
--- The moves of each step: a call of the model and its first step, or the next step of a call that has begun
+-- What the step function says of a number
+
+pub left_of : (n after : ℕ) → Some after ≡ take n → (is_left n ≡ true) × (after ≡ n + 1)
+left_of n after is = left_if (is_left n) is
+  where
+    left_if : (b : Bool) → Some after ≡ (if b then Some (n + 1) else None) → (b ≡ true) × (after ≡ n + 1)
+    left_if true e = (refl, cc (e))
+    left_if false e = absurd (cc (e))
+
+pub none_left : (n : ℕ) → None ≡ take n → is_left n ≡ false
+none_left n is = none_if (is_left n) is
+  where
+    none_if : (b : Bool) → None ≡ (if b then Some (n + 1) else None) → b ≡ false
+    none_if true e = absurd (cc (e))
+    none_if false e = refl
+
+pub goes_for : (n : ℕ) → is_left n ≡ true → going n ≡ Going n
+goes_for n left = ap (λ b. if b then Going n else Coming) left
+
+-- The moves of each step: a call of the model and its first step, or the next step of a call under way
 
 module _ {T : Type 0} (key : Key T) where
   abbrev Moves : Option View → (ℕ → ℕ) → (ℕ → View → Type 0) → Says T → Type 0
@@ -136,7 +156,7 @@ out_has_none None out = refl
 out_has_none (Some Idle) out = refl
 out_has_none (Some _) out = absurd out
 
--- it comes, or made its last call to the end
+-- the party is new, or its last call has ended
 pub is_out : (view : Option (Numbered View)) → stands view ≡ Idle → IsOut (what view)
 is_out None is = tt
 is_out (Some v) is = subst (λ w. IsOut (Some w)) (sym is) tt
@@ -157,7 +177,7 @@ module _ {T : Type 0} (key : Key T) where
   abbrev Leaving : Option View → Option T → Says T → Type 0
   Leaving view shown says = (own : List (OneMove T)) (outs : List (Ending T)) (n : ℕ) (u : View) → says own outs n u → Leaves (use_of use_of_view view) (use_of_view u) shown own
 
-  -- a step by which a party that does not use the value begins a call, or goes on with it
+  -- a step by which a party that does not use the value begins a call, or continues it
   steps : (view : Option View) (shown : Option T) (goes_on : Bool) (c : TicketCall) (end : ℕ → Ending T) (to : ℕ → View) → use_of use_of_view view ≡ off → Leaving view shown (step_by goes_on c end to)
   steps view shown goes_on c end to unused own outs n u said = steps_leave (use_of use_of_view view) (use_of_view u) shown unused goes_on c (end n) own outs said.1
 
@@ -173,6 +193,19 @@ module _ {T : Type 0} (key : Key T) where
       tie.traces_second (model key) seat_of words_of Word key.0.name T alone use_of_view (last key.0) view shown f tells says moves
       (λ own outs n u said t word p. owed key.0 own t word p (use_of use_of_view (what view)) (use_of_view u) shown (leaves own outs n u said)) allowed
 
+  -- a step of a call, by a party that does not use the value
+  in_call : (view : Option (Numbered View)) (shown : Option T) (f : ℕ → ℕ) (goes_on : Bool) (c : TicketCall) (end : ℕ → Ending T) (to : ℕ → View)
+      → use_of use_of_view (what view) ≡ off → Moves key (what view) f (Comes to) (step_by goes_on c end to)
+      → Allows Word (ways queue) (what view) f (Comes to) → Keeps view shown f (step_by goes_on c end to)
+  in_call view shown f goes_on c end to unused =
+      keeps view shown f (Comes to) (step_by goes_on c end to) (steps (what view) shown goes_on c end to unused)
+
+  in_call_second : (view : Option (Numbered View)) (shown : Option T) (f : ℕ → ℕ) (goes_on : Bool) (c : TicketCall) (end : ℕ → Ending T) (to : ℕ → View)
+      → use_of use_of_view (what view) ≡ off → MovesSecond key (what view) f (Comes to) (step_by goes_on c end to)
+      → AllowsSecond Word (ways queue) (what view) f (Comes to) → KeepsSecond view shown f (step_by goes_on c end to)
+  in_call_second view shown f goes_on c end to unused =
+      keeps_second view shown f (Comes to) (step_by goes_on c end to) (steps (what view) shown goes_on c end to unused)
+
   pub starts : (t : Trace (Made T) ℕ) → t.name ≡ key.0.name → t.entries ≡ [] → t.word ≡ key.1 → key.1 ≤ ticket_limit → Meets (IsQueue key) (queue_ways key) key.1 t []
   starts t named empty word small =
       tie.opens (model key) seat_of words_of Word key.0.name T alone use_of_view (last key.0) key.1 t named empty (ap (λ k. (key.1, k)) word) (rw word (begins queue 0 key.1 key.1 key.1 (omega (arith, small)) refl (omega arith)))
@@ -181,63 +214,83 @@ module _ {T : Type 0} (key : Key T) where
 
   pub loads : (view : Option (Numbered View)) (shown : Option T) → IsOut (what view) → Keeps view shown (λ n. n) (step_by false Lock goes_on going)
   loads view shown out =
-      let v : Option View = what view in let none : (p : ℕ) → entries_of p (part_before part v) ≡ entries_of p idle = λ p. ap (entries_of p) (out_has_none v out) in
-      keeps view shown (λ n. n) (Comes going) (step_by false Lock goes_on going) (steps v shown false Lock goes_on going (out_off v out)) (load_moves key v out)
-      (allows queue v (λ n. n) (Comes going) (λ s p room order has. (going s.next, goes_if v s p (by_none queue v (Going s.next) s p (none p) tt) (by_none queue v Coming s p (none p) tt) (is_left s.next), refl)))
+      let v : Option View = what view in
+      let none : (p : ℕ) → entries_of p (part_before part v) ≡ entries_of p idle = λ p. ap (entries_of p) (out_has_none v out) in
+      in_call view shown (λ n. n) false Lock goes_on going (out_off v out) (load_moves key v out)
+      (allows queue v (λ n. n) (Comes going) (λ s p room order has.
+      (going s.next, goes_if v s p (by_none queue v (Going s.next) s p (none p) tt) (by_none queue v Coming s p (none p) tt) (is_left s.next), refl)))
 
-  pub takes : (view : Option (Numbered View)) (shown : Option T) (next after : ℕ) → what view ≡ Some (Going next) → after ≡ next + 1 → is_left next ≡ true → ((s : Plain) (p : ℕ) → next_word s ≡ next → Decides s (gets p to_take_ticket) next_word (Some after))
+  pub takes : (view : Option (Numbered View)) (shown : Option T) (next after : ℕ) → what view ≡ Some (going next) → Some after ≡ take next
       → Keeps view shown (λ n. either (n == next) after n) (step_by true Lock goes_on (taken next))
-  takes view shown next after is more left plain =
-      let from : Option View = Some (Going next) in
-      keeps view shown (λ n. either (n == next) after n) (Comes (taken next)) (step_by true Lock goes_on (taken next)) (steps (what view) shown true Lock goes_on (taken next) (ap (use_of use_of_view) is)) (rw (is, more) (take_moves key next left))
-      (rw is (allows_among queue from (λ n. either (n == next) after n) (Comes (taken next)) (λ s p vs room order among has small.
+  takes view shown next after at exact =
+      let from : Option View = Some (Going next) in let (left, more) = left_of next after exact in
+      let is : what view ≡ from = at ∙ ap Some (goes_for next left) in let f : ℕ → ℕ = λ n. either (n == next) after n in
+      in_call view shown f true Lock goes_on (taken next) (ap (use_of use_of_view) is) (rw (is, more) (take_moves key next left))
+      (rw is (allows_among queue from f (Comes (taken next)) (λ s p vs room order among has small.
       by_exchange queue from (Waiting next) (going s.next) s p s.next (serving_word s) next after
-      (λ e. by_grant queue from (Waiting next) s p to_take_ticket after (serving_word s) (plain s p e) (ap (λ n. entries_of p (queues n false)) e) tt (sym (serving-taken s p false order.numbered)))
+      (λ e. let grants = subst (λ o. Decides s (gets p to_take_ticket) next_word o) (sym exact) (ticket_take-grants s p next e) in
+      by_grant queue from (Waiting next) s p to_take_ticket after (serving_word s) grants (ap (λ n. entries_of p (queues n false)) e) tt
+      (sym (serving-taken s p false order.numbered)))
       (goes_if from s p (by_none queue from (Going s.next) s p refl tt) (by_none queue from Coming s p refl tt) (is_left s.next)))))
 
-  -- a party enters exactly where that is open to it
-  pub awaits : (view : Option (Numbered View)) (shown : Option T) (number : ℕ) → what view ≡ Some (Waiting number) → KeepsSecond view shown (λ k. k) (awaits_by (what view))
+  -- a party enters exactly if that is open to it
+  pub awaits : (view : Option (Numbered View)) (shown : Option T) (number : ℕ) → what view ≡ Some (Waiting number)
+      → KeepsSecond view shown (λ k. k) (awaits_by (what view))
   awaits view shown number is =
-      subst (λ k. KeepsSecond view shown (λ m. m) (step_by true Lock (answers_turn k) (entered k))) (sym (ap number_of is)) (keeps_second view shown (λ k. k) (Comes (entered number)) (step_by true Lock (answers_turn number) (entered number)) (steps (what view) shown true Lock (answers_turn number) (entered number) (ap (use_of use_of_view) is)) (rw is (await_moves key number))
+      subst (λ k. KeepsSecond view shown (λ m. m) (step_by true Lock (answers_turn k) (entered k))) (sym (ap number_of is))
+      (in_call_second view shown (λ k. k) true Lock (answers_turn number) (entered number) (ap (use_of use_of_view) is) (rw is (await_moves key number))
       (rw is (allows_second queue (Some (Waiting number)) (λ k. k) (Comes (entered number)) (λ s p room order has.
-      (entered number (serving_word s), enters_if number s p (serving_word s == number) (enters_in_turn s p (serving_word s) number order.numbered refl (ap (λ e. e.tickets) has.0)), refl)))))
+      let turn = enters_in_turn s p (serving_word s) number order.numbered refl (ap (λ e. e.tickets) has.0) in
+      (entered number (serving_word s), enters_if number s p (serving_word s == number) turn, refl)))))
 
   -- `try_lock`
 
-  pub tries : (view : Option (Numbered View)) (shown : Option T) → IsOut (what view) → Keeps view shown (λ n. n) (step_by false TryLock goes_on LoadedNext)
+  pub tries : (view : Option (Numbered View)) (shown : Option T) → IsOut (what view)
+      → Keeps view shown (λ n. n) (step_by false TryLock goes_on LoadedNext)
   tries view shown out =
       let v : Option View = what view in
-      keeps view shown (λ n. n) (Comes LoadedNext) (step_by false TryLock goes_on LoadedNext) (steps v shown false TryLock goes_on LoadedNext (out_off v out)) (try_moves key v out)
-      (allows queue v (λ n. n) (Comes LoadedNext) (λ s p room order has. (LoadedNext s.next, by_none queue v (LoadedNext s.next) s p (ap (entries_of p) (out_has_none v out)) tt, refl)))
+      in_call view shown (λ n. n) false TryLock goes_on LoadedNext (out_off v out) (try_moves key v out)
+      (allows queue v (λ n. n) (Comes LoadedNext) (λ s p room order has.
+      (LoadedNext s.next, by_none queue v (LoadedNext s.next) s p (ap (entries_of p) (out_has_none v out)) tt, refl)))
 
-  pub tries_on : (view : Option (Numbered View)) (shown : Option T) (next : ℕ) → what view ≡ Some (LoadedNext next) → KeepsSecond view shown (λ k. k) (tries_by (what view))
+  pub tries_on : (view : Option (Numbered View)) (shown : Option T) (next : ℕ) → what view ≡ Some (LoadedNext next)
+      → KeepsSecond view shown (λ k. k) (tries_by (what view))
   tries_on view shown next is =
-      subst (λ k. KeepsSecond view shown (λ m. m) (step_by true TryLock (answers_free k) (freed k))) (sym (ap number_of is)) (keeps_second view shown (λ k. k) (Comes (freed next)) (step_by true TryLock (answers_free next) (freed next)) (steps (what view) shown true TryLock (answers_free next) (freed next) (ap (use_of use_of_view) is)) (rw is (try_look_moves key next))
-      (rw is (allows_second queue (Some (LoadedNext next)) (λ k. k) (Comes (freed next)) (λ s p room order has. (freed next (serving_word s), frees_if next s p (is_free next (serving_word s)) refl, refl)))))
+      subst (λ k. KeepsSecond view shown (λ m. m) (step_by true TryLock (answers_free k) (freed k))) (sym (ap number_of is))
+      (in_call_second view shown (λ k. k) true TryLock (answers_free next) (freed next) (ap (use_of use_of_view) is) (rw is (try_look_moves key next))
+      (rw is (allows_second queue (Some (LoadedNext next)) (λ k. k) (Comes (freed next)) (λ s p room order has.
+      (freed next (serving_word s), frees_if next s p (is_free next (serving_word s)) refl, refl)))))
 
   -- a party that found the next number served finds nobody in the queue
-  pub attempts : (view : Option (Numbered View)) (shown : Option T) (next after : ℕ) → what view ≡ Some (Trying next) → after ≡ next + 1 → is_left next ≡ true
-      → ((s : Plain) (p : ℕ) → length s.tickets ≤ next_word s → next_word s ≡ next → serving_word s ≡ next → Decides s (gets p to_take_and_enter) next_word (Some after))
+  pub attempts : (view : Option (Numbered View)) (shown : Option T) (next after : ℕ) → what view ≡ Some (Trying next) → Some after ≡ take next
       → Keeps view shown (λ n. either (n == next) after n) (step_by true TryLock (answers_attempt next) (attempted next))
-  attempts view shown next after is more left plain =
-      let from : Option View = Some (Trying next) in
-      keeps view shown (λ n. either (n == next) after n) (Comes (attempted next)) (step_by true TryLock (answers_attempt next) (attempted next)) (steps (what view) shown true TryLock (answers_attempt next) (attempted next) (ap (use_of use_of_view) is)) (rw (is, more) (try_take_moves key next left))
+  attempts view shown next after is exact =
+      let from : Option View = Some (Trying next) in let (left, more) = left_of next after exact in let f : ℕ → ℕ = λ n. either (n == next) after n in
+      in_call view shown f true TryLock (answers_attempt next) (attempted next) (ap (use_of use_of_view) is) (rw (is, more) (try_take_moves key next left))
       (rw is (plays.exchanged queue from Entered Idle next after (λ s p. (refl, tt)) (λ s p vs room order among has small e.
-      by_grant queue from (Entered next) s p to_take_and_enter after (serving_word s) (plain s p order.numbered.0 e (omega (arith, has.1, e, order.numbered.0))) (ap (λ n. entries_of p (queues n true)) e) tt
+      let alone = ticket_take-grants_alone s p next order.numbered.0 e (omega (arith, has.1, e, order.numbered.0)) in
+      let grants = subst (λ o. Decides s (gets p to_take_and_enter) next_word o) (sym exact) alone in
+      by_grant queue from (Entered next) s p to_take_and_enter after (serving_word s) grants (ap (λ n. entries_of p (queues n true)) e) tt
       (sym (serving-taken s p true order.numbered)))))
 
-  -- `is_locked`: the number that is served only grows, and is at most the next
+  -- `is_locked`: the served number only grows, and is at most the next one
 
-  pub looks : (view : Option (Numbered View)) (shown : Option T) → IsOut (what view) → KeepsSecond view shown (λ k. k) (step_by false IsLocked goes_on LoadedServing)
+  pub looks : (view : Option (Numbered View)) (shown : Option T) → IsOut (what view)
+      → KeepsSecond view shown (λ k. k) (step_by false IsLocked goes_on LoadedServing)
   looks view shown out =
       let v : Option View = what view in
-      keeps_second view shown (λ k. k) (Comes LoadedServing) (step_by false IsLocked goes_on LoadedServing) (steps v shown false IsLocked goes_on LoadedServing (out_off v out)) (look_moves key v out)
-      (allows_second queue v (λ k. k) (Comes LoadedServing) (λ s p room order has. (LoadedServing (serving_word s), by_none queue v (LoadedServing (serving_word s)) s p (ap (entries_of p) (out_has_none v out)) (omega arith), refl)))
+      in_call_second view shown (λ k. k) false IsLocked goes_on LoadedServing (out_off v out) (look_moves key v out)
+      (allows_second queue v (λ k. k) (Comes LoadedServing) (λ s p room order has.
+      let k = serving_word s in (LoadedServing k, by_none queue v (LoadedServing k) s p (ap (entries_of p) (out_has_none v out)) (omega arith), refl)))
 
-  pub compares : (view : Option (Numbered View)) (shown : Option T) (served : ℕ) → what view ≡ Some (LoadedServing served) → Keeps view shown (λ n. n) (compares_by (what view))
+  pub compares : (view : Option (Numbered View)) (shown : Option T) (served : ℕ) → what view ≡ Some (LoadedServing served)
+      → Keeps view shown (λ n. n) (compares_by (what view))
   compares view shown served is =
-      subst (λ k. Keeps view shown (λ m. m) (compares_with k)) (sym (ap number_of is)) (keeps view shown (λ n. n) (Compares served) (compares_with served) (λ own outs n u said. steps (what view) shown true IsLocked (answers_look served) gone (ap (use_of use_of_view) is) own outs n u said.1) (rw is (look_next_moves key served))
-      (rw is (allows queue (Some (LoadedServing served)) (λ n. n) (Compares served) (λ s p room order has. (Idle, by_none queue (Some (LoadedServing served)) Idle s p refl tt, (omega (arith, has.1, order.numbered.0), refl))))))
+      let unused = ap (use_of use_of_view) is in
+      subst (λ k. Keeps view shown (λ m. m) (compares_with k)) (sym (ap number_of is)) (keeps view shown (λ n. n) (Compares served) (compares_with served)
+      (λ own outs n u said. steps (what view) shown true IsLocked (answers_look served) gone unused own outs n u said.1) (rw is (look_next_moves key served))
+      (rw is (allows queue (Some (LoadedServing served)) (λ n. n) (Compares served) (λ s p room order has.
+      (Idle, by_none queue (Some (LoadedServing served)) Idle s p refl tt, (omega (arith, has.1, order.numbered.0), refl))))))
 
   -- The release
 
@@ -253,35 +306,24 @@ module _ {T : Type 0} (key : Key T) where
   leaving view shown x number is here own outs n u (stays, (y, same, by)) =
       subst (λ (z : Use × Use × Option T). Leaves z.0 z.1 z.2 own) (λ i. (sym (ap (use_of use_of_view) is) i, sym (ap use_of_view stays) i, sym here i)) (λ v. write_leaves y false Release (answers_release n) own outs by v ∙ same)
 
-  pub serves_next : (view : Option (Numbered View)) (shown : Option T) (x : T) (number next : ℕ) → what view ≡ Some (Entered number) → shown ≡ Some x → next ≡ number + 1
-      → ((s : Plain) (p : ℕ) → length s.tickets ≤ next_word s → serving_word s ≡ number → Gives s (serves p) serving_word next) → KeepsSecond view shown (λ _. next) serves_by
-  serves_next view shown x number next is here more plain =
+  pub serves_next : (view : Option (Numbered View)) (shown : Option T) (x : T) (number next : ℕ) → what view ≡ Some (Entered number)
+      → shown ≡ Some x → next ≡ served number → KeepsSecond view shown (λ _. next) serves_by
+  serves_next view shown x number next is here more =
       let from : Option View = Some (Entered number) in let exact : Says T = serves_with (λ y. y ≡ x) in
-      tie.tells_less_second (model key) seat_of words_of view exact serves_by (λ own outs n u (stays, (y, same, by)). (stays, (y, tt, by))) (IsQueue key) (queue_ways key) shown (λ _. next)
+      tie.tells_less_second (model key) seat_of words_of view exact serves_by (λ own outs n u (stays, (y, same, by)). (stays, (y, tt, by)))
+      (IsQueue key) (queue_ways key) shown (λ _. next)
       (keeps_second view shown (λ _. next) (Comes gone) exact (leaving (what view) shown x number is here) (rw (is, more) (serve_moves key x number))
       (rw is (allows_second queue from (λ _. next) (Comes gone) (λ s p room order has.
-      let served = entered_is_served s p number order.numbered order.exclusive.one_entered (ap (λ e. e.tickets) has.0) in
-      (Idle, by_step queue from Idle s (serves p) s.next next served.0 refl tt refl (plain s p order.numbered.0 served.1 served.0), refl)))))
+      let first = entered_is_served s p number order.numbered order.exclusive.one_entered (ap (λ e. e.tickets) has.0) in
+      let gives = subst (λ n. Gives s (serves p) serving_word n) (sym more) (ticket_serve-gives s p number order.numbered.0 first.1) in
+      (Idle, by_step queue from Idle s (serves p) s.next next first.0 refl tt refl (gives first.0), refl)))))
 
--- Who may go, and what a step tells its party
+-- Who may leave, and what the steps of a release tell the holder
 
 module _ {T : Type 0} (key : Key T) where
   pub rests : (view : Option (Numbered View)) → stands view ≡ Idle → Rests (IsQueue key) use_of_party view
   rests None is = tt
   rests (Some v) is = tie.rests (model key) seat_of words_of Word key.0.name T alone use_of_view (last key.0) v (ap seat_of is) (plays.idle_rests queue v.0 is)
-
-  pub may_know : (before : Watch (Made T)) → key.0.name ≡ before.name → Named (IsQueue key) (queue_ways key) before.name
-  may_know before = passes.may_know (IsQueue key) (queue_ways key) key.0.name (λ n t vs is. is.0) before.name
-
-  -- what a step tells a party that knew all up to its last step
-  pub learnt_by : (says : Says T) (to : ℕ → View) (course : ℕ → Course T TicketCall (Answer T)) → ((own : List (OneMove T)) (outs : List (Ending T)) (n : ℕ) (v : View) → says own outs n v → (v ≡ to n) × course n own outs)
-      → (view view' : Option (Numbered View)) (before now : Watch (Made T)) (found : ℕ) → mark_of view ≡ length before.entries → key.0.name ≡ before.name
-      → Moved (Watches (Named (IsQueue key) (queue_ways key) before.name) before now (Told key says view) found) view' → Learnt (model key) view view' before now (to found) (course found)
-  learnt_by says to course means view view' before now found knew same = passes.learnt (model key) seat_of words_of says to course means (Named (IsQueue key) (queue_ways key) before.name) (may_know before same) view view' before now found knew
-
-  pub learnt : (goes_on : Bool) (c : TicketCall) (end : ℕ → Ending T) (to : ℕ → View) (view view' : Option (Numbered View)) (before now : Watch (Made T)) (found : ℕ) → mark_of view ≡ length before.entries → key.0.name ≡ before.name
-      → Moved (Watches (Named (IsQueue key) (queue_ways key) before.name) before now (Told key (step_by goes_on c end to) view) found) view' → Learnt (model key) view view' before now (to found) (IsStep goes_on c (end found))
-  learnt on c end to = learnt_by (step_by on c end to) to (λ n. IsStep on c (end n)) (λ own outs n v said. said)
 
   -- the load of a party that releases is no move: it tells the party its own number
   pub found_own : (number : ℕ) (view view' : Option (Numbered View)) (before now : Watch (Made T)) (found : ℕ) (named : Type 0) → what view ≡ Some (Entered number)
@@ -299,36 +341,11 @@ module _ {T : Type 0} (key : Key T) where
   left_idle named known now before None found moved = absurd moved
   left_idle named known now before (Some v) found moved = moved.1.4.6.0
 
-  module _ (view view' : Option (Numbered View)) (shown shown' : Option T) (before now : Watch (Made T)) (x : T) (moved : Moved (Watches (Named (IsQueue key) (queue_ways key) before.name) before now (Told key serves_by view) 0) view') where
-    pub leaves : (number : ℕ) → what view ≡ Some (Entered number) → shown ≡ Some x → Found (queue_ways key) view view' shown shown' now → IsLast key.0 now.entries x
-    leaves number is here known = gave key.0 (use_of use_of_party view) (use_of use_of_party view') shown shown' now.entries x known (sym (tie.same_use use_of_view view) ∙ ap (use_of use_of_view) is) (gone_off view' (left_idle (Named (IsQueue key) (queue_ways key) before.name) before now view view' 0 moved)) here where
-      gone_off : (w : Option (Numbered View)) → stands w ≡ Idle → use_of use_of_party w ≡ off
-      gone_off None e = refl
-      gone_off (Some w) e = ap use_of_view e
-
-    abbrev As : T → Type 0
-    As y = key.0.told ≡ true → y ≡ x
-
-    exactly : (w : Option (Numbered View)) → IsLast key.0 now.entries x → Moved (Watches (Named (IsQueue key) (queue_ways key) before.name) before now (Told key serves_by view) 0) w
-        → Moved (Watches (Named (IsQueue key) (queue_ways key) before.name) before now (Told key (serves_with As) view) 0) w
-    exactly None so made = absurd made
-    exactly (Some w) so (named, (log, es, known, grew, (own, outs, mine, mark, none, alike, (stays, (y, any, by))))) =
-        (named, (log, es, known, grew, (own, outs, mine, mark, none, alike, (stays, (y, wrote key.0 log es now.entries w.1 own x y grew mine (write_leaves y false Release (Answered Done None) own outs by) so, by)))))
-
-    pub released : mark_of view ≡ length before.entries → key.0.name ≡ before.name → IsLast key.0 now.entries x → Learnt (model key) view view' before now Idle (WritesSome As (IsStep false Release (Answered Done None)))
-    released knew same so = learnt_by (serves_with As) gone (λ n. WritesSome As (IsStep false Release (Answered Done None))) (λ own outs n u said. said) view view' before now 0 knew same (exactly view' so moved)
-
-  -- what a party finds that comes to hold
-  pub holder_finds : (view view' : Option (Numbered View)) (before after : Option T) (seen : Watch (Made T)) (x : T) → use_of use_of_view (what view) ≡ off → after ≡ Some x → Found (queue_ways key) view view' before after seen → IsLast key.0 seen.entries x
-  holder_finds view view' before after seen x unused is known = found key.0 (use_of use_of_party view) (use_of use_of_party view') before after seen.entries x known (sym (tie.same_use use_of_view view) ∙ unused) is
-
--- what was written, whatever it was
+-- the same without saying which value was written
 pub left_weaker : {T : Type 0} (key : Key T) (Q : T → Type 0) (view view' : Option (Numbered View)) (old new : List (Made T)) → Left key Q view old view' new → Left key (λ x. Unit {0}) view old view' new
 left_weaker key Q view view' old new = passes.weaker (model key) view view' old new (WritesSome Q (IsCall Release Done)) (WritesSome (λ x. Unit {0}) (IsCall Release Done)) (λ own outs (x, so, by). (x, tt, by))
 
--- what a `try_lock` answers where the number that it found next is not served, or no ticket is left
-pub refused : {T : Type 0} (next n : ℕ) → is_free next n ≡ false → answers_free {T = T} next n ≡ Answered Refused None
-refused next n busy = ap (λ b. if b then GoingOn else Answered Refused None) busy
+-- whether a `try_lock` may take the number that it found next
 
 pub not_served : (next n : ℕ) → false ≡ (n == next) → is_free next n ≡ false
 not_served next n e = ap (λ b. b && is_left next) (sym e)
@@ -339,7 +356,7 @@ not_left next n e = grind (arith, e)
 pub served_and_left : (next n : ℕ) → true ≡ (n == next) → is_left next ≡ true → is_free next n ≡ true
 served_and_left next n e left = ap (λ b. b && is_left next) (sym e) ∙ left
 
--- the view of a party that was so answered
+-- the view of a party with this answer
 pub stands_by : (view : Option (Numbered View)) (v : View) → what view ≡ Some v → v ≡ Idle → stands view ≡ Idle
 stands_by None v is rests = absurd cc
 stands_by (Some u) v is rests = let same : u.0 ≡ v = cc (is) in same ∙ rests
@@ -349,8 +366,9 @@ pub entered_of : (v : View) → use_of_view v ≡ writes → (n : ℕ) × (v ≡
 entered_of (Entered n) uses = (n, refl)
 entered_of _ uses = absurd cc
 
-pub entered_writes : (v : View) (n : ℕ) → Some v ≡ Some (Entered n) → use_of_view v ≡ writes
-entered_writes v n is = let same : v ≡ Entered n = cc (is) in ap use_of_view same
+pub holder_of : (view : Option (Numbered View)) → use_of use_of_party view ≡ writes → (n : ℕ) × (what view ≡ Some (Entered n))
+holder_of None uses = absurd cc
+holder_of (Some v) uses = let own = entered_of v.0 uses in (own.0, ap Some own.1)
 
 pub never_reads : (v : View) → use_of_view v ≡ reads → ⊥
 never_reads Idle e = absurd cc
@@ -361,23 +379,3 @@ never_reads (Entered n) e = absurd cc
 never_reads (LoadedNext n) e = absurd cc
 never_reads (Trying n) e = absurd cc
 never_reads (LoadedServing n) e = absurd cc
-
-pub left_of : (n after : ℕ) → Some after ≡ take n → (is_left n ≡ true) × (after ≡ n + 1)
-left_of n after is = left_if (is_left n) is
-  where
-    left_if : (b : Bool) → Some after ≡ (if b then Some (n + 1) else None) → (b ≡ true) × (after ≡ n + 1)
-    left_if true e = (refl, cc (e))
-    left_if false e = absurd (cc (e))
-
-pub none_left : (n : ℕ) → None ≡ take n → is_left n ≡ false
-none_left n is = none_if (is_left n) is
-  where
-    none_if : (b : Bool) → None ≡ (if b then Some (n + 1) else None) → b ≡ false
-    none_if true e = absurd (cc (e))
-    none_if false e = refl
-
-pub goes_for : (n : ℕ) → is_left n ≡ true → going n ≡ Going n
-goes_for n left = ap (λ b. if b then Going n else Coming) left
-
-pub missed : (n found : ℕ) → found ≢ n → attempted n found ≡ Idle
-missed n found other = ap (λ b. if b then Entered n else Idle) (ne_eqb found n other)

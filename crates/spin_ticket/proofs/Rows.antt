@@ -1,4 +1,4 @@
--- The types that the guard of a lock of tickets names, with their laws: a walk over the guard cites them.
+-- The types that the guard of a lock of tickets uses, with their laws. A walk over the guard cites them.
 use Rattle.std.proofs.Common.{[], ◌∷◌, refl}
 use denote.Builtin.{u64}
 use denote.RattleType.{RattleType}
@@ -16,7 +16,7 @@ use Rattle.spin_ticket.proofs.ticket.rule.View.TheLaws as views
 abbrev words : Laws u64
 words = of_field u64-field u64-laws refl (copy_shared u64-field u64-copy)
 
--- a party, the rule's key, and what stands for the second word
+-- a party, the rule's key, and the type of the second word
 abbrev pub Party : RattleType
 Party = numbered view.the_row
 

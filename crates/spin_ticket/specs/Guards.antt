@@ -1,4 +1,4 @@
--- A guard whose pass knows all of the lock's history up to the grant.
+-- A guard whose pass knows the lock's whole history up to the grant.
 use Rattle.std.specs.Prelude.{◌≡◌, length}
 use Rattle.spin_core.specs.Guard.{guard_view, guard_key}
 use Rattle.spin_core.specs.declared.guard.Guard.{Guard}

@@ -1,5 +1,5 @@
 pub mod Queue
 pub mod TicketQueue
 pub mod Guards
-pub mod Waits
+pub mod Accounts
 pub mod TicketPasses

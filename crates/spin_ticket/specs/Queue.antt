@@ -1,4 +1,5 @@
--- The rule of a lock of tickets: its words are those of a plain lock whose tickets are those of the parties that stand, and its trace is a schedule of the lock's model, which leads there.
+-- The rule of a lock of tickets. Its words are those of a plain lock that has the tickets of all waiting and entered
+-- parties. Its trace is a schedule of the lock's model, which leads there.
 use Rattle.std.specs.Prelude.{◌≡◌, ◌==◌, ℕ, ◌<◌, ◌≤◌, true, false, not, List, [], Option, Some, None, if◌then◌else◌, map}
 use Rattle.spin_step.specs.Plain.{ticket_limit, next_word, serving_word}
 use Rattle.spin_core.specs.Cell.{Use, alone, Ways}
@@ -53,11 +54,12 @@ seat_of (LoadedNext n) = seat.Calling TryLock (TryLoadServing n) None
 seat_of (Trying n) = seat.Calling TryLock (TryTake n) None
 seat_of (LoadedServing n) = seat.Calling IsLocked (LookNext n) None
 
--- the lock's words, by the model's
+-- the words of the lock, from those of the model
 abbrev pub words_of : TicketWords → ℕ × ℕ
 words_of w = (w.next, w.serving)
 
--- what is settled of a lock of values of type T when it is made: its history's name and its value, and the number of its first ticket
+-- what was fixed when a lock of values of type T was made: its history's name, its value, and the number of its first
+-- ticket
 abbrev pub Key : Type 0 → Type 0
 Key T = Opening T × ℕ
 
@@ -86,7 +88,7 @@ module _ {T : Type 0} where
   abbrev pub model : Key T → Machine TicketWords T TicketCall TicketPoint (Answer T)
   model key = ticket_machine key.0.value key.1
 
-  -- of the next number, the trace with the served number beside it, and the parties
+  -- what holds of the next number, the trace with the served number, and the parties
   abbrev pub IsQueue : Key T → ℕ → Trace (Made T) ℕ → List (Numbered View) → Type 0
   IsQueue key = Runs (model key) seat_of words_of Word key.0.name
 
@@ -102,7 +104,7 @@ module _ {T : Type 0} where
   abbrev pub Told : Key T → Says T → Option (Numbered View) → List (Made T) → List (Made T) → ℕ → Numbered View → Type 0
   Told key = Tells (model key) seat_of words_of
 
--- The steps: what each results in and where it leads, by the number found
+-- The steps: the outcome and the next view of each, by the number found
 
 abbrev pub goes_on : {T : Type 0} → ℕ → Ending T
 goes_on n = GoingOn
@@ -117,11 +119,11 @@ number_of (Some (Trying n)) = n
 number_of (Some (LoadedServing n)) = n
 number_of _ = 0
 
--- `lock` tries to take the number that it found, or looks again if no ticket is left
+-- `lock` tries to take the number that it found; if no ticket is left, it looks again
 abbrev pub going : ℕ → View
 going n = if is_left n then Going n else Coming
 
--- it waits with the ticket that it expected to be next, or tries to take the number that it found
+-- if it found the number that it expected, it has that ticket and waits; else it tries the number that it found
 abbrev pub taken : ℕ → ℕ → View
 taken next n = if n == next then Waiting next else going n
 
@@ -135,7 +137,7 @@ answers_turn number n = if n == number then Answered Granted None else GoingOn
 abbrev pub awaits_by : {T : Type 0} → Option View → Says T
 awaits_by view = let number : ℕ = number_of view in step_by true Lock (answers_turn number) (entered number)
 
--- `try_lock` goes on where the number that it found next is served and left
+-- `try_lock` continues if the number that it found next is served, and a ticket is left
 abbrev pub freed : ℕ → ℕ → View
 freed next n = if is_free next n then Trying next else Idle
 
@@ -145,7 +147,7 @@ answers_free next n = if is_free next n then GoingOn else Answered Refused None
 abbrev pub tries_by : {T : Type 0} → Option View → Says T
 tries_by view = let next : ℕ = number_of view in step_by true TryLock (answers_free next) (freed next)
 
--- it has entered with the ticket that it expected to be next, or has none
+-- it enters with the ticket that it expected to be next, or gets none
 abbrev pub attempted : ℕ → ℕ → View
 attempted next n = if n == next then Entered next else Idle
 
@@ -155,7 +157,7 @@ answers_attempt next n = if n == next then Answered Granted None else Answered R
 abbrev pub gone : ℕ → View
 gone n = Idle
 
--- `is_locked` found this number served, which is not above the next one
+-- `is_locked` found this number served; it is not above the next number
 abbrev pub answers_look : {T : Type 0} → ℕ → ℕ → Ending T
 answers_look served n = Answered (Is (not (n == served))) None
 
@@ -165,7 +167,8 @@ compares_with served own outs n v = (served ≤ n) × step_by true IsLocked (ans
 abbrev pub compares_by : {T : Type 0} → Option View → Says T
 compares_by view = compares_with (number_of view)
 
--- the load of a party that releases is no move: it finds the number of the party's own ticket, which the model's `release` knows
+-- The load of a party that releases is no move. It finds the number of the party's own ticket, which `release` of the
+-- model knows already.
 abbrev pub finds : {T : Type 0} → ℕ → Says T
 finds number own outs n v = ((n ≡ number) × (number < ticket_limit) × (v ≡ Entered number)) × (own ≡ []) × (outs ≡ [])
 
@@ -175,18 +178,18 @@ finds_by view = finds (number_of view)
 abbrev pub answers_release : {T : Type 0} → ℕ → Ending T
 answers_release n = Answered Done None
 
--- it is in no call, and holds nothing
+-- the party is in no call, and holds nothing
 abbrev pub IsOut : Option View → Type 0
 IsOut None = Unit {0}
 IsOut (Some Idle) = Unit {0}
 IsOut _ = ⊥
 
--- what the party is; one that has not come yet is idle
+-- the party's view; a party that is new is idle
 abbrev pub stands : Option (Numbered View) → View
 stands None = Idle
 stands (Some v) = v.0
 
--- the store that releases the lock: the holder writes the value that it leaves, one of which this holds
+-- the store that releases the lock: the holder writes the value that it leaves, which satisfies Q
 abbrev pub serves_with : {T : Type 0} → (T → Type 0) → Says T
 serves_with Q own outs n v = (v ≡ Idle) × WritesSome Q (IsStep false Release (answers_release n)) own outs
 
@@ -194,7 +197,7 @@ abbrev pub serves_by : {T : Type 0} → Says T
 serves_by = serves_with (λ x. Unit {0})
 
 module _ {T : Type 0} where
-  -- Of a pass: since it knew `old` it has made moves of this course, and no others
+  -- For a pass: since it knew `old` it has made exactly the moves of this course
   abbrev pub Moves : Key T → Course T TicketCall (Answer T) → Option (Numbered View) → List (Made T) → Option (Numbered View) → List (Made T) → Type 0
   Moves key course view old view' new = passes.Made (model key) view old view' new course
 
@@ -202,6 +205,6 @@ module _ {T : Type 0} where
   abbrev pub Called : Key T → TicketCall → Answer T → Option (Numbered View) → List (Made T) → Option (Numbered View) → List (Made T) → Type 0
   Called key c a = Moves key (IsCall c a)
 
-  -- it has written a value of which this holds, and then made the release
+  -- it has written a value that satisfies Q, and then released the lock
   abbrev pub Left : Key T → (T → Type 0) → Option (Numbered View) → List (Made T) → Option (Numbered View) → List (Made T) → Type 0
   Left key Q = Moves key (WritesSome Q (IsCall Release Done))

@@ -1,4 +1,4 @@
--- What a pass knows: the lock's history so far, and which moves in it are its own.
+-- What a pass knows: the lock's history so far, and which of its moves are the pass's own.
 use Rattle.std.specs.Prelude.{◌≡◌, ℕ, Bool, Option, List}
 use Rattle.spin_core.specs.Own.{Numbered}
 use Rattle.spin_model.specs.declared.answer.Answer.TheVariants.{Granted, Is}
@@ -9,11 +9,11 @@ use Rattle.spin_ticket.specs.declared.ticket.pass.Pass.{Pass}
 use Rattle.spin_ticket.specs.declared.ticket.rule.View.{View}
 
 module _ {T R : Type 0} where
-  -- all moves in the lock up to the pass's last step
+  -- all moves in the lock, up to the pass's last step
   abbrev pub history : Pass T R → List (Made T)
   history it = it.seen.entries
 
-  -- the name of the history of a lock, and of the lock of a pass
+  -- the name of a lock's history; also by a pass of the lock
   abbrev pub name_of : TicketMutex T R → ℕ
   name_of lock = lock.cell.0.name
 
@@ -27,25 +27,25 @@ module _ {T R : Type 0} where
   abbrev pub first_of : Pass T R → ℕ
   first_of it = it.permit.key.1
 
-  -- what was settled when a lock was made, and of the lock of a pass
+  -- what was fixed when the lock was made; also by a pass of the lock
   abbrev pub opening : TicketMutex T R → Key T
   opening lock = lock.cell
 
   abbrev pub opening_of : Pass T R → Key T
   opening_of it = it.permit.key
 
-  -- the party of the pass: none before its first call
+  -- the party of the pass; there is none before its first call
   abbrev pub party : Pass T R → Option (Numbered View)
   party it = it.permit.view
 
   abbrev pub IsOfOneLock : Pass T R → Pass T R → Type 0
   IsOfOneLock one other = (lock_of other ≡ lock_of one) × (first_of other ≡ first_of one)
 
-  -- since then the pass has looked once, and was told this
+  -- since then the pass has called `is_locked` once, with this answer
   abbrev pub Looked : Bool → Pass T R → Pass T R → Type 0
   Looked set before now = Called (opening_of before) IsLocked (Is set) (party before) (history before) (party now) (history now)
 
-  -- since then the pass has acquired the lock and released it, once; it left a value
+  -- since then the pass has acquired the lock and released it, once; it left some value
   abbrev pub HeldOnce : Pass T R → Pass T R → Type 0
   HeldOnce before now =
       (view : Option (Numbered View)) × (seen : List (Made T)) × (key : Key T) × (key ≡ opening_of before) × Called (opening_of before) Lock Granted (party before) (history before) view seen

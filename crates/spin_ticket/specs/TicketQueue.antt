@@ -1,4 +1,4 @@
--- The queue of a lock of tickets: as a plain lock, and by the numbers of its parties.
+-- The queue of a lock of tickets, as a plain lock and by the numbers of its parties.
 use Rattle.std.specs.Prelude.{◌≡◌, ℕ, ◌<◌, ◌≤◌, Bool, true, false, List, [], ◌∷◌, length, Some, filter, slice_get, count_by, ◌==◌}
 use Rattle.spin_step.specs.Plain.{Plain, Ticket, ticket, ticket_limit, next_word, serving_word}
 use Rattle.spin_step.specs.Parties.{first_alone_entered}
@@ -6,13 +6,14 @@ use Rattle.spin_step.specs.Tickets.{Numbered}
 use Rattle.spin_ticket.specs.declared.ticket.rule.View.{View}
 use Rattle.spin_ticket.specs.declared.ticket.rule.View.TheVariants.{Waiting, Entered}
 
--- what a party stands with
+-- the tickets of a party with this view
 abbrev pub tickets_of : ℕ → View → List Ticket
 tickets_of id (Waiting n) = ticket id n false ∷ []
 tickets_of id (Entered n) = ticket id n true ∷ []
 tickets_of id _ = []
 
--- the words are those of this plain lock, in which each party has just the ticket that its view names, and nobody else has any
+-- The words are those of this plain lock. Each party has just the ticket that its view names, and nobody else has
+-- one.
 pub record IsPlainQueue (s : Plain) (next serving : ℕ) (vs : List View) : Type 0 where
   pub next_is : next ≡ next_word s
   pub serving_is : serving ≡ serving_word s
@@ -26,7 +27,8 @@ stands_with t (Waiting n) = n == t
 stands_with t (Entered n) = n == t
 stands_with t _ = false
 
--- one party stands with each number from the one that is served up to the next, and only that of the served one has entered
+-- Each number from the served one up to the next is the ticket of one party. Only a party with the served number has
+-- entered.
 pub record IsInTurn (next serving : ℕ) (vs : List View) : Type 0 where
   pub in_order : serving ≤ next
   pub within_limit : next ≤ ticket_limit

@@ -11,8 +11,8 @@ ghost use Rattle.spin_ticket.specs.TicketQueue.{IsInTurn, IsPlainQueue};
 /// States that the two words of a `TicketMutex` encode a plain lock, whose tickets are those of its parties.
 ///
 /// # Contract
-/// Where the rule holds (`IsQueue`), there is a plain lock with that next number and that served number. In it each
-/// party has just the ticket that its view names (`IsPlainQueue`).
+/// If the rule holds (`IsQueue`), a plain lock exists with that next number and that served number. In it each party
+/// has just the ticket that its view names (`IsPlainQueue`).
 pub fn the_words_of_a_ticket_mutex_are_its_queue<T>()
     ensures { (key : Key T) (next : ℕ) (trace : Trace (Made T) ℕ) (parties : List (Numbered View)) → IsQueue key next trace parties → (s : Plain) × IsPlainQueue s next trace.word (views parties) }
 {}
@@ -20,21 +20,21 @@ pub fn the_words_of_a_ticket_mutex_are_its_queue<T>()
 /// States that the parties of a `TicketMutex` enter in the order of their tickets.
 ///
 /// # Contract
-/// Where the rule holds (`IsQueue`), one party has each number from the served one up to the next one. Only the party
-/// with the served number has entered (`IsInTurn`).
+/// If the rule holds (`IsQueue`), each number from the served one up to the next one is the ticket of one party. Only
+/// the party with the served number has entered (`IsInTurn`).
 pub fn the_parties_of_a_ticket_mutex_enter_in_turn<T>()
     ensures { (key : Key T) (next : ℕ) (trace : Trace (Made T) ℕ) (parties : List (Numbered View)) → IsQueue key next trace parties → IsInTurn next trace.word (views parties) }
 {}
 
 /// Each run of a [`TicketMutex`](crate::ticket::TicketMutex) on threads is a schedule of its model.
 ///
-/// The lock's cell keeps, without a byte, the list of all moves that threads have made in it so far: who, and which
+/// The lock's cell keeps, without a byte, the list of all moves that threads have made in it: which party, and which
 /// move.
 ///
 /// # Contract
-/// Whatever holds between any two steps of threads (`IsQueue`): no move of the list is passed over in the model, which
-/// opens with the lock's first ticket. After the list the model has the lock's two words, and has each party where the
-/// lock has it.
+/// The law holds between any two steps of threads (`IsQueue`): no move of the list is skipped in the model, which opens
+/// with the lock's first ticket. After the list the model has the lock's two words, and each party is where the lock
+/// has it.
 pub fn every_run_of_a_ticket_mutex_is_a_schedule<T>()
     ensures { (key : Key T) (next : ℕ) (trace : Trace (Made T) ℕ) (parties : List (Numbered View)) → IsQueue key next trace parties → IsRun (model key) seat_of words_of trace.entries (next, trace.word) parties }
 {}

@@ -1,4 +1,4 @@
-//! What tests need that look at the tickets, also tests of the crates above. Begin at [`starting_at`].
+//! What tests of this crate and of those above need to see the tickets. Begin at [`starting_at`].
 use crate::ticket::TicketMutex;
 
 /// Creates an unlocked mutex whose first ticket has the number `first`.

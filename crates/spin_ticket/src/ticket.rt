@@ -15,6 +15,7 @@ use spin_core::trace::Trace;
 use std::fmt::{self, Debug, Formatter};
 use std::sync::Wait;
 
+mod account;
 mod pass;
 mod rule;
 mod waiting;
@@ -25,8 +26,8 @@ pub use self::rule::{Entry, Party, TicketRule, View};
 /// A mutual exclusion lock that serves its threads in the order of their tickets, and on which a waiting thread spins.
 ///
 /// Each call of [`lock`](Self::lock) takes a ticket with the next number, and enters when that number is served. With
-/// more spinning threads than cores it may wait for a thread that is not scheduled: take `SpinMutex` there, or the
-/// strategy `Yield`. A waiting thread passes the time with the strategy `R`.
+/// more spinning threads than cores it may wait for a thread that is not scheduled. Use `SpinMutex` then, or the
+/// strategy `Yield`. A waiting thread relaxes with strategy `R`.
 ///
 /// # Contract
 /// While a guard or a hold of the lock lives, no other call acquires it. Threads enter in the order of their tickets
@@ -51,7 +52,7 @@ pub struct TicketMutex<T, R = Spin> {
 /// The guard of a [`TicketMutex`]. Dropping it releases the lock, and serves the next ticket.
 ///
 /// # Contract
-/// `guard_value` is the value behind the guard. What is written through the guard is read through it.
+/// `guard_value` is the lock's value. What is written through the guard is read through it.
 pub type TicketMutexGuard<'a, T, R = Spin> = Guard<'a, T, Party, TicketRule, R>;
 
 /// A hold on a [`TicketMutex`]: it keeps the lock without a guard, and gives no access to the value.
@@ -62,7 +63,7 @@ pub type TicketMutexGuard<'a, T, R = Spin> = Guard<'a, T, Party, TicketRule, R>;
 /// `held_value` is the value that the guard had.
 pub type Held<'a, T, R = Spin> = guard::Held<'a, T, Party, TicketRule, R>;
 
-// How many hints a place waits for each ticket before it, where it is not the next in turn.
+// How many hints a waiting thread pauses for each ticket before its own, unless it is next.
 const HINTS_EACH: u64 = 8;
 
 impl<T, R> TicketMutex<T, R> {
@@ -170,7 +171,7 @@ impl<T, R> TicketMutex<T, R> {
         self.cell.get_mut()
     }
 
-    // Makes the steps of `is_locked`. Returns the number that is served, and then the next one.
+    // Makes the steps of `is_locked`. Returns the served number and the next number.
     pub(crate) fn look(&self) -> (u64, u64)
         ensures { result.0 ≤ result.1 }
     {
@@ -179,7 +180,7 @@ impl<T, R> TicketMutex<T, R> {
     }
 }
 
-/// Tries once to acquire the lock, and holds it while it writes the value. Where the try fails it writes `<locked>`.
+/// Tries once to acquire the lock, and holds it while it writes the value. If the try fails it writes `<locked>`.
 impl<T: Debug, R> Debug for TicketMutex<T, R> {
     fn fmt<W: fmt::Write>(&self, f: &mut Formatter<W>) -> fmt::Result
         ensures { (found : Option T) × DisplaysOnOk W.write_str_gives f.old result (lock_text T.debug_output found) f.new }

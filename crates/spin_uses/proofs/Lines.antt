@@ -12,7 +12,7 @@ use Rattle.spin_uses.specs.declared.settings.Setting.{Setting}
 use Rattle.spin_uses.specs.declared.settings.Settings.{Settings}
 use Rattle.spin_uses.specs.Settings.{Sets, SetsNothing, SetInOrder, last_set, AreAfter, AreSettingsOf, IsFirstBad, port_of, workers_of, verbose_of}
 
--- the lines that are left where the iterator stands
+-- the lines that the iterator has left
 abbrev LeftAt : Lines → List (List ℕ) → Type 0
 LeftAt s ls = AlwaysYields lines_steps (λ x. x.now) s ls
 
@@ -38,7 +38,7 @@ last_of_more : {V : Type 0} (value_of : Setting → Option V) (d : V) (ss : List
 last_of_more value_of d [] s = refl
 last_of_more value_of d (u ∷ ss) s = last_of_more value_of (unwrap_or (value_of u) d) ss s
 
--- the settings of one line more
+-- the settings after one more line
 abbrev IsWith : Setting → Settings → Settings → Type 0
 IsWith s old new = (new.port ≡ unwrap_or (port_of s) old.port) × (new.workers ≡ unwrap_or (workers_of s) old.workers) × (new.verbose ≡ unwrap_or (verbose_of s) old.verbose)
 
@@ -55,7 +55,7 @@ with_line ls line s old new are sets is =
       ),
     )
 
--- some lines were read, and the iterator stands before those that are left
+-- some lines were read, and the iterator has the others left
 pub record Midway (ls : List (List ℕ)) (it : Enumerate Lines) (settings : Settings) : Type 0 where
   pub read : List (List ℕ)
   pub left : List (List ℕ)

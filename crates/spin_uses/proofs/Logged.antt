@@ -1,4 +1,4 @@
--- Look-ups in a log that goes on.
+-- Look-ups in a log that grows.
 use Rattle.std.proofs.Common.{◌≡◌, Bool, true, false, cond, List, [], ◌∷◌, ◌++◌, Option, Some, None, refl, sym, ap, subst, ◌∙◌}
 use mathlib.Core.List.{IsPrefix}
 use Rattle.std.specs.Cmp.{IsEquivalence}
@@ -17,7 +17,7 @@ module _ {K V : Type 0} where
         | false ↦ λ f. longer test es fs v f
       ] e
 
-  -- an answer that was seen is the answer ever after
+  -- an answer that was seen stays the answer
   pub stays : (test : K → Bool) (seen log : List (K × V)) (v : V) → IsPrefix seen log → lookup test seen ≡ Some v → lookup test log ≡ Some v
   stays test seen log v p e = subst (λ (l : List (K × V)). lookup test l ≡ Some v) p.1 (longer test seen p.0 v e)
 
@@ -42,7 +42,7 @@ module _ {K V : Type 0} where
     pub found : (es : List (K × V)) (k : K) (v : V) → lookup (eq k) es ≡ None → lookup (eq k) (es ++ (k, v) ∷ []) ≡ Some v
     found es k v e = first_for (eq k) es k v e ∙ ap (λ b. cond b (Some v) None) (laws.refl k)
 
-    -- a map with one key more, and the log with the entry
+    -- a map with one more key, and the log with the entry for it
     pub tells_more : (m n : K → Option V) (es : List (K × V)) (k : K) (v : V) → ((q : K) → m q ≡ lookup (eq q) es) → lookup (eq k) es ≡ None
         → ((q : K) → n q ≡ cond (eq k q) (Some v) (m q)) → (q : K) → n q ≡ lookup (eq q) (es ++ (k, v) ∷ [])
     tells_more m n es k v told fresh added q = by_answer (eq k q)

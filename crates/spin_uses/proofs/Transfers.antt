@@ -1,4 +1,4 @@
--- what a transfer keeps, and how a journal goes on
+-- What a transfer keeps, and how a journal grows.
 use Rattle.std.proofs.Common.{◌≡◌, ◌<◌, ◌≤◌, ◌+◌, ◌-◌, ℕ, List, [], ◌∷◌, ◌++◌, Some, None, true, false, cond, if◌then◌else◌, ◌==◌, eq-eqb, length, sum, slice_index, ap, sym, subst, refl, arith}
 use Rattle.std.proofs.lemmas.Grind.{common_steps}
 use Rattle.std.proofs.lemmas.List.{length-set, get_or-set_same, get_or-set_other}
@@ -9,7 +9,7 @@ use Rattle.std.proofs.lemmas.List.Sums.{sum_by-cons, sum_by-set, get_or-le-sum_b
 use Rattle.spin_uses.specs.declared.ledger.Transfer.{Transfer}
 use Rattle.spin_uses.specs.Ledger.{after, can_make, takes, gives, paid_in, paid_out, replayed}
 
--- what it is that a transfer can be made
+-- what it means that a transfer can be made
 pub possible : (t : Transfer) (xs : List ℕ) → can_make t xs ≡ true → (t.from < length xs) × (t.to < length xs) × (t.amount ≤ slice_index xs t.from)
 possible t xs h = (grind (arith, common_steps), grind (arith, common_steps), grind (arith, common_steps))
 
@@ -29,7 +29,7 @@ fits t xs h =
     let least = get_or-le-sum_by (λ x. x) (takes t.from t.amount xs) t.to 0 there in
     omega (arith, takes_sum t xs h)
 
--- a transfer leaves the total as it was
+-- a transfer does not change the total
 pub keeps_total : (t : Transfer) (xs : List ℕ) → can_make t xs ≡ true → sum (after t xs) ≡ sum xs
 keeps_total t xs h =
     let p = possible t xs h in
@@ -48,7 +48,7 @@ replays_more t (u ∷ ts) xs ys e h =
       | false ↦ λ f. cc
     ] e
 
--- What an account has
+-- An account's balance
 
 takes_from : (account amount : ℕ) (xs : List ℕ) (i : ℕ) → account < length xs → amount ≤ slice_index xs account → slice_index (takes account amount xs) i + (if account == i then amount else 0) ≡ slice_index xs i
 takes_from account amount xs i there enough = dite (ℕ_discrete account i)

@@ -1,4 +1,4 @@
--- what a transfer does to the balances, and what a journal of them does
+-- What a transfer does to the balances, and what a journal of transfers does.
 use Rattle.std.specs.Prelude.{◌≡◌, ℕ, ◌+◌, ◌-◌, ◌&&◌, ◌==◌, sum_by, Bool, true, false, if◌then◌else◌, List, [], ◌∷◌, Option, Some, None, length, nat_lt, nat_le, slice_index, slice_set}
 use Rattle.spin_uses.specs.declared.ledger.Transfer.{Transfer}
 use Rattle.spin_uses.specs.declared.ledger.Refused.{Refused}
@@ -21,16 +21,16 @@ takes account amount xs = slice_set xs account (slice_index xs account - amount)
 abbrev pub gives : ℕ → ℕ → List ℕ → List ℕ
 gives account amount xs = slice_set xs account (slice_index xs account + amount)
 
--- the balances after a transfer: one account has the amount less, and then the other has it more
+-- the balances after a transfer: first one account loses the amount, then the other gains it
 abbrev pub after : Transfer → List ℕ → List ℕ
 after t xs = gives t.to t.amount (takes t.from t.amount xs)
 
--- the balances after all transfers of a journal, where each could be made when its turn came
+-- the balances after all transfers of a journal; None if one could not be made in its turn
 abbrev pub replayed : List ℕ → List Transfer → Option (List ℕ)
 replayed xs [] = Some xs
 replayed xs (t ∷ ts) = if can_make t xs then replayed (after t xs) ts else None
 
--- how much the transfers of a journal take from an account, and bring to it
+-- how much the transfers of a journal take from an account; `paid_in`: how much they bring to it
 abbrev pub paid_out : ℕ → List Transfer → ℕ
 paid_out account ts = sum_by (λ t. if t.from == account then t.amount else 0) ts
 

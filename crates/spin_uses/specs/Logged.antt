@@ -3,7 +3,7 @@ use Rattle.std.specs.Prelude.{◌≡◌, Bool, List, Option, Some}
 use Rattle.std.specs.Map.{lookup}
 
 module _ {K V : Type 0} (eq : K → K → Bool) where
-  -- the answer that these entries have for a key: the first one
+  -- the first answer for this key among the entries
   abbrev pub answer_in : List (K × V) → K → Option V
   answer_in entries key = lookup (eq key) entries
 

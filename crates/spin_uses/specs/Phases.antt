@@ -1,4 +1,4 @@
--- What a worker hands back.
+-- What a worker returns.
 use Rattle.std.specs.Prelude.{◌≡◌, ℕ, Bool, true}
 
 -- a party that has worked has nothing left to add

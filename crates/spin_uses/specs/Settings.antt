@@ -1,4 +1,4 @@
--- What a text of settings says: each line sets one of them, and of two lines for one setting the later counts.
+-- What a text of settings says. Each line sets one setting, and a later line replaces an earlier one.
 use Rattle.std.specs.Prelude.{◌≡◌, ℕ, ◌+◌, ◌<◌, ◌^◌, ◌++◌, Bool, false, List, [], ◌∷◌, Option, Some, None, Result, MatchResult, unwrap_or, codes, length, if◌then◌else◌}
 use Rattle.std.specs.Str.Lines.{lines}
 use Rattle.std.specs.Str.Parse.{IsNumeral, digits_value, without_leading_plus}
@@ -7,7 +7,7 @@ use Rattle.spin_uses.specs.declared.settings.Setting.TheVariants.{Port, Workers,
 use Rattle.spin_uses.specs.declared.settings.Settings.{Settings}
 use Rattle.spin_uses.specs.declared.settings.BadLine.{BadLine}
 
--- decimal digits, of a number of this many bits. A plus may come first
+-- decimal digits of a number with at most so many bits; a plus sign may come first
 abbrev pub IsNumber : ℕ → List ℕ → ℕ → Type 0
 IsNumber bits value n = let digits = without_leading_plus value in IsNumeral 10 digits × (digits_value 10 digits ≡ n) × (n < 2 ^ bits)
 
@@ -20,7 +20,7 @@ Sets line (Verbose b) = line ≡ codes "verbose = " ++ (if b then codes "true" e
 abbrev pub SetsNothing : List ℕ → Type 0
 SetsNothing line = (s : Setting) → ¬ (Sets line s)
 
--- line by line, what each sets
+-- the settings that the lines set, one by one
 abbrev pub SetInOrder : List (List ℕ) → List Setting → Type 0
 SetInOrder [] [] = Unit {0}
 SetInOrder (line ∷ more) (s ∷ ss) = Sets line s × SetInOrder more ss
@@ -42,7 +42,7 @@ verbose_of (Port n) = None
 verbose_of (Workers n) = None
 verbose_of (Verbose b) = Some b
 
--- the last value that is set, and where none is, the one that stands without a line
+-- the last value that is set, or the default if there is none
 abbrev pub last_set : {V : Type 0} → (Setting → Option V) → V → List Setting → V
 last_set value_of default [] = default
 last_set value_of default (s ∷ ss) = last_set value_of (unwrap_or (value_of s) default) ss
@@ -56,11 +56,11 @@ AreAfter ss settings = (settings.port ≡ last_set port_of 8080 ss) × (settings
 abbrev pub AreSettingsOf : List (List ℕ) → Settings → Type 0
 AreSettingsOf ls settings = (ss : List Setting) × SetInOrder ls ss × AreAfter ss settings
 
--- the lines before line n set something each, and line n nothing. Lines have the numbers from 1 on
+-- Each line before line n sets something, and line n sets nothing. The first line has the number 1.
 abbrev pub IsFirstBad : List (List ℕ) → ℕ → Type 0
 IsFirstBad ls n = (before : List (List ℕ)) × (line : List ℕ) × (after : List (List ℕ)) × (ls ≡ before ++ line ∷ after) × (n ≡ length before + 1)
     × ((ss : List Setting) × SetInOrder before ss) × SetsNothing line
 
--- what is answered for a text: its settings, or its first bad line
+-- the answer for a text: its settings, or its first bad line
 abbrev pub IsAnswerFor : List ℕ → Result Settings BadLine → Type 0
 IsAnswerFor text answer = MatchResult answer (AreSettingsOf (lines text)) (λ bad. IsFirstBad (lines text) bad.number)

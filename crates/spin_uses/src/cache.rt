@@ -1,4 +1,4 @@
-//! A cache that threads share: a table under an `RwLock`, which the one reader that may upgrade fills. Begin with
+//! A cache that threads share: a table under an `RwLock`, filled by the one reader that may upgrade. Begin with
 //! [`Answers`] and [`Cache::answer`].
 ghost use Rattle.std.specs.Prelude.{Bool, Ok, IsTrue, IfOk};
 ghost use Rattle.std.specs.Fn.{FnOnceTakesAt, FnOnceReturnsAt};
@@ -13,28 +13,27 @@ use std::sync::Wait;
 pub mod logged;
 mod table;
 
-/// The answers that may be given for a key.
+/// Which answers are right for a key.
 pub trait Answers {
-    /// The type of keys. Keys that are equal share one answer.
+    /// The type of keys. Equal keys share one answer.
     type Key: Eq + Hash + Drop;
 
-    /// The type of answers. A caller gets a clone of the value that is kept; an `Arc` makes that cheap.
+    /// The type of answers. A caller gets a clone of the kept value; an `Arc` makes that cheap.
     type Value: Clone;
 
     ghost may: { Self.Key → Self.Value → Bool };
 
-    // Keys that are equal share an answer.
+    // Equal keys share an answer.
     ghost respects_eq: { (k q : Self.Key) (v : Self.Value) → IsTrue (Self.Key.eq k q) → IsTrue (may k v) → IsTrue (may q v) };
 
     // A clone of an answer is an answer.
     ghost respects_clone: { (k : Self.Key) (v w : Self.Value) → Self.Value.is_clone v w → IsTrue (may k v) → IsTrue (may k w) };
 }
 
-/// Answers by key, each made once and kept.
+/// Answers by key. Each is made once and kept.
 ///
-/// A reader finds an answer that is there, beside other readers. If there is none, the one reader that may upgrade
-/// makes it. Meanwhile other readers come and go, for the answers that are there. It becomes the writer only to add
-/// what it made.
+/// A reader finds an answer that exists, with other readers. If there is none, the one reader that may upgrade makes
+/// it. Meanwhile other readers may read the existing answers. It becomes the writer only to add the new one.
 #[derive(Drop)]
 pub struct Cache<C: Answers, A: Allocator = Global, R = Spin> {
     table: RwLock<Table<C, A>, R>,
@@ -48,8 +47,8 @@ impl<C: Answers, A: Allocator + Clone, R: RelaxStrategy> Cache<C, A, R> {
         }
     }
 
-    /// Acquires shared access to the answers that are there, spinning until it is granted. The guard shows them where
-    /// they lie, and no answer is added while it lives.
+    /// Acquires shared access to the existing answers, spinning until it succeeds. The guard shows the answers in
+    /// place, and no answer is added while it lives.
     ///
     /// # Contract
     /// Whether and when the call returns is not promised.
@@ -59,12 +58,13 @@ impl<C: Answers, A: Allocator + Clone, R: RelaxStrategy> Cache<C, A, R> {
 
     /// Returns the answer for `key`, and makes it first by calling `make` if there is none.
     ///
-    /// It fails if `make` fails, or if there is no memory. Then no answer is added. `make` may read this cache, but the
-    /// call never returns if it asks for an answer that is not there.
+    /// It fails if `make` fails, or if there is no memory. Then no answer is added. `make` may read this cache. The
+    /// call never returns if `make` asks the cache for an answer that does not exist.
     ///
     /// # Contract
-    /// `make` has to be callable with `key`, and each answer that it may give has to be one for this key (`may`). What
-    /// the call returns is an answer for this key, whoever made it. Whether and when the call returns is not promised.
+    /// `make` has to be callable with `key`, and each answer that it may return has to be right for this key (`may`).
+    /// The call returns a right answer for this key, whoever made it. Whether and when the call returns is not
+    /// promised.
     pub fn answer<W: Wait, E: From<AllocError>, F: FnOnce(&C::Key) -> Result<C::Value, E>>(
         &self,
         rt: &W,
@@ -99,7 +99,7 @@ impl<C: Answers, A: Allocator + Clone, R: RelaxStrategy> Cache<C, A, R> {
         }
         let value = make(&key)?;
         let answer = value.clone()?;
-        // It never released the lock, so the key has no answer still.
+        // It never released the lock, so the key still has no answer.
         let mut guard = guard.upgrade(rt);
         guard.add(key, value)?;
         Ok(answer)

@@ -1,4 +1,4 @@
-//! A ledger: transfers between accounts under one lock, with a journal of all that were made. Begin with [`Accounts`].
+//! A ledger: transfers between accounts under one lock, with a journal of all transfers made. Begin with [`Accounts`].
 ghost use Rattle.std.specs.Prelude.{◌≡◌, ◌≢◌, ◌<◌, ◌^◌, ◌++◌, ◌∷◌, [], true, false, List, ℕ, Some, None, IfOk, IfErr, OnOk, OnErr, MatchResult, slice_get, slice_index, sum, ◌+◌};
 ghost use Rattle.spin_uses.specs.Ledger.{after, can_make, paid_in, paid_out, replayed, RefusedFor};
 ghost use Rattle.spin_uses.specs.declared.ledger.Transfer.{Transfer};
@@ -8,7 +8,7 @@ use std::alloc::{Allocator, Global};
 use std::marker::{Brand, PhantomData};
 use std::sync::Wait;
 
-/// An amount that goes from one account to another. Accounts are numbered from 0.
+/// An amount to move from one account to another. Accounts are numbered from 0.
 #[derive(Clone, Copy, Debug, PartialEq, Eq)]
 pub struct Transfer {
     pub from: usize,
@@ -27,8 +27,8 @@ pub enum Refused {
     OutOfMemory,
 }
 
-/// The balances that a ledger was opened with. Only proofs know them, by a type of the ledger's own. So what a look
-/// finds is known to be of this ledger.
+/// The opening balances of a ledger. Only proofs know them, by a type of the ledger's own. So proofs know that what
+/// they find belongs to this ledger.
 pub trait Opening {
     ghost balances: { List ℕ };
 }
@@ -37,7 +37,7 @@ impl Opening for Brand {
     ghost balances = { [] };
 }
 
-/// The accounts, and every transfer that was made, in order.
+/// The accounts, and every transfer made, in order.
 #[derive(Drop)]
 pub struct Accounts<O: Opening, A: Allocator = Global> {
     balances: Vec<u64, A>,
@@ -48,7 +48,7 @@ pub struct Accounts<O: Opening, A: Allocator = Global> {
     ghost fits: { sum O.balances < 2 ^ 64 },
 }
 
-/// Accounts that threads share. Whoever locks them finds all that `Accounts` says of itself.
+/// Accounts that threads share. A thread that locks them may use the invariant of `Accounts`.
 pub type Ledger<O, A = Global> = Mutex<Accounts<O, A>>;
 
 impl<O: Opening, A: Allocator> Accounts<O, A> {
@@ -72,8 +72,8 @@ impl<O: Opening, A: Allocator> Accounts<O, A> {
     /// Makes a transfer, or fails and changes nothing.
     ///
     /// # Contract
-    /// `Ok` exactly if the transfer can be made and there is memory: then the balances are those after it, and the
-    /// journal has it at its end. `Err` says why (`RefusedFor`), and balances and journal are as they were.
+    /// `Ok` exactly if the transfer can be made and there is memory. Then the balances are those after it, and the
+    /// journal ends with it. `Err` says why (`RefusedFor`), and balances and journal do not change.
     pub fn transfer(&mut self, transfer: Transfer) -> Result<(), Refused>
         ensures why { MatchResult result (λ _. can_make transfer self.old.balances.items ≡ true) (λ e. RefusedFor e transfer self.old.balances.items) }
         ensures balances { OnOk result (self.new.balances.items ≡ after transfer self.old.balances.items) }
@@ -107,14 +107,14 @@ impl<O: Opening, A: Allocator> Accounts<O, A> {
     /// Returns the sum of all balances.
     ///
     /// # Contract
-    /// It is the sum of the opening balances, at every look.
+    /// It is always the sum of the opening balances.
     pub fn total(&self) -> u64
         ensures { result ≡ sum O.balances }
     {
         self.balances.iter().sum()
     }
 
-    /// Returns the transfers that were made, in order.
+    /// Returns the transfers made, in order.
     ///
     /// # Contract
     /// Their replay from the opening balances gives the balances.
@@ -126,7 +126,7 @@ impl<O: Opening, A: Allocator> Accounts<O, A> {
     }
 }
 
-/// Checks that a transfer can be made, and else says why not.
+/// Checks that a transfer can be made, or says why not.
 fn may_make(balances: &[u64], transfer: &Transfer) -> Result<(), Refused>
     ensures possible { OnOk result (can_make transfer.now balances.now ≡ true) }
     ensures why { IfErr result (λ e. (can_make transfer.now balances.now ≡ false) × RefusedFor e transfer.now balances.now) }
@@ -154,8 +154,8 @@ fn make(balances: &mut [u64], transfer: &Transfer)
 /// Returns the balances after all transfers of a journal, in its order. Fails at the first that cannot be made.
 ///
 /// # Contract
-/// The sum of the opening balances has to fit a `u64`. `Ok` has the balances of the replay (`replayed`). `Err`, but for
-/// want of memory, says that the journal has none.
+/// The sum of the opening balances has to fit a `u64`. `Ok` has the balances of the replay (`replayed`). `Err` says
+/// that no replay exists, unless the reason is memory.
 pub fn replay<A: Allocator>(
     alloc: A,
     opening: &[u64],
@@ -175,8 +175,8 @@ pub fn replay<A: Allocator>(
     Ok(balances)
 }
 
-/// States what each replay results in. What an account has and what was paid out of it is what it had and what was paid
-/// into it. A ledger's journal is such a replay.
+/// States what each replay results in. An account's balance plus what was paid out of it is its opening balance plus
+/// what was paid into it. A ledger's journal is such a replay.
 pub fn a_balance_is_what_came_less_what_went()
     ensures { (opening balances : List ℕ) (journal : List Transfer) (account : ℕ) → replayed opening journal ≡ Some balances → slice_index balances account + paid_out account journal ≡ slice_index opening account + paid_in account journal }
 {}

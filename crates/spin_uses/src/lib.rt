@@ -1,5 +1,5 @@
-//! Callers of the locks: a ledger, a cache, rounds of workers, settings. Each has a promise of its own, which rests on
-//! the promises of the locks.
+//! Callers of the locks: a ledger, a cache, rounds of workers, settings, a relay. Each makes a promise of its own,
+//! which uses the promises of the locks.
 //!
 //! Begin with [`ledger`].
 #![tactic(auto)]
@@ -7,4 +7,5 @@
 pub mod cache;
 pub mod ledger;
 pub mod phases;
+pub mod relay;
 pub mod settings;

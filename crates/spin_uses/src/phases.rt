@@ -1,8 +1,8 @@
 //! Rounds of workers over a barrier. In each round every worker adds its gain to the round's result. The leader folds
 //! that result into the total before the next round begins. Begin with [`run_phases`].
 //!
-//! The total is proved to be exact: a book under the lock has what is still to come, and each worker has a share of it.
-//! That a leader folds a round only when all of it is in, and that a round has one leader, is shown by a test.
+//! The total is proved to be exact: a book under the lock counts what is still to be added, and each worker has a share
+//! of it. A test shows that a leader folds a round only when it is complete, and that a round has one leader.
 ghost use Rattle.std.specs.Prelude.{◌≡◌, ℕ, ◌+◌, ◌*◌, ◌^◌, ◌<◌, ◌≤◌, true, IfOk, vec_capacity, vec_len};
 ghost use Rattle.spin_uses.specs.Phases.{IsSpent};
 
@@ -33,7 +33,7 @@ impl From<AllocError> for PhasesError {
     }
 }
 
-/// What all rounds came to.
+/// The results of all rounds.
 #[derive(Clone, Copy, Debug, PartialEq, Eq)]
 pub struct Folded {
     /// The sum of all that was added.
@@ -44,7 +44,7 @@ pub struct Folded {
     pub smallest: u64,
 }
 
-/// The numbers that all parts of one run agree on.
+/// The numbers that all parts of one run share.
 trait Plan: Ledger {
     /// The gains of all workers in all rounds.
     ghost all: { ℕ };
@@ -54,7 +54,7 @@ impl Plan for Brand {
     ghost all = { 0 };
 }
 
-/// What is folded, the result of the round that runs, and the book of the gains that are still to come.
+/// What is folded so far, the result of the present round, and the book of the gains that are still to be added.
 #[derive(Drop)]
 struct Results<P: Plan> {
     folded: Folded,
@@ -64,7 +64,7 @@ struct Results<P: Plan> {
     ghost fits: { P.all < 2 ^ 64 },
 }
 
-/// What a worker hands back: its part of the book, with nothing left to add if it has worked.
+/// What a worker returns: its part of the book. If it has worked, it has nothing left to add.
 #[derive(Drop)]
 struct Done<P: Plan> {
     share: Share<P>,
@@ -110,7 +110,7 @@ impl<P: Plan> Results<P> {
 struct Team<'a, P: Plan, G, R> {
     rt: &'a R,
     gate: &'a G,
-    // Held while workers are started: they begin when it says that all of them are there.
+    // Held while workers are started. They begin when it says that all are started.
     begins: Mutex<bool, Yield>,
     barrier: Barrier<Yield>,
     results: Mutex<Results<P>, Yield>,
@@ -120,7 +120,7 @@ struct Team<'a, P: Plan, G, R> {
 }
 
 impl<P: Plan + Send + Sync, G: Gate + Sync, R: Threads + Wait + Sync> Team<'_, P, G, R> {
-    /// Does the whole work of one worker.
+    /// Does all the work of one worker.
     fn work(&self, worker: usize, mut share: Share<P>) -> Done<P>
         requires one_part { share.parts ≡ 1 }
         requires gains { share.amount ≡ self.now.rounds * self.now.gain }
@@ -145,7 +145,7 @@ impl<P: Plan + Send + Sync, G: Gate + Sync, R: Threads + Wait + Sync> Team<'_, P
         }
     }
 
-    /// Joins the workers, and takes their parts of the book back. Returns `true` if all of them have worked: then they
+    /// Joins the workers, and takes their parts of the book back. Returns `true` if all of them have worked. Then they
     /// have nothing left to add.
     fn join_all<A: Allocator>(
         &self,
@@ -206,7 +206,7 @@ impl<P: Plan + Send + Sync, G: Gate + Sync, R: Threads + Wait + Sync> Team<'_, P
         true
     }
 
-    /// Starts all workers. If one is refused it joins those that were started, which have not begun.
+    /// Starts all workers. If one is refused, it joins those that were started, which have not begun to work.
     fn start_all<'s, E, A: Allocator>(
         &'s self,
         scope: &Scope<'s, E>,
@@ -232,7 +232,7 @@ impl<P: Plan + Send + Sync, G: Gate + Sync, R: Threads + Wait + Sync> Team<'_, P
         Ok(running)
     }
 
-    /// Works in a scope of threads, and reads the results when all of them are joined.
+    /// Works in a scope of threads, and reads the results once all threads are joined.
     fn run<A: Allocator>(
         &self,
         alloc: A,
@@ -305,7 +305,7 @@ fn run_by<'a, P: Plan + Send + Sync, G: Gate + Sync, R: Threads + Wait + Sync, A
 /// Runs `rounds` rounds of `workers` threads, in each of which every worker adds `gain`. Each passes the gate once,
 /// before its first round. All threads are joined before the call returns.
 ///
-/// If a thread or its memory is refused there is no total, and no worker adds anything.
+/// If a thread or its memory is refused, there is no total, and no worker adds anything.
 ///
 /// # Contract
 /// There may be at most [`MAX_WORKERS`], and all that they add has to fit a `u64`. The total is exact. That workers run

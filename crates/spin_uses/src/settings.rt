@@ -1,4 +1,4 @@
-//! Settings that threads share. They are made once, from a text, when a thread first asks for them. Begin with
+//! Settings that threads share. They are made once, from a text, when a thread first asks. Begin with
 //! [`SharedSettings`].
 ghost use Rattle.std.specs.Prelude.{◌≡◌, [], IfSome, IfNone, IfOk, IfErr, unwrap_or};
 ghost use Rattle.std.specs.Str.Lines.{lines};
@@ -43,7 +43,7 @@ impl Setting {
     }
 }
 
-/// The settings of a text. What no line sets has its default.
+/// The settings of a text. A setting that no line sets has its default.
 #[derive(Clone, Copy, Debug, PartialEq, Eq)]
 pub struct Settings {
     pub port: u16,
@@ -103,7 +103,7 @@ impl FromStr for Settings {
     }
 }
 
-/// The promise that an answer is one for this text.
+/// The promise that an answer is right for this text.
 #[derive(Clone, Copy)]
 struct AnswerFor<'t>(&'t str);
 
@@ -140,8 +140,7 @@ impl<'t, R: RelaxStrategy> SharedSettings<'t, R> {
         }
     }
 
-    /// Returns the settings of the text, or its first bad line. A thread that asks while another reads the text spins
-    /// until that has ended.
+    /// Returns the settings of the text, or its first bad line. While another thread reads the text, the call spins.
     ///
     /// # Contract
     /// `Ok` has the settings of the text (`AreSettingsOf`), `Err` its first bad line (`IsFirstBad`). Whether and when

@@ -1,4 +1,4 @@
-//! What no contract says: that a party stays for its group, that one party of each group leads, and which.
+//! What no contract says: a party waits for its group, and one party of each group leads; also which one.
 use super::equal::equal;
 use spin_barrier::barrier::Barrier;
 use spin_core::relax::{RelaxStrategy, Spin, Yield};
@@ -33,7 +33,7 @@ fn a_group_of_none_is_a_group_of_one(rt: HostRuntime) {
 
 const LOOKS: u32 = 100_000;
 
-/// What one round of ten threads leaves.
+/// The results of one round of ten threads.
 #[derive(Drop)]
 struct Round {
     left: AtomicBool,
@@ -75,7 +75,7 @@ impl Rounds {
 
     fn pass_both<R: Wait>(&self, rt: &R, index: usize) {
         if index == 0 {
-            // looks for one that has left before the group is full
+            // check that no thread leaves before the group is full
             for _ in 0..LOOKS {
                 if self.first.left.load(Ordering::SeqCst) {
                     self.left_early.store(true, Ordering::SeqCst);

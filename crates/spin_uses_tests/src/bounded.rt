@@ -1,4 +1,4 @@
-//! A number that threads count in, and that a caller keeps below a bound.
+//! A number in which threads count, and which a caller keeps below a bound.
 ghost use Rattle.std.specs.Prelude.{◌≤◌};
 ghost use Rattle.spin.specs.MutexGuard.{value_of};
 
@@ -6,13 +6,13 @@ use spin::Yield;
 use spin::mutex::{Mutex, MutexGuard};
 use std::sync::Wait;
 
-/// Counts one more. Other threads may have written the largest number: there it wraps.
+/// Counts one more. Other threads may have written the largest number; then it wraps.
 fn count<W: Wait>(rt: &W, counter: &Mutex<u64, Yield>) {
     let mut guard = counter.lock(rt);
     *guard = guard.wrapping_add(1);
 }
 
-/// Counts one more, up to `most`. Under a guard a caller knows the value: `value_of` is what is there before and after.
+/// Counts one more, up to `most`. Under a guard a caller knows the value: `value_of` is the value before and after.
 pub fn count_up_to(guard: &mut MutexGuard<'_, u64, Yield>, most: u64)
     ensures { value_of guard.old ≤ most → value_of guard.new ≤ most }
 {

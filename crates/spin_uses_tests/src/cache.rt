@@ -1,4 +1,4 @@
-//! Callers of one cache, alone and in threads.
+//! Callers of one cache, in one thread and in several.
 ghost use Rattle.std.specs.Prelude.{◌≡◌, ◌==◌, ◌*◌, ◌%◌, ◌^◌, true, map, string_bytes, IfOk};
 ghost use Rattle.std.specs.Char.{to_ascii_uppercase};
 ghost use Rattle.std.specs.Str.{bytes_eq};
@@ -37,7 +37,7 @@ impl Answers for Squares {
 
 type SquareCache = Cache<Squares, Global, Yield>;
 
-// What a caller knows of an answer, whoever made it. It counts the squares that it had to make.
+// What a caller knows of an answer, whoever made it. The call counts the squares that it had to make.
 fn square<W: Wait>(
     rt: &W,
     cache: &SquareCache,
@@ -52,7 +52,7 @@ fn square<W: Wait>(
     })
 }
 
-// The number of squares that one thread made, and whether all answers were right.
+// Returns the number of squares that one thread made, and whether all answers were right.
 fn ask_all<R: Abort + Wait>(rt: &R, cache: &SquareCache) -> (u64, bool) {
     let made = Cell::new(0);
     let mut right = true;
@@ -70,7 +70,7 @@ fn threads_make_each_answer_once(rt: HostRuntime) {
     equal(&rt, first.0.wrapping_add(second.0), KEYS);
 }
 
-// A writer would wait for ever beside a reader that stays.
+// A writer would wait for ever for a reader that never leaves.
 #[test]
 fn an_answer_that_is_there_takes_no_write(rt: HostRuntime) {
     let cache: SquareCache = Cache::new(rt.alloc());
@@ -83,7 +83,7 @@ fn an_answer_that_is_there_takes_no_write(rt: HostRuntime) {
     equal(&rt, made.get(), 1);
 }
 
-// Two threads, each of which looks for a square that is there.
+// Two threads read a square that exists.
 fn read_in_two<R: Abort + Threads + Wait + Sync>(rt: &R, cache: &SquareCache) {
     let (first, second) = join(
         rt,
@@ -94,7 +94,7 @@ fn read_in_two<R: Abort + Threads + Wait + Sync>(rt: &R, cache: &SquareCache) {
     equal(rt, second, Some(9));
 }
 
-// Readers that waited for the maker of an answer would wait for ever, as it waits for them.
+// If readers waited for the maker of an answer they would wait for ever, since it waits for them.
 #[test]
 fn readers_come_while_an_answer_is_made(rt: HostRuntime) {
     let cache: SquareCache = Cache::new(rt.alloc());
@@ -107,7 +107,7 @@ fn readers_come_while_an_answer_is_made(rt: HostRuntime) {
     equal(&rt, cache.read(&rt).answer(&4).copied(), Some(16));
 }
 
-// The square of 3 is there. Whether another thread gets it meanwhile.
+// The square of 3 exists. Returns whether another thread gets it meanwhile.
 fn is_answered_meanwhile<R: Abort + Threads + Wait + Sync>(rt: &R, cache: &SquareCache) -> bool {
     let done = AtomicU64::new(0);
     let answer = || {
@@ -122,14 +122,14 @@ fn is_answered_meanwhile<R: Abort + Threads + Wait + Sync>(rt: &R, cache: &Squar
             }
             Yield::relax(rt);
         }
-        // The other thread waits for this one to end.
+        // The other thread is still waiting for this one.
         equal(rt, done.load(SeqCst), 1);
         false
     };
     join(rt, answer, look).1
 }
 
-// A caller that took the one upgradable place to look for an answer would wait for the maker of another.
+// If a caller took the upgradable place just to look for an answer, it would wait for the maker of another.
 #[test]
 fn an_answer_is_given_while_another_is_made(rt: HostRuntime) {
     let cache: SquareCache = Cache::new(rt.alloc());
@@ -191,7 +191,7 @@ impl From<AllocError> for Unmade {
     }
 }
 
-// What was refused is asked for again by the next caller.
+// An answer that was refused is asked for again by the next caller.
 #[test]
 fn an_answer_that_is_refused_is_not_kept(rt: HostRuntime) {
     let cache: SquareCache = Cache::new(rt.alloc());
@@ -222,7 +222,7 @@ impl Answers for Numbers {
 
 type NumberCache<H> = LoggedCache<Numbers, H, Global, Yield>;
 
-// Asks twice, with another number to give each time. Both answers are one number, whatever other threads do.
+// Asks twice, each time with another number to return. Both answers are the same number, whatever other threads do.
 fn ask_twice<H: History, W: Wait>(
     rt: &W,
     cache: &NumberCache<H>,
@@ -266,7 +266,7 @@ fn ask_twice_in_two<H: History + Send + Sync, W: Abort + Threads + Wait + Sync>(
     equal(rt, found, Some(first.0));
 }
 
-// The thread that comes later finds the number of the other twice, though it would give another one each time.
+// The later thread finds the other's number twice, though it would return another one each time.
 #[test]
 fn an_answer_that_a_thread_saw_stays(rt: HostRuntime) {
     ask_twice_in_two::<Brand, HostRuntime>(&rt, rt.alloc(), BlankLog::new());

@@ -13,6 +13,7 @@ use spin_examples::registers::four_threads;
 use spin_examples::versions::{race, watch_one};
 use spin_examples::written::write_beside_read;
 use spin_examples::{any_lock, paired, passes_fair, passes_rw, totals};
+use spin_uses::relay::relay;
 use std::thread;
 
 #[test]
@@ -56,17 +57,28 @@ fn a_thread_reads_the_last_write(rt: HostRuntime) {
 }
 
 #[test]
-fn passes_know_one_history(rt: HostRuntime) {
+fn a_pass_reads_what_another_wrote(rt: HostRuntime) {
+    let lock: SpinMutex<u64> = SpinMutex::new(6);
+    let (writer, (found, reader)) = relay(&rt, lock.pass(), lock.pass(), 7);
+    drop(writer);
+    drop(reader);
+    equal(&rt, (found, lock.into_inner()), (7, 7));
+}
+
+#[test]
+fn three_passes_of_a_spin_mutex_know_one_history(rt: HostRuntime) {
     let lock = SpinMutex::new(6);
-    let (counted, (_, looked)) = count_beside_look(&rt, &lock);
-    drop(counted);
-    drop(looked);
+    let (one, two, three) = (lock.pass(), lock.pass(), lock.pass());
+    let (first, (second, (_, third))) = count_beside_look(&rt, one, two, three);
+    drop(first);
+    drop(second);
+    drop(third);
     drop(try_once(&lock));
     let held = take(&rt, &lock);
     drop(try_once(&lock));
     give_back(held);
     drop(double_by_a_hold(&rt, lock.pass()));
-    equal(&rt, lock.into_inner(), 14);
+    equal(&rt, lock.into_inner(), 16);
 }
 
 #[test]

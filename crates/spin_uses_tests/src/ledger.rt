@@ -1,4 +1,4 @@
-//! What no contract says: worked rows, that a call succeeds where nothing is refused, and threads that end.
+//! What no contract says: worked examples, that a call succeeds if nothing is refused, and threads that end.
 ghost use Rattle.std.specs.Prelude.{◌≡◌, ◌<◌, ◌^◌, sum};
 
 use super::equal::equal;
@@ -68,8 +68,7 @@ fn a_journal_is_replayed(rt: HostRuntime) {
     equal(&rt, refused.err(), Some(Refused::NoSuchAccount));
 }
 
-/// Transfers of random amounts between random accounts, as many as the ledger is asked for. It answers how many were
-/// made.
+/// Makes random transfers between random accounts, as many as `turns`. Returns how many succeeded.
 fn trades<O: Opening, W: Wait>(rt: &W, ledger: &Ledger<O>, seed: u64, turns: u64) -> u64 {
     let mut random = seed;
     let mut made = 0u64;
@@ -126,7 +125,7 @@ fn threads_trade_and_leave_the_total(rt: HostRuntime) {
     trades_in_two::<Brand, _>(&rt, rt.alloc(), &opening, balances);
 }
 
-/// Transfers until no memory is left for one. It answers whether memory sufficed for all.
+/// Makes transfers until no memory is left for one. Returns whether memory sufficed for all.
 fn is_refused_whole<'a, O: Opening, R: Abort>(
     rt: &R,
     arena: &'a Bump,

@@ -1,4 +1,5 @@
-//! Tests of the barrier, the seats, the seated locks, the names of `spin` and the callers: what no contract says of them.
+//! Tests of the barrier, the seats, the seated locks, the names of `spin` and the callers: what no contract says of
+//! them.
 #![tactic(auto)]
 
 #[cfg(test)]

@@ -53,8 +53,8 @@ fn values_that_are_made_once(rt: HostRuntime) {
     equal(&rt, *Lazy::force(&lazy, &rt), 8);
 }
 
-// The bytes of each lock of a `u64`: one word and the value, and two words where tickets are taken and served. What is
-// made once has a word and a stage, which says whether it is the seed or the value. A guard is a pointer.
+// The size in bytes of each lock of a `u64`: one word and the value, or two words for tickets. A `Once` and a
+// `LazyLock` have a word and a stage, which says whether they have the seed or the value. A guard is a pointer.
 #[test]
 fn a_lock_has_the_words_that_it_needs(rt: HostRuntime) {
     for (bytes, wanted) in [

@@ -1,5 +1,4 @@
-//! What no clause says: that workers are threads, and that each round is folded once, by its leader, when all of it is
-//! in.
+//! What no contract says: workers are threads, and each round is folded once, by its leader, when it is complete.
 use super::equal::equal;
 use spin_core::relax::{RelaxStrategy, Yield};
 use spin_uses::phases::{Folded, Gate, Open, run_phases};
@@ -29,7 +28,7 @@ fn each_round_is_folded_whole(rt: HostRuntime) {
 
 const MAX_LOOKS: u32 = 10_000_000;
 
-/// A gate at which two workers meet: each comes, and stays until both have.
+/// A gate at which two workers meet: each waits until both have arrived.
 #[derive(Drop)]
 struct Meeting {
     came: AtomicU64,

@@ -1,20 +1,21 @@
-//! What no contract says of registers: that readers come beside one another, and which try is granted.
+//! What no contract says of registers: several readers may read at once, and which tries succeed.
 use super::equal::equal;
 use spin::Yield;
-use spin::history::{BlankLog, History, Work, open};
 use spin::mutex::SpinMutex;
-use spin::register::{self, Register};
 use spin::rwlock::RwLock;
-use spin::tally::{self, Tally};
+use spin_history::history::{BlankLog, History, Work, open};
+use spin_history::register::{self, Register};
+use spin_history::tally::{self, Tally};
 use std::process::Abort;
 use std::sync::Wait;
 use std::sync::ledger::{Ledger, Share};
 
-/// Reads beside a reader, and tries beside a reader and a writer.
+/// Reads while a reader holds, and tries while a reader or a writer holds.
 #[derive(Drop)]
 struct ReadBeside<'r, W>(&'r W);
 
-// What `read_shared`, a try of either kind beside a reader, a shared try beside a writer and the last read found.
+// What was found: by `read_shared`; by a try of each kind while a reader holds; by a shared try while a writer holds;
+// by the last read.
 type Found = (u64, Option<u64>, Option<u64>, Option<u64>, u64);
 
 impl<W: Abort + Wait> Work for ReadBeside<'_, W> {
@@ -46,7 +47,7 @@ impl<W: Abort + Wait> Work for ReadBeside<'_, W> {
     }
 }
 
-// A reader that came alone would wait for ever beside another.
+// A reader that needed exclusive access would wait for ever.
 #[test]
 fn reads_of_a_register_are_shared(rt: HostRuntime) {
     equal(&rt, open(ReadBeside(&rt)), (1, Some(1), None, None, 2));

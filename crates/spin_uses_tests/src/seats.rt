@@ -1,4 +1,4 @@
-//! What no contract says: which call is granted, what the count tells, and that threads get on.
+//! What no contract says: which calls succeed, what the count tells, and that threads make progress.
 mod passes;
 
 use super::equal::equal;
@@ -30,7 +30,7 @@ fn as_many_sit_as_there_are_seats(rt: HostRuntime) {
 fn three_visit_two_seats(rt: HostRuntime) {
     let seats: Seats<2> = Seats::new();
     let inside = AtomicU64::new(0);
-    // sits down again and again, and looks how many sit
+    // takes a seat again and again, and counts how many are taken
     let visit = |_index: usize| {
         for _turn in 0..2000 {
             let guard = seats.enter(&rt);
@@ -62,7 +62,7 @@ fn a_hundred_sit_at_once(rt: HostRuntime) {
 
 const TRIES: u64 = 400_000;
 
-// Whether each try was granted. The threads share the tries, so they end however they are scheduled.
+// Returns whether each try succeeded. The threads share the tries, so they end however they are scheduled.
 fn tries_often<W: Wait>(rt: &W, seats: &Seats<4>, tries: &AtomicU64) -> bool {
     let mut granted = true;
     for _ in 0..TRIES {

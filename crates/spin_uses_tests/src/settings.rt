@@ -1,4 +1,4 @@
-//! What no contract says: that good texts are read, what each bad line is, and that all threads see the same.
+//! What no contract says: good texts are read, what each bad line is, and all threads see the same settings.
 ghost use Rattle.spin_uses.specs.Settings.{IsAnswerFor};
 
 use super::equal::equal;
@@ -53,7 +53,7 @@ fn a_text_has_settings_or_a_first_bad_line(rt: HostRuntime) {
     }
 }
 
-// A caller's proof: it shares the settings of its text, and knows what it will be told.
+// A caller's proof: it shares the settings of its text, and knows what the answer means.
 fn ask<W: Wait>(rt: &W, text: &str) -> Answer
     ensures { IsAnswerFor text.now result }
 {

@@ -1,4 +1,4 @@
--- What the barrier's table owes.
+-- What the barrier's table must show.
 use Rattle.spin_world.proofs.BarrierNames.{◌≡◌, ℕ, ◌+◌, ◌/◌, ◌%◌, ◌^◌, ◌≤◌, ◌==◌, false, ◌&&◌, is_some, Option, Some, None, List, ◌∷◌, refl, sym, subst, arith, inr, max, Plain, Change, arrives, apply, count_word, generation_word, IsBarrier, is_leading, generation_at, barrier_arrive-words, barrier_count-below, barrier_may_leave-tells, barrier_may_leave-full, Hold, BarrierWords, BarrierCall, BarrierPoint, Arrive, Leave, arrived, mark_of, passes, is_arrival, barrier_table, barrier_machine, []}
 use Rattle.std.proofs.Math.Bool.{and-false}
 use Rattle.std.proofs.Math.Nat.{mod-le, div-le_self}
@@ -45,7 +45,8 @@ follows_right : (p k : ℕ) (all span : List Mark) → AnyOf (λ m. Arrives p k 
 follows_right p k all [] made full = absurd made
 follows_right p k all (m ∷ ms) made full = grind (arith, follows_here p k all m, follows_right p k all ms)
 
--- a party that has arrived knows by the number of its arrival, which leads no group, what generation it found with it
+-- A party that has arrived knows the number of its arrival, which does not lead, and so the generation that it found
+-- then.
 pub record Waits (g p : ℕ) (s : Plain) (span : List Mark) : Type 0 where
   pub come : arrived p span ≤ s.arrivals
   pub found : generation_at s (arrived p span) ≡ g
@@ -56,7 +57,7 @@ abbrev pub KnowsAt : BarrierPoint → ℕ → Plain → List Mark → Type 0
 KnowsAt Arrive p s span = Unit {0}
 KnowsAt (Leave g) p s span = Waits g p s span
 
--- nobody holds it or queues, and its groups are of this size
+-- nobody holds it or queues, and its groups have this size
 pub record IsOf (n : ℕ) (s : Plain) : Type 0 where
   pub no_holders : s.holders ≡ []
   pub group : s.group ≡ n
@@ -64,11 +65,11 @@ pub record IsOf (n : ℕ) (s : Plain) : Type 0 where
 abbrev pub barrier_notes : (n : ℕ) → Notes (barrier_table n)
 barrier_notes n = record { Shape = λ s. IsOf n s; point = λ c l h. point_of l h; Knows = λ c l h p s span. KnowsAt l p s span }
 
--- the arrivals grow by the step, where it is one
+-- the step adds one arrival if it is an arrival
 pub one_more : (s : Plain) (step : Option Change) → BelongsTo barrier step → (apply_some s step).arrivals ≡ s.arrivals + bit (passes is_arrival step)
 one_more s step belongs = grind arith
 
--- a step that is no arrival of the party's own leaves what it knows
+-- a step that is not the party's own arrival does not change what the party knows
 waits-on : (g p q : ℕ) (s : Plain) (step : Option Change) (r : StepKind) (span : List Mark) → ((q == p) && is_some step) ≡ false → BelongsTo barrier step → Waits g p s span → Waits g p (apply_some s step) (mark_of q step r s ∷ span)
 waits-on g p q s step r span none belongs waits =
     let same : arrived p (mark_of q step r s ∷ span) ≡ arrived p span = grind arith in
@@ -83,7 +84,7 @@ module _ (n : ℕ) where
   pub is_barrier : (s : Plain) (w : BarrierWords) → w.count ∷ w.generation ∷ [] ≡ count_word s ∷ generation_word s ∷ [] → IsOf n s → IsBarrier s n w.count w.generation
   is_barrier s w encodes of = record { group = of.group; counts = cc (encodes); generations = cc (encodes) }
 
-  -- the party's own arrival, which leads no group
+  -- the party's own arrival, which does not lead
   waits_from : (p : ℕ) (s : Plain) (r : StepKind) (span : List Mark) (g : ℕ) → generation_word s ≡ g → is_leading s (s.arrivals + 1) ≡ false → generation_at s (s.arrivals + 1) ≡ g → Waits g p (apply s (arrives p)) (mark_of p (Some (arrives p)) r s ∷ span)
   waits_from p s r span g is behind same = grind arith
 

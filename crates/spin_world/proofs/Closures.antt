@@ -1,4 +1,4 @@
--- What users of a `Once` rely on where closures begin, also after one that failed.
+-- What users of a `Once` may rely on when closures begin, also after one that failed.
 use Rattle.spin_world.proofs.OnceNames.{◌≡◌, ℕ, true, Option, Some, ◌∷◌, ◌++◌, slice_get, refl, arith, ap, ◌∙◌, ◌⊎◌, Hold, Calling, Step, to_begin, gets, Seen, step_at, happens, at_first, OnceCall, OncePoint, Look, TryBegin, Await, Run, asks_of, OnceMachine, once_machine, Entries, once_after, RunsClosure, seen_at, has_just_looked, has_closure, MayRunAgain, LooksFirst, after-append, Invariant, in_call, []}
 use Rattle.spin_model.specs.declared.place.Seat.{Seat}
 use Rattle.spin_model.proofs.Lists.{get-set_same}
@@ -9,7 +9,7 @@ module _ {V : Type 0} (value : Option V) where
   abbrev m : OnceMachine V
   m = once_machine value
 
-  -- where the word is 0, a look leads to the exchange and leaves the word, and the exchange leads to the closure
+  -- if the word is 0, a look does not change it and leads to the exchange, and the exchange leads to the closure
 
   abbrev next_point : OncePoint → OncePoint
   next_point Look = TryBegin
@@ -49,7 +49,7 @@ module _ {V : Type 0} (value : Option V) where
         begins = λ p c l h zero at closure. runs_soon n past p c h zero closure l at;
       }
 
-  -- a closure begins by the exchange alone, which follows a look
+  -- a closure begins only by the exchange, which follows a look
   looks_at : (seen : Seen ℕ V (OnceCall V) OncePoint) (p : ℕ) (o : Option (Seat (OnceCall V) OncePoint)) → Invariant m (once_keeping value) seen → slice_get seen.state.seats p ≡ o → step_at m seen.state p Step o ≡ Some (gets p to_begin)
       → has_just_looked p (seen.span p) ≡ true
   looks_at seen p (Some (Calling c l h)) good there e = grind (arith, (in_call m (once_keeping value) seen p c l h good there).knows)

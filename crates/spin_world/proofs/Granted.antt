@@ -1,4 +1,5 @@
--- A party that has set the flag as a starver stands where its next step is granted, and a party that waits for it stands where it sets a clear one.
+-- A starver that has set the flag is at a point where its next step is granted. A starver that waits is at a point
+-- where its step sets a clear flag.
 use Rattle.spin_world.proofs.FairNames.{◌≡◌, ℕ, ◌+◌, ◌%◌, ◌==◌, ◌⊎◌, Bool, true, not, ◌&&◌, Option, Some, List, refl, ap, sym, ◌∙◌, arith, inl, inr, ⊎_elim, eq-eqb, and_from, is_empty, fair_word, Entries, Hold, Continue, Answer, opening, entries_at, row_of, FairCall, FairPoint, SetFlag, Await, Unregister, asks_of, fair_table, fair_machine, IsGrantedNext, SetsAClearFlag, GoesForAClearFlag}
 use Rattle.spin_model.specs.declared.place.Seat.TheVariants.{Calling}
 use Rattle.spin_model.specs.declared.schedule.Move.{Move}
@@ -20,7 +21,7 @@ module _ {V : Type 0} (v : V) (cap patience : ℕ) where
   abbrev m : Machine ℕ V FairCall FairPoint (Answer V)
   m = fair_machine v cap patience
 
-  -- elsewhere a party holds nothing, or is no starver
+  -- at any other point a party does not hold, or is no starver
   leaves_at : (p : ℕ) (c : FairCall) (l : FairPoint) (h : Option Hold)
       → StandsSo (fair_table v cap patience) (fair_notes v cap patience) holds_starving p c l h → l ≡ Unregister
   leaves_at p c l h both = grind (arith, both)
@@ -31,7 +32,7 @@ module _ {V : Type 0} (v : V) (cap patience : ℕ) where
       there (ap holds_starving is) in
       ap (λ o. (moves_at m (after m (at_first m n) past) p Step o).outcome) (there ∙ ap (λ l. Some (Calling c l h)) (leaves_at p c l h both))
 
-  -- a starver that waits stands where it sets the flag, or looks at it
+  -- a waiting starver is at a point where it sets the flag, or looks at it
 
   sets : (c : FairCall) (h : Option Hold) → SetsAClearFlag m c SetFlag h
   sets c h w value clear = rw (eq-eqb (w % 2) 0 clear) refl

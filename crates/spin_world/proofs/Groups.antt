@@ -1,4 +1,4 @@
--- What users of a barrier rely on.
+-- What users of a barrier may rely on.
 use Rattle.spin_world.proofs.BarrierNames.{◌≡◌, ℕ, ◌+◌, ◌%◌, ◌==◌, ◌↔◌, true, Option, Some, None, ◌∷◌, slice_get, ap, sym, ◌∙◌, arith, max, arrives, may_leave, barrier_arrive-words, barrier_may_leave-tells, Leader, Follower, Hold, BarrierWords, BarrierCall, BarrierPoint, Seen, scene, step_at, opening, own, arrived, seen_after, passes, steps_made, BarrierMachine, leads, barrier_machine, is_arrival, Entries, seen_at, arrivals, InGroups, FollowersLeave, []}
 use Rattle.spin_model.specs.declared.place.Seat.{Seat}
 use Rattle.spin_model.specs.declared.place.Seat.TheVariants.{Calling}
@@ -28,7 +28,7 @@ module _ (n : ℕ) where
       let here = kept m (barrier_keeping n) (barrier_facts n) seen e.0 e.1 good in
       omega (arith, one_more seen.plain (scene m seen e.0 e.1).change here.keeps.belongs, counted (scene m seen e.0 e.1).after es here.good)
 
-  -- by where the party stands: the number is that of the next arrival in its group, or 0
+  -- by the party's seat: the number is that of the next arrival in its group, or 0
   leads_at : (s : BarrierState) (p last : ℕ) (o : Option (Seat BarrierCall BarrierPoint)) → leads n s.words ≡ (last == 0)
       → ((moves_at m s p Step o).outcome ≡ Answered Leader None) ↔ ((passes is_arrival (step_at m s p Step o) ≡ true) × (last ≡ 0))
   leads_at s p last o leading = grind arith
@@ -52,7 +52,7 @@ module _ (n : ℕ) where
             let same = ap (λ s. (happens m s p Step).outcome) state in (λ e. so.0 (same ∙ e), λ both. sym same ∙ so.1 both);
       }
 
-  -- a party that has arrived tells by the generation whether its group has been filled
+  -- a party that has arrived sees by the generation whether its group is full
   leaves_at : (seen : Seen BarrierWords ℕ BarrierCall BarrierPoint) (p : ℕ) (c : BarrierCall) (l : BarrierPoint) (h : Option Hold) → Good seen → slice_get seen.state.seats p ≡ Some (Calling c l h) → own p (seen.span p) ≡ arrives p ∷ []
       → ((happens m seen.state p Step).outcome ≡ Answered Follower None) ↔ (may_leave seen.plain (arrived p (seen.span p)) ≡ true)
   leaves_at seen p c l h good there has =

@@ -1,4 +1,4 @@
--- What users of a `Once` rely on: one closure at a time, and one value.
+-- What users of a `Once` may rely on: one closure at a time, and one value.
 use Rattle.spin_world.proofs.OnceNames.{◌≡◌, ℕ, ◌==◌, true, false, is_some, Option, Some, None, ◌∷◌, ◌++◌, slice_get, refl, arith, ap, sym, ◌∙◌, subst, and_parts, running, Change, once_word, IsOpenStep, Answer, Value, Hold, Calling, Step, State, happens, after, at_first, Seen, scene, opening, last_written, placed_at, MayTouch, OnceCall, Get, OncePoint, Run, runs, asks_of, OnceMachine, once_machine, Entries, once_after, seen_at, keeps_value, is_shared, ValueStays, RunsClosure, OneRuns, wants_value, AnswersAtOnce, GetAgrees, after-append, InCall, Invariant, []}
 use Rattle.spin_model.specs.declared.schedule.Move.{Move}
 use Rattle.spin_model.specs.declared.schedule.Outcome.{Outcome}
@@ -28,7 +28,7 @@ module _ {V : Type 0} (value : Option V) where
   pub good : (n : ℕ) (past : Entries V) → Good (seen_at m n past)
   good n past = reached.good m (once_keeping value) (once_facts value) n past
 
-  -- an event leaves the value last written, where there is one
+  -- an event does not change the value last written, if there is one
   written_stays : (seen : OnceSeen V) (p : ℕ) (v : V) (o : Outcome (Answer V) V) (move : Move (OnceCall V) V) (put : Option V) (step : Option Change)
       → Good seen → MayTouch seen p o move → IsOpenStep seen.plain p step → keeps_value move ≡ true → seen.state.value ≡ Some v
       → last_written o move seen.written put step ≡ Some v
@@ -61,13 +61,13 @@ module _ {V : Type 0} (value : Option V) where
   word_at : (n : ℕ) (past : Entries V) → (once_after m n past).words ≡ once_word (seen_at m n past).plain
   word_at n past = cc (numbers_are m (once_keeping value) (once_facts value) n past)
 
-  -- a party that stands at the end of a closure runs it, and nobody else does
+  -- a party at the end of a closure runs it, and nobody else runs one
 
   module _ (n : ℕ) (past : Entries V) (p : ℕ) (c : OnceCall V) (l : OncePoint) (h : Option Hold) (there : slice_get (once_after m n past).seats p ≡ Some (Calling c l h)) where
     in_call_at : InCall m (once_keeping value) p c l h (seen_at m n past).plain (seen_at m n past).state.value (seen_at m n past).state.words ((seen_at m n past).span p)
     in_call_at = calls m (once_keeping value) (once_facts value) n past p c l h there
 
-    -- where the word is another than 1 no closure runs
+    -- if the word is not 1, no closure runs
     pub not_at_run : (w : ℕ) → (w == 1) ≡ false → (once_after m n past).words ≡ w → l ≡ Run → ⊥
     not_at_run w other is e = grind (arith, in_call_at.knows, word_at n past)
 
@@ -92,7 +92,7 @@ module _ {V : Type 0} (value : Option V) where
         ends = λ p runs. grind (arith, runs.calls, runs.begun, (in_call_at n past p runs.call runs.point runs.held runs.calls).knows);
       }
 
-  -- where there is a value
+  -- If there is a value
 
   -- then the word is 2
   made_at : (n : ℕ) (past : Entries V) (v : V) → (once_after m n past).value ≡ Some v → (once_after m n past).words ≡ 2

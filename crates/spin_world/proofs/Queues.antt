@@ -1,4 +1,4 @@
--- What users of a ticket lock rely on.
+-- What users of a ticket lock may rely on.
 use Rattle.spin_world.proofs.TicketNames.{◌≡◌, ℕ, ◌+◌, Option, Some, List, ◌∷◌, ◌++◌, slice_get, ap, arith, Plain, Change, serving_word, apply_some, IsOpenStep, Entries, bit, Numbered, serving-moves, entered_is_served, Answer, Holding, Move, TicketCall, TicketPoint, TicketWords, after, at_first, Seen, scene, opening, ticket_machine, seen_after, passes, serves_one, tickets_gone, InOrder, InTurn, LocalInvariant, []}
 use Rattle.spin_model.specs.declared.place.Hold.TheVariants as hold
 use Rattle.spin_model.specs.Machines.{Machine}
@@ -31,7 +31,7 @@ module _ {V : Type 0} (v : V) (first : ℕ) where
       let g = good m k (ticket_facts v first) n past in
       record { next = cc (numbers); serving = cc (numbers); numbered = g.shape.numbered; one_entered = g.exclusive.one_entered }
 
-  -- whoever holds has the ticket that is served
+  -- a party that holds has the served ticket
   holds_served : (n p t : ℕ) (past : List (ℕ × Move TicketCall V)) → slice_get (after m (at_first m n) past).seats p ≡ Some (Holding (hold.Ticket t))
       → serving_word (seen_after m (opening m n) past).plain ≡ t
   holds_served n p t past there =
@@ -39,7 +39,7 @@ module _ {V : Type 0} (v : V) (first : ℕ) where
       let has = ap (λ (e : Entries). e.tickets) (stands m k (ticket_facts v first) n past p (Holding (hold.Ticket t)) there) in
       (entered_is_served (seen_after m (opening m n) past).plain p t order.numbered order.one_entered has).1
 
-  -- what is served after further entries
+  -- the served number after further entries
   served_later : (n : ℕ) (past further : List (ℕ × Move TicketCall V))
       → serving_word (seen_after m (opening m n) (past ++ further)).plain
       ≡ (after m (at_first m n) past).words.serving + tickets_gone m (seen_after m (opening m n) past) further

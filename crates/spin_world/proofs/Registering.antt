@@ -1,4 +1,5 @@
--- Registering in time: what `lock` knows of the looks in its span, that others leave it true, and what each step makes of it.
+-- Registering in time: what `lock` knows of the looks in its span, how others keep it, and what each of its steps
+-- changes.
 use Rattle.spin_world.proofs.FairNames.{◌≡◌, ℕ, ◌+◌, ◌<◌, ◌≤◌, ◌⊎◌, ◌==◌, true, false, not, ◌&&◌, ◌||◌, is_some, nat_lt, if◌then◌else◌, Option, Some, None, List, ◌∷◌, ◌++◌, length, length-append, refl, ap, sym, ◌∙◌, arith, inl, inr, ⊎_elim, ne_eqb, false≢true, or-true, Plain, Change, gets, to_starve, is_open, apply_some, is_held, bit, StepKind, plain, again, look, is_look, Mark, AnyOf, Registers, TriesToStarve, first_word, fair, mark_of, own, own_count, changes, held_looks, IsLateLook, RegistersInTime, moved, is_open_to, []}
 use Rattle.spin_world_core.specs.Spans.{is_blind, may_be_blind}
 use Rattle.spin_world_core.proofs.Lists.{eqb_self}
@@ -25,24 +26,24 @@ sooner Few Fewer p n span fewer old = record { looking = old.looking; soon = λ 
 abbrev pub MayBeBlind : ℕ → ℕ → List Mark → Type 0
 MayBeBlind n p span = may_be_blind p n span ≡ true
 
--- nothing is left to do of what was to be done after a late look
+-- all that is required after a late look is done
 abbrev pub none_left : List Mark → Type 0
 none_left recent = ⊥
 
--- so many steps since it when `lock` loads the word, and when it is about to make its exchange of the word w
+-- how many steps were made since that look when `lock` loads the word, and when it is about to exchange the word w
 abbrev pub few_to_load : ℕ → List Mark → Type 0
 few_to_load p recent = own_count p recent ≤ changes fair p recent
 
 abbrev pub few_to_register : ℕ → Plain → ℕ → List Mark → Type 0
 few_to_register p s w recent = own_count p recent + bit (not (first_word fair s == w)) ≤ 1 + changes fair p recent
 
--- `lock` looks, and has found the lock held k times; not counted past its patience
+-- `lock` looks, and has found the lock held k times; past its patience it does not count
 pub record Looking (patience k p : ℕ) (span : List Mark) : Type 0 where
   pub counted : k < patience → held_looks p span ≤ k
   pub many : k ≤ held_looks p span
   pub in_time : RegistersInTime none_left p patience span
 
--- it goes to register, after a late look
+-- it is about to register, after a late look
 pub record Going (Few : List Mark → Type 0) (patience p : ℕ) (span : List Mark) : Type 0 where
   pub past : patience < held_looks p span
   pub in_time : RegistersInTime Few p patience span
@@ -53,7 +54,7 @@ Loading patience p span = Going (few_to_load p) patience p span
 abbrev pub Registering : ℕ → ℕ → ℕ → Plain → List Mark → Type 0
 Registering patience w p s span = Going (few_to_register p s w) patience p span
 
--- as the call begins
+-- when the call begins
 pub none_yet : {p n : ℕ} → RegistersInTime none_left p n []
 none_yet {p} {n} = record { looking = refl; soon = λ recent m older is late. absurd (no_split recent older m is); patient = λ recent m older is register. absurd (no_split recent older m is) }
   where
@@ -119,7 +120,7 @@ module _ (patience p : ℕ) (s : Plain) (span : List Mark) where
   mine : (step : Option Change) (r : StepKind) → IsAllowed step r → (not ((p == p) && is_blind (mark_of p step r s)) || may_be_blind p patience span) ≡ true
   mine step r may = ap (λ b. not (b && is_blind (mark_of p step r s)) || may_be_blind p patience span) (eqb_self p) ∙ may
 
-  -- a step that is no look, and doesn't register
+  -- a step that is no look, and does not register
   passes : (Few Fewer : List Mark → Type 0) (step : Option Change) (r : StepKind) → is_look r ≡ false → (step ≡ Some (gets p to_starve) → ⊥) → IsAllowed step r → ((recent : List Mark) → Few recent → TriesToStarve p (mark_of p step r s) ⊎ Fewer (mark_of p step r s ∷ recent))
       → RegistersInTime Few p patience span → RegistersInTime Fewer p patience (mark_of p step r s ∷ span)
   passes Few Fewer step r no_look other may keeps old =
@@ -181,7 +182,7 @@ module _ (patience p : ℕ) (s : Plain) (span : List Mark) where
   pub looked_starving : own p span ≡ gets p to_starve ∷ [] → RegistersInTime none_left p patience span → RegistersInTime none_left p patience (mark_of p None look s ∷ span)
   looked_starving made old = later none_left none_left p patience (mark_of p None look s) span (λ recent few. inr few) (λ late. cc (made, late.unregistered)) (λ register. absurd (cc (register.1))) (mine None look refl) old
 
--- what shows that a lock is wrong: two steps after a late look that try for no place
+-- what shows that a lock is wrong: two steps after a late look that do not try to register
 pub two_in_vain : (p n : ℕ) {Few : List Mark → Type 0} {a b m : Mark} {older : List Mark} → RegistersInTime Few p n (a ∷ b ∷ m ∷ older)
     → IsLateLook p n m older → (Registers p a → ⊥) × (is_open_to a.before p to_starve ≡ true) → (Registers p b → ⊥) × (is_open_to b.before p to_starve ≡ true)
     → (Few (a ∷ b ∷ []) → ⊥) → ⊥

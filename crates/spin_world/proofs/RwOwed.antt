@@ -1,4 +1,4 @@
--- What the table of the read-write lock owes.
+-- What the table of the read-write lock must show.
 use Rattle.spin_world.proofs.RwNames.{◌≡◌, ℕ, ◌+◌, ◌/◌, ◌≤◌, true, false, Option, Some, None, List, ◌∷◌, ◌++◌, length, nat_lt, refl, ap, sym, ◌∙◌, arith, eq-eqb, length-append, Plain, Kind, reading, upgradable, asking, writing, weight, Holder, holder, to_read, to_read_upgradable, to_write, to_upgrade, to_upgrade_asked, Change, gets, releases, turns, may_come, is_empty, is_holder, may_turn, with_kind, rw_word, Entries, entries, IsExclusive, reader_limit, tells, read, read_upgradable, write, upgrade, upgrade_asked, released, is_holder-from_entries, is_holder-own, length-without_holder, empty_is, room_to_come, one_of_each, read-word, upgradable_read-word, upgradable-word, tells-holder, readers-word, writers-word, only_upgradable-word, only_asking-word, empty-word, Hold, RwCall, TryRead, Read, TryUpgradeableRead, UpgradeableRead, TryWrite, TryWriteWeak, Write, ReaderCount, WriterCount, TryUpgrade, TryUpgradeWeak, Upgrade, Downgrade, DowngradeToUpgradeable, Release, RwPoint, Exchange, Asking, Mark, begin_of, holds, entries_at, Notes, keeping_of, Means, OwesAt, OwesSoon, Pays, no_queue, [], turned_to}
 use Rattle.std.specs.Prelude.{min, max}
 use Rattle.spin_step.proofs.Sums.{length-with_kind}
@@ -11,11 +11,11 @@ use Rattle.spin_world_core.proofs.Rows.{Row, Point, starts, looked, onward}
 use Rattle.spin_world_core.proofs.Operating.{one_place, operates_by}
 use Rattle.spin_world_core.proofs.Paid.{facts_of}
 
--- a reader that asked to upgrade gets to write
+-- a reader that has asked to upgrade becomes the writer
 abbrev pub asking_row : Row
 asking_row = record { stand = holds asking; made = λ p. turns p upgradable asking ∷ []; rest = λ p. gets p to_upgrade_asked ∷ []; said = calls.granted; spent = 0 }
 
--- a call that looked has made one step; each other point is as its call's beginning
+-- a call that has looked has made one step; at any other point it is as at its beginning
 abbrev pub point_of : {V : Type 0} → V → ℕ → RwCall → RwPoint → Option Hold → Point
 point_of v cap Upgrade Asking (Some hold.Upgradable) = onward asking_row
 point_of v cap TryRead (Exchange n) None = looked 1
@@ -24,7 +24,7 @@ point_of v cap TryUpgradeableRead (Exchange n) None = looked 1
 point_of v cap UpgradeableRead (Exchange n) None = looked 1
 point_of v cap c l h = starts (begin_of (rw_table v cap) c h)
 
--- the shape of the lock: nobody queues, and no more hold than a word can tell
+-- the shape of the lock: nobody queues, and at most as many hold as a word can count
 pub record Within (cap : ℕ) (s : Plain) : Type 0 where
   pub no_queue : s.tickets ≡ []
   pub room : s.cap ≡ min cap reader_limit
@@ -33,7 +33,7 @@ pub record Within (cap : ℕ) (s : Plain) : Type 0 where
 abbrev pub rw_notes : {V : Type 0} (v : V) (cap : ℕ) → Notes (rw_table v cap)
 rw_notes v cap = record { Shape = λ s. Within cap s; point = point_of v cap; Knows = λ c l h p s span. Unit {0} }
 
--- a party that stands so is a holder
+-- a party with these entries is a holder
 pub holder_by : (p : ℕ) (k : Kind) (s : Plain) → entries p s ≡ entries_at p (holds k) → is_holder p k s.holders ≡ true
 holder_by p k s mine = is_holder-from_entries p k s.holders (ap (λ (e : Entries). e.holders) mine)
 
@@ -79,7 +79,7 @@ module _ {V : Type 0} (v : V) (cap : ℕ) where
         let found = holder_by p asking s mine in
         grind (arith, rw_upgrade_asked-grants s p w (one_of_each s exclusive) found word, turned s p asking writing shape)
 
-    -- What holders find, and what a turn and a release mean
+    -- What holders find, and what a conversion and a release mean
 
     finds : (k : Kind) → is_holder p k s.holders ≡ true → tells k w ≡ true
     finds k found = ap (tells k) (sym word) ∙ tells-holder s p k exclusive (omega (arith, shape.few, shape.room)) found
@@ -97,7 +97,7 @@ module _ {V : Type 0} (v : V) (cap : ℕ) where
     finds_room : is_holder p upgradable s.holders ≡ true → nat_lt (w / weight reading) reader_limit ≡ true
     finds_room found = grind (arith, word, upgradable-word s p exclusive (omega (arith, shape.few, shape.room)) found)
 
-    -- and whoever may come
+    -- and what a party finds that the lock admits
 
     reads : may_come reading s ≡ true → read cap w ≡ Some (w + weight reading)
     reads may = rw (sym (read-word s w cap (one_of_each s exclusive) shape.room word) ∙ may) refl
@@ -122,7 +122,7 @@ module _ {V : Type 0} (v : V) (cap : ℕ) where
   owes p DowngradeToUpgradeable l h s w span = grind (arith, turn_means p s w)
   owes p Release l h s w span = grind (arith, release_means p s w)
 
-  -- Run alone: the word that lets a party in is exchanged, at once or after a look
+  -- Undisturbed, the exchange succeeds on a word that admits the party, at once or after a look
 
   soon : (p : ℕ) (c : RwCall) (l : RwPoint) (h : Option Hold) (s : Plain) (w : ℕ) (span : List Mark)
       → OwesSoon (rw_table v cap) (rw_notes v cap) p c l h s w span

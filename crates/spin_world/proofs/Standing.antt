@@ -1,4 +1,4 @@
--- What users of a read-write lock rely on.
+-- What users of a read-write lock may rely on.
 use Rattle.spin_world.proofs.RwNames.{◌≡◌, ℕ, ◌+◌, ◌==◌, ◌↔◌, Bool, true, false, Option, Some, None, List, ◌∷◌, ◌++◌, slice_get, ap, sym, ◌∙◌, arith, Plain, Kind, reading, upgradable, asking, writing, Change, is_holder, is_only, count_kind, rw_word, weight, apply_some, IsOpenStep, entries, IsExclusive, bit, empty_is, is_holder-own, reader_goes, one_of_each, only_asking-word, empty-word, word_of, Answer, Hold, RwCall, RwPoint, Mark, Stand, holds, holds_and_starves, entries_at, row_of, []}
 use Rattle.spin_step_more.proofs.Upgrading.{readers_only_go, alone_when_gone}
 use Rattle.spin_model.specs.declared.answer.Answer.TheVariants.{Granted, Done}
@@ -20,17 +20,17 @@ use Rattle.spin_world_core.proofs.Every.{kept}
 use Rattle.spin_model.proofs.Schedules.{after-append}
 use Rattle.spin_world_core.proofs.Guards.{reads_agree_across, seen_after-append}
 
--- Who stands beside a reader that asks to upgrade
+-- Who holds together with a reader that asks to upgrade
 
 goes_some : (s : Plain) (p q : ℕ) (step : Option Change) → IsExclusive s → is_holder p asking s.holders ≡ true → IsOpenStep s q step → is_holder p asking (apply_some s step).holders ≡ true
     → count_kind reading (apply_some s step).holders + bit (passes reader_goes step) ≡ count_kind reading s.holders
 goes_some s p q step alone found may stays = grind (arith, readers_only_go s p, alone)
 
--- whoever holds keeps other parties from writing
+-- a party that holds keeps other parties from writing
 keeps_writers_out : (p : ℕ) (k : Kind) (s : Plain) → is_holder p k s.holders ≡ true → KeepsWritersOut p s
 keeps_writers_out p k s found = λ q ne. grind (arith, found, ne)
 
--- a party that asks stands as one that does
+-- the party's part is that of a reader that asks
 abbrev may_ask : Stand → Bool
 may_ask (holds asking) = true
 may_ask (holds_and_starves k) = true
@@ -40,7 +40,7 @@ asks_by : (p : ℕ) (s : Plain) (stand : Stand) → is_holder p asking s.holders
 asks_by p s stand asks is = grind (arith, is_holder-own p asking s.holders)
 
 module _ {V : Type 0} (v : V) (cap : ℕ) where
-  -- a party that asks is in its upgrade, and goes for the word of a reader that is alone and asks
+  -- a party that asks is in its upgrade, and expects the word of one reader that asks
   abbrev Upgrades : State ℕ V RwCall RwPoint → ℕ → RwCall → RwPoint → Option Hold → Type 0
   Upgrades s p c l h = ((moves_at (rw_machine v cap) s p Step (Some (Calling c l h))).outcome ≡ Answered Granted None) ↔ ((s.words == weight asking) ≡ true)
 
@@ -68,7 +68,7 @@ module _ {V : Type 0} (v : V) (cap : ℕ) where
       → ((after m (at_first m n) past).words ≡ 0) ↔ ((seen_after m (opening m n) past).plain.holders ≡ [])
   zero_when_free n past = (λ zero. empty_is _ (empty-word _ 0 (sym (words_are n past) ∙ zero)), λ none. words_are n past ∙ ap word_of none)
 
-  -- An upgrade opens by releases
+  -- An upgrade is opened by releases
 
   stays_now : (p : ℕ) (seen : Seen ℕ V RwCall RwPoint) (es : List (ℕ × Move RwCall V)) → StaysAsking p m seen es → is_holder p asking seen.plain.holders ≡ true
   stays_now p seen [] stays = stays
@@ -125,7 +125,7 @@ module _ {V : Type 0} (v : V) (cap : ℕ) where
   holds_there p c l h held s span is knows =
       grind (arith, knows, holder_by p writing s, holder_by p upgradable s, keeps_writers_out p writing s, keeps_writers_out p upgradable s)
 
-  -- and so it does after it
+  -- and it still holds after it
   holds_after : (p : ℕ) (held : Hold) (c : RwCall) (s : Plain) → less c ≡ Some held → entries p s ≡ entries_of p held → KeepsWritersOut p s
   holds_after p held c s is mine =
       grind (arith, holder_by p reading s, holder_by p upgradable s, keeps_writers_out p reading s, keeps_writers_out p upgradable s)
@@ -147,7 +147,7 @@ module _ {V : Type 0} (v : V) (cap : ℕ) where
         later = holds_after p held c later.plain is (stands m (rw_keeping v cap) (rw_facts v cap) n all p (Holding held) seat);
       }
 
-  -- Looks across conversions
+  -- Reads across conversions
 
   abbrev reads_at : ℕ → RwCall → RwPoint → Hold → Bool
   reads_at p c l h = passes_all (λ row. is_reader (entries_at p row.stand)) (row_of (rw_table v cap) (rw_notes v cap) c l (Some h))

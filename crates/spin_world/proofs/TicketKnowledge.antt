@@ -1,24 +1,24 @@
--- What a party finds of a queue of tickets, and what it comes to.
+-- What a party finds in a queue of tickets, and what its steps result in.
 use Rattle.spin_world.proofs.TicketNames.{any_passes, ◌≡◌, ℕ, ◌==◌, ◌≤◌, ◌⊎◌, Bool, true, false, not, None, List, ◌∷◌, arith, Plain, ticket_limit, to_take_and_enter, is_empty, is_open_to, serving_word, is_held, Numbered, nobody_stands, somebody_stands, plain, mark_of, is_left, []}
 use Rattle.spin_model.specs.Calls.{AnyOf, Mark}
 use Rattle.spin_model.specs.Asks.{same}
 use Rattle.std.specs.List.{list_any}
 
--- the shape of the lock: a queue without other holders
+-- the shape of the lock: a queue, and no other holders
 pub record Queue (s : Plain) : Type 0 where
   pub no_holders : s.holders ≡ []
   pub numbered : Numbered s
   pub in_range : is_empty s.tickets ≡ false → s.next ≤ ticket_limit
 
--- a ticket stood at a moment of the span
+-- at some moment of the span there was a ticket
 abbrev pub Stood : List Mark → Type 0
 Stood span = AnyOf (λ m. is_empty m.before.tickets ≡ false) span
 
--- since the party found the number k to be next, or served, it is served still, or a ticket has stood
+-- since the party found the number k next, or served, either k is still served or there was a ticket
 abbrev pub Stays : ℕ → Plain → List Mark → Type 0
 Stays k s span = Stood span ⊎ (serving_word s ≡ k)
 
--- and what is served hasn't fallen
+-- and the served number has not fallen
 abbrev pub Rises : ℕ → Plain → List Mark → Type 0
 Rises k s span = (k ≤ serving_word s) × Stays k s span
 
@@ -29,7 +29,7 @@ pub try_refused : (p n : ℕ) (s : Plain) (span : List Mark) → Stays n s span 
 try_refused p n s span stays up =
     grind (arith, up, any_passes (λ m. is_empty m.before.tickets ≡ false) (λ m. not (is_open_to m.before p to_take_and_enter)) span)
 
--- a look at the next number, where k was served
+-- a load of the next number, after k was found served
 pub look_right : (b : Bool) (p k : ℕ) (s : Plain) (span : List Mark) → Queue s → Rises k s span → (s.next == k) ≡ b
     → list_any (λ m. same (not b) (is_held m.before)) (mark_of p None plain s ∷ span) ≡ true
 look_right true p k s span queue found is = grind (arith, nobody_stands s.next s.tickets, queue)

@@ -1,4 +1,4 @@
--- What the ticket lock's table owes.
+-- What the ticket lock's table must show.
 use Rattle.spin_world.proofs.TicketNames.{serving-advances, ◌≡◌, ℕ, ◌+◌, ◌-◌, ◌≤◌, ◌==◌, true, false, filter, Option, Some, None, List, ◌∷◌, refl, ap, sym, ◌∙◌, arith, Plain, is_first, effect, to_take_ticket, to_enter, to_take_and_enter, Change, gets, serves, next_word, serving_word, Entries, entries, take, enters_in_turn, numbered-given, numbered-serves, serving-taken, serving-entered, entered_is_served, stands, Hold, TicketWords, TicketCall, Lock, TryLock, IsLocked, Release, TicketPoint, LoadNext, Take, Await, TryLoadNext, TryLoadServing, TryTake, LookServing, LookNext, Serve, own_count, plain, passing, is_left, ticket_table, ticket_machine, LocalInvariant, Facts, queues, entries_at, any_map, Point, nowhere, looked, onward, Notes, keeping_of, Means, OwesAt, OwesSoon, Pays, two, no_holders, two_places, [], Queued, queued}
 use Rattle.spin_step.specs.Parties.{first_alone_entered}
 use Rattle.spin_step.proofs.TicketSteps.{ticket_take-grants_alone, ticket_serve-gives}
@@ -22,7 +22,8 @@ point_of IsLocked (LookNext k) None = looked 1
 point_of Release (Serve t) (Some (hold.Ticket u)) = looked 0
 point_of _ _ _ = nowhere
 
--- what else a party knows: since it found the number, a ticket has stood or that is served still; and it goes with the ticket that it holds
+-- What else a party knows: since it found the number, there was a ticket or that number is still served. And its point
+-- names the ticket that it holds.
 abbrev KnowsAt : TicketPoint → Option Hold → ℕ → Plain → List Mark → Type 0
 KnowsAt (TryLoadServing n) h p s span = Stays n s span × AnyOf (λ m. (m.party ≡ p) × (next_word m.before ≡ n)) span × (own_count p span ≡ 1)
 KnowsAt (TryTake n) h p s span = Rises n s span × (own_count p span ≡ 2)
@@ -33,7 +34,7 @@ KnowsAt _ h p s span = Unit {0}
 abbrev pub ticket_notes : {V : Type 0} (v : V) (first : ℕ) → Notes (ticket_table v first)
 ticket_notes v first = record { Shape = λ s. Queue s; point = point_of; Knows = λ c l h p s span. KnowsAt l h p s span }
 
--- a party that waits with a ticket hasn't entered yet
+-- a party that waits with a ticket has not entered yet
 not_entered : (p t : ℕ) (ts : List Queued) → filter (λ t. t.party == p) ts ≡ queued p t false ∷ [] → is_first p true ts ≡ false
 not_entered p t [] mine = refl
 not_entered p t (k ∷ ts) mine = grind arith
@@ -49,7 +50,7 @@ module _ {V : Type 0} (v : V) (first : ℕ) where
         let numbered = numbered-given s p (effect to_take_ticket) queue.numbered in
         grind (arith, queue, serving-taken s p false queue.numbered, numbered)
 
-    -- where the number is served
+    -- if the number is served
     take_alone_means : w.next ≤ serving_word s → IsMeant p s (gets p to_take_and_enter) (λ n. record w { next = n }) (take w.next)
     take_alone_means le =
         let numbered = numbered-given s p (effect to_take_and_enter) queue.numbered in
@@ -78,7 +79,7 @@ module _ {V : Type 0} (v : V) (first : ℕ) where
   owes p IsLocked (LookNext k) None s w span = grind (arith, look_right (w.next == k) p k s span)
   owes p c l h s w span = grind (arith, take_means p s w, enter_means p s w, serve_means p s w, own_count-mine p None plain s span)
 
-  -- run alone: the next ticket is taken, at once or after a look, and enters where it is served
+  -- Undisturbed, the party takes the next ticket, at once or after a look, and enters if it is served
 
   soon : (p : ℕ) (c : TicketCall) (l : TicketPoint) (h : Option Hold) (s : Plain) (w : TicketWords) (span : List Mark)
       → OwesSoon (ticket_table v first) (ticket_notes v first) p c l h s w span

@@ -10,13 +10,13 @@ counted : (p k : ℕ) (span : List Mark) → FoundNext p k span → 1 ≤ own_co
 counted p k [] found = absurd found
 counted p k (m ∷ ms) found = grind (arith, counted p k ms)
 
--- by its only step it has found one
+-- after its only step it has found one number
 only_one : (p a b : ℕ) (span : List Mark) → own_count p span ≡ 1 → FoundNext p a span → FoundNext p b span → a ≡ b
 only_one p a b [] one x y = absurd x
 only_one p a b (m ∷ ms) one x y = grind (arith, counted p a ms, counted p b ms, only_one p a b ms)
 
 module _ {V : Type 0} (v : V) (first : ℕ) where
-  -- what its next step comes to
+  -- the result of its next step
   abbrev Continues : State TicketWords V TicketCall TicketPoint → ℕ → TicketCall → TicketPoint → Option Hold → Type 0
   Continues s p c l h = (moves_at (ticket_machine v first) s p Step (Some (Calling c l h))).outcome ≡ GoingOn
 

@@ -1,4 +1,5 @@
--- What a barrier is: how it opens, the size of its groups, and what its call asks. Where the call begins follows from what it asks.
+-- What a barrier is: its first state, the size of its groups, and what its call asks. What the call asks decides where
+-- it begins.
 use Rattle.std.specs.Prelude.{◌≡◌, ℕ, false, Option, None, [], ◌∷◌}
 use Rattle.spin_model.specs.declared.place.Hold.{Hold}
 use Rattle.spin_model.specs.declared.answer.Answer.{Answer}
@@ -14,10 +15,10 @@ use Rattle.spin_world_core.specs.Kinds.{BeginAt}
 pub record IsBarrierOf (n : ℕ) (m : BarrierMachine) : Type 0 where
   pub lock_kind : m.lock_kind ≡ barrier
   pub group : m.group ≡ n
-  -- nobody has arrived, and no group has been filled
+  -- nobody has arrived, and no group is full yet
   pub opens_empty : m.words ≡ record { count = 0; generation = 0 }
   pub numbers : (w : BarrierWords) → m.numbers w ≡ w.count ∷ w.generation ∷ []
-  -- there is nothing to hold
+  -- there is nothing that a party may hold
   pub cap : m.cap ≡ 0
   pub no_value : m.value ≡ None
   pub owned : m.owned ≡ false

@@ -21,17 +21,17 @@ use Rattle.spin_step_more.specs.declared.fair_calls.FairPoint.{FairPoint}
 abbrev pub IsFree : Plain → Type 0
 IsFree s = (s.holders ≡ []) × (s.starvers ≡ [])
 
--- where a party holds the lock after a move of its own, and before it neither held nor starved, nobody starved
+-- if a party holds the lock after its own move, and before it neither held nor starved, then nobody starved
 abbrev pub ComesAfterStarvers : {V : Type 0} → Machine ℕ V FairCall FairPoint (Answer V) → ℕ → List (ℕ × Move FairCall V) → ℕ → Move FairCall V → Type 0
 ComesAfterStarvers m n past p move =
     let before = seen_after m (opening m n) past in
     is_holder p writing before.plain.holders ≡ false → is_starver p before.plain.starvers ≡ false → is_holder p writing (scene m before p move).after.plain.holders ≡ true → before.plain.starvers ≡ []
 
--- a party has got the lock as a starver, and is registered still
+-- a party has acquired the lock as a starver, and is still registered
 abbrev pub holds_registered : ℕ → Entries
 holds_registered p = record no_entries { holders = holder p writing ∷ []; starvers = p ∷ [] }
 
--- after these entries the next step of a call that has come so far is granted the lock, whatever the others do
+-- after these entries, the next step of a call that has got so far is granted the lock, whatever others do
 abbrev pub IsGrantedNext : {V : Type 0} → Machine ℕ V FairCall FairPoint (Answer V) → ℕ → List (ℕ × Move FairCall V) → Type 0
 IsGrantedNext m n past =
     (p : ℕ) (c : FairCall) (l : FairPoint) (h : Option Hold) → slice_get (after m (at_first m n) past).seats p ≡ Some (Calling c l h)
@@ -41,11 +41,11 @@ IsGrantedNext m n past =
 abbrev pub only_starves : ℕ → Entries
 only_starves p = record no_entries { starvers = p ∷ [] }
 
--- the step at this point sets the flag wherever it is clear
+-- the step at this point sets the flag whenever it is clear
 abbrev pub SetsAClearFlag : {V : Type 0} → Machine ℕ V FairCall FairPoint (Answer V) → FairCall → FairPoint → Option Hold → Type 0
 SetsAClearFlag {V} m c l h = (w : ℕ) (value : Option V) → w % 2 ≡ 0 → (m.step w value c l h).words ≡ w + 1
 
--- after these entries, where nobody holds: the next step of a starver that waits sets the flag, or goes on to one that does
+-- After these entries, if nobody holds: the next step of a waiting starver sets the flag, or leads to a step that does.
 abbrev pub GoesForAClearFlag : {V : Type 0} → Machine ℕ V FairCall FairPoint (Answer V) → ℕ → List (ℕ × Move FairCall V) → Type 0
 GoesForAClearFlag m n past =
     (p : ℕ) (c : FairCall) (l : FairPoint) (h : Option Hold) → let s = after m (at_first m n) past in

@@ -1,4 +1,4 @@
--- What a flag is: how it opens, and what each of its calls asks. Where a call begins follows from what it asks.
+-- What a flag is: its first state, and what each of its calls asks. What a call asks decides where it begins.
 use Rattle.std.specs.Prelude.{◌≡◌, Bool, true, false, Option, Some, None, [], ◌∷◌}
 use Rattle.spin_step.specs.Plain.{to_write}
 use Rattle.spin_step.specs.Steps.{bit}

@@ -1,4 +1,5 @@
--- What users of a barrier rely on: exactly the last arrival of each group leads, and a follower goes on once its group is full.
+-- What users of a barrier may rely on: exactly the last arrival of each group leads, and a follower leaves once its
+-- group is full.
 use Rattle.std.specs.Prelude.{◌≡◌, ℕ, ◌+◌, ◌/◌, ◌%◌, ◌^◌, ◌↔◌, Bool, true, false, Option, Some, None, List, [], ◌∷◌, max, slice_get}
 use Rattle.spin_step.specs.Plain.{Change, arrives}
 use Rattle.spin_step.specs.Barriers.{may_leave}
@@ -24,25 +25,26 @@ is_arrival _ = false
 abbrev pub Entries : Type 0
 Entries = List (ℕ × Move BarrierCall ℕ)
 
--- the barrier after a schedule, beside its plain lock
+-- the barrier with its plain lock, after a schedule
 abbrev pub seen_at : BarrierMachine → ℕ → Entries → Seen BarrierWords ℕ BarrierCall BarrierPoint
 seen_at m parties past = seen_after m (opening m parties) past
 
--- how many have arrived in a schedule
+-- how many arrivals a schedule makes
 abbrev pub arrivals : BarrierMachine → ℕ → Entries → ℕ
 arrivals m parties past = steps_made is_arrival m (opening m parties) past
 
--- whether the party's next step is an arrival
+-- the party's next step is an arrival
 abbrev pub arrives_next : BarrierMachine → ℕ → Entries → ℕ → Bool
 arrives_next m parties past p = passes is_arrival (scene m (seen_at m parties past) p Step).change
 
--- After a schedule, where groups have n: the words count its arrivals in groups, and a step is answered that its party leads just where it is the last arrival of a group
+-- After a schedule, if groups have n arrivals: the words count the arrivals in groups. A step answers that its party
+-- leads exactly if it is the last arrival of a group.
 pub record InGroups (m : BarrierMachine) (n parties : ℕ) (past : Entries) : Type 0 where
   pub count : (after m (at_first m parties) past).words.count ≡ arrivals m parties past % max n 1
   pub generation : (after m (at_first m parties) past).words.generation ≡ (arrivals m parties past / max n 1) % 2 ^ 64
   pub leads : (p : ℕ) → (outcome_after m parties past p Step ≡ Answered Leader None) ↔ ((arrives_next m parties past p ≡ true) × ((arrivals m parties past + 1) % max n 1 ≡ 0))
 
--- A party that has arrived and waits is answered by its next step exactly where its group has been filled since, whatever others do meanwhile
+-- The next step of a follower answers exactly if its group is full by then, whatever others do meanwhile.
 abbrev pub FollowersLeave : BarrierMachine → ℕ → Entries → Type 0
 FollowersLeave m parties past =
     let seen = seen_at m parties past in

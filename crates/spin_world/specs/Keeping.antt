@@ -1,4 +1,4 @@
--- What users of a `Once` rely on.
+-- What users of a `Once` may rely on.
 use Rattle.std.specs.Prelude.{◌≡◌, ℕ, ◌⊎◌, Bool, true, false, ◌&&◌, Option, Some, None, is_some, List, [], ◌∷◌, ◌++◌, ◌==◌, if◌then◌else◌, slice_get, not, ◌||◌}
 use Rattle.spin_step.specs.Plain.{to_begin, gets, is_complete, Change, is_empty}
 use Rattle.spin_model.specs.declared.answer.Answer.{Answer}
@@ -27,7 +27,7 @@ Entries V = List (ℕ × Move (OnceCall V) V)
 abbrev pub once_after : {V : Type 0} → OnceMachine V → ℕ → Entries V → State ℕ V (OnceCall V) OncePoint
 once_after m n past = after m (at_first m n) past
 
--- the same beside its plain lock
+-- the same with its plain lock
 abbrev pub seen_at : {V : Type 0} → OnceMachine V → ℕ → Entries V → Seen ℕ V (OnceCall V) OncePoint
 seen_at m n past = seen_after m (opening m n) past
 
@@ -40,12 +40,12 @@ abbrev pub is_shared : {C V : Type 0} → List (ℕ × Move C V) → Bool
 is_shared [] = true
 is_shared (e ∷ es) = keeps_value e.1 && is_shared es
 
--- Once a closure has completed there is a value, and the same from then on, while no owner replaces it
+-- There is a value exactly if a closure has completed. It stays the same until an owner replaces it.
 pub record ValueStays {V : Type 0} (m : OnceMachine V) (n : ℕ) (past further : Entries V) : Type 0 where
   pub complete : is_complete (seen_at m n past).plain.phase ≡ is_some (once_after m n past).value
   pub stays : (v : V) → (once_after m n past).value ≡ Some v → is_shared further ≡ true → (once_after m n (past ++ further)).value ≡ Some v
 
--- the party runs its closure: it is in a call whose one plain step so far is that it has begun
+-- the party runs its closure: the only plain step of its call so far is that it has begun the closure
 pub record RunsClosure {V : Type 0} (m : OnceMachine V) (n : ℕ) (past : Entries V) (p : ℕ) : Type 0 where
   pub call : OnceCall V
   pub point : OncePoint
@@ -53,18 +53,18 @@ pub record RunsClosure {V : Type 0} (m : OnceMachine V) (n : ℕ) (past : Entrie
   pub calls : slice_get (once_after m n past).seats p ≡ Some (Calling call point held)
   pub begun : own p ((seen_at m n past).span p) ≡ gets p to_begin ∷ []
 
--- what a closure's end is answered
+-- the answer at the end of a closure
 abbrev pub answer_of : {V : Type 0} → Option V → Answer V
 answer_of (Some v) = Value v
 answer_of None = Failed
 
--- At most one party runs a closure, and none once there is a value; its next step ends it
+-- At most one party runs a closure, and none once there is a value. The party's next step ends its closure.
 pub record OneRuns {V : Type 0} (m : OnceMachine V) (n : ℕ) (past : Entries V) : Type 0 where
   pub alone : (p q : ℕ) → RunsClosure m n past p → RunsClosure m n past q → p ≡ q
   pub before : (p : ℕ) → RunsClosure m n past p → (once_after m n past).value ≡ None
   pub ends : (p : ℕ) → (runs : RunsClosure m n past p) → outcome_after m n past p Step ≡ Answered (answer_of (m.brings runs.call)) None
 
--- which calls answer the value where there is one, and which run a closure where there is none
+-- which calls answer the value if there is one, and which run a closure if there is none
 abbrev pub wants_value : Asked → Bool
 wants_value what = not (is_empty (own_steps (what.answers gives_value) 0))
 
@@ -75,21 +75,23 @@ is_begun (c ∷ cs) = is_for to_begin c
 abbrev pub has_closure : Asked → Bool
 has_closure what = list_any is_begun (own_steps (what.answers gives_value) 0) || list_any is_begun (own_steps (what.answers failed) 0)
 
--- where there is a value, the next step of each call that wants it answers it; where there is none and no closure runs, that of a poll says so
+-- If there is a value, the next step of each call that wants it answers it. If there is none and no closure runs, the
+-- next step of a `poll` says so.
 pub record AnswersAtOnce {V : Type 0} (m : OnceMachine V) (n : ℕ) (past : Entries V) : Type 0 where
   pub value : (p : ℕ) (v : V) (c : OnceCall V) (l : OncePoint) (h : Option Hold) → (once_after m n past).value ≡ Some v → slice_get (once_after m n past).seats p ≡ Some (Calling c l h) → wants_value (m.asks c h) ≡ true
       → outcome_after m n past p Step ≡ Answered (Value v) None
   pub none : (p : ℕ) (l : OncePoint) (h : Option Hold) → (once_after m n past).words ≡ 0 → slice_get (once_after m n past).seats p ≡ Some (Calling Poll l h)
       → outcome_after m n past p Step ≡ Answered NoValue None
 
--- where an answer gives a value, a later `get` gives the same, while no owner replaces it
+-- after an answer with a value, a later `get` answers the same value, unless an owner replaces it
 abbrev pub GetAgrees : {V : Type 0} → OnceMachine V → ℕ → Entries V → Entries V → Type 0
 GetAgrees {V} m n past further =
     (p q : ℕ) (v : V) (l : OncePoint) (h : Option Hold) → outcome_after m n past p Step ≡ Answered (Value v) None → is_shared further ≡ true
     → slice_get (once_after m n (past ++ (p, Step) ∷ further)).seats q ≡ Some (Calling Get l h)
     → outcome_after m n (past ++ (p, Step) ∷ further) q Step ≡ Answered (Value v) None
 
--- After a closure that failed the word is 0, and where it is 0 a call with a closure runs it by its second step, if nobody else takes one
+-- After a closure failed the word is 0. From 0, a call with a closure runs it by its second step, if nobody else steps
+-- in between.
 pub record MayRunAgain {V : Type 0} (m : OnceMachine V) (n : ℕ) (past : Entries V) : Type 0 where
   pub clears : (p : ℕ) → outcome_after m n past p Step ≡ Answered Failed None → (once_after m n (past ++ (p, Step) ∷ [])).words ≡ 0
   pub begins : (p : ℕ) (c : OnceCall V) (l : OncePoint) (h : Option Hold) → (once_after m n past).words ≡ 0 → slice_get (once_after m n past).seats p ≡ Some (Calling c l h) → has_closure (m.asks c h) ≡ true
@@ -104,6 +106,6 @@ has_just_looked p (m ∷ ms) = if m.party == p then is_look m.step_kind else has
 abbrev pub LooksFirst : {V : Type 0} → OnceMachine V → ℕ → Entries V → Type 0
 LooksFirst m n past = (p : ℕ) → (scene m (seen_at m n past) p Step).change ≡ Some (gets p to_begin) → has_just_looked p ((seen_at m n past).span p) ≡ true
 
--- while the word does not say that there is a value, a closure may be writing it: what a step results in does not depend on what lies there
+-- While the word does not say that there is a value, a closure may be writing it. So no step depends on the value.
 abbrev pub LooksWhereComplete : {V : Type 0} → OnceMachine V → Type 0
 LooksWhereComplete {V} m = (w : ℕ) (u v : Option V) (c : OnceCall V) (l : OncePoint) (h : Option Hold) → (w ≡ 2 → ⊥) → m.step w u c l h ≡ m.step w v c l h

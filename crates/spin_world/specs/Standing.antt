@@ -1,4 +1,4 @@
--- What users of a read-write lock rely on: who stands beside whom, and when an upgrade opens.
+-- What users of a read-write lock may rely on: who may hold together, and when an upgrade is open.
 use Rattle.std.specs.Prelude.{◌≡◌, ℕ, ◌+◌, ◌<◌, ◌≤◌, ◌↔◌, Bool, true, false, Option, Some, None, List, [], ◌∷◌, ◌++◌, length, slice_get, min, max}
 use Rattle.spin_step.specs.Plain.{Plain, reading, asking, writing, to_write, to_upgrade, to_upgrade_asked, is_open_to, is_holder, count_kind, upgraders, rw_word}
 use Rattle.spin_step_more.specs.Readers.{reader_limit, reader_goes}
@@ -18,14 +18,15 @@ use Rattle.spin_model.specs.Schedules.{after, at_first}
 use Rattle.spin_world_core.specs.Runs.{Seen, scene, opening}
 use Rattle.spin_world_core.specs.Users.{seen_after, outcome_after, steps_made}
 
--- a lock of this cap, with this word and these holders: a writer holds alone, at most one of them may upgrade, and they are never more than may hold
+-- A lock with this cap, this word and these holders: a writer holds alone, at most one party may upgrade, and no more
+-- parties hold than may.
 pub record StandTogether (cap w : ℕ) (s : Plain) : Type 0 where
   pub word : w ≡ rw_word s
   pub writer : 0 < count_kind writing s.holders → length s.holders ≡ 1
   pub one_upgradable : upgraders s.holders ≤ 1
   pub within : length s.holders ≤ max (min cap reader_limit) 1
 
--- no other party may become the writer, neither as it comes nor by an upgrade
+-- no other party may become the writer, neither by a new call nor by an upgrade
 abbrev pub KeepsWritersOut : ℕ → Plain → Type 0
 KeepsWritersOut p s = (q : ℕ) → (q ≡ p → ⊥) → (is_open_to s q to_write ≡ false) × (is_open_to s q to_upgrade ≡ false) × (is_open_to s q to_upgrade_asked ≡ false)
 
@@ -35,7 +36,7 @@ less Downgrade = Some hold.Read
 less DowngradeToUpgradeable = Some hold.Upgradable
 less _ = None
 
--- a downgrade is one step, from a state in which no other party may become the writer to another such state
+-- a downgrade is one step; in the states before it and after it no other party may become the writer
 pub record DowngradesAtOnce {V : Type 0} (m : Machine ℕ V RwCall RwPoint (Answer V)) (n : ℕ) (past : List (ℕ × Move RwCall V)) (p : ℕ) (held : Hold) : Type 0 where
   pub before : KeepsWritersOut p (seen_after m (opening m n) past).plain
   pub done : outcome_after m n past p Step ≡ Answered Done None
@@ -47,23 +48,24 @@ Downgrades m n past =
     (p : ℕ) (c : RwCall) (l : RwPoint) (h : Option Hold) (held : Hold) → less c ≡ Some held
     → slice_get (after m (at_first m n) past).seats p ≡ Some (Calling c l h) → DowngradesAtOnce m n past p held
 
--- how many readers go in the events of these entries
+-- how many readers release in the events of these entries
 abbrev pub readers_gone : {W V C L A : Type 0} → Machine W V C L A → Seen W V C L → List (ℕ × Move C V) → ℕ
 readers_gone m seen es = steps_made reader_goes m seen es
 
--- the party is the holder that asks, before and after each of these entries
+-- the party is the holder that asks to upgrade, before and after each of these entries
 abbrev pub StaysAsking : {W V C L A : Type 0} → ℕ → Machine W V C L A → Seen W V C L → List (ℕ × Move C V) → Type 0
 StaysAsking p m seen [] = is_holder p asking seen.plain.holders ≡ true
 StaysAsking p m seen (e ∷ es) = (is_holder p asking seen.plain.holders ≡ true) × StaysAsking p m (scene m seen e.0 e.1).after es
 
--- Beside a holder that asks stand only readers that stood there when it asked, and its upgrade is open exactly when all that stood have gone
+-- While a party asks to upgrade, only readers hold with it that held when it asked. Its upgrade is open exactly when
+-- all of them have released.
 pub record OpensByReleases {V : Type 0} (m : Machine ℕ V RwCall RwPoint (Answer V)) (n : ℕ) (past further : List (ℕ × Move RwCall V)) (p : ℕ) : Type 0 where
-  -- the readers never grow, and each that goes is one less
+  -- the number of readers never grows, and each release reduces it by one
   pub readers :
       count_kind reading (seen_after m (opening m n) (past ++ further)).plain.holders + readers_gone m (seen_after m (opening m n) past) further ≡ count_kind reading (seen_after m (opening m n) past).plain.holders
   pub opens :
       (is_open_to (seen_after m (opening m n) (past ++ further)).plain p to_upgrade_asked ≡ true) ↔ (readers_gone m (seen_after m (opening m n) past) further ≡ count_kind reading (seen_after m (opening m n) past).plain.holders)
-  -- and exactly then the next step of the holder's own upgrade is granted
+  -- and exactly then the next step of the party's own upgrade succeeds
   pub granted : (c : RwCall) (l : RwPoint) (h : Option Hold)
       → slice_get (after m (at_first m n) (past ++ further)).seats p ≡ Some (Calling c l h)
       → (outcome_after m n (past ++ further) p Step ≡ Answered Granted None) ↔ (readers_gone m (seen_after m (opening m n) past) further ≡ count_kind reading (seen_after m (opening m n) past).plain.holders)
@@ -71,7 +73,7 @@ pub record OpensByReleases {V : Type 0} (m : Machine ℕ V RwCall RwPoint (Answe
 abbrev pub Opens : {V : Type 0} → Machine ℕ V RwCall RwPoint (Answer V) → ℕ → List (ℕ × Move RwCall V) → List (ℕ × Move RwCall V) → Type 0
 Opens m n past further = (p : ℕ) → StaysAsking p m (seen_after m (opening m n) past) further → OpensByReleases m n past further p
 
--- the calls that change what a party holds and keep its guard
+-- the calls that change what a party holds, but keep its guard
 abbrev pub converts : RwCall → Bool
 converts TryUpgrade = true
 converts TryUpgradeWeak = true

@@ -1,4 +1,4 @@
--- What users of a ticket lock rely on: its tickets stand in order, and enter in their turn.
+-- What users of a ticket lock may rely on: its tickets are in order, and their parties enter in turn.
 use Rattle.std.specs.Prelude.{◌≡◌, ℕ, ◌+◌, ◌<◌, ◌↔◌, Bool, true, false, Option, Some, None, List, [], ◌∷◌, ◌++◌, slice_get}
 use Rattle.spin_step.specs.Plain.{Plain, ticket, ticket_limit, to_take_and_enter, Change, serves, next_word, serving_word}
 use Rattle.spin_step.specs.Parties.{Entries, entries, no_entries, first_alone_entered}
@@ -21,42 +21,45 @@ use Rattle.spin_world_core.specs.Runs.{Seen, opening, own_count}
 use Rattle.spin_world_core.specs.Users.{seen_after, outcome_after, steps_made}
 use Rattle.spin_world_core.specs.Order.{tries_of}
 
--- a ticket goes
+-- the first ticket leaves the queue
 abbrev pub serves_one : Change → Bool
 serves_one (serves p) = true
 serves_one _ = false
 
--- how many tickets go in the events of these entries
+-- how many tickets leave in the events of these entries
 abbrev pub tickets_gone : {W V C L A : Type 0} → Machine W V C L A → Seen W V C L → List (ℕ × Move C V) → ℕ
 tickets_gone m seen es = steps_made serves_one m seen es
 
--- the queue of a ticket lock after a schedule: its tickets are numbered one by one from the number that is served up to the next, and none but the first has entered
+-- The queue of a ticket lock after a schedule. Its tickets have all numbers from the served one up to the next, and
+-- only the first may have entered.
 pub record InOrder (w : TicketWords) (s : Plain) : Type 0 where
   pub next : w.next ≡ next_word s
   pub serving : w.serving ≡ serving_word s
   pub numbered : Numbered s
   pub one_entered : first_alone_entered s.tickets ≡ true
 
--- a party has this ticket, which hasn't entered, and nothing else
+-- a party has this ticket, which has not entered, and nothing else
 abbrev pub waits_with : ℕ → ℕ → Entries
 waits_with p t = record no_entries { tickets = ticket p t false ∷ [] }
 
--- After further entries, where the number s was served before them, exactly those tickets have entered or may enter of which t - s have gone since
+-- Let s be the number served after `past`. After further entries, ticket t has entered or may enter exactly if t - s
+-- tickets have left since.
 pub record InTurn {V : Type 0} (m : Machine TicketWords V TicketCall TicketPoint (Answer V)) (n : ℕ) (past further : List (ℕ × Move TicketCall V)) : Type 0 where
   -- the next step of a party that waits with the ticket t is granted the lock exactly when t - s tickets have gone
   pub enters : (p t : ℕ) (c : TicketCall) (l : TicketPoint) (h : Option Hold) → slice_get (after m (at_first m n) (past ++ further)).seats p ≡ Some (Calling c l h)
       → entries p (seen_after m (opening m n) (past ++ further)).plain ≡ waits_with p t
       → (outcome_after m n (past ++ further) p Step ≡ Answered Granted None)
       ↔ ((after m (at_first m n) past).words.serving + tickets_gone m (seen_after m (opening m n) past) further ≡ t)
-  -- and where somebody holds with the ticket t, so many have
+  -- and if a party holds with the ticket t, so many have left
   pub holds : (p t : ℕ) → slice_get (after m (at_first m n) (past ++ further)).seats p ≡ Some (Holding (hold.Ticket t))
       → (after m (at_first m n) past).words.serving + tickets_gone m (seen_after m (opening m n) past) further ≡ t
 
--- at a step of the party the number k was next
+-- at some step of the party the number k was next
 abbrev pub FoundNext : ℕ → ℕ → List Mark → Type 0
 FoundNext p k span = AnyOf (λ m. (m.party ≡ p) × (next_word m.before ≡ k)) span
 
--- A try goes on by its first step, and by its second where the number that was next at its first is served then, and is no used up one
+-- A try continues after its first step. It continues after its second if the number found next is then served, and its
+-- ticket is left.
 abbrev pub TriesByTwoLoads : {V : Type 0} → Machine TicketWords V TicketCall TicketPoint (Answer V) → ℕ → List (ℕ × Move TicketCall V) → Type 0
 TriesByTwoLoads m n past =
     let seen = seen_after m (opening m n) past in

@@ -14,9 +14,9 @@ use spin_world_core::{Answer, Hold, Next, Object, Stepped};
 /// The two words of a [`BarrierObject`].
 #[derive(Clone, Copy, Debug, PartialEq, Eq)]
 pub struct BarrierWords {
-    /// How many parties of the group that gathers have arrived.
+    /// How many parties of the present group have arrived.
     pub count: usize,
-    /// How many groups were filled. It wraps.
+    /// How many groups are full so far. It wraps.
     pub generation: usize,
 }
 
@@ -28,18 +28,18 @@ pub enum BarrierCall {
     Wait,
 }
 
-/// The point of a call: which step comes next.
+/// The point of a call: which step is next.
 #[derive(Clone, Copy, Debug, PartialEq, Eq)]
 pub enum BarrierPoint {
     /// The call arrives.
     Arrive,
-    /// The call looks whether its group is full. It found this generation as it arrived.
+    /// The call looks whether its group is full. When it arrived, it found this generation.
     Leave { generation: usize },
 }
 
-/// The barrier of groups: parties arrive, and leave when their group is full.
+/// The barrier: parties arrive in groups, and leave when their group is full.
 ///
-/// It has no value and no owner. A schedule's writes are of type `u64` here, and none of them is open.
+/// It has no value and no owner. A schedule's writes have the type `u64` here, but none of them is open.
 ///
 /// # Examples
 /// ```
@@ -63,8 +63,8 @@ impl BarrierObject {
     /// Creates a barrier for groups of `n` parties, at which no party has arrived. 0 counts as 1.
     ///
     /// # Contract
-    /// The object has this `n`. Its machine is that of a barrier with groups of `n` (`IsBarrierOf`): no group has been
-    /// filled, and [`BarrierCall`] says what its call asks.
+    /// The object has this `n`. Its machine is that of a barrier with groups of `n` (`IsBarrierOf`): no group is full
+    /// yet, and [`BarrierCall`] says what its call asks.
     pub fn new(n: usize) -> BarrierObject
         ensures fields { result ≡ record { n = n } }
         ensures named { IsBarrierOf n (⟦<BarrierObject as Object>⟧.machine result) }

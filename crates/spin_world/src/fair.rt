@@ -1,6 +1,6 @@
 //! The fair lock, as a table of the steps of its calls. Begin with [`Fair::new`] and [`FairCall`].
 //!
-//! A starver is a party that has registered so as to come before all others, which are newcomers.
+//! A starver is a party that has registered in order to go first. All other parties are newcomers.
 ghost use Rattle.std.specs.Prelude.{◌≡◌, ◌≢◌, ◌<◌, ◌+◌, ◌-◌, ◌==◌, ◌%◌, true, is_some};
 ghost use Rattle.spin_model.specs.declared.step.Next.TheVariants.{Continue, Answers};
 ghost use Rattle.spin_model.specs.declared.answer.Answer.TheVariants.{Done};
@@ -20,7 +20,7 @@ use spin_step_more::fair::LockRejectReason;
 use spin_step_more::{FairCall, FairPoint, fair};
 use spin_world_core::{Answer, Hold, Next, Object, Stepped};
 
-/// The lock of a flag and a number of starvers, which come before all newcomers.
+/// The lock of a flag and a number of starvers, which go first.
 ///
 /// # Examples
 /// ```
@@ -55,8 +55,8 @@ pub struct Fair<V> {
 impl<V: Copy> Fair<V> {
     /// Creates a lock that no party holds, with this value.
     ///
-    /// At most `cap` starvers may be registered at a time, and at most [`MAX_STARVERS`](fair::MAX_STARVERS). A `Lock`
-    /// registers once more than `spins` + 1 of its looks have found the flag set.
+    /// At most `cap` starvers may be registered at a time, and never more than [`MAX_STARVERS`](fair::MAX_STARVERS). A
+    /// `Lock` registers once more than `spins` + 1 of its looks have found the flag set.
     ///
     /// # Contract
     /// `cap` must not be 0, and `spins` must be below `usize::MAX`. The object has this value, this cap, and a patience
@@ -76,7 +76,7 @@ impl<V: Copy> Fair<V> {
     }
 }
 
-/// Returns the refusal of `TryLockStarver`, with its cause.
+/// Returns the refusal of `TryLockStarver`, with its reason.
 fn reject<V: Copy>(word: usize, holds: Option<Hold>) -> Next<FairPoint, Answer<V>>
     requires { word ≢ 0 }
     ensures { result ≡ rejects holds word }
@@ -91,7 +91,7 @@ fn reject<V: Copy>(word: usize, holds: Option<Hold>) -> Next<FairPoint, Answer<V
 }
 
 impl<V: Copy> Fair<V> {
-    /// Returns how `Lock` goes on from a look, after so many that found the flag set.
+    /// Returns how `Lock` continues after a look, if this many earlier looks found the flag set.
     fn look(&self, word: usize, looks: usize) -> Next<FairPoint, Answer<V>>
         ensures { result ≡ either (is_set word) (looks_on self.now.patience looks) (Continue (Attempt looks)) }
     {
@@ -104,7 +104,7 @@ impl<V: Copy> Fair<V> {
         })
     }
 
-    /// Returns how a call goes on if the starvers are at the cap.
+    /// Returns how a call continues if as many parties starve as the cap says.
     fn find_no_room(&self, call: FairCall, holds: Option<Hold>) -> Next<FairPoint, Answer<V>>
         ensures { result ≡ finds_no_room self.now.patience call holds }
     {
@@ -114,7 +114,7 @@ impl<V: Copy> Fair<V> {
         }
     }
 
-    /// Returns how a call goes on from a word that it loaded to register.
+    /// Returns how a call continues after it has loaded this word in order to register.
     fn go_to_register(
         &self,
         call: FairCall,
@@ -129,7 +129,7 @@ impl<V: Copy> Fair<V> {
         }
     }
 
-    /// Makes the exchange that registers, if the word is still the one that was found.
+    /// Makes the exchange that registers, if the word is still the one found before.
     fn register(
         &self,
         call: FairCall,
@@ -155,7 +155,7 @@ impl<V: Copy> Fair<V> {
     }
 }
 
-/// Returns how a starver goes on that finds the flag set.
+/// Returns how a starver's call continues if it finds the flag set.
 fn find_flag_set<V: Copy>(call: FairCall, holds: Option<Hold>) -> Next<FairPoint, Answer<V>>
     ensures { result ≡ finds_flag_set call holds }
 {
@@ -165,7 +165,7 @@ fn find_flag_set<V: Copy>(call: FairCall, holds: Option<Hold>) -> Next<FairPoint
     }
 }
 
-/// Returns how a starver goes on from its look at the flag.
+/// Returns how a starver's call continues after its look at the flag.
 fn await_clear<V: Copy>(word: usize) -> Next<FairPoint, Answer<V>>
     ensures { result ≡ either (is_set word) (Continue Await) (Continue SetFlag) }
 {
@@ -183,7 +183,7 @@ fn grant<V: Copy>() -> Next<FairPoint, Answer<V>>
     Next::Answers(Answer::Granted, Some(Hold::Write))
 }
 
-/// Makes the step of a one-step call, or the first one of `StarverTryLockFair`.
+/// Makes the step of a call with one step, or the first step of `StarverTryLockFair`.
 fn step_first<V: Copy>(
     word: usize,
     call: FairCall,

@@ -14,7 +14,7 @@ use spin_model::{FlagCall, FlagPoint};
 use spin_step::flag;
 use spin_world_core::{Answer, Hold, Next, Object, Stepped};
 
-/// The lock of one flag, which is set while a party holds it.
+/// The lock of one flag. The flag is set while a party holds the lock.
 #[derive(Clone, Copy, PartialEq, Eq)]
 pub struct Flag<V> {
     value: V,
@@ -34,7 +34,7 @@ impl<V: Copy> Flag<V> {
     }
 }
 
-/// Makes the exchange that acquires the lock if it is free. If it is held, the call goes on by `refusal`.
+/// Makes the exchange that acquires the lock if it is free. If it is held, the call continues with `refusal`.
 fn exchange<V: Copy>(
     words: bool,
     refusal: Next<FlagPoint, Answer<V>>,

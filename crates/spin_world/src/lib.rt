@@ -1,7 +1,7 @@
 //! The world for its users, with six objects: the locks of a flag, of tickets, of a flag with starvers, and of readers
-//! and a writer; the cell that one closure fills; and the barrier.
+//! and a writer; the `Once`; and the barrier.
 //!
-//! Begin with [`World::new`] and [`World::run`], and of the objects with [`Flag::new`] and [`FlagCall`].
+//! Begin with [`World::new`] and [`World::run`]. Of the objects begin with [`Flag::new`] and [`FlagCall`].
 #![tactic(auto)]
 
 mod barrier;

@@ -1,4 +1,4 @@
-//! The once-only cell, as a table of the steps of its calls. Begin with [`OnceObject::new`] and [`OnceCall`].
+//! The `Once`, as a table of the steps of its calls. Begin with [`OnceObject::new`] and [`OnceCall`].
 ghost use Rattle.std.specs.Prelude.{◌≡◌, Some, None, true};
 ghost use Rattle.spin_model.specs.Acts.{one_number, either, step_by, can_by, completes_by, filled, step_with};
 ghost use Rattle.spin_model.specs.Once.{is_there, tells, runs, ends, brings_of, act_of, once_machine};
@@ -17,7 +17,7 @@ use spin_world_core::{Answer, Hold, Next, Object, Stepped};
 
 /// The cell that is filled once, by the first closure that gives a value.
 ///
-/// Its word is 0 while there is nothing, 1 while a closure runs, and 2 once there is a value.
+/// Its word is 0 while it has no value, 1 while a closure runs, and 2 once it has a value.
 ///
 /// # Examples
 /// ```
@@ -41,7 +41,7 @@ impl<V: Copy> OnceObject<V> {
     /// Creates a cell without a value.
     ///
     /// # Contract
-    /// The object has no value. Its machine is that of a `Once` that was made with none (`IsOnceOf`): its word is 0,
+    /// The object has no value. Its machine is that of a `Once` without an opening value (`IsOnceOf`): its word is 0,
     /// and each call asks what [`OnceCall`] says.
     pub fn new() -> OnceObject<V>
         ensures fields { result ≡ record { value = None } }
@@ -53,7 +53,7 @@ impl<V: Copy> OnceObject<V> {
     /// Creates a cell that has this value from the start.
     ///
     /// # Contract
-    /// The object has this value. Its machine is that of a `Once` that was made with it (`IsOnceOf`): its word is 2,
+    /// The object has this value. Its machine is that of a `Once` with this opening value (`IsOnceOf`): its word is 2,
     /// and each call asks what [`OnceCall`] says.
     pub fn initialized(value: V) -> OnceObject<V>
         ensures fields { result ≡ record { value = Some value } }
@@ -73,7 +73,7 @@ fn tell<V: Copy>(value: Option<V>, holds: Option<Hold>) -> Next<OncePoint, Answe
     }
 }
 
-/// Looks at the word, and at the value if there is one. If there is none, the call goes on by `other`.
+/// Loads the word, and the value if there is one. If there is none, the call continues with `other`.
 fn look<V: Copy>(
     words: u8,
     value: Option<V>,
@@ -89,7 +89,7 @@ fn look<V: Copy>(
     }
 }
 
-/// Makes a step of a call with a closure, which gives the value `made`, or fails if that is `None`.
+/// Makes a step of a call with a closure. The closure gives the value `made`, or fails if that is `None`.
 fn run<V: Copy>(
     words: u8,
     value: Option<V>,

@@ -41,8 +41,8 @@ pub struct Rw<V> {
 impl<V: Copy> Rw<V> {
     /// Creates a lock that no party holds, with this value.
     ///
-    /// At most `cap` parties may read at a time, and at most [`MAX_READERS`](rw::MAX_READERS), the upgradable reader
-    /// included.
+    /// At most `cap` parties may read at a time, including the upgradable reader, and never more than
+    /// [`MAX_READERS`](rw::MAX_READERS).
     ///
     /// # Contract
     /// `cap` must be at least 1. The object has this value and this cap. Its machine is that of such a read-write lock
@@ -56,7 +56,7 @@ impl<V: Copy> Rw<V> {
     }
 }
 
-/// Makes a step that stores the new word if there is one, and grants `hold`. If there is none, the call goes on by
+/// Makes a step that stores the new word if there is one, and grants `hold`. If there is none, the call continues with
 /// `lost`.
 fn exchange<V: Copy>(
     words: usize,
@@ -69,8 +69,7 @@ fn exchange<V: Copy>(
     Stepped::exchange(words, to, Next::Answers(Answer::Granted, Some(hold)), lost)
 }
 
-/// Makes a step of a call that acquires shared access. `to` is the word with the party, if the word that it finds lets
-/// it in.
+/// Makes a step of a call that acquires shared access. `to` is the word after it has, if the word found admits it.
 fn come<V: Copy>(
     point: RwPoint,
     words: usize,
@@ -87,7 +86,7 @@ fn come<V: Copy>(
     }
 }
 
-/// Makes the step that stores this word and ends the call. The party then holds `holds`.
+/// Makes the step that stores this word and ends the call. Afterwards the party holds `holds`.
 fn done<V: Copy>(words: usize, holds: Option<Hold>) -> Stepped<usize, V, RwPoint, Answer<V>>
     ensures { result ≡ stays words (Answers Done holds) }
 {

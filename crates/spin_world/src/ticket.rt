@@ -17,7 +17,7 @@ use spin_model::{TicketCall, TicketPoint, TicketWords};
 use spin_step::ticket;
 use spin_world_core::{Answer, Hold, Next, Object, Stepped};
 
-/// The lock of two numbers: parties take tickets, and enter in their order.
+/// The ticket lock: parties take tickets, and enter in the order of their numbers.
 ///
 /// # Examples
 /// ```
@@ -39,7 +39,7 @@ pub struct Ticket<V> {
 }
 
 impl<V: Copy> Ticket<V> {
-    /// Creates a lock that no party holds, with this value. Its first ticket has the number `first`, and the last one
+    /// Creates a lock that no party holds, with this value. Its first ticket has the number `first`, and its last one
     /// the number `u64::MAX - 1`.
     ///
     /// # Contract
@@ -53,7 +53,8 @@ impl<V: Copy> Ticket<V> {
     }
 }
 
-/// Makes a step that takes the ticket of the expected number. The call goes on by `won` if it did, else by `lost`.
+/// Makes a step that takes the ticket with the expected number. The call continues with `won` if it did, else with
+/// `lost`.
 fn exchange<V: Copy>(
     words: TicketWords,
     expected: u64,
@@ -71,7 +72,7 @@ fn exchange<V: Copy>(
     }
 }
 
-/// Returns how `Lock` goes on from the next number.
+/// Returns how `Lock` continues after it has loaded the next number.
 fn go_for<V: Copy>(next: u64) -> Next<TicketPoint, Answer<V>>
     ensures { result ≡ either (is_left next) (Continue (Take next)) (Continue LoadNext) }
 {
@@ -82,7 +83,7 @@ fn go_for<V: Copy>(next: u64) -> Next<TicketPoint, Answer<V>>
     })
 }
 
-/// Returns how `Lock` goes on with this ticket from its look at the number that is served.
+/// Returns how `Lock` continues with this ticket after it has loaded the served number.
 fn look_for_turn<V: Copy>(serving: u64, ticket: u64) -> Next<TicketPoint, Answer<V>>
     ensures { result ≡ either (serving == ticket) (granted ticket) (Continue (Await ticket)) }
 {
@@ -93,7 +94,7 @@ fn look_for_turn<V: Copy>(serving: u64, ticket: u64) -> Next<TicketPoint, Answer
     }
 }
 
-/// Returns how `TryLock`, which found `next` to be next, goes on from its look at the number that is served.
+/// Returns how `TryLock`, which found `next` to be next, continues after it has loaded the served number.
 fn look_for_free<V: Copy>(
     serving: u64,
     next: u64,

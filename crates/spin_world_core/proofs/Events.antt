@@ -1,7 +1,8 @@
--- What an event comes to: its move is skipped, or is open and does what it is for. What is so of each of these is so of every event.
+-- The result of an event: its move is skipped, or is open and does what it is for. What holds in each of these cases
+-- holds of every event.
 use Rattle.spin_world_core.proofs.Names.{◌≡◌, ℕ, Bool, true, false, Option, Some, None, is_some, slice_get, refl, ap, Hold, Seat, Idle, Calling, Holding, Leaked, Next, Move, Begin, Step, Weak, Read, Write, Leak, OwnerGet, OwnerSet, StepKind, plain, weak, Machine, Happened, skipped, begun, goes_on, refuses, resting, read_by, written_by, may_read, may_write, is_owners, owner_gets, owner_sets, Seen, Scene, scene, scene_at, scene_of, is_open_move}
 
--- the seat of a party with this hold, which it holds still or has leaked
+-- the seat of a party with this hold, which it still holds or has leaked
 abbrev pub seat_with : {C L : Type 0} → Bool → Hold → Seat C L
 seat_with true h = Holding h
 seat_with false h = Leaked h
@@ -10,7 +11,7 @@ module _ {W V C L A : Type 0} (m : Machine W V C L A) (seen : Seen W V C L) (p :
   abbrev pub SitsAt : Option (Seat C L) → Type 0
   SitsAt o = slice_get seen.state.seats p ≡ o
 
-  -- what is to be shown of an event of this party
+  -- what has to be shown of an event of this party
   pub record OfEach (P : Scene W V C L A → Type 0) : Type 0 where
     pub passes : (move : Move C V) (o : Option (Seat C L)) (r : StepKind) → SitsAt o → is_open_move m seen.state move o ≡ false
         → P (scene_of seen p move o (skipped seen.state) None r None)
@@ -63,6 +64,6 @@ module _ {W V C L A : Type 0} (m : Machine W V C L A) (seen : Seen W V C L) (p :
         tested (OwnerSet v) (Some y) (owner_sets seen.state v) (is_owners m seen.state) there refl refl (each.sets v y there)
     at_seat move o there = each.passes move o plain there refl
 
-    -- so it is of every event
+    -- then it holds of every event
     pub of_event : (move : Move C V) → P (scene m seen p move)
     of_event move = at_seat move (slice_get seen.state.seats p) refl

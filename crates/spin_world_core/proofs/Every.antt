@@ -1,4 +1,4 @@
--- Every event of every schedule keeps all that is promised, of any object that shows its local facts.
+-- Every event of every schedule keeps all that is promised, for any object that shows its local facts.
 use Rattle.spin_world_core.proofs.Names.{◌≡◌, ℕ, Option, List, [], ◌∷◌, refl, subst, false, arith, Seat, Idle, Move, Machine, opening_plain, after, at_first, Seen, Scene, scene, is_open_move, StandsFor, MaySkip, Every, Keeps, IsRight, IsInTime, opening, KeepsAll, MomentsAll, CountsAll, CanStep, seen_after}
 use Rattle.spin_step.proofs.Exclusive.{exclusive-free}
 use Rattle.spin_world_core.proofs.Lists.{get-replicate}
@@ -15,7 +15,7 @@ module _ {W V C L A : Type 0} (m : Machine W V C L A) where
   state-seen_after seen (e ∷ es) = state-seen_after (scene m seen e.0 e.1).after es
 
   module _ (k : LocalInvariant V C L) (f : Facts m k) where
-    -- only what is not open to its party is skipped
+    -- only a move that is not open to its party is skipped
     may_pass : (seen : Seen W V C L) (p : ℕ) (move : Move C V) (o : Option (Seat C L)) → StandsFor seen.plain p (seen.span p) o
         → is_open_move m seen.state move o ≡ false → MaySkip m seen p move o
     may_pass seen p move o stands closed = grind (arith, f.stepwise.begins, reader_of p, writer_of p, none_owns m seen)
@@ -39,7 +39,7 @@ module _ {W V C L A : Type 0} (m : Machine W V C L A) where
         })
         move
 
-    -- what is so of each is so of all
+    -- what holds of each event holds of all
     pub every : (R : Scene W V C L A → Type 0) → ((seen : Seen W V C L) (p : ℕ) (move : Move C V) → Invariant m k seen → R (scene m seen p move))
         → (seen : Seen W V C L) (es : List (ℕ × Move C V)) → Invariant m k seen → Every R m seen es
     every R each seen [] good = tt

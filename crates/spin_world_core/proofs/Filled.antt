@@ -1,4 +1,4 @@
--- An object whose closures make its value: what its table owes, and that it then shows all local facts.
+-- An object whose closures make its value: what its table must show, and that it then shows all local facts.
 use Rattle.spin_world_core.proofs.Names.{◌≡◌, ℕ, zero, suc, Bool, true, false, is_some, Option, Some, None, List, ◌∷◌, sym, ◌∙◌, arith, false≢true, Plain, Phase, Change, completes, is_complete, apply_some, IsOpenStep, entries, is_held, Answer, Hold, Next, Continue, Answers, Stepped, Step, StepKind, by_step, encoded, says_of, Mark, Machine, opening_phase, placed, mark_of, if_completed, is_writer, Memory, Act, store, step_by, change_at, change_by, makes_by, is_completion, step_kind_by, Table, machine_of, completes_by, brought, filled, machine_with, steps_alone}
 use Rattle.spin_model.specs.declared.answer.Answer.TheVariants.{Value}
 use Rattle.spin_world_core.proofs.Facts.{LocalInvariant, AnswersWithin, InCall, NextIs, NextGives, StepIs, PointFacts, Facts}
@@ -10,12 +10,12 @@ abbrev is_end : Option Change → Bool
 is_end None = false
 is_end (Some c) = is_completion c
 
--- only a store completes a closure, whoever the party is, and only one whose call brings this value
+-- only a store completes a closure, whichever party makes it, and only in a call that brings this value
 abbrev pub CompletesRight : {W V L A : Type 0} → Act W L A → ℕ → Option V → Type 0
 CompletesRight (store can operation step next) p value = (is_completion (step p) ≡ is_completion (step 0)) × (is_completion (step p) ≡ true → is_some value ≡ true)
 CompletesRight act p value = is_end (makes_by act p) ≡ false
 
--- an answer that gives a value is given where there is one
+-- an answer that gives a value is given only if there is one
 abbrev pub TellsSo : Phase → Answer (Unit {0}) → Type 0
 TellsSo phase (Value u) = is_complete phase ≡ true
 TellsSo phase _ = Unit {0}
@@ -41,11 +41,11 @@ pub record PaysWith {W V C L : Type 0} (t : Table W V C L (Answer (Unit {0}))) (
 
 -- Phases and values
 
--- no other step than a closure's end changes whether there is a value
+-- whether there is a value changes only at the end of a closure
 phase-kept : (s : Plain) (p : ℕ) (step : Option Change) (b : Bool) → ((q : ℕ) → step ≡ Some (completes q) → ⊥) → IsOpenStep s p step → is_complete s.phase ≡ b → is_complete (apply_some s step).phase ≡ b
 phase-kept s p step b not may e = grind (arith, not)
 
--- what a step puts in the value's place agrees with its plain step
+-- a step that stores a value agrees with its plain step
 record Puts {V : Type 0} (s : Plain) (v value put : Option V) (step : Option Change) : Type 0 where
   phase : is_complete (apply_some s step).phase ≡ is_some (placed put v)
   places : placed put v ≡ if_completed v put step
@@ -61,7 +61,7 @@ module _ {W V C L : Type 0} (t : Table W V C L (Answer (Unit {0}))) (n : Notes t
   abbrev m : Machine W V C L (Answer V)
   m = machine_with t brings
 
-  -- nobody holds it, and there is a value just where a closure has completed
+  -- nobody holds it, and there is a value exactly if a closure has completed
   abbrev pub keeping_with : LocalInvariant V C L
   keeping_with = record { Shape = λ s v. n.Shape s × (is_complete s.phase ≡ is_some v); Knows = λ c l h p s span. KnowsRow t n c l h p s span (row_of t n c l h) }
 

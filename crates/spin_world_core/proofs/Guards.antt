@@ -1,4 +1,4 @@
--- What a party finds under one guard stays as it is.
+-- What a party finds under one guard does not change.
 use Rattle.spin_world_core.proofs.Names.{slice_get_within, ◌≡◌, ℕ, ◌==◌, ◌||◌, Bool, true, false, not, Option, Some, None, List, [], ◌∷◌, ◌++◌, map, slice_get, slice_set, refl, arith, ap, sym, ◌∙◌, subst, list_all, option_map, and_parts, true≢false, false≢true, slice_get-map, Plain, Change, completes, entries, is_held, Hold, Seat, Calling, Holding, Leaked, Gone, Next, Continue, Answers, Move, Step, Weak, Read, OwnerSet, StepKind, plain, weak, by_step, Mark, Machine, State, moves_at, goes_on, placed, resting, may_read, may_write, yields_to_owner, seen_by_owner, owner_writes, Seen, Scene, scene, scene_at, scene_of, if_completed, StandsFor, is_reader, is_writer, opening, seen_after, is_quiet_move, is_quiet, ReadsAgreeAcross, ReadsAgree}
 use Rattle.spin_model.specs.declared.schedule.Outcome.TheVariants as outcome
 use Rattle.spin_world_core.proofs.Lists.{eqb_self, get-set}
@@ -15,20 +15,20 @@ pub record GuardedRead (C V : Type 0) : Type 0 where
   pub keeps : C → Bool
   pub value : Option V
 
--- after such a step the party reads still
+-- after such a step the party still reads
 abbrev pub ReadsOn : {L A : Type 0} → Next L A → Type 0
 ReadsOn (Continue l) = Unit {0}
 ReadsOn (Answers a None) = ⊥
 ReadsOn (Answers a (Some h)) = may_read h ≡ true
 
--- a party in a call that keeps its guard reads, and so does it after each step of the call
+-- a party in a call that keeps its guard reads, and still does after each step of the call
 pub record KeepsGuard {W V C L A : Type 0} (m : Machine W V C L A) (k : LocalInvariant V C L) (keeps : C → Bool) : Type 0 where
   pub reads : (p : ℕ) (c : C) (l : L) (h : Hold) (s : Plain) (span : List Mark) → keeps c ≡ true → may_read h ≡ true → k.Knows c l (Some h) p s span
       → is_reader (entries p s) ≡ true
   pub steps : (c : C) (l : L) (h : Hold) (w : W) (v : Option V) → keeps c ≡ true → may_read h ≡ true → ReadsOn (m.step w v c l (Some h)).next
   pub refuses : (c : C) (l : L) (h : Hold) (next : Next L A) → keeps c ≡ true → may_read h ≡ true → m.refuse c l (Some h) ≡ Some next → ReadsOn next
 
--- a party with a guard, or gone since: the value last written is still the one that it found
+-- for a party with a guard, or one that is gone since: the value last written is still the one that it found
 abbrev Guard : {V C L : Type 0} → GuardedRead C V → Option V → Option (Seat C L) → Type 0
 Guard r w (Some (Calling c l (Some h))) = (r.keeps c ≡ true) × (may_read h ≡ true) × (w ≡ r.value)
 Guard r w (Some (Holding h)) = (may_read h ≡ true) × (w ≡ r.value)
@@ -42,16 +42,16 @@ ReaderOrGone s p (Some (Gone h)) = Unit {0}
 ReaderOrGone s p _ = is_reader (entries p s) ≡ true
 
 module _ {V C L : Type 0} (r : GuardedRead C V) (w v : Option V) where
-  -- where it is no reader, it is gone
+  -- if it is no reader, it is gone
   no_reader : (s : Plain) (p : ℕ) (o : Option (Seat C L)) → ReaderOrGone s p o → (is_reader (entries p s) ≡ true → ⊥) → Guard r w o → Guard r v o
   no_reader s p o reads none guard = grind (arith, none)
 
-  -- where a closure completes, nobody has a guard
+  -- if a closure completes, nobody has a guard
   completed : (s : Plain) (p : ℕ) (o : Option (Seat C L)) (step : Option Change) → ReaderOrGone s p o → ((q : ℕ) → step ≡ Some (completes q) → is_held s ≡ false)
       → Guard r w o → Guard r (if_completed w v step) o
   completed s p o step reads alone guard = grind (arith, no_reader s p o reads, touched s p, alone)
 
-  -- the owner's look makes the party gone that has leaked, and it writes only where nobody has a guard
+  -- the owner's use makes a leaked party gone, and the owner writes only if nobody has a guard
   gone_for : (o : Option (Seat C L)) → ((x : Seat C L) → o ≡ Some x → yields_to_owner x ≡ true) → Guard r w o → Guard r v (option_map seen_by_owner o)
   gone_for None away guard = guard
   gone_for (Some x) away guard = grind (arith, away x refl)
@@ -62,7 +62,7 @@ module _ {W V C L A : Type 0} (m : Machine W V C L A) where
         → ReaderOrGone s p o
     reads_at w s p span o stands knows guard = grind (arith, g.reads p, reader_of p)
 
-    -- where the party p has a guard, and q moves
+    -- the party p has a guard, and q moves
     module _ (seen : Seen W V C L) (p q : ℕ) (good : Invariant m k seen) (guard : Guard r seen.written (slice_get seen.state.seats p)) where
       reads : ReaderOrGone seen.plain p (slice_get seen.state.seats p)
       reads = reads_at seen.written seen.plain p (seen.span p) (slice_get seen.state.seats p) (good.parties p).stands (good.parties p).knows guard
@@ -118,7 +118,7 @@ module _ {W V C L A : Type 0} (m : Machine W V C L A) where
           (completed r seen.written st.placed seen.plain p (slice_get seen.state.seats p) step reads
           (f.at q c l h _ _ _ _ (in_call m k seen q c l h good there)).completes_alone guard)
 
-      -- nobody else writes beside the guard
+      -- nobody else writes while the party has the guard
       written : (v : V) (b : Bool) (h : Hold) → slice_get seen.state.seats q ≡ Some (seat_with b h) → may_write h ≡ true → (q ≡ p → ⊥)
           → Guard r (Some v) (slice_get seen.state.seats p)
       written v b h there may ne =

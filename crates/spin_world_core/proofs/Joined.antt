@@ -1,4 +1,4 @@
--- Runs one after the other are one run.
+-- Runs one after another are one run.
 use Rattle.spin_world_core.proofs.Names.{◌≡◌, ℕ, suc, ◌+◌, ◌≤◌, ◌==◌, ◌&&◌, Option, Some, None, List, [], ◌∷◌, ◌++◌, length, map, take, drop, if◌then◌else◌, refl, ap, sym, ◌∙◌, subst, arith, append_assoc, append-nil, take-append-drop, take-append_seam, drop-append_seam, Move, Event, Machine, State, after, at_first, events_of, with_begins, last_begin, is_begun, Seen, Scene, scene, opening, AfterAnyPast, seen_after, Lawful, scenes, EachTells, TellsAfterAnyPast, Promised, began_from, event_from, IsCut, joined, after_runs, transcripts_of, RunsAreOne}
 use Rattle.spin_model.proofs.Schedules.{after-append}
 use Rattle.spin_world_core.proofs.Schedules.{events_of-append, seen_after-append, length-events_of, with_begins-append, last_begin-append}
@@ -36,7 +36,7 @@ none_from start p k found (x ∷ xs) le none =
     let b = (x.party == p) && is_begun x.outcome in
     grind (arith, none_from start p (k + 1) (if b then Some k else found) xs)
 
--- and of one that began later its place from there
+-- a call that began later is told with its place counted from the start
 last_from : {W V A : Type 0} (start p k : ℕ) (found here : Option ℕ) (xs : List (Event W V A)) → began_from start found ≡ here
     → began_from start (last_begin p (start + k) found xs) ≡ last_begin p k here xs
 last_from start p k found here [] is = is
@@ -53,7 +53,7 @@ length-with_begins : {W V A : Type 0} (before xs : List (Event W V A)) → lengt
 length-with_begins before [] = refl
 length-with_begins before (x ∷ xs) = ap suc (length-with_begins (before ++ x ∷ []) xs)
 
--- the events of a run that starts behind others
+-- the events of a run that starts after others
 with_begins_from : {W V A : Type 0} (xs before ys : List (Event W V A)) → with_begins before ys ≡ map (event_from (length xs)) (with_begins (xs ++ before) ys)
 with_begins_from xs before [] = refl
 with_begins_from xs before (y ∷ ys) =
@@ -75,7 +75,7 @@ cut_in_two m s first second place es fs at front back =
       back = grind (arith, back, with_begins_from xs [] ys, here, append-nil xs, drop-append_seam heads (with_begins xs ys), so_long, whole);
     }
 
--- Two runs by a world: the second plays on where the first has stopped, on the same object
+-- Two runs of one world: the second continues where the first has stopped, on the same object
 module _ {O W V C L A : Type 0} (machine : O → Machine W V C L A) (old now : O) (s between : State W V C L) (first second schedule : List (ℕ × Move C V)) where
   pub record PlaysOn : Type 0 where
     pub object : now ≡ old

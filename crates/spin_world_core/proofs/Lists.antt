@@ -11,7 +11,7 @@ pub get-set_other : {X : Type 0} (xs : List X) (p q : ℕ) (x : X) → (p ≡ q 
 get-set_other [] p q x ne = refl
 get-set_other (z ∷ xs) p q x ne = grind (arith, get-set_other xs (pred p) (pred q) x)
 
--- where one element is written, all are as they were but that one
+-- when one element is written, all others are unchanged
 pub get-set : {X : Type 0} (P : Option X → Type 0) (xs : List X) (p q : ℕ) (x : X) → p < length xs → (p ≡ q → P (Some x)) → ((p ≡ q → ⊥) → P (slice_get xs q))
     → P (slice_get (slice_set xs p x) q)
 get-set P xs p q x lt here away = grind (arith, get-set_within xs p x lt, get-set_other xs p q x, here, away)

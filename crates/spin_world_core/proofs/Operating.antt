@@ -1,11 +1,12 @@
--- The steps of a table as operations: what its shapes show of themselves.
+-- The steps of a table as operations, and what its shapes show by themselves.
 use Rattle.std.proofs.lemmas.Bool.{not-true}
 use Rattle.spin_world_core.proofs.Names.{AnyOf, own_steps, list_all, Said, ◌≡◌, ℕ, Bool, true, false, not, ◌&&◌, ◌||◌, Option, Some, None, is_some, slice_set, unwrap_or, refl, ap, subst, arith, List, and_parts, Plain, Ask, Change, is_open, Hold, Answer, Next, StepKind, is_again, LockKind, is_step_of, Asked, Mark, performed, Performs, IsOneOperation, RefusesAsLost, Stepwise, Memory, one_number, number_at, Act, weak_exchange, place_of, made_if, change_at, refusal_by, makes_by, operation_by, is_section, step_by, Table, machine_of, filled, machine_with}
 use Rattle.spin_world_core.proofs.Facts.{GoesOnOpen, ContinuesCounted}
 
--- The debts
+-- What has to be shown
 
--- the plain step is one that this kind of lock makes, and one that such a call gets by a weak exchange is got by no other; and a step is a section only where this kind of lock has such
+-- The plain step is one that this kind of lock makes. What such a call gets by a weak exchange it gets by no other
+-- step. And a step is a section only in a kind of lock that has sections.
 abbrev pub fits_step : LockKind → Asked → Bool → Option Change → Bool
 fits_step kind what weakly None = true
 fits_step kind what weakly (Some c) = is_step_of kind c && (weakly || not (what.gets_weakly c))
@@ -26,13 +27,13 @@ may_be_section false is = not is
 abbrev pub fits_act : {W L A : Type 0} → LockKind → Asked → Act W L A → ℕ → Bool
 fits_act kind what act p = fits_step kind what (is_some (refusal_by act)) (makes_by act p) && may_be_section kind.steps_in_sections (is_section act)
 
--- a step that is no section makes its operation on its word, and leaves the others
+-- a step that is no section makes its operation on its word, and does not change the others
 abbrev pub Operates : {W V C L A : Type 0} → Table W V C L A → Type 0
 Operates {W} {V} {C} {L} t =
     (c : C) (l : L) (h : Option Hold) (w : W) → is_section (t.act c l h) ≡ false
     → (let i = place_of (t.word l) (t.act c l h) in t.memory.numbers (step_by {V = V} t.memory (t.word l) (t.act c l h) w).words ≡ slice_set (t.memory.numbers w) i (performed (operation_by (t.act c l h)) (number_at t.memory i w)))
 
--- a new number takes its place alone
+-- a new number changes only its own place
 pub record IsPlace {W : Type 0} (m : Memory W) (i : ℕ) : Type 0 where
   pub stays : (w : W) → slice_set (m.numbers w) i (number_at m i w) ≡ m.numbers w
   pub put : (k : ℕ) (w : W) → m.numbers (m.put i k w) ≡ slice_set (m.numbers w) i k
@@ -52,7 +53,7 @@ change_is n act p w d is = grind arith
 pub fits_made : (kind : LockKind) (what : Asked) (weakly : Bool) (o : Option Change) (d : Change) → fits_step kind what weakly o ≡ true → o ≡ Some d → (is_step_of kind d ≡ true) × (what.gets_weakly d ≡ true → weakly ≡ true)
 fits_made kind what weakly o d fit is = grind arith
 
--- a step that goes on and makes nothing is counted, if it is where what it could make is open
+-- a step that continues the call without its plain step is counted, if that step is open
 pub counted_of : {W L A : Type 0} (change : W → Option Change) (s : Plain) (next : Next L A) (o : Option Change) (r : StepKind)
     → ((w : W) (d : Change) → change w ≡ Some d → is_open s d ≡ true → o ≡ None → is_again r ≡ true) → ContinuesCounted change s next o r
 counted_of change s next o r counts = grind (arith, counts)
@@ -65,7 +66,7 @@ open_filled ask p span s value next o may = grind arith
 
 -- The machines
 
--- a table of such places makes its operations
+-- a table with such places makes its operations
 pub operates_by : {W V C L A : Type 0} (t : Table W V C L A) → ((i : ℕ) → IsPlace t.memory i) → Operates t
 operates_by t places c l h w one = let place = places (place_of (t.word l) (t.act c l h)) in grind (arith, one, place.stays w, place.put)
 

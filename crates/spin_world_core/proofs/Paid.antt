@@ -1,4 +1,4 @@
--- An object that pays what its table owes shows all local facts.
+-- An object whose table shows what it must shows all local facts.
 use Rattle.spin_world_core.proofs.Names.{◌≡◌, ℕ, zero, suc, ◌+◌, ◌<◌, ◌≤◌, ◌==◌, Bool, true, false, not, is_some, Option, Some, None, List, [], ◌∷◌, ◌++◌, option_to_list, get_or, if◌then◌else◌, refl, ap, sym, ◌∙◌, subst, arith, and_parts, false≢true, true≢false, eqb-true, Plain, is_empty, Ask, Change, gets, completes, is_open, is_open_to, apply_some, IsOpenStep, entries, IsExclusive, bit, Hold, Next, Continue, Answers, Stepped, Move, Step, Weak, StepKind, plain, again, look, weak, is_again, by_step, Asked, encoded, is_step_of, BelongsTo, Said, own_steps, AnyOf, Mark, first_word, Limit, arrived, is_open_now, steps_alone, Way, way_of, is_due_by, LooksElse, Gets, mark_of, if_completed, entries_held, own, failures, changes, IsBeginning, RightAnswer, ContinuesWithin, number_at, Act, load, load_if, load_for, enter, exchange, weak_exchange, attempt, retry, store, section, swap, tried, guessed, either, stays, passing, becomes, retried, step_by, made_if, change_by, can_by, refusal_by, makes_by, look_kind, step_kind_by, Table, begin_of, machine_of, performed, placed, HasPhase, tries_of, goes_of, limit}
 use Rattle.spin_model.specs.declared.schedule.Outcome.TheVariants as outcome
 use Rattle.spin_world_core.proofs.Facts.{AnswersWithin, InCall, NextIs, NextGives, GoesOnOpen, ContinuesCounted, PointFacts, Facts}
@@ -8,7 +8,7 @@ use Rattle.spin_world_core.proofs.Stands.{entries_at, stand_of, held_at, stand-m
 use Rattle.spin_world_core.proofs.Rows.{Opened, OwesRight, Branch, goes, finds_open, loses, misses, Branched, may_spend, tries_open, need, need_of, Needs, rests, peeks, needs-mine, needs_first, spent-mine, goes_within, ends_within, any_map, moment_of, weakly_right, Row, IsSound, sound_at, Expects, expects-mine, none_spent, none_expected, known-other, SoundAt}
 use Rattle.spin_world_core.proofs.Shapes.{Notes, is_answer, row_of, KnowsRow, keeping_of, call_of, At, Means, FindsAnother, FollowsRow, Follows, Owes, OwesRow, goes_by, answers_by, AnswersRow, BeginsRow, BeginsAt, sure_by, aim_by, aim_of, aimed, aimed_at, Pays}
 
--- a step that completes no closure leaves the value last written
+-- a step that completes no closure does not change the value last written
 pub uncompleted : {V : Type 0} (old put : Option V) (step : Option Change) → ((q : ℕ) → step ≡ Some (completes q) → ⊥) → old ≡ if_completed old put step
 uncompleted old put step none = grind (arith, none)
 
@@ -25,7 +25,7 @@ aims_try tries due act made ask p is none aims = subst (λ cs. Aimed (Some ask) 
 goes_waiting : (what : Asked) (made : List Change) (ask : Ask) → goes_of what made ≡ Some ask → (what.waits ≡ true) × (tries_of what ≡ None)
 goes_waiting what made ask is = grind arith
 
--- what a step of such a shape comes to; it places no value by itself
+-- the result of a step of such a shape; by itself it stores no value
 pub record Went {W V C L A : Type 0} (t : Table W V C L A) (n : Notes t) (p : ℕ) (c : C) (h : Option Hold) (s : Plain) (span : List Mark) (st : Stepped W V L A) (step : Option Change) (r : StepKind) : Type 0 where
   pub opens : IsOpenStep s p step
   pub belongs : BelongsTo t.lock_kind step
@@ -38,7 +38,7 @@ pub record Went {W V C L A : Type 0} (t : Table W V C L A) (n : Notes t) (p : �
 finds_another : (what : Limit) (some : Bool) → some ≡ true → FindsAnother what false some
 finds_another what some is = grind arith
 
--- a look is no exchange that is made again
+-- a look is no repeated exchange
 no_retry : (b : Bool) → is_again (by_step (either b look plain)) ≡ false
 no_retry b = grind arith
 
@@ -46,7 +46,7 @@ abbrev move_of : {C V : Type 0} → Bool → Move C V
 move_of true = Weak
 move_of false = Step
 
--- what an object that pays shows at a point of a call, whatever value lies there
+-- what such an object shows at a point of a call, whatever the value is
 pub record Shown {W V C L A : Type 0} (t : Table W V C L A) (n : Notes t) (p : ℕ) (c : C) (l : L) (h : Option Hold) (s : Plain) (w : W)
     (span : List Mark) : Type 0 where
   pub can : can_by t.memory (t.word l) (t.act c l h) w ≡ true
@@ -160,7 +160,7 @@ module _ {W V C L A : Type 0} (t : Table W V C L A) (n : Notes t) (sound_all : (
     abbrev Is : Stepped W V L A → Option Change → StepKind → Type 0
     Is st step r = Went t n p c h s span st step r
 
-    -- the words stay
+    -- the words do not change
     stay_is : (r : StepKind) (branch : Branch) (next : Next L A) → Branched branch s None r → (is_again r ≡ true → failures p span < changes t.lock_kind p span)
         → Comes false None r branch next → Is (stays w next) None r
     stay_is r branch next branched lost follows =
@@ -191,7 +191,7 @@ module _ {W V C L A : Type 0} (t : Table W V C L A) (n : Notes t) (sound_all : (
           fails = λ e none. absurd (cc (none));
         }
 
-    -- a try goes on only where it may
+    -- a try continues only if it may
     made_on : (ask : Ask) (next : Next L A) (d : Change) → GoesOnOpen ask p span s next (Some d)
     made_on ask next d = grind arith
 
@@ -205,7 +205,8 @@ module _ {W V C L A : Type 0} (t : Table W V C L A) (n : Notes t) (sound_all : (
       missed_on : (r : StepKind) (d : Change) (next : Next L A) → Comes false None r (misses d) next → GoesOnOpen ask p span s next None
       missed_on r d next follows = grind (arith, is)
 
-    -- what is shown of a step: its plain step by the words is `change`, `sure` the one that it makes wherever that is open, and `aim` the one of a try
+    -- What is shown of a step. Its plain step by the words is `change`; `sure` is the one that it makes whenever that
+    -- is open; and `aim` is the one of a try.
     record Done (st : Stepped W V L A) (step : Option Change) (r : StepKind) (change : W → Option Change) (sure : Option Change)
         (aim : Ask → Option Change) : Type 0 where
       went : Is st step r
@@ -354,13 +355,13 @@ module _ {W V C L A : Type 0} (t : Table W V C L A) (n : Notes t) (sound_all : (
         )
     refusal_is i _ next owes is = absurd (cc (is))
 
-    -- what is due, and open, is got
+    -- what is due, and open, the call gets
     due_is : (act : Act W L A) (ask : Ask) (way : Way) (step : Option Change) → Needs (need (Some ask) way (rests act) (peeks act)) p span
         → sure_by act p ≡ aimed p (Some ask) (sure_by act p) → ((e : Change) → sure_by act p ≡ Some e → is_open s e ≡ true → step ≡ Some e)
         → is_due_by way p span ≡ true → is_open_to s p ask ≡ true → step ≡ Some (gets p ask)
     due_is act ask way step needs aim got is may = grind (arith, got (gets p ask))
 
-    -- and else it looks
+    -- and otherwise it looks
     looks_else : (act : Act W L A) (what : Asked) (ask : Ask) (way : Way) → what.waits ≡ true → Needs (need (Some ask) way (rests act) (peeks act)) p span → LooksElse way p span (by_step (step_kind_by what act))
     looks_else act what ask way waiting needs = grind arith
 

@@ -1,4 +1,4 @@
--- What has been played of a schedule, at a turn of the loop.
+-- What has been played of a schedule, at the beginning of a turn of the loop.
 use Rattle.spin_world_core.proofs.Names.{slice_get-map, ◌≡◌, ℕ, map, ◌+◌, ◌<◌, ◌≤◌, ◌==◌, ◌&&◌, true, Option, Some, None, List, [], ◌∷◌, ◌++◌, length, if◌then◌else◌, refl, ap, sym, ◌∙◌, arith, subst, length-set, take, get_or, length-take-le, zero-add, ∥∥₁_map, length-map, take_all, Move, Outcome, Event, Machine, State, Happened, happens, after, events_of, with_begins, last_begin, begins_after, with_begin, is_begun, at_first, CanStep, CanAlways, IsReached}
 use Rattle.spin_model.specs.Schedules.{begin_of}
 use Rattle.spin_model.proofs.Lists.{get-set_within}
@@ -77,12 +77,12 @@ module _ {W V C L A : Type 0} (m : Machine W V C L A) where
       → Played from now begins events (take k schedule) → length schedule ≤ k → Played from now begins events schedule
   played_all from now begins events schedule k played all = subst (Played from now begins events) (take_all k schedule all) played
 
-  -- where the schedule has led so far, the next step can be taken
+  -- after the part played so far, the next step is possible
   pub can_next : (from now : State W V C L) (begins : List (Option ℕ)) (events : List (Event W V A)) (schedule : List (ℕ × Move C V)) (k : ℕ)
       → Played from now begins events (take k schedule) → CanAlways m from schedule → CanStep m now
   can_next from now begins events schedule k played can = subst (CanStep m) (sym played.table) (can k)
 
-  -- what a move leads to from a state that is reached is reached
+  -- a state that a move leads to from a reached state is reached
   pub reached_next : (s t : State W V C L) (p : ℕ) (move : Move C V) (o : Outcome A V)
       → (let h : Happened W V C L A = record { outcome = o; next = t } in h ≡ happens m s p move) → IsReached m s → IsReached m t
   reached_next s t p move o is reached =

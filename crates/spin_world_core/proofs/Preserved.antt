@@ -1,4 +1,4 @@
--- One event keeps all that is promised, of any object that shows its local facts.
+-- One event keeps all that is promised, for any object that shows its local facts.
 use Rattle.spin_world_core.proofs.Names.{slice_get_within, ◌≡◌, ℕ, ◌<◌, ◌≤◌, ◌==◌, Bool, true, false, Option, Some, None, List, [], ◌∷◌, ◌++◌, suc, if◌then◌else◌, is_some, slice_get, slice_set, refl, ap, sym, ◌∙◌, subst, arith, ne_eqb, true≢false, false≢true, Plain, Ask, Change, apply_some, IsOpenStep, Entries, entries, IsExclusive, entries-other, entries-own, exclusive-kept, Hold, Seat, Calling, Holding, Leaked, Next, Continue, Answers, Move, Begin, Step, Weak, Read, Write, Leak, Outcome, StepKind, is_again, is_weak, by_step, encoded, BelongsTo, Mark, Machine, State, skipped, seated, begun, goes_on, placed, resting, read_by, written_by, may_read, may_write, InItsCall, LeavesCalls, Seen, Scene, scene_at, scene_of, mark_of, own, own_count, failures, changes, if_completed, is_open_move, entries_of, entries_held, entries_so_far, StandsFor, is_reader, is_writer, MayTouch, MaySkip, is_in_place, ComesTo, IsWeakCall, StepLeaves, OwnSteps, asked, Keeps, IsRight, InTime, IsCounted, IsInTime, UndisturbedTakes, AnsweredSoon, Gets, GetsWhenDue, TriesOn, tries_of}
 use Rattle.spin_model.specs.declared.schedule.Outcome.TheVariants as outcome
 use Rattle.spin_model.specs.StepKinds as step_kind
@@ -9,7 +9,7 @@ use Rattle.spin_world_core.proofs.Facts.{LocalInvariant, KnowsAt, InCall, NextIs
 use Rattle.spin_world_core.proofs.Undisturbed.{RunsOn, GoesWithin, LeftBy, stepped, beside, runs_fresh, more_left}
 use Rattle.spin_world_core.proofs.Events.{seat_with}
 
--- whose hold reads the value is a reader in the plain lock, and whose may replace it a writer
+-- a party whose hold reads the value is a reader in the plain lock, and one whose hold may replace it is a writer
 
 pub reader_of : (p : ℕ) (h : Hold) → is_reader (entries_of p h) ≡ may_read h
 reader_of p h = grind arith
@@ -17,7 +17,7 @@ reader_of p h = grind arith
 pub writer_of : (p : ℕ) (h : Hold) → is_writer (entries_of p h) ≡ may_write h
 writer_of p h = grind arith
 
--- the party's own seat is x now, and the others' are as they were
+-- the party's own seat is now x, and the others' are unchanged
 at_seat : {C L : Type 0} (P : ℕ → Option (Seat C L) → Type 0) (seats : List (Seat C L)) (p : ℕ) (x y : Seat C L) → slice_get seats p ≡ Some y
     → P p (Some x) → ((q : ℕ) → (p ≡ q → ⊥) → P q (slice_get seats q)) → (q : ℕ) → P q (slice_get (slice_set seats p x) q)
 at_seat P seats p x y there here away q =
@@ -28,12 +28,12 @@ still_calling : {C L : Type 0} (seats : List (Seat C L)) (p : ℕ) (x : Seat C L
     → slice_get seats q ≡ Some (Calling c l h) → slice_get (slice_set seats p x) q ≡ Some (Calling c l h)
 still_calling seats p x q c l h ne is = get-set_other seats p q x ne ∙ is
 
--- a party that doesn't step keeps its entries
+-- a party that does not step keeps its entries
 stands_beside : {C L : Type 0} (s : Plain) (p q : ℕ) (step : Option Change) (r : StepKind) (span : List Mark) (o : Option (Seat C L)) → (p ≡ q → ⊥)
     → IsOpenStep s p step → StandsFor s q span o → StandsFor (apply_some s step) q (mark_of p step r s ∷ span) o
 stands_beside s p q step r span o ne may stands = grind (arith, entries-other s p q step ne may)
 
--- one that steps has made the step alone
+-- a party that steps has made the step
 stands_stepped : (s : Plain) (p : ℕ) (step : Option Change) (r : StepKind) (span : List Mark) (e : Entries) → IsOpenStep s p step
     → entries p s ≡ entries_so_far p span e → entries p (apply_some s step) ≡ entries_so_far p (mark_of p step r s ∷ span) e
 stands_stepped s p step r span e may stands = grind (arith, entries-own s p step may)
@@ -84,12 +84,12 @@ module _ {W V C L A : Type 0} (m : Machine W V C L A) (k : LocalInvariant V C L)
     pub in_time : IsInTime m s
     pub good : Invariant s.after
 
-  -- of a party in no call
+  -- for a party in no call
   rests : (w : W) (s : Plain) (p : ℕ) (span : List Mark) (after : Option Hold) → entries p s ≡ entries_held p after
       → failures p span ≤ changes m.lock_kind p span → OfParty w s p span (Some (resting after))
   rests w s p span after stands retries = record { stands = grind arith; knows = grind arith; retries = retries; undisturbed = grind arith }
 
-  -- after a party has taken another seat, without a step
+  -- after a party has got another seat, without a step
   good_seated : (seen : Seen W V C L) (p : ℕ) (x y : Seat C L) (span : ℕ → List Mark) → Invariant seen → slice_get seen.state.seats p ≡ Some y
       → ((q : ℕ) → (p ≡ q → ⊥) → span q ≡ seen.span q) → OfParty seen.state.words seen.plain p (span p) (Some x)
       → Invariant (record { state = seated seen.state p x; plain = seen.plain; span = span; written = seen.written })
@@ -104,7 +104,7 @@ module _ {W V C L A : Type 0} (m : Machine W V C L A) (k : LocalInvariant V C L)
       }
 
   module _ (f : Facts m k) where
-    -- what is promised of an event that isn't skipped, from what holds after it
+    -- what is promised of an event that is not skipped, from what holds after it
     keeps_from : (s : Scene W V C L A) → Invariant s.after → IsOpenStep s.before.plain s.party s.change → BelongsTo m.lock_kind s.change
         → ((r : Option V) → s.outcome ≡ outcome.Value r → r ≡ s.before.written) → MayTouch s.before s.party s.outcome s.move
         → (s.outcome ≡ outcome.Skipped → ⊥) → is_open_move m s.before.state s.move s.seat ≡ true → is_in_place m.owned s.move s.seat ≡ true
@@ -133,7 +133,7 @@ module _ {W V C L A : Type 0} (m : Machine W V C L A) (k : LocalInvariant V C L)
           calls = calls;
         }
 
-    -- what is promised of a call's step, which no other event makes
+    -- what is promised of a step of a call, and of no other event
     pub record Aside (s : Scene W V C L A) : Type 0 where
       pub opens : IsOpenStep s.before.plain s.party s.change
       pub belongs : BelongsTo m.lock_kind s.change
@@ -196,7 +196,7 @@ module _ {W V C L A : Type 0} (m : Machine W V C L A) (k : LocalInvariant V C L)
         }
 
     module _ (seen : Seen W V C L) (p : ℕ) (good : Invariant seen) where
-      -- what holds of a party beside a step
+      -- what holds of a party during another party's step
       of_others : (q : ℕ) (w : W) (step : Option Change) (r : StepKind) (o : Option (Seat C L)) → slice_get seen.state.seats q ≡ o → (p ≡ q → ⊥)
           → IsOpenStep seen.plain p step → BelongsTo m.lock_kind step
           → (encoded m.lock_kind (apply_some seen.plain step) ≡ encoded m.lock_kind seen.plain → w ≡ seen.state.words)
@@ -239,7 +239,7 @@ module _ {W V C L A : Type 0} (m : Machine W V C L A) (k : LocalInvariant V C L)
                 (λ e. f.numbers_tell w seen.state.words (encodes ∙ (e ∙ sym good.encodes))) (good.parties q));
           }
 
-      -- by its own call
+      -- for its own call
       module _ (c : C) (l : L) (h : Option Hold) (there : slice_get seen.state.seats p ≡ Some (Calling c l h)) where
         abbrev is : PointFacts m k p c l h seen.plain seen.state.value seen.state.words (seen.span p)
         is = f.at p c l h _ _ _ _ (in_call seen p c l h good there)
@@ -247,7 +247,7 @@ module _ {W V C L A : Type 0} (m : Machine W V C L A) (k : LocalInvariant V C L)
         abbrev spanned : Option Change → StepKind → List Mark
         spanned step r = mark_of p step r seen.plain ∷ seen.span p
 
-        -- how many steps are left to it after its own step, where nobody has disturbed it
+        -- how many steps are left after its own step, if nobody has disturbed it
         left_by : (step : Option Change) (r : StepKind) (w : W) (next : Next L A)
             → (is_weak r ≡ false → (j : ℕ) → AnswersWithin m (suc j) seen.state.words c l h → GoesWithin m j w c h next)
             → UndisturbedTakes (LeftBy m w p c h next) m.lock_kind p (m.asks c h) (spanned step r)
@@ -255,7 +255,7 @@ module _ {W V C L A : Type 0} (m : Machine W V C L A) (k : LocalInvariant V C L)
             stepped m seen.state.words w p c l h seen.plain step r (seen.span p) next
             (subst (RunsOn m seen.state.words p (seen.span p)) there (good.parties p).undisturbed) is.undisturbed steps
 
-        -- what comes of its step, in time
+        -- the result of its step, in time
         abbrev Timed : Move C V → Option Change → StepKind → Option V → Outcome A V → Type 0
         Timed move step r v o =
             ComesTo move step seen.state.value v o × IsCounted m p o move (Some (Calling c l h)) step r seen.plain
@@ -318,7 +318,7 @@ module _ {W V C L A : Type 0} (m : Machine W V C L A) (k : LocalInvariant V C L)
               good = after;
             }
 
-        -- a step goes on or answers, and leaves the value, where no closure completes
+        -- a step continues or answers its call, and changes the value only if a closure completes
         step_timed : (s : State W V C L) (step : Option Change) (r : StepKind) (v value : Option V) (next : Next L A)
             → v ≡ if_completed seen.state.value value step
             → ContinuesCounted (λ u. m.change p u c l h) seen.plain next step r → Gets m.lock_kind p (m.asks c h) (seen.span p) seen.plain step r

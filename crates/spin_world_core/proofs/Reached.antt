@@ -1,4 +1,4 @@
--- What holds of the state that a schedule leads to, and what a call's row says of its party there.
+-- What holds of the state that a schedule leads to, and what the row of a call says of its party there.
 use Rattle.std.proofs.Common.{◌≡◌, ℕ, Bool, true, false, Option, Some, None, List, slice_get, ap, sym, ◌∙◌}
 use Rattle.spin_step.specs.Plain.{Plain}
 use Rattle.spin_step.specs.Parties.{Entries, entries}
@@ -50,9 +50,9 @@ module _ {W V C L A : Type 0} (m : Machine W V C L A) (k : LocalInvariant V C L)
       → InCall m k p c l h seen.plain seen.state.value seen.state.words (seen.span p)
   calls p c l h there = in_call m k seen p c l h good (seat_is p (Some (Calling c l h)) there)
 
--- A call's row says what its party has there, and which plain steps the call has made
+-- The row of a call says what its party has there, and which plain steps the call has made
 
--- there is a row, and it passes a test; or it passes wherever there is one
+-- there is a row, and it passes a test; `passes_all`: if there is a row, it passes
 abbrev pub passes_some : (Row → Bool) → Option Row → Bool
 passes_some test None = false
 passes_some test (Some row) = test row
@@ -61,7 +61,7 @@ abbrev pub passes_all : (Row → Bool) → Option Row → Bool
 passes_all test None = true
 passes_all test (Some row) = test row
 
--- what the entries of a party, and its plain steps, pass a row of its call passes
+-- if the entries and plain steps of a party pass a test, a row of its call passes it
 module _ {W V C L A : Type 0} (t : Table W V C L A) (n : Notes t) (c : C) (l : L) (h : Option Hold) (p : ℕ) (s : Plain) (span : List Mark) where
   pub row_passes : (test : Row → Bool) → ((row : Row) → entries p s ≡ entries_at p row.stand → own p span ≡ row.made p → test row ≡ true) → (o : Option Row)
       → KnowsRow t n c l h p s span o → passes_some test o ≡ true
@@ -73,7 +73,7 @@ module _ {W V C L A : Type 0} (t : Table W V C L A) (n : Notes t) (c : C) (l : L
   row_tells test (Some row) knows is = ap test knows.0.stand ∙ is
   row_tells test None knows is = absurd knows
 
--- a point where a party has entries that pass this test
+-- a point at which a party has entries that pass this test
 abbrev pub StandsSo : {W V C L A : Type 0} (t : Table W V C L A) → Notes t → (Entries → Bool) → ℕ → C → L → Option Hold → Type 0
 StandsSo t n test p c l h = passes_some (λ row. test (entries_at p row.stand)) (row_of t n c l h) ≡ true
 

@@ -1,4 +1,4 @@
--- What a party in a call knows of itself and of its span, and that its own steps and those of others keep it.
+-- What a party in a call knows of itself and of its span, and how its own steps and those of others keep it.
 use Rattle.spin_world_core.proofs.Names.{◌≡◌, ℕ, suc, ◌+◌, ◌≤◌, ◌⊎◌, ◌==◌, Bool, true, false, not, ◌&&◌, ◌||◌, is_some, Option, Some, None, List, [], ◌∷◌, ◌++◌, option_to_list, nat_lt, if◌then◌else◌, refl, ◌∙◌, arith, inl, inr, ⊎_elim, Plain, Ask, Change, gets, is_open, is_open_to, apply_some, IsOpenStep, entries, is_held, bit, entries-other, Hold, StepKind, is_again, is_look, LockKind, Asked, Said, grant, Mark, AnyOf, FindsClosed, first_word, Limit, within, within_changes, gets_within, changes_within, registers_after, mark_of, own, own_count, failures, changes, EndsWithin, ContinuesWithin, is_due, Way, by_looks, past_looks, way_of, MayTryOn, Act, load, load_if, load_for, attempt, retry, true≢false, Meaning, got, ap, list_any, grants, same_ask, goes_of}
 use Rattle.spin_world_core.proofs.Lists.{eqb_self}
 use Rattle.spin_world_core.proofs.Stands.{Stand, entries_at, stand_of}
@@ -10,7 +10,8 @@ use Rattle.spin_model.specs.Calls as meaning
 
 -- The count of its steps
 
--- an own step makes its way, finds that a plain step is open, is a retry that failed, or finds that a plain step is closed
+-- an own step is on its way, finds that a plain step is open, is a retry that failed, or finds that a plain step is
+-- closed
 pub data Branch : Type 0 where
   goes : Branch
   finds_open : Branch
@@ -23,7 +24,7 @@ Branched finds_open s step r = Unit {0}
 Branched loses s step r = (is_again r ≡ true) × (step ≡ None)
 Branched (misses c) s step r = is_open s c ≡ false
 
--- at most k steps are spent of what the limit counts
+-- of what the limit counts, at most k steps are spent
 abbrev pub Spends : Limit → ℕ → ℕ → List Mark → Type 0
 Spends (within n) k p span = own_count p span ≤ k
 Spends (within_changes n) k p span = own_count p span ≤ failures p span + k
@@ -31,7 +32,8 @@ Spends (gets_within ask n) k p span = own p span ≡ [] → (own_count p span �
 Spends (changes_within n) k p span = own p span ≡ [] → own_count p span ≤ k
 Spends _ k p span = Unit {0}
 
--- after j steps and this branch, k are spent; the list is of the plain steps that are made then, and the span has this step. That a call registers in time an object shows by what it knows
+-- A step by this branch may raise the steps that are spent from j to k. The list has the plain steps made by then, and
+-- the span includes this step. That a call registers in time, an object shows from what its party knows.
 abbrev pub MaySpend : Limit → Branch → List Change → ℕ → ℕ → ℕ → LockKind → List Mark → Type 0
 MaySpend (within n) t cs j k p kind span = nat_lt j k ≡ true
 MaySpend (within_changes n) loses cs j k p kind span = nat_lt j (suc k) ≡ true
@@ -44,7 +46,7 @@ MaySpend (changes_within n) t [] j k p kind span = nat_lt j k ≡ true
 MaySpend (registers_after n i) t cs j k p kind span = ContinuesWithin (registers_after n i) kind p span
 MaySpend _ t cs j k p kind span = Unit {0}
 
--- a try that has found its plain step closed goes on no more, and by a look alone only where it may
+-- a try that has found its plain step closed continues no longer; it continues by a look alone only if it may
 abbrev pub MayContinue : Option Ask → Branch → Option Change → ℕ → Plain → List Mark → Type 0 → Type 0
 MayContinue (Some ask) (misses c) step p s span Spend = ⊥
 MayContinue (Some ask) goes None p s span Spend = Spend × MayTryOn ask p span s
@@ -58,7 +60,7 @@ may_spend tries branch step p s span Spend may = grind arith
 pub tries_open : (ask : Ask) (p : ℕ) (span : List Mark) (s : Plain) → is_open_to s p ask ≡ true → MayTryOn ask p span s
 tries_open ask p span s may = grind arith
 
--- with so many spent a call may go on
+-- with so many steps spent a call may continue
 abbrev pub is_timely : Limit → List Change → ℕ → Bool
 is_timely (within n) cs k = nat_lt k n
 is_timely (within_changes n) cs k = nat_lt k n
@@ -71,12 +73,12 @@ module _ (p : ℕ) (s : Plain) (step : Option Change) (r : StepKind) (span : Lis
   spent-mine what kind t cs j k how is may spent =
       grind (arith, nil_left (own p span), own-mine p step r s span, own_count-mine p step r s span, failures-mine p step r s span, spent)
 
--- a call may go on so, and be answered by the next step
+-- a call may continue like this, and be answered by the next step
 
 pub goes_within : (what : Limit) (kind : LockKind) (t : Branch) (cs : List Change) (j k p : ℕ) (span : List Mark) → own p span ≡ cs → is_timely what cs k ≡ true → failures p span ≤ changes kind p span → MaySpend what t cs j k p kind span → Spends what k p span → ContinuesWithin what kind p span
 goes_within what kind t cs j k p span is timely retries may spent = grind (arith, spent)
 
--- what an answer owes of its call's time where that is shown by what the party knows
+-- what an answer must show of its call's time: a call that registers in time shows it from what its party knows
 abbrev pub OwesEnd : Limit → LockKind → ℕ → List Mark → Type 0
 OwesEnd (registers_after n i) kind p span = EndsWithin (registers_after n i) kind p span
 OwesEnd _ kind p span = Unit {0}
@@ -87,7 +89,7 @@ ends_within what kind cs k p s step r span timely retries spent owed = grind (ar
 
 -- Its plain steps, and the moment of a grant
 
--- every plain step of the span was its party's, and open
+-- every plain step of the span was its party's own, and open
 abbrev pub Opened : List Mark → Type 0
 Opened [] = Unit {0}
 Opened (m ∷ ms) = IsOpenStep m.before m.party m.change × Opened ms
@@ -135,7 +137,7 @@ moment_of meaning.never p span opened is owed = owed
 moment_of (meaning.found test) p span opened is owed = owed
 moment_of (means steps right) p span opened is owed = owed
 
--- only a weak try may be refused without cause
+-- only a weak try may fail spuriously
 abbrev pub OwesUnless : Bool → Type 0 → Type 0
 OwesUnless true Owed = Unit {0}
 OwesUnless false Owed = Owed
@@ -156,13 +158,14 @@ pub record Row : Type 0 where
   pub said : Said
   pub spent : ℕ  -- of the call's limit
 
--- a point where a party has what it had as its call began, and has made no plain step: so many of the limit's steps are spent; or one with a row of its own
+-- A point of a call. At `looked k` the party holds what it held when the call began. It has made no plain step, and has
+-- spent k of the limit's steps. A point `onward` has a row of its own, and `nowhere` has no row.
 pub data Point : Type 0 where
   nowhere : Point
   looked : ℕ → Point
   onward : Row → Point
 
--- a call begins where it may, with that hold
+-- the point at which a call begins, if it may begin
 abbrev pub starts : {L : Type 0} → Option L → Point
 starts None = nowhere
 starts (Some l) = looked 0
@@ -184,7 +187,7 @@ abbrev pub IsSound : LockKind → Asked → ℕ → Option Row → Type 0
 IsSound kind what p None = Unit {0}
 IsSound kind what p (Some row) = (is_timely (limit kind what) (row.made p) row.spent ≡ true) × AnyOf (λ steps. row.made p ++ row.rest p ≡ steps) (own_steps (what.answers row.said) p)
 
--- what is left to show of it
+-- what has to be shown so that the row of a point is sound
 abbrev pub SoundAt : LockKind → Asked → ℕ → Point → Type 0
 SoundAt kind what p nowhere = Unit {0}
 SoundAt kind what p (looked k) = (is_timely (limit kind what) [] k ≡ true) × (is_empty (own_steps (what.answers what.most) p) ≡ false)
@@ -204,24 +207,25 @@ pub starts_sound : {L : Type 0} (kind : LockKind) (what : Asked) (p : ℕ) (o : 
 starts_sound kind what p None sound = tt
 starts_sound kind what p (Some l) sound = sound
 
--- where the next step is a retry: no more retries have failed than others have changed the first word, it not counted if it has changed since; and what was found is enough
+-- Where the next step is a retry that expects k: others have changed the first word at least as often as retries have
+-- failed, and once more if the word is no longer k. The step function admits k.
 abbrev pub Expects : {W L A : Type 0} → LockKind → Act W L A → ℕ → Plain → List Mark → Type 0
 Expects kind (retry k f step won found missed) p s span = (failures p span + bit (not (first_word kind s == k)) ≤ changes kind p span) × (is_some (f k) ≡ true)
 Expects kind _ p s span = Unit {0}
 
--- what is owed of it by a step that finds n in the first word
+-- what a step must show if a retry follows: it finds n in the first word, and the retry expects n
 abbrev pub RetryOwes : {W L A : Type 0} → Act W L A → ℕ → Option Change → Type 0
 RetryOwes (retry k f step won found missed) n made = (made ≡ None) × (n ≡ k) × (is_some (f k) ≡ true)
 RetryOwes _ n made = Unit {0}
 
--- what a point needs of what is due there
+-- whether a try has to be due at a point: either way is fine, it is due, it is not due, or no such point exists
 pub data Need : Type 0 where
   free : Need
   due : Need
   undue : Need
   never : Need
 
--- a load, or an exchange that may fail though its plain step is open
+-- a load, or an exchange that may fail although its plain step is open
 abbrev pub rests : {W L A : Type 0} → Act W L A → Bool
 rests (load next) = true
 rests (load_if test a b) = true
@@ -234,7 +238,7 @@ abbrev pub peeks : {W L A : Type 0} → Act W L A → Bool
 peeks (load_if test a b) = true
 peeks _ = false
 
--- by whether the next step rests, and whether it is a look
+-- the need of a point, by whether its next step is such a load or exchange, and whether it is a look
 abbrev pub need : Option Ask → Way → Bool → Bool → Need
 need None way resting peeking = free
 need (Some ask) by_looks true true = undue
@@ -252,7 +256,7 @@ Needs due p span = is_due p span ≡ true
 Needs undue p span = is_due p span ≡ false
 Needs never p span = ⊥
 
--- what is owed of that by a step before it
+-- after such a step a try is due: it makes a plain step, or it is a look that finds the lock free
 abbrev pub makes_due : Option Change → StepKind → Plain → Bool
 makes_due step r s = is_some step || (is_look r && not (is_held s))
 
@@ -262,7 +266,7 @@ FoundBy due Finds step r s = Finds × (makes_due step r s ≡ true)
 FoundBy undue Finds step r s = Finds × (makes_due step r s ≡ false)
 FoundBy never Finds step r s = ⊥
 
--- and by a beginning
+-- a call does not begin with a retry
 abbrev pub NoRetry : {W L A : Type 0} → Act W L A → Type 0
 NoRetry (retry k f step won found missed) = ⊥
 NoRetry _ = Unit {0}
@@ -294,7 +298,7 @@ module _ (p : ℕ) (s : Plain) (step : Option Change) (r : StepKind) (span : Lis
 pub needs_first : (needed : Need) (Begins : Type 0) (p : ℕ) → BeginsBy needed Begins → Needs needed p [] × Begins
 needs_first needed Begins p begins = grind (arith, begins)
 
--- as a call begins
+-- when a call begins
 
 pub none_spent : (what : Limit) (k p : ℕ) → Spends what k p []
 none_spent what k p = grind arith
@@ -304,7 +308,7 @@ none_expected kind act p s none = grind arith
 
 -- after another party's step
 
--- a change of the first word makes one more change by others
+-- a change of the first word is one more change by others
 pub moved : (a b n x y : ℕ) → a + bit (not (x == n)) ≤ b → a + bit (not (y == n)) ≤ b + bit (not (y == x))
 moved a b n x y le = grind arith
 

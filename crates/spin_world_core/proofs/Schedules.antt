@@ -1,4 +1,4 @@
--- Schedules one entry longer.
+-- Schedules with one more entry.
 use Rattle.spin_world_core.proofs.Names.{◌≡◌, ℕ, suc, ◌+◌, ◌≤◌, ◌==◌, ◌&&◌, Option, Some, None, List, [], ◌∷◌, ◌++◌, length, if◌then◌else◌, refl, ap, sym, arith, append_assoc, length-set, slice_get_past, append-nil, length-map, Hold, Calling, Leaked, Next, Move, Event, Machine, opening_plain, State, happens, moves_at, goes_on, placed, owner_writes, after, events_of, with_begins, last_begin, is_begun, seen_by_owner, Seen, scene, seen_after}
 use Rattle.spin_model.specs.declared.schedule.Outcome.TheVariants as outcome
 use Rattle.spin_world_core.proofs.Events.{of_event}
@@ -9,7 +9,7 @@ with_begins-append before [] ys = ap (λ b. with_begins b ys) (sym (append-nil b
 with_begins-append before (x ∷ xs) ys =
     grind (arith, with_begins-append (before ++ x ∷ []) xs ys, append_assoc before (x ∷ []) xs)
 
--- the last beginning among events that stand behind others
+-- the last beginning among events that follow others
 pub last_begin-append : {W V A : Type 0} (p k : ℕ) (found : Option ℕ) (xs ys : List (Event W V A))
     → last_begin p k found (xs ++ ys) ≡ last_begin p (k + length xs) (last_begin p k found xs) ys
 last_begin-append p k found [] ys = ap (λ n. last_begin p n found ys) (omega arith)
@@ -30,7 +30,7 @@ module _ {W V C L A : Type 0} (m : Machine W V C L A) where
   seen_after-append seen [] ys = refl
   seen_after-append seen (x ∷ xs) ys = seen_after-append (scene m seen x.0 x.1).after xs ys
 
-  -- a party that doesn't exist is skipped
+  -- a party that does not exist is skipped
   pub stranger : (s : State W V C L) (p : ℕ) (move : Move C V) → length s.seats ≤ p → (happens m s p move).outcome ≡ outcome.Skipped
   stranger s p move past = ap (λ o. (moves_at m s p move o).outcome) (slice_get_past s.seats p past)
 

@@ -1,28 +1,29 @@
--- What the table of an object owes, point by point, and that its machine then shows all local facts.
+-- What the table of an object must show, point by point. Its machine then shows all local facts.
 use Rattle.spin_world_core.proofs.Names.{own_steps, tries_of, goes_of, ◌≡◌, ℕ, zero, suc, ◌≤◌, Bool, true, false, ◌||◌, ◌==◌, is_some, Option, Some, None, List, [], ◌∷◌, ◌++◌, option_to_list, Plain, Ask, Change, gets, apply, is_open, is_empty, apply_some, IsOpenStep, IsExclusive, Hold, Next, Continue, Answers, StepKind, plain, again, weak, by_step, Asked, encoded, BelongsTo, Mark, AnyOf, Limit, registers_after, arrived, steps_alone, opening_plain, mark_of, failures, changes, number_at, Act, load, load_if, load_for, enter, exchange, weak_exchange, attempt, retry, store, section, swap, tried, guessed, passing, place_of, step_by, makes_by, look_kind, Table, begin_of, machine_of, performed, limit}
 use Rattle.spin_world_core.proofs.Facts.{LocalInvariant}
 use Rattle.spin_world_core.proofs.Operating.{fits_act, CallsFit, OwnFits, Operates}
 use Rattle.spin_world_core.proofs.Stands.{stand_of, stand_after}
 use Rattle.spin_world_core.proofs.Rows.{Branch, goes, finds_open, loses, misses, MaySpend, MayContinue, OwesRight, OwesEnd, Row, Point, row_at, SoundAt, RetryOwes, need_of, FoundBy, NoRetry, BeginsBy, Known}
 
--- what table and notes say of a call. Its debts read nothing else, so calls of which they say the same owe the same
+-- What the table and the notes say of a call. What has to be shown of the call depends on nothing else.
 pub record CallOf (W L A : Type 0) : Type 1 where
   pub asks : Option Hold → Asked
   pub act : L → Option Hold → Act W L A
   pub point : L → Option Hold → Point
   pub Knows : L → Option Hold → ℕ → Plain → List Mark → Type 0
 
--- an exchange that is made again goes on by another number, by which there are new words. That it is another matters only to a call that registers in time
+-- An exchange that is repeated expects another number, and the step function admits that number. Only a call that
+-- registers in time has to show that the number is another one.
 abbrev pub FindsAnother : Limit → Bool → Bool → Type 0
 FindsAnother (registers_after n i) same some = (same ≡ false) × (some ≡ true)
 FindsAnother _ same some = some ≡ true
 
--- an exchange whose refusal shows nothing is the last step of its call
+-- an exchange that shows nothing when it fails is the last step of its call
 abbrev pub is_answer : {L A : Type 0} → Next L A → Bool
 is_answer (Continue l) = false
 is_answer (Answers a after) = true
 
--- the plain step that a step makes wherever it is open
+-- the plain step that a step makes whenever it is open
 abbrev pub sure_by : {W L A : Type 0} → Act W L A → ℕ → Option Change
 sure_by (enter test step won lost) p = Some (step p)
 sure_by (exchange operation step won lost) p = Some (step p)
@@ -31,13 +32,13 @@ sure_by (store can operation step next) p = Some (step p)
 sure_by (section can f step won lost) p = Some (step p)
 sure_by _ p = None
 
--- and of a try also the one that it looks for
+-- for a try, also the plain step that it looks for
 abbrev pub aim_by : {W L A : Type 0} → Option Ask → Act W L A → ℕ → Option Change
 aim_by (Some ask) (load_for f step found missed) p = Some (step p)
 aim_by (Some ask) act p = makes_by act p
 aim_by None act p = sure_by act p
 
--- what a call gets next that tries, or goes for it without a look: its steps are for that and nothing else
+-- what the next plain step of a call gets, if the call tries, or goes for it without a look
 abbrev pub aim_of : Option Ask → Option Ask → List Change → Option Ask
 aim_of (Some ask) due [] = Some ask
 aim_of (Some ask) due (c ∷ cs) = None
@@ -51,19 +52,20 @@ abbrev pub aimed_at : ℕ → Asked → Option Row → Option Change → Option 
 aimed_at p what None step = step
 aimed_at p what (Some row) step = aimed p (aim_of (tries_of what) (goes_of what (row.made p)) (row.made p)) step
 
--- how a call goes on by its next point, if it does
+-- what the next point gives, or x if the call ends
 abbrev pub goes_by : {L A X : Type 0} → Next L A → X → (L → X) → X
 goes_by (Continue l) x f = f l
 goes_by (Answers a after) x f = x
 
 module _ {W V C L A : Type 0} (t : Table W V C L A) where
-  -- what an object notes beside its table: the shape of its plain lock, the row of each point, and what else a party knows there
+  -- what an object notes with its table: the shape of its plain lock, the row of each point, and what else a party
+  -- knows there
   pub record Notes : Type 1 where
     pub Shape : Plain → Type 0
     pub point : C → L → Option Hold → Point
     pub Knows : C → L → Option Hold → ℕ → Plain → List Mark → Type 0
 
-  -- run on the words alone, the table answers the call by its k-th step from here
+  -- if the table runs on the words alone, it answers the call by its k-th step from here
   abbrev pub answers_by : ℕ → W → C → L → Option Hold → Bool
   answers_by zero w c l h = false
   answers_by (suc k) w c l h =
@@ -84,7 +86,7 @@ module _ {W V C L A : Type 0} (t : Table W V C L A) where
     abbrev pub call_of : C → CallOf W L A
     call_of c = record { asks = λ h. t.asks c h; act = λ l h. t.act c l h; point = λ l h. n.point c l h; Knows = λ l h p s span. n.Knows c l h p s span }
 
-    -- what holds where a party is about to step
+    -- what holds when a party is about to step
     pub record AtPoint (p : ℕ) (k : CallOf W L A) (l : L) (h : Option Hold) (s : Plain) (w : W) (span : List Mark) (row : Row) : Type 0 where
       pub encodes : t.memory.numbers w ≡ encoded t.lock_kind s
       pub shape : n.Shape s
@@ -96,15 +98,16 @@ module _ {W V C L A : Type 0} (t : Table W V C L A) where
     abbrev pub At : ℕ → C → L → Option Hold → Plain → W → List Mark → Row → Type 0
     At p c l h s w span row = AtPoint p (call_of c) l h s w span row
 
-    -- The debts
+    -- What has to be shown
 
-    -- what the step function gives makes the words after the plain step, which is open and the party's own; its refusal says that the step is closed
+    -- If the step function gives a number, the plain step is open and the party's own, and the number makes the words
+    -- after it. If the function refuses, the plain step is closed.
     abbrev pub Means : {X : Type 0} → ℕ → Plain → Change → (X → W) → Option X → Type 0
     Means p s c put None = is_open s c ≡ false
     Means p s c put (Some x) = IsOpenStep s p (Some c) × (t.memory.numbers (put x) ≡ encoded t.lock_kind (apply s c)) × n.Shape (apply s c)
 
     module _ (p : ℕ) (k : CallOf W L A) (h : Option Hold) (s : Plain) (w : W) (span : List Mark) (row : Row) where
-      -- the next point's row is this one after the step
+      -- the row of the next point is this one after the step
       abbrev pub FollowsRow : Option Change → StepKind → Branch → L → Option Row → Type 0
       FollowsRow step r branch l None = ⊥
       FollowsRow step r branch l (Some to) =
@@ -114,7 +117,7 @@ module _ {W V C L A : Type 0} (t : Table W V C L A) where
           × FoundBy (need_of t.lock_kind (k.asks h) (to.made p) (k.act l h)) (RetryOwes (k.act l h) (number_at t.memory 0 w) step) step r s
           × k.Knows l h p (apply_some s step) (mark_of p step r s ∷ span)
 
-      -- how a call goes on is right, by this step and this branch
+      -- by this step and this branch the call continues correctly
       abbrev pub Follows : Bool → Option Change → StepKind → Branch → Next L A → Type 0
       Follows weakly step r branch (Continue l) = FollowsRow step r branch l (row_at (k.asks h) h (k.point l h))
       Follows weakly step r branch (Answers a after) =
@@ -166,7 +169,7 @@ module _ {W V C L A : Type 0} (t : Table W V C L A) where
     abbrev pub OwesAt : ℕ → C → L → Option Hold → Plain → W → List Mark → Type 0
     OwesAt p c l h s w span = OwesRow p (call_of c) l h s w span (row_of c l h)
 
-    -- a call that may wait is answered by so many steps, where what it asks is open to it and nobody else steps
+    -- a call that may wait is answered in so many steps, if what it asks is open and nobody else steps in between
     abbrev pub AnswersRow : ℕ → CallOf W L A → L → Option Hold → Plain → W → List Mark → Bool → Bool → Option Row → Type 0
     AnswersRow p k l h s w span soon true (Some row) =
         AtPoint p k l h s w span row → (k.asks h).is_open_next (is_empty (row.made p)) (arrived p span) p s ≡ true → soon ≡ true
@@ -176,7 +179,7 @@ module _ {W V C L A : Type 0} (t : Table W V C L A) where
     OwesSoon p c l h s w span =
         AnswersRow p (call_of c) l h s w span (answers_by (steps_alone (t.asks c h)) w c l h) (t.asks c h).waits (row_of c l h)
 
-    -- a call begins with a row that says so
+    -- a call begins with a row that says this
     abbrev pub BeginsRow : C → L → Option Hold → ℕ → Plain → Option Row → Type 0
     BeginsRow c l h p s None = ⊥
     BeginsRow c l h p s (Some row) =

@@ -1,15 +1,15 @@
--- How many parties share the value, and how many have leaked, as seats change.
+-- How many parties share the value, and how many have leaked, when seats change.
 use Rattle.spin_world_core.proofs.Names.{◌≡◌, ◌+◌, Bool, List, [], ◌∷◌, length, map, Vec, refl, ap, sym, ◌∙◌, subst, arith, cond, count_by, length-map, with_items_is, sum_by-cons, with_items, Seat, State, seen_by_owner, let_go, shares, has_leaked}
 
 count_by-cons : {X : Type 0} (f : X → Bool) (x : X) (xs : List X) → count_by f (x ∷ xs) ≡ cond (f x) 1 0 + count_by f xs
 count_by-cons f x xs = sum_by-cons (λ y. cond (f y) 1 0) x xs
 
--- the owner's look changes nothing where none is counted
+-- the owner's use changes nothing if no party has leaked
 pub none_leaked : {C L : Type 0} (seats : List (Seat C L)) → count_by has_leaked seats ≡ 0 → map seen_by_owner seats ≡ seats
 none_leaked [] none = refl
 none_leaked (s ∷ seats) none = grind (arith, none_leaked seats, count_by-cons has_leaked s seats)
 
--- and afterwards as many share it, and each party that has leaked is gone
+-- and afterwards as many share it, and each leaked party is gone
 pub shares_seen : {C L : Type 0} (seats : List (Seat C L)) → count_by shares (map seen_by_owner seats) ≡ count_by shares seats
 shares_seen [] = refl
 shares_seen (s ∷ seats) =

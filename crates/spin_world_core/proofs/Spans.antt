@@ -1,4 +1,4 @@
--- A party's own steps in a span, one step longer.
+-- A party's own steps in a span with one more step.
 use Rattle.spin_world_core.proofs.Names.{◌≡◌, ℕ, ◌+◌, ◌<◌, ◌≤◌, ◌==◌, true, not, ◌&&◌, is_some, Option, None, List, [], ◌∷◌, ◌++◌, option_to_list, if◌then◌else◌, refl, ap, ◌∙◌, arith, ne_eqb, append-nil, Plain, Change, apply_some, bit, StepKind, is_again, LockKind, first_word, Mark, mark_of, own, own_count, failures, changes}
 use Rattle.spin_world_core.proofs.Lists.{eqb_self}
 
@@ -38,7 +38,7 @@ pub nil_left : {X : Type 0} (xs ys : List X) → xs ++ ys ≡ [] → xs ≡ []
 nil_left [] ys e = refl
 nil_left (x ∷ xs) ys e = absurd (cc (e))
 
--- where a failed exchange is another party's doing, there are no more of them than changes by others
+-- if a failed exchange is due to another party, there are at most as many of them as changes by others
 pub retries-mine : (kind : LockKind) (p : ℕ) (step : Option Change) (r : StepKind) (s : Plain) (span : List Mark) → failures p span ≤ changes kind p span
     → (is_again r ≡ true → step ≡ None → failures p span < changes kind p span)
     → failures p (mark_of p step r s ∷ span) ≤ changes kind p (mark_of p step r s ∷ span)

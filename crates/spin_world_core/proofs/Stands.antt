@@ -1,4 +1,4 @@
--- What a party has in a call, and what its own plain steps make of it.
+-- What a party has in a call, and how its own plain steps change it.
 use Rattle.std.proofs.Common.{◌≡◌, ℕ, Bool, true, false, Option, Some, None, [], ◌∷◌, if◌then◌else◌, refl, arith}
 use Rattle.spin_step.specs.Plain.{Plain, Kind, reading, upgradable, writing, holder, same_kind, ticket as queued, Effect, comes, becomes, enters, runs, effect, Change, gets, releases, serves, stops_starving, turns, completes, fails, arrives}
 use Rattle.spin_step.specs.Parties.{apply_some, IsOpenStep, Entries, entries, no_entries}
@@ -36,7 +36,7 @@ pub held_at : (p : ℕ) (h : Option Hold) → entries_held p h ≡ entries_at p 
 held_at p (Some Read) = refl
 held_at p _ = refl
 
--- what a step of its own makes of it, where n is the next ticket's number. `None`: no such step is made there
+-- What a step of its own changes, if n is the next ticket's number. `None`: no such step is made there.
 abbrev pub after_getting : ℕ → Effect → Stand → Option Stand
 after_getting n (comes k) absent = Some (holds k)
 after_getting n (comes k) starves = Some (holds_and_starves k)

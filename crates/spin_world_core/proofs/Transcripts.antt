@@ -1,4 +1,4 @@
--- A transcript tells the scenes, and a place what its party's moves and entries say.
+-- A transcript tells the scenes, and a place tells what its party's moves and entries say.
 use Rattle.spin_world_core.proofs.Names.{eq-eqb, ne_eqb, ◌≡◌, ℕ, ◌<◌, ◌≤◌, ◌==◌, Bool, Option, Some, None, List, [], ◌∷◌, ◌++◌, length, map, slice_get, slice_set, if◌then◌else◌, refl, ap, sym, ◌∙◌, subst, arith, option_map, length-replicate, slice_get-map, slice_get_within, slice_get_cases, Plain, Hold, Place, Seat, Idle, Calling, Holding, Leaked, Gone, Next, Continue, Answers, Move, Step, Weak, Outcome, Event, Mark, Machine, opening_plain, State, happens, goes_on, resting, seen_by_owner, events_of, with_begins, Seen, Scene, scene, scene_of, Every, Keeps, KeepsAll, StandsFor, opening, seen_after, scenes, without_begin, EachTells, TellsAfterAnyPast, Stage, at_rest, in_call, is_gone, stage_by_own, stage_by_owner, let_go_stage, stage_after, StandsAt, PlaceSays, SaysAfterAnyPast}
 use Rattle.spin_model.specs.declared.schedule.Outcome.TheVariants as outcome
 use Rattle.spin_model.specs.StepKinds as step_kind
@@ -12,7 +12,7 @@ use Rattle.spin_world_core.proofs.Schedules.{length-happens}
 -- The transcript
 
 module _ {W V C L A : Type 0} (m : Machine W V C L A) where
-  -- an event of the machine doesn't say where its call began
+  -- an event of the machine does not say where its call began
   no_begin : (seen : Seen W V C L) (p : ℕ) (move : Move C V) → without_begin (scene m seen p move).outcome ≡ (scene m seen p move).outcome
   no_begin seen p move =
       of_event m seen p (λ sc. without_begin sc.outcome ≡ sc.outcome)
@@ -55,7 +55,7 @@ stage_of (Some (Leaked h)) = has_leaked
 stage_of (Some (Gone h)) = is_gone
 stage_of _ = at_rest
 
--- the owner's look makes every leaked party gone
+-- the owner's use makes every leaked party gone
 let_go_all : {C L : Type 0} (seats : List (Seat C L)) (p : ℕ) (b : Bool)
     → stage_of (slice_get (map seen_by_owner seats) p) ≡ let_go_stage (if b then stage_of (slice_get seats p) else stage_of (slice_get seats p))
 let_go_all seats p b = grind (arith, slice_get-map seen_by_owner seats p)
@@ -126,7 +126,7 @@ module _ {W V C L A : Type 0} (m : Machine W V C L A) where
   length-seen_after seen [] = refl
   length-seen_after seen (e ∷ es) = length-seen_after (scene m seen e.0 e.1).after es ∙ length-happens m seen.state e.0 e.1
 
-  -- what every place stands for, wherever a schedule leads
+  -- what every place implies, after any schedule
   stand_after : (seen : Seen W V C L) (es : List (ℕ × Move C V)) → Every (Keeps m) m seen es
       → ((q : ℕ) → StandsFor seen.plain q (seen.span q) (slice_get seen.state.seats q))
       → (q : ℕ) → StandsFor (seen_after m seen es).plain q ((seen_after m seen es).span q) (slice_get (seen_after m seen es).state.seats q)

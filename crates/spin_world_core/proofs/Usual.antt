@@ -1,4 +1,4 @@
--- What the tables of several objects owe in the same way.
+-- What the tables of several objects show in the same way.
 use Rattle.spin_world_core.proofs.Names.{arith, ◌≡◌, ℕ, zero, suc, Bool, true, false, ◌||◌, [], ◌∷◌, refl, false≢true, Plain, is_empty}
 use Rattle.spin_model.specs.Acts.{two_numbers}
 use Rattle.spin_world_core.proofs.Operating.{IsPlace}
@@ -24,7 +24,7 @@ no_holders s none = grind arith
 pub never : {X : Type 0} → false ≡ true → X
 never passes = absurd (false≢true passes)
 
--- where the second fails it is the first
+-- if the second fails, the first holds
 pub only_left : (a b : Bool) → b ≡ false → (a || b) ≡ true → a ≡ true
 only_left a b none is = grind arith
 

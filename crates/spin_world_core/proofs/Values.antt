@@ -5,7 +5,7 @@ use Rattle.spin_world_core.proofs.Preserved.{Invariant, in_call}
 use Rattle.spin_world_core.proofs.Every.{kept, every, good_first}
 
 module _ {W V C L A : Type 0} (m : Machine W V C L A) where
-  -- a call that goes on leaves the value as its step left it
+  -- a call that continues has the value as its step left it
   value-goes_on : (s : State W V C L) (p : ℕ) (c : C) (h : Option Hold) (next : Next L A) → (goes_on s p c h next).next.value ≡ s.value
   value-goes_on s p c h next = grind arith
 

@@ -1,4 +1,4 @@
--- A party that may write and one that may look at the value are one.
+-- If one party may write and one may read the value, they are the same party.
 use Rattle.std.proofs.Common.{◌≡◌, ℕ, ◌<◌, ◌==◌, true, false, not, ◌||◌, List, [], ◌∷◌, length, filter, refl, arith}
 use Rattle.std.specs.List.{list_any}
 use Rattle.spin_step.specs.Plain.{Plain, writing, Holder, Ticket, same_kind, count_kind, is_empty}
@@ -23,7 +23,7 @@ entered_party : (p q : ℕ) (ts : List Ticket) → first_alone_entered ts ≡ tr
 entered_party p q [] alone here there = absurd cc
 entered_party p q (t ∷ ts) alone here there = grind (arith, none_any p ts, none_any q ts)
 
--- a party that may look at the value holds the lock
+-- a party that may read the value holds the lock
 pub touched : (s : Plain) (p : ℕ) → is_reader (entries p s) ≡ true → is_held s ≡ true
 touched s p reads = grind arith
 

@@ -1,4 +1,4 @@
--- Runs one after the other: together they are one run of all their schedules.
+-- Runs one after another. Together they are one run of all their schedules.
 use Rattle.std.specs.Prelude.{◌≡◌, ℕ, ◌-◌, Option, Some, None, List, [], ◌∷◌, ◌++◌, map, take, drop, nat_lt, if◌then◌else◌}
 use Rattle.spin_model.specs.declared.schedule.Move.{Move}
 use Rattle.spin_model.specs.declared.schedule.Outcome.{Outcome}
@@ -17,7 +17,8 @@ pub record Promised {W V C L A : Type 0} (m : Machine W V C L A) (n : ℕ) (entr
   pub counts : CountsAll m n entries
   pub values : ValuesAll m n entries
 
--- where a call began, as it is told by a run that starts at this place of a longer one: of a call that began before it nothing is told
+-- Where a call began, as told by a run that starts at place `start` of a longer run. It tells nothing of a call that
+-- began earlier.
 abbrev pub began_from : ℕ → Option ℕ → Option ℕ
 began_from start None = None
 began_from start (Some place) = if nat_lt place start then None else Some (place - start)
@@ -29,7 +30,8 @@ outcome_from start o = o
 abbrev pub event_from : {W V A : Type 0} → ℕ → Event W V A → Event W V A
 event_from start e = record e { outcome = outcome_from start e.outcome }
 
--- these are the events of one run, cut in two at this place; the second list counts from its own start where a call began
+-- The events of one run, cut in two at this place. In the second part, places where calls began are counted from its
+-- own start.
 pub record IsCut {W V A : Type 0} (place : ℕ) (one first second : List (Event W V A)) : Type 0 where
   pub front : first ≡ take place one
   pub back : second ≡ map (event_from place) (drop place one)
@@ -44,12 +46,13 @@ abbrev pub after_runs : {W V C L A : Type 0} → Machine W V C L A → State W V
 after_runs m s [] = s
 after_runs m s (run ∷ runs) = after_runs m (after m s run) runs
 
--- what each of them tells
+-- the transcript of each run
 abbrev pub transcripts_of : {W V C L A : Type 0} → Machine W V C L A → State W V C L → List (List (ℕ × Move C V)) → List (List (Event W V A))
 transcripts_of m s [] = []
 transcripts_of m s (run ∷ runs) = with_begins [] (events_of m s run) ∷ transcripts_of m (after m s run) runs
 
--- they end in the state of one run of all their schedules joined; their events together tell that schedule's scenes; and all that is promised of a schedule is so of the joined one
+-- The runs end in the state of one run of their joined schedule. Their events together tell the scenes of that
+-- schedule, and all that is promised of a schedule holds of it.
 pub record RunsAreOne {W V C L A : Type 0} (m : Machine W V C L A) (s : State W V C L) (runs : List (List (ℕ × Move C V))) : Type 0 where
   pub state : after_runs m s runs ≡ after m s (joined runs)
   pub tells : TellsAfterAnyPast m s (joined runs) (joined (transcripts_of m s runs))

@@ -6,17 +6,17 @@ use Rattle.spin_world_core.specs.Users.{ReadsAgree}
 use Rattle.spin_world_core.specs.Values.{ValuesAll}
 
 pub record Lawful {W V C L A : Type 0} (m : Machine W V C L A) : Type 0 where
-  -- each call begins where its party holds what it is for, and each step is one operation on one word
+  -- each call begins only if its party holds what the call needs, and each step is one operation on one word
   pub stepwise : Stepwise m
-  -- a party in a call may take its next step
+  -- a party in a call can take its next step
   pub can : Always m (CanGoOn m)
-  -- a step keeps the encoding, and what follows from that
+  -- each step keeps the encoding, and all that follows from it
   pub keeps : Always m (KeepsAll m)
-  -- an answer has a moment
+  -- each answer has a moment
   pub moments : Always m (MomentsAll m)
-  -- a call with a limit is answered within it
+  -- a call with a limit is answered within the limit
   pub counts : Always m (CountsAll m)
-  -- two looks under one guard find the same
+  -- two looks under one guard find the same value
   pub agree : Always m (ReadsAgree m)
-  -- a value that a closure makes is its call's, and is the one that answers give
+  -- the value that a closure makes is the one that its call brings, and answers give this value
   pub values : Always m (ValuesAll m)

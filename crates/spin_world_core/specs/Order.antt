@@ -17,16 +17,16 @@ goes_of what made = if what.waits then what.goes_for made else None
 abbrev pub tries_of : Asked → Option Ask
 tries_of what = if what.waits then None else what.tries
 
--- its next step is due: it is its first, or follows a plain step, or a look that found the lock free
+-- the call should now try: at its first step, after a plain step, and after a look that found the lock free
 abbrev pub is_due : ℕ → List Mark → Bool
 is_due p [] = true
 is_due p (m ∷ ms) = if m.party == p then is_some m.change || (is_look m.step_kind && not (is_held m.before)) else is_due p ms
 
--- by which of its steps such a call goes for it
+-- by which of its steps such a call tries
 pub data Way : Type 0 where
   always : Way  -- by each
-  by_looks : Way  -- where it is due, and else it looks
-  past_looks : Way  -- where it is due; a newcomer that may starve may also register
+  by_looks : Way  -- by each that is due; by the others it looks
+  past_looks : Way  -- by each that is due; a newcomer that may starve may also register
 
 abbrev pub way_by : Bool → Bool → Way
 way_by true may_register = always
@@ -44,7 +44,7 @@ abbrev pub LooksElse : Way → ℕ → List Mark → StepKind → Type 0
 LooksElse by_looks p span r = is_due p span ≡ false → is_look r ≡ true
 LooksElse way p span r = Unit {0}
 
--- by a step that goes for it the call gets it, where it is open
+-- by a step that should get what the call asks, the call gets it if it is open
 abbrev pub Gets : LockKind → ℕ → Asked → List Mark → Plain → Option Change → StepKind → Type 0
 Gets kind p what span s step r =
     (ask : Ask) → goes_of what (own p span) ≡ Some ask
@@ -55,8 +55,8 @@ GetsWhenDue kind p outcome.GoingOn Step (Some what) span s step r = Gets kind p 
 GetsWhenDue kind p (outcome.Answered a b) Step (Some what) span s step r = Gets kind p what span s step r
 GetsWhenDue kind p _ _ _ span s step r = Unit {0}
 
--- A try goes on, before its plain step, only by a step at which what it asks is open.
--- A try of a queue's two words goes on by its first load too, and by one that finds served the number that it has found next
+-- A try continues, before its plain step, only by a step at which what it asks is open.
+-- A try on the two words of a queue also continues by its first load, and by a load that finds its number served.
 abbrev pub MayTryOn : Ask → ℕ → List Mark → Plain → Type 0
 MayTryOn to_take_and_enter p span s = (is_open_to s p to_take_and_enter ≡ true) ⊎ (own_count p span ≡ 0) ⊎ AnyOf (λ m. (m.party ≡ p) × (next_word m.before ≡ serving_word s)) span
 MayTryOn ask p span s = is_open_to s p ask ≡ true

@@ -1,4 +1,5 @@
--- What is promised of every event of every schedule. Beside the world runs one plain lock, which each event moves by the plain step that it makes.
+-- What is promised of every event of every schedule. With the world runs one plain lock. Each event makes its plain
+-- step there, if it makes one.
 use Rattle.std.specs.Prelude.{◌≡◌, ℕ, ◌+◌, ◌<◌, ◌≤◌, ◌↔◌, ◌⊎◌, Bool, true, false, not, ◌||◌, Option, Some, None, List, [], ◌∷◌, ◌++◌, is_some, ◌==◌, if◌then◌else◌, slice_get, take}
 use Rattle.std.specs.List.{list_any}
 use Rattle.spin_step.specs.Plain.{Plain, reading, upgradable, writing, same_kind, Change, completes, is_open, holder, ticket, is_empty}
@@ -20,15 +21,16 @@ use Rattle.spin_world_core.specs.Order.{GetsWhenDue, TriesOn}
 use Rattle.spin_model.specs.Machines.{Machine, opening_plain}
 use Rattle.spin_model.specs.Schedules.{State, Happened, moves_at, at_first, after, may_read, may_write, is_owners}
 
--- A world beside the plain lock, with the value last written and, of each party's call, the steps of all calls since it began: its span so far, the latest first.
--- Every other event leaves the plain lock as it is, so that these steps' states are all states of the span
+-- A world, its plain lock, the value last written, and for each party the span of its call: the steps of all calls
+-- since it began, the latest first.
+-- All other events leave the plain lock unchanged. So the states at these steps are all states of the span.
 pub record Seen (W V C L : Type 0) : Type 0 where
   pub state : State W V C L
   pub plain : Plain
   pub span : ℕ → List Mark
   pub written : Option V
 
--- one event, with where its party stood, the plain step that it makes, and what was before it and is after it
+-- one event: its party's seat, its plain step, and what was before it and is after it
 pub record Scene (W V C L A : Type 0) : Type 0 where
   pub before : Seen W V C L
   pub party : ℕ
@@ -60,7 +62,7 @@ abbrev pub if_completed : {V : Type 0} → Option V → Option V → Option Chan
 if_completed old value (Some (completes p)) = value
 if_completed old value _ = old
 
--- the value last written: by a holder, by the owner, or by a closure that completed
+-- the value last written, by a holder, by the owner, or by a closure that completed
 abbrev pub last_written : {V C A : Type 0} → Outcome A V → Move C V → Option V → Option V → Option Change → Option V
 last_written outcome.Written (Write v) old value step = Some v
 last_written outcome.Written (OwnerSet v) old value step = Some v
@@ -104,7 +106,7 @@ abbrev pub Every : {W V C L A : Type 0} → (Scene W V C L A → Type 0) → Mac
 Every R m seen [] = Unit {0}
 Every R m seen (e ∷ es) = R (scene m seen e.0 e.1) × Every R m (scene m seen e.0 e.1).after es
 
--- The openness of moves
+-- Which moves are open
 
 abbrev pub is_open_to : {W V C L A : Type 0} → Machine W V C L A → State W V C L → Move C V → Seat C L → Bool
 is_open_to m s (Begin c) Idle = is_some (m.begin c None)
@@ -120,12 +122,12 @@ is_open_to m s OwnerGet seat = is_owners m s
 is_open_to m s (OwnerSet v) seat = is_owners m s
 is_open_to _ _ _ _ = false
 
--- nothing is open to a party that doesn't exist
+-- no move is open to a party that does not exist
 abbrev pub is_open_move : {W V C L A : Type 0} → Machine W V C L A → State W V C L → Move C V → Option (Seat C L) → Bool
 is_open_move m s move None = false
 is_open_move m s move (Some seat) = is_open_to m s move seat
 
--- Places and entries
+-- The party's entries
 
 abbrev pub entries_of : ℕ → Hold → Entries
 entries_of p hold.Read = record no_entries { holders = holder p reading ∷ [] }
@@ -144,7 +146,7 @@ entries_so_far p [] e = e
 entries_so_far p (m ∷ ms) e =
     if m.party == p then entries_after m.before m.change (entries_so_far p ms e) else entries_so_far p ms e
 
--- the party's entries in the plain lock are what its place says
+-- the party's entries in the plain lock are those that its seat implies
 abbrev pub StandsFor : {C L : Type 0} → Plain → ℕ → List Mark → Option (Seat C L) → Type 0
 StandsFor s p span None = entries p s ≡ no_entries
 StandsFor s p span (Some Idle) = entries p s ≡ no_entries
@@ -153,7 +155,7 @@ StandsFor s p span (Some (Holding h)) = entries p s ≡ entries_of p h
 StandsFor s p span (Some (Leaked h)) = entries p s ≡ entries_of p h
 StandsFor s p span (Some (Gone h)) = entries p s ≡ entries_of p h
 
--- Who touches the value
+-- Who may use the value
 
 abbrev pub is_reader : Entries → Bool
 is_reader e = not (is_empty e.holders) || list_any (λ t. t.entered) e.tickets
@@ -181,7 +183,8 @@ MayTouch seen p (outcome.Value r) (OwnerSet v) = IsOwners seen
 MayTouch seen p outcome.Written (OwnerSet v) = IsOwners seen
 MayTouch seen p _ _ = Unit {0}
 
--- Which moves are skipped, by the plain lock and by how far the party has come: only a move that nobody could make of a party that has this in the lock
+-- Which moves are skipped, by the plain lock and by what the party has done so far. Only a move is skipped that no
+-- party with these entries could make.
 
 abbrev pub MaySkip : {W V C L A : Type 0} → Machine W V C L A → Seen W V C L → ℕ → Move C V → Option (Seat C L) → Type 0
 MaySkip m seen p (Begin c) (Some Idle) = (m.asks c None).begins None ≡ false
@@ -196,7 +199,7 @@ MaySkip m seen p OwnerGet (Some seat) = m.owned ≡ true → IsOwners seen → �
 MaySkip m seen p (OwnerSet v) (Some seat) = m.owned ≡ true → IsOwners seen → ⊥
 MaySkip m seen p _ _ = Unit {0}
 
--- the place at which a move is for its party; an owner moves only where there is one
+-- the seat allows the party this move; an owner's move needs an owner
 abbrev pub is_in_place : {V C L : Type 0} → Bool → Move C V → Option (Seat C L) → Bool
 is_in_place owned (Begin c) (Some Idle) = true
 is_in_place owned (Begin c) (Some (Holding h)) = true
@@ -211,14 +214,14 @@ is_in_place owned OwnerGet (Some seat) = owned
 is_in_place owned (OwnerSet v) (Some seat) = owned
 is_in_place owned _ _ = false
 
--- what an event that is not skipped results in, from the value before it to the one after it
+-- the outcome is that of a step
 
 abbrev pub IsStep : {V A : Type 0} → Outcome A V → Type 0
 IsStep outcome.GoingOn = Unit {0}
 IsStep (outcome.Answered a b) = Unit {0}
 IsStep _ = ⊥
 
--- only a closure that completes changes the value by a step
+-- by a step the value changes only if a closure completes
 abbrev pub StepLeaves : {V : Type 0} → Option Change → Option V → Option V → Type 0
 StepLeaves (Some (completes p)) old new = Unit {0}
 StepLeaves _ old new = new ≡ old
@@ -234,7 +237,8 @@ ComesTo OwnerGet step old new o = (o ≡ outcome.Value old) × (new ≡ old)
 ComesTo (OwnerSet v) step None new o = (o ≡ outcome.Value None) × (new ≡ None)
 ComesTo (OwnerSet v) step (Some u) new o = (o ≡ outcome.Written) × (new ≡ Some v)
 
--- only a call that may be refused without cause is so, where it has made no plain step but those that go before its weak exchange
+-- A step fails spuriously only in a call that may. Before it that call has made only the plain steps that precede its
+-- weak exchange.
 abbrev pub IsWeakCall : {V C : Type 0} → Move C V → ℕ → List Mark → Option Asked → Type 0
 IsWeakCall Weak p span (Some what) = (what.is_weak ≡ true) × (own p span ≡ what.before_weakly p)
 IsWeakCall Weak p span None = ⊥
@@ -247,7 +251,8 @@ abbrev pub asked : {W V C L A : Type 0} → Machine W V C L A → Option (Seat C
 asked m (Some (Calling c l h)) = Some (m.asks c h)
 asked m _ = None
 
--- a call that is answered has made the steps that its answer says, and one that goes on a beginning of them
+-- a call that is answered has made the plain steps that its answer implies; a call that continues has made a beginning
+-- of such steps
 abbrev pub OwnSteps : {W V C L A : Type 0} → Machine W V C L A → ℕ → List Mark → Outcome A V → Option Asked → Type 0
 OwnSteps m p span (outcome.Answered a b) (Some what) = AnyOf (λ steps. own p span ≡ steps) (own_steps (what.answers (m.says a)) p)
 OwnSteps m p span (outcome.Answered a b) None = ⊥
@@ -261,13 +266,13 @@ abbrev pub held_at : {C L : Type 0} → Option (Seat C L) → Option Hold
 held_at (Some (Holding h)) = Some h
 held_at _ = None
 
--- a party that begins a call is in that call, with what it held, and one that goes on is in its call still
+-- a party that begins a call is then in that call, with what it held; a party that continues stays in its call
 abbrev pub InItsCall : {V C L A : Type 0} → Outcome A V → Move C V → Option (Seat C L) → Option (Seat C L) → Type 0
 InItsCall {L = L} outcome.Begun (Begin c) before after = (l : L) × (after ≡ Some (Calling c l (held_at before)))
 InItsCall {L = L} outcome.GoingOn move (Some (Calling c l h)) after = (next : L) × (after ≡ Some (Calling c next h))
 InItsCall _ move before after = Unit {0}
 
--- where another party is in a call, it stays where it is
+-- another party that is in a call stays at its point of the call
 abbrev pub LeavesCalls : {W V C L : Type 0} → ℕ → Seen W V C L → Seen W V C L → Type 0
 LeavesCalls {C = C} {L = L} p before after =
     (q : ℕ) (c : C) (l : L) (h : Option Hold) → (p ≡ q → ⊥) → slice_get before.state.seats q ≡ Some (Calling c l h) → slice_get after.state.seats q ≡ Some (Calling c l h)
@@ -275,13 +280,13 @@ LeavesCalls {C = C} {L = L} p before after =
 -- What is promised of an event
 
 pub record Keeps {W V C L A : Type 0} (m : Machine W V C L A) (s : Scene W V C L A) : Type 0 where
-  -- it is an open plain step of its party, or none
+  -- the plain step is open, and its party's own; or there is none
   pub opens : IsOpenStep s.before.plain s.party s.change
-  -- and a step that this kind of lock makes
+  -- and this kind of lock makes such a step
   pub belongs : BelongsTo m.lock_kind s.change
   -- the words after it are the encoding
   pub encodes : m.numbers s.after.state.words ≡ encoded m.lock_kind s.after.plain
-  -- every party's entries are what its place says
+  -- every party's entries are those that its seat implies
   pub places : (q : ℕ) → StandsFor s.after.plain q (s.after.span q) (slice_get s.after.state.seats q)
   -- a writer is the only holder, and at most one ticket has entered
   pub exclusive : IsExclusive s.after.plain
@@ -289,29 +294,31 @@ pub record Keeps {W V C L A : Type 0} (m : Machine W V C L A) (s : Scene W V C L
   pub one_list : (is_empty s.after.plain.holders || is_empty s.after.plain.tickets) ≡ true
   -- the value is the one last written
   pub value_is : s.after.state.value ≡ s.after.written
-  -- a look at the value finds the one last written
+  -- a read of the value finds the one last written
   pub reads : (r : Option V) → s.outcome ≡ outcome.Value r → r ≡ s.before.written
-  -- only a holder looks at the value, only a writer replaces it, and the owner only where nobody shares it
+  -- only a holder reads the value, only a writer replaces it, and the owner does so only if nobody shares it
   pub touches : MayTouch s.before s.party s.outcome s.move
-  -- exactly the moves that aren't open are skipped
+  -- a move is skipped exactly if it is not open
   pub skips : (s.outcome ≡ outcome.Skipped) ↔ (is_open_move m s.before.state s.move s.seat ≡ false)
-  -- none of them is one that the party could make by what it has in the plain lock
+  -- no party with these entries in the plain lock could make a skipped move
   pub lets : s.outcome ≡ outcome.Skipped → MaySkip m s.before s.party s.move s.seat
-  -- and they change nothing
+  -- and a skipped move changes nothing
   pub unchanged : s.outcome ≡ outcome.Skipped → s.after ≡ s.before
-  -- every other move comes to what it is for: a look finds what lies there, a write leaves what it names, and nothing else changes the value but a closure that completes
+  -- Every other move has its purpose as its outcome. A read finds the present value, and a write stores what it names.
+  -- Otherwise only a closure that completes changes the value.
   pub comes : (s.outcome ≡ outcome.Skipped → ⊥) → ComesTo s.move s.change s.before.state.value s.after.state.value s.outcome
-  -- a refusal without cause comes to a call that makes a weak exchange
+  -- only a call that makes a weak exchange fails spuriously
   pub weak : (s.outcome ≡ outcome.Skipped → ⊥) → IsWeakCall s.move s.party (s.before.span s.party) (asked m s.seat)
-  -- a call makes the steps that its answer says, and no others
+  -- a call makes exactly the plain steps that its answer implies
   pub own : OwnSteps m s.party (s.after.span s.party) s.outcome (asked m s.seat)
-  -- a party moves by where it stands: it steps in a call, looks and writes where it holds or has leaked, and no more once it is gone
+  -- A party's seat decides which moves it makes. It steps in a call, and reads and writes while it holds or after a
+  -- leak. Once it is gone it makes none.
   pub in_place : (s.outcome ≡ outcome.Skipped → ⊥) → is_in_place m.owned s.move s.seat ≡ true
-  -- it is in the call that it began until that is answered, and no other party's move takes it on in it
+  -- a party stays in its call until that is answered, and no other party's move changes its point
   pub in_call : InItsCall s.outcome s.move s.seat (slice_get s.after.state.seats s.party)
   pub calls : LeavesCalls s.party s.before s.after
 
--- an answer is right at a moment of the call; only a weak try may be refused without cause, by its weak exchange
+-- An answer is right at some moment of the call. Only a weak try may fail spuriously, by its weak exchange.
 abbrev pub RightAnswer : {W V C L A : Type 0} → Machine W V C L A → ℕ → List Mark → Outcome A V → Option Asked → Move C V → Type 0
 RightAnswer m p span (outcome.Answered a b) (Some what) Step = HasMoment what (m.says a) p span
 RightAnswer m p span (outcome.Answered a b) (Some what) Weak = HasWeakMoment what (m.says a) p span
@@ -320,7 +327,7 @@ RightAnswer m p span _ _ _ = Unit {0}
 abbrev pub IsRight : {W V C L A : Type 0} → Machine W V C L A → Scene W V C L A → Type 0
 IsRight m s = RightAnswer m s.party (s.after.span s.party) s.outcome (asked m s.seat) s.move
 
--- a look that finds the lock held after n others, of a party that hasn't registered before
+-- a look after n others that finds the lock held, by a party that has made no plain step
 pub record IsLateLook (p n : ℕ) (m : Mark) (older : List Mark) : Type 0 where
   pub party : m.party ≡ p
   pub looks : is_look m.step_kind ≡ true
@@ -328,7 +335,9 @@ pub record IsLateLook (p n : ℕ) (m : Mark) (older : List Mark) : Type 0 where
   pub unregistered : own p older ≡ []
   pub late : n ≤ held_looks p older
 
--- a call that may starve registers in time: since each such look the party has registered, or found the cap, or its steps since are so few; and not before such a look. It looks at every step at which it has nothing else to do
+-- A call that may starve registers in time. After each such look the party has registered, or found the cap, or has
+-- made few steps since.
+-- It registers only after such a look, and looks at every step that has no other purpose.
 pub record RegistersInTime (IsFew : List Mark → Type 0) (p n : ℕ) (span : List Mark) : Type 0 where
   pub looking : keeps_looking p n span ≡ true
   pub soon : (recent : List Mark) (m : Mark) (older : List Mark) → span ≡ recent ++ m ∷ older → IsLateLook p n m older → AnyOf (TriesToStarve p) recent ⊎ IsFew recent
@@ -356,7 +365,8 @@ InTime kind p span (outcome.Answered a b) (Some what) = EndsWithin (limit kind w
 InTime kind p span outcome.GoingOn (Some what) = ContinuesWithin (limit kind what) kind p span
 InTime kind p span _ _ = Unit {0}
 
--- a step by which a call goes on makes no plain step though what it is to make is open: then it is an exchange that the call makes again, and counts as one that failed
+-- If a call continues without its plain step, though that step is open, then the step is an exchange that the call
+-- repeats. It counts as one that failed.
 abbrev pub IsCounted : {W V C L A : Type 0} → Machine W V C L A → ℕ → Outcome A V → Move C V → Option (Seat C L) → Option Change → StepKind → Plain → Type 0
 IsCounted {W} m p outcome.GoingOn Step (Some (Calling c l h)) None step_kind s = (w : W) (d : Change) → m.change p w c l h ≡ Some d → is_open s d ≡ true → is_again step_kind ≡ true
 IsCounted m p _ _ _ _ _ _ = Unit {0}
@@ -364,20 +374,22 @@ IsCounted m p _ _ _ _ _ _ = Unit {0}
 pub record IsInTime {W V C L A : Type 0} (m : Machine W V C L A) (s : Scene W V C L A) : Type 0 where
   pub in_time : InTime m.lock_kind s.party (s.after.span s.party) s.outcome (asked m s.seat)
   pub counted : IsCounted m s.party s.outcome s.move s.seat s.change s.step_kind s.before.plain
-  -- an exchange that is made again fails only where another party has changed its word since the call looked, and once for each change
+  -- A repeated exchange fails only if another party has changed its word since the call looked. It fails at most once
+  -- for each change.
   pub retries : (q : ℕ) → failures q (s.after.span q) ≤ changes m.lock_kind q (s.after.span q)
   -- a call that may wait is answered by so many own steps as it promises, from the moment on at which it is open and nobody disturbs it
   pub undisturbed : AnsweredSoon m.lock_kind s.party (s.after.span s.party) s.outcome (asked m s.seat)
-  -- a call that waits for its turn without a look goes for it by its first step, and after a look that found the lock free, and looks else
+  -- A call that waits and does not look first tries by its first step, and after each look that found the lock free. By
+  -- its other steps it looks.
   pub due : GetsWhenDue m.lock_kind s.party s.outcome s.move (asked m s.seat) (s.before.span s.party) s.before.plain s.change s.step_kind
-  -- a try goes on only where what it asks is open
+  -- a try continues only while what it asks is open
   pub tries_on : TriesOn s.party s.outcome s.move (asked m s.seat) (s.before.span s.party) s.before.plain s.change
 
 -- Over a whole schedule, from the opening of a world of n parties
 
 pub record KeepsAll {W V C L A : Type 0} (m : Machine W V C L A) (n : ℕ) (entries : List (ℕ × Move C V)) : Type 0 where
   pub first : m.numbers m.words ≡ encoded m.lock_kind (opening_plain m)
-  -- the numbers show all of the words
+  -- the numbers determine the words
   pub numbers_tell : (v w : W) → m.numbers v ≡ m.numbers w → v ≡ w
   pub each : Every (Keeps m) m (opening m n) entries
 
@@ -387,16 +399,16 @@ MomentsAll m n entries = Every (IsRight m) m (opening m n) entries
 abbrev pub CountsAll : {W V C L A : Type 0} → Machine W V C L A → ℕ → List (ℕ × Move C V) → Type 0
 CountsAll m n entries = Every (IsInTime m) m (opening m n) entries
 
--- each party in a call may take its next step
+-- each party in a call can take its next step
 abbrev pub CanStep : {W V C L A : Type 0} → Machine W V C L A → State W V C L → Type 0
 CanStep {W} {V} {C} {L} m s =
     (p : ℕ) (c : C) (l : L) (h : Option Hold) → slice_get s.seats p ≡ Some (Calling c l h) → m.can s.words c l h ≡ true
 
--- so it is where a schedule leads
+-- each party can step after the schedule
 abbrev pub CanGoOn : {W V C L A : Type 0} → Machine W V C L A → ℕ → List (ℕ × Move C V) → Type 0
 CanGoOn m n entries = CanStep m (after m (at_first m n) entries)
 
--- so it is wherever the schedule leads
+-- each party can step after every beginning of the schedule
 abbrev pub CanAlways : {W V C L A : Type 0} → Machine W V C L A → State W V C L → List (ℕ × Move C V) → Type 0
 CanAlways m s entries = (k : ℕ) → CanStep m (after m s (take k entries))
 
@@ -408,6 +420,6 @@ IsReached {W} {V} {C} m s = ∥ ((n : ℕ) × (past : List (ℕ × Move C V)) ×
 abbrev pub Always : {W V C L A : Type 0} → Machine W V C L A → (ℕ → List (ℕ × Move C V) → Type 0) → Type 0
 Always {V = V} {C = C} m P = (n : ℕ) (entries : List (ℕ × Move C V)) → P n entries
 
--- whatever schedule of whatever world led to this state: it holds of that one with the new one after it
+-- take any schedule of any world that led to this state, followed by the new one: P holds of the whole
 abbrev pub AfterAnyPast : {W V C L A : Type 0} → Machine W V C L A → State W V C L → List (ℕ × Move C V) → (ℕ → List (ℕ × Move C V) → Type 0) → Type 0
 AfterAnyPast {V = V} {C = C} m s schedule P = (n : ℕ) (past : List (ℕ × Move C V)) → after m (at_first m n) past ≡ s → P n (past ++ schedule)

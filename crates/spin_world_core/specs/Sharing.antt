@@ -1,4 +1,4 @@
--- Who shares the value, so that the owner does not have it, and who is gone once the owner has looked.
+-- Who shares the value, so that the owner may not use it, and who is gone after the owner has used it.
 use Rattle.std.specs.Prelude.{Bool, true, false, not}
 use Rattle.spin_model.specs.declared.place.Seat.{Seat}
 use Rattle.spin_model.specs.declared.place.Seat.TheVariants.{Leaked}

@@ -6,7 +6,7 @@ use Rattle.spin_step.specs.Steps.{bit}
 use Rattle.spin_model.specs.StepKinds.{is_again, is_look}
 use Rattle.spin_model.specs.Calls.{LockKind, Mark, first_word}
 
--- the steps that the party made in the span, in their order
+-- the plain steps that the party made in the span, in order
 abbrev pub own : ℕ → List Mark → List Change
 own p [] = []
 own p (m ∷ ms) = own p ms ++ (if m.party == p then option_to_list m.change else [])
@@ -15,12 +15,12 @@ abbrev pub own_count : ℕ → List Mark → ℕ
 own_count p [] = 0
 own_count p (m ∷ ms) = own_count p ms + (if m.party == p then 1 else 0)
 
--- the party's exchanges that failed and are made again
+-- the party's exchanges that failed and are repeated
 abbrev pub failures : ℕ → List Mark → ℕ
 failures p [] = 0
 failures p (m ∷ ms) = failures p ms + bit ((m.party == p) && (is_again m.step_kind && not (is_some m.change)))
 
--- others' changes of the first word
+-- other parties' changes of the first word
 abbrev pub changes : LockKind → ℕ → List Mark → ℕ
 changes kind p [] = 0
 changes kind p (m ∷ ms) = changes kind p ms + bit (not (m.party == p) && not (first_word kind m.after == first_word kind m.before))
@@ -30,17 +30,19 @@ abbrev pub held_looks : ℕ → List Mark → ℕ
 held_looks p [] = 0
 held_looks p (m ∷ ms) = held_looks p ms + bit ((m.party == p) && (is_look m.step_kind && is_held m.before))
 
--- a step that makes no plain step and tells the party nothing of others: no look, and no exchange that is made again
+-- a step that is no plain step, no look, and no exchange that is repeated: it tells the party nothing of others
 abbrev pub is_blind : Mark → Bool
 is_blind m = not (is_some m.change) && not (is_look m.step_kind || is_again m.step_kind)
 
--- where the party may make one: at first, after a plain step, and after a look that found the lock free, or that found it held after n others
+-- when the party may make such a step: at first, after a plain step, after a look that found the lock free, and after n
+-- looks that found it held
 abbrev pub may_be_blind : ℕ → ℕ → List Mark → Bool
 may_be_blind p n [] = true
 may_be_blind p n (m ∷ ms) =
     if m.party == p then is_some m.change || (is_look m.step_kind && (not (is_held m.before) || not (nat_lt (held_looks p ms) n))) else may_be_blind p n ms
 
--- it makes none elsewhere: while it finds the lock held, and no n times yet, each of its steps is a look that counts
+-- The party makes a blind step at no other time. After a look that found the lock held, its next step is not blind,
+-- unless n looks have found it held.
 abbrev pub keeps_looking : ℕ → ℕ → List Mark → Bool
 keeps_looking p n [] = true
 keeps_looking p n (m ∷ ms) = keeps_looking p n ms && (not ((m.party == p) && is_blind m) || may_be_blind p n ms)

@@ -1,4 +1,4 @@
--- What a transcript and a place tell, against the events of the schedule and the plain lock beside them.
+-- How a transcript and a place agree with the events of the schedule and with its plain lock.
 use Rattle.std.specs.Prelude.{◌≡◌, ℕ, ◌≤◌, ◌<◌, Bool, true, false, ◌&&◌, Option, Some, None, List, [], ◌∷◌, ◌++◌, length, ◌==◌, if◌then◌else◌}
 use Rattle.std.specs.List.{list_any}
 use Rattle.spin_step.specs.Plain.{Plain}
@@ -17,12 +17,12 @@ use Rattle.spin_model.specs.Schedules.{State, after, at_first, is_begun}
 use Rattle.spin_world_core.specs.Runs.{Seen, Scene, scene, opening, entries_of, entries_held, entries_so_far}
 use Rattle.spin_world_core.specs.Users.{seen_after}
 
--- the scenes of a schedule, one after the other
+-- the scenes of a schedule, in order
 abbrev pub scenes : {W V C L A : Type 0} → Machine W V C L A → Seen W V C L → List (ℕ × Move C V) → List (Scene W V C L A)
 scenes m seen [] = []
 scenes m seen (e ∷ es) = scene m seen e.0 e.1 ∷ scenes m (scene m seen e.0 e.1).after es
 
--- where the call began is left out
+-- the outcome without the place where the call began
 abbrev pub without_begin : {V A : Type 0} → Outcome A V → Outcome A V
 without_begin (outcome.Answered a b) = outcome.Answered a None
 without_begin o = o
@@ -33,33 +33,33 @@ pub record TellsScene {W V C L A : Type 0} (s : Scene W V C L A) (e : Event W V 
   pub outcome : without_begin e.outcome ≡ s.outcome
   pub words : e.words ≡ s.after.state.words
 
--- each event tells the scene at its place, and there are as many
+-- each event tells the scene at its place, and there are as many events as scenes
 abbrev pub EachTells : {W V C L A : Type 0} → List (Scene W V C L A) → List (Event W V A) → Type 0
 EachTells [] [] = Unit {0}
 EachTells [] (e ∷ es) = ⊥
 EachTells (s ∷ ss) [] = ⊥
 EachTells (s ∷ ss) (e ∷ es) = TellsScene s e × EachTells ss es
 
--- whatever schedule of whatever world led to this state: the events tell the scenes of the new one after it
+-- take any schedule of any world that led to this state: the events tell the scenes of the new one, which follows it
 abbrev pub TellsAfterAnyPast : {W V C L A : Type 0} → Machine W V C L A → State W V C L → List (ℕ × Move C V) → List (Event W V A) → Type 0
 TellsAfterAnyPast {V = V} {C = C} m s schedule events =
     (n : ℕ) (past : List (ℕ × Move C V)) → after m (at_first m n) past ≡ s → EachTells (scenes m (seen_after m (opening m n) past) schedule) events
 
--- how far a party has come, by what came of the moves alone
+-- the stage of a party, as the outcomes of its moves tell it
 pub data Stage : Type 0 where
   at_rest : Stage  -- in no call
   in_call : Stage
   has_leaked : Stage
   is_gone : Stage
 
--- by a move of its own
+-- the stage after a move of the party's own
 abbrev pub stage_by_own : {V A : Type 0} → Outcome A V → Stage → Stage
 stage_by_own outcome.Begun stage = in_call
 stage_by_own (outcome.Answered a b) stage = at_rest
 stage_by_own outcome.Leaked stage = has_leaked
 stage_by_own _ stage = stage
 
--- the owner's moves make leaked parties gone
+-- the owner's moves turn leaked parties into gone ones
 abbrev pub let_go_stage : Stage → Stage
 let_go_stage has_leaked = is_gone
 let_go_stage stage = stage
@@ -74,7 +74,7 @@ abbrev pub stage_after : {W V C L A : Type 0} → ℕ → Stage → List (Scene 
 stage_after p stage [] = stage
 stage_after p stage (s ∷ ss) = stage_after p (stage_by_owner s.outcome s.move (if s.party == p then stage_by_own s.outcome stage else stage)) ss
 
--- at this stage of a party, its entries in the plain lock are what this place says
+-- at this stage, the party's entries in the plain lock are those that the place implies
 abbrev pub StandsAt : Stage → Plain → ℕ → List Mark → Place → Type 0
 StandsAt at_rest s p span place.Idle = entries p s ≡ no_entries
 StandsAt at_rest s p span (place.Holding h) = entries p s ≡ entries_of p h
@@ -83,12 +83,12 @@ StandsAt has_leaked s p span (place.Leaked h) = entries p s ≡ entries_of p h
 StandsAt is_gone s p span place.Gone = (h : Hold) × (entries p s ≡ entries_of p h)
 StandsAt _ s p span _ = ⊥
 
--- a world of n parties tells a place of these alone, and it is the stage to which the party has come
+-- A world of n parties tells a place exactly for these. The place is the party's stage.
 abbrev pub PlaceSays : Stage → ℕ → Plain → ℕ → List Mark → Option Place → Type 0
 PlaceSays stage n s p span None = (n ≤ p) × (entries p s ≡ no_entries)
 PlaceSays stage n s p span (Some place) = (p < n) × StandsAt stage s p span place
 
--- so it is, whatever schedule of whatever world led to this state
+-- this holds for any schedule of any world that led to this state
 abbrev pub SaysAfterAnyPast : {W V C L A : Type 0} → Machine W V C L A → State W V C L → ℕ → Option Place → Type 0
 SaysAfterAnyPast {V = V} {C = C} m s p told =
     (n : ℕ) (past : List (ℕ × Move C V)) → after m (at_first m n) past ≡ s
@@ -98,7 +98,7 @@ SaysAfterAnyPast {V = V} {C = C} m s p told =
 abbrev pub begins_of : {W V A : Type 0} → ℕ → Event W V A → Bool
 begins_of p e = (e.party == p) && is_begun e.outcome
 
--- this is the place of the last of these events that begins a call of the party; none does where it is None
+-- the last of these events that begins a call of the party is at this place; None says that none does
 pub record IsLastOf {W V A : Type 0} (p : ℕ) (events : List (Event W V A)) (place : ℕ) : Type 0 where
   pub front : List (Event W V A)
   pub event : Event W V A
@@ -112,7 +112,7 @@ abbrev pub IsLastBegin : {W V A : Type 0} → ℕ → List (Event W V A) → Opt
 IsLastBegin p events None = list_any (begins_of p) events ≡ false
 IsLastBegin p events (Some place) = IsLastOf p events place
 
--- each answer tells at which place of the transcript its party's call began
+-- each answer tells where in the transcript its call began
 abbrev pub TellsBegins : {W V A : Type 0} → List (Event W V A) → Type 0
 TellsBegins {W} {V} {A} events =
     (front : List (Event W V A)) (e : Event W V A) (back : List (Event W V A)) (a : A) (began : Option ℕ) → events ≡ front ++ e ∷ back → e.outcome ≡ outcome.Answered a began → IsLastBegin e.party front began

@@ -7,7 +7,7 @@ use Rattle.spin_model.specs.StepKinds.{is_weak}
 use Rattle.spin_model.specs.Calls.{Asked, LockKind, Mark, encoded}
 use Rattle.spin_world_core.specs.Spans.{own, own_count}
 
--- how many had arrived with the party's own arrival
+-- how many parties had arrived when the party's own arrival was counted
 abbrev pub arrived : ℕ → List Mark → ℕ
 arrived p [] = 0
 arrived p (m ∷ ms) = if (m.party == p) && is_some m.change then m.after.arrivals else arrived p ms
@@ -16,7 +16,7 @@ arrived p (m ∷ ms) = if (m.party == p) && is_some m.change then m.after.arriva
 abbrev pub is_open_now : ℕ → Asked → List Mark → Plain → Bool
 is_open_now p what span s = what.waits && what.is_open_next (is_empty (own p span)) (arrived p span) p s
 
--- the step disturbs nobody but its own party: it changes no word, or is the party's own, and no weak refusal
+-- the step disturbs nobody but its own party: it changes no word, or it is the party's own and does not fail spuriously
 pub record Leaves (kind : LockKind) (p : ℕ) (m : Mark) : Type 0 where
   pub strong : m.party ≡ p → is_weak m.step_kind ≡ false
   pub still : (m.party ≡ p → ⊥) → encoded kind m.after ≡ encoded kind m.before
@@ -25,7 +25,8 @@ abbrev pub AllOf : {X : Type 0} → (X → Type 0) → List X → Type 0
 AllOf P [] = Unit {0}
 AllOf P (x ∷ xs) = P x × AllOf P xs
 
--- For each mark of the span at which what the call asks is open: if nothing disturbs the party from there on, it has taken so few steps since
+-- Take each mark of the span at which what the call asks is open. If nothing disturbs the party from then on, it has
+-- made few steps since.
 abbrev pub UndisturbedTakes : (ℕ → Type 0) → LockKind → ℕ → Asked → List Mark → Type 0
 UndisturbedTakes IsFew kind p what span =
     (recent : List Mark) (first : Mark) (older : List Mark) → span ≡ recent ++ first ∷ older → is_open_now p what older first.before ≡ true → AllOf (Leaves kind p) (recent ++ first ∷ [])
@@ -35,7 +36,7 @@ UndisturbedTakes IsFew kind p what span =
 abbrev pub steps_alone : Asked → ℕ
 steps_alone what = min what.undisturbed_steps 4
 
--- so a call that goes on has taken fewer, and one that is answered so many at most
+-- a call that continues has made fewer steps, and a call that is answered at most as many
 abbrev pub AnsweredSoon : {V A : Type 0} → LockKind → ℕ → List Mark → Outcome A V → Option Asked → Type 0
 AnsweredSoon kind p span (outcome.Answered a b) (Some what) = UndisturbedTakes (λ n. n ≤ steps_alone what) kind p what span
 AnsweredSoon kind p span outcome.GoingOn (Some what) = UndisturbedTakes (λ n. n < steps_alone what) kind p what span

@@ -13,49 +13,50 @@ use Rattle.spin_model.specs.Machines.{Machine}
 use Rattle.spin_model.specs.Schedules.{State, happens, after, events_of, at_first, may_read, is_owners}
 use Rattle.spin_world_core.specs.Runs.{Seen, scene, opening}
 
--- the world beside its plain lock after a schedule
+-- the world with its plain lock, after a schedule
 abbrev pub seen_after : {W V C L A : Type 0} → Machine W V C L A → Seen W V C L → List (ℕ × Move C V) → Seen W V C L
 seen_after m seen [] = seen
 seen_after m seen (e ∷ es) = seen_after m (scene m seen e.0 e.1).after es
 
--- what a move results in after a schedule
+-- the outcome of a move after a schedule
 abbrev pub outcome_after : {W V C L A : Type 0} → Machine W V C L A → ℕ → List (ℕ × Move C V) → ℕ → Move C V → Outcome A V
 outcome_after m n past p move = (happens m (after m (at_first m n) past) p move).outcome
 
--- a party that holds the lock and may look at the value finds the one last written,
--- also once it has leaked; so does the owner once every party is idle, has leaked or is gone
+-- A party that holds the lock and may read the value finds the one last written, also after a leak.
+-- So does the owner, once every party is idle, has leaked or is gone.
 pub record FindsLastWritten {W V C L A : Type 0} (m : Machine W V C L A) (n : ℕ) (past : List (ℕ × Move C V)) : Type 0 where
   pub holder : (p : ℕ) (h : Hold) → slice_get (after m (at_first m n) past).seats p ≡ Some (Holding h) → may_read h ≡ true → outcome_after m n past p Read ≡ Value (seen_after m (opening m n) past).written
   pub leaked : (p : ℕ) (h : Hold) → slice_get (after m (at_first m n) past).seats p ≡ Some (Leaked h) → may_read h ≡ true → outcome_after m n past p Read ≡ Value (seen_after m (opening m n) past).written
   pub owner : (p : ℕ) (seat : Seat C L) → slice_get (after m (at_first m n) past).seats p ≡ Some seat → is_owners m (after m (at_first m n) past) ≡ true → outcome_after m n past p OwnerGet ≡ Value (seen_after m (opening m n) past).written
 
--- a move that begins no call but one that keeps the guard, and writes nothing
+-- a move that writes nothing, and begins at most a call that keeps the guard
 abbrev pub is_quiet_move : {C V : Type 0} → (C → Bool) → Move C V → Bool
 is_quiet_move keeps (Begin c) = keeps c
 is_quiet_move keeps (Write v) = false
 is_quiet_move keeps _ = true
 
--- the party keeps its guard through these entries, and doesn't write
+-- by these entries the party keeps its guard, and writes nothing
 abbrev pub is_quiet : {C V : Type 0} → (C → Bool) → ℕ → List (ℕ × Move C V) → Bool
 is_quiet keeps p [] = true
 is_quiet keeps p (e ∷ es) = (not (e.0 == p) || is_quiet_move keeps e.1) && is_quiet keeps p es
 
--- two schedules one after the other result in the same as the two joined
+-- two schedules one after another have the same result as both joined
 pub record RunsJoin {W V C L A : Type 0} (m : Machine W V C L A) (s : State W V C L) (first second : List (ℕ × Move C V)) : Type 0 where
   pub state : after m (after m s first) second ≡ after m s (first ++ second)
   pub events : events_of m s first ++ events_of m (after m s first) second ≡ events_of m s (first ++ second)
 
--- two looks of a party, with no write of its own and no call between them but such that keep its guard, find the same
+-- Two reads of a party find the same value, if between them it writes nothing, and begins only calls that keep its
+-- guard.
 abbrev pub ReadsAgreeAcross : {W V C L A : Type 0} → (C → Bool) → Machine W V C L A → ℕ → List (ℕ × Move C V) → Type 0
 ReadsAgreeAcross {V = V} {C = C} keeps m n past =
     (p : ℕ) (between : List (ℕ × Move C V)) (r s : Option V) → is_quiet keeps p between ≡ true
     → outcome_after m n past p Read ≡ Value r → outcome_after m n (past ++ (p, Read) ∷ between) p Read ≡ Value s → s ≡ r
 
--- two looks of a party under one guard, with no write of its own between them, find the same
+-- two reads of a party under one guard find the same value, if it writes nothing between them
 abbrev pub ReadsAgree : {W V C L A : Type 0} → Machine W V C L A → ℕ → List (ℕ × Move C V) → Type 0
 ReadsAgree m n past = ReadsAgreeAcross (λ c. false) m n past
 
--- how many of these entries' events make a plain step of such a kind
+-- how many events of these entries make a plain step that passes the test
 
 abbrev pub passes : (Change → Bool) → Option Change → Bool
 passes test None = false

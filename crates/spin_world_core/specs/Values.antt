@@ -1,4 +1,4 @@
--- Values that closures make: what lies there, what is placed, and what an answer gives.
+-- Values that closures make: what the world has, what a step stores, and what an answer gives.
 use Rattle.std.specs.Prelude.{◌≡◌, ℕ, Bool, true, false, Option, Some, None, is_some, List}
 use Rattle.spin_step.specs.Plain.{Phase, is_complete, Change, completes}
 use Rattle.spin_model.specs.declared.place.Seat.{Seat}
@@ -11,18 +11,18 @@ use Rattle.spin_model.specs.Calls.{Said, gives_value}
 use Rattle.spin_model.specs.Machines.{Machine, opening_plain}
 use Rattle.spin_world_core.specs.Runs.{Scene, Every, opening}
 
--- where a closure makes the value, there is one exactly where a closure has completed
+-- if a closure makes the value, there is one exactly if a closure has completed
 abbrev pub HasPhase : {V : Type 0} → Bool → Phase → Option V → Type 0
 HasPhase true phase value = is_complete phase ≡ is_some value
 HasPhase false phase value = Unit {0}
 
--- what lies there after a closure that completes is the value that its own call brings
+-- after a closure completes, the value is the one that its own call brings
 abbrev pub Brings : {W V C L A : Type 0} → Machine W V C L A → Option Change → Option (Seat C L) → Option V → Type 0
 Brings m (Some (completes p)) (Some (Calling c l h)) value = value ≡ m.brings c
 Brings m (Some (completes p)) _ value = ⊥
 Brings m _ _ value = Unit {0}
 
--- an answer that says so gives a value, which is the one that lies there after it; no other answer gives one, where a closure makes the value
+-- If closures make the value, exactly the answers that say so give a value, and it is the present one.
 abbrev pub Gives : {V : Type 0} → Bool → Said → Option V → Option V → Type 0
 Gives true gives_value (Some v) value = value ≡ Some v
 Gives true gives_value None value = ⊥

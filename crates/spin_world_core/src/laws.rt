@@ -1,5 +1,5 @@
-//! The laws that users of a lock rely on, each over every schedule. A law is the contract of a function with an empty
-//! body; begin with [`looks_find_the_last_write`].
+//! The laws that users of a lock rely on, each for every schedule. A law is the contract of a function that does
+//! nothing. Begin with [`looks_find_the_last_write`].
 ghost use Rattle.std.specs.Prelude.{ℕ, List};
 ghost use Rattle.spin_model.specs.declared.schedule.Move.{Move};
 ghost use Rattle.spin_model.specs.Schedules.{State};
@@ -8,33 +8,33 @@ ghost use Rattle.spin_world_core.specs.Joined.{RunsAreOne};
 
 use crate::object::Object;
 
-/// States that a look finds the value that was last written. It is so of a holder that may read, also after a leak,
-/// and of the owner, also after leaks.
+/// States that a read finds the value last written. This holds for a holder that may read, also after a leak, and for
+/// the owner, also after leaks.
 pub fn looks_find_the_last_write<O: Object>()
     ensures { (object : O) (n : ℕ) (past : List (ℕ × Move O.Call O.Value)) → FindsLastWritten (O.machine object) n past }
 {
     O::laws();
 }
 
-/// States that two runs, one after the other, give the events and the end state of one run of both schedules.
+/// States that two runs one after another have the events and the end state of one run of both schedules.
 ///
-/// The law leaves out where calls began: each run counts places from its own start.
+/// The law says nothing of where calls began: each run counts places from its own start.
 pub fn two_runs_are_one<O: Object>()
     ensures { (object : O) (state : State O.Words O.Value O.Call O.Local) (first second : List (ℕ × Move O.Call O.Value)) → RunsJoin (O.machine object) state first second }
 {}
 
-/// States that runs one after the other, of any schedules, end in the state of one run of them all.
+/// States that runs one after another, of any schedules, end in the state of one run of all these schedules.
 ///
-/// Their transcripts joined tell what happens in the one run; only the places where calls began count from the start
-/// of each run. What is promised of every schedule is promised of theirs joined. So it holds of a call that begins in
-/// one run and ends in a later one.
+/// Their joined transcripts tell what happens in that run. Only the places where calls began are counted from the start
+/// of each run. What is promised of every schedule is promised of the joined one. So it also holds for a call that
+/// begins in one run and ends in a later one.
 pub fn runs_are_one<O: Object>()
     ensures { (object : O) (state : State O.Words O.Value O.Call O.Local) (runs : List (List (ℕ × Move O.Call O.Value))) → RunsAreOne (O.machine object) state runs }
 {
     O::laws();
 }
 
-/// States that two looks of a party under one guard find the same value, if the party writes nothing between them.
+/// States that two reads of a party under one guard find the same value, if the party writes nothing in between.
 pub fn looks_under_one_guard_agree<O: Object>()
     ensures { (object : O) (n : ℕ) (past : List (ℕ × Move O.Call O.Value)) → ReadsAgree (O.machine object) n past }
 {

@@ -1,6 +1,6 @@
-//! A world in which parties take the steps of a lock's calls one at a time, in any order.
+//! A world in which parties make the steps of a lock's calls one at a time, in any order.
 //!
-//! A schedule gives the order, and [`World::run`] plays it: begin there, with what it promises of every schedule. To
+//! A schedule gives the order, and [`World::run`] plays it. Begin there, with what it promises of every schedule. To
 //! add a lock, read [`Object`], which says what the lock has to show.
 #![tactic(auto)]
 

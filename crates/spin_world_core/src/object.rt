@@ -8,15 +8,15 @@ use spin_model::{Hold, Next, Stepped};
 /// A lock in the world, as its words and a table of the steps of its calls.
 ///
 /// # Contract
-/// Each method is the one of the object's `machine`, whose readings say what it means on the plain lock. Of the `laws`
-/// [`World::run`](crate::World::run) passes `keeps`, `moments`, `counts` and `values` to its caller. They hold of
-/// every schedule from the opening state on. [`looks_under_one_guard_agree`](crate::looks_under_one_guard_agree)
-/// passes `agree`.
+/// Each method is the one of the object's `machine`, which also says what the method means in the plain lock. Callers
+/// of [`World::run`](crate::World::run) get four of the `laws`: `keeps`, `moments`, `counts` and `values`. They hold of
+/// every schedule from the opening state. [`looks_under_one_guard_agree`](crate::looks_under_one_guard_agree) gives
+/// `agree`.
 pub trait Object: Drop {
     /// The words that all parties share.
     type Words: Copy;
 
-    /// The value behind the lock.
+    /// The type of the lock's value.
     type Value: Copy;
 
     /// A call, with its arguments.
@@ -44,7 +44,7 @@ pub trait Object: Drop {
     fn opening_value(&self) -> Option<Self::Value>
         ensures { result ≡ (machine self.now).value };
 
-    /// Returns `true` if an owner may look at the value and replace it.
+    /// Returns `true` if an owner may read the value and replace it.
     ///
     /// # Contract
     /// It is `owned` of the machine.
@@ -58,7 +58,7 @@ pub trait Object: Drop {
     fn begin(&self, call: Self::Call, holds: Option<Hold>) -> Option<Self::Local>
         ensures { result ≡ (machine self.now).begin call holds };
 
-    /// Returns how the call continues if its next step is a weak exchange that fails, or `None` if it is no weak
+    /// Returns how the call continues if its next step is a weak exchange that fails, or `None` if that step is no weak
     /// exchange.
     ///
     /// # Contract
@@ -71,11 +71,11 @@ pub trait Object: Drop {
     ) -> Option<Next<Self::Local, Self::Answer>>
         ensures { result ≡ (machine self.now).refuse call local holds };
 
-    /// Takes the next step of the call, and returns its outcome. The outcome depends on the object and the arguments
-    /// alone.
+    /// Makes the next step of the call, and returns its outcome. The outcome depends only on the object and the
+    /// arguments.
     ///
     /// # Contract
-    /// The step has to be possible there (`can` of the machine). Then it is `step` of the machine.
+    /// The step has to be possible (`can` of the machine). Then its outcome is `step` of the machine.
     fn step(
         &self,
         words: Self::Words,

@@ -16,9 +16,9 @@ pub struct Table<O: Object, A: Allocator> {
     pub words: O::Words,
     pub value: Option<O::Value>,
     seats: Vec<Seat<O::Call, O::Local>, A>,
-    /// How many parties share the value, so that an owner's move need not look at each.
+    /// How many parties share the value, so that an owner's move need not check each.
     sharing: usize,
-    /// How many have leaked, and are not gone.
+    /// How many parties have leaked, and are not gone.
     leaked: usize,
 }
 
@@ -56,7 +56,7 @@ fn seat_of<C: Copy, L: Copy>(holds: Option<Hold>) -> Seat<C, L>
     }
 }
 
-/// Returns `true` if the party shares the value, so that no owner has it.
+/// Returns `true` if the party shares the value, so that the owner may not use it.
 fn shares<C: Copy, L: Copy>(seat: Seat<C, L>) -> bool
     ensures { result ≡ shares seat }
 {
@@ -109,7 +109,7 @@ fn idle_seats<C: Copy, L: Copy, A: Allocator>(
 }
 
 impl<O: Object, A: Allocator> Table<O, A> {
-    /// Creates the state that an object opens with, of this many idle parties.
+    /// Creates the opening state of an object, with this many idle parties.
     pub fn new(alloc: A, object: &O, parties: usize) -> Result<Table<O, A>, AllocError>
         ensures { IfOk result (λ t. t ≡ at_first (O.machine object.now) parties) }
     {
@@ -142,7 +142,7 @@ impl<O: Object, A: Allocator> Table<O, A> {
         &self.seats
     }
 
-    /// Gives the party this seat.
+    /// Puts the party into this seat.
     fn sit(&mut self, party: usize, seat: Seat<O::Call, O::Local>)
         requires { party < length self.old.seats }
         ensures { self.new ≡ seated self.old party seat }
@@ -153,7 +153,7 @@ impl<O: Object, A: Allocator> Table<O, A> {
         self.seats[party] = seat;
     }
 
-    /// Returns where the party stands, or `None` if there is no such party.
+    /// Returns the place of the party, or `None` if it does not exist.
     pub fn place(&self, party: usize) -> Option<Place>
         ensures { result ≡ option_map place_of (slice_get self.now.seats party) }
     {
@@ -180,7 +180,7 @@ impl<O: Object, A: Allocator> Table<O, A> {
         self.act_from(object, party, entry, seat)
     }
 
-    /// Makes one move of a party in this seat.
+    /// Makes one move of a party that has this seat.
     fn act_from(
         &mut self,
         object: &O,
@@ -222,7 +222,7 @@ impl<O: Object, A: Allocator> Table<O, A> {
         }
     }
 
-    /// Begins a call, if the object lets a party that holds `holds` make it.
+    /// Begins a call, if a party that holds `holds` may make it.
     fn begin_beside(
         &mut self,
         object: &O,
@@ -350,7 +350,7 @@ impl<O: Object, A: Allocator> Table<O, A> {
         object.is_owned() && self.sharing == 0
     }
 
-    /// Makes every leaked party a gone one.
+    /// Turns every leaked party into a gone one.
     fn let_go(&mut self)
         ensures { self.new ≡ let_go self.old }
     {
@@ -379,7 +379,7 @@ impl<O: Object, A: Allocator> Table<O, A> {
         self.owner_writes(to)
     }
 
-    /// Makes every leaked party a gone one, and replaces the value if there is one.
+    /// Turns every leaked party into a gone one, and replaces the value if there is one.
     fn owner_writes(&mut self, to: O::Value) -> Outcome<O::Answer, O::Value>
         ensures { record { outcome = result; next = self.new } ≡ owner_writes self.old to self.old.value }
     {

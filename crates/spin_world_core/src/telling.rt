@@ -6,7 +6,7 @@ ghost use Rattle.spin_model.specs.Schedules.{begin_of, with_begin, begins_after}
 use spin_model::Outcome;
 use std::alloc::{AllocError, Allocator};
 
-/// Creates the table of where each party's call began, in which no call has begun.
+/// Creates the table of where each party's call began. No call has begun yet.
 ///
 /// # Contract
 /// On `Ok` the table has `None` for each of the parties.
@@ -28,11 +28,13 @@ pub fn forget_begins(begins: &mut [Option<usize>])
     }
 }
 
-/// Returns the outcome, and adds to an answer the place where its call began. The table records a new call's place.
+/// Returns the outcome. To an answer it adds the place where the call began. If a call begins, the table records its
+/// place.
 ///
 /// # Contract
-/// An answer has the place that the table gives for the party, and any other outcome is unchanged (`with_begin`).
-/// After `Begun` the table has this place for a party within it, and else it is unchanged (`begins_after`).
+/// An answer gets the place that the table has for the party, and any other outcome is unchanged (`with_begin`). After
+/// `Begun` the table has this place for the party, if it has an entry for it. Otherwise it is unchanged
+/// (`begins_after`).
 pub fn with_begin<A, V>(
     begins: &mut [Option<usize>],
     party: usize,

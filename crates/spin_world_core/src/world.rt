@@ -39,11 +39,11 @@ pub struct World<O: Object, A: Allocator = Global> {
     alloc: A,
     object: O,
     table: Table<O, A>,
-    /// Where each party's call began in the latest run. It is kept here so that a run allocates nothing for it.
+    /// Where each party's call began in the latest run. The world keeps it, so that a run need not allocate it.
     begins: Vec<Option<usize>, A>,
 }
 
-/// Contracts see a world as its object and its state, to which some schedule leads.
+/// For contracts a world is its object and a state that some schedule leads to.
 impl<O: Object, A: Allocator> Model for World<O, A> {
     ghost use Rattle.spin_model.specs.Schedules.{Shown};
     ghost use Rattle.std.specs.Prelude.{◌≡◌, length};
@@ -93,11 +93,11 @@ impl<O: Object, A: Allocator + Copy> World<O, A> {
         self.table.value
     }
 
-    /// Returns where the party stands, or `None` if there is no such party.
+    /// Returns the place of the party, or `None` if it does not exist.
     ///
     /// # Contract
-    /// The answer is what the state says of the party's seat (`place_of`). The party's own moves and the owner's led
-    /// there (`SaysAfterAnyPast`). Its entries in the plain lock are what the place says.
+    /// The place is the one of the party's seat (`place_of`). The party's own moves and the owner's led to it
+    /// (`SaysAfterAnyPast`). It implies the party's entries in the plain lock.
     ///
     /// # Examples
     /// ```
@@ -113,7 +113,7 @@ impl<O: Object, A: Allocator + Copy> World<O, A> {
     pub fn place(&self, party: usize) -> Option<Place>
         ensures place { result ≡ option_map place_of (slice_get self.now.state.seats party) }
 
-        // It is where its moves have brought the party, and its entries in the plain lock are what it says.
+        // The party's moves have led to this place, and its entries in the plain lock are those that the place implies.
         ensures says { SaysAfterAnyPast (O.machine self.now.object) self.now.state party result }
     {
         O::laws();
@@ -123,7 +123,7 @@ impl<O: Object, A: Allocator + Copy> World<O, A> {
     /// Returns the object.
     ///
     /// # Contract
-    /// It is the one that the world was created with.
+    /// It is the object with which the world was created.
     pub fn object(&self) -> &O
         ensures { result.now ≡ self.now.object }
     {
@@ -143,7 +143,7 @@ impl<O: Object, A: Allocator + Copy> World<O, A> {
     /// Creates another world with the same object in the same state.
     ///
     /// # Contract
-    /// On `Ok` the two are equal. From then on each is played on its own.
+    /// On `Ok` both worlds are equal. From then on each is played on its own.
     ///
     /// # Examples
     /// ```
@@ -171,12 +171,12 @@ impl<O: Object, A: Allocator + Copy> World<O, A> {
 
     /// Makes one move of the party, and returns its outcome.
     ///
-    /// A move that is not open to the party changes nothing ([`Outcome::Skipped`]). An answer does not tell where
-    /// its call began; the transcript of [`World::run`] does.
+    /// A move that is not open to the party changes nothing ([`Outcome::Skipped`]). An answer does not tell where its
+    /// call began; in the transcript of [`World::run`] it does.
     ///
     /// # Contract
-    /// The outcome and the new state are what `happens` says. What `run` promises of a schedule holds of the moves
-    /// that led to the new state, since some schedule leads there (`IsReached`).
+    /// The outcome and the new state are those that `happens` says. Some schedule leads to the new state (`IsReached`),
+    /// and what `run` promises of a schedule holds of that one.
     pub fn act(
         &mut self,
         party: usize,
@@ -192,14 +192,14 @@ impl<O: Object, A: Allocator + Copy> World<O, A> {
 
     /// Plays a schedule, and returns its transcript. Each entry of the schedule is a party and its move.
     ///
-    /// The call allocates the transcript's room first, and no step allocates. An `Err` leaves the world as it was.
+    /// The call first allocates the transcript, and then no step allocates. An `Err` leaves the world unchanged.
     ///
     /// # Contract
-    /// On `Ok` the new state is the one after the schedule (`after`). The transcript has its events (`events_of`),
-    /// and each answer tells where its call began (`TellsBegins`).
+    /// On `Ok` the new state is the one after the schedule (`after`). The transcript has its events (`events_of`), and
+    /// each answer tells where its call began (`TellsBegins`).
     ///
-    /// Take any schedule that led to the old state, and this one after it. Of that whole schedule all promises hold:
-    /// `KeepsAll`, `MomentsAll`, `CountsAll`, `ValuesAll`. The transcript tells what happens in the second part
+    /// Take any schedule that led to the old state, followed by this one. All promises hold of the whole: `KeepsAll`,
+    /// `MomentsAll`, `CountsAll`, `ValuesAll`. The transcript tells what happens in its second part
     /// (`TellsAfterAnyPast`).
     ///
     /// # Examples
@@ -234,7 +234,7 @@ impl<O: Object, A: Allocator + Copy> World<O, A> {
             IfOk result (λ t. t.events.items ≡ with_begins [] (events_of m self.old.state schedule.now)) }
         ensures err { OnErr result (self.new ≡ self.old) }
 
-        // Some schedule leads to the state after it. Whichever led to the state before, with this one after it:
+        // Some schedule leads to the new state: any schedule that led to the old one, followed by this one.
         ensures reached { IsReached (O.machine self.new.object) self.new.state }
         ensures keeps { let m = O.machine self.old.object in
             AfterAnyPast m self.old.state schedule.now (KeepsAll m) }

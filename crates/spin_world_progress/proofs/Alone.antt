@@ -1,4 +1,4 @@
--- A call to which what it asks is open is answered in so many rounds, or another party changes a word.
+-- A call whose ask is open is answered in so many rounds, or another party changes a word.
 use Rattle.spin_world_progress.proofs.Names.{◌≡◌, ℕ, ◌+◌, ◌-◌, ◌<◌, ◌≤◌, ◌⊎◌, ◌==◌, ◌&&◌, ◌||◌, Bool, true, false, not, Option, Some, None, List, [], ◌∷◌, ◌++◌, length, slice_get, if◌then◌else◌, refl, ap, sym, ◌∙◌, subst, arith, inl, inr, ⊎_elim, cases_eq, cases_lt, eqb-true, ne_eqb, false≢true, and_from, Plain, Change, Hold, Seat, Calling, Next, Continue, Answers, Move, Step, Weak, Outcome, Mark, encoded, joined, Machine, Seen, Scene, Every, Keeps, IsInTime, mark_of, scene, scene_at, scene_of, opening, State, happens, after, at_first, goes_on, seen_after, eqb_self, get-set_same, of_event, state-seen_after, Test, occurs, MovesOn, AreRounds, is_step, placed_at, OwnerSet, owner_writes}
 use Rattle.spin_world_core.proofs.Names.{StepKind, by_step, AllOf, Leaves, UndisturbedTakes, is_open_now, steps_alone, Lawful}
 use Rattle.spin_world_core.specs.Spans.{own_count}
@@ -52,7 +52,7 @@ module _ {W V C L A : Type 0} (m : Machine W V C L A) (p : ℕ) (c : C) (h : Opt
     abbrev most : ℕ
     most = steps_alone (m.asks c h)
 
-    -- the marks since the call was open: the first was made in the state there, and none disturbs it
+    -- the marks since the call was open: the first was made in that state, and none disturbs the call
     abbrev Since : List Mark → ℕ → Type 0
     Since span taken = (recent : List Mark) × (first : Mark) × (span ≡ recent ++ first ∷ older) × (first.before ≡ start) × AllOf (Leaves m.lock_kind p) (recent ++ first ∷ []) × (own_count p (recent ++ first ∷ []) ≡ taken)
 
@@ -63,7 +63,7 @@ module _ {W V C L A : Type 0} (m : Machine W V C L A) (p : ℕ) (c : C) (h : Opt
     one_more now span taken mark before leaves (inl none) = ([], mark, ap (λ xs. mark ∷ xs) none.0, before ∙ none.1, (leaves, tt), omega (arith, none.2))
     one_more now span taken mark before leaves (inr y) = (mark ∷ y.0, y.1, ap (λ xs. mark ∷ xs) y.2, y.3, (leaves, y.4), ap (λ n. n + (if mark.party == p then 1 else 0)) y.5)
 
-    -- since then the call goes on, and nobody has disturbed it
+    -- since then the call continues, and nobody has disturbed it
     record Quiet (seen : Seen W V C L) (taken : ℕ) : Type 0 where
       point : L
       at : slice_get seen.state.seats p ≡ Some (Calling c point h)
@@ -79,7 +79,7 @@ module _ {W V C L A : Type 0} (m : Machine W V C L A) (p : ℕ) (c : C) (h : Opt
       Comes sc = (stop sc.party sc.move sc.outcome (slice_get sc.after.state.seats sc.party) ≡ true) ⊎ ((disturbs_at sc.party seen.state sc.after.state ≡ true) ⊎ Quiet sc.after (now sc.party sc.outcome))
 
       module _ (r : ℕ) (ne : r ≡ p → ⊥) where
-        -- what another party's event leaves, and what it marks
+        -- what another party's event does not change, and its mark
         abbrev Noted : Scene W V C L A → Type 0
         Noted sc = ((sc.after.plain ≡ seen.plain) × (sc.after.span p ≡ seen.span p)) ⊎ ((mark : Mark) × (mark.party ≡ r) × (mark.before ≡ seen.plain) × (mark.after ≡ sc.after.plain) × (sc.after.span p ≡ mark ∷ seen.span p))
 

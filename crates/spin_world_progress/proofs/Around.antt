@@ -1,4 +1,5 @@
--- A turn that leads back to where it began, again and again: it is fair where from each of its places the rest of it and one turn more are a round.
+-- A turn that leads back to its beginning, again and again. It is fair if, from each of its places, the rest of it and
+-- one more turn are a round.
 use Rattle.spin_model.specs.Calls.{Asked}
 use Rattle.spin_world_progress.proofs.Names.{◌≡◌, ℕ, zero, suc, ◌+◌, ◌==◌, ◌&&◌, ◌||◌, Bool, true, false, Option, Some, List, [], ◌∷◌, ◌++◌, slice_get, refl, ap, sym, ◌∙◌, subst, arith, and_parts, Hold, Seat, Idle, Calling, Holding, Leaked, Gone, Move, Machine, State, happens, after, at_first, may_read, not, Test, occurs, is_awaited, MovesOn, IsRound, AreRounds, stretch, IsFair, ends_or_weak, MayStarve}
 
@@ -17,7 +18,7 @@ abbrev beyond : {X : Type 0} → List X → ℕ → ℕ
 beyond [] n = n
 beyond (x ∷ xs) n = suc (beyond xs n)
 
--- the rest comes first
+-- the stretch begins with the rest of the list
 rest_first : {X : Type 0} (e : X) (es : List X) (x : X) (xs : List X) (n : ℕ) → stretch (around e es x xs) 0 (beyond (x ∷ xs) n) ≡ x ∷ xs ++ stretch (around e es e es) 0 n
 rest_first e es x [] n = ap (λ ys. x ∷ ys) (later (around e es x []) 0 n)
 rest_first e es x (y ∷ ys) n = ap (λ zs. x ∷ zs) (later (around e es x (y ∷ ys)) 0 (beyond (y ∷ ys) n) ∙ rest_first e es y ys n)
@@ -26,7 +27,7 @@ module _ {W V C L A : Type 0} (m : Machine W V C L A) where
   abbrev Turn : Type 0
   Turn = List (ℕ × Move C V)
 
-  -- a round, as a test
+  -- a round, as a test of a schedule
   abbrev moves_on : State W V C L → Turn → ℕ → Seat C L → Bool
   moves_on s es p (Calling c l h) = occurs m (λ q move o x. (q == p) && is_awaited m (Some (Calling c l h)) move o) s es
   moves_on s es p (Holding h) = not (may_read h) || occurs m (λ q move o x. (q == p) && is_awaited m (Some (Holding h)) move o) s es
@@ -112,7 +113,7 @@ module _ {W V C L A : Type 0} (m : Machine W V C L A) where
       pub never_around : (place : ℕ) → occurs m test start (stretch (around e es e es) 0 place) ≡ false
       never_around place = never place start e es first
 
-  -- so no event of such a schedule passes the test, from this state on
+  -- so from this state on no event of such a schedule passes the test
   abbrev pub Forever : (ℕ → Test V C L A) → ℕ → Asked → Type 0
   Forever test n what =
       (past : Turn) × (schedule : ℕ → ℕ × Move C V) × (p : ℕ) × (c : C) × (l : L) × (h : Option Hold)
@@ -136,7 +137,7 @@ module _ {W V C L A : Type 0} (m : Machine W V C L A) where
       → slice_get s.seats p ≡ Some (Calling c l h) → Within (ends_or_weak p) s e es s (e ∷ es) → MayStarve m n (m.asks c h)
   starves = forever (λ p. ends_or_weak p)
 
-  -- rounds, as a test
+  -- rounds, as a test of schedules
   abbrev pub are_rounds : State W V C L → List Turn → Bool
   are_rounds s [] = true
   are_rounds s (es ∷ rounds) = all_move s es 0 s.seats && are_rounds (after m s es) rounds

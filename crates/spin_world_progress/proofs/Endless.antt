@@ -1,4 +1,4 @@
--- In an endless fair schedule rounds come, as many as one likes.
+-- In an endless fair schedule there are as many rounds as needed.
 use Rattle.spin_world_progress.proofs.Names.{◌≡◌, ℕ, zero, suc, ◌+◌, ◌<◌, ◌≤◌, true, Option, Some, None, List, [], ◌∷◌, ◌++◌, length, slice_get, refl, ap, sym, ◌∙◌, subst, arith, ⊎_elim, cases_lt, slice_get_past, Machine, State, after, joined, max, ◌-◌, Seat, Idle, Calling, Holding, Leaked, Gone, Move, cases_eq, Test, occurs, MovesOn, IsRound, AreRounds, stretch, IsFair}
 use Rattle.spin_model.proofs.Schedules.{after-append}
 use Rattle.spin_world_progress.proofs.Progress.{or_left, occurs-append, awaited_of}
@@ -14,7 +14,7 @@ module _ {W V C L A : Type 0} (m : Machine W V C L A) where
   both : (s : State W V C L) (xs ys : List (ℕ × Move C V)) (test : Test V C L A) → occurs m test s xs ≡ true → occurs m test s (xs ++ ys) ≡ true
   both s xs ys test found = occurs-append m test s xs ys ∙ or_left (occurs m test s xs) (occurs m test (after m s xs) ys) found
 
-  -- whoever moves on in a stretch does so in a longer one
+  -- a party that moves on in a stretch also does so in a longer one
   longer : (s : State W V C L) (xs ys : List (ℕ × Move C V)) (p : ℕ) (o : Option (Seat C L)) → MovesOn m s xs p o → MovesOn m s (xs ++ ys) p o
   longer s xs ys p (Some (Calling c l h)) moves = both s xs ys (awaited_of m p (Some (Calling c l h))) moves
   longer s xs ys p (Some (Holding h)) moves = λ may. both s xs ys (awaited_of m p (Some (Holding h))) (moves may)
@@ -54,7 +54,7 @@ module _ {W V C L A : Type 0} (m : Machine W V C L A) where
               (cases_eq p i);
         }
 
-    -- a round comes
+    -- there is a round
     round_at : (place : ℕ) → (n : ℕ) × IsRound m (there place) (stretch schedule place n)
     round_at place =
         let all = first_move place (length (there place).seats) in (
@@ -88,7 +88,7 @@ module _ {W V C L A : Type 0} (m : Machine W V C L A) where
           joined_is = ap (λ es. stretch schedule place one.0 ++ es) rest.joined_is ∙ sym (stretch-append schedule place one.0 rest.many);
         }
 
-  -- what so many rounds come to, an endless fair schedule comes to
+  -- what so many rounds lead to, an endless fair schedule leads to
   pub at_last : (test : Test V C L A) (s : State W V C L) (bound : ℕ) → ((rounds : List (List (ℕ × Move C V))) → AreRounds m s rounds → length rounds ≡ bound → occurs m test s (joined rounds) ≡ true)
       → (schedule : ℕ → ℕ × Move C V) → IsFair m s schedule → (place : ℕ) × (occurs m test s (stretch schedule 0 place) ≡ true)
   at_last test s bound comes schedule fair =

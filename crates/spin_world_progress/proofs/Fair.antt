@@ -1,4 +1,6 @@
--- While a starver waits, a fair lock lets somebody in within five rounds: its holder leaves within two, and the starver takes three to find the flag clear, to set it, and to leave the starvers. Whoever sets the flag before it is granted the lock by its next step.
+-- While a starver waits, a fair lock is granted within five rounds. Its holder leaves within two. The starver takes
+-- three: it finds the flag clear, sets it, and stops starving. A party that sets the flag before it is granted the lock
+-- by its next step.
 use Rattle.spin_world_progress.proofs.Names.{cases_eq, Next, suc, Bool, entries, entries-other, empty_is, if◌then◌else◌, ◌-◌, resting, ◌≡◌, ℕ, ◌==◌, true, false, Option, Some, None, List, [], ◌∷◌, length, refl, ap, ◌∙◌, arith, not, ◌≤◌, ◌⊎◌, inl, inr, ⊎_elim, Plain, Kind, writing, Holder, is_empty, is_holder, is_starver, without_holder, holder, IsOpenStep, is_set, Hold, filter, slice_get, subst, Answer, Seat, Calling, Holding, Move, Step, Machine, after, at_first, get-set_same, Seen, Scene, scene_at, opening, seen_after, eqb_self, LocalInvariant, Facts, Invariant, in_call, row_tells, calls_so, StandsSo, fair_table, fair_machine}
 use Rattle.spin_world.proofs.FairNames.{fair, fair_is_locked-tells, Write, Starver, FairCall, Lock, StarverLock, Release, FairPoint, First, SetFlag, Await, Unregister, asks_of}
 use Rattle.spin_world.proofs.FairOwed.{fair_notes, fair_keeping, fair_facts}
@@ -31,7 +33,7 @@ starves_own : (p : ℕ) (qs : List ℕ) → is_starver p qs ≡ true → not (is
 starves_own p [] found = found
 starves_own p (q ∷ qs) found = grind (arith, found, starves_own p qs)
 
--- how many moves are left: of the one that waits, where nobody holds, and of a holder, which sits so
+-- how many moves are left: for the waiting party if nobody holds, and for a holder with this seat
 abbrev mine_by : Bool → FairPoint → ℕ
 mine_by clear Unregister = if clear then 3 else 1
 mine_by clear SetFlag = if clear then 2 else 0
@@ -91,7 +93,7 @@ module _ {V : Type 0} (v : V) (cap patience : ℕ) where
       abbrev s : Plain
       s = seen.plain
 
-      -- the flag is set just where somebody holds
+      -- the flag is set exactly if somebody holds
       flag : is_set seen.state.words ≡ not (is_empty s.holders)
       flag = grind (arith, fair_is_locked-tells s seen.state.words good.shape.one good.shape.queue (cc (good.encodes)), good.shape.queue)
 
@@ -155,7 +157,7 @@ module _ {V : Type 0} (v : V) (cap patience : ℕ) where
         one_left : is_empty s.holders ≡ true → 1 ≤ n
         one_left is = grind (arith, at, within.mine, is)
 
-        -- nobody else comes to hold, or it sets a clear flag
+        -- nobody else begins to hold, or it sets a clear flag
         other_steps : holds_lock (entries q s) ≡ false → (b : Bool) → is_empty s.holders ≡ b → walk.Falls m k f x seen l q (sc seen q d i j) n
         other_steps none true is =
             ⊎_elim

@@ -1,4 +1,5 @@
--- A flag lets somebody in within four rounds: its holder leaves within two, and a party that waits takes two to make its exchange.
+-- A flag is granted within four rounds: its holder leaves within two, and a waiting party takes two to make its
+-- exchange.
 use Rattle.spin_world_progress.proofs.Names.{◌≡◌, ℕ, ◌≤◌, ◌⊎◌, ◌||◌, Bool, true, false, Option, Some, None, List, [], ◌∷◌, slice_get, refl, arith, inl, inr, ◌==◌, Holder, is_empty, entries, Hold, Calling, Next, Continue, Answers, Answer, Move, Step, Weak, Machine, goes_on, after, at_first, Seen, scene_at, entries_after, empty_is, ◌-◌, filter, not, Done, flag_table, flag_machine, get-set_same, eqb_self, Invariant, StandsSo, Test, grants_any, refuses_weakly}
 use Rattle.spin_model.specs.declared.flag.FlagCall.{FlagCall}
 use Rattle.spin_model.specs.declared.flag.FlagCall.TheVariants.{Lock, Release}
@@ -10,7 +11,7 @@ use Rattle.spin_world_progress.proofs.Endless.{at_last}
 use Rattle.spin_world_progress.proofs.Progress.{holds_lock}
 use Rattle.spin_world_progress.proofs.Leaving as leaving
 
--- how many steps it makes where the flag is clear
+-- how many steps it makes if the flag is clear
 abbrev rank_by : FlagPoint → ℕ
 rank_by Second = 2
 rank_by l = 1
@@ -40,7 +41,7 @@ module _ {V : Type 0} (v : V) where
     own seen Second good there false is = inr (First, rw is (get-set_same seen.state.seats p (Calling Lock First h) _ there), tt, λ none. omega arith)
     own seen l good there true is = inr (Second, grind (arith, is, get-set_same seen.state.seats p (Calling Lock Second h) _ there), tt, λ none. absurd (grind (arith, is, good.encodes, nobody_holds seen.plain.holders none)))
 
-    -- a step that makes a holder is a grant
+    -- a step that makes its party a holder is a grant
     comes : (seen : World) (q : ℕ) (c : FlagCall) (l : FlagPoint) (h : Option Hold) (b : Bool) → seen.state.words ≡ b → holds_lock (entries q seen.plain) ≡ false
         → let x = scene_at m seen q Step (Some (Calling c l h)) in (goal q Step x.outcome (slice_get x.after.state.seats q) ≡ true) ⊎ (holds_lock (entries_after seen.plain x.change (entries q seen.plain)) ≡ false)
     comes seen q c l h b is none = grind (arith, is, none, empty_is (entries q seen.plain).holders)

@@ -1,11 +1,12 @@
--- A walk that locks share. Who holds as one of a kind leaves within two rounds, where such a holder does nothing but release: the holders leave side by side. Then the party that waits is free to go.
+-- A walk that several locks share. If holders of a kind only release, they leave within two rounds, all at once. Then
+-- the waiting party can continue.
 use Rattle.spin_world_progress.proofs.Names.{apply_some, seen_after, opening, cases_eq, suc, ◌<◌, cases_lt, ◌≡◌, ℕ, ◌≤◌, ◌⊎◌, ◌+◌, Bool, true, false, Option, Some, None, List, length, slice_get, refl, ap, sym, ◌∙◌, subst, arith, inl, inr, ⊎_elim, IsOpenStep, entries, entries-other, entries-own, Hold, Seat, Idle, Calling, Next, Answers, Move, Step, Weak, Machine, goes_on, resting, may_read, after, at_first, Seen, Scene, scene_at, joined, entries_of, StandsFor, Table, machine_of, ◌-◌, no_entries, entries_after, get-set_same, LocalInvariant, Facts, Invariant, Notes, keeping_of, StandsSo, Test, occurs, AreRounds}
 use Rattle.spin_step.specs.Parties.{Entries}
 use Rattle.spin_world_progress.proofs.Progress.{is_busy}
 use Rattle.spin_world_progress.proofs.Loads.{Wait}
 use Rattle.spin_world_progress.proofs.Loads as walk
 
--- how many moves one makes until it has gone: it begins to release, and does
+-- how many moves a holder makes until it has left: it begins to release, and does
 abbrev load_by : {C L : Type 0} → ℕ → Bool → Option (Seat C L) → ℕ
 load_by bound true (Some (Calling c l h)) = bound + 1
 load_by bound true o = bound + 2
@@ -46,18 +47,19 @@ module _ {W V C L A : Type 0} (t : Table W V C L A) (n : Notes t) (f : Facts (ma
   Nobody seen = (q : ℕ) → test (entries q seen.plain) ≡ false
 
   pub record Leaves : Type 0 where
-    -- a party without entries holds nothing, nor does the one that waits, and who holds, holds the lock
+    -- a party without entries holds nothing, nor does the waiting one; and a party that holds in this way holds the
+    -- lock
     pub none : test no_entries ≡ false
     pub not_its : (l : L) → At l → StandsSo t n test p c l h → ⊥
     pub reads : (q : ℕ) (h : Hold) → test (entries_of q h) ≡ true → may_read h ≡ true
-    -- its own step, which lowers its rank where nobody holds, and a refusal without cause
+    -- its own step, which lowers its rank if nobody holds, and a spurious failure
     pub own : (seen : World) (l : L) → Invariant m k seen → slice_get seen.state.seats p ≡ Some (Calling c l h) → At l
         → let sc = scene_at m seen p Step (Some (Calling c l h)) in Reaches sc ⊎ ((i : L) × (slice_get sc.after.state.seats p ≡ Some (Calling c i h)) × At i × (Nobody seen → rank i ≤ rank l - 1))
     pub weak : (seen : World) (l : L) (next : Next L A) → At l → m.refuse c l h ≡ Some next → let x = goes_on seen.state p c h next in goal p Weak x.outcome (slice_get x.next.seats p) ≡ true
-    -- nobody comes to hold by its step, but for whom it is a goal
+    -- a step makes nobody a holder, unless it reaches the goal
     pub comes : (seen : World) (l : L) (q : ℕ) (d : C) (i : L) (j : Option Hold) → Waits seen l → slice_get seen.state.seats q ≡ Some (Calling d i j) → holds q seen ≡ false
         → let sc = scene_at m seen q Step (Some (Calling d i j)) in IsOpenStep seen.plain q sc.change → Reaches sc ⊎ (test (entries_after seen.plain sc.change (entries q seen.plain)) ≡ false)
-    -- a holder's call releases by its next step, which is not refused
+    -- a holder's call releases by its next step, which does not fail
     pub releases : (q : ℕ) (d : C) (i : L) (j : Option Hold) (w : W) (v : Option V) → StandsSo t n test q d i j → (a : A) × ((m.step w v d i j).next ≡ Answers a None)
     pub strong : (q : ℕ) (d : C) (i : L) (j : Option Hold) (next : Next L A) → StandsSo t n test q d i j → m.refuse d i j ≡ Some next → ⊥
     pub few : (l : L) → rank l ≤ bound
@@ -67,7 +69,7 @@ module _ {W V C L A : Type 0} (t : Table W V C L A) (n : Notes t) (f : Facts (ma
     sits : (seen : World) → Invariant m k seen → (q : ℕ) → holds q seen ≡ true → walk.SitsSo t n test q (slice_get seen.state.seats q)
     sits seen good q found = walk.sits_so t n test seen good q found
 
-    -- the party that steps holds no more, or comes to hold, which is a goal
+    -- the party that steps no longer holds; or it begins to hold, which is the goal
     gone : (seen : World) (l : L) (q : ℕ) (d : C) (i : L) (j : Option Hold) → Waits seen l → slice_get seen.state.seats q ≡ Some (Calling d i j)
         → let sc = scene_at m seen q Step (Some (Calling d i j)) in walk.After m k f x seen q sc → Reaches sc ⊎ (holds q sc.after ≡ false)
     gone seen l q d i j w there made = by (holds q seen) refl

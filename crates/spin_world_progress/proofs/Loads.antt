@@ -1,4 +1,7 @@
--- Progress in rounds. A party waits in a call. While it does, each party has a load: in how many rounds it lets the others go on at most. A round takes the highest loads down by one, or brings the goal. What a step of each party has to show; all other moves are alike in every object.
+-- Progress in rounds. A party waits in a call. Meanwhile each party has a load: after at most so many rounds it lets
+-- the others continue.
+-- A round lowers the highest loads by one, or reaches the goal. Below is what a step of each party has to show. All
+-- other moves are alike in every object.
 use Rattle.spin_world_progress.proofs.Names.{suc, max, if◌then◌else◌, eqb_self, ne_eqb, eq-eqb, entries, Idle, Gone, may_read, entries_of, Table, machine_of, StandsFor, entries_held, Mark, KnowsAt, Notes, keeping_of, StandsSo, row_passes, ◌≡◌, ℕ, ◌<◌, ◌≤◌, ◌⊎◌, ◌==◌, ◌||◌, Bool, true, false, Option, Some, None, List, [], ◌∷◌, length, slice_get, refl, ap, sym, ◌∙◌, subst, arith, inl, inr, ⊎_elim, cases_eq, cases_lt, false≢true, Plain, IsOpenStep, Hold, Seat, Calling, Holding, Leaked, Next, Move, Begin, Step, Weak, BelongsTo, Machine, goes_on, resting, is_owners, Seen, Scene, scene, scene_at, opening, joined, seen_after, after, at_first, ◌-◌, get-set_same, of_event, LocalInvariant, Facts, Invariant, kept, good_after, state-seen_after, seen_after-append, state_is, seat_is, Test, occurs, IsRound, AreRounds}
 use Rattle.spin_world_progress.specs.Rounds.{is_release}
 use Rattle.spin_world_progress.proofs.Progress.{or_left, or_right, or_rest, has_left, is_busy, is_idle, calls_not, holds_not, unawaited, awaited_of, same_beside, no_owner, left_never, moves_on, occurs-append, step_first}
@@ -9,7 +12,7 @@ use Rattle.spin_model.specs.StepKinds as step_kind
 use Rattle.spin_world_core.specs.Runs.{scene_of}
 use Rattle.spin_world_core.proofs.Reached as reached
 
--- Where a party sits that has entries which pass this test
+-- the party sits with entries that pass this test
 
 module _ {W V C L A : Type 0} (t : Table W V C L A) (n : Notes t) (test : Entries → Bool) where
   abbrev pub SitsSo : ℕ → Option (Seat C L) → Type 0
@@ -35,7 +38,9 @@ module _ {W V C L A : Type 0} (t : Table W V C L A) (n : Notes t) (test : Entrie
   pub busy_so : (p : ℕ) (o : Option (Seat C L)) → test (entries_held p None) ≡ false → ((h : Hold) → test (entries_of p h) ≡ true → may_read h ≡ true) → SitsSo p o → is_busy o ≡ true
   busy_so p o none reads sits = grind (arith, none, reads, sits)
 
--- A party that waits: for an event that passes the test; its call and what it holds; the points of the call, and what is known there; what is so at the end of the rounds; its own load, by the plain lock and the point; and the load of each other party, by where that one sits too
+-- A party that waits: for an event that passes the test. Then its call and what it holds; the points of the call, and
+-- what is known there; what holds at the end of the rounds; its own load, by the plain lock and the point; and the load
+-- of each other party, which depends on that party's seat too.
 pub record Wait (W V C L A : Type 0) : Type 1 where
   pub goal : Test V C L A
   pub party : ℕ
@@ -81,17 +86,17 @@ module _ {W V C L A : Type 0} (m : Machine W V C L A) (k : LocalInvariant V C L)
   abbrev pub Reaches : Event → Type 0
   Reaches sc = x.goal sc.party sc.move sc.outcome (seat_after sc) ≡ true
 
-  -- no other party's load has risen above this
+  -- no other party's load has risen above this one
   abbrev pub Others : World → L → ℕ → Event → L → ℕ → Type 0
   Others seen l q sc i n = (o : ℕ) → (o ≡ p → ⊥) → (q ≡ o → ⊥) → x.theirs sc.after.plain i o (slice_get seen.state.seats o) ≤ max (theirs seen l o) n
 
-  -- after a step of another party its load is n at most, and no load has risen above that
+  -- after a step of another party its load is at most n, and no load has risen above that
   pub record Falls (seen : World) (l : L) (q : ℕ) (sc : Event) (n : ℕ) : Type 0 where
     pub his : theirs sc.after l q ≤ n
     pub mine : x.mine sc.after.plain l ≤ max (x.mine seen.plain l) n
     pub others : Others seen l q sc l n
 
-  -- what is so after an event of the party q
+  -- what holds after an event of the party q
   pub record After (seen : World) (q : ℕ) (sc : Event) : Type 0 where
     pub others : (d : ℕ) → (q ≡ d → ⊥) → slice_get sc.after.state.seats d ≡ slice_get seen.state.seats d
     pub good : Invariant m k sc.after
@@ -103,31 +108,31 @@ module _ {W V C L A : Type 0} (m : Machine W V C L A) (k : LocalInvariant V C L)
   abbrev Refuses : World → ℕ → C → Option Hold → Next L A → Type 0
   Refuses seen q c h next = let n = goes_on seen.state q c h next in x.goal q Weak n.outcome (slice_get n.next.seats q) ≡ true
 
-  -- its own step, which is a goal, or leads on to a point of its call
+  -- its own step, which reaches the goal, or leads to a point of its call
   abbrev pub Own : World → L → ℕ → Event → Type 0
   Own seen l n sc = Reaches sc ⊎ ((i : L) × Sits sc.after i × x.At i × (x.mine sc.after.plain i ≤ n) × Others seen l p sc i n)
 
   pub record Walks : Type 0 where
     pub fine : (seen : World) (q : ℕ) (move : Move C V) → Invariant m k seen → x.Fine (scene m seen q move).after → x.Fine seen
-    -- what is known stays so beside each event that is no goal
+    -- what is known stays true at each event that does not reach the goal
     pub keeps : (seen : World) (q : ℕ) (move : Move C V) (l : L) → Waits seen l → let sc = scene m seen q move in Reaches sc ⊎ x.Known sc.after
     -- its own step, and another party's
     pub own : (seen : World) (l : L) (n : ℕ) → Waits seen l → Within seen l (suc n) → let sc = scene_at m seen p Step (Some (Calling x.call l x.hold)) in After seen p sc → Own seen l n sc
     pub steps : (seen : World) (l : L) (n : ℕ) → Waits seen l → Within seen l (suc n) → (q : ℕ) (d : C) (i : L) (j : Option Hold) → (q ≡ p → ⊥) → slice_get seen.state.seats q ≡ Some (Calling d i j)
         → let sc = scene_at m seen q Step (Some (Calling d i j)) in After seen q sc → Reaches sc ⊎ Falls seen l q sc n
-    -- a refusal without cause
+    -- a spurious failure
     pub weak : (seen : World) (l : L) (next : Next L A) → x.At l → m.refuse x.call l x.hold ≡ Some next → Refuses seen p x.call x.hold next
     pub refuses : (seen : World) (l : L) → Waits seen l → (q : ℕ) (d : C) (i : L) (j : Option Hold) (next : Next L A) → (q ≡ p → ⊥) → slice_get seen.state.seats q ≡ Some (Calling d i j) → m.refuse d i j ≡ Some next
         → Refuses seen q d j next ⊎ ((o : Option (Seat C L)) → x.theirs seen.plain l q o ≤ theirs seen l q - 1)
-    -- a beginning, a release above all
+    -- a beginning, in particular of a release
     pub begins : (seen : World) (l : L) → Waits seen l → (q : ℕ) (d : C) (i : L) (j : Option Hold) → (q ≡ p → ⊥) → slice_get seen.state.seats q ≡ Some (resting j) → m.begin d j ≡ Some i
         → (x.theirs seen.plain l q (Some (Calling d i j)) ≤ theirs seen l q) × (is_release (m.asks d j) ≡ true → x.theirs seen.plain l q (Some (Calling d i j)) ≤ theirs seen l q - 1)
     pub leaks : (s : Plain) (l : L) (q : ℕ) (h : Hold) → x.theirs s l q (Some (Leaked h)) ≤ x.theirs s l q (Some (Holding h))
-    -- others may wait for whoever has a load, and somebody has
+    -- others may wait for each party with a load, and some party has one
     pub busy : (seen : World) (l : L) (q : ℕ) → Waits seen l → (q ≡ p → ⊥) → 1 ≤ theirs seen l q → is_busy (slice_get seen.state.seats q) ≡ true
     pub some : (seen : World) (l : L) → Waits seen l → Within seen l 0 → ⊥
 
-  -- what is so of the plain lock stays so if it does beside each step of a party, since no other event changes that lock
+  -- what holds of the plain lock stays true if the parties' steps keep it, since no other event changes that lock
   pub plain_kept : (P : Plain → Type 0) (seen : World) (l : L) → Waits seen l → (q : ℕ) → P seen.plain
       → ((d : C) (i : L) (j : Option Hold) → slice_get seen.state.seats q ≡ Some (Calling d i j) → let sc = scene_at m seen q Step (Some (Calling d i j)) in IsOpenStep seen.plain q sc.change → Reaches sc ⊎ P sc.after.plain)
       → (move : Move C V) → Reaches (scene m seen q move) ⊎ P (scene m seen q move).after.plain
@@ -163,7 +168,7 @@ module _ {W V C L A : Type 0} (m : Machine W V C L A) (k : LocalInvariant V C L)
   abbrev awaited : ℕ → Option (Seat C L) → Test V C L A
   awaited q o = awaited_of m q o
 
-  -- the load is n at most, or one more while what is awaited of the party lies ahead
+  -- the load is at most n, or n + 1 until the party has made its awaited move
   abbrev Pays : World → L → ℕ → Turn → ℕ → Type 0
   Pays seen l n es q = (load seen l q ≤ n) ⊎ ((load seen l q ≤ suc n) × (occurs m (awaited q (slice_get seen.state.seats q)) seen.state es ≡ true))
 
@@ -195,7 +200,7 @@ module _ {W V C L A : Type 0} (m : Machine W V C L A) (k : LocalInvariant V C L)
           theirs = λ q ne. omega (arith, within_all sc pays q, other_load seen.plain l q (slice_get seen.state.seats q) ne);
         }
 
-    -- the loads of those who don't step
+    -- the loads of the parties that do not step
     by_whom : (sc : Event) (i : L) (o : ℕ) → ((o ≡ p) → x.mine sc.after.plain i ≤ max (x.mine seen.plain l) n) → ((o ≡ p → ⊥) → x.theirs sc.after.plain i o (slice_get seen.state.seats o) ≤ max (theirs seen l o) n)
         → load_by sc.after.plain i o (slice_get seen.state.seats o) ≤ max (load seen l o) n
     by_whom sc i o mine other =
@@ -203,14 +208,14 @@ module _ {W V C L A : Type 0} (m : Machine W V C L A) (k : LocalInvariant V C L)
         ⊎_elim (λ (is : o ≡ p). rw (eq-eqb o p is) (mine is))
         (λ (ne : o ≡ p → ⊥). omega (arith, other ne, other_load sc.after.plain i o his ne, other_load seen.plain l o his ne)) (cases_eq o p)
 
-    -- a party that the event leaves where it sits
+    -- a party that keeps its seat at the event
     stays : (sc : Event) (i : L) (q : ℕ) → slice_get sc.after.state.seats q ≡ slice_get seen.state.seats q → load_by sc.after.plain i q (slice_get seen.state.seats q) ≤ max (load seen l q) n → (sc.party ≡ q → is_idle sc.outcome ≡ true)
         → Pays_by sc q → Pays sc.after i n es q
     stays sc i q same le idle (inl low) = inl (omega (arith, le, low, ap (load_by sc.after.plain i q) same))
     stays sc i q same le idle (inr y) =
         inr (omega (arith, le, y.0, ap (load_by sc.after.plain i q) same), subst (λ o. occurs m (awaited q o) sc.after.state es ≡ true) (sym same) (or_rest _ _ y.1 (unawaited m q sc.party _ sc.move sc.outcome idle)))
 
-    -- it waits on where it was
+    -- it still waits, at the same point
     waits_on : (q : ℕ) (sc : Event) → After seen q sc → slice_get sc.after.state.seats p ≡ slice_get seen.state.seats p → ((q : ℕ) → Pays sc.after l n es q) → Reaches sc ⊎ On sc
     waits_on q sc made mine pays = inr (record { point = l; waits = (mine ∙ w.0, w.1, made.known, made.good); pays = pays })
 
@@ -220,13 +225,13 @@ module _ {W V C L A : Type 0} (m : Machine W V C L A) (k : LocalInvariant V C L)
         waits_on q sc made (ap (λ xs. slice_get xs p) seats) (λ o. stays sc l o (ap (λ xs. slice_get xs o) seats) (omega (arith, ap (λ s. load_by s l o (slice_get seen.state.seats o)) plain)) (λ e. idle) (pays o))
 
     module _ (q : ℕ) (ne : q ≡ p → ⊥) where
-      -- an event of this party alone, which has this load then
+      -- an event of this party only, which then has this load
       one_moves : (sc : Event) → sc.party ≡ q → After seen q sc → ((q : ℕ) → Pays_by sc q) → Pays sc.after l n es q → ((o : ℕ) → (q ≡ o → ⊥) → load_by sc.after.plain l o (slice_get seen.state.seats o) ≤ max (load seen l o) n) → Reaches sc ⊎ On sc
       one_moves sc party after pays his others =
           waits_on q sc after (after.others p ne)
           (λ o. ⊎_elim (λ (same : q ≡ o). subst (λ i. Pays sc.after l n es i) same his) (λ (other : q ≡ o → ⊥). stays sc l o (after.others o other) (others o other) (λ e. absurd (other (sym party ∙ e))) (pays o)) (cases_eq q o))
 
-      -- it moves on to this seat, and the plain lock is as before
+      -- it moves on to this seat, and the plain lock is unchanged
       moves_to : (y : Option (Seat C L)) (sc : Event) → sc.party ≡ q → sc.after.plain ≡ seen.plain → slice_get sc.after.state.seats q ≡ y → After seen q sc → ((q : ℕ) → Pays_by sc q)
           → (load_by seen.plain l q y ≤ n) ⊎ ((load_by seen.plain l q y ≤ suc n) × (occurs m (awaited q y) sc.after.state es ≡ true)) → Reaches sc ⊎ On sc
       moves_to y sc party plain seat made pays his =
@@ -251,7 +256,7 @@ module _ {W V C L A : Type 0} (m : Machine W V C L A) (k : LocalInvariant V C L)
           let before = his_load (slice_get seen.state.seats q) in
           (omega (arith, low.0, now, before), λ is. omega (arith, low.1 is, now, before))
 
-      -- a beginning that is no release lets what is awaited lie ahead
+      -- after a beginning that is no release, the awaited move is still to come
       begins_on : (d : C) (i : L) (j : Option Hold) → slice_get seen.state.seats q ≡ Some (resting j) → m.begin d j ≡ Some i → Pays_by (begin_at d i j) q
           → (load_by seen.plain l q (Some (Calling d i j)) ≤ n) ⊎ ((load_by seen.plain l q (Some (Calling d i j)) ≤ suc n) × (occurs m (awaited q (Some (Calling d i j))) (begin_at d i j).after.state es ≡ true))
       begins_on d i j at may (inl low) = inl (omega (arith, low, (begins_low d i j at may).0))
@@ -273,7 +278,7 @@ module _ {W V C L A : Type 0} (m : Machine W V C L A) (k : LocalInvariant V C L)
       abbrev leak_at : Hold → Event
       leak_at h = scene_at m seen q Leak (Some (Holding h))
 
-      -- a party that leaks is awaited no more
+      -- nobody waits for a party that has leaked
       leaks_on : (h : Hold) → slice_get seen.state.seats q ≡ Some (Holding h) → Pays_by (leak_at h) q → load_by seen.plain l q (Some (Leaked h)) ≤ n
       leaks_on h at (inl low) = omega (arith, low, walks.leaks seen.plain l q h, ap (load_by seen.plain l q) at, his_load (Some (Leaked h)), his_load (Some (Holding h)))
       leaks_on h at (inr y) =
@@ -356,7 +361,7 @@ module _ {W V C L A : Type 0} (m : Machine W V C L A) (k : LocalInvariant V C L)
     fine_before seen [] good is = is
     fine_before seen (e ∷ es) good is = walks.fine seen e.0 e.1 good (fine_before (scene m seen e.0 e.1).after es (kept m k f seen e.0 e.1 good).good is)
 
-    -- the call waits still, and no load is above this one
+    -- the call still waits, and no load is above this one
     abbrev Waiting : World → ℕ → Type 0
     Waiting seen n = (l : L) × Waits seen l × Within seen l n
 
@@ -370,7 +375,7 @@ module _ {W V C L A : Type 0} (m : Machine W V C L A) (k : LocalInvariant V C L)
         (λ (on : On walks seen l w n es sc). ⊎_elim (λ (r : occurs m x.goal sc.after.state es ≡ true). inl (or_right _ _ r)) inr (through sc.after on.point n es on.waits fine on.pays))
         (goes walks seen l w n es e.0 e.1 (fine_before sc.after es (kept m k f seen e.0 e.1 w.3).good fine) pays)
 
-    -- a round takes the highest loads down
+    -- a round lowers the highest loads
     one_round : (seen : World) (l : L) (n : ℕ) (es : Turn) → Waits seen l → x.Fine (seen_after m seen es) → Within seen l (suc n) → IsRound m seen.state es → (occurs m x.goal seen.state es ≡ true) ⊎ Waiting (seen_after m seen es) n
     one_round seen l n es w fine within round =
         through seen l n es w fine
@@ -397,7 +402,7 @@ module _ {W V C L A : Type 0} (m : Machine W V C L A) (k : LocalInvariant V C L)
         or_right _ _ (subst (λ s. occurs m x.goal s (joined rounds) ≡ true) at (in_rounds rounds next y.0 y.1 fine_there (subst (λ s. AreRounds m s rounds) (sym at) are.1) y.2)))
         (one_round seen l (length rounds) es w (fine_before next (joined rounds) (good_after m k f seen es w.3) fine_there) within are.0)
 
-    -- so it is after any schedule
+    -- this holds after any schedule
     pub ends : (n : ℕ) (past : Turn) (rounds : List Turn) (l : L)
         → let seen = seen_after m (opening m n) past in let s = after m (at_first m n) past in
         slice_get s.seats p ≡ Some (Calling x.call l x.hold) → x.At l → x.Known seen → x.Fine (seen_after m seen (joined rounds)) → AreRounds m s rounds → (Waits seen l → Within seen l (length rounds))

@@ -10,7 +10,8 @@ use Rattle.spin_world_progress.proofs.Progress.{is_busy, calls_not, holds_not, s
 use Rattle.spin_world_progress.proofs.Loads.{Wait}
 use Rattle.spin_world_progress.proofs.Loads as walk
 
--- how many moves a call with a closure makes, its last one included, by the phase and where it stands; where another party's closure runs, that one is waited for
+-- How many moves a call with a closure makes, including its last one, by the phase and its point. If another party's
+-- closure runs, it waits for that one.
 abbrev mine_by : Phase → ℕ → OncePoint → ℕ
 mine_by complete p l = 1
 mine_by (running q) p l = if q == p then 1 else 0
@@ -20,7 +21,7 @@ mine_by nothing p l = 4
 abbrev theirs_by : Phase → ℕ → ℕ
 theirs_by phase q = if is_running q phase then 2 else 0
 
--- where its own step leads, as long as there is no value, and what it makes the phase
+-- where its own step leads while there is no value, and the phase after it
 abbrev onward : Phase → ℕ → OncePoint → OncePoint × Phase
 onward nothing p TryBegin = (Run, running p)
 onward nothing p l = (TryBegin, nothing)
@@ -33,17 +34,17 @@ loads_fit s p q l = grind arith
 theirs_run : (s : Phase) (q : ℕ) → 1 ≤ theirs_by s q → s ≡ running q
 theirs_run s q some = grind (arith, some, eqb-true)
 
--- a closure of another party begins, and one that ran ends
+-- a closure of another party begins, and a running one ends
 begins_running : (q r p n : ℕ) (l : OncePoint) → (r ≡ p → ⊥) → mine_by nothing p l ≤ suc n → (theirs_by (running r) r ≤ n) × (mine_by (running r) p l ≤ n) × ((r ≡ q → ⊥) → theirs_by (running r) q ≤ n)
 begins_running q r p n l ne few = grind (arith, ne, few)
 
--- another party's step begins a closure, or leaves the phase, but that of the party that runs it
+-- another party's step begins a closure, or does not change the phase, unless it ends the running closure
 phase_beside : (s : Plain) (r : ℕ) (step : Option Change) → IsOpenStep s r step → BelongsTo once step → is_running r s.phase ≡ false
     → ((apply_some s step).phase ≡ s.phase) ⊎ ((s.phase ≡ nothing) × ((apply_some s step).phase ≡ running r))
 phase_beside s r None may belongs other = inl refl
 phase_beside s r (Some c) may belongs other = grind (arith, may, belongs, other)
 
--- no other party's step makes it run a closure
+-- no step of another party makes this one run a closure
 runs_before : (s : Plain) (r q : ℕ) (step : Option Change) → IsOpenStep s r step → BelongsTo once step → (r ≡ q → ⊥) → (apply_some s step).phase ≡ running q → s.phase ≡ running q
 runs_before s r q None may belongs ne is = is
 runs_before s r q (Some c) may belongs ne is = grind (arith, may, belongs, ne, is)
@@ -91,7 +92,7 @@ module _ {V : Type 0} (value : Option V) where
       → let sc = scene_at m seen p Step (Some (Calling c l h)) in answers p p Step sc.outcome (slice_get sc.after.state.seats p) ≡ true
   told_by seen p c l h good there is = grind (arith, word_is seen good, is, eqb_self p, (in_call m k seen p c l h good there).knows)
 
-  -- an answer is one, whether or not closures may fail
+  -- whether or not closures may fail, an answer is an answer
   answered : (p q : ℕ) (move : Move (OnceCall V) V) (o : Outcome (Answer V) V) (x : Option (Seat (OnceCall V) OncePoint)) → answers p q move o x ≡ true → answers_or_fails m p q move o x ≡ true
   answered p q move o x is = grind (arith, is)
 
@@ -144,7 +145,7 @@ module _ {V : Type 0} (value : Option V) where
         (at.0, at.1, same_beside m seen r q q at.0 Run at.1 at.2 move ne ∙ at.2))
         (cases_eq r q)
 
-  -- so it is wherever a schedule leads
+  -- this holds after any schedule
   runner_after : (seen : World) (es : Entries V) → Invariant m k seen → RunnerIn seen → RunnerIn (seen_after m seen es)
   runner_after seen [] good runner = runner
   runner_after seen (e ∷ es) good runner = runner_after (scene m seen e.0 e.1).after es (kept m k f seen e.0 e.1 good).good (runner_kept seen good runner e.0 e.1)
@@ -163,7 +164,7 @@ module _ {V : Type 0} (value : Option V) where
       abbrev sc : Event
       sc = scene_at m seen p Step (Some (Calling c l h))
 
-      -- its own step, where its closure runs, where there is a value, and where there is none yet
+      -- its own step, while its closure runs, while there is a value, and while there is none yet
       ended : l ≡ Run → walk.Reaches m k f x sc
       ended is = grind (arith, is, closure, eqb_self p)
 
@@ -194,7 +195,7 @@ module _ {V : Type 0} (value : Option V) where
       run_ends q d Run j at e = absurd (in_call m k seen q d Run j w.3 at).knows
       run_ends q d i j at e = absurd (grind (arith, e))
 
-      -- another party's step: its closure ends, or one begins, or the phase stays
+      -- another party's step: its closure ends, or one begins, or the phase does not change
       steps : (n : ℕ) → walk.Within m k f x seen l (suc n) → (q : ℕ) (d : OnceCall V) (i : OncePoint) (j : Option Hold) → (q ≡ p → ⊥) → slice_get seen.state.seats q ≡ Some (Calling d i j)
           → let y = scene_at m seen q Step (Some (Calling d i j)) in walk.After m k f x seen q y → walk.Reaches m k f x y ⊎ walk.Falls m k f x seen l q y n
       steps n within q d i j ne at made = by (is_running q s.phase) refl

@@ -1,4 +1,4 @@
--- A `lock` may be passed over again and again, before it has its ticket.
+-- A `lock` without a ticket may be passed over again and again.
 use Rattle.spin_world_progress.proofs.Names.{◌≡◌, ℕ, zero, suc, ◌+◌, ◌<◌, ◌==◌, ◌||◌, true, false, Some, None, List, [], ◌∷◌, length, nat_lt, slice_get, refl, ap, sym, ◌∙◌, subst, arith, ne_eqb, lt-ltb, ticket_limit, Answer, Idle, Calling, Move, Begin, Step, TicketWords, TicketCall, TicketPoint, Take, joined, Machine, State, after, at_first, ticket_machine, eqb_self, occurs, IsRound, AreRounds, grants, MayBePassedOver}
 use Rattle.spin_model.specs.declared.ticket.TicketCall.TheVariants.{Lock, Release}
 use Rattle.spin_world_progress.proofs.Progress.{occurs-append}
@@ -7,7 +7,7 @@ module _ {V : Type 0} (v : V) (first : ℕ) where
   abbrev m : Machine TicketWords V TicketCall TicketPoint (Answer V)
   m = ticket_machine v first
 
-  -- party 0 goes for the number k, which is next and served, and party 1 is idle
+  -- party 0 tries to take the number k, which is next and served, and party 1 is idle
   abbrev behind : ℕ → State TicketWords V TicketCall TicketPoint
   behind k = record { words = record { next = k; serving = k }; value = Some v; seats = Calling Lock (Take k) None ∷ Idle ∷ [] }
 

@@ -1,4 +1,4 @@
--- What events leave: of a party that waits in a call, of one that has leaked, and of others.
+-- What events keep: for a party that waits in a call, for one that has leaked, and for others.
 use Rattle.spin_world_progress.proofs.Names.{not, is_empty, goes_on, ◌⊎◌, inl, inr, ⊎_elim, subst, cases_eq, is_step, eqb_self, ◌≡◌, ℕ, ◌==◌, ◌&&◌, ◌||◌, Bool, true, false, Option, Some, None, List, [], ◌∷◌, ◌++◌, slice_get, refl, ap, sym, ◌∙◌, arith, eqb-true, false≢true, may_read, and_parts, list_all, slice_get-map, Machine, State, happens, owner_writes, resting, after, is_owners, yields_to_owner, seen_by_owner, Seen, Scene, scene, Hold, Seat, Idle, Calling, Holding, Leaked, Gone, Next, Continue, Answers, Move, Outcome, Test, occurs, is_awaited, MovesOn, get-set_other, seat_with, of_event}
 use Rattle.spin_world_core.proofs.Names.{true≢false, option_map}
 use Rattle.spin_world_core.proofs.Owners.{all-get}
@@ -32,7 +32,7 @@ is_busy _ = false
 abbrev pub holds_lock : Entries → Bool
 holds_lock e = not (is_empty e.holders)
 
--- what the owner's look makes of it
+-- the seat after the owner has used the value
 seen_left : {C L : Type 0} (o : Option (Seat C L)) → has_left o ≡ true → has_left (option_map seen_by_owner o) ≡ true
 seen_left o left = grind (arith, left)
 
@@ -49,7 +49,7 @@ pub holds_not : {C L : Type 0} (b : Bool) (h : Hold) (c : C) (l : L) (held : Opt
 holds_not true h c l held e = cc (e)
 holds_not false h c l held e = cc (e)
 
--- an outcome that moves no party on
+-- an outcome after which no party has moved on
 abbrev pub is_idle : {V A : Type 0} → Outcome A V → Bool
 is_idle outcome.Begun = false
 is_idle outcome.GoingOn = false
@@ -57,12 +57,12 @@ is_idle (outcome.Answered a b) = false
 is_idle _ = true
 
 module _ {W V C L A : Type 0} (m : Machine W V C L A) where
-  -- the owner has no move where a party is in a call
+  -- the owner has no move while a party is in a call
   pub no_owner : (seen : Seen W V C L) (p : ℕ) (c : C) (l : L) (h : Option Hold) → slice_get seen.state.seats p ≡ Some (Calling c l h) → is_owners m seen.state ≡ true → ⊥
   no_owner seen p c l h there may =
       false≢true (all-get yields_to_owner seen.state.seats p (Calling c l h) (and_parts m.owned (list_all yields_to_owner seen.state.seats) may).1 there)
 
-  -- what a move of the party q leaves
+  -- what a move of the party q changes
   module _ (seen : Seen W V C L) (q d : ℕ) where
     abbrev seats : List (Seat C L)
     seats = seen.state.seats
@@ -71,7 +71,7 @@ module _ {W V C L A : Type 0} (m : Machine W V C L A) where
     went s c h (Continue l) ne = get-set_other s.seats q d (Calling c l h) ne
     went s c h (Answers a rest) ne = get-set_other s.seats q d (resting rest) ne
 
-    -- where some party is in a call, each other party stays where it is
+    -- while some party is in a call, each other party keeps its seat
     pub same_beside : (p : ℕ) (c : C) (l : L) (h : Option Hold) → slice_get seats p ≡ Some (Calling c l h) → (move : Move C V) → (q ≡ d → ⊥)
         → slice_get (scene m seen q move).after.state.seats d ≡ slice_get seats d
     same_beside p c l h calls move ne =
@@ -89,7 +89,7 @@ module _ {W V C L A : Type 0} (m : Machine W V C L A) where
         })
         move
 
-    -- who has leaked stays away, and moves no more
+    -- a party that has leaked stays so, and moves no more
     module _ (left : has_left (slice_get seats d) ≡ true) where
       abbrev Away : Scene W V C L A → Type 0
       Away sc = (has_left (slice_get sc.after.state.seats d) ≡ true) × (q ≡ d → is_idle sc.outcome ≡ true)
@@ -120,15 +120,15 @@ module _ {W V C L A : Type 0} (m : Machine W V C L A) where
           })
           move
 
-  -- the move that a round awaits of the party d, which has the seat o
+  -- the move of the party d, with the seat o, that a round waits for
   abbrev pub awaited_of : ℕ → Option (Seat C L) → Test V C L A
   awaited_of d o q move what x = (q == d) && is_awaited m o move what
 
-  -- a move with an idle outcome is not that move, and neither is a move of another party
+  -- a move with an idle outcome is not that move, nor is a move of another party
   pub unawaited : (d q : ℕ) (o : Option (Seat C L)) (move : Move C V) (what : Outcome A V) → (q ≡ d → is_idle what ≡ true) → ((q == d) && is_awaited m o move what) ≡ false
   unawaited d q o move what idle = grind (arith, idle, eqb-true)
 
-  -- a party that has leaked makes no such move any more
+  -- a party that has leaked never makes such a move
   pub left_never : (seen : Seen W V C L) (es : List (ℕ × Move C V)) (d : ℕ) (o : Option (Seat C L)) → has_left (slice_get seen.state.seats d) ≡ true → occurs m (awaited_of d o) seen.state es ≡ true → ⊥
   left_never seen [] d o left found = false≢true found
   left_never seen (e ∷ es) d o left found =
@@ -153,7 +153,7 @@ module _ {W V C L A : Type 0} (m : Machine W V C L A) where
   is_stepped s q c h (Continue l) = refl
   is_stepped s q c h (Answers a rest) = refl
 
-  -- a party in a call takes a step, or stays where it is
+  -- a party in a call takes a step, or keeps its seat
   abbrev StepsOrStays : Seen W V C L → ℕ → Scene W V C L A → Type 0
   StepsOrStays seen q sc = (is_step sc.outcome ≡ true) ⊎ ((slice_get sc.after.state.seats q ≡ slice_get seen.state.seats q) × (is_idle sc.outcome ≡ true))
 

@@ -1,4 +1,5 @@
--- A read-write lock is free of deadlock. The readers leave side by side, in two rounds; whoever does more than read stands alone then, and each round takes a move from it.
+-- A read-write lock is free of deadlock. The readers leave in the same two rounds. A holder that does more than read is
+-- then alone, and each round takes a move from it.
 use Rattle.spin_world_progress.proofs.Names.{good, cases_eq, scene, eqb-true, empty_is, ◌<◌, one_of, eq-eqb, row_tells, in_call, StandsFor, ne_eqb, entries-other, Holding, Upgrade, Asking, max, suc, not, resting, ◌≡◌, ℕ, ◌+◌, ◌≤◌, ◌==◌, Bool, true, false, Option, Some, None, List, [], ◌∷◌, length, slice_get, refl, ap, sym, ◌∙◌, arith, Plain, Kind, reading, upgradable, asking, writing, Holder, Change, releases, turns, count_kind, weight, rw_word, apply_some, IsOpenStep, IsExclusive, ◌-◌, ◌⊎◌, ◌||◌, ◌&&◌, subst, inl, inr, ⊎_elim, nat_lt, min, if◌then◌else◌, lt-ltb, sum_by-cons, same_kind, may_turn, upgrader, all_kinds, by_kinds, read, read_upgradable, reader_limit, Answer, Hold, Seat, Idle, Calling, Next, Continue, Answers, Move, Step, Weak, Mark, Machine, after, at_first, goes_on, get-set_same, Seen, Scene, scene_at, opening, seen_after, eqb_self, LocalInvariant, Facts, Invariant, calls, RwCall, Read, UpgradeableRead, RwPoint, rw_table, rw_machine, rw_notes, rw_keeping, rw_facts, Test, grants_any, refuses_any, leading, rounds_by, rounds_beside, GrantsSomebody, RwIsDeadlockFree, without_holder, with_kind, filter, list_any, list_all, entries, is_empty}
 use Rattle.spin_world.proofs.RwNames.{Write, Exchange, Release, Entries}
 use Rattle.spin_model.specs.declared.place.Hold.TheVariants as hold
@@ -57,17 +58,17 @@ kind_turned : (u : ℕ) (j k : Kind) (hs : List Holder) → kind_of u hs ≡ Som
 kind_turned u j k [] is = absurd (cc (is))
 kind_turned u j k (h ∷ hs) is = grind (arith, is, kind_turned u j k hs)
 
--- all are its own where nobody stands beside it
+-- all holders are its own if nobody holds with it
 all_its : (u : ℕ) (hs : List Holder) → beside u hs ≡ false → its u hs ≡ hs
 all_its u [] none = refl
 all_its u (h ∷ hs) none = grind (arith, none, all_its u hs)
 
--- whoever holds, and only reads, does read
+-- a holder that only reads does read
 reads_some : (hs : List Holder) → is_empty hs ≡ false → only_read hs ≡ true → reads hs ≡ true
 reads_some [] some all = absurd (cc (some))
 reads_some (h ∷ hs) some all = grind (arith, all)
 
--- who stands beside it
+-- who holds with it
 witness : (u : ℕ) (hs : List Holder) → beside u hs ≡ true → (q : ℕ) × (q ≡ u → ⊥) × (is_empty (its q hs) ≡ false)
 witness u [] some = absurd (cc (some))
 witness u (h ∷ hs) some = by (h.party == u) refl (witness u hs)
@@ -119,7 +120,7 @@ one_word k [] few is = absurd (cc (is))
 one_word k (h ∷ []) few is = grind (arith, is, sum_by-cons (λ (g : Holder). weight g.kind) h [])
 one_word k (h ∷ i ∷ hs) few is = absurd (omega (arith, few))
 
--- At the start: who does more than read, or p, which holds nothing
+-- At the start: the party that does more than read, or p, which holds nothing
 
 abbrev lead : ℕ → List Holder → ℕ
 lead p [] = p
@@ -184,7 +185,8 @@ abbrev leaves : Option RwSeat → Bool
 leaves (Some (Calling Release l h)) = true
 leaves _ = false
 
--- of readers beside that party, which leave side by side; what follows is what that one has left to do then
+-- the load of readers that hold with that party, which leave at the same time; then comes what that party has left to
+-- do
 abbrev base : Option Kind → ℕ
 base None = 2
 base (Some reading) = 3
@@ -192,7 +194,7 @@ base (Some upgradable) = 4
 base (Some asking) = 1
 base (Some writing) = 4
 
--- of that one alone, by whether the call is a `write`, whether there is room for two, and whether it leaves
+-- the load of that party alone, by whether the call is a `write`, whether there is room for two, and whether it leaves
 abbrev alone : Bool → Bool → Kind → Bool → ℕ
 alone w room reading out = if w then (if out then 2 else 3) else if room then 0 else (if out then 3 else 4)
 alone w room upgradable out = if out then 3 else if w || room then 4 else 5
@@ -207,7 +209,7 @@ abbrev is_asking : Option Kind → Bool
 is_asking (Some asking) = true
 is_asking _ = false
 
--- by whether somebody stands beside it; whether it is that one, or reads; and whether it leaves
+-- by whether somebody holds with it; whether it is that party, or reads; and whether it leaves
 abbrev theirs_of : Bool → Bool → Option Kind → Bool → Bool → Bool → Bool → ℕ
 theirs_of w room k b own reader out =
     if own then (if b then (if is_asking k then 1 else 0) else its_load w room k out) else if reader then base k + (if out then 1 else 2) else 0
@@ -219,7 +221,7 @@ abbrev is_write : RwCall → Bool
 is_write Write = true
 is_write c = false
 
--- how many steps it makes where nobody holds, and where one reader leaves it room
+-- how many steps it makes if nobody holds, and if one reader leaves it room
 abbrev own_rank : RwCall → RwPoint → ℕ
 own_rank Write l = 1
 own_rank c (Exchange k) = if k == 0 then 1 else 2
@@ -240,7 +242,7 @@ mine_of c room l k b = if b then 0 else mine_alone c room l k
 abbrev mine_by : RwCall → Bool → ℕ → List Holder → RwPoint → ℕ
 mine_by c room u hs l = mine_of c room l (kind_of u hs) (beside u hs)
 
--- where one begins a call, or to leave
+-- when one begins a call, or begins to leave
 theirs_begun : (w room : Bool) (k : Option Kind) (b own reader out : Bool) → theirs_of w room k b own reader out ≤ theirs_of w room k b own reader false
 theirs_begun w room k b own reader out = grind arith
 
@@ -259,7 +261,7 @@ alone_some c room l a reader out mine theirs = grind (arith, mine, theirs)
 base_some : (k : Option Kind) → 1 ≤ base k
 base_some k = grind arith
 
--- while a reader stands beside it
+-- while another reader holds
 reader_long : (w room : Bool) (k : Option Kind) (b out : Bool) (n : ℕ) → theirs_of w room k b false true out ≤ suc n → base k ≤ n
 reader_long w room k b out n few = grind (arith, few)
 
@@ -272,7 +274,7 @@ mine_start : (c : RwCall) (room : Bool) (l : RwPoint) (a : Kind) (k : Option Kin
 mine_start c room l reading k b some none leads = let is = none refl in grind (arith, is)
 mine_start c room l a k b some none leads = let is = leads refl in grind (arith, is)
 
--- where a reader leaves
+-- when a reader leaves
 theirs_gone : (w room : Bool) (k : Option Kind) (b later own reader out : Bool) (n : ℕ) → base k ≤ n → ((j : Kind) → k ≡ Some j → (room ≡ true) × (same_kind writing j ≡ false)) → (b ≡ false → later ≡ false)
     → theirs_of w room k later own reader out ≤ max (theirs_of w room k b own reader out) n
 theirs_gone w room None b later own reader out n few two less = grind (arith, few, less)
@@ -281,14 +283,14 @@ theirs_gone w room (Some j) b later own reader out n few two less = let is = two
 mine_gone : (c : RwCall) (room : Bool) (l : RwPoint) (k : Option Kind) (b later : Bool) (n : ℕ) → base k ≤ n → (b ≡ false → later ≡ false) → mine_of c room l k later ≤ max (mine_of c room l k b) n
 mine_gone c room l k b later n few less = grind (arith, few, less)
 
--- where the other one leaves
+-- when the other one leaves
 theirs_left : (w room : Bool) (k : Option Kind) (b reader out : Bool) (n : ℕ) → is_asking k ≡ false → theirs_of w room None b false reader out ≤ max (theirs_of w room k b false reader out) n
 theirs_left w room k b reader out n asks = grind (arith, asks)
 
 mine_left : (c : RwCall) (room : Bool) (l : RwPoint) (k : Kind) (b reader : Bool) (n : ℕ) → theirs_of (is_write c) room (Some k) b true reader true ≤ suc n → at_come c → is_asking (Some k) ≡ false → mine_of c room l None b ≤ max (mine_of c room l (Some k) b) n
 mine_left c room l k b reader n few comes asks = grind (arith, few, comes, asks)
 
--- where it goes on with less
+-- when it gets a lesser hold
 its_turned : (w room : Bool) (j k : Kind) (b reader : Bool) (n : ℕ) → may_turn j k ≡ true → theirs_of w room (Some j) b true reader false ≤ suc n → (b ≡ true → 1 ≤ n) → theirs_of w room (Some k) b true reader false ≤ n
 its_turned w room j k b reader n may few beside = grind (arith, may, few, beside)
 
@@ -304,13 +306,13 @@ lets cap Read w = read cap w
 lets cap UpgradeableRead w = read_upgradable cap w
 lets cap c w = None
 
--- which kind a step takes away
+-- which kind of holder a step removes
 abbrev from : Option Change → Option Kind
 from (Some (releases q k)) = Some k
 from (Some (turns q j k)) = Some j
 from _ = None
 
--- a holder leaves, or goes on with less
+-- a holder leaves, or gets a lesser hold
 abbrev is_out : Option Change → Bool
 is_out (Some (releases q k)) = true
 is_out _ = false
@@ -351,16 +353,16 @@ module _ {V : Type 0} (v : V) (cap : ℕ) (some : 1 ≤ cap) where
   abbrev Sits : (Entries → Bool) → ℕ → Option RwSeat → Type 0
   Sits = walk.SitsSo (rw_table v cap) (rw_notes v cap)
 
-  -- a party that holds nothing, or reads, as said
+  -- a party that holds nothing, or reads, as the flag says
   abbrev reads_so : Bool → Entries → Bool
   reads_so reader e = only_read e.holders && (if reader then reads e.holders else not (reads e.holders))
 
-  -- a reader's step is a release, and a newcomer's that is no grant leaves the holders
+  -- a reader's step is a release, and a newcomer's step that is no grant does not change the holders
   others_step : (seen : World) (q : ℕ) (c : RwCall) (l : RwPoint) (h : Option Hold) (reader : Bool) → slice_get seen.state.seats q ≡ Some (Calling c l h) → Sits (reads_so reader) q (Some (Calling c l h)) → let y = sc seen q c l h in
       Grants seen q c l h ⊎ (((y.change ≡ None) × (reader ≡ false)) ⊎ ((y.change ≡ Some (releases q reading)) × (reader ≡ true) × (leaves (Some (Calling c l h)) ≡ true) × (slice_get y.after.state.seats q ≡ Some Idle)))
   others_step seen q c l h reader there so = grind (arith, so, get-set_same seen.state.seats q Idle _ there)
 
-  -- the step of the other one, which holds so
+  -- a step of the other party, which holds in this way
   its_step : (seen : World) (u : ℕ) (c : RwCall) (l : RwPoint) (h : Option Hold) (kind : Option Kind) → slice_get seen.state.seats u ≡ Some (Calling c l h) → Sits (λ e. same_kinds kind (kind_in e.holders)) u (Some (Calling c l h)) → let y = sc seen u c l h in
       Grants seen u c l h ⊎ ((y.change ≡ None) ⊎ ((same_kinds kind (from y.change) ≡ true) × ((is_out y.change ≡ true) × (is_asking kind ≡ false) × (leaves (Some (Calling c l h)) ≡ true) × (slice_get y.after.state.seats u ≡ Some Idle) ⊎ (is_turn y.change ≡ true) × (leaves (Some (Calling c l h)) ≡ false) × (leaves (slice_get y.after.state.seats u) ≡ false))))
   its_step seen u c l h kind there so =
@@ -373,7 +375,7 @@ module _ {V : Type 0} (v : V) (cap : ℕ) (some : 1 ≤ cap) where
         get-set_same seen.state.seats u (Calling Upgrade Asking (Some hold.Upgradable)) _ there,
       )
 
-  -- alone it makes a plain step, or is granted
+  -- if it is alone it makes a plain step, or is granted
   its_step_alone : (seen : World) (u : ℕ) (c : RwCall) (l : RwPoint) (h : Option Hold) (kind : Kind) → seen.state.words ≡ weight kind → Sits (λ e. same_kinds (Some kind) (kind_in e.holders)) u (Some (Calling c l h)) → (sc seen u c l h).change ≡ None → Grants seen u c l h
   its_step_alone seen u c l h kind word so none = grind (arith, word, so, none)
 
@@ -400,7 +402,7 @@ module _ {V : Type 0} (v : V) (cap : ℕ) (some : 1 ≤ cap) where
       sits : (test : Entries → Bool) (q : ℕ) → test (entries q s) ≡ true → walk.SitsSo (rw_table v cap) (rw_notes v cap) test q (slice_get seen.state.seats q)
       sits test q is = walk.sits_so (rw_table v cap) (rw_notes v cap) test seen good q is
 
-      -- alone it has the word to itself
+      -- if it is alone it has the word to itself
       one : length (its u s.holders) ≤ 1
       one = by (nat_lt 1 (length (its u s.holders))) refl
         where
@@ -411,7 +413,7 @@ module _ {V : Type 0} (v : V) (cap : ℕ) (some : 1 ≤ cap) where
       word_is : b ≡ false → seen.state.words ≡ sum_by (λ (h : Holder). weight h.kind) (its u s.holders)
       word_is none = let word : seen.state.words ≡ rw_word s = cc (good.encodes) in word ∙ ap (λ hs. sum_by (λ (h : Holder). weight h.kind) hs) (sym (all_its u s.holders none))
 
-      -- the one that waits holds nothing, so somebody else reads beside it
+      -- the waiting party holds nothing, so somebody else reads with it
       nothing_mine : (l : RwPoint) → slice_get seen.state.seats p ≡ Some (Calling c l None) → is_empty (its p s.holders) ≡ true
       nothing_mine l mine_at = row_tells (rw_table v cap) (rw_notes v cap) c l None p s (seen.span p) (λ e. is_empty e.holders) _ (in_call m k seen p c l None good mine_at).knows (grind (arith, comes))
 
@@ -430,7 +432,7 @@ module _ {V : Type 0} (v : V) (cap : ℕ) (some : 1 ≤ cap) where
         before : theirs_by (is_write c) room u s.holders q (Some (Calling d i j)) ≤ suc n
         before = subst (λ o. theirs_by (is_write c) room u s.holders q o ≤ suc n) at (within.theirs q ne)
 
-        -- a step that leaves the plain lock leaves all others' loads
+        -- a step that does not change the plain lock changes nobody else's load
         unchanged : y.change ≡ None → theirs_by (is_write c) room u s.holders q (slice_get y.after.state.seats q) ≤ n → walk.Falls m k f x seen l q y n
         unchanged none his =
             let same : y.after.plain ≡ s = ap (apply_some s) none in
@@ -476,7 +478,7 @@ module _ {V : Type 0} (v : V) (cap : ℕ) (some : 1 ≤ cap) where
               (others_step seen q d i j reader at (subst (Sits (reads_so reader) q) at (sits (reads_so reader) q (grind (arith, known q other)))))
 
         module _ (is : q ≡ u) where
-          -- whoever stands beside it has a load
+          -- each party that holds with it has a load
           beside_long : b ≡ true → base kind ≤ n
           beside_long some =
               let z = reader_beside known mine_at some in
@@ -557,7 +559,7 @@ module _ {V : Type 0} (v : V) (cap : ℕ) (some : 1 ≤ cap) where
         goes : (o : Option ℕ) → lets cap c seen.state.words ≡ o → Grants seen p c l None ⊎ GoesTo (onward o)
         goes o is = grind (arith, comes, is, get-set_same seen.state.seats p (Calling c (onward o) None) _ there)
 
-        -- where nobody holds, and where one reader leaves it room
+        -- if nobody holds, and if one reader leaves it room
         goes_free : seen.state.words ≡ 0 → Grants seen p c l None ⊎ (GoesTo (Exchange 0) × (own_rank c (Exchange 0) ≤ own_rank c l - 1))
         goes_free zero = grind (arith, comes, zero, lt-ltb 0 (min cap reader_limit) (omega (arith, some)), get-set_same seen.state.seats p (Calling c (Exchange 0) None) _ there)
 
@@ -609,7 +611,7 @@ module _ {V : Type 0} (v : V) (cap : ℕ) (some : 1 ≤ cap) where
         by true none = absurd (omega (arith, long, its_none seen.plain.holders q (slice_get seen.state.seats q) (empty_is (its q seen.plain.holders) none)))
         by false some = walk.busy_so (rw_table v cap) (rw_notes v cap) holds_lock q _ refl (λ h so. grind (arith, so)) (walk.sits_so (rw_table v cap) (rw_notes v cap) holds_lock seen good q (ap not some))
 
-    -- one that rests asks for nothing
+    -- a party that rests asks nothing
     asks_not : (seen : World) → Invariant m k seen → (q : ℕ) (j : Option Hold) → slice_get seen.state.seats q ≡ Some (resting j) → (q == u) ≡ true → is_asking (kind_of u seen.plain.holders) ≡ false
     asks_not seen good q j at is = by (is_asking (kind_of u seen.plain.holders)) refl
       where

@@ -1,4 +1,5 @@
--- Seats let somebody in within four rounds: those who sit leave within two, and a party that waits takes two to look and make its exchange.
+-- A seat is granted within four rounds: parties that sit leave within two, and a waiting party takes two to look and
+-- make its exchange.
 use Rattle.spin_world_progress.proofs.Names.{cases_eq, ◌≡◌, ℕ, ◌≤◌, ◌⊎◌, ◌==◌, Bool, true, false, Option, Some, None, List, nat_lt, slice_get, refl, arith, inl, inr, entries, Hold, Calling, Answers, Answer, Move, Step, after, at_first, Seen, scene_at, ◌-◌, ⊎_elim, if◌then◌else◌, entries_after, empty_is, seats, lt-ltb, Done, SeatsMachine, seats_table, seats_machine, get-set_same, Invariant, StandsSo, Test, grants_any}
 use Rattle.spin_seats.specs.declared.calls.SeatsCall.{SeatsCall}
 use Rattle.spin_seats.specs.declared.calls.SeatsCall.TheVariants.{Enter, Leave}
@@ -11,7 +12,7 @@ use Rattle.spin_world_progress.proofs.Flag.{nobody_holds}
 use Rattle.spin_world_progress.proofs.Progress.{holds_lock}
 use Rattle.spin_world_progress.proofs.Leaving as leaving
 
--- how many steps it makes where nobody sits: it looks, and makes its exchange
+-- how many steps it makes if nobody sits: it looks, and makes its exchange
 abbrev rank_by : SeatsPoint → ℕ
 rank_by (Exchange k) = if k == 0 then 1 else 2
 rank_by l = 2
@@ -29,7 +30,7 @@ module _ (n : ℕ) (some : 1 ≤ n) where
   room : nat_lt 0 (seats n) ≡ true
   room = lt-ltb 0 (seats n) (omega (arith, some))
 
-  -- where it goes on, as there is room or not
+  -- its next point, by whether there is room
   abbrev onward : World → Bool → SeatsPoint
   onward seen b = if b then Exchange seen.state.words else First
 
@@ -41,7 +42,7 @@ module _ (n : ℕ) (some : 1 ≤ n) where
         (goal p Step x.outcome (slice_get x.after.state.seats p) ≡ true) ⊎ (slice_get x.after.state.seats p ≡ Some (Calling Enter (onward seen b) h))
     goes seen l there b is = grind (arith, is, get-set_same seen.state.seats p (Calling Enter (onward seen b) h) _ there)
 
-    -- where nobody sits
+    -- if nobody sits
     step : (seen : World) (l : SeatsPoint) → slice_get seen.state.seats p ≡ Some (Calling Enter l h) → seen.state.words ≡ 0 → let x = scene_at m seen p Step (Some (Calling Enter l h)) in
         (goal p Step x.outcome (slice_get x.after.state.seats p) ≡ true) ⊎ ((slice_get x.after.state.seats p ≡ Some (Calling Enter (Exchange 0) h)) × (rank_by (Exchange 0) ≤ rank_by l - 1))
     step seen l there is = grind (arith, is, room, get-set_same seen.state.seats p (Calling Enter (Exchange 0) h) _ there)
@@ -55,7 +56,7 @@ module _ (n : ℕ) (some : 1 ≤ n) where
         (λ (ne : seen.state.words ≡ 0 → ⊥). ⊎_elim inl (λ on. inr (onward seen b, on, tt, λ none. absurd (ne (grind (arith, good.encodes, nobody_holds seen.plain.holders none))))) (goes seen l there b refl))
         (cases_eq seen.state.words 0)
 
-    -- a step that makes a holder is a grant
+    -- a step that makes its party a holder is a grant
     comes : (seen : World) (q : ℕ) (c : SeatsCall) (l : SeatsPoint) (h : Option Hold) → holds_lock (entries q seen.plain) ≡ false
         → let x = scene_at m seen q Step (Some (Calling c l h)) in (goal q Step x.outcome (slice_get x.after.state.seats q) ≡ true) ⊎ (holds_lock (entries_after seen.plain x.change (entries q seen.plain)) ≡ false)
     comes seen q c l h none = grind (arith, none, empty_is (entries q seen.plain).holders)

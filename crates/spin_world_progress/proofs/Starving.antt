@@ -18,7 +18,7 @@ use Rattle.spin_model.specs.declared.once.OncePoint.TheVariants as once_point
 use Rattle.spin_world.specs.declared.barrier.BarrierCall.TheVariants as barrier
 use Rattle.spin_world.specs.declared.barrier.BarrierPoint.TheVariants as barrier_point
 
--- party 0 makes its exchange while the other holds, and looks after it has gone
+-- party 0 makes its exchange while the other holds, and looks after it has released
 pub flag_starves : {V : Type 0} (v : V) → MayStarve (flag_machine v) 2 waits_to_write
 flag_starves v =
     starves (flag_machine v) 2 ((0, Begin flag.Lock) ∷ []) _ refl (1, Begin flag.Lock) ((1, Step) ∷ (0, Step) ∷ (1, Begin flag.Release) ∷ (1, Step) ∷ (0, Step) ∷ []) 0 flag.Lock flag_point.First None refl
@@ -70,7 +70,7 @@ module _ {V : Type 0} (v : V) (cap patience : ℕ) where
       ((1, Step) ∷ (0, Step) ∷ (1, Step) ∷ (1, Begin fair.Release) ∷ (1, Step) ∷ (1, Begin fair.Starve) ∷ (1, Step) ∷ (1, Step) ∷ (0, Step) ∷ []) 0 fair.StarverLock fair_point.SetFlag (Some hold.Starver) refl
       (record { fair = grind (arith, more); back = grind (arith, more); none = grind (arith, more) })
 
--- the other sits down before each exchange of party 0, and leaves after it; without seats nobody enters
+-- the other takes a seat before each exchange of party 0, and leaves it afterwards; without seats nobody enters
 pub seats_starve : (n : ℕ) → MayStarve (seats_machine n) 2 (waits to_read)
 seats_starve zero = starves (seats_machine 0) 2 ((0, Begin seats_call.Enter) ∷ []) _ refl (0, Step) [] 0 seats_call.Enter seats_point.First None refl (record { fair = refl; back = refl; none = refl })
 seats_starve (suc n) = by_room (nat_lt 1 (seats (suc n))) refl
@@ -84,7 +84,7 @@ seats_starve (suc n) = by_room (nat_lt 1 (seats (suc n))) refl
         (1, Begin seats_call.TryEnter) ((1, Step) ∷ (1, Step) ∷ (0, Step) ∷ (1, Begin seats_call.Leave) ∷ (1, Step) ∷ (0, Step) ∷ []) 0 seats_call.Enter (seats_point.Exchange 0) None refl
         (record { fair = grind (arith, first, more); back = grind (arith, first, more); none = grind (arith, first, more) })
 
--- the others of its group never come
+-- the other parties of its group never arrive
 pub barrier_starves : (n : ℕ) → 2 ≤ n → MayStarve (barrier_machine n) 1 meets
 barrier_starves n two =
     let more : nat_lt 1 n ≡ true = lt-ltb 1 n two in

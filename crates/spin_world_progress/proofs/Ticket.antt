@@ -1,4 +1,4 @@
--- How many rounds a `lock` waits at most: until it has its ticket, and then with it.
+-- In how many rounds a `lock` is granted: until it has its ticket, and then with it.
 use Rattle.spin_world_progress.proofs.Names.{empty_is, max, ◌++◌, ◌⊎◌, cases_lt, resting, if◌then◌else◌, ◌≡◌, ℕ, ◌+◌, ◌-◌, ◌<◌, ◌≤◌, ◌==◌, Bool, true, false, not, Option, Some, None, List, [], ◌∷◌, refl, ap, sym, ◌∙◌, arith, filter, slice_get, Plain, Change, is_empty, serving_word, is_first, apply_some, IsOpenStep, entries, Seen, scene, opening, ticket_table, ticket_machine, LocalInvariant, Facts, after, at_first, seen_after, zero, ticket_limit, Answer, Hold, Calling, Holding, Move, Step, TicketWords, TicketCall, TicketPoint, Serve, LoadNext, Take, suc, ◌*◌, ◌&&◌, subst, inl, inr, ⊎_elim, length, nat_lt, and_parts, cases_eq, eqb-true, ne_eqb, eq-eqb, lt-ltb, to_enter, Seat, Next, BelongsTo, Mark, joined, Machine, occurs, AreRounds, grants, Scene, StandsFor, scene_at, State, happens, eqb_self, get-set_same, Invariant, in_call, good_after, state-seen_after, good, state_is, numbers_are, StandsSo, calls_so, calls, EntersInRounds, IsNeverStarved, LocksInRounds, slice_get_within, slice_get_past, no_entries, length-happens}
 use Rattle.spin_world.proofs.TicketNames.{Entries, Numbered, enters_in_turn, serving-taken, serving-entered, serving-taken, stands, serving-moves, asks_of, bit, Lock, Release, Await, queued, Queued}
 use Rattle.spin_world.proofs.TicketOwed.{ticket_notes, ticket_keeping, ticket_facts}
@@ -17,7 +17,7 @@ use Rattle.spin_world_progress.proofs.Loads as walk
 abbrev own : ℕ → List Queued → List Queued
 own p ts = filter (λ t. t.party == p) ts
 
--- whose ticket stands first
+-- the party with the first ticket
 abbrev first_party : List Queued → ℕ
 first_party [] = 0
 first_party (t ∷ ts) = t.party
@@ -32,37 +32,38 @@ later : (p n k : ℕ) (ts : List Queued) → numbered_from k ts → own p ts ≡
 later p n k [] numbers e ne = absurd (cc (e))
 later p n k (t ∷ ts) numbers e ne = grind (arith, in_queue p n (suc k) ts, ne)
 
--- without a ticket none stands unless one is taken
+-- if there is no ticket, there is none until one is taken
 stays_empty : (s : Plain) (q : ℕ) (step : Option Change) → is_empty s.tickets ≡ true → IsOpenStep s q step → (apply_some s step).next ≤ s.next → (apply_some s step).tickets ≡ []
 stays_empty s q None none opens same = empty_is s.tickets none
 stays_empty s q (Some c) none opens same = grind (arith, none, opens, same, empty_is s.tickets none)
 
--- the first ticket's party has it
+-- the party of the first ticket has a ticket
 first_own : (ts : List Queued) → is_empty ts ≡ false → is_empty (own (first_party ts) ts) ≡ false
 first_own [] some = some
 first_own (t ∷ ts) some = grind (arith, eqb_self)
 
--- and where it hasn't entered with its only one, it is its turn
+-- if the first party's only ticket has not entered, it is that ticket's turn
 first_turn : (p n : ℕ) (ts : List Queued) → own p ts ≡ queued p n false ∷ [] → p ≡ first_party ts → is_first p false ts ≡ true
 first_turn p n [] mine is = absurd (cc (mine))
 first_turn p n (t ∷ ts) mine is = grind (arith, eqb_self, mine, is)
 
--- another party's step leaves the first ticket's party and number
+-- another party's step does not change the first ticket's party and number
 leaves_first : (s : Plain) (q : ℕ) (step : Option Change) → is_empty s.tickets ≡ false → Numbered s → (q ≡ first_party s.tickets → ⊥) → IsOpenStep s q step → BelongsTo ticket step
     → (first_party (apply_some s step).tickets ≡ first_party s.tickets) × (serving_word (apply_some s step) ≡ serving_word s)
 leaves_first s q None some numbered ne may belongs = (refl, refl)
 leaves_first s q (Some c) some numbered ne may belongs =
     grind (arith, some, ne, may, belongs, serving-moves s c numbered)
 
--- How far it is to the first ticket's going
+-- How long it takes until the first ticket leaves
 
--- how many moves its party makes until then: it enters, begins to release, and serves the next
+-- how many moves its party makes until then: it enters, begins to release, and serves the next number
 abbrev left_to : Option (Seat TicketCall TicketPoint) → ℕ
 left_to (Some (Calling Lock l h)) = 3
 left_to (Some (Holding h)) = 2
 left_to _ = 1
 
--- how long the party q, which sits so, keeps the ticket t waiting, where s is served: it is the first, and is not the last
+-- how many rounds the party q, with this seat, keeps ticket t waiting while s is served: none unless q has the first
+-- ticket
 abbrev ahead : ℕ → ℕ → List Queued → ℕ → Option (Seat TicketCall TicketPoint) → ℕ
 ahead t s [] q his = 0
 ahead t s (x ∷ xs) q his = if x.party == q then 3 * (t - s) + left_to his - 2 else 0
@@ -73,7 +74,7 @@ ahead_most t s ts q his = grind arith
 left_few : (his : Option (Seat TicketCall TicketPoint)) → left_to his ≤ 3
 left_few his = grind arith
 
--- of the first ticket's party, and of another one
+-- for the first ticket's party, and for another one
 ahead_own : (t s : ℕ) (ts : List Queued) (his : Option (Seat TicketCall TicketPoint)) → is_empty ts ≡ false → ahead t s ts (first_party ts) his ≡ 3 * (t - s) + left_to his - 2
 ahead_own t s [] his some = absurd (true≢false some)
 ahead_own t s (x ∷ xs) his some = rw (eqb_self x.party) refl
@@ -82,11 +83,11 @@ ahead_other : (t s : ℕ) (ts : List Queued) (q : ℕ) (his : Option (Seat Ticke
 ahead_other t s [] q his ne = refl
 ahead_other t s (x ∷ xs) q his ne = grind (arith, ne)
 
--- it is the same where the same ticket stands first
+-- it does not change while the first ticket is the same
 ahead_same : (t s : ℕ) (ts us : List Queued) (q : ℕ) (his : Option (Seat TicketCall TicketPoint)) → is_empty ts ≡ false → first_party us ≡ first_party ts → ahead t s us q his ≤ ahead t s ts q his
 ahead_same t s ts us q his some same = grind (arith, some, same)
 
--- Each party has one ticket at most, so there are no more tickets than parties
+-- Each party has at most one ticket, so there are at most as many tickets as parties
 
 -- how many tickets the first n parties have
 abbrev total : ℕ → List Queued → ℕ
@@ -115,12 +116,14 @@ fewer p (suc n) ts each none lt = grind (arith, few n ts each, fewer p n ts each
 abbrev two : Entries → Bool
 two e = nat_lt 1 (length e.tickets)
 
--- other parties' steps raise the next number alone
+-- other parties' steps can only raise the next number
 next_grows : (s : Plain) (step : Option Change) → s.next ≤ (apply_some s step).next
 next_grows s None = omega arith
 next_grows s (Some c) = grind arith
 
--- How long a party at the doorway waits for others' tickets at most, if so many are taken still, its own too: by whether it goes for the next number. Where its own alone comes, the queue moves on beside it
+-- How many rounds a party at the doorway waits for the tickets of others at most. `taken` is how many tickets are still
+-- to be taken, its own included. `next` says whether its next step goes for the next number. If only its own ticket is
+-- still to be taken, the queue moves on in the meantime.
 abbrev doorway : ℕ → ℕ → Bool → ℕ
 doorway n taken next = (if nat_lt taken 2 then 2 else max 2 (3 * n - 2)) + taken - (if next then 1 else 0)
 
@@ -133,7 +136,7 @@ doorway_less n taken later next soon less = grind (arith, less)
 doorway_fits : (n taken : ℕ) (next : Bool) → (1 ≤ doorway n taken next) × (doorway n taken next ≤ max 2 (3 * n - 2) + taken)
 doorway_fits n taken next = grind arith
 
--- where a ticket is to be taken, there are two rounds at least
+-- while a ticket has to be taken, at least two rounds are left
 doorway_two : (n taken : ℕ) → 1 ≤ taken → 2 ≤ doorway n taken true
 doorway_two n taken some = grind (arith, some)
 
@@ -159,7 +162,7 @@ abbrev waits_by : ℕ → List Queued → Bool
 waits_by t [] = false
 waits_by t (x ∷ xs) = (x.number == t) && not x.entered
 
--- with its ticket it waits for others; at the doorway a number is left at the end
+-- with its ticket it waits for others; without one, some number is left at the end
 abbrev at_lock : ℕ → TicketPoint → Type 0
 at_lock N (Await t) = Unit {0}
 at_lock N LoadNext = N < ticket_limit
@@ -171,7 +174,7 @@ at_door LoadNext = Unit {0}
 at_door (Take j) = Unit {0}
 at_door _ = ⊥
 
--- the number that it goes for is next
+-- the number that it tries to take is next
 abbrev is_fresh : TicketPoint → ℕ → Bool
 is_fresh (Take j) next = j == next
 is_fresh l next = false
@@ -261,9 +264,10 @@ module _ {V : Type 0} (v : V) (first : ℕ) where
       turn_of : (q j : ℕ) → own q s.tickets ≡ queued q j false ∷ [] → (seen.state.words.serving == j) ≡ is_first q false s.tickets
       turn_of q j his = ap (λ i. i == j) serving_is ∙ sym (enters_in_turn s q (serving_word s) j numbered refl his)
 
-      -- A step of another party, where p has the ticket t, or goes for it
+      -- A step of another party, while p has the ticket t, or tries to take it
 
-      -- the party that stepped keeps that ticket waiting for r rounds at most, and no other for longer than before, or than that
+      -- the party that stepped keeps that ticket waiting for at most r rounds, and no other party for longer than
+      -- before, or than that
       record Turned (t r q : ℕ) (sc : Scene TicketWords V TicketCall TicketPoint (Answer V)) : Type 0 where
         mine : ahead t (serving_word sc.after.plain) sc.after.plain.tickets q (slice_get sc.after.state.seats q) ≤ r
         others : (o : ℕ) → (q ≡ o → ⊥) → ahead t (serving_word sc.after.plain) sc.after.plain.tickets o (slice_get seen.state.seats o) ≤ max (ahead t (serving_word s) s.tickets o (slice_get seen.state.seats o)) r
@@ -320,11 +324,11 @@ module _ {V : Type 0} (v : V) (first : ℕ) where
         some : is_empty s.tickets ≡ false
         some = stands p t false s.tickets mine
 
-        -- the first ticket's party, where it is another's
+        -- the first ticket's party, if it is another's
         behind : (d ≡ p → ⊥) → serving_word s < t
         behind ne = later p t (serving_word s) s.tickets numbered.1 mine ne
 
-        -- it is at most as many tickets behind as there are others
+        -- it is behind at most as many tickets as there are other parties
         near : t - serving_word s + 1 ≤ n
         near = let here = in_queue p t (serving_word s) s.tickets numbered.1 mine in omega (arith, here.0, here.1, w.2, most_tickets seen w.3, numbered.0)
 
@@ -342,14 +346,14 @@ module _ {V : Type 0} (v : V) (first : ℕ) where
         mine_there : own p seen.plain.tickets ≡ queued p t false ∷ []
         mine_there = mine seen (Await t) w t refl
 
-    -- At the doorway
+    -- Before it has a ticket
 
     no_ticket : (seen : World) (l : TicketPoint) → walk.Waits m k f x seen l → at_door l → is_empty (own p seen.plain.tickets) ≡ true
     no_ticket seen LoadNext w door = ap (λ (e : Entries). is_empty e.tickets) (in_call m k seen p Lock LoadNext None w.3 w.0).knows.0.stand
     no_ticket seen (Take j) w door = ap (λ (e : Entries). is_empty e.tickets) (in_call m k seen p Lock (Take j) None w.3 w.0).knows.0.stand
     no_ticket seen l w door = absurd (grind (arith, door))
 
-    -- the queue is shorter by its own place
+    -- without its own ticket, the queue is shorter by one
     queue_few : (seen : World) (l : TicketPoint) → walk.Waits m k f x seen l → at_door l → seen.plain.next - serving_word seen.plain + 1 ≤ n
     queue_few seen l w door =
         let ts = seen.plain.tickets in
@@ -362,7 +366,7 @@ module _ {V : Type 0} (v : V) (first : ℕ) where
       left_is : N < ticket_limit → seen.plain.next ≤ N → nat_lt seen.state.words.next ticket_limit ≡ true
       left_is room low = lt-ltb seen.state.words.next ticket_limit (omega (arith, next_is seen l w, low, room))
 
-      -- it goes for the next number
+      -- it tries to take the next number
       goes_for_next : N < ticket_limit → mine_by p n N seen.plain l ≡ doorway n (N - seen.plain.next) false → ((o : ℕ) (his : Option TicketSeat) → theirs_by N seen.plain (Take seen.state.words.next) o his ≡ theirs_by N seen.plain l o his)
           → slice_get sc.after.state.seats p ≡ Some (Calling Lock (Take seen.state.words.next) None) → sc.after.plain ≡ seen.plain → walk.Own m k f x seen l r sc
       goes_for_next room stale same at plain =

@@ -1,4 +1,4 @@
--- Progress of any object, from what every object owes: a call is answered, or others make progress.
+-- Progress of any object, by what every object has to show: a call is answered, or others make progress.
 use Rattle.std.specs.Prelude.{◌≡◌, ℕ, ◌≤◌, ◌==◌, ◌&&◌, ◌||◌, Bool, true, false, not, Option, Some, List, [], ◌∷◌, ◌⊎◌, length, slice_get}
 use Rattle.spin_model.specs.Machines.{Machine}
 use Rattle.spin_model.specs.Schedules.{State, happens, after, at_first}
@@ -17,13 +17,13 @@ same_numbers [] [] = true
 same_numbers (x ∷ xs) (y ∷ ys) = (x == y) && same_numbers xs ys
 same_numbers _ _ = false
 
--- an event of another party than this one changes a word
+-- an event of another party changes a word
 abbrev pub disturbs : {W V C L A : Type 0} → Machine W V C L A → ℕ → State W V C L → List (ℕ × Move C V) → Bool
 disturbs m p s [] = false
 disturbs m p s (e ∷ es) =
     let next = (happens m s e.0 e.1).next in (not (e.0 == p) && not (same_numbers (m.numbers next.words) (m.numbers s.words))) || disturbs m p next es
 
--- the party's call is answered, or its exchange is refused without cause
+-- the party's call is answered, or its exchange fails spuriously
 abbrev pub ends_or_fails : {V C L A : Type 0} → ℕ → Test V C L A
 ends_or_fails p q move (outcome.Answered a b) x = q == p
 ends_or_fails p q move o x = refuses_weakly p q move o x

@@ -1,4 +1,4 @@
--- Progress of a fair lock: how many rounds pass at most until somebody is granted the lock, while a starver waits.
+-- Progress of a fair lock: in how many rounds somebody is granted the lock while a starver waits.
 use Rattle.std.specs.Prelude.{◌≡◌, ℕ, ◌≤◌, ◌&&◌, true, false, Option, Some, List, length, slice_get}
 use Rattle.spin_step.specs.Plain.{is_starver}
 use Rattle.spin_model.specs.Machines.{Machine}
@@ -15,12 +15,12 @@ use Rattle.spin_step_more.specs.declared.fair_calls.FairPoint.{FairPoint}
 use Rattle.spin_world_progress.specs.Rounds.{Test, occurs, AreRounds, is_granted, stretch, IsFair}
 use Rattle.spin_model.specs.declared.schedule.Outcome.TheVariants as outcome
 
--- some party is granted the lock, and not a place among the starvers
+-- some party is granted the lock, and not only a registration as a starver
 abbrev pub grants_lock : {W V C L A : Type 0} → Machine W V C L A → Test V C L A
 grants_lock m q move (outcome.Answered a b) (Some (Holding h)) = is_granted (m.says a) && may_read h
 grants_lock m q move _ _ = false
 
--- While a starver waits, in each five rounds some party is granted the lock
+-- While a starver waits, some party is granted the lock in every five rounds
 abbrev pub LocksInFive : {V : Type 0} → Machine ℕ V FairCall FairPoint (Answer V) → ℕ → List (ℕ × Move FairCall V) → List (List (ℕ × Move FairCall V)) → Type 0
 LocksInFive m n past rounds =
     let s = after m (at_first m n) past in

@@ -1,4 +1,4 @@
--- Progress of a flag: how many rounds pass at most until somebody is granted the lock.
+-- Progress of a flag: in how many rounds somebody is granted the lock.
 use Rattle.std.specs.Prelude.{◌≡◌, ℕ, ◌≤◌, ◌||◌, Bool, true, Option, Some, List, length, slice_get}
 use Rattle.spin_step.specs.Plain.{to_write}
 use Rattle.spin_model.specs.Machines.{Machine}
@@ -12,14 +12,16 @@ use Rattle.spin_model.specs.declared.schedule.Move.{Move}
 use Rattle.spin_world_core.specs.Joined.{joined}
 use Rattle.spin_world_progress.specs.Rounds.{occurs, AreRounds, grants_any, refuses_weakly, stretch, IsFair}
 
--- While a party waits in a `lock`, in each four rounds some party is granted the lock, or that party's own exchange is refused without cause
+-- While a party waits in a `lock`, in every four rounds some party is granted the lock, or the waiting party's exchange
+-- fails spuriously.
 abbrev pub LocksInFour : {V : Type 0} → Machine Bool V FlagCall FlagPoint (Answer V) → ℕ → List (ℕ × Move FlagCall V) → List (List (ℕ × Move FlagCall V)) → Type 0
 LocksInFour m n past rounds =
     let s = after m (at_first m n) past in
     (p : ℕ) (c : FlagCall) (l : FlagPoint) (h : Option Hold) → slice_get s.seats p ≡ Some (Calling c l h) → (m.asks c h).waits ≡ true
     → AreRounds m s rounds → 4 ≤ length rounds → occurs m (λ q move o x. grants_any m q move o x || refuses_weakly p q move o x) s (joined rounds) ≡ true
 
--- Deadlock freedom: in an endless fair schedule some party is granted the lock, or the waiting party's own exchange is refused without cause
+-- Deadlock freedom: in an endless fair schedule some party is granted the lock, or the waiting party's exchange fails
+-- spuriously
 abbrev pub IsDeadlockFree : {V : Type 0} → Machine Bool V FlagCall FlagPoint (Answer V) → ℕ → List (ℕ × Move FlagCall V) → (ℕ → ℕ × Move FlagCall V) → Type 0
 IsDeadlockFree m n past schedule =
     let s = after m (at_first m n) past in

@@ -1,4 +1,4 @@
--- Progress of a `Once`: how many rounds a call with a closure waits at most.
+-- Progress of a `Once`: in how many rounds a call with a closure is answered.
 use Rattle.std.specs.Prelude.{◌≡◌, ℕ, ◌≤◌, ◌==◌, ◌||◌, Bool, true, false, Option, Some, List, length, slice_get}
 use Rattle.spin_model.specs.Calls.{Said, failed}
 use Rattle.spin_model.specs.Machines.{Machine}
@@ -37,13 +37,13 @@ abbrev pub answers : {V C L A : Type 0} → ℕ → Test V C L A
 answers p q move (outcome.Answered a b) x = q == p
 answers p q move _ x = false
 
--- Where there is a value, each call is answered in one round
+-- If there is a value, each call is answered in one round
 abbrev pub AnswersInOne : {V : Type 0} → OnceMachine V → ℕ → Entries V → List (Entries V) → Type 0
 AnswersInOne {V} m n past rounds =
     (p : ℕ) (c : OnceCall V) (l : OncePoint) (h : Option Hold) → slice_get (once_after m n past).seats p ≡ Some (Calling c l h) → (once_after m n past).words ≡ 2
     → AreRounds m (once_after m n past) rounds → 1 ≤ length rounds → occurs m (answers p) (once_after m n past) (joined rounds) ≡ true
 
--- Starvation freedom of a call with a closure, while no closure fails: in an endless fair schedule it is answered, or some closure fails
+-- Starvation freedom of a call with a closure: in an endless fair schedule it is answered, or some closure fails
 abbrev pub AnswersAtLast : {V : Type 0} → OnceMachine V → ℕ → Entries V → (ℕ → ℕ × Move (OnceCall V) V) → Type 0
 AnswersAtLast {V} m n past schedule =
     (p : ℕ) (c : OnceCall V) (l : OncePoint) (h : Option Hold) → slice_get (once_after m n past).seats p ≡ Some (Calling c l h) → has_closure (m.asks c h) ≡ true

@@ -1,4 +1,4 @@
--- Rounds: stretches of a schedule, in each of which every party moves on that others may wait for.
+-- Rounds: stretches of a schedule. In each of them every party moves on that others may wait for.
 use Rattle.std.specs.Prelude.{◌≡◌, ℕ, zero, suc, ◌==◌, ◌&&◌, ◌||◌, Bool, true, false, Option, Some, List, [], ◌∷◌, slice_get}
 use Rattle.std.specs.List.{list_any}
 use Rattle.spin_step.specs.Plain.{Change, releases, serves, stops_starving}
@@ -13,11 +13,11 @@ use Rattle.spin_model.specs.declared.place.Seat.{Seat}
 use Rattle.spin_model.specs.declared.schedule.Outcome.{Outcome}
 use Rattle.spin_model.specs.declared.schedule.Outcome.TheVariants as outcome
 
--- what an event may be asked: by its party, its move, its outcome, and where it leaves the party
+-- a test of an event: by its party, its move, its outcome, and the party's seat after it
 abbrev pub Test : Type 0 → Type 0 → Type 0 → Type 0 → Type 0
 Test V C L A = ℕ → Move C V → Outcome A V → Option (Seat C L) → Bool
 
--- one of the events of these entries passes the test
+-- some event of these entries passes the test
 abbrev pub occurs : {W V C L A : Type 0} → Machine W V C L A → Test V C L A → State W V C L → List (ℕ × Move C V) → Bool
 occurs m test s [] = false
 occurs m test s (e ∷ es) = let h = happens m s e.0 e.1 in test e.0 e.1 h.outcome (slice_get h.next.seats e.0) || occurs m test h.next es
@@ -39,18 +39,19 @@ gives_up _ = false
 abbrev pub is_release : Asked → Bool
 is_release what = list_any (list_any gives_up) (own_steps (what.answers done) 0)
 
--- the beginning of a call that gives back what the party holds
+-- the event begins a call that releases what the party holds
 abbrev pub begins_release : {W V C L A : Type 0} → Machine W V C L A → Hold → Move C V → Outcome A V → Bool
 begins_release m h (Begin c) outcome.Begun = is_release (m.asks c (Some h))
 begins_release m h _ _ = false
 
--- what others may wait for of a party that sits so: its next step, or that it begins to release what it holds
+-- the event is one that others may wait for, if the party has this seat: its next step, or the beginning of its release
 abbrev pub is_awaited : {W V C L A : Type 0} → Machine W V C L A → Option (Seat C L) → Move C V → Outcome A V → Bool
 is_awaited m (Some (Calling c l h)) move o = is_step o
 is_awaited m (Some (Holding h)) move o = begins_release m h move o
 is_awaited m _ move o = false
 
--- it does so among these entries, unless it holds no lock, but a place among the starvers. A party that has leaked never will
+-- The party makes such an event among these entries. A starver that does not hold the lock need not. A party that has
+-- leaked never does.
 abbrev pub MovesOn : {W V C L A : Type 0} → Machine W V C L A → State W V C L → List (ℕ × Move C V) → ℕ → Option (Seat C L) → Type 0
 MovesOn m s es p (Some (Calling c l h)) = occurs m (λ q move o x. (q == p) && is_awaited m (Some (Calling c l h)) move o) s es ≡ true
 MovesOn m s es p (Some (Holding h)) = may_read h ≡ true → occurs m (λ q move o x. (q == p) && is_awaited m (Some (Holding h)) move o) s es ≡ true
@@ -58,11 +59,12 @@ MovesOn m s es p (Some (Leaked h)) = may_read h ≡ false
 MovesOn m s es p (Some (Gone h)) = may_read h ≡ false
 MovesOn m s es p _ = Unit {0}
 
--- A round from this state: each party that is in a call takes a step of it, each that holds the lock begins to release, and none has leaked it
+-- A round from this state: each party in a call takes a step, each party that holds the lock begins to release it, and
+-- none has leaked it
 abbrev pub IsRound : {W V C L A : Type 0} → Machine W V C L A → State W V C L → List (ℕ × Move C V) → Type 0
 IsRound m s es = (p : ℕ) → MovesOn m s es p (slice_get s.seats p)
 
--- rounds one after the other
+-- one round after another
 abbrev pub AreRounds : {W V C L A : Type 0} → Machine W V C L A → State W V C L → List (List (ℕ × Move C V)) → Type 0
 AreRounds m s [] = Unit {0}
 AreRounds m s (round ∷ rounds) = IsRound m s round × AreRounds m (after m s round) rounds
@@ -76,24 +78,25 @@ abbrev pub grants : {W V C L A : Type 0} → Machine W V C L A → ℕ → Test 
 grants m p q move (outcome.Answered a b) x = (q == p) && is_granted (m.says a)
 grants m p q move _ x = false
 
--- some party's is
+-- some party's call is granted what it asks
 abbrev pub grants_any : {W V C L A : Type 0} → Machine W V C L A → Test V C L A
 grants_any m q move (outcome.Answered a b) x = is_granted (m.says a)
 grants_any m q move _ x = false
 
--- the party's exchange is refused without cause
+-- the party's exchange fails spuriously
 abbrev pub refuses_weakly : {V C L A : Type 0} → ℕ → Test V C L A
 refuses_weakly p q Weak o x = (q == p) && is_step o
 refuses_weakly p q _ o x = false
 
 -- Endless schedules
 
--- so many of its entries, from this place on
+-- so many entries of the schedule, from this place on
 abbrev pub stretch : {X : Type 0} → (ℕ → X) → ℕ → ℕ → List X
 stretch schedule start zero = []
 stretch schedule start (suc n) = schedule start ∷ stretch schedule (suc start) n
 
--- Fair: from each place on, each party that is in a call there takes a step of it at some time, each that holds the lock begins to release at some time, and none has leaked it
+-- Fair, from each place on: each party in a call takes a step of it at some time. Each party that holds the lock begins
+-- to release it, and none has leaked it.
 abbrev pub IsFair : {W V C L A : Type 0} → Machine W V C L A → State W V C L → (ℕ → ℕ × Move C V) → Type 0
 IsFair m s schedule =
     (place p : ℕ) → let there = after m s (stretch schedule 0 place) in (n : ℕ) × MovesOn m there (stretch schedule place n) p (slice_get there.seats p)

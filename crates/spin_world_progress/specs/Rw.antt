@@ -1,4 +1,4 @@
--- Progress of a read-write lock: how many rounds an upgrade waits at most.
+-- Progress of a read-write lock: in how many rounds an upgrade is granted.
 use Rattle.std.specs.List.{list_any}
 use Rattle.std.specs.Prelude.{◌≡◌, ℕ, ◌≤◌, Bool, false, None, ◌||◌, true, if◌then◌else◌, Option, Some, List, [], ◌∷◌, length, slice_get}
 use Rattle.spin_step.specs.Plain.{Kind, Holder, reading, upgradable, asking, writing, same_kind, is_holder}
@@ -16,31 +16,31 @@ use Rattle.spin_world_core.specs.Runs.{opening}
 use Rattle.spin_world_core.specs.Users.{seen_after}
 use Rattle.spin_world_progress.specs.Rounds.{Test, occurs, AreRounds, grants, grants_any, refuses_weakly, is_step, stretch, IsFair}
 
--- A party in its upgrade that has asked is granted it in three rounds, or its exchange is refused without cause
+-- A party that has asked to upgrade gets its upgrade in three rounds, or its exchange fails spuriously
 abbrev pub UpgradesInThree : {V : Type 0} → Machine ℕ V RwCall RwPoint (Answer V) → ℕ → List (ℕ × Move RwCall V) → List (List (ℕ × Move RwCall V)) → Type 0
 UpgradesInThree m n past rounds =
     let s = after m (at_first m n) past in
     (p : ℕ) (c : RwCall) (l : RwPoint) (h : Option Hold) → slice_get s.seats p ≡ Some (Calling c l h) → is_holder p asking (seen_after m (opening m n) past).plain.holders ≡ true
     → AreRounds m s rounds → 3 ≤ length rounds → occurs m (λ q move o x. grants m p q move o x || refuses_weakly p q move o x) s (joined rounds) ≡ true
 
--- An upgrade that has asked is never starved: in an endless fair schedule it is granted, or its exchange is refused without cause
+-- An upgrade that has asked never starves: in an endless fair schedule it is granted, or its exchange fails spuriously
 abbrev pub UpgradesAtLast : {V : Type 0} → Machine ℕ V RwCall RwPoint (Answer V) → ℕ → List (ℕ × Move RwCall V) → (ℕ → ℕ × Move RwCall V) → Type 0
 UpgradesAtLast m n past schedule =
     let s = after m (at_first m n) past in
     (p : ℕ) (c : RwCall) (l : RwPoint) (h : Option Hold) → slice_get s.seats p ≡ Some (Calling c l h) → is_holder p asking (seen_after m (opening m n) past).plain.holders ≡ true
     → IsFair m s schedule → (place : ℕ) × (occurs m (λ q move o x. grants m p q move o x || refuses_weakly p q move o x) s (stretch schedule 0 place) ≡ true)
 
--- some exchange is refused without cause
+-- some exchange fails spuriously
 abbrev pub refuses_any : {V C L A : Type 0} → Test V C L A
 refuses_any q Weak o x = is_step o
 refuses_any q _ o x = false
 
--- the kind of the holder that does more than read, if one does
+-- the kind of the holder that is no plain reader, if there is one
 abbrev pub leading : List Holder → Kind
 leading [] = reading
 leading (h ∷ hs) = if same_kind reading h.kind then leading hs else h.kind
 
--- how many rounds pass at most beside it, by whether somebody reads beside it
+-- in how many rounds somebody is granted while that holder holds, by whether others read too
 abbrev pub rounds_by : Kind → Bool → ℕ
 rounds_by reading reads = if reads then 4 else 2
 rounds_by upgradable reads = if reads then 6 else 5
@@ -50,7 +50,8 @@ rounds_by writing reads = 6
 abbrev pub rounds_beside : List Holder → ℕ
 rounds_beside hs = rounds_by (leading hs) (list_any (λ h. same_kind reading h.kind) hs)
 
--- While a party waits that holds nothing, some party is granted in so many rounds, by who holds, or some exchange is refused without cause
+-- While a party waits that holds nothing, some party is granted in so many rounds, by who holds, or some exchange fails
+-- spuriously
 abbrev pub GrantsSomebody : {V : Type 0} → Machine ℕ V RwCall RwPoint (Answer V) → ℕ → List (ℕ × Move RwCall V) → List (List (ℕ × Move RwCall V)) → Type 0
 GrantsSomebody m n past rounds =
     let s = after m (at_first m n) past in
@@ -58,7 +59,7 @@ GrantsSomebody m n past rounds =
     → AreRounds m s rounds → rounds_beside (seen_after m (opening m n) past).plain.holders ≤ length rounds
     → occurs m (λ q move o x. grants_any m q move o x || refuses_any q move o x) s (joined rounds) ≡ true
 
--- Deadlock freedom: in an endless fair schedule some party is granted, or some exchange is refused without cause
+-- Deadlock freedom: in an endless fair schedule some party is granted, or some exchange fails spuriously
 abbrev pub RwIsDeadlockFree : {V : Type 0} → Machine ℕ V RwCall RwPoint (Answer V) → ℕ → List (ℕ × Move RwCall V) → (ℕ → ℕ × Move RwCall V) → Type 0
 RwIsDeadlockFree m n past schedule =
     let s = after m (at_first m n) past in

@@ -1,4 +1,4 @@
--- Progress of a lock of seats: how many rounds pass at most until somebody is granted a seat.
+-- Progress of a lock of seats: in how many rounds somebody is granted a seat.
 use Rattle.std.specs.Prelude.{◌≡◌, ℕ, ◌≤◌, true, Option, Some, List, length, slice_get}
 use Rattle.spin_step.specs.Plain.{to_read}
 use Rattle.spin_model.specs.Schedules.{after, at_first}
@@ -11,7 +11,7 @@ use Rattle.spin_seats.specs.declared.calls.SeatsPoint.{SeatsPoint}
 use Rattle.spin_seats.specs.Table.{SeatsMachine}
 use Rattle.spin_world_progress.specs.Rounds.{occurs, AreRounds, grants_any, stretch, IsFair}
 
--- While a party waits in an `enter`, in each four rounds some party is granted a seat
+-- While a party waits in an `enter`, in every four rounds some party is granted a seat
 abbrev pub SeatsSomebodyInFour : SeatsMachine → ℕ → List (ℕ × Move SeatsCall (Unit {0})) → List (List (ℕ × Move SeatsCall (Unit {0}))) → Type 0
 SeatsSomebodyInFour m n past rounds =
     let s = after m (at_first m n) past in

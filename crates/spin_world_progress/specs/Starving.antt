@@ -1,4 +1,4 @@
--- Starvation: a call that is never answered, though the schedule is fair.
+-- Starvation: a call that is never answered, although the schedule is fair.
 use Rattle.std.specs.Prelude.{◌≡◌, ℕ, ◌==◌, false, Option, Some, List, slice_get}
 use Rattle.spin_model.specs.Calls.{Asked}
 use Rattle.spin_model.specs.Machines.{Machine}
@@ -10,25 +10,27 @@ use Rattle.spin_model.specs.declared.schedule.Move.TheVariants.{Weak}
 use Rattle.spin_world_progress.specs.Rounds.{grants_any, Test, occurs, is_step, stretch, IsFair}
 use Rattle.spin_model.specs.declared.schedule.Outcome.TheVariants as outcome
 
--- the party's call is answered, or some exchange is refused without cause
+-- the party's call is answered, or some exchange fails spuriously
 abbrev pub ends_or_weak : {V C L A : Type 0} → ℕ → Test V C L A
 ends_or_weak p q Weak o x = is_step o
 ends_or_weak p q move (outcome.Answered a b) x = q == p
 ends_or_weak p q move _ x = false
 
--- A call that asks this may starve: of n parties, after some schedule, one is in such a call, and some endless fair schedule from there on never answers it, and refuses no exchange without cause
+-- A call that asks this may starve. After some schedule of n parties, a party is in such a call. From there some
+-- endless fair schedule never answers it, and in that schedule no exchange fails spuriously.
 abbrev pub MayStarve : {W V C L A : Type 0} → Machine W V C L A → ℕ → Asked → Type 0
 MayStarve {V = V} {C = C} {L = L} m n what =
     (past : List (ℕ × Move C V)) × (schedule : ℕ → ℕ × Move C V) × (p : ℕ) × (c : C) × (l : L) × (h : Option Hold)
     × (let s = after m (at_first m n) past in
     (slice_get s.seats p ≡ Some (Calling c l h)) × (m.asks c h ≡ what) × IsFair m s schedule × ((place : ℕ) → occurs m (ends_or_weak p) s (stretch schedule 0 place) ≡ false))
 
--- some party is granted what it asks, or some exchange is refused without cause
+-- some party is granted what it asks, or some exchange fails spuriously
 abbrev pub grants_or_weak : {W V C L A : Type 0} → Machine W V C L A → Test V C L A
 grants_or_weak m q Weak o x = is_step o
 grants_or_weak m q move o x = grants_any m q move o x
 
--- Calls that ask this are not free of deadlock: of n parties, after some schedule, one is in such a call, and some endless fair schedule from there on grants nobody, and refuses no exchange without cause
+-- Calls that ask this are not free of deadlock. After some schedule of n parties, a party is in such a call. From there
+-- some endless fair schedule grants nobody anything, and in that schedule no exchange fails spuriously.
 abbrev pub MayDeadlock : {W V C L A : Type 0} → Machine W V C L A → ℕ → Asked → Type 0
 MayDeadlock {V = V} {C = C} {L = L} m n what =
     (past : List (ℕ × Move C V)) × (schedule : ℕ → ℕ × Move C V) × (p : ℕ) × (c : C) × (l : L) × (h : Option Hold)

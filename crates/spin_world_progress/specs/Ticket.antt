@@ -1,4 +1,4 @@
--- Progress of a ticket lock: how many rounds a call of `lock` waits at most.
+-- Progress of a ticket lock: in how many rounds a `lock` is granted.
 use Rattle.std.specs.Prelude.{◌≡◌, ℕ, ◌+◌, ◌-◌, ◌*◌, ◌<◌, ◌≤◌, true, false, Option, Some, None, List, length, slice_get, max}
 use Rattle.spin_step.specs.Plain.{ticket_limit, to_enter}
 use Rattle.spin_model.specs.Machines.{Machine}
@@ -21,14 +21,16 @@ use Rattle.spin_world.specs.Turns.{waits_with}
 abbrev pub TicketMachine : Type 0 → Type 0
 TicketMachine V = Machine TicketWords V TicketCall TicketPoint (Answer V)
 
--- A party that waits with the ticket t, where s is served, is granted the lock in three rounds for each of the t - s tickets before its own, and one more
+-- While s is served, a party waits with ticket t. It is granted the lock in three rounds for each of the t - s tickets
+-- before its own, and one more.
 abbrev pub EntersInRounds : {V : Type 0} → TicketMachine V → ℕ → List (ℕ × Move TicketCall V) → List (List (ℕ × Move TicketCall V)) → Type 0
 EntersInRounds m n past rounds =
     let s = after m (at_first m n) past in
     (p t : ℕ) (c : TicketCall) (l : TicketPoint) (h : Option Hold) → slice_get s.seats p ≡ Some (Calling c l h) → entries p (seen_after m (opening m n) past).plain ≡ waits_with p t
     → AreRounds m s rounds → 3 * (t - s.words.serving) + 1 ≤ length rounds → occurs m (grants m p) s (joined rounds) ≡ true
 
--- A party in a `lock`, one of n, is granted it in 3 n - 2 rounds, or 2 where it is alone, and one more for each ticket that is taken in them, its own too, where a number is left at their end
+-- One of n parties is in a `lock`. It is granted the lock in 3 n - 2 rounds, or 2 if it is alone, and one more for each
+-- ticket taken in them. Its own ticket counts too. Some number has to be left at the end.
 abbrev pub LocksInRounds : {V : Type 0} → TicketMachine V → ℕ → List (ℕ × Move TicketCall V) → List (List (ℕ × Move TicketCall V)) → Type 0
 LocksInRounds m n past rounds =
     let s = after m (at_first m n) past in
@@ -36,14 +38,15 @@ LocksInRounds m n past rounds =
     (p : ℕ) (c : TicketCall) (l : TicketPoint) (h : Option Hold) → slice_get s.seats p ≡ Some (Calling c l h) → (m.asks c h).waits ≡ true
     → AreRounds m s rounds → end.words.next < ticket_limit → max 2 (3 * n - 2) + (end.words.next - s.words.next) ≤ length rounds → occurs m (grants m p) s (joined rounds) ≡ true
 
--- Starvation freedom behind the doorway: in an endless fair schedule a party that waits with its ticket is granted the lock
+-- Starvation freedom with a ticket: in an endless fair schedule a party that waits with its ticket is granted the lock
 abbrev pub IsNeverStarved : {V : Type 0} → TicketMachine V → ℕ → List (ℕ × Move TicketCall V) → (ℕ → ℕ × Move TicketCall V) → Type 0
 IsNeverStarved m n past schedule =
     let s = after m (at_first m n) past in
     (p t : ℕ) (c : TicketCall) (l : TicketPoint) (h : Option Hold) → slice_get s.seats p ≡ Some (Calling c l h) → entries p (seen_after m (opening m n) past).plain ≡ waits_with p t
     → IsFair m s schedule → (place : ℕ) × (occurs m (grants m p) s (stretch schedule 0 place) ≡ true)
 
--- Where others take tickets without end, no number of rounds is enough: of two parties, whatever number of rounds, one is in a `lock` through all of them
+-- If others take tickets without end, no number of rounds is enough. With two parties, for any number of rounds, one is
+-- in a `lock` through all of them.
 abbrev pub MayBePassedOver : {V : Type 0} → TicketMachine V → ℕ → Type 0
 MayBePassedOver {V} m first =
     (r : ℕ) → first + r < ticket_limit → (past : List (ℕ × Move TicketCall V)) × (rounds : List (List (ℕ × Move TicketCall V)))

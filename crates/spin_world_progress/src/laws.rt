@@ -1,8 +1,8 @@
-//! Laws of progress. Each is the contract of a function that does nothing: a caller calls it for what it states.
+//! Laws of progress. Each is the contract of a function that does nothing. A caller calls it to learn what it states.
 //!
-//! A *round* is a stretch of the schedule (`IsRound`): each party that is in a call at its start takes a step of it, each
-//! party that holds the lock begins to release it, and no party has leaked it. A schedule is *fair* (`IsFair`) if each
-//! party does so some time later, from each of its places on. Neither asks more of the party that waits than that it is
+//! A *round* is a stretch of the schedule (`IsRound`). In it each party that is in a call at its start makes a step of
+//! that call. Each party that holds the lock begins to release it, and no party has leaked it. A schedule is *fair*
+//! (`IsFair`) if, from each of its places on, each party does so some time later. The party that waits only needs to be
 //! scheduled.
 ghost use Rattle.std.specs.Prelude.{◌≡◌, ◌≤◌, ℕ, List, None};
 ghost use Rattle.spin_step.specs.Plain.{to_write, to_read, to_read_upgradable, to_lock_starving};
@@ -35,22 +35,23 @@ use spin_world::{BarrierObject, Fair, Flag, OnceObject, Rw, Ticket};
 use spin_world_core::Object;
 use spin_world_seats::Seats;
 
-/// States of any object that a call is obstruction-free where what it asks is open. In as many rounds as its kind of
-/// lock says, at most four, it is answered, or another party changes a word, or its exchange is refused without cause.
+/// States that a call of any object is obstruction-free while what it asks is open. In as many rounds as its kind of
+/// lock says, at most four, one of three things happens: the call is answered, another party changes a word, or the
+/// call's own exchange fails spuriously.
 pub fn an_open_call_is_answered_or_disturbed<O: Object>()
     ensures { (object : O) (n : ℕ) (past : List (ℕ × Move O.Call O.Value)) (rounds : List (List (ℕ × Move O.Call O.Value))) → AnsweredOrDisturbed (O.machine object) n past rounds }
 {
     O::laws();
 }
 
-/// States that while a party waits in a `lock` of a flag, some party is granted the lock in each four rounds, if the
-/// waiting party's own exchange is not refused without cause. It may be another party that is granted, each time.
+/// States that while a party waits in a `lock` of a flag, some party is granted the lock in every four rounds. Each
+/// time it may be another party. Instead of a grant, the waiting party's own exchange may fail spuriously.
 pub fn somebody_is_granted_in_four_rounds<V: Copy>()
     ensures { (object : Flag V) (n : ℕ) (past : List (ℕ × Move FlagCall V)) (rounds : List (List (ℕ × Move FlagCall V))) → LocksInFour (⟦<Flag<V> as Object>⟧.machine object) n past rounds }
 {}
 
-/// States that a flag is free of deadlock: in each endless fair schedule, while a party waits in a `lock`, some party
-/// is granted the lock some time later. It is so unless the waiting party's own exchange is refused without cause.
+/// States that a flag is free of deadlock. In each endless fair schedule, while a party waits in a `lock`, some party
+/// is granted the lock some time later. Instead of a grant, the waiting party's own exchange may fail spuriously.
 pub fn a_flag_is_free_of_deadlock<V: Copy>()
     ensures { (object : Flag V) (n : ℕ) (past : List (ℕ × Move FlagCall V)) (schedule : ℕ → ℕ × Move FlagCall V) → IsDeadlockFree (⟦<Flag<V> as Object>⟧.machine object) n past schedule }
 {}
@@ -61,35 +62,35 @@ pub fn a_lock_of_a_flag_may_starve<V: Copy>()
     ensures { (object : Flag V) → MayStarve (⟦<Flag<V> as Object>⟧.machine object) 2 waits_to_write }
 {}
 
-/// States that a party with a ticket is granted the lock in three rounds for each ticket before its own, and one more,
-/// whoever takes a ticket later.
+/// States that a party with a ticket is granted the lock in three rounds for each ticket before its own, and one more.
+/// It does not matter who takes a ticket later.
 pub fn a_ticket_is_granted_in_rounds<V: Copy>()
     ensures { (object : Ticket V) (n : ℕ) (past : List (ℕ × Move TicketCall V)) (rounds : List (List (ℕ × Move TicketCall V))) → EntersInRounds (⟦<Ticket<V> as Object>⟧.machine object) n past rounds }
 {}
 
-/// States that a party with a ticket is never starved: in each endless fair schedule it is granted the lock.
+/// States that a party with a ticket never starves: in each endless fair schedule it is granted the lock.
 pub fn a_ticket_is_never_starved<V: Copy>()
     ensures { (object : Ticket V) (n : ℕ) (past : List (ℕ × Move TicketCall V)) (schedule : ℕ → ℕ × Move TicketCall V) → IsNeverStarved (⟦<Ticket<V> as Object>⟧.machine object) n past schedule }
 {}
 
-/// States that a `lock` of one of `n` parties is granted in 3 n - 2 rounds, or 2 where it is alone, and one more for
-/// each ticket that is taken meanwhile, its own included. A number has to be left at their end.
+/// States how soon a `lock` of one of `n` parties is granted: in 3 n - 2 rounds, or 2 if it is alone, and one more for
+/// each ticket taken meanwhile, its own included. Some number has to be left at the end.
 ///
-/// Another party's ticket may cost it an exchange, as long as it has none.
+/// As long as the party has no ticket, each ticket that another party takes may cost it an exchange.
 pub fn a_lock_is_granted_in_rounds<V: Copy>()
     ensures { (object : Ticket V) (n : ℕ) (past : List (ℕ × Move TicketCall V)) (rounds : List (List (ℕ × Move TicketCall V))) → LocksInRounds (⟦<Ticket<V> as Object>⟧.machine object) n past rounds }
 {}
 
-/// States that a `lock` without a ticket may be passed over in any number of rounds, as long as numbers are left: its
-/// doorway is lock-free, and not wait-free.
+/// States that a `lock` without a ticket may be passed over in any number of rounds, as long as numbers are left.
+/// Taking a ticket is lock-free, but not wait-free.
 ///
 /// So the rounds of [`a_lock_is_granted_in_rounds`] have to count the tickets that others take meanwhile.
 pub fn a_lock_may_be_passed_over<V: Copy>()
     ensures { (object : Ticket V) → MayBePassedOver (⟦<Ticket<V> as Object>⟧.machine object) object.first }
 {}
 
-/// States that while a starver waits for a fair lock, some party is granted the lock in each five rounds. It may be
-/// another starver, each time; that it is no newcomer is a law of `spin_world`.
+/// States that while a starver waits for a fair lock, some party is granted the lock in every five rounds. Each time it
+/// may be another starver. That it is no newcomer is a law of `spin_world`.
 pub fn somebody_is_granted_beside_a_starver_in_five_rounds<V: Copy>()
     ensures { (object : Fair V) (n : ℕ) (past : List (ℕ × Move FairCall V)) (rounds : List (List (ℕ × Move FairCall V))) → LocksInFive (⟦<Fair<V> as Object>⟧.machine object) n past rounds }
 {}
@@ -100,14 +101,14 @@ pub fn starvers_are_free_of_deadlock<V: Copy>()
     ensures { (object : Fair V) (n : ℕ) (past : List (ℕ × Move FairCall V)) (schedule : ℕ → ℕ × Move FairCall V) → StarversAreDeadlockFree (⟦<Fair<V> as Object>⟧.machine object) n past schedule }
 {}
 
-/// States that a starver that keeps its place, and does nothing, keeps newcomers out: in some endless fair schedule a
+/// States that a starver that stays registered and does nothing keeps newcomers out: in some endless fair schedule a
 /// `lock` is never answered.
 pub fn a_newcomer_may_starve_beside_an_idle_starver<V: Copy>()
     ensures { (object : Fair V) → 1 ≤ object.cap → MayStarve (⟦<Fair<V> as Object>⟧.machine object) 2 (waits_or_starves object.patience) }
 {}
 
-/// States that newcomers are not free of deadlock beside such a starver: in some endless fair schedule one waits in a
-/// `lock`, and nobody is granted.
+/// States that newcomers are not free of deadlock while such a starver is registered: in some endless fair schedule one
+/// waits in a `lock`, and nobody is granted.
 pub fn newcomers_may_deadlock_beside_an_idle_starver<V: Copy>()
     ensures { (object : Fair V) → 1 ≤ object.cap → MayDeadlock (⟦<Fair<V> as Object>⟧.machine object) 2 (waits_or_starves object.patience) }
 {}
@@ -118,43 +119,43 @@ pub fn a_starver_may_starve<V: Copy>()
     ensures { (object : Fair V) → 2 ≤ object.cap → MayStarve (⟦<Fair<V> as Object>⟧.machine object) 2 waits_starving }
 {}
 
-/// States that an upgrade that has asked is granted in three rounds, however many readers stand beside it, or its
-/// exchange is refused without cause in them.
+/// States that an upgrade that has asked is granted in three rounds, however many readers hold with it, or its exchange
+/// fails spuriously.
 pub fn an_upgrade_is_granted_in_three_rounds<V: Copy>()
     ensures { (object : Rw V) (n : ℕ) (past : List (ℕ × Move RwCall V)) (rounds : List (List (ℕ × Move RwCall V))) → UpgradesInThree (⟦<Rw<V> as Object>⟧.machine object) n past rounds }
 {}
 
-/// States that an upgrade that has asked is never starved: in each endless fair schedule it is granted some time
-/// later, or its exchange is refused without cause.
+/// States that an upgrade that has asked never starves. In each endless fair schedule it is granted some time later, or
+/// its exchange fails spuriously.
 pub fn an_upgrade_is_never_starved<V: Copy>()
     ensures { (object : Rw V) (n : ℕ) (past : List (ℕ × Move RwCall V)) (schedule : ℕ → ℕ × Move RwCall V) → UpgradesAtLast (⟦<Rw<V> as Object>⟧.machine object) n past schedule }
 {}
 
-/// States that while a party waits that holds nothing, some party is granted in so many rounds, at most six, by who
-/// holds (`rounds_beside`), or some exchange is refused without cause. There has to be room for a reader.
+/// States that while a party waits that holds nothing, some party is granted in so many rounds, at most six, or some
+/// exchange fails spuriously. The number depends on who holds (`rounds_beside`). There has to be room for a reader.
 ///
-/// How many readers there are does not matter, since they leave side by side.
+/// The number of readers does not matter, since they leave in the same round.
 pub fn somebody_is_granted_in_the_rounds_of_the_holders<V: Copy>()
     ensures { (object : Rw V) (n : ℕ) (past : List (ℕ × Move RwCall V)) (rounds : List (List (ℕ × Move RwCall V))) → 1 ≤ object.cap → GrantsSomebody (⟦<Rw<V> as Object>⟧.machine object) n past rounds }
 {}
 
-/// States that a read-write lock is free of deadlock: in each endless fair schedule, while a party waits that holds
-/// nothing, some party is granted some time later, or some exchange is refused without cause.
+/// States that a read-write lock is free of deadlock. In each endless fair schedule, while a party waits that holds
+/// nothing, some party is granted some time later, or some exchange fails spuriously.
 pub fn a_read_write_lock_is_free_of_deadlock<V: Copy>()
     ensures { (object : Rw V) (n : ℕ) (past : List (ℕ × Move RwCall V)) (schedule : ℕ → ℕ × Move RwCall V) → 1 ≤ object.cap → RwIsDeadlockFree (⟦<Rw<V> as Object>⟧.machine object) n past schedule }
 {}
 
-/// States that a reader may starve beside writers: in some endless fair schedule a `read` is never answered.
+/// States that writers may starve a reader: in some endless fair schedule a `read` is never answered.
 pub fn a_reader_may_starve<V: Copy>()
     ensures { (object : Rw V) → MayStarve (⟦<Rw<V> as Object>⟧.machine object) 2 (waits to_read) }
 {}
 
-/// States that an `upgradeable_read` may starve beside writers, as a `read` may.
+/// States that writers may starve an `upgradeable_read`, like a `read`.
 pub fn an_upgradable_reader_may_starve<V: Copy>()
     ensures { (object : Rw V) → MayStarve (⟦<Rw<V> as Object>⟧.machine object) 2 (waits to_read_upgradable) }
 {}
 
-/// States that a writer may starve beside readers: in some endless fair schedule a `write` is never answered.
+/// States that readers may starve a writer: in some endless fair schedule a `write` is never answered.
 pub fn a_writer_may_starve<V: Copy>()
     ensures { (object : Rw V) → 1 ≤ object.cap → MayStarve (⟦<Rw<V> as Object>⟧.machine object) 2 spins_to_write }
 {}
@@ -171,22 +172,22 @@ pub fn a_call_with_a_closure_is_never_starved<V: Copy>()
     ensures { (object : OnceObject V) (n : ℕ) (past : List (ℕ × Move (OnceCall V) V)) (schedule : ℕ → ℕ × Move (OnceCall V) V) → AnswersAtLast (⟦<OnceObject<V> as Object>⟧.machine object) n past schedule }
 {}
 
-/// States that where there is a value, each call is answered in one round.
+/// States that if there is a value, each call is answered in one round.
 pub fn a_call_is_answered_in_one_round_where_there_is_a_value<V: Copy>()
     ensures { (object : OnceObject V) (n : ℕ) (past : List (ℕ × Move (OnceCall V) V)) (rounds : List (List (ℕ × Move (OnceCall V) V))) → AnswersInOne (⟦<OnceObject<V> as Object>⟧.machine object) n past rounds }
 {}
 
-/// States that while the word says that a closure runs, some party runs it. By its next step it ends.
+/// States that while the word says that a closure runs, some party runs it. The party's next step ends it.
 pub fn a_running_closure_has_its_party<V: Copy>()
     ensures { (object : OnceObject V) (n : ℕ) (past : Entries V) → SomebodyRuns (⟦<OnceObject<V> as Object>⟧.machine object) n past }
 {}
 
-/// States that a call with a closure may starve where the closures of others fail again and again.
+/// States that a call with a closure may starve while closures of others fail again and again.
 pub fn a_call_with_a_closure_may_starve<V: Copy>()
     ensures { (object : OnceObject V) → V → object.value ≡ None → MayStarve (⟦<OnceObject<V> as Object>⟧.machine object) 2 initializes }
 {}
 
-/// States that a `poll` may starve where closures fail again and again.
+/// States that a `poll` may starve while closures fail again and again.
 pub fn a_poll_may_starve<V: Copy>()
     ensures { (object : OnceObject V) → object.value ≡ None → MayStarve (⟦<OnceObject<V> as Object>⟧.machine object) 2 polls }
 {}
@@ -196,13 +197,13 @@ pub fn a_wait_may_starve<V: Copy>()
     ensures { (object : OnceObject V) → object.value ≡ None → MayStarve (⟦<OnceObject<V> as Object>⟧.machine object) 1 waits_for_value }
 {}
 
-/// States that a party may wait at a barrier without end, since the others of its group may never come. That it
-/// leaves a full group is a law of `spin_world`.
+/// States that a party may wait at a barrier for ever, since the others of its group may never arrive. That it leaves a
+/// full group is a law of `spin_world`.
 pub fn a_group_may_never_fill()
     ensures { (object : BarrierObject) → 2 ≤ object.n → MayStarve (⟦<BarrierObject as Object>⟧.machine object) 1 meets }
 {}
 
-/// States that while a party waits in an `enter`, some party is granted a seat in each four rounds. There has to be a
+/// States that while a party waits in an `enter`, some party is granted a seat in every four rounds. There has to be a
 /// seat.
 pub fn somebody_is_granted_a_seat_in_four_rounds()
     ensures { (object : Seats) (n : ℕ) (past : List (ℕ × Move SeatsCall (Unit {0}))) (rounds : List (List (ℕ × Move SeatsCall (Unit {0})))) → 1 ≤ object.seats → SeatsSomebodyInFour (⟦<Seats as Object>⟧.machine object) n past rounds }

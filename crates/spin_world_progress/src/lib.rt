@@ -1,4 +1,4 @@
-//! Progress of the locks of the world: how many rounds of a schedule a call waits at most, and which calls may starve.
+//! Progress of the locks of the world: in how many rounds of a schedule a call is answered, and which calls may starve.
 //!
 //! Begin with [`a_ticket_is_granted_in_rounds`].
 #![tactic(auto)]

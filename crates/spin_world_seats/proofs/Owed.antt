@@ -1,4 +1,4 @@
--- What the table of the seats owes.
+-- What the table of the seats must show.
 use Rattle.std.proofs.Common.{◌≡◌, ℕ, ◌-◌, ◌≤◌, true, Option, Some, None, List, [], ◌∷◌, length, nat_lt, refl, ap, arith, length-append}
 use Rattle.spin_step.specs.Plain.{Plain, reading, holder, to_read, gets, releases, apply, may_come, is_holder}
 use Rattle.spin_step.specs.Parties.{Entries, entries}
@@ -23,13 +23,13 @@ use Rattle.spin_world_core.proofs.Operating.{one_place, operates_by}
 use Rattle.spin_world_core.proofs.Usual.{no_queue}
 use Rattle.spin_world_core.proofs.Paid.{facts_of}
 
--- a call that looked has made one step; each other point is as its call's beginning
+-- a call that has looked has made one step; at any other point it is as at its beginning
 abbrev pub point_of : ℕ → SeatsCall → SeatsPoint → Option Hold → Point
 point_of n TryEnter (Exchange k) None = looked 1
 point_of n Enter (Exchange k) None = looked 1
 point_of n c l h = starts (begin_of (seats_table n) c h)
 
--- the shape of the lock: nobody queues, all who hold read, and there is a seat for each
+-- the shape of the lock: nobody queues, all holders read, and each has a seat
 pub record Seating (n : ℕ) (s : Plain) : Type 0 where
   pub no_queue : s.tickets ≡ []
   pub room : s.cap ≡ seats n
@@ -64,7 +64,7 @@ module _ (n : ℕ) where
   owes : (p : ℕ) (c : SeatsCall) (l : SeatsPoint) (h : Option Hold) (s : Plain) (w : ℕ) (span : List Mark) → OwesAt (seats_table n) (seats_notes n) p c l h s w span
   owes p c l h s w span = grind (arith, enter_means p s w, leave_means p s w, sits p s, each_reads s.holders)
 
-  -- Run alone: the word with a free seat is exchanged, at once or after a look
+  -- Undisturbed, the exchange succeeds on a word with a free seat, at once or after a look
 
   soon : (p : ℕ) (c : SeatsCall) (l : SeatsPoint) (h : Option Hold) (s : Plain) (w : ℕ) (span : List Mark)
       → OwesSoon (seats_table n) (seats_notes n) p c l h s w span

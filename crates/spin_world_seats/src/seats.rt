@@ -8,7 +8,7 @@ use spin_seats::calls::{SeatsCall, SeatsPoint};
 use spin_seats::steps;
 use spin_world_core::{Answer, Hold, Next, Object, Stepped};
 
-/// The lock of a number of seats. Its value is `()`.
+/// The lock with a number of seats. Its value is `()`.
 ///
 /// # Examples
 /// ```
@@ -31,11 +31,11 @@ pub struct Seats {
 }
 
 impl Seats {
-    /// Creates a lock of `seats` free seats, at most `spin_seats::steps::MAX_SEATS`.
+    /// Creates a lock with `seats` free seats, but at most `spin_seats::steps::MAX_SEATS`.
     ///
     /// # Contract
-    /// The object has this number of seats. Its machine is that of a lock with as many, up to the limit (`IsSeats`).
-    /// All seats are free at first, and each call asks what [`SeatsCall`] says.
+    /// The object has this number of seats. Its machine is that of a lock with as many, up to the limit (`IsSeats`). At
+    /// first all seats are free, and each call asks what [`SeatsCall`] says.
     pub fn new(seats: usize) -> Seats
         ensures fields { result ≡ record { seats = seats } }
         ensures named { IsSeats seats (⟦<Seats as Object>⟧.machine result) }
@@ -44,7 +44,7 @@ impl Seats {
     }
 }
 
-/// Makes a step of a call that takes a seat. `to` is the word with the seat taken, if one is free.
+/// Makes a step of a call that takes a seat. `to` is the word after it has taken one, if one is free.
 fn come(
     point: SeatsPoint,
     words: usize,

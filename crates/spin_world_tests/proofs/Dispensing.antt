@@ -1,4 +1,4 @@
--- What the table of the dispenser owes, and how it draws.
+-- What the table of the dispenser must show, and how it draws.
 use Rattle.std.proofs.Common.{◌≡◌, ℕ, Option, None, List, [], ◌∷◌, length, nat_lt, refl, arith, length-append}
 use Rattle.spin_step.specs.Plain.{Plain, reading, holder, to_read, gets, apply, flag_word, may_come, count_kind}
 use Rattle.spin_step.proofs.Sums.{one_of, sum-more}
@@ -19,7 +19,7 @@ use Rattle.spin_world_core.proofs.Usual.{no_queue}
 use Rattle.spin_world_core.proofs.Paid.{facts_of}
 use Rattle.spin_world_core.proofs.Lists.{eqb_self}
 
--- a call that looked has made one step; each other point is as its call's beginning
+-- a call that has looked has made one step; at any other point it is as at its beginning
 abbrev pub point_of : ℕ → DispenserCall → DispenserPoint → Option Hold → Point
 point_of cap call.Draw (Exchange k) None = looked 1
 point_of cap c l h = starts (begin_of (dispenser_table cap) c h)
@@ -42,7 +42,7 @@ module _ (cap : ℕ) where
   one_more : (s : Plain) (p : ℕ) → Drawing cap s → Drawing cap (apply s (gets p to_read))
   one_more s p shape = grind (arith, shape, sum-more (one_of reading) s.holders p reading, length-append s.holders (holder p reading ∷ []))
 
-  -- a number is left exactly where the word is below the cap
+  -- a number is left exactly if the word is below the cap
   open_is : (s : Plain) (w : ℕ) → Drawing cap s → flag_word s ≡ w → may_come reading s ≡ nat_lt w cap
   open_is s w shape is = grind (arith, nobody_against s.holders shape.all_read, shape.room)
 

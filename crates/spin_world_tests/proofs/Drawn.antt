@@ -1,4 +1,4 @@
--- What each event draws: the number that the word is, or none.
+-- What each event draws: the number in the word, or no number.
 use Rattle.std.proofs.Common.{◌≡◌, ℕ, zero, suc, ◌+◌, ◌==◌, Bool, true, false, Option, Some, None, List, [], ◌∷◌, ◌++◌, is_some, if◌then◌else◌, nat_lt, slice_get, refl, ap, sym, ◌∙◌, arith}
 use Rattle.std.proofs.lemmas.Bool.{eqb-true}
 use Rattle.std.specs.List.{range_with_len}
@@ -38,11 +38,11 @@ joined a b c early late (i, first, to) (j, second, end) =
     ranges a (suc i) j b zero from sum = absurd (omega (arith, sum))
     ranges a (suc i) j b (suc n) from sum = ap (λ ns. a ∷ ns) (ranges (a + 1) i j b n (omega (arith, from)) (omega (arith, sum)))
 
--- what an event comes to draws so
+-- the event draws these numbers
 abbrev DrawsIn : Dispensed → Happened ℕ (Unit {0}) DispenserCall DispenserPoint DispenserAnswer → Type 0
 DrawsIn s h = Draws s.words (number_in h.outcome) h.next.words
 
--- either way
+-- in both cases
 by_test : (P : Bool → Type 0) (b : Bool) → P true → P false → P b
 by_test P true x y = x
 by_test P false x y = y

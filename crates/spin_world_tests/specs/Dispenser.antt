@@ -1,5 +1,6 @@
 -- A dispenser of numbers: its kind of lock, its calls step by step, what it is by name, and how it draws.
--- A party that has drawn is a holder that reads, and stays one. So the word is how many have drawn, and the plain lock's cap is how many numbers there are.
+-- A party that has drawn holds as a reader for ever. So the word is how many have drawn, and the plain lock's cap is
+-- how many numbers there are.
 use Rattle.std.specs.Prelude.{◌≡◌, ℕ, ◌+◌, ◌==◌, ◌&&◌, not, length, Bool, true, false, Option, Some, None, List, [], ◌∷◌, ◌++◌, nat_lt, if◌then◌else◌}
 use Rattle.std.specs.List.{list_any, range_with_len}
 use Rattle.spin_step.specs.Plain.{to_read, Change, gets, is_open_to, fresh, flag_word}
@@ -23,7 +24,7 @@ use Rattle.spin_model.specs.Machines.{Machine, opening_plain}
 use Rattle.spin_model.specs.Acts.{one_number, Act, load, load_for, attempt, retry, Table, machine_of}
 use Rattle.spin_model.specs.Schedules.{at_first, after, events_of}
 
--- The kind of lock: nobody gives a number back
+-- The kind of lock: nobody returns a number
 
 abbrev pub dispenser_plain_steps : Change → Bool
 dispenser_plain_steps (gets p to_read) = true
@@ -52,7 +53,7 @@ dispenser = usual flag_word [] dispenser_plain_steps dispenser_calls
 abbrev pub Continues : Type 0
 Continues = Next DispenserPoint DispenserAnswer
 
--- the next number after this one has been drawn, where there is one
+-- the word after one more number is drawn, if one is left
 abbrev pub next_after : ℕ → ℕ → Option ℕ
 next_after cap k = if nat_lt k cap then Some (k + 1) else None
 
@@ -117,7 +118,7 @@ dispenser_machine cap = machine_of (dispenser_table cap)
 pub record IsDispenser (cap : ℕ) (m : DispenserMachine) : Type 0 where
   pub lock_kind : m.lock_kind ≡ dispenser
   pub number : (w : ℕ) → m.numbers w ≡ w ∷ []
-  -- it has so many numbers, and nobody has drawn one
+  -- it has so many numbers, and none is drawn
   pub plain : opening_plain m ≡ fresh cap 0 0
   pub draw : (h : Option Hold) → m.asks call.Draw h ≡ looks_and_tries to_read
   pub draw_this : (k : ℕ) (h : Option Hold) → m.asks (call.DrawThis k) h ≡ tries_this k

@@ -1,4 +1,4 @@
--- Barriers that are wrong, each in one part of its machine, and schedules on which the laws refuse them.
+-- Wrong barriers, each wrong in one part of its machine, and schedules on which the laws refuse them.
 use Rattle.std.specs.Prelude.{ℕ, ◌==◌, ◌&&◌, Some, None, [], ◌∷◌, ◌+◌}
 use Rattle.spin_model.specs.declared.step.Next.TheVariants.{Continue, Answers}
 use Rattle.spin_model.specs.declared.step.Next.{Next}
@@ -14,11 +14,11 @@ use Rattle.spin_world.specs.BarrierTable.{BarrierMachine, arrive, leads, is_past
 use Rattle.spin_world.specs.Groups.{Entries}
 use Rattle.spin_model.specs.Asks.{waits_for_value}
 
--- how an arrival goes on, and a look of a follower, by the words that they find
+-- how a call continues after an arrival, or after a look of a follower, by the words found
 abbrev Goes : Type 0
 Goes = BarrierWords → Next BarrierPoint (Answer ℕ)
 
--- groups of two that arrive and look as they should
+-- correct groups of two
 abbrev pairs : BarrierMachine
 pairs = barrier_machine 2
 
@@ -28,55 +28,55 @@ arrived w = either (leads 2 w) (Answers Leader None) (Continue (Leave w.generati
 abbrev looked : ℕ → Goes
 looked g w = either (is_past g w.generation) (Answers Follower None) (Continue (Leave g))
 
--- groups of n that go on so
+-- groups of n whose parties continue like this
 abbrev going : ℕ → Goes → (ℕ → Goes) → BarrierMachine
 going n arrives looks =
     record (barrier_machine n) { step = λ w value c l h. elim l [ Arrive ↦ stays (arrive n w) (arrives w) | Leave g ↦ stays w (looks g w) ] }
 
--- whoever finds no other of its group leads
+-- the first arrival of a group leads
 abbrev pub first_leads : BarrierMachine
 first_leads = going 2 (λ w. either (w.count == 0) (Answers Leader None) (Continue (Leave w.generation))) looked
 
--- whoever arrives and doesn't lead goes on by its next step
+-- a follower leaves by its next step
 abbrev pub leaves_early : BarrierMachine
 leaves_early = going 2 arrived (λ g w. Answers Follower None)
 
--- whoever fills its group is told that it follows
+-- the arrival that fills a group is told that it follows
 abbrev pub nobody_leads : BarrierMachine
 nobody_leads = going 2 (λ w. either (w.count == 1) (Answers Follower None) (Continue (Leave w.generation))) looked
 
--- whoever fills its group goes on once the next one is full
+-- the arrival that fills a group waits until the next group is full
 abbrev pub leads_late : BarrierMachine
 leads_late = going 1 (λ w. Continue (Leave (arrive 1 w).generation)) (λ g w. either (is_past g w.generation) (Answers Leader None) (Continue (Leave g)))
 
--- whoever fills its group is told so by its next step
+-- the arrival that fills a group gets its answer one step later
 abbrev pub told_late : BarrierMachine
 told_late = going 1 (λ w. Continue (Leave w.generation)) (λ g w. Answers Leader None)
 
--- whoever follows goes on only where nobody has come for the next group
+-- a follower leaves only while nobody has arrived for the next group
 abbrev pub leaves_in_quiet : BarrierMachine
 leaves_in_quiet = going 2 arrived (λ g w. either (is_past g w.generation && (w.count == 0)) (Answers Follower None) (Continue (Leave g)))
 
 abbrev pub never_begins : BarrierMachine
 never_begins = record pairs { begin = λ c h. None }
 
--- it asks for a value, which no barrier gives
+-- a call asks for a value, and no barrier gives one
 abbrev pub asks_for_a_value : BarrierMachine
 asks_for_a_value = record pairs { asks = λ c h. waits_for_value }
 
--- each of its steps may fail without cause, and then its party goes on
+-- each step may fail spuriously, and then its party leaves
 abbrev pub leaves_by_chance : BarrierMachine
 leaves_by_chance = record pairs { refuse = λ c l h. Some (Answers Follower h) }
 
--- one has arrived before anybody has come
+-- one arrival is counted before anybody arrives
 abbrev pub opens_with_one : BarrierMachine
 opens_with_one = record pairs { words = record { count = 1; generation = 0 } }
 
--- it is asked for groups of two, and gathers three
+-- it is asked for groups of two, and makes groups of three
 abbrev pub gathers_three : BarrierMachine
 gathers_three = barrier_machine 3
 
--- schedules
+-- Schedules
 
 abbrev pub one_call : Entries
 one_call = (0, Begin Wait) ∷ []
@@ -99,7 +99,7 @@ one_group = (0, Begin Wait) ∷ (0, Step) ∷ (1, Begin Wait) ∷ (1, Step) ∷ 
 abbrev pub one_group_and_one : Entries
 one_group_and_one = (0, Begin Wait) ∷ (0, Step) ∷ (1, Begin Wait) ∷ (1, Step) ∷ (2, Begin Wait) ∷ (2, Step) ∷ []
 
--- whoever follows goes on only while the group after its own gathers
+-- a follower leaves only while the group after its own gathers
 abbrev pub leaves_in_the_next : BarrierMachine
 leaves_in_the_next = going 2 arrived (λ g w. either (w.generation == g + 1) (Answers Follower None) (Continue (Leave g)))
 

@@ -1,4 +1,4 @@
--- Dispensers that are wrong, each in one part of its table, and schedules on which the laws refuse them.
+-- Wrong dispensers, each wrong in one part of its table, and schedules on which the laws refuse them.
 use Rattle.std.specs.Prelude.{ℕ, ◌+◌, Bool, true, Option, Some, List, [], ◌∷◌, nat_lt, if◌then◌else◌}
 use Rattle.spin_step.specs.Plain.{to_read, gets, reading, Change, releases}
 use Rattle.spin_model.specs.declared.place.Hold.{Hold}
@@ -17,7 +17,8 @@ use Rattle.spin_world_tests.specs.Dispenser.{DispenserTable, dispenser_table, Di
 abbrev Entries : Type 0
 Entries = List (ℕ × Move DispenserCall (Unit {0}))
 
--- of the numbers below cap, where a draw finds the next one by `next`, and answers so where it has won and where it has lost
+-- A dispenser of the numbers below cap. A draw finds the next word by `next`; `won` and `lost` say how it continues
+-- after its exchange.
 abbrev draws_by : ℕ → (ℕ → Option ℕ) → (ℕ → Continues) → (ℕ → ℕ → Continues) → DispenserMachine
 draws_by cap next won lost = let t : DispenserTable = dispenser_table cap in machine_of (record t { act = λ c l h. steps c l h })
   where
@@ -26,19 +27,19 @@ draws_by cap next won lost = let t : DispenserTable = dispenser_table cap in mac
     steps call.Draw (Exchange k) h = retry k next (λ p. gets p to_read) (won k) (lost k) (sold_out h)
     steps c l h = act_of cap c l h
 
--- two parties look one after the other, and then make their exchanges
+-- two parties look one after the other, and then exchange
 abbrev pub two_draw : Entries
 two_draw = (0, Begin call.Draw) ∷ (1, Begin call.Draw) ∷ (0, Step) ∷ (1, Step) ∷ (0, Step) ∷ (1, Step) ∷ (1, Step) ∷ []
 
--- the exchange leaves the number that it found
+-- the exchange does not change the number
 abbrev pub forgets_to_store : DispenserMachine
 forgets_to_store = draws_by 2 (λ k. Some k) drawn (λ k. goes_for)
 
--- whoever finds another number answers with the one that it went for
+-- an exchange that fails still answers with the number that it expected
 abbrev pub wins_what_it_lost : DispenserMachine
 wins_what_it_lost = draws_by 2 (next_after 2) drawn (λ k found. drawn k)
 
--- after the last number comes 0
+-- after the last number it begins again at 0
 abbrev pub wraps : DispenserMachine
 wraps = draws_by 1 (λ k. Some (if nat_lt k 1 then k + 1 else 0)) drawn (λ k. goes_for)
 
@@ -56,7 +57,7 @@ draws_another =
 abbrev pub the_second : Entries
 the_second = (0, Begin (call.DrawThis 1)) ∷ (0, Step) ∷ []
 
--- its kind of lock takes numbers back
+-- its kind of lock has a call that returns a number
 abbrev with_return : Change → Bool
 with_return (releases p reading) = true
 with_return c = dispenser_plain_steps c

@@ -1,5 +1,6 @@
--- Fair locks that are wrong, each in one part of its table or machine, and schedules on which the laws refuse them.
--- Each has room for two starvers, but one where it is said, and its `lock` registers by the second look that finds the flag set.
+-- Wrong fair locks, each wrong in one part of its table or machine, and schedules on which the laws refuse them.
+-- Each admits two starvers unless it says otherwise. Its `lock` registers after the second look that finds the flag
+-- set.
 use Rattle.std.specs.Prelude.{ℕ, ◌+◌, ◌-◌, ◌*◌, ◌/◌, Option, Some, None, not, ◌&&◌, List, [], ◌∷◌, ◌++◌, ◌==◌, nat_lt}
 use Rattle.spin_step.specs.Plain.{gets, stops_starving, to_lock_unregistered, to_lock_starving, to_lock_starving_alone, to_starve, starver_weight}
 use Rattle.spin_model.specs.declared.place.Hold.{Hold}
@@ -31,14 +32,14 @@ FairMachine V = Machine ℕ V FairCall FairPoint (Answer V)
 abbrev with_steps : {V : Type 0} → V → ℕ → (FairCall → FairPoint → Option Hold → FairAct V → FairAct V) → FairMachine V
 with_steps v cap steps = machine_of (record (fair_table v cap 1) { act = λ c l h. steps c l h (act_of cap 1 c l h) })
 
--- with other steps of `lock` alone, and of a starver's `lock`
+-- only the steps of `lock` are changed; below, those of a starver's `lock`
 abbrev lock_by : {V : Type 0} → V → (FairPoint → FairAct V → FairAct V) → FairMachine V
 lock_by v steps = with_steps v 2 (λ c l h act. elim c [ Lock ↦ steps l act | _ ↦ act ])
 
 abbrev starver_lock_by : {V : Type 0} → V → (FairPoint → FairAct V → FairAct V) → FairMachine V
 starver_lock_by v steps = with_steps v 2 (λ c l h act. elim c [ StarverLock ↦ steps l act | _ ↦ act ])
 
--- a look of `lock` that has found the flag set n times: it looks on, or goes on so
+-- a look of `lock` that has found the flag set n times: it looks again, or continues with `late`
 abbrev looks_by : {V : Type 0} → ℕ → Next FairPoint (Answer V) → (ℕ → Next FairPoint (Answer V)) → FairAct V
 looks_by n late clear = load_if is_set (λ w. either (nat_lt n 1) (Continue (Look (n + 1))) late) clear
 
@@ -57,14 +58,14 @@ tries_greedily v =
 abbrev pub try_beside_a_starver : {V : Type 0} → Entries V
 try_beside_a_starver = (0, Begin Starve) ∷ (0, Step) ∷ (0, Step) ∷ (1, Begin TryLock) ∷ (1, Step) ∷ []
 
--- `starver_try_lock` never takes its starver out
+-- `starver_try_lock` leaves its party a starver
 abbrev pub stays_a_starver : {V : Type 0} → V → FairMachine V
 stays_a_starver v = with_steps v 2 (λ c l h act. elim c [ StarverTryLock ↦ elim l [ SetFlag ↦ sets_flag granted (Answers Refused h) | _ ↦ act ] | _ ↦ act ])
 
 abbrev pub try_of_a_starver : {V : Type 0} → Entries V
 try_of_a_starver = (0, Begin Starve) ∷ (0, Step) ∷ (0, Step) ∷ (0, Begin StarverTryLock) ∷ (0, Step) ∷ []
 
--- `starve` knows no cap, which is one here
+-- `starve` ignores the cap, which is one here
 abbrev starve_uncapped : {V : Type 0} → FairPoint → FairAct V → FairAct V
 starve_uncapped Load act = load (λ w. Continue (Register w))
 starve_uncapped (Register n) act =
@@ -81,20 +82,20 @@ two_starve = (0, Begin Starve) ∷ (0, Step) ∷ (0, Step) ∷ (1, Begin Starve)
 abbrev pub never_registers : {V : Type 0} → V → FairMachine V
 never_registers v = lock_by v (λ l act. elim l [ Look n ↦ load_if is_set (λ w. Continue (Look (n + 1))) (λ w. Continue (Attempt n)) | _ ↦ act ])
 
--- an exchange, and four looks
+-- one party holds; the other's `lock` makes an exchange and four looks
 abbrev pub lock_beside_a_holder : {V : Type 0} → Entries V
 lock_beside_a_holder = (0, Begin TryLock) ∷ (0, Step) ∷ (1, Begin Lock) ∷ (1, Step) ∷ (1, Step) ∷ (1, Step) ∷ (1, Step) ∷ (1, Step) ∷ []
 
--- `lock` goes back to its exchange where it has looked often enough to register
+-- `lock` returns to its exchange at the look at which it should register
 abbrev pub returns_to_its_exchange : {V : Type 0} → V → FairMachine V
 returns_to_its_exchange v = lock_by v (λ l act. elim l [ Look n ↦ looks_by n (Continue (Attempt n)) (λ w. Continue (Attempt n)) | _ ↦ act ])
 
--- the lock is released between its second look and its exchange
+-- the lock is released between the second look and the exchange
 abbrev pub lock_as_it_is_let_go : {V : Type 0} → Entries V
 lock_as_it_is_let_go =
     (0, Begin TryLock) ∷ (0, Step) ∷ (1, Begin Lock) ∷ (1, Step) ∷ (1, Step) ∷ (1, Step) ∷ (0, Begin Release) ∷ (0, Step) ∷ (1, Step) ∷ []
 
--- `lock` registers before its looks
+-- `lock` registers before it looks
 abbrev pub registers_at_once : {V : Type 0} → V → FairMachine V
 registers_at_once v = lock_by v (λ l act. elim l [ Attempt n ↦ weak_exchange 0 lock (λ p. gets p to_lock_unregistered) granted (Continue Load) | _ ↦ act ])
 
@@ -102,7 +103,7 @@ registers_at_once v = lock_by v (λ l act. elim l [ Attempt n ↦ weak_exchange 
 abbrev pub hasty_lock : {V : Type 0} → Entries V
 hasty_lock = (0, Begin TryLock) ∷ (0, Step) ∷ (1, Begin Lock) ∷ (1, Step) ∷ (1, Step) ∷ (1, Step) ∷ []
 
--- `starver_drop` frees the flag
+-- `starver_drop` clears the flag
 abbrev pub drop_frees : {V : Type 0} → V → FairMachine V
 drop_frees {V} v =
     let done : ℕ → Next FairPoint (Answer V) = λ w. Answers Done None in
@@ -111,7 +112,7 @@ drop_frees {V} v =
 abbrev pub drop_beside_a_holder : {V : Type 0} → Entries V
 drop_beside_a_holder = (0, Begin TryLock) ∷ (0, Step) ∷ (1, Begin Starve) ∷ (1, Step) ∷ (1, Step) ∷ (1, Begin StarverDrop) ∷ (1, Step) ∷ []
 
--- a refused newcomer is told the other reason
+-- a newcomer that is refused gets the other reason
 abbrev pub tells_the_other_reason : {V : Type 0} → V → FairMachine V
 tells_the_other_reason {V} v =
     let refused : ℕ → Next FairPoint (Answer V) = λ w. Answers (either (w == 1) Starved Locked) None in
@@ -120,7 +121,7 @@ tells_the_other_reason {V} v =
 abbrev pub try_beside_a_holder : {V : Type 0} → Entries V
 try_beside_a_holder = (0, Begin TryLock) ∷ (0, Step) ∷ (1, Begin TryLockStarver) ∷ (1, Step) ∷ []
 
--- a starver that waits never sets the flag
+-- a starver's `lock` never sets the flag
 abbrev pub waits_for_ever : {V : Type 0} → V → FairMachine V
 waits_for_ever v = starver_lock_by v (λ l act. elim l [ Await ↦ load (λ w. Continue Await) | _ ↦ act ])
 
@@ -130,11 +131,12 @@ let_go_beside_a_starver =
     (0, Begin TryLock) ∷ (0, Step) ∷ (1, Begin Starve) ∷ (1, Step) ∷ (1, Step) ∷ (1, Begin StarverLock) ∷ (1, Step)
     ∷ (0, Begin Release) ∷ (0, Step) ∷ []
 
--- and four looks after that
+-- the same, and four looks after it
 abbrev pub four_looks_of_a_starver : {V : Type 0} → Entries V
 four_looks_of_a_starver = let_go_beside_a_starver ++ (1, Step) ∷ (1, Step) ∷ (1, Step) ∷ (1, Step) ∷ []
 
--- a starver that waits sets the flag only where it finds the same clear word twice, so that others who come and go keep it waiting
+-- A starver that waits sets the flag only if it finds the same clear word twice. So others that come and go keep it
+-- waiting.
 abbrev pub waits_for_quiet : {V : Type 0} → V → FairMachine V
 waits_for_quiet v = starver_lock_by v (λ l act. elim l [
   | Await ↦ load (λ w. Continue (Register w))
@@ -146,11 +148,11 @@ waits_for_quiet v = starver_lock_by v (λ l act. elim l [
 abbrev pub never_looks : {V : Type 0} → V → FairMachine V
 never_looks v = lock_by v (λ l act. elim l [ Attempt n ↦ weak_exchange 0 lock (λ p. gets p to_lock_unregistered) granted (Continue (Attempt n)) | _ ↦ act ])
 
--- `lock` loads the word until it is clear, and counts nothing
+-- `lock` loads the word until it is clear, and does not count its looks
 abbrev pub loads_uncounted : {V : Type 0} → V → FairMachine V
 loads_uncounted v = lock_by v (λ l act. elim l [ Look n ↦ load (λ w. either (is_set w) (Continue (Look n)) (Continue (Attempt n))) | _ ↦ act ])
 
--- `lock` counts each second look alone
+-- `lock` counts only each second look
 abbrev pub counts_each_second_look : {V : Type 0} → V → FairMachine V
 counts_each_second_look v = lock_by v (λ l act. elim l [
   | Look n ↦ load_if is_set (λ w. either (nat_lt n 1) (Continue First) (Continue Load)) (λ w. Continue (Attempt n))
@@ -158,7 +160,7 @@ counts_each_second_look v = lock_by v (λ l act. elim l [
   | _ ↦ act
 ])
 
--- a starver that has set the flag leaves the starvers only once it is the last one
+-- a starver that has set the flag stays a starver until it is the only one
 abbrev pub keeps_the_flag : {V : Type 0} → V → FairMachine V
 keeps_the_flag v = starver_lock_by v (λ l act. elim l [
   | Unregister ↦ load_if (λ w. w == 3) (λ w. Continue First) (λ w. Continue Unregister)
@@ -166,13 +168,13 @@ keeps_the_flag v = starver_lock_by v (λ l act. elim l [
   | _ ↦ act
 ])
 
--- the flag is set, and four steps later it is still
+-- the flag is set, and is still set four steps later
 abbrev pub lock_beside_a_starver : {V : Type 0} → Entries V
 lock_beside_a_starver =
     (1, Begin Starve) ∷ (1, Step) ∷ (1, Step) ∷ (0, Begin Starve) ∷ (0, Step) ∷ (0, Step)
     ∷ (0, Begin StarverLock) ∷ (0, Step) ∷ (0, Step) ∷ (0, Step) ∷ (0, Step) ∷ (0, Step) ∷ []
 
--- a starver that has set the flag leaves the starvers by an exchange of the word that it has found, again and again
+-- a starver that has set the flag stops starving by an exchange of the word found, until it succeeds
 abbrev pub leaves_by_exchange : {V : Type 0} → V → FairMachine V
 leaves_by_exchange v = starver_lock_by v (λ l act. elim l [
   | Unregister ↦ load (λ w. Continue (Register w))
@@ -192,30 +194,30 @@ sets_by_chance {V} v =
 abbrev pub starver_in_vain : {V : Type 0} → Entries V
 starver_in_vain = (0, Begin Starve) ∷ (0, Step) ∷ (0, Step) ∷ (0, Begin StarverLock) ∷ (0, Weak) ∷ []
 
--- a `starve` that begins where its party starves too
+-- `starve` can begin even if its party starves already
 abbrev pub starves_again : {V : Type 0} → V → FairMachine V
 starves_again v = let m = fair_machine v 2 1 in record m { begin = λ c h. elim c [ Starve ↦ Some Load | other ↦ m.begin other h ] }
 
--- a `starver_try_lock` that asks to lock as the only starver
+-- `starver_try_lock` asks to lock as the only starver
 abbrev pub tries_alone : {V : Type 0} → V → FairMachine V
 tries_alone v = let m = fair_machine v 2 1 in record m { asks = λ c h. elim c [ StarverTryLock ↦ tries_in 2 to_lock_starving_alone | other ↦ m.asks other h ] }
 
--- a starver stands at first, which is nobody
+-- a starver is registered at first, but it is no party
 abbrev pub opens_with_a_starver : {V : Type 0} → V → FairMachine V
 opens_with_a_starver v = let m = fair_machine v 2 1 in record m { words = 2 }
 
--- `lock` goes to its exchange only where it finds neither the flag nor a starver
+-- `lock` makes its exchange only if it finds neither the flag nor a starver
 abbrev pub waits_for_starvers : {V : Type 0} → V → FairMachine V
 waits_for_starvers v =
     lock_by v (λ l act. elim l [ Look n ↦ looks_by n (Continue Load) (λ w. either (w == 0) (Continue (Attempt n)) (Continue (Look n))) | _ ↦ act ])
 
--- it looks at a clear flag beside a starver, which drops its place then
+-- it looks at a clear flag while one party starves, and that party then stops
 abbrev pub lock_beside_a_dropped_starver : {V : Type 0} → Entries V
 lock_beside_a_dropped_starver =
     (0, Begin TryLock) ∷ (0, Step) ∷ (1, Begin Starve) ∷ (1, Step) ∷ (1, Step) ∷ (2, Begin Lock) ∷ (2, Step)
     ∷ (0, Begin Release) ∷ (0, Step) ∷ (2, Step) ∷ (1, Begin StarverDrop) ∷ (1, Step) ∷ (2, Step) ∷ []
 
--- `starver_try_lock` that finds the flag set looks once more, and is refused whatever it finds
+-- a `starver_try_lock` that finds the flag set looks once more, and is always refused
 abbrev pub refuses_late : {V : Type 0} → V → FairMachine V
 refuses_late {V} v =
     let late : FairAct V = load (λ w. Answers Refused (Some Starver)) in
@@ -226,7 +228,7 @@ abbrev pub starver_beside_a_holder : {V : Type 0} → Entries V
 starver_beside_a_holder =
     (0, Begin TryLock) ∷ (0, Step) ∷ (1, Begin Starve) ∷ (1, Step) ∷ (1, Step) ∷ (1, Begin StarverTryLock) ∷ (1, Step) ∷ []
 
--- a starver that finds the flag set tries to set it again, without a look
+-- a starver that finds the flag set tries to set it again without a look
 abbrev pub spins_by_setting : {V : Type 0} → V → FairMachine V
 spins_by_setting v = starver_lock_by v (λ l act. elim l [ SetFlag ↦ sets_flag (Continue Unregister) (Continue SetFlag) | _ ↦ act ])
 
@@ -234,11 +236,12 @@ abbrev pub two_steps_of_a_starver : {V : Type 0} → Entries V
 two_steps_of_a_starver =
     (0, Begin TryLock) ∷ (0, Step) ∷ (1, Begin Starve) ∷ (1, Step) ∷ (1, Step) ∷ (1, Begin StarverLock) ∷ (1, Step) ∷ (1, Step) ∷ []
 
--- `lock` begins its count anew where it has found the flag clear
+-- `lock` starts to count anew when it finds the flag clear
 abbrev pub counts_anew : {V : Type 0} → V → FairMachine V
 counts_anew v = lock_by v (λ l act. elim l [ Look n ↦ looks_by n (Continue Load) (λ w. Continue (Attempt 0)) | _ ↦ act ])
 
--- a look finds the flag set, the next one clear, and the exchange is lost to another; then three looks more
+-- a look finds the flag set, and the next one finds it clear; another party wins the exchange; then come three looks
+-- more
 abbrev pub lock_past_a_clear_flag : {V : Type 0} → Entries V
 lock_past_a_clear_flag =
     (0, Begin TryLock) ∷ (0, Step) ∷ (1, Begin Lock) ∷ (1, Step) ∷ (1, Step) ∷ (0, Begin Release) ∷ (0, Step) ∷ (1, Step)

@@ -1,4 +1,4 @@
--- Flags that are wrong, each in one part of its machine, and schedules on which the laws refuse them.
+-- Wrong flags, each wrong in one part of its machine, and schedules on which the laws refuse them.
 use Rattle.spin_model.specs.declared.place.Hold.TheVariants.{Read}
 use Rattle.std.specs.Prelude.{ℕ, Bool, true, false, Some, None, List, [], ◌∷◌}
 use Rattle.spin_model.specs.declared.step.Next.TheVariants.{Continue, Answers}
@@ -30,43 +30,43 @@ Entries V = List (ℕ × Move FlagCall V)
 abbrev with_steps : {V : Type 0} → V → (FlagCall → FlagAct V → FlagAct V) → FlagMachine V
 with_steps v steps = machine_of (record (flag_table v) { act = λ c l h. steps c (act_of c l h) })
 
--- a `lock` that looks for ever, once its first exchange was refused
+-- a `lock` that looks for ever after its first exchange has failed
 abbrev pub looks_for_ever : {V : Type 0} → V → FlagMachine V
 looks_for_ever {V} v =
     let m : FlagMachine V = flag_machine v in
     record m { step = λ w value c l h. elim l [ Second ↦ stays w (Continue Second) | other ↦ m.step w value c other h ] }
 
--- one party locks the flag, the other finds it set, and two looks after the release find it clear
+-- one party holds the flag, the other finds it set, and two looks after the release find it clear
 abbrev pub two_looks : {V : Type 0} → Entries V
 two_looks = (0, Begin TryLock) ∷ (0, Step) ∷ (1, Begin Lock) ∷ (1, Step) ∷ (0, Begin Release) ∷ (0, Step) ∷ (1, Step) ∷ (1, Step) ∷ []
 
--- a strong try that may refuse without cause
+-- a strong try that may fail spuriously
 abbrev pub tries_by_chance : {V : Type 0} → V → FlagMachine V
 tries_by_chance {V} v = let m : FlagMachine V = flag_machine v in record m { refuse = λ c l h. Some (Answers Refused h) }
 
 abbrev pub one_try : {V : Type 0} → Entries V
 one_try = (0, Begin TryLock) ∷ (0, Weak) ∷ []
 
--- a look whose load may fail, and then tells that nobody holds
+-- an `is_locked` whose load may fail spuriously; then it answers that nobody holds
 abbrev pub looks_by_chance : {V : Type 0} → V → FlagMachine V
 looks_by_chance {V} v = let m : FlagMachine V = flag_machine v in record m { refuse = λ c l h. Some (Answers (Is false) h) }
 
 abbrev pub look_beside_a_holder : {V : Type 0} → Entries V
 look_beside_a_holder = (0, Begin TryLock) ∷ (0, Step) ∷ (1, Begin IsLocked) ∷ (1, Weak) ∷ []
 
--- a `release` that begins nowhere
+-- a `release` that can never begin
 abbrev pub never_releases : {V : Type 0} → V → FlagMachine V
 never_releases {V} v = let m : FlagMachine V = flag_machine v in record m { begin = λ c h. elim c [ Release ↦ None | other ↦ m.begin other h ] }
 
--- a `lock` that asks to read, which no flag knows, so that it is never answered
+-- a `lock` that asks to read; no flag has such a call, so it never answers
 abbrev pub locks_to_read : {V : Type 0} → V → FlagMachine V
 locks_to_read {V} v = let m : FlagMachine V = flag_machine v in record m { asks = λ c h. elim c [ Lock ↦ waits to_read | other ↦ m.asks other h ] }
 
--- a lock that is held by nobody at first, and for good
+-- a lock that is held at first and for ever, by nobody
 abbrev pub opens_set : {V : Type 0} → V → FlagMachine V
 opens_set {V} v = let m : FlagMachine V = flag_machine v in record m { words = true }
 
--- a `lock` that begins by its look
+-- a `lock` that begins with its look
 abbrev pub looks_first : {V : Type 0} → V → FlagMachine V
 looks_first {V} v =
     let m : FlagMachine V = flag_machine v in record m { begin = λ c h. elim c [ Lock ↦ option_map (λ l. Second) (m.begin Lock h) | other ↦ m.begin other h ] }
@@ -74,7 +74,7 @@ looks_first {V} v =
 abbrev pub lock_alone : {V : Type 0} → Entries V
 lock_alone = (0, Begin Lock) ∷ (0, Step) ∷ []
 
--- a `lock` whose look may refuse without cause, as where it finds the flag set
+-- a `lock` whose look may fail spuriously, as if the flag were set
 abbrev pub refuses_at_its_look : {V : Type 0} → V → FlagMachine V
 refuses_at_its_look {V} v =
     let m : FlagMachine V = flag_machine v in record m { refuse = λ c l h. elim l [ Second ↦ Some (Continue Second) | other ↦ m.refuse c other h ] }
@@ -86,7 +86,7 @@ never_looks v = with_steps v (λ c act. elim c [ Lock ↦ weak_exchange 0 lock (
 abbrev pub lock_beside_a_holder : {V : Type 0} → Entries V
 lock_beside_a_holder = (0, Begin TryLock) ∷ (0, Step) ∷ (1, Begin Lock) ∷ (1, Step) ∷ (1, Step) ∷ []
 
--- a `try_lock` whose party is told that it reads
+-- a `try_lock` that tells its party that it reads
 abbrev pub grants_to_read : {V : Type 0} → V → FlagMachine V
 grants_to_read {V} v =
     let to_reader : FlagAct V = exchange (swap 0 lock) (λ p. gets p to_write) (Answers Granted (Some Read)) (λ n. Answers Refused None) in

@@ -1,4 +1,4 @@
--- Cells that are wrong, each in one part of its machine, and schedules on which the laws refuse them.
+-- Wrong cells, each wrong in one part of its machine, and schedules on which the laws refuse them.
 use Rattle.std.specs.Prelude.{ℕ, Option, Some, None, [], ◌∷◌, ◌==◌}
 use Rattle.spin_step.specs.Plain.{Change}
 use Rattle.spin_model.specs.declared.place.Hold.{Hold}
@@ -27,11 +27,11 @@ with_steps {V} opening steps =
 abbrev with_changes : {V : Type 0} → OnceMachine V → (OnceCall V → OncePoint → Option Change → Option Change) → OnceMachine V
 with_changes m changes = record m { change = λ p w c l h. changes c l (m.change p w c l h) }
 
--- a step that places this value, and answers that one
+-- a step that stores the value `put`, and answers the value `told`
 abbrev gives : {V : Type 0} → ℕ → V → V → Option Hold → OnceStep V
 gives w put told h = record { words = w; placed = Some put; next = Answers (Value told) h }
 
--- a closure that runs although there is a value, and replaces it
+-- a closure runs although there is a value, and replaces it
 abbrev replacing : {V : Type 0} → OncePoint → Option V → OnceStep V → OnceStep V → OnceStep V
 replacing Look (Some old) replaced step = replaced
 replacing l value replaced step = step
@@ -42,25 +42,25 @@ replaces V = with_steps None (λ w value c l h step. elim c [ CallOnce v ↦ rep
 abbrev pub two_closures : {V : Type 0} → V → V → Entries V
 two_closures u v = (0, Begin (CallOnce u)) ∷ (0, Step) ∷ (0, Step) ∷ (0, Step) ∷ (0, Begin (CallOnce v)) ∷ (0, Step) ∷ []
 
--- a closure that fails and leaves the word at running
+-- a closure fails and leaves the word at running
 abbrev pub sticks_silently : (V : Type 0) → OnceMachine V
 sticks_silently V = with_steps None (λ w value c l h step. elim c [ TryCallOnceErr ↦ elim l [ Run ↦ stays w (Answers Failed h) | _ ↦ step ] | _ ↦ step ])
 
--- the same, but for its step the machine names no plain step
+-- the same, but the machine names no plain step for it
 abbrev pub sticks : (V : Type 0) → OnceMachine V
 sticks V = with_changes (sticks_silently V) (λ c l made. elim c [ TryCallOnceErr ↦ elim l [ Run ↦ None | _ ↦ made ] | _ ↦ made ])
 
 abbrev pub one_failure : {V : Type 0} → Entries V
 one_failure = (0, Begin TryCallOnceErr) ∷ (0, Step) ∷ (0, Step) ∷ (0, Step) ∷ []
 
--- a `get` that answers this value, whether there is one or not
+-- `get` answers this value, even if there is none
 abbrev pub gets_early : {V : Type 0} → V → OnceMachine V
 gets_early v = with_steps None (λ w value c l h step. elim c [ Get ↦ stays w (Answers (Value v) h) | _ ↦ step ])
 
 abbrev pub get_beside_a_closure : {V : Type 0} → V → Entries V
 get_beside_a_closure v = (0, Begin (CallOnce v)) ∷ (0, Step) ∷ (0, Step) ∷ (1, Begin Get) ∷ (1, Step) ∷ []
 
--- a `get` that looks at the value without the word
+-- `get` loads the value without the word
 abbrev pub peeks : (V : Type 0) → OnceMachine V
 peeks V = with_steps None (λ w value c l h step. elim c [ Get ↦ stays w (Answers (elim value [ Some v ↦ Value v | None ↦ NoValue ]) h) | _ ↦ step ])
 
@@ -71,7 +71,7 @@ polls_early V = with_steps None (λ w value c l h step. elim c [ Poll ↦ elim v
 abbrev pub poll_beside_a_closure : {V : Type 0} → V → Entries V
 poll_beside_a_closure v = (0, Begin (CallOnce v)) ∷ (0, Step) ∷ (0, Step) ∷ (1, Begin Poll) ∷ (1, Step) ∷ []
 
--- a call whose closure gives u, and that places this and answers that
+-- the closure gives u; the call stores `put` and answers `told`
 abbrev placing : {V : Type 0} → V → V → OnceMachine V
 placing put told = with_steps None (λ w value c l h step. elim c [ CallOnce u ↦ elim l [ Run ↦ gives 2 put told h | _ ↦ step ] | _ ↦ step ])
 
@@ -93,14 +93,14 @@ runs_on V =
 abbrev pub six_steps : {V : Type 0} → V → Entries V
 six_steps v = (0, Begin (CallOnce v)) ∷ (0, Step) ∷ (0, Step) ∷ (0, Step) ∷ (0, Step) ∷ (0, Step) ∷ (0, Step) ∷ []
 
--- a `wait` that looks once more before it answers
+-- `wait` looks once more before it answers
 abbrev pub waits_idly : {V : Type 0} → V → OnceMachine V
 waits_idly v = with_steps (Some v) (λ w value c l h step. elim c [ Wait ↦ elim l [ Look ↦ stays w (Continue Await) | _ ↦ step ] | _ ↦ step ])
 
 abbrev pub one_wait : {V : Type 0} → Entries V
 one_wait = (0, Begin Wait) ∷ []
 
--- a closure that may fail runs as one that does
+-- a closure that may fail always fails
 abbrev as_failing : {V : Type 0} → OnceCall V → OnceCall V
 as_failing (TryCallOnceOk v) = TryCallOnceErr
 as_failing c = c
@@ -116,11 +116,11 @@ always_fails V =
       brings = λ c. m.brings (as_failing c);
     }
 
--- a `get` that begins nowhere
+-- `get` can never begin
 abbrev pub never_gets : (V : Type 0) → OnceMachine V
 never_gets V = let m : OnceMachine V = once_machine None in record m { begin = λ c h. elim c [ Get ↦ None | other ↦ m.begin other h ] }
 
--- a `call_once` that begins by its exchange
+-- `call_once` begins with its exchange
 abbrev pub never_looks : (V : Type 0) → OnceMachine V
 never_looks V =
     let m : OnceMachine V = once_machine None in
@@ -129,7 +129,7 @@ never_looks V =
 abbrev pub one_call : {V : Type 0} → V → Entries V
 one_call v = (0, Begin (CallOnce v)) ∷ []
 
--- an exchange that may lose without cause
+-- an exchange may fail spuriously
 abbrev pub loses_by_chance : (V : Type 0) → OnceMachine V
 loses_by_chance V =
     let m : OnceMachine V = once_machine None in
@@ -138,15 +138,15 @@ loses_by_chance V =
 abbrev pub a_look_and_chance : {V : Type 0} → V → Entries V
 a_look_and_chance v = (0, Begin (CallOnce v)) ∷ (0, Step) ∷ (0, Weak) ∷ []
 
--- a cell with a value whose word says that there is none
+-- the cell has a value, but its word says that it has none
 abbrev pub opens_at_nothing : {V : Type 0} → V → OnceMachine V
 opens_at_nothing {V} v = let m : OnceMachine V = once_machine (Some v) in record m { words = 0 }
 
--- a call that waits for a closure and finds nothing looks once more before it begins
+-- a call that waits for a closure, and then finds no value, looks once more before it begins
 abbrev pub hesitates : (V : Type 0) → OnceMachine V
 hesitates V =
     with_steps None (λ w value c l h step. elim c [ CallOnce v ↦ elim l [ Await ↦ either (w == 0) (stays w (Continue Look)) step | _ ↦ step ] | _ ↦ step ])
 
--- a closure runs, another call waits for it, and it fails
+-- a closure runs, another call waits for it, and the closure fails
 abbrev pub a_failure_beside_a_call : {V : Type 0} → V → Entries V
 a_failure_beside_a_call v = (0, Begin TryCallOnceErr) ∷ (0, Step) ∷ (0, Step) ∷ (1, Begin (CallOnce v)) ∷ (1, Step) ∷ (1, Step) ∷ (0, Step) ∷ []

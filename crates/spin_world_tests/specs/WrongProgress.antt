@@ -1,4 +1,4 @@
--- Wrong locks, and schedules in rounds that show what each lacks.
+-- Wrong locks, and schedules in rounds that show what is wrong with each.
 use Rattle.std.specs.Prelude.{ℕ, ◌-◌, Bool, true, Option, None, List, [], ◌∷◌}
 use Rattle.spin_step.specs.Plain.{asking, upgradable, weight, serves, turns}
 use Rattle.spin_step_more.specs.declared.rw_calls.RwCall.{RwCall}
@@ -28,7 +28,7 @@ use Rattle.spin_step_more.specs.declared.rw_calls.RwCall.TheVariants as rw
 use Rattle.spin_step_more.specs.declared.rw_calls.RwPoint.TheVariants as rw_point
 use Rattle.spin_step_more.specs.RwCalls as rws
 
--- A flag whose waiting party never looks again once its exchange has failed
+-- A flag whose waiting party never looks again after its exchange has failed
 
 abbrev never_looks_act : {V : Type 0} → FlagCall → FlagPoint → Option Hold → Act Bool FlagPoint (Answer V)
 never_looks_act flag.Lock flag_point.Second h = load (λ n. Continue flag_point.Second)
@@ -43,7 +43,7 @@ set_before_it = (1, Begin flag.Lock) ∷ (1, Step) ∷ (0, Begin flag.Lock) ∷ 
 abbrev pub four_looks : {V : Type 0} → List (List (ℕ × Move FlagCall V))
 four_looks = ((0, Step) ∷ (1, Begin flag.Release) ∷ []) ∷ ((0, Step) ∷ (1, Step) ∷ []) ∷ ((0, Step) ∷ []) ∷ ((0, Step) ∷ []) ∷ []
 
--- A ticket lock whose holder serves its own number again as it releases
+-- A ticket lock whose holder serves its own number again at its release
 
 abbrev serves_twice_act : {V : Type 0} → TicketPoint → Option Hold → Act TicketWords TicketPoint (Answer V)
 serves_twice_act (ticket_point.Serve t) h = store (λ k. true) (stores t) (λ p. serves p) (Answers Done None)
@@ -58,7 +58,7 @@ one_before_it = (1, Begin ticket.Lock) ∷ (1, Step) ∷ (1, Step) ∷ (0, Begin
 abbrev pub four_turns : {V : Type 0} → List (List (ℕ × Move TicketCall V))
 four_turns = ((0, Step) ∷ (1, Step) ∷ []) ∷ ((0, Step) ∷ (1, Begin ticket.Release) ∷ []) ∷ ((0, Step) ∷ (1, Step) ∷ []) ∷ ((0, Step) ∷ []) ∷ []
 
--- A read-write lock whose upgrade gives up its asking by its next step, and asks again
+-- A read-write lock whose upgrade withdraws its ask by its next step, and asks again
 
 abbrev gives_up_act : {V : Type 0} → ℕ → RwCall → RwPoint → Option Hold → Act ℕ RwPoint (Answer V)
 gives_up_act cap rw.Upgrade rw_point.Asking h = store (λ w. true) (subtracts (weight asking - weight upgradable)) (λ p. turns p asking upgradable) (Continue rw_point.First)

@@ -1,5 +1,5 @@
--- Read-write locks that are wrong, each in one part of its table, and schedules on which the laws refuse them.
--- Where its steps are wrong, so are the plain steps that they read as.
+-- Wrong read-write locks, each wrong in one part of its table, and schedules on which the laws refuse them.
+-- If a step is wrong, so is the plain step that the table names for it.
 use Rattle.std.specs.Prelude.{ℕ, zero, suc, ◌+◌, ◌-◌, ◌/◌, true, false, Option, Some, None, List, [], ◌∷◌, ◌++◌, if◌then◌else◌}
 use Rattle.spin_step.specs.Plain.{reading, upgradable, asking, writing, weight, Ask, to_read, to_write, to_upgrade, to_upgrade_asked, to_lock_starving, gets, releases, turns, to_read_upgradable}
 use Rattle.spin_model.specs.declared.place.Hold.{Hold}
@@ -37,23 +37,23 @@ Entries V = List (ℕ × Move RwCall V)
 abbrev with_cap : {V : Type 0} → V → ℕ → (RwCall → RwPoint → Option Hold → RwAct V → RwAct V) → RwMachine V
 with_cap {V} v cap steps = let t : RwTable V = rw_table v cap in machine_of (record t { act = λ c l h. steps c l h (act_of cap c l h) })
 
--- of nine readers
+-- the same for nine readers
 abbrev with_steps : {V : Type 0} → V → (RwCall → RwPoint → Option Hold → RwAct V → RwAct V) → RwMachine V
 with_steps v steps = with_cap v 9 steps
 
--- with other steps of `upgrade` alone
+-- only the steps of `upgrade` are changed
 abbrev upgrade_by : {V : Type 0} → V → (RwPoint → RwAct V → RwAct V) → RwMachine V
 upgrade_by v steps = with_steps v (λ c l h act. elim c [ Upgrade ↦ steps l act | _ ↦ act ])
 
--- to write, whatever word is found
+-- a step that stores the writer's word, whatever word it finds
 abbrev writes_over : {V : Type 0} → Ask → Next RwPoint (Answer V) → RwAct V
 writes_over ask lost = exchange (stores (weight writing)) (λ p. gets p ask) (granted hold.Write) (λ w. lost)
 
--- `downgrade` of a writer, by so much
+-- a step of `downgrade` from a writer that adds this much
 abbrev turns_to_reading : {V : Type 0} → ℕ → RwAct V
 turns_to_reading more = store (tells writing) (adds more) (λ p. turns p writing reading) (Answers Done (Some hold.Read))
 
--- `try_upgrade` is granted while there are readers
+-- `try_upgrade` succeeds while there are readers
 abbrev pub upgrades_at_once : {V : Type 0} → V → RwMachine V
 upgrades_at_once v = with_steps v (λ c l h act. elim c [ TryUpgrade ↦ writes_over to_upgrade (Answers Refused h) | _ ↦ act ])
 
@@ -63,14 +63,14 @@ read_alone = (0, Begin TryRead) ∷ (0, Step) ∷ (0, Step) ∷ []
 abbrev pub upgrade_beside_a_reader : {V : Type 0} → Entries V
 upgrade_beside_a_reader = read_alone ++ (1, Begin TryUpgradeableRead) ∷ (1, Step) ∷ (1, Step) ∷ (1, Begin TryUpgrade) ∷ (1, Step) ∷ []
 
--- `upgrade` asks and is granted in one event, while there are readers
+-- `upgrade` asks and succeeds in one event, while there are readers
 abbrev pub upgrades_unasked : {V : Type 0} → V → RwMachine V
 upgrades_unasked v = upgrade_by v (λ l act. writes_over to_upgrade_asked (Continue Asking))
 
 abbrev pub ask_beside_a_reader : {V : Type 0} → Entries V
 ask_beside_a_reader = read_alone ++ (1, Begin TryUpgradeableRead) ∷ (1, Step) ∷ (1, Step) ∷ (1, Begin Upgrade) ∷ (1, Step) ∷ []
 
--- `upgrade` tries again and again, and never asks
+-- `upgrade` tries again and again without asking
 abbrev pub upgrades_plainly : {V : Type 0} → V → RwMachine V
 upgrades_plainly v = upgrade_by v (λ l act. weak_exchange (weight upgradable) upgrade (λ p. gets p to_upgrade) (granted hold.Write) (Continue First))
 
@@ -80,13 +80,13 @@ asks_twice {V} v =
     let asks : Next RwPoint (Answer V) → RwAct V = store (λ w. true) (adds (weight asking - weight upgradable)) (λ p. turns p upgradable asking) in
     upgrade_by v (λ l act. elim l [ First ↦ asks (Continue (Exchange 0)) | Exchange n ↦ asks (Continue Asking) | _ ↦ act ])
 
--- `downgrade` leaves a reader that asks in the word
+-- `downgrade` leaves a reader that asks to upgrade in the word
 abbrev pub downgrades_asking : {V : Type 0} → V → RwMachine V
 downgrades_asking {V} v =
     let asked : RwAct V = turns_to_reading (weight reading + weight asking - weight upgradable - weight writing) in
     with_steps v (λ c l h act. elim c [ Downgrade ↦ elim h [ Some hold.Write ↦ asked | _ ↦ act ] | _ ↦ act ])
 
--- `downgrade` frees the writer, and then takes a reader's place
+-- `downgrade` releases the writer, and then adds a reader
 abbrev downgrade_in_two : {V : Type 0} → RwPoint → RwAct V
 downgrade_in_two (Exchange n) = store (λ w. true) (adds (weight reading)) (λ p. gets p to_read) (Answers Done (Some hold.Read))
 downgrade_in_two _ = store (tells writing) (subtracts (weight writing)) (λ p. releases p writing) (Continue (Exchange 0))
@@ -97,7 +97,7 @@ downgrades_in_two v = with_steps v (λ c l h act. elim c [ Downgrade ↦ downgra
 abbrev pub downgrade_alone : {V : Type 0} → Entries V
 downgrade_alone = (0, Begin TryWrite) ∷ (0, Step) ∷ (0, Begin Downgrade) ∷ (0, Step) ∷ []
 
--- `try_read` adds its reader, and takes it off where there was no room
+-- `try_read` adds its reader, and removes it if there was no room
 abbrev read_and_regret : {V : Type 0} → RwPoint → RwAct V
 read_and_regret (Exchange n) = store (λ w. true) (subtracts (weight reading)) (λ p. releases p reading) (Answers Refused None)
 read_and_regret _ = store (λ w. true) (adds (weight reading)) (λ p. gets p to_read) (Continue (Exchange 0))
@@ -105,7 +105,7 @@ read_and_regret _ = store (λ w. true) (adds (weight reading)) (λ p. gets p to_
 abbrev pub reads_and_regrets : {V : Type 0} → V → RwMachine V
 reads_and_regrets v = with_steps v (λ c l h act. elim c [ TryRead ↦ read_and_regret l | _ ↦ act ])
 
--- the same, where its steps read as no plain step
+-- the same, but the table names no plain step for its steps
 abbrev pub reads_and_regrets_unseen : {V : Type 0} → V → RwMachine V
 reads_and_regrets_unseen {V} v =
     let m : RwMachine V = reads_and_regrets v in record m { change = λ p w c l h. elim c [ TryRead ↦ None | other ↦ m.change p w other l h ] }
@@ -113,23 +113,23 @@ reads_and_regrets_unseen {V} v =
 abbrev pub read_beside_a_writer : {V : Type 0} → Entries V
 read_beside_a_writer = (0, Begin TryWrite) ∷ (0, Step) ∷ (1, Begin TryRead) ∷ (1, Step) ∷ []
 
--- a `try_read` of one step, by what it makes of the word
+-- a `try_read` of one step; f says how it changes the word
 abbrev reads_by : {V : Type 0} → V → (ℕ → Option ℕ) → RwMachine V
 reads_by v f =
     with_steps v (λ c l h act. elim c [ TryRead ↦ section (λ w. true) f (λ p. gets p to_read) (λ w. granted hold.Read) (λ w. Answers Refused h) | _ ↦ act ])
 
--- it looks for the upgradable reader alone
+-- `try_read` checks only for an upgradable reader
 abbrev pub reads_by_a_mask : {V : Type 0} → V → RwMachine V
 reads_by_a_mask v = reads_by v (λ w. if tells upgradable w then None else Some (w + weight reading))
 
--- `try_write` may refuse without cause, though it is no weak try
+-- `try_write` may fail spuriously, though it is no weak try
 abbrev pub writes_by_chance : {V : Type 0} → V → RwMachine V
 writes_by_chance v = with_steps v (λ c l h act. elim c [ TryWrite ↦ load (λ w. Answers Refused h) | _ ↦ act ])
 
 abbrev pub write_alone : {V : Type 0} → Entries V
 write_alone = (0, Begin TryWrite) ∷ (0, Step) ∷ []
 
--- `upgrade` releases, and then begins to write as anybody does
+-- `upgrade` releases, and then begins to write like a new party
 abbrev upgrade_anew : {V : Type 0} → RwPoint → RwAct V
 upgrade_anew (Exchange n) = weak_exchange 0 write (λ p. gets p to_write) (granted hold.Write) (Continue (Exchange 0))
 upgrade_anew _ = store (tells upgradable) (subtracts (weight upgradable)) (λ p. releases p upgradable) (Continue (Exchange 0))
@@ -146,25 +146,25 @@ two_steps_of_an_upgrade = upgrade_alone ++ (0, Step) ∷ []
 abbrev pub read_beside_an_asking_reader : {V : Type 0} → Entries V
 read_beside_an_asking_reader = upgrade_alone ++ (1, Begin TryRead) ∷ (1, Step) ∷ []
 
--- a `reader_count` that counts so
+-- a `reader_count` that counts like this
 abbrev counts_by : {V : Type 0} → V → (ℕ → ℕ) → RwMachine V
 counts_by v count = with_steps v (λ c l h act. elim c [ ReaderCount ↦ load (λ w. Answers (Count (count w)) h) | _ ↦ act ])
 
--- it leaves the upgradable reader out
+-- it does not count the upgradable reader
 abbrev pub counts_without_upgradable : {V : Type 0} → V → RwMachine V
 counts_without_upgradable v = counts_by v (λ w. w / weight reading)
 
 abbrev pub count_beside_an_upgradable : {V : Type 0} → Entries V
 count_beside_an_upgradable = (0, Begin TryUpgradeableRead) ∷ (0, Step) ∷ (0, Step) ∷ (1, Begin ReaderCount) ∷ (1, Step) ∷ []
 
--- it leaves the reader out that asks to upgrade
+-- it does not count a reader that asks to upgrade
 abbrev pub counts_without_asking : {V : Type 0} → V → RwMachine V
 counts_without_asking v = counts_by v (λ w. if tells upgradable w then suc (w / weight reading) else w / weight reading)
 
 abbrev pub count_beside_an_asking_reader : {V : Type 0} → Entries V
 count_beside_an_asking_reader = upgrade_alone ++ (1, Begin ReaderCount) ∷ (1, Step) ∷ []
 
--- a `read` with other steps
+-- only the steps of `read` are changed
 abbrev read_by : {V : Type 0} → V → (RwPoint → RwAct V → RwAct V) → RwMachine V
 read_by v steps = with_steps v (λ c l h act. elim c [ Read ↦ steps l act | _ ↦ act ])
 
@@ -175,15 +175,15 @@ looks_for_ever v = read_by v (λ l act. load (λ w. Continue First))
 abbrev pub two_looks : {V : Type 0} → Entries V
 two_looks = (0, Begin Read) ∷ (0, Step) ∷ (0, Step) ∷ []
 
--- `read` looks twice before it comes
+-- `read` looks twice before its exchange
 abbrev pub looks_twice : {V : Type 0} → V → RwMachine V
 looks_twice v = read_by v (λ l act. elim l [ First ↦ load (λ w. Continue (Exchange 1)) | Exchange (suc zero) ↦ act_of 9 Read First None | _ ↦ act ])
 
--- a `write` with other steps
+-- only the step of `write` is changed
 abbrev write_by : {V : Type 0} → V → RwAct V → RwMachine V
 write_by v step = with_steps v (λ c l h act. elim c [ Write ↦ step | _ ↦ act ])
 
--- `write` looks before it comes
+-- `write` looks before its exchange
 abbrev pub looks_first : {V : Type 0} → V → RwMachine V
 looks_first v = write_by v (load (λ w. Continue (Exchange w)))
 
@@ -194,11 +194,11 @@ one_look = (0, Begin Write) ∷ (0, Step) ∷ []
 abbrev pub tries_for_ever : {V : Type 0} → V → RwMachine V
 tries_for_ever v = with_steps v (λ c l h act. elim c [ TryRead ↦ load (λ w. Continue First) | _ ↦ act ])
 
--- `try_read` looks and comes in one event
+-- `try_read` looks and acquires in one event
 abbrev pub reads_in_one : {V : Type 0} → V → RwMachine V
 reads_in_one v = reads_by v (read 9)
 
--- `read` guesses that nobody holds, and where it was wrong that counts as no exchange that failed
+-- `read` guesses that nobody holds; a wrong guess does not count as a failed exchange
 abbrev pub reads_by_a_guess : {V : Type 0} → V → RwMachine V
 reads_by_a_guess v =
     read_by v (λ l act. elim l [ First ↦ exchange (exchanges 0 (weight reading)) (λ p. gets p to_read) (granted hold.Read) goes_for | _ ↦ act ])
@@ -219,11 +219,11 @@ writes_strongly {V} v =
     let strong : RwAct V = exchange (swap 0 write) (λ p. gets p to_write) (granted hold.Write) (λ w. Answers Refused None) in
     with_steps v (λ c l h act. elim c [ TryWriteWeak ↦ strong | _ ↦ act ])
 
--- so is that of `write`
+-- the exchange of `write` is strong too
 abbrev pub waits_strongly : {V : Type 0} → V → RwMachine V
 waits_strongly v = write_by v (exchange (swap 0 write) (λ p. gets p to_write) (granted hold.Write) (λ w. Continue First))
 
--- `try_upgrade` may refuse without cause, though it is no weak try
+-- `try_upgrade` may fail spuriously, though it is no weak try
 abbrev pub upgrades_by_chance : {V : Type 0} → V → RwMachine V
 upgrades_by_chance {V} v = let m : RwMachine V = rw_machine v 9 in record m { refuse = λ c l h. elim c [ TryUpgrade ↦ Some (Answers Refused h) | _ ↦ None ] }
 
@@ -234,37 +234,37 @@ upgrade_by_chance = (0, Begin TryUpgradeableRead) ∷ (0, Step) ∷ (0, Step) �
 abbrev pub never_releases : {V : Type 0} → V → RwMachine V
 never_releases {V} v = let m : RwMachine V = rw_machine v 9 in record m { begin = λ c h. elim c [ Release ↦ None | other ↦ m.begin other h ] }
 
--- `upgrade` begins as a reader too, and then never ends
+-- any reader can begin `upgrade`, and then it never ends
 abbrev pub upgrades_any_reader : {V : Type 0} → V → RwMachine V
 upgrades_any_reader {V} v =
     let m : RwMachine V = rw_machine v 9 in
     record m { begin = λ c h. elim c [ Upgrade ↦ elim h [ Some hold.Read ↦ Some First | held ↦ m.begin Upgrade held ] | other ↦ m.begin other h ] }
 
--- `write` is another `read`
+-- `write` does what `read` does
 abbrev pub writes_by_reading : {V : Type 0} → V → RwMachine V
 writes_by_reading {V} v =
     let t : RwTable V = rw_table v 9 in
     let as_read : RwCall → RwCall = λ c. elim c [ Write ↦ Read | other ↦ other ] in
     machine_of (record t { act = λ c l h. act_of 9 (as_read c) l h; asks = λ c h. asks_of (as_read c) h })
 
--- `write` asks what only a starver may, and so may look for ever
+-- `write` asks what only a starver may ask, and so may look for ever
 abbrev pub never_writes : {V : Type 0} → V → RwMachine V
 never_writes {V} v =
     let m : RwMachine V = write_by v (load (λ w. Continue First)) in
     record m { asks = λ c h. elim c [ Write ↦ waits to_lock_starving | other ↦ asks_of other h ] }
 
--- somebody writes at first, whom nobody knows
+-- somebody writes at first, but it is no party
 abbrev pub opens_written : {V : Type 0} → V → RwMachine V
 opens_written {V} v = let t : RwTable V = rw_table v 9 in machine_of (record t { words = 1 })
 
--- the value that it was given is not there; nobody owns it
+-- the value given to the lock is not in it, and nobody owns it
 abbrev pub forgets_its_value : {V : Type 0} → V → RwMachine V
 forgets_its_value {V} v = let t : RwTable V = rw_table v 9 in machine_of (record t { value = None })
 
 abbrev pub has_no_owner : {V : Type 0} → V → RwMachine V
 has_no_owner {V} v = let t : RwTable V = rw_table v 9 in machine_of (record t { owned = false })
 
--- `try_read` that finds it closed looks once more, and is refused whatever it finds
+-- a `try_read` that finds the lock closed looks once more, and is always refused
 abbrev pub refuses_late : {V : Type 0} → V → RwMachine V
 refuses_late {V} v =
     let first : RwAct V = load_for (read 9) (λ p. gets p to_read) goes_for (Continue Asking) in
@@ -273,17 +273,17 @@ refuses_late {V} v =
 abbrev pub try_beside_a_writer : {V : Type 0} → Entries V
 try_beside_a_writer = (0, Begin TryWrite) ∷ (0, Step) ∷ (1, Begin TryRead) ∷ (1, Step) ∷ []
 
--- `upgrade` that was refused looks before it tries again
+-- an `upgrade` that fails looks before it tries again
 abbrev pub upgrades_by_looks : {V : Type 0} → V → RwMachine V
 upgrades_by_looks {V} v =
     let again : RwAct V = weak_exchange (weight asking) upgrade_asked (λ p. gets p to_upgrade_asked) (granted hold.Write) (Continue (Exchange 0)) in
     upgrade_by v (λ l act. elim l [ Asking ↦ again | Exchange n ↦ load (λ w. Continue Asking) | _ ↦ act ])
 
--- a weak refusal, and a step where nobody reads
+-- a weak failure, and a step while nobody reads
 abbrev pub upgrade_after_a_refusal : {V : Type 0} → Entries V
 upgrade_after_a_refusal = (0, Begin TryUpgradeableRead) ∷ (0, Step) ∷ (0, Step) ∷ (0, Begin Upgrade) ∷ (0, Step) ∷ (0, Weak) ∷ (0, Step) ∷ []
 
--- an upgradable reader comes beside as many readers as the cap says, which is one here
+-- an upgradable reader is admitted although the cap, one here, is reached
 abbrev pub comes_beyond_the_cap : {V : Type 0} → V → RwMachine V
 comes_beyond_the_cap {V} v =
     let comes : RwPoint → RwAct V = λ l. comes_by (read_upgradable 2) to_read_upgradable hold.Upgradable (Answers Refused None) l in
@@ -292,7 +292,7 @@ comes_beyond_the_cap {V} v =
 abbrev pub upgradable_beside_a_reader : {V : Type 0} → Entries V
 upgradable_beside_a_reader = read_alone ++ (1, Begin TryUpgradeableRead) ∷ (1, Step) ∷ (1, Step) ∷ []
 
--- a downgrade to upgradable ends as a reader
+-- a downgrade to upgradable leaves its party a plain reader
 abbrev pub ends_reading : {V : Type 0} → V → RwMachine V
 ends_reading v = with_steps v (λ c l h act. elim c [ DowngradeToUpgradeable ↦ turns_to_reading (weight reading - weight writing) | _ ↦ act ])
 

@@ -1,5 +1,5 @@
--- Locks of seats that are wrong, each in one part of its table, and schedules on which the laws refuse them.
--- Where its steps are wrong, so are the plain steps that they read as.
+-- Wrong locks of seats, each wrong in one part of its table, and schedules on which the laws refuse them.
+-- If a step is wrong, so is the plain step that the table names for it.
 use Rattle.std.specs.Prelude.{ℕ, zero, suc, Bool, true, false, Option, Some, None, List, [], ◌∷◌, ◌++◌, nat_lt, ◌-◌}
 use Rattle.spin_step.specs.Plain.{reading, to_read, gets, releases}
 use Rattle.spin_seats.specs.Seats.{entered}
@@ -26,15 +26,15 @@ SeatsAct = Act ℕ SeatsPoint (Answer (Unit {0}))
 abbrev Entries : Type 0
 Entries = List (ℕ × Move SeatsCall (Unit {0}))
 
--- a lock with this many seats with these steps instead of its own
+-- a lock with n seats, with these steps instead of its own
 abbrev with_steps : ℕ → (SeatsCall → SeatsPoint → Option Hold → SeatsAct → SeatsAct) → SeatsMachine
 with_steps n steps = let t : SeatsTable = seats_table n in machine_of (record t { act = λ c l h. steps c l h (act_of n c l h) })
 
--- the party tries to take a seat, and takes it if it is alone
+-- the party tries to take a seat; it succeeds if no other party acts in between
 abbrev takes_a_seat : ℕ → Entries
 takes_a_seat p = (p, Begin call.TryEnter) ∷ (p, Step) ∷ (p, Step) ∷ []
 
--- it lets in one more than it has seats for
+-- it admits one more than it has seats
 abbrev pub seats_one_too_many : SeatsMachine
 seats_one_too_many = with_steps 1 (λ c l h act. elim c [ call.TryEnter ↦ comes_by 2 (Answers Refused h) l | _ ↦ act ])
 
@@ -49,14 +49,14 @@ leaves_for_two =
 abbrev pub one_of_two_leaves : Entries
 one_of_two_leaves = takes_a_seat 0 ++ (takes_a_seat 1 ++ (0, Begin call.Leave) ∷ (0, Step) ∷ [])
 
--- a try that looks for ever
+-- `try_enter` looks for ever
 abbrev pub tries_for_ever : SeatsMachine
 tries_for_ever = with_steps 2 (λ c l h act. elim c [ call.TryEnter ↦ load (λ w. Continue First) | _ ↦ act ])
 
 abbrev pub two_looks : Entries
 two_looks = takes_a_seat 0
 
--- `enter` looks twice before it takes a seat
+-- `enter` looks twice before its exchange
 abbrev pub looks_twice : SeatsMachine
 looks_twice = with_steps 2 (λ c l h act. elim c [
   | call.Enter ↦ elim l [ First ↦ load (λ w. Continue (Exchange 2)) | Exchange (suc (suc zero)) ↦ act_of 2 call.Enter First h | _ ↦ act ]
@@ -66,13 +66,13 @@ looks_twice = with_steps 2 (λ c l h act. elim c [
 abbrev pub enter_alone : Entries
 enter_alone = (0, Begin call.Enter) ∷ (0, Step) ∷ (0, Step) ∷ []
 
--- a try looks and takes its seat in one event
+-- `try_enter` looks and takes its seat in one event
 abbrev pub enters_in_one : SeatsMachine
 enters_in_one =
     let at_once : SeatsAct = section (λ w. true) (entered 2) (λ p. gets p to_read) (λ w. granted) (λ w. Answers Refused None) in
     with_steps 2 (λ c l h act. elim c [ call.TryEnter ↦ at_once | _ ↦ act ])
 
--- `enter` guesses that nobody sits, and where it was wrong that counts as no exchange that failed
+-- `enter` guesses that nobody sits; a wrong guess does not count as a failed exchange
 abbrev pub enters_by_a_guess : SeatsMachine
 enters_by_a_guess =
     let guess : SeatsAct = exchange (exchanges 0 1) (λ p. gets p to_read) granted goes_for in
@@ -81,7 +81,7 @@ enters_by_a_guess =
 abbrev pub guess_beside_one : Entries
 guess_beside_one = takes_a_seat 0 ++ (1, Begin call.Enter) ∷ (1, Step) ∷ []
 
--- a try may refuse without cause, though it is no weak try
+-- `try_enter` may fail spuriously, though it is no weak try
 abbrev pub enters_by_chance : SeatsMachine
 enters_by_chance = let m : SeatsMachine = seats_machine 2 in record m { refuse = λ c l h. elim c [ call.TryEnter ↦ Some (Answers Refused h) | _ ↦ None ] }
 
@@ -92,18 +92,18 @@ enter_by_chance = (0, Begin call.TryEnter) ∷ (0, Weak) ∷ []
 abbrev pub nobody_leaves : SeatsMachine
 nobody_leaves = let m : SeatsMachine = seats_machine 2 in record m { begin = λ c h. elim c [ call.Leave ↦ None | other ↦ m.begin other h ] }
 
--- `enter` is another try
+-- `enter` does what `try_enter` does
 abbrev pub enters_or_not : SeatsMachine
 enters_or_not =
     let t : SeatsTable = seats_table 2 in
     let as_try : SeatsCall → SeatsCall = λ c. elim c [ call.Enter ↦ call.TryEnter | other ↦ other ] in
     machine_of (record t { act = λ c l h. act_of 2 (as_try c) l h; asks = λ c h. asks_of (as_try c) h })
 
--- a seat is taken at first, by nobody
+-- a seat is taken at first, but by no party
 abbrev pub opens_taken : SeatsMachine
 opens_taken = let t : SeatsTable = seats_table 2 in machine_of (record t { words = 1 })
 
--- a lock without seats on which one sits down
+-- a lock without seats, on which one party can sit
 abbrev pub seats_one_on_none : SeatsMachine
 seats_one_on_none = with_steps 0 (λ c l h act. act_of 1 c l h)
 

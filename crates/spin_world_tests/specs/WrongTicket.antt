@@ -1,4 +1,4 @@
--- Ticket locks that are wrong, each in one part of its machine, and schedules on which the laws refuse them.
+-- Wrong ticket locks, each wrong in one part of its machine, and schedules on which the laws refuse them.
 use Rattle.std.specs.Prelude.{ℕ, Bool, not, ◌==◌, Option, Some, None, List, [], ◌∷◌, ◌+◌, ◌-◌, nat_lt}
 use Rattle.spin_model.specs.declared.place.Hold.{Hold}
 use Rattle.spin_model.specs.declared.step.Next.{Next}
@@ -32,7 +32,7 @@ abbrev with_steps : {V : Type 0} → V → ℕ → (TicketWords → TicketCall �
 with_steps {V} v first steps =
     let m : TicketMachine V = ticket_machine v first in record m { step = λ w value c l h. steps w c l h (m.step w value c l h) }
 
--- `is_locked` loads the next number first, and then the one that is served
+-- `is_locked` loads the next number first, and then the served one
 abbrev pub looks_backwards : {V : Type 0} → V → TicketMachine V
 looks_backwards v = with_steps v 0 (λ w c l h step. elim l [
   | LookServing ↦ stays w (Continue (LookNext w.next))
@@ -40,20 +40,21 @@ looks_backwards v = with_steps v 0 (λ w c l h step. elim l [
   | _ ↦ step
 ])
 
--- between the two loads a second party queues and the first releases: somebody holds or queues at every moment
+-- between its two loads a second party queues and the first one releases, so the lock is held or queued for at every
+-- moment
 abbrev pub look_beside_a_queue : {V : Type 0} → Entries V
 look_beside_a_queue =
     (0, Begin TryLock) ∷ (0, Step) ∷ (0, Step) ∷ (0, Step) ∷ (1, Begin IsLocked) ∷ (1, Step)
     ∷ (2, Begin Lock) ∷ (2, Step) ∷ (2, Step) ∷ (0, Begin Release) ∷ (0, Step) ∷ (1, Step) ∷ []
 
--- `lock` takes its ticket only if there is none
+-- `lock` takes a ticket only if nobody has one
 abbrev pub queues_behind_nobody : {V : Type 0} → V → TicketMachine V
 queues_behind_nobody v = with_steps v 0 (λ w c l h step. elim l [ LoadNext ↦ either (w.next == w.serving) step (stays w (Continue LoadNext)) | _ ↦ step ])
 
 abbrev pub lock_beside_a_holder : {V : Type 0} → Entries V
 lock_beside_a_holder = (0, Begin TryLock) ∷ (0, Step) ∷ (0, Step) ∷ (0, Step) ∷ (1, Begin Lock) ∷ (1, Step) ∷ (1, Step) ∷ []
 
--- a `lock` that goes on so where it looks whether its ticket is served, and makes this plain step
+-- a `lock` that continues with `next` when it looks for its turn, and makes the plain step `made`
 abbrev enters_so : {V : Type 0} → V → (ℕ → Next TicketPoint (Answer V)) → (ℕ → Option Change) → TicketMachine V
 enters_so {V} v next made =
     let m : TicketMachine V = with_steps v 0 (λ w c l h step. elim l [ Await t ↦ stays w (next t) | _ ↦ step ]) in
@@ -67,39 +68,39 @@ never_enters v = enters_so v (λ t. Continue (Await t)) (λ p. None)
 abbrev pub enters_by_look : {V : Type 0} → V → TicketMachine V
 enters_by_look v = enters_so v granted (λ p. Some (gets p to_enter))
 
--- two queue behind a holder, which releases, and the later one looks first
+-- two parties queue behind a holder; it releases, and the later one looks first
 abbrev pub two_queue : {V : Type 0} → Entries V
 two_queue =
     (0, Begin TryLock) ∷ (0, Step) ∷ (0, Step) ∷ (0, Step) ∷ (1, Begin Lock) ∷ (1, Step) ∷ (1, Step)
     ∷ (2, Begin Lock) ∷ (2, Step) ∷ (2, Step) ∷ (0, Begin Release) ∷ (0, Step) ∷ (2, Step) ∷ []
 
--- four steps of a party that is alone
+-- four steps of one party alone
 abbrev pub lock_alone : {V : Type 0} → Entries V
 lock_alone = (0, Begin Lock) ∷ (0, Step) ∷ (0, Step) ∷ (0, Step) ∷ (0, Step) ∷ []
 
--- a `try_lock` that looks and is refused, whatever it finds
+-- `try_lock` looks, and is always refused
 abbrev pub never_tries : {V : Type 0} → V → TicketMachine V
 never_tries v = with_steps v 0 (λ w c l h step. elim l [ TryLoadServing n ↦ stays w (Answers Refused h) | _ ↦ step ])
 
 abbrev pub try_alone : {V : Type 0} → Entries V
 try_alone = (0, Begin TryLock) ∷ (0, Step) ∷ (0, Step) ∷ []
 
--- an `is_locked` that finds both numbers in one step
+-- `is_locked` loads both numbers in one step
 abbrev pub looks_at_both : {V : Type 0} → V → TicketMachine V
 looks_at_both v = with_steps v 0 (λ w c l h step. elim l [ LookServing ↦ stays w (Answers (Is (not (w.next == w.serving))) h) | _ ↦ step ])
 
--- a `lock` that begins beside a ticket of its own too
+-- `lock` can begin even if its party has a ticket already
 abbrev pub locks_again : {V : Type 0} → V → TicketMachine V
 locks_again {V} v = let m : TicketMachine V = ticket_machine v 0 in record m { begin = λ c h. elim c [ Lock ↦ Some LoadNext | other ↦ m.begin other h ] }
 
--- a `try_lock` that is an `is_locked`
+-- `try_lock` does what `is_locked` does
 abbrev pub tries_by_looking : {V : Type 0} → V → TicketMachine V
 tries_by_looking {V} v =
     let m : TicketMachine V = ticket_machine v 0 in
     let as_look : TicketCall → TicketCall = λ c. elim c [ TryLock ↦ IsLocked | other ↦ other ] in
     record m { begin = λ c h. m.begin (as_look c) h; asks = λ c h. m.asks (as_look c) h }
 
--- a strong try, and a strong exchange of `lock`, that may refuse without cause
+-- a strong try, and a strong exchange of `lock`, may fail spuriously
 abbrev pub takes_by_chance : {V : Type 0} → V → TicketMachine V
 takes_by_chance {V} v =
     let m : TicketMachine V = ticket_machine v 0 in
@@ -111,11 +112,11 @@ try_in_vain = (0, Begin TryLock) ∷ (0, Step) ∷ (0, Step) ∷ (0, Weak) ∷ [
 abbrev pub lock_in_vain : {V : Type 0} → Entries V
 lock_in_vain = (0, Begin Lock) ∷ (0, Step) ∷ (0, Weak) ∷ []
 
--- a lock in whose queue a ticket stands at first, which is nobody's
+-- a ticket is in the queue at first, but it is no party's
 abbrev pub opens_with_a_ticket : {V : Type 0} → V → TicketMachine V
 opens_with_a_ticket {V} v = let m : TicketMachine V = ticket_machine v 0 in record m { words = record { next = 1; serving = 0 } }
 
--- `is_locked` makes a useless load between its two
+-- `is_locked` makes a useless load between its two loads
 abbrev pub looks_in_vain : {V : Type 0} → V → TicketMachine V
 looks_in_vain v = with_steps v 0 (λ w c l h step. elim c [
   | IsLocked ↦ elim l [ LookServing ↦ stays w (Continue (TryLoadServing w.serving)) | TryLoadServing k ↦ stays w (Continue (LookNext k)) | _ ↦ step ]
@@ -125,20 +126,20 @@ looks_in_vain v = with_steps v 0 (λ w c l h step. elim c [
 abbrev pub three_loads : {V : Type 0} → Entries V
 three_loads = (0, Begin IsLocked) ∷ (0, Step) ∷ (0, Step) ∷ []
 
--- a `try_lock` that takes the last ticket for used up
+-- `try_lock` does not take the last ticket
 abbrev pub leaves_the_last_ticket : {V : Type 0} → V → TicketMachine V
 leaves_the_last_ticket v =
     let some : ℕ → Bool = λ n. nat_lt (n + 1) ticket_limit in
     with_steps v (ticket_limit - 1) (λ w c l h step. elim l [ TryLoadServing n ↦ either (some n) step (stays w (Answers Refused h)) | _ ↦ step ])
 
--- a `try_lock` that loads the number that is served, and takes that one as its ticket
+-- `try_lock` loads only the served number, and takes it as its ticket
 abbrev pub tries_by_one_load : {V : Type 0} → V → TicketMachine V
 tries_by_one_load v = with_steps v 0 (λ w c l h step. elim l [ TryLoadNext ↦ stays w (Continue (TryTake w.serving)) | _ ↦ step ])
 
 abbrev pub one_load : {V : Type 0} → Entries V
 one_load = (0, Begin TryLock) ∷ (0, Step) ∷ []
 
--- a `try_lock` that loads the number that is served before the next one
+-- `try_lock` loads the served number before the next one
 abbrev pub swaps_its_loads : {V : Type 0} → V → TicketMachine V
 swaps_its_loads v = with_steps v 0 (λ w c l h step. elim l [
   | TryLoadNext ↦ stays w (Continue (TryLoadServing w.serving))
@@ -146,7 +147,7 @@ swaps_its_loads v = with_steps v 0 (λ w c l h step. elim l [
   | _ ↦ step
 ])
 
--- a holder releases between its two loads
+-- a holder releases between the two loads
 abbrev pub let_go_between : {V : Type 0} → Entries V
 let_go_between =
     (0, Begin TryLock) ∷ (0, Step) ∷ (0, Step) ∷ (0, Step) ∷ (1, Begin TryLock) ∷ (1, Step) ∷ (0, Begin Release) ∷ (0, Step) ∷ []

@@ -1,5 +1,5 @@
-//! A dispenser of numbers: a small object of one's own, of which no crate below knows. Each party draws one number, and
-//! no number is drawn twice.
+//! A dispenser of numbers: a small object of a caller's own, unknown to all crates below. Each party draws one number,
+//! and no number is drawn twice.
 //!
 //! Begin with [`Dispenser::new`].
 ghost use Rattle.std.specs.Prelude.{◌≡◌, true};
@@ -13,7 +13,7 @@ use spin_world_core::{Hold, Next, Object, Stepped};
 /// A call of a [`Dispenser`].
 #[derive(Clone, Copy)]
 pub enum DispenserCall {
-    /// Draws the next number. It is sold out only if every number had been drawn at some moment of the call.
+    /// Draws the next number. It is sold out only if every number was drawn already at some moment of the call.
     Draw,
     /// Draws this number, if it is the next one: a try that no other object has.
     DrawThis(u64),
@@ -41,7 +41,7 @@ pub enum DispenserAnswer {
     Count(u64),
 }
 
-/// The numbers from 0 up to a cap, of which parties draw the next one. The word is that number.
+/// The numbers from 0 up to a cap. Parties draw the next one, and the word is that number.
 #[derive(Drop)]
 pub struct Dispenser {
     cap: u64,
@@ -60,12 +60,12 @@ impl Dispenser {
     }
 }
 
-/// States that the numbers which any schedule draws are those below the word, each once and in order.
+/// States that the numbers drawn in any schedule are those below the word, each once and in order.
 pub fn numbers_are_drawn_in_order()
     ensures { (object : Dispenser) → let m = ⟦<Dispenser as Object>⟧.machine object in Always m (DrawsInOrder m) }
 {}
 
-/// Returns the next number after `number` has been drawn, or `None` if no number is left below `cap`.
+/// Returns the word after `number` is drawn, or `None` if no number is left below `cap`.
 fn next_after(cap: u64, number: u64) -> Option<u64>
     ensures { result ≡ next_after cap number }
 {

@@ -5,7 +5,7 @@ use spin_world_core::{Hold, Move, Outcome, Place, World};
 /// What a move may result in.
 type Came = Outcome<DispenserAnswer, ()>;
 
-/// A party, its move, what comes of it, and the word after it.
+/// A party, its move, the outcome, and the word after it.
 type Row = (usize, Move<DispenserCall, ()>, Came, u64);
 
 /// The answer of a call that began at this row.

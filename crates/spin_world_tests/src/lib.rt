@@ -1,4 +1,5 @@
-//! Wrong tables of each object, each with a law that it breaks; and a small object of one's own, a dispenser of numbers.
+//! Wrong tables of each object, each with a law that it breaks; and a small object of a caller's own, a dispenser of
+//! numbers.
 #![tactic(auto)]
 
 pub mod dispenser;

@@ -1,12 +1,13 @@
 //! The calls of the locks.
 use super::{Call, Case};
 use spin_core::lock::Lock;
-use spin_mutex::mutex::{FairMutex, SpinMutex};
+use spin_fair::fair::FairMutex;
+use spin_flag::spin::SpinMutex;
 use spin_rwlock::rwlock::RwLock;
 use std::sync;
 use std::sync::Wait;
 
-/// A lock of a number, to which each call adds 1.
+/// A lock with a number, to which each call adds 1.
 #[derive(Drop)]
 pub struct Adds<L>(pub L);
 
@@ -19,13 +20,13 @@ impl<L: Lock<u64> + Drop> Case for Adds<L> {
         0
     }
 
-    /// The number, or 0 where a call has left the lock held.
+    /// Returns the number, or 0 if a call left the lock held.
     fn added(self) -> u64 {
         self.0.try_with(|sum| *sum).unwrap_or(0)
     }
 }
 
-/// As [`Adds`] of a `SpinMutex`, where each worker has a pass.
+/// Like [`Adds`] of a `SpinMutex`, but each worker has a pass.
 #[derive(Drop)]
 pub struct PassAdds(pub SpinMutex<u64>);
 
@@ -41,13 +42,13 @@ impl Case for PassAdds {
         0
     }
 
-    /// The number, or 0 where a call has left the lock held.
+    /// Returns the number, or 0 if a call left the lock held.
     fn added(self) -> u64 {
         self.0.try_with(|sum| *sum).unwrap_or(0)
     }
 }
 
-/// A lock of a 1 that every worker only reads.
+/// A lock with a 1 that every worker only reads.
 #[derive(Drop)]
 pub struct Readers(pub RwLock<u64>);
 
@@ -62,7 +63,7 @@ impl Call for Readers {
     }
 }
 
-/// As [`Readers`], where each worker has a pass.
+/// Like [`Readers`], but each worker has a pass.
 #[derive(Drop)]
 pub struct PassReaders(pub RwLock<u64>);
 
@@ -83,8 +84,8 @@ impl Case for PassReaders {
     }
 }
 
-/// A lock that the first worker writes and the others read. Its number is odd: the writer adds 2, and a reader sees its
-/// lowest bit.
+/// A lock that the first worker writes and the others read. Its number is odd: the writer adds 2, and a reader
+/// returns the lowest bit.
 #[derive(Drop)]
 pub struct OneWriter(pub RwLock<u64>);
 
@@ -105,7 +106,7 @@ impl Call for OneWriter {
     }
 }
 
-/// A lock that is taken by an upgradable reader, who then becomes a reader, and reads its 1.
+/// A lock that an upgradable reader acquires; it then becomes a reader, and reads the 1.
 #[derive(Drop)]
 pub struct Upgrades(pub RwLock<u64>);
 
@@ -120,7 +121,7 @@ impl Call for Upgrades {
     }
 }
 
-/// A lock that is taken by starving, trying once, and letting go.
+/// A lock that a worker acquires by starving and trying once, and then releases.
 #[derive(Drop)]
 pub struct Starvers(pub FairMutex<u64>);
 

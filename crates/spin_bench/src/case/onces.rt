@@ -1,4 +1,4 @@
-//! The calls of what is made once, and of a barrier.
+//! The calls of a `Once`, of a `LazyLock` and of a barrier.
 use super::{Call, Case};
 use spin_barrier::barrier::Barrier;
 use spin_once::lazylock::LazyLock;
@@ -12,7 +12,7 @@ pub fn complete<W: Wait>(rt: &W) -> Once<u64> {
     once
 }
 
-/// A `Once` that has its value, a 1, and is looked at.
+/// A `Once` that has its value, a 1, which each call reads.
 #[derive(Drop)]
 pub struct Gets(pub Once<u64>);
 
@@ -27,8 +27,8 @@ impl Call for Gets {
     }
 }
 
-/// The same, asked with a closure, which does not run. The loop stands here, since the compiler tests a byte after each
-/// call that may wait, and the `call` of a [`Call`] would be one more.
+/// The same, called with a closure that never runs. The loop is here, because the compiler tests a byte after each
+/// call that may wait. The `call` of a [`Call`] would add one such test.
 #[derive(Drop)]
 pub struct LateCalls(pub Once<u64>);
 
@@ -47,12 +47,12 @@ impl Case for LateCalls {
     }
 }
 
-/// A `Once` that is made, asked for its value for the first time, and dropped.
+/// Each call makes a `Once`, asks for its value for the first time, and drops it.
 #[derive(Drop)]
 pub struct FirstCalls;
 
 impl Call for FirstCalls {
-    // One worker alone does it. Its number comes in, so that the value is not known where the loop is compiled.
+    // Only one worker does it. The value depends on its number, so that the compiler does not know the value.
     #[inline(always)]
     fn call<W: Wait>(&self, rt: &W, worker: usize) -> u64 {
         let once: Once<u64> = Once::new();
@@ -64,15 +64,15 @@ impl Call for FirstCalls {
     }
 }
 
-/// A `LazyLock` that has its value, a 1, and is asked for it. Each loop of calls has one of its own, since a caller
-/// has to know its initialiser.
+/// A `LazyLock` that has its value, a 1, which each call asks for. Each loop of calls makes a `LazyLock` of its own,
+/// because a caller has to know the initialiser.
 #[derive(Drop)]
 pub struct Forces;
 
 impl Case for Forces {
     #[inline(never)]
     fn repeat<W: Wait>(&self, rt: &W, worker: usize, calls: u64) -> u64 {
-        // One worker alone does it. Its number comes in, so that the value is not known where the loop is compiled.
+        // Only one worker does it. The value depends on its number, so that the compiler does not know the value.
         let lazy: LazyLock<u64, _> = LazyLock::new(|| (worker as u64).wrapping_add(1));
         let mut seen = 0u64;
         for _ in 0..calls {
@@ -86,7 +86,7 @@ impl Case for Forces {
     }
 }
 
-/// A barrier whose groups are of one party, who leads each.
+/// A barrier whose groups are one thread, which leads.
 #[derive(Drop)]
 pub struct Alone(pub Barrier);
 

@@ -1,10 +1,10 @@
-//! A barrier at which all threads that do the case wait for one another.
+//! A barrier at which all threads of the case wait for each other.
 use super::Case;
 use spin_barrier::barrier::Barrier;
 use std::sync::Wait;
 use std::sync::atomic::{AtomicBool, Ordering};
 
-/// A barrier whose groups are all threads that do the case. A call is one wait of one of them.
+/// A barrier whose group is all threads of the case. A call is one wait of one thread.
 #[derive(Drop)]
 pub struct Rounds {
     barrier: Barrier,
@@ -23,7 +23,7 @@ impl Rounds {
 }
 
 impl Case for Rounds {
-    /// The leader of a group has seen as many waits as there are threads.
+    /// The leader of a group has seen one wait of each thread.
     #[inline(never)]
     fn repeat<W: Wait>(&self, rt: &W, _worker: usize, calls: u64) -> u64 {
         let mut seen = 0u64;
@@ -35,8 +35,8 @@ impl Case for Rounds {
         seen
     }
 
-    /// They end together: one that waited on would wait for those that have gone. So one of them looks for all, while the
-    /// others wait.
+    /// All threads end together: a thread that went on waiting would wait for threads that have ended. So one of them
+    /// checks for all, while the others wait.
     fn is_to_stop<W: Wait>(&self, rt: &W, told: &AtomicBool) -> bool {
         if self.barrier.wait(rt).is_leader() {
             self.stops

@@ -1,4 +1,4 @@
-//! A lock whose one caller knows what it did.
+//! A lock whose only caller knows what it did.
 ghost use Rattle.std.specs.Prelude.{◌≡◌, Some};
 ghost use Rattle.spin_seated.specs.Passes.{IsPassOf};
 ghost use Rattle.spin_seated_uses.specs.Sections.{away, section_of};
@@ -10,7 +10,7 @@ use std::alloc::{AllocError, Global};
 use std::sync;
 use std::sync::Wait;
 
-/// A lock with a pass of its own.
+/// A lock, and a pass of it.
 #[derive(Drop)]
 struct Caller {
     lock: SeatedMutex,
@@ -30,7 +30,7 @@ impl Caller {
     }
 }
 
-/// A `SeatedMutex` with its one caller. A thread takes the caller once, and makes all its calls with it.
+/// A `SeatedMutex` with its only caller. A thread takes the caller once, and makes all its calls with it.
 #[derive(Drop)]
 pub struct Seated {
     caller: sync::Mutex<Caller>,
@@ -54,7 +54,7 @@ impl Case for Seated {
         0
     }
 
-    /// The value, where the lock is free.
+    /// Returns the value if the lock is free.
     fn added(self) -> u64 {
         let Seated { caller } = self;
         let Caller { lock, mut pass } = caller.into_inner();

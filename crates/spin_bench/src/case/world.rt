@@ -7,7 +7,7 @@ use std::sync::Wait;
 /// How many parties share the flag, one after another.
 const PARTIES: usize = 4;
 
-/// One party's whole turn while nobody else is in it: how it takes the lock, writes and leaves.
+/// One party's whole turn while no other party is in its turn: it acquires the lock, writes and releases.
 const TURN: [Move<FlagCall, u64>; 6] = [
     Move::Begin(FlagCall::Lock),
     Move::Step,
@@ -31,7 +31,7 @@ pub struct Plays {
 }
 
 impl Plays {
-    /// Turns one after another. The parties take them in order, again and again.
+    /// Creates turns one after another. The parties take turns in order, again and again.
     pub fn new(alloc: Global) -> Result<Plays, AllocError> {
         let mut schedule = Vec::new(alloc);
         for taken in 0..TURNS {
@@ -42,7 +42,7 @@ impl Plays {
         Ok(Plays { alloc, schedule })
     }
 
-    /// Plays so many entries of the schedule.
+    /// Plays this many entries of the schedule.
     fn play(&self, entries: usize) -> Result<Transcript<Flag<u64>>, AllocError> {
         let mut world: World<Flag<u64>> = World::new(self.alloc, Flag::new(0), PARTIES)?;
         world.run(self.schedule.get(..entries).unwrap_or(&[]))
@@ -50,7 +50,7 @@ impl Plays {
 }
 
 impl Case for Plays {
-    /// Nothing was seen where memory was refused.
+    /// If memory is refused, nothing was seen.
     #[inline(never)]
     fn repeat<W: Wait>(&self, _rt: &W, _worker: usize, calls: u64) -> u64 {
         match self.play(calls as usize) {
@@ -59,7 +59,7 @@ impl Case for Plays {
         }
     }
 
-    /// None, less the moves that are skipped in one more play.
+    /// Returns 0 minus the moves that one more play skips.
     fn added(self) -> u64 {
         let Ok(transcript) = self.play(self.schedule.len()) else {
             return 1;

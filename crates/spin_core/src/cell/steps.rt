@@ -1,4 +1,4 @@
-//! The steps on a cell's words. Each appends to the trace that lies behind the value. Begin with [`Play`].
+//! The steps on a cell's words. Each appends to the cell's trace. Begin with [`Play`].
 ghost use Rattle.std.specs.Prelude.{◌≡◌, ◌+◌, ◌-◌, ◌%◌, ◌^◌, ◌==◌, ℕ, List, Option, bit_or};
 ghost use prog.Atomic.{either};
 ghost use Rattle.spin_core.specs.Cell.{Moved, Keeps};
@@ -11,31 +11,31 @@ use std::marker::{Brand, PhantomData};
 use std::sync::atomic::Ordering::SeqCst;
 use std::sync::atomic::raw;
 
-/// A kind of step, by what it appends to the trace and tells its caller.
+/// A kind of step: what it appends to the trace, and what it tells its caller.
 pub trait Play<K, V, E> {
-    // Of the key of the rule, the operands (0 where there is none), the view before, the trace before, what the step
-    // appended, the number found and the view after.
+    // The arguments: the rule's key, the operands (0 if there is none), the view and the trace before, what the step
+    // appended, the number found, and the view after.
     ghost told: { K → ℕ → ℕ → Option V → List E → List E → ℕ → V → Type 0 };
 }
 
 /// Steps on the first word.
 ///
-/// Each is one atomic operation. By it the party gets a new view, and appends entries to the trace: which ones its
-/// `Play` says. A value that is shown before and after the step is the same (`Keeps`).
+/// Each is one atomic operation. The party gets a new view, and appends entries to the trace, as the step's `Play`
+/// says. A value that is shown before and after the step is the same (`Keeps`).
 ///
-/// Each call takes what its caller knows of the trace and returns what is known after the step: all that was there
-/// before it, and what it appended. A caller that knows nothing passes [`Watch::nothing`].
+/// Each call takes what its caller knows of the trace. It returns what is known after the step: the trace as it was
+/// before the step, and what the step appended. A caller that knows nothing passes [`Watch::nothing`].
 ///
 /// # Contract
-/// Whatever the words, the trace and the other views are, there have to be a next view and entries to append of which
-/// the `Play` holds and which keep the rule (`Traces`). The watch has to be of the cell's trace, or to know nothing
-/// (`MayKnow`). After the step the `Play` holds (`Moved`), of the trace as the watch tells it (`Watches`).
+/// Whatever the words, the trace and the other views are, a next view and entries have to exist that satisfy the `Play`
+/// and keep the rule (`Traces`). The watch has to be of the cell's trace, or to know nothing (`MayKnow`). After the
+/// step the `Play` holds (`Moved`), of the trace as the watch tells it (`Watches`).
 ///
 /// Where the rule knows a fact of a value that nobody writes, the step has to keep it (`Carrying`). A party that has
-/// written leaves the fact of what it was shown, and the trace then. One that comes to use the value is told the fact of
-/// what it is shown (`Found`).
+/// written leaves the fact of what it was shown, and the trace then. One that comes to use the value, reads on or leaves
+/// it is told the fact of what it is shown (`Found`).
 impl<'a, T, V, E, S, P: Rule<T, V, Second = Trace<E, S>>> Permit<'a, T, V, P> {
-    /// Reads the first word.
+    /// Loads the first word.
     pub fn load<M: Play<P::Key, V, E>>(self, seen: Watch<E>) -> (u64, Permit<'a, T, V, P>, Watch<E>)
         requires { MayKnow (P.holds self.key) (P.ways self.key) seen × Traces (P.holds self.key) (P.ways self.key) self.view self.value (λ n. n) (M.told self.key 0 0 self.view) }
         ensures moved { Moved (Watches (Named (P.holds self.entry.key) (P.ways self.entry.key) seen.name) seen result.2 (M.told self.entry.key 0 0 self.entry.view) result.0) result.1.view }
@@ -55,7 +55,7 @@ impl<'a, T, V, E, S, P: Rule<T, V, Second = Trace<E, S>>> Permit<'a, T, V, P> {
         )
     }
 
-    /// Writes `new` over the first word if it is `old`, and returns the word as it was.
+    /// Stores `new` in the first word if that is `old`, and returns the word found.
     pub fn exchange<M: Play<P::Key, V, E>>(
         self,
         old: u64,
@@ -80,7 +80,7 @@ impl<'a, T, V, E, S, P: Rule<T, V, Second = Trace<E, S>>> Permit<'a, T, V, P> {
         )
     }
 
-    /// Writes `new` over the first word.
+    /// Stores `new` in the first word.
     pub fn store<M: Play<P::Key, V, E>>(
         self,
         new: u64,
@@ -103,7 +103,7 @@ impl<'a, T, V, E, S, P: Rule<T, V, Second = Trace<E, S>>> Permit<'a, T, V, P> {
         )
     }
 
-    /// Adds `by` to the first word, modulo 2^64, and returns the word as it was.
+    /// Adds `by` to the first word, modulo 2^64, and returns the word found.
     pub fn add<M: Play<P::Key, V, E>>(
         self,
         by: u64,
@@ -127,7 +127,7 @@ impl<'a, T, V, E, S, P: Rule<T, V, Second = Trace<E, S>>> Permit<'a, T, V, P> {
         )
     }
 
-    /// Subtracts `by` from the first word, modulo 2^64, and returns the word as it was.
+    /// Subtracts `by` from the first word, modulo 2^64, and returns the word found.
     pub fn subtract<M: Play<P::Key, V, E>>(
         self,
         by: u64,
@@ -151,7 +151,7 @@ impl<'a, T, V, E, S, P: Rule<T, V, Second = Trace<E, S>>> Permit<'a, T, V, P> {
         )
     }
 
-    /// Sets the bits of `mask` in the first word, and returns the word as it was.
+    /// Sets the bits of `mask` in the first word, and returns the word found.
     pub fn set_bits<M: Play<P::Key, V, E>>(
         self,
         mask: u64,
@@ -176,12 +176,12 @@ impl<'a, T, V, E, S, P: Rule<T, V, Second = Trace<E, S>>> Permit<'a, T, V, P> {
     }
 }
 
-/// Steps on the second word, which lies beside the trace.
+/// Steps on the second word, which is next to the trace.
 ///
 /// # Contract
-/// As of a step on the first word (`TracesSecond`).
+/// That of a step on the first word (`TracesSecond`).
 impl<'a, T, V, E, P: Rule<T, V, Second = Trace<E, u64>>> Permit<'a, T, V, P> {
-    /// Reads the second word.
+    /// Loads the second word.
     pub fn load_second<M: Play<P::Key, V, E>>(
         self,
         seen: Watch<E>,
@@ -204,7 +204,7 @@ impl<'a, T, V, E, P: Rule<T, V, Second = Trace<E, u64>>> Permit<'a, T, V, P> {
         )
     }
 
-    /// Writes `new` over the second word.
+    /// Stores `new` in the second word.
     pub fn store_second<M: Play<P::Key, V, E>>(
         self,
         new: u64,

@@ -1,4 +1,4 @@
-//! `Debug` and `Display` of a guard, which prints as its value. Begin at `Debug`.
+//! `Debug` and `Display` of a guard, which print its value. Begin at `Debug`.
 ghost use Rattle.spin_core.specs.Guard.{guard_value};
 
 use super::{Guard, Release};

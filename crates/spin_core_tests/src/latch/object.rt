@@ -26,7 +26,7 @@ impl LatchObject {
     }
 }
 
-/// Makes the exchange of a call that comes to write. If it is refused, the call goes on by `lost`.
+/// Makes the exchange of a call that wants to write. If it fails, the call continues with `lost`.
 fn exchange(
     words: usize,
     lost: Next<LatchPoint, Answer<()>>,
@@ -37,7 +37,7 @@ fn exchange(
     Stepped::exchange(words, steps::write(words), won, lost)
 }
 
-/// Makes a step of a call that comes to read.
+/// Makes a step of a call that wants to read.
 fn come(
     point: LatchPoint,
     words: usize,

@@ -1,4 +1,4 @@
-//! The rule of a latch: what each party is to it ([`View`]), what its word and its trace say of all of them, and each
+//! The rule of a latch: what each party is to it ([`View`]), what its word and its trace say of all parties, and each
 //! kind of step.
 ghost use Rattle.std.specs.Prelude.{true, false, refl};
 ghost use Rattle.spin_core.specs.Cell.{use_of};
@@ -18,11 +18,11 @@ pub enum View {
     Idle,
     Reading,
     Writing,
-    /// It is in `read`, if the flag is true, or else in `try_read`. It goes on with its exchange of this word.
+    /// It is in `read` if the flag is true, else in `try_read`. Its next step is the exchange of this word.
     Coming(bool, usize),
-    /// It is in `read`, and goes on with a look.
+    /// It is in `read`, and its next step is a look.
     WaitingToRead,
-    /// It is in `write`, and goes on with its exchange.
+    /// It is in `write`, and its next step is the exchange.
     WaitingToWrite,
 }
 
@@ -32,7 +32,7 @@ pub type Party = tie::Numbered<View>;
 /// An entry of the latch's trace.
 pub type Entry = tie::Entry<LatchCall>;
 
-/// The rule of a latch over a `T`, which parties may read beside one another. No value of this type is made.
+/// The rule of a latch over a `T`, which several parties may read at once. No value of this type is made.
 pub struct LatchRule<T> {
     never: T,
 }
@@ -66,7 +66,7 @@ impl Play<Watch<Entry>, Party, Entry> for Looks {
     ghost told = { λ key old new before. Leads (at_word true) before };
 }
 
-// The exchange of a call that comes to read.
+// The exchange of a call that wants to read.
 pub(super) struct Comes;
 
 impl Play<Watch<Entry>, Party, Entry> for Comes {

@@ -5,10 +5,10 @@ ghost use Rattle.spin_step.specs.Parties.{IsExclusive};
 ghost use Rattle.spin_step.specs.Steps.{Decides};
 ghost use Rattle.spin_core_tests.specs.Latch.{latch_limit, latch_word, let_in, taken};
 
-/// The most readers that a latch lets in.
+/// The most readers that a latch admits.
 pub const MAX_READERS: usize = 4_294_967_295;
 
-/// Returns the word after a reader is let in, or `None` beside a writer and at the limit.
+/// Returns the word after one more reader, or `None` if a writer holds or the limit is reached.
 pub fn read(word: usize) -> Option<usize>
     ensures exact { result ≡ let_in word }
     ensures plain { (s : Plain) (party : ℕ) → IsExclusive s → s.cap ≡ latch_limit → latch_word s ≡ word → Decides s (gets party to_read) latch_word result }
@@ -20,7 +20,7 @@ pub fn read(word: usize) -> Option<usize>
     }
 }
 
-/// Returns the word after a writer is let in, or `None` beside anybody.
+/// Returns the word after a writer acquires the latch, or `None` if anybody holds it.
 pub fn write(word: usize) -> Option<usize>
     ensures exact { result ≡ taken word }
     ensures plain { (s : Plain) (party : ℕ) → latch_word s ≡ word → Decides s (gets party to_write) latch_word result }

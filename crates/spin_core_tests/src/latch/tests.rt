@@ -1,4 +1,4 @@
-//! What no contract says of a latch: which call is granted, that threads get on, and one schedule of its object.
+//! What no contract says of a latch: which calls succeed, that threads make progress, and one schedule of its object.
 use super::Latch;
 use super::calls::LatchCall;
 use super::object::LatchObject;
@@ -28,7 +28,7 @@ fn many_read_or_one_writes(rt: HostRuntime) {
 
 const TURNS: u64 = 2000;
 
-// Adds to both numbers, and reads them between. They are always the same to a reader.
+// Adds to both numbers, with a read in between. A reader always sees equal numbers.
 fn add_and_read<W: Wait>(rt: &W, latch: &Latch<(u64, u64)>) -> bool {
     let mut same = true;
     for _ in 0..TURNS {

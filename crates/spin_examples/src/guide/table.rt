@@ -1,4 +1,4 @@
-//! A table that threads read together. Who misses an entry inserts it.
+//! A table that several threads read at once. A thread that misses an entry inserts it.
 #![tactic(auto)]
 
 use spin::RwLock;

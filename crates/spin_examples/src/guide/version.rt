@@ -3,9 +3,10 @@
 
 ghost use Rattle.std.specs.Prelude.{◌≤◌};
 
-use spin::growing::{Ascending, Growing};
-use spin::history::{BlankLog, History, Snapshot, Work, open};
-use spin::{RwLock, register};
+use spin::RwLock;
+use spin_history::growing::{Ascending, Growing};
+use spin_history::history::{BlankLog, History, Snapshot, Work, open};
+use spin_history::register;
 use std::sync::Wait;
 
 type Version<H> = RwLock<Growing<u64, Ascending, H>>;

@@ -1,11 +1,12 @@
 //! A party that knows the lock's history, between two of its steps. Begin with [`Account`].
 ghost use Rattle.std.specs.Prelude.{◌≡◌, Some, true, length};
 ghost use Rattle.spin_core.specs.Cell.{writes, use_of};
-ghost use Rattle.spin_core.specs.Guard.{IsHolder, guard_view};
+ghost use Rattle.spin_core.specs.Guard.{guard_key, guard_view};
 ghost use Rattle.spin_core.specs.Own.{what};
 ghost use Rattle.spin_core.specs.Passes.{mark_of};
+ghost use Rattle.spin_core.specs.Values.{IsLast};
 ghost use Rattle.spin_fair.specs.Fair.{use_of_party, awaits};
-ghost use Rattle.spin_fair.specs.Guards.{Holds};
+ghost use Rattle.spin_fair.specs.Guards.{IsGranted};
 ghost use Rattle.spin_fair.specs.declared.fair.rule.View.TheVariants.{Looking};
 
 use super::FairMutexGuard;
@@ -14,37 +15,37 @@ use spin_core::cell::Permit;
 use spin_core::guard::Guard;
 use spin_core::trace::Watch;
 
-// A party, and all moves in the lock up to its last step.
+// A party, and all moves in the lock up to its last step. A value that it is shown is the one that was written last.
 pub struct Account<'a, T> {
     pub(super) permit: Permit<'a, T, Party, FairRule>,
-    pub(super) seen: Watch<Entry>,
+    pub(super) seen: Watch<Entry<T>>,
     ghost named: { permit.key.name ≡ seen.name },
     ghost knows: { mark_of permit.view ≡ length seen.entries },
+    ghost finds: { (x : T) → permit.value ≡ Some x → IsLast permit.key seen.entries x },
 }
 
-/// A call of `lock` that goes on with a look.
+/// A call of `lock` whose next step is a look.
 pub struct Waiting<'a, T> {
-    // The looks that found the lock held, until there are enough to starve.
+    // How many looks have found the lock held, until there are enough to starve.
     pub(crate) spins: usize,
     pub(super) account: Account<'a, T>,
     ghost looks: { what account.permit.view ≡ Some (Looking spins) },
 }
 
-// A starver in a call that waits, which goes on with a look.
+// A starver in a waiting call, whose next step is a look.
 pub(super) struct Awaiting<'a, T> {
     pub(super) account: Account<'a, T>,
     ghost awaits: { awaits (what account.permit.view) ≡ true },
 }
 
 // A guard, and all that its pass knows.
-pub(crate) type Got<'a, T, R> = (FairMutexGuard<'a, T, R>, Watch<Entry>);
+pub(crate) type Got<'a, T, R> = (FairMutexGuard<'a, T, R>, Watch<Entry<T>>);
 
 impl<'a, T> Account<'a, T> {
     pub(super) fn into_guard<R>(self) -> Got<'a, T, R>
         requires { use_of use_of_party self.permit.view ≡ writes }
-        ensures holder { IsHolder use_of_party result.0 }
-        ensures holds { Holds result.0 result.1 }
-        ensures same { (Some (guard_view result.0) ≡ self.entry.permit.view) × (result.1 ≡ self.entry.seen) }
+        ensures granted { IsGranted result.0 result.1 }
+        ensures same { (Some (guard_view result.0) ≡ self.entry.permit.view) × (guard_key result.0 ≡ self.entry.permit.key) × (result.1 ≡ self.entry.seen) }
     {
         let Self { permit, seen } = self;
         (Guard::new(permit.into_writer()), seen)

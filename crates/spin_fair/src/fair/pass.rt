@@ -1,12 +1,13 @@
-//! The calls of a [`FairMutex`] by a thread that keeps account of them. Begin at [`FairMutex::pass`].
+//! The calls of a [`FairMutex`] by a thread that keeps track of them. Begin at [`FairMutex::pass`].
 ghost use Rattle.std.specs.Prelude.{◌≡◌, ◌⊎◌, Some, None, [], true, IfOk, IfErr};
 ghost use mathlib.Core.List.{IsPrefix};
-ghost use Rattle.spin_core.specs.Guard.{IsHolder, guard_view};
-ghost use Rattle.spin_fair.specs.Fair.{use_of_party, stands, answer_of, Called};
+ghost use Rattle.spin_core.specs.Guard.{IsHolder, guard_view, guard_key, guard_value};
+ghost use Rattle.spin_core.specs.Values.{IsLast};
+ghost use Rattle.spin_fair.specs.Fair.{use_of_party, stands, answer_of, Called, Left};
 ghost use Rattle.spin_fair.specs.Guards.{Holds};
 ghost use Rattle.spin_fair.specs.declared.fair.rule.View.TheVariants.{Idle, Holding};
-ghost use Rattle.spin_model.specs.declared.answer.Answer.TheVariants.{Granted, Refused, Is, Done};
-ghost use Rattle.spin_step_more.specs.declared.fair_calls.FairCall.TheVariants.{Lock, TryLock, TryLockStarver, IsLocked, Starve, Release};
+ghost use Rattle.spin_model.specs.declared.answer.Answer.TheVariants.{Granted, Refused, Is};
+ghost use Rattle.spin_step_more.specs.declared.fair_calls.FairCall.TheVariants.{Lock, TryLock, TryLockStarver, IsLocked, Starve};
 
 use super::account::Account;
 use super::rule::{Attempt, AttemptToKnow, Entry, Frees, LOCKED, Load};
@@ -20,16 +21,16 @@ use spin_step_more::fair;
 use std::marker::PhantomData;
 use std::sync::Wait;
 
-/// A thread's account of its calls of a [`FairMutex`].
+/// A thread's record of its calls of a [`FairMutex`].
 ///
 /// The lock's cell keeps the list of all moves that threads have made in it (its history). A pass knows which of these
-/// moves are its own, and the whole list up to its last one. Calls without a pass are in the history too, as calls of
-/// others. A pass is as large as a reference to the lock. It can be sent, and a lock has any number of them.
+/// moves are its own, and the whole list up to its own last move. Calls without a pass are in the history too, as calls
+/// of others. A pass is as large as a reference to the lock. It can be sent, and a lock can have any number of passes.
 ///
 /// # Contract
-/// Each call takes the pass and returns it. It ensures `Called`: of the moves by which the history grew, those of this
-/// pass are exactly one call, with the answer that is returned. In the lock's model that call has this answer, at its
-/// place among the moves of all threads, and no move of the history is passed over.
+/// Each call takes the pass and returns it. It ensures `Called`: among the new moves of the history, those of this pass
+/// are exactly one call with the returned answer. In the lock's model that call gets this answer, at its place among
+/// the moves of all threads. No move of the history is skipped.
 #[must_use = "a pass that is dropped ends: bind it, or write `drop(..)`"]
 pub struct Pass<'a, T, R> {
     pub(super) account: Account<'a, T>,
@@ -41,9 +42,10 @@ impl<T, R> FairMutex<T, R> {
     /// Returns a pass that has made no call. It makes no operation on the lock.
     ///
     /// # Contract
-    /// The pass is of this lock, and knows nothing of its history yet (`new`).
+    /// The pass is of this lock, and knows nothing of its history yet (`new`, `lock`).
     pub fn pass(&self) -> Pass<'_, T, R>
         ensures new { (result.account.seen.name ≡ self.now.cell.name) × (result.account.seen.entries ≡ []) × (result.account.permit.view ≡ None) }
+        ensures lock { result.account.permit.key ≡ self.now.cell }
     {
         Pass::new(self.account())
     }
@@ -53,12 +55,15 @@ impl<T, R> FairMutex<T, R> {
     /// A guard that is dropped releases the lock too, and ends its pass.
     ///
     /// # Contract
-    /// `seen` has to be what the call returned with the guard (`Holds`). The call is in the history, as the pass's
-    /// next one (`made`).
-    pub fn unlock<'a>(guard: FairMutexGuard<'a, T, R>, seen: Watch<Entry>) -> Pass<'a, T, R>
+    /// `seen` has to be what the call returned with the guard (`Holds`). The pass makes the call, as its next one, behind
+    /// a write (`made`): it writes the guard's value into the history (`wrote`). So that value is the one written last
+    /// (`left`).
+    pub fn unlock<'a>(guard: FairMutexGuard<'a, T, R>, seen: Watch<Entry<T>>) -> Pass<'a, T, R>
         requires { Holds guard seen }
-        ensures made { Called Release Done (Some (guard_view guard.entry)) seen.entries result.account.permit.view result.account.seen.entries }
-        ensures same { result.account.seen.name ≡ seen.name }
+        ensures made { Left (guard_key guard.entry).value (λ x. Unit {0}) (Some (guard_view guard.entry)) seen.entries result.account.permit.view result.account.seen.entries }
+        ensures wrote { Left (guard_key guard.entry).value (λ x. (guard_key guard.entry).told ≡ true → x ≡ guard_value guard.entry) (Some (guard_view guard.entry)) seen.entries result.account.permit.view result.account.seen.entries }
+        ensures left { IsLast (guard_key guard.entry) result.account.seen.entries (guard_value guard.entry) }
+        ensures same { (result.account.seen.name ≡ seen.name) × (result.account.permit.key ≡ guard_key guard.entry) }
     {
         let permit = Guard::into_writer(guard).into_permit();
         let (_, permit, seen) = permit.subtract::<Frees>(LOCKED, seen);
@@ -70,16 +75,18 @@ impl<T, R> FairMutex<T, R> {
 }
 
 impl<'a, T, R: RelaxStrategy> Pass<'a, T, R> {
-    /// Acquires the lock as [`FairMutex::lock`] does. Returns the guard, and what the pass knows then.
+    /// Acquires the lock as [`FairMutex::lock`] does. Returns the guard, and what the pass then knows.
     ///
     /// # Contract
     /// The call is one `Lock` with the answer `Granted`, however often it looked and tried, and also where it starved
-    /// (`made`). The guard belongs to a holder of the lock. Whether and when the call returns is not promised.
-    pub fn lock<W: Wait>(self, rt: &W) -> (FairMutexGuard<'a, T, R>, Watch<Entry>)
+    /// (`made`). The guard belongs to a holder of the lock, and its value is the one written last in the history
+    /// (`found`). Whether and when the call returns is not promised.
+    pub fn lock<W: Wait>(self, rt: &W) -> (FairMutexGuard<'a, T, R>, Watch<Entry<T>>)
         ensures holder { IsHolder use_of_party result.0 }
         ensures holds { Holds result.0 result.1 }
-        ensures same { result.1.name ≡ self.entry.account.seen.name }
-        ensures made { Called Lock Granted self.entry.account.permit.view self.entry.account.seen.entries (Some (guard_view result.0)) result.1.entries }
+        ensures same { (result.1.name ≡ self.entry.account.seen.name) × (guard_key result.0 ≡ self.entry.account.permit.key) }
+        ensures found { IsLast self.entry.account.permit.key result.1.entries (guard_value result.0) }
+        ensures made { Called self.entry.account.permit.key.value Lock Granted self.entry.account.permit.view self.entry.account.seen.entries (Some (guard_view result.0)) result.1.entries }
     {
         let Self {
             account,
@@ -94,11 +101,11 @@ impl<'a, T, R: RelaxStrategy> Pass<'a, T, R> {
     /// Registers the caller as a starver, as [`FairMutex::starve`] does. Returns the pass if too many starve.
     ///
     /// # Contract
-    /// The call is one `Starve`, with the answer `Granted` and a pass that starves (`granted`), or else `Refused`
+    /// The call is one `Starve`. Its answer is `Granted` with a pass that starves (`granted`), else `Refused`
     /// (`refused`). Whether and when the call returns is not promised.
     pub fn starve<W: Wait>(self, rt: &W) -> Result<StarvingPass<'a, T, R>, Pass<'a, T, R>>
-        ensures granted { IfOk result (λ pass. Called Starve Granted self.entry.account.permit.view self.entry.account.seen.entries pass.account.permit.view pass.account.seen.entries × (pass.account.seen.name ≡ self.entry.account.seen.name)) }
-        ensures refused { IfErr result (λ pass. Called Starve Refused self.entry.account.permit.view self.entry.account.seen.entries pass.account.permit.view pass.account.seen.entries × (pass.account.seen.name ≡ self.entry.account.seen.name)) }
+        ensures granted { IfOk result (λ pass. Called self.entry.account.permit.key.value Starve Granted self.entry.account.permit.view self.entry.account.seen.entries pass.account.permit.view pass.account.seen.entries × ((pass.account.seen.name ≡ self.entry.account.seen.name) × (pass.account.permit.key ≡ self.entry.account.permit.key))) }
+        ensures refused { IfErr result (λ pass. Called self.entry.account.permit.key.value Starve Refused self.entry.account.permit.view self.entry.account.seen.entries pass.account.permit.view pass.account.seen.entries × ((pass.account.seen.name ≡ self.entry.account.seen.name) × (pass.account.permit.key ≡ self.entry.account.permit.key))) }
     {
         let Self { account, strategy } = self;
         match register(rt, account) {
@@ -123,13 +130,15 @@ impl<'a, T, R> Pass<'a, T, R> {
     /// starver is registered.
     ///
     /// # Contract
-    /// The call is one `TryLock`, with the answer `Granted` and a guard (`granted`), or else `Refused` (`refused`).
-    pub fn try_lock(self) -> Result<(FairMutexGuard<'a, T, R>, Watch<Entry>), Pass<'a, T, R>>
+    /// The call is one `TryLock`, with the answer `Granted` and a guard (`granted`), or else `Refused` (`refused`). The
+    /// guard's value is the one written last in the history (`found`).
+    pub fn try_lock(self) -> Result<(FairMutexGuard<'a, T, R>, Watch<Entry<T>>), Pass<'a, T, R>>
         ensures holder { IfOk result (λ held. IsHolder use_of_party held.0 × Holds held.0 held.1) }
         ensures newcomer { IfOk result (λ held. (guard_view held.0).0 ≡ Holding) }
-        ensures same { IfOk result (λ held. held.1.name ≡ self.entry.account.seen.name) }
-        ensures granted { IfOk result (λ held. Called TryLock Granted self.entry.account.permit.view self.entry.account.seen.entries (Some (guard_view held.0)) held.1.entries) }
-        ensures refused { IfErr result (λ pass. Called TryLock Refused self.entry.account.permit.view self.entry.account.seen.entries pass.account.permit.view pass.account.seen.entries × (pass.account.seen.name ≡ self.entry.account.seen.name)) }
+        ensures same { IfOk result (λ held. (held.1.name ≡ self.entry.account.seen.name) × (guard_key held.0 ≡ self.entry.account.permit.key)) }
+        ensures found { IfOk result (λ held. IsLast self.entry.account.permit.key held.1.entries (guard_value held.0)) }
+        ensures granted { IfOk result (λ held. Called self.entry.account.permit.key.value TryLock Granted self.entry.account.permit.view self.entry.account.seen.entries (Some (guard_view held.0)) held.1.entries) }
+        ensures refused { IfErr result (λ pass. Called self.entry.account.permit.key.value TryLock Refused self.entry.account.permit.view self.entry.account.seen.entries pass.account.permit.view pass.account.seen.entries × ((pass.account.seen.name ≡ self.entry.account.seen.name) × (pass.account.permit.key ≡ self.entry.account.permit.key))) }
     {
         let Self { account, strategy } = self;
         let free = 0;
@@ -148,7 +157,8 @@ impl<'a, T, R> Pass<'a, T, R> {
     ///
     /// # Contract
     /// The call is one `TryLockStarver`, with the answer `Granted` and a guard (`granted`), or else with the reason
-    /// that is returned, `Locked` or `Starved` (`refused`).
+    /// that is returned, `Locked` or `Starved` (`refused`). The guard's value is the one written last in the history
+    /// (`found`).
     ///
     /// # Examples
     /// ```
@@ -164,12 +174,13 @@ impl<'a, T, R> Pass<'a, T, R> {
     /// ```
     pub fn try_lock_starver(
         self,
-    ) -> Result<(FairMutexGuard<'a, T, R>, Watch<Entry>), (LockRejectReason, Pass<'a, T, R>)>
+    ) -> Result<(FairMutexGuard<'a, T, R>, Watch<Entry<T>>), (LockRejectReason, Pass<'a, T, R>)>
         ensures holder { IfOk result (λ held. IsHolder use_of_party held.0 × Holds held.0 held.1) }
         ensures newcomer { IfOk result (λ held. (guard_view held.0).0 ≡ Holding) }
-        ensures same { IfOk result (λ held. held.1.name ≡ self.entry.account.seen.name) }
-        ensures granted { IfOk result (λ held. Called TryLockStarver Granted self.entry.account.permit.view self.entry.account.seen.entries (Some (guard_view held.0)) held.1.entries) }
-        ensures refused { IfErr result (λ told. Called TryLockStarver (answer_of told.0) self.entry.account.permit.view self.entry.account.seen.entries told.1.account.permit.view told.1.account.seen.entries × (told.1.account.seen.name ≡ self.entry.account.seen.name)) }
+        ensures same { IfOk result (λ held. (held.1.name ≡ self.entry.account.seen.name) × (guard_key held.0 ≡ self.entry.account.permit.key)) }
+        ensures found { IfOk result (λ held. IsLast self.entry.account.permit.key held.1.entries (guard_value held.0)) }
+        ensures granted { IfOk result (λ held. Called self.entry.account.permit.key.value TryLockStarver Granted self.entry.account.permit.view self.entry.account.seen.entries (Some (guard_view held.0)) held.1.entries) }
+        ensures refused { IfErr result (λ told. Called self.entry.account.permit.key.value TryLockStarver (answer_of told.0) self.entry.account.permit.view self.entry.account.seen.entries told.1.account.permit.view told.1.account.seen.entries × ((told.1.account.seen.name ≡ self.entry.account.seen.name) × (told.1.account.permit.key ≡ self.entry.account.permit.key))) }
     {
         let Self { account, strategy } = self;
         let free = 0;
@@ -188,13 +199,13 @@ impl<'a, T, R> Pass<'a, T, R> {
         }
     }
 
-    /// Looks whether the lock is held, as [`FairMutex::is_locked`] does.
+    /// Returns whether the lock is held, as [`FairMutex::is_locked`] does.
     ///
     /// # Contract
-    /// The call is one `IsLocked`, with the answer that is returned (`made`).
+    /// The call is one `IsLocked`, with the returned answer (`made`).
     pub fn is_locked(self) -> (bool, Pass<'a, T, R>)
-        ensures made { Called IsLocked (Is result.0) self.entry.account.permit.view self.entry.account.seen.entries result.1.account.permit.view result.1.account.seen.entries }
-        ensures same { result.1.account.seen.name ≡ self.entry.account.seen.name }
+        ensures made { Called self.entry.account.permit.key.value IsLocked (Is result.0) self.entry.account.permit.view self.entry.account.seen.entries result.1.account.permit.view result.1.account.seen.entries }
+        ensures same { (result.1.account.seen.name ≡ self.entry.account.seen.name) × (result.1.account.permit.key ≡ self.entry.account.permit.key) }
     {
         let Self { account, strategy } = self;
         let Account { permit, seen } = account;
@@ -206,8 +217,8 @@ impl<'a, T, R> Pass<'a, T, R> {
     /// Compares what two passes of one lock know. It does nothing when it runs.
     ///
     /// # Contract
-    /// What one of them knows of the history is a beginning of what the other knows. So both know one history, and the
-    /// one that knows more has the calls of both in it, each once, in the order in which each pass made them.
+    /// One of them knows a prefix of the history that the other knows. So both know one history. The longer one has the
+    /// calls of both passes, each once, in the order in which each pass made them.
     pub fn compare(&self, other: &Pass<'_, T, R>)
         requires { self.now.account.seen.name ≡ other.now.account.seen.name }
         ensures { IsPrefix self.now.account.seen.entries other.now.account.seen.entries ⊎ IsPrefix other.now.account.seen.entries self.now.account.seen.entries }

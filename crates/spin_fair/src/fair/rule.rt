@@ -1,13 +1,14 @@
 //! What a party is to a `FairMutex`, and what the word of the lock says of its parties. Begin at [`FairRule`].
 ghost use Rattle.std.specs.Prelude.{refl};
-ghost use Rattle.spin_core.specs.Cell.{alone, no_fact, use_of};
+ghost use Rattle.spin_core.specs.Cell.{use_of};
 ghost use Rattle.spin_core.specs.Own.{what};
-ghost use Rattle.spin_step_more.specs.declared.fair_calls.FairCall.TheVariants.{TryLock, TryLockStarver, StarverTryLockFair, StarverTryLock, StarverLock, StarverDrop, Release};
-ghost use Rattle.spin_fair.specs.Fair.{IsFair, Told, use_of_party, call_of, looks_by, tries_by, tried_by, looked_by, registers_by, alone_by, sets_by, awaits_by, served_by, ends_by};
+ghost use Rattle.spin_core.specs.Values.{untold};
+ghost use Rattle.spin_step_more.specs.declared.fair_calls.FairCall.TheVariants.{TryLock, TryLockStarver, StarverTryLockFair, StarverTryLock, StarverLock};
+ghost use Rattle.spin_fair.specs.Fair.{IsFair, Told, fair_ways, use_of_party, call_of, looks_by, tries_by, tried_by, looked_by, registers_by, alone_by, sets_by, awaits_by, served_by, gives_up_by, frees_by};
 
 use spin_core::cell::{Play, Rule, WritePermit};
 use spin_core::guard::{self, Uses};
-use spin_core::tie;
+use spin_core::tie::{self, Opening};
 use spin_core::trace::{Trace, Watch};
 use spin_step_more::{FairCall, fair};
 
@@ -17,53 +18,53 @@ pub enum View {
     Idle,
     /// It is registered as a starver, and in no call.
     Starving,
-    /// It holds the lock, and came as a newcomer.
+    /// It holds the lock, and acquired it as a newcomer.
     Holding,
-    /// It holds the lock, and starved for it.
+    /// It holds the lock, and acquired it as a starver.
     Served,
-    /// It is in `lock`, and goes on with the exchange, after this many looks that found the lock held.
+    /// It is in `lock`, and its next step is the exchange. This many looks have found the lock held.
     Trying(usize),
-    /// It is in `lock`, and goes on with a look, after this many that found the lock held.
+    /// It is in `lock`, and its next step is a look. This many looks have found the lock held.
     Looking(usize),
     /// It is in `lock`, and has looked often enough to register.
     Loading,
-    /// It goes on to register in this call, by an exchange of this word.
+    /// It is in this call, and its next step is the exchange of this word, which registers.
     Registering(FairCall, usize),
-    /// It is a starver, and goes on to set the flag in this call.
+    /// It is a starver in this call, and its next step sets the flag.
     Setting(FairCall),
-    /// It is a starver, and goes on with a look in this call.
+    /// It is a starver in this call, and its next step is a look.
     Awaiting(FairCall),
-    /// It has set the flag in this call, and is still registered: it uses the value once it has stopped starving.
+    /// It has set the flag in this call, and is still registered. It uses the value once it has stopped starving.
     HoldingStarving(FairCall),
 }
 
 /// The rule of a [`FairMutex`](super::FairMutex): its word is the sum of what its holder and its starvers weigh.
 ///
-/// No caller names it: it is a parameter of the type of the guard.
+/// Callers need not name it: it is a parameter of the guard's type.
 ///
 /// # Contract
 /// `IsFair`: the word is that of a plain lock of these parties. The trace is a schedule of the lock's model, which leads
-/// to this word, with each party in the seat that its view names.
+/// to this word, with each party in the seat that its view names. The value that nobody holds is the one that this
+/// schedule writes last (`IsLast`), until the owner borrows it.
 pub struct FairRule;
 
 impl<T> Rule<T, Party> for FairRule {
-    // What is known of the lock's trace at first: its name.
-    type Key = Watch<Entry>;
+    type Key = Opening<T>;
 
-    type Second = Trace<Entry>;
+    type Second = Trace<Entry<T>>;
 
-    ghost holds = { λ start. IsFair start.name };
+    ghost holds = { IsFair };
 
-    ghost ways = { λ _. (alone, use_of_party, no_fact) };
+    ghost ways = { fair_ways };
 
-    ghost lent = { λ key. key };
+    ghost lent = { untold };
 }
 
 /// A party with its number.
 pub type Party = tie::Numbered<View>;
 
-/// An entry of the lock's trace.
-pub type Entry = tie::Entry<FairCall>;
+/// An entry of the trace of a lock of values of type `T`.
+pub type Entry<T> = tie::Entry<FairCall, T>;
 
 /// The weight of the holder in the word.
 pub(super) const LOCKED: u64 = fair::HOLDER as u64;
@@ -74,99 +75,99 @@ pub(super) const STARVER: u64 = fair::STARVER as u64;
 /// The load of `is_locked`.
 pub(super) struct Load;
 
-impl Play<Watch<Entry>, Party, Entry> for Load {
-    ghost told = { λ key old new before. Told looks_by before };
+impl<T> Play<Opening<T>, Party, Entry<T>> for Load {
+    ghost told = { λ key old new before. Told key.value looks_by before };
 }
 
 /// The compare-exchange of `try_lock`.
 pub(super) struct Attempt;
 
-impl Play<Watch<Entry>, Party, Entry> for Attempt {
-    ghost told = { λ key old new before. Told (tries_by TryLock) before };
+impl<T> Play<Opening<T>, Party, Entry<T>> for Attempt {
+    ghost told = { λ key old new before. Told key.value (tries_by TryLock) before };
 }
 
 /// The compare-exchange of `try_lock_starver`.
 pub(super) struct AttemptToKnow;
 
-impl Play<Watch<Entry>, Party, Entry> for AttemptToKnow {
-    ghost told = { λ key old new before. Told (tries_by TryLockStarver) before };
+impl<T> Play<Opening<T>, Party, Entry<T>> for AttemptToKnow {
+    ghost told = { λ key old new before. Told key.value (tries_by TryLockStarver) before };
 }
 
 /// The compare-exchange of `lock`, after this many looks that found the lock held.
 pub(super) struct Tries;
 
-impl Play<Watch<Entry>, Party, Entry> for Tries {
-    ghost told = { λ key old new before. Told (tried_by (what before)) before };
+impl<T> Play<Opening<T>, Party, Entry<T>> for Tries {
+    ghost told = { λ key old new before. Told key.value (tried_by (what before)) before };
 }
 
 /// The look of `lock`.
 pub(super) struct Looks;
 
-impl Play<Watch<Entry>, Party, Entry> for Looks {
-    ghost told = { λ key old new before. Told (looked_by (what before)) before };
+impl<T> Play<Opening<T>, Party, Entry<T>> for Looks {
+    ghost told = { λ key old new before. Told key.value (looked_by (what before)) before };
 }
 
-/// A compare-exchange: the party registers as a starver if it found the word that it expected.
+/// A compare-exchange: if it finds the word expected, the party registers as a starver.
 pub(super) struct Register;
 
-impl Play<Watch<Entry>, Party, Entry> for Register {
-    ghost told = { λ key old new before. Told (registers_by (what before) old) before };
+impl<T> Play<Opening<T>, Party, Entry<T>> for Register {
+    ghost told = { λ key old new before. Told key.value (registers_by (what before) old) before };
 }
 
 /// The compare-exchange of `try_lock_fair`: a starver holds, and stops starving, if it was the only one.
 pub(super) struct AttemptAlone;
 
-impl Play<Watch<Entry>, Party, Entry> for AttemptAlone {
-    ghost told = { λ key old new before. Told (alone_by StarverTryLockFair) before };
+impl<T> Play<Opening<T>, Party, Entry<T>> for AttemptAlone {
+    ghost told = { λ key old new before. Told key.value (alone_by StarverTryLockFair) before };
 }
 
 /// The same compare-exchange, first in `try_lock`.
 pub(super) struct TryAlone;
 
-impl Play<Watch<Entry>, Party, Entry> for TryAlone {
-    ghost told = { λ key old new before. Told (alone_by StarverTryLock) before };
+impl<T> Play<Opening<T>, Party, Entry<T>> for TryAlone {
+    ghost told = { λ key old new before. Told key.value (alone_by StarverTryLock) before };
 }
 
 /// The same compare-exchange, first in the `lock` of a starver.
 pub(super) struct LockAlone;
 
-impl Play<Watch<Entry>, Party, Entry> for LockAlone {
-    ghost told = { λ key old new before. Told (alone_by StarverLock) before };
+impl<T> Play<Opening<T>, Party, Entry<T>> for LockAlone {
+    ghost told = { λ key old new before. Told key.value (alone_by StarverLock) before };
 }
 
-/// The bit operation: a starver holds if it found the flag clear.
+/// The bit operation: if it finds the flag clear, the starver holds the lock.
 pub(super) struct SetFlag;
 
-impl Play<Watch<Entry>, Party, Entry> for SetFlag {
-    ghost told = { λ key old new before. Told (sets_by (call_of (what before))) before };
+impl<T> Play<Opening<T>, Party, Entry<T>> for SetFlag {
+    ghost told = { λ key old new before. Told key.value (sets_by (call_of (what before))) before };
 }
 
-/// A load: a starver looks whether the flag is clear.
+/// A load by which a starver looks whether the flag is clear.
 pub(super) struct Await;
 
-impl Play<Watch<Entry>, Party, Entry> for Await {
-    ghost told = { λ key old new before. Told (awaits_by (what before)) before };
+impl<T> Play<Opening<T>, Party, Entry<T>> for Await {
+    ghost told = { λ key old new before. Told key.value (awaits_by (what before)) before };
 }
 
 /// A subtraction: a starver that holds stops starving.
 pub(super) struct Unregister;
 
-impl Play<Watch<Entry>, Party, Entry> for Unregister {
-    ghost told = { λ key old new before. Told (served_by (what before)) before };
+impl<T> Play<Opening<T>, Party, Entry<T>> for Unregister {
+    ghost told = { λ key old new before. Told key.value (served_by (what before)) before };
 }
 
-/// A subtraction: a starver gives up.
+/// A subtraction: a starver ends its registration.
 pub(super) struct GivesUp;
 
-impl Play<Watch<Entry>, Party, Entry> for GivesUp {
-    ghost told = { λ key old new before. Told (ends_by StarverDrop) before };
+impl<T> Play<Opening<T>, Party, Entry<T>> for GivesUp {
+    ghost told = { λ key old new before. Told key.value gives_up_by before };
 }
 
 /// The subtraction that releases the lock.
 pub(super) struct Frees;
 
-impl Play<Watch<Entry>, Party, Entry> for Frees {
-    ghost told = { λ key old new before. Told (ends_by Release) before };
+impl<T> Play<Opening<T>, Party, Entry<T>> for Frees {
+    ghost told = { λ key old new before. Told key.value frees_by before };
 }
 
 impl Uses<Party> for FairRule {

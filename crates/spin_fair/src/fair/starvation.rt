@@ -1,4 +1,4 @@
-//! A thread that starves for a `FairMutex`: it comes before newcomers until it has the lock or gives up. Begin at
+//! A thread that starves for a `FairMutex`: it goes before newcomers until it has the lock or gives up. Begin at
 //! [`Starvation::lock`].
 ghost use Rattle.std.specs.Prelude.{◌≡◌, Some, IfOk};
 ghost use Rattle.spin_core.specs.Guard.{IsHolder};
@@ -101,8 +101,8 @@ impl<'a, T, R> Starvation<'a, T, R> {
 impl<'a, T, R: RelaxStrategy> Starvation<'a, T, R> {
     /// Acquires the mutex, spinning until it is free.
     ///
-    /// It tries once as the only starver (see [`try_lock_fair`](Self::try_lock_fair)). Then it sets the flag wherever it
-    /// finds that clear. After a failed attempt the thread pauses with strategy `R`, and looks at the word before it
+    /// It tries once as the only starver (see [`try_lock_fair`](Self::try_lock_fair)). Then it sets the flag when it
+    /// finds it clear. After a failed attempt the thread pauses with strategy `R`, and looks at the word before it
     /// tries again. Other starvers may overtake it.
     ///
     /// # Contract
@@ -110,7 +110,7 @@ impl<'a, T, R: RelaxStrategy> Starvation<'a, T, R> {
     pub fn lock<W: Wait>(self, rt: &W) -> FairMutexGuard<'a, T, R>
         ensures { IsHolder use_of_party result }
     {
-        // As `StarvingPass::lock`: through it, the path of a lone starver would be two instructions longer.
+        // Not by `StarvingPass::lock`: that would make the path for a lone starver two instructions longer.
         let (guard, _) = match self.into_pass().begin_lock() {
             Ok(held) => held,
             Err(account) => wait_as_starver(rt, account),
@@ -125,8 +125,8 @@ impl<T, R> Drop for Starvation<'_, T, R> {
     }
 }
 
-// SAFETY: a starver's permit. The thread that it goes to may use the value by it.
+// SAFETY: it is a starver's permit. The thread to which it is sent may use the value with it.
 unsafe impl<T: Send, R> Send for Starvation<'_, T, R> {}
 
-// SAFETY: a shared one lends nothing. It asks what the lock asks.
+// SAFETY: a shared one gives access to nothing. It asks what the lock asks.
 unsafe impl<T: Send, R> Sync for Starvation<'_, T, R> {}

@@ -1,11 +1,12 @@
-//! The calls of a starver that keeps account of them. Begin with [`StarvingPass`].
+//! The calls of a starver that keeps track of them. Begin with [`StarvingPass`].
 ghost use Rattle.std.specs.Prelude.{◌≡◌, ℕ, Some, None, true, false, IfOk, IfErr};
 ghost use Rattle.spin_step.specs.Plain.{Plain, gets, to_lock_starving_alone, is_starver, fair_word};
 ghost use Rattle.spin_step.specs.Parties.{OneHolds};
 ghost use Rattle.spin_step.specs.Steps.{Decides};
-ghost use Rattle.spin_core.specs.Guard.{IsHolder, guard_view};
+ghost use Rattle.spin_core.specs.Guard.{IsHolder, guard_view, guard_key, guard_value};
 ghost use Rattle.spin_core.specs.Own.{what};
 ghost use Rattle.spin_core.specs.Passes.{IsCall, Waits};
+ghost use Rattle.spin_core.specs.Values.{IsLast};
 ghost use Rattle.spin_model.specs.declared.answer.Answer.TheVariants.{Granted, Refused, Done};
 ghost use Rattle.spin_step_more.specs.declared.fair_calls.FairCall.TheVariants.{StarverTryLock, StarverTryLockFair, StarverLock, StarverDrop};
 ghost use Rattle.spin_fair.specs.Fair.{use_of_party, MaySet, MayAwait, HoldsStarving, Called, Comes};
@@ -28,7 +29,7 @@ use std::sync::Wait;
 
 /// A pass of a [`FairMutex`](super::FairMutex) while it is registered as a starver. Dropping it ends the registration.
 ///
-/// It is what a [`Starvation`](super::Starvation) is, and keeps account of its calls too.
+/// It is a [`Starvation`](super::Starvation) that also keeps track of its calls.
 ///
 /// # Contract
 /// Its party is registered (its view is `Starving`). Each call ensures `Called`, as those of a [`Pass`].
@@ -57,14 +58,16 @@ impl<'a, T, R> StarvingPass<'a, T, R> {
     ///
     /// # Contract
     /// The call is one `StarverTryLockFair`, with the answer `Granted` and a guard (`granted`), or else `Refused`
-    /// and the pass, which is still a starver (`refused`).
+    /// and the pass, which is still a starver (`refused`). The guard's value is the one written last in the history
+    /// (`found`).
     pub fn try_lock_fair(
         self,
-    ) -> Result<(FairMutexGuard<'a, T, R>, Watch<Entry>), StarvingPass<'a, T, R>>
+    ) -> Result<(FairMutexGuard<'a, T, R>, Watch<Entry<T>>), StarvingPass<'a, T, R>>
         ensures holder { IfOk result (λ held. IsHolder use_of_party held.0 × Holds held.0 held.1) }
-        ensures same { IfOk result (λ held. held.1.name ≡ self.entry.account.seen.name) }
-        ensures granted { IfOk result (λ held. Called StarverTryLockFair Granted self.entry.account.permit.view self.entry.account.seen.entries (Some (guard_view held.0)) held.1.entries) }
-        ensures refused { IfErr result (λ pass. Called StarverTryLockFair Refused self.entry.account.permit.view self.entry.account.seen.entries pass.account.permit.view pass.account.seen.entries × (pass.account.seen.name ≡ self.entry.account.seen.name)) }
+        ensures same { IfOk result (λ held. (held.1.name ≡ self.entry.account.seen.name) × (guard_key held.0 ≡ self.entry.account.permit.key)) }
+        ensures found { IfOk result (λ held. IsLast self.entry.account.permit.key held.1.entries (guard_value held.0)) }
+        ensures granted { IfOk result (λ held. Called self.entry.account.permit.key.value StarverTryLockFair Granted self.entry.account.permit.view self.entry.account.seen.entries (Some (guard_view held.0)) held.1.entries) }
+        ensures refused { IfErr result (λ pass. Called self.entry.account.permit.key.value StarverTryLockFair Refused self.entry.account.permit.view self.entry.account.seen.entries pass.account.permit.view pass.account.seen.entries × ((pass.account.seen.name ≡ self.entry.account.seen.name) × (pass.account.permit.key ≡ self.entry.account.permit.key))) }
     {
         let Self { account, strategy } = self;
         let Account { permit, seen } = account;
@@ -81,18 +84,21 @@ impl<'a, T, R> StarvingPass<'a, T, R> {
     ///
     /// # Contract
     /// The call is one `StarverTryLock`, with the answer `Granted` and a guard (`granted`), or else `Refused` and the
-    /// pass, which is still a starver (`refused`). A first exchange that fails is no move: the call begins with it.
+    /// pass, which is still a starver (`refused`). A first exchange that fails is no move: the call begins with it. The
+    /// guard's value is the one written last in the history (`found`).
     pub fn try_lock(
         self,
-    ) -> Result<(FairMutexGuard<'a, T, R>, Watch<Entry>), StarvingPass<'a, T, R>>
+    ) -> Result<(FairMutexGuard<'a, T, R>, Watch<Entry<T>>), StarvingPass<'a, T, R>>
         ensures holder { IfOk result (λ held. IsHolder use_of_party held.0 × Holds held.0 held.1) }
-        ensures same { IfOk result (λ held. held.1.name ≡ self.entry.account.seen.name) }
-        ensures granted { IfOk result (λ held. Called StarverTryLock Granted self.entry.account.permit.view self.entry.account.seen.entries (Some (guard_view held.0)) held.1.entries) }
-        ensures refused { IfErr result (λ pass. Called StarverTryLock Refused self.entry.account.permit.view self.entry.account.seen.entries pass.account.permit.view pass.account.seen.entries × (pass.account.seen.name ≡ self.entry.account.seen.name)) }
+        ensures same { IfOk result (λ held. (held.1.name ≡ self.entry.account.seen.name) × (guard_key held.0 ≡ self.entry.account.permit.key)) }
+        ensures found { IfOk result (λ held. IsLast self.entry.account.permit.key held.1.entries (guard_value held.0)) }
+        ensures granted { IfOk result (λ held. Called self.entry.account.permit.key.value StarverTryLock Granted self.entry.account.permit.view self.entry.account.seen.entries (Some (guard_view held.0)) held.1.entries) }
+        ensures refused { IfErr result (λ pass. Called self.entry.account.permit.key.value StarverTryLock Refused self.entry.account.permit.view self.entry.account.seen.entries pass.account.permit.view pass.account.seen.entries × ((pass.account.seen.name ≡ self.entry.account.seen.name) × (pass.account.permit.key ≡ self.entry.account.permit.key))) }
     {
         let Self { account, strategy } = self;
         let Account { permit, seen } = account;
-        // First as the only starver, which is one instruction: to set a bit and see the word compiles to a loop.
+        // First it tries as the only starver, by one instruction. Setting a bit and reading the word compiles to a
+        // loop.
         let (found, permit, seen) = permit.exchange::<TryAlone>(STARVER, taken_alone(), seen);
         let account = Account { permit, seen };
         if found == STARVER {
@@ -120,8 +126,8 @@ impl<'a, T, R> StarvingPass<'a, T, R> {
     /// assert!(rt; pass.try_lock().is_ok());
     /// ```
     pub fn give_up(self) -> Pass<'a, T, R>
-        ensures made { Called StarverDrop Done self.entry.account.permit.view self.entry.account.seen.entries result.account.permit.view result.account.seen.entries }
-        ensures same { result.account.seen.name ≡ self.entry.account.seen.name }
+        ensures made { Called self.entry.account.permit.key.value StarverDrop Done self.entry.account.permit.view self.entry.account.seen.entries result.account.permit.view result.account.seen.entries }
+        ensures same { (result.account.seen.name ≡ self.entry.account.seen.name) × (result.account.permit.key ≡ self.entry.account.permit.key) }
     {
         let Self { account, strategy } = self;
         let Account { permit, seen } = account;
@@ -132,7 +138,7 @@ impl<'a, T, R> StarvingPass<'a, T, R> {
         }
     }
 
-    // Begins a `lock`: as the only starver it acquires the lock at once.
+    // Begins a `lock`. The only starver acquires the lock at once.
     pub(super) fn begin_lock(self) -> Result<Got<'a, T, R>, Account<'a, T>>
         ensures got { IfOk result (Gets (IsCall StarverLock Granted) self.entry.account) }
         ensures begun { IfErr result (λ next. MayAwait (view_of next) × Goes (Comes false StarverLock None) self.entry.account next) }
@@ -156,13 +162,14 @@ impl<'a, T, R: RelaxStrategy> StarvingPass<'a, T, R> {
     /// Acquires the lock as [`Starvation::lock`](super::Starvation::lock) does.
     ///
     /// # Contract
-    /// The call is one `StarverLock` with the answer `Granted` (`made`), which ends the registration. Whether and when
-    /// the call returns is not promised.
-    pub fn lock<W: Wait>(self, rt: &W) -> (FairMutexGuard<'a, T, R>, Watch<Entry>)
+    /// The call is one `StarverLock` with the answer `Granted` (`made`), which ends the registration. The guard's value is
+    /// the one written last in the history (`found`). Whether and when the call returns is not promised.
+    pub fn lock<W: Wait>(self, rt: &W) -> (FairMutexGuard<'a, T, R>, Watch<Entry<T>>)
         ensures holder { IsHolder use_of_party result.0 }
         ensures holds { Holds result.0 result.1 }
-        ensures same { result.1.name ≡ self.entry.account.seen.name }
-        ensures made { Called StarverLock Granted self.entry.account.permit.view self.entry.account.seen.entries (Some (guard_view result.0)) result.1.entries }
+        ensures same { (result.1.name ≡ self.entry.account.seen.name) × (guard_key result.0 ≡ self.entry.account.permit.key) }
+        ensures found { IsLast self.entry.account.permit.key result.1.entries (guard_value result.0) }
+        ensures made { Called self.entry.account.permit.key.value StarverLock Granted self.entry.account.permit.view self.entry.account.seen.entries (Some (guard_view result.0)) result.1.entries }
     {
         match self.begin_lock() {
             Ok(held) => held,
@@ -205,8 +212,7 @@ impl<'a, T> Awaiting<'a, T> {
     }
 }
 
-// Sets the flag. It tries no exchange as the only starver first: with others that fails though the flag is clear, and
-// a starver that waits goes for each clear flag.
+// Sets the flag. It does not try as the only starver first: while others starve that fails though the flag is clear.
 fn set_flag<'a, T, R>(account: Account<'a, T>) -> Result<Got<'a, T, R>, Account<'a, T>>
     requires { MaySet (view_of account) }
     ensures served { IfOk result (IsServed account.entry) }
@@ -257,8 +263,8 @@ fn stop_starving<'a, T, R>(account: Account<'a, T>) -> Got<'a, T, R>
     Account { permit, seen }.into_guard()
 }
 
-// Returns the word by which the only starver acquires the lock and stops starving. Both at once, so that no thread sees
-// a holder that is still registered.
+// Returns the word after the only starver has acquired the lock and stopped starving. It does both at once, so no
+// thread sees a holder that is still registered.
 fn taken_alone() -> u64
     ensures exact { result ≡ 1 }
     ensures plain { (s : Plain) (party : ℕ) → OneHolds s → is_starver party s.starvers ≡ true → fair_word s ≡ 2 → Decides s (gets party to_lock_starving_alone) fair_word (Some 3) }

@@ -8,7 +8,7 @@ use spin_core::texts::write_named;
 use std::fmt;
 use std::fmt::{Debug, Formatter};
 
-/// Tries once to acquire the lock, and holds it while it writes the value. Where the try fails it writes `<locked>` in
+/// Tries once to acquire the lock, and holds it while it writes the value. If the try fails it writes `<locked>` in
 /// place of the value.
 impl<T: Debug, R> Debug for FairMutex<T, R> {
     fn fmt<W: fmt::Write>(&self, f: &mut Formatter<W>) -> fmt::Result

@@ -34,8 +34,8 @@ impl<'a, T> Waiting<'a, T> {
         unreachable!()
     }
 
-    // A load comes first, so that waiting threads share the cache line and do not write it. All pauses are equally
-    // long, so looks measure time.
+    // A load is first, so that waiting threads share the cache line and do not write it. All pauses are equally long,
+    // so the number of looks measures time.
     pub(crate) fn look_and_try<R: RelaxStrategy, W: Wait>(
         self,
         rt: &W,
@@ -65,7 +65,7 @@ impl<'a, T> Waiting<'a, T> {
     }
 }
 
-// The exchange of `lock`, of a call that comes or has found the flag clear.
+// The exchange of `lock`, for a call that begins or that found the flag clear.
 pub(crate) fn try_with<'a, T, R>(
     account: Account<'a, T>,
     spins: usize,
@@ -94,7 +94,7 @@ pub(super) fn register<'a, T, W: Wait>(
     ensures registers { IfOk result (IsRegistered account.entry) }
     ensures no_room { IfErr result (FindsNoRoom account.entry) }
 {
-    // To begin at 0 saves a load if the word is 0. If it is not, the failed exchange is the load.
+    // Beginning with 0 saves a load if the word is 0. If it is not, the failed exchange serves as the load.
     let mut word = 0;
     let Account {
         mut permit,

@@ -1,4 +1,4 @@
-//! The calls of a [`SpinMutex`] by a thread that keeps account of them. Begin at [`SpinMutex::pass`].
+//! The calls of a [`SpinMutex`] by a thread that keeps track of them. Begin at [`SpinMutex::pass`].
 ghost use Rattle.std.specs.Prelude.{◌≡◌, ◌⊎◌, true, Some, None, [], length, IfOk, IfErr};
 ghost use mathlib.Core.List.{IsPrefix};
 ghost use Rattle.spin_core.specs.Guard.{IsHolder, guard_view, guard_key, guard_value};
@@ -22,16 +22,16 @@ use spin_step::flag;
 use std::marker::PhantomData;
 use std::sync::Wait;
 
-/// A thread's account of its calls of a [`SpinMutex`].
+/// A thread's record of its calls of a [`SpinMutex`].
 ///
 /// The lock's cell keeps the list of all moves that threads have made in it (its history). A pass knows which of these
-/// moves are its own, and the whole list up to its last one. Calls without a pass are in the history too, as calls of
-/// others. A pass is as large as a reference to the lock. It can be sent, and a lock has any number of them.
+/// moves are its own, and the whole list up to its own last move. Calls without a pass are in the history too, as calls
+/// of others. A pass is as large as a reference to the lock. It can be sent, and a lock can have any number of passes.
 ///
 /// # Contract
-/// Each call takes the pass and returns it. It ensures `Called`: of the moves by which the history grew, those of this
-/// pass are exactly one call, with the answer that is returned. In the lock's model that call has this answer, at its
-/// place among the moves of all threads, and no move of the history is passed over.
+/// Each call takes the pass and returns it. It ensures `Called`: among the new moves of the history, those of this pass
+/// are exactly one call with the returned answer. In the lock's model that call gets this answer, at its place among
+/// the moves of all threads. No move of the history is skipped.
 ///
 /// # Examples
 /// ```
@@ -76,8 +76,8 @@ impl<T, R> SpinMutex<T, R> {
     /// A guard that is dropped releases the lock too, and ends its pass.
     ///
     /// # Contract
-    /// `seen` has to be what [`Pass::lock`] or [`Pass::try_lock`] returned beside the guard (`Holds`). The pass makes the
-    /// call, as its next one, behind a write (`made`): it writes the guard's value into the history (`wrote`). So that
+    /// `seen` has to be what [`Pass::lock`] or [`Pass::try_lock`] returned with the guard (`Holds`). The release is the
+    /// next call of the pass (`made`). Just before it the history gets a write of the guard's value (`wrote`). So that
     /// value is the one written last (`left`).
     pub fn unlock<'a>(guard: SpinMutexGuard<'a, T, R>, seen: Watch<Entry<T>>) -> Pass<'a, T, R>
         requires { Holds guard seen }
@@ -98,7 +98,7 @@ impl<T, R> SpinMutex<T, R> {
 }
 
 impl<'a, T, R: RelaxStrategy> Pass<'a, T, R> {
-    /// Acquires the lock as [`SpinMutex::lock`] does. Returns the guard, and what the pass knows then.
+    /// Acquires the lock as [`SpinMutex::lock`] does. Returns the guard, and what the pass then knows.
     ///
     /// # Contract
     /// The call is one `Lock` with the answer `Granted`, however often it looked and tried (`made`). The guard belongs
@@ -128,8 +128,8 @@ impl<'a, T, R> Pass<'a, T, R> {
     /// Tries to acquire the lock as [`SpinMutex::try_lock`] does. Returns the pass at once if the lock is held.
     ///
     /// # Contract
-    /// The call is one `TryLock`, with the answer `Granted` beside a guard (`granted`), and else `Refused` (`refused`).
-    /// The guard's value is the one written last in the history (`found`).
+    /// The call is one `TryLock`. Its answer is `Granted` with a guard (`granted`), else `Refused` (`refused`). The
+    /// guard's value is the one written last in the history (`found`).
     ///
     /// # Examples
     /// ```
@@ -169,10 +169,10 @@ impl<'a, T, R> Pass<'a, T, R> {
         }
     }
 
-    /// Looks whether the lock is held, as [`SpinMutex::is_locked`] does.
+    /// Returns whether the lock is held, as [`SpinMutex::is_locked`] does.
     ///
     /// # Contract
-    /// The call is one `IsLocked`, with the answer that is returned (`made`).
+    /// The call is one `IsLocked`, with the returned answer (`made`).
     pub fn is_locked(self) -> (bool, Pass<'a, T, R>)
         ensures made { Called (self.entry.permit.key).value IsLocked (Is result.0) self.entry.permit.view self.entry.seen.entries result.1.permit.view result.1.seen.entries }
         ensures same { (result.1.seen.name ≡ self.entry.seen.name) × (result.1.permit.key ≡ self.entry.permit.key) }
@@ -196,8 +196,8 @@ impl<'a, T, R> Pass<'a, T, R> {
     /// Compares what two passes of one lock know. It does nothing when it runs.
     ///
     /// # Contract
-    /// What one of them knows of the history is a beginning of what the other knows. So both know one history, and the
-    /// one that knows more has the calls of both in it, each once, in the order in which each pass made them.
+    /// One of them knows a prefix of the history that the other knows. So both know one history. The longer one has the
+    /// calls of both passes, each once, in the order in which each pass made them.
     pub fn compare(&self, other: &Pass<'_, T, R>)
         requires { self.now.seen.name ≡ other.now.seen.name }
         ensures { IsPrefix self.now.seen.entries other.now.seen.entries ⊎ IsPrefix other.now.seen.entries self.now.seen.entries }

@@ -18,20 +18,20 @@ use spin_step::flag;
 pub enum View {
     Idle,
     Holding,
-    /// It is in `lock`, and goes on with the exchange.
+    /// It is in `lock`, and its next step is the exchange.
     Trying,
-    /// It is in `lock`, and goes on with a look.
+    /// It is in `lock`, and its next step is a look.
     Looking,
 }
 
-/// The rule of a [`SpinMutex`](super::SpinMutex): its word is 1 while a party holds the lock, and else 0.
+/// The rule of a [`SpinMutex`](super::SpinMutex): its word is 1 while a party holds the lock, else 0.
 ///
-/// No caller names it: it is a parameter of the type of the guard.
+/// Callers need not name it: it is a parameter of the guard's type.
 ///
 /// # Contract
 /// `IsFlag`: the word is that of a plain lock whose holders are the parties that hold. The trace is a schedule of the
-/// lock's model, which leads to this word, with each party in the seat that its view names. The value that nobody holds
-/// is the one that this schedule writes last (`IsLast`), until the owner borrows it.
+/// lock's model, which leads to this word and to each party's view. A value that nobody holds is the one that this
+/// schedule writes last (`IsLast`), until the owner borrows it.
 pub struct FlagRule;
 
 impl<T> Rule<T, Party> for FlagRule {

@@ -1,4 +1,4 @@
-//! What a call of `lock` has in hand between two of its steps. Begin at [`try_with`].
+//! The state of a call of `lock` between two of its steps. Begin at [`try_with`].
 ghost use Rattle.std.specs.Prelude.{◌≡◌, Some, None, length, IfOk, IfErr};
 ghost use Rattle.spin_core.specs.Cell.{writes};
 ghost use Rattle.spin_core.specs.Own.{what};
@@ -15,7 +15,7 @@ use spin_core::cell::{Permit, WritePermit};
 use spin_core::trace::Watch;
 use spin_step::flag;
 
-// A call of `lock` that goes on with a look.
+// A call of `lock` whose next step is a look.
 pub(super) struct Waiting<'a, T> {
     pub(super) permit: Permit<'a, T, Party, FlagRule>,
     pub(super) seen: Watch<Entry<T>>,
@@ -24,7 +24,7 @@ pub(super) struct Waiting<'a, T> {
     ghost knows: { mark_of permit.view ≡ length seen.entries },
 }
 
-// A call of `lock` that is answered.
+// A call of `lock` that has acquired the lock.
 pub(super) struct Grant<'a, T> {
     pub(super) writer: WritePermit<'a, T, Party, FlagRule>,
     pub(super) seen: Watch<Entry<T>>,
@@ -34,7 +34,7 @@ pub(super) struct Grant<'a, T> {
     ghost finds: { IsLast writer.key seen.entries writer.value },
 }
 
-// The exchange of `lock`, of a call that comes or has found the flag clear.
+// The exchange of `lock`, for a call that begins or that found the flag clear.
 pub(super) fn try_with<'a, T>(
     permit: Permit<'a, T, Party, FlagRule>,
     seen: Watch<Entry<T>>,

@@ -1,7 +1,7 @@
-//! A value whose ends are counted.
+//! A value that counts its drops.
 use std::cell::Cell;
 
-/// A value that counts its ends.
+/// A value that counts its drops.
 pub struct Counted<'a> {
     pub ends: &'a Cell<u32>,
 }

@@ -1,21 +1,21 @@
-//! The ends of each lock by which threads take turns. A lock for readers ends in three ways, by who had it last.
+//! How the value of each lock is dropped. A lock for readers has three ways, by who had it last.
 use crate::ends::counted::Counted;
 use crate::equal::equal;
-use spin_mutex::mutex::{
-    FairMutex, FairMutexGuard, Mutex, MutexGuard, SpinMutex, SpinMutexGuard, TicketMutex,
-    TicketMutexGuard,
-};
+use spin_fair::fair::{FairMutex, FairMutexGuard};
+use spin_flag::spin::{SpinMutex, SpinMutexGuard};
+use spin_mutex::mutex::{Mutex, MutexGuard};
 use spin_rwlock::rwlock::{RwLock, RwLockReadGuard, RwLockUpgradableGuard, RwLockWriteGuard};
+use spin_ticket::ticket::{TicketMutex, TicketMutexGuard};
 use std::cell::Cell;
 use std::sync::Wait;
 
-/// How many values have ended: now that a lock was dropped; that one of a leaked value was; that one was after a hold on
-/// it, which is dropped too; that one was opened after a guard; and that its value was dropped.
+/// How many values are dropped so far: after an unused lock was dropped; after one with a leaked guard; after one with
+/// a dropped hold; after a lock was opened; and after the opened value was dropped.
 type Ends = [u32; 5];
 
 const ONCE: Ends = [1, 2, 3, 3, 4];
 
-// What is leaked, what is held, and what is taken before the lock is opened, each of a lock that is named.
+// For a lock named `$lock`: what leaks it, what holds it, and what acquires it before it is opened.
 macro_rules! ends {
     ($Lock:ident, $lock:ident, $leaked:expr, $held:expr, $taken:expr) => {{
         let ends = Cell::new(0);
@@ -99,7 +99,7 @@ fn reader(rt: &impl Wait) -> Ends {
     )
 }
 
-// An upgradable reader has no hold of its own, so it goes on as a reader first.
+// An upgradable reader has no hold of its own, so it first becomes a reader.
 fn upgradable_reader(rt: &impl Wait) -> Ends {
     ends!(
         RwLock,

@@ -1,17 +1,17 @@
-//! Which call is granted, and what frees a lock: the mutexes have the same calls, under the same names.
+//! Which calls succeed, and what releases a lock. The mutexes have the same calls, under the same names.
 use crate::equal::equal;
 use spin_core::relax::Loop;
-use spin_mutex::mutex::{
-    FairMutex, FairMutexGuard, Mutex, MutexGuard, SpinMutex, SpinMutexGuard, TicketMutex,
-    TicketMutexGuard,
-};
+use spin_fair::fair::{FairMutex, FairMutexGuard};
+use spin_flag::spin::{SpinMutex, SpinMutexGuard};
+use spin_mutex::mutex::{Mutex, MutexGuard};
+use spin_ticket::ticket::{TicketMutex, TicketMutexGuard};
 use std::process::Abort;
 use std::sync::Wait;
 
 type Taken = ([bool; 5], [u64; 2]);
 
-// What is seen of a free lock, while a try has taken it, and after that: whether it is locked before, whether a second try
-// is refused, and whether it is locked then and after; the value that the try finds, and that which the next call finds.
+// What a test sees of a free lock: whether it is locked before a try; whether a second try fails; whether it is locked
+// then and after the release; whether a last try succeeds; and the values that the first try and the next call find.
 macro_rules! taken_once {
     ($rt:expr, $Lock:ident) => {{
         let lock: $Lock<u64> = $Lock::new(42);
@@ -80,7 +80,7 @@ fn a_lock_is_made_of_a_value(rt: HostRuntime) {
     equal(&rt, of_five, [(false, 5); 4]);
 }
 
-// Whether a lock is locked whose owner has written, the value that a try finds then, and what it writes.
+// Returns whether a lock is locked after its owner has written, the value that a try finds, and what that try writes.
 macro_rules! owned {
     ($rt:expr, $Lock:ident) => {{
         let mut lock: $Lock<u64, Loop> = $Lock::new(1);
@@ -106,7 +106,7 @@ fn the_owner_has_the_last_value_and_takes_no_lock(rt: HostRuntime) {
     equal(&rt, seen, [(false, [5, 6, 6]); 4]);
 }
 
-// Whether a try is refused under a hold, and the value that one finds after the lock was opened by force.
+// Returns whether a try is refused during a hold, and the value found after a forced release.
 macro_rules! opened_by_force {
     ($rt:expr, $Lock:ident, $Guard:ident) => {{
         let lock: $Lock<u64> = $Lock::new(1);
@@ -130,7 +130,7 @@ fn a_held_lock_opens_by_force(rt: HostRuntime) {
     equal(&rt, seen, [(true, 3); 4]);
 }
 
-// Whether a lock is locked after a hold was dropped, whether a try is refused then, and the last value.
+// Returns whether a lock is locked after a hold was dropped, whether a try is refused then, and the last value.
 macro_rules! left_by_a_hold {
     ($rt:expr, $Lock:ident, $Guard:ident) => {{
         let lock: $Lock<u64> = $Lock::new(1);
@@ -153,7 +153,7 @@ fn a_dropped_hold_frees_nothing(rt: HostRuntime) {
     equal(&rt, seen, [([true; 2], 3); 4]);
 }
 
-// Whether a try is refused while a leaked value is written, and the last value.
+// Returns whether a try is refused while a leaked value is written, and the last value.
 macro_rules! left_by_a_leak {
     ($rt:expr, $Lock:ident, $Guard:ident) => {{
         let lock: $Lock<u64> = $Lock::new(1);

@@ -1,14 +1,13 @@
-//! What no contract says of starvers: which call is granted beside one.
+//! What no contract says of starvers: which calls succeed while a thread starves.
 use crate::equal::equal;
 use spin_core::relax::{Loop, RelaxStrategy};
-use spin_mutex::mutex::fair::LockRejectReason;
-use spin_mutex::mutex::{FairMutex, Starvation};
+use spin_fair::fair::{FairMutex, LockRejectReason, Starvation};
 use std::mem::forget;
 use std::process::Abort;
 use std::sync::Wait;
 use std::thread;
 
-// Whether somebody holds the lock, and why a newcomer who may starve is refused.
+// Whether a thread holds the lock, and why a newcomer that may starve is refused.
 pub type Seen = (bool, Option<LockRejectReason>);
 
 pub const OPEN: Seen = (false, None);
@@ -19,7 +18,7 @@ const STARVED: Seen = (false, Some(LockRejectReason::Starved));
 
 const HELD_AND_STARVED: Seen = (true, Some(LockRejectReason::Starved));
 
-// Why a newcomer who may starve is refused.
+// Returns why a newcomer that may starve is refused.
 pub fn refusal<R>(lock: &FairMutex<u64, R>) -> Option<LockRejectReason> {
     lock.try_lock_starver().err()
 }
@@ -59,7 +58,7 @@ fn a_starver_comes_before_newcomers(rt: HostRuntime) {
     shows(&rt, &lock, OPEN);
 }
 
-// A starver that waited has entered, and then the lock is open.
+// Checks that a starver that waits acquires the lock in the end, and that the lock is free afterwards.
 fn enters_in_the_end<R: RelaxStrategy>(
     rt: &(impl Abort + Wait),
     lock: &FairMutex<u64, R>,
@@ -114,7 +113,7 @@ const STARVES: u32 = 100_000;
 #[test]
 fn a_starver_that_lost_a_race_tries_again(rt: HostRuntime) {
     let lock: FairMutex<u64> = FairMutex::new(1);
-    // Each `starve` is granted, though others change the word.
+    // Each `starve` succeeds, though other threads change the word.
     let starve_often = |_index: usize| {
         for _ in 0..STARVES {
             drop(starve(&rt, &lock));

@@ -1,10 +1,9 @@
-//! When a `lock` that waits comes to starve.
+//! When a waiting `lock` begins to starve.
 use crate::equal::equal;
 use crate::mutex::fair::{HELD, OPEN, refusal, seen, shows};
 use spin_core::relax::{RelaxStrategy, Spin, Yield};
+use spin_fair::fair::{FairMutex, FairMutexGuard, LockRejectReason, STARVATION_SPINS};
 use spin_fair::testing::{Waiting, begin, look_and_try, looks};
-use spin_mutex::mutex::fair::{LockRejectReason, STARVATION_SPINS};
-use spin_mutex::mutex::{FairMutex, FairMutexGuard};
 use std::sync::Wait;
 use std::thread;
 
@@ -12,7 +11,7 @@ const MAX_LOOKS: usize = 10_000_000;
 
 const STARVED_LOOKS: u32 = 1_000_000;
 
-// Whether a newcomer came to be refused for a starver within the looks.
+// Returns `true` if a newcomer is refused for a starver within this many looks.
 fn comes_to_starve<R: Wait>(rt: &R, lock: &FairMutex<u64, Yield>) -> bool {
     for _ in 0..MAX_LOOKS {
         if refusal(lock) == Some(LockRejectReason::Starved) {
@@ -23,7 +22,7 @@ fn comes_to_starve<R: Wait>(rt: &R, lock: &FairMutex<u64, Yield>) -> bool {
     false
 }
 
-// Whether newcomers are refused for a starver at each of many looks.
+// Returns `true` if newcomers are refused for a starver at each of many looks.
 fn stays_starved<R>(lock: &FairMutex<u64, R>) -> bool {
     let mut starved = true;
     for _ in 0..STARVED_LOOKS {
@@ -52,7 +51,7 @@ fn a_waiting_lock_comes_to_starve(rt: HostRuntime) {
     equal(&rt, lock.into_inner(), 2);
 }
 
-/// A strategy that takes its time.
+/// A slow strategy.
 struct Slow;
 
 impl RelaxStrategy for Slow {
@@ -63,7 +62,7 @@ impl RelaxStrategy for Slow {
     }
 }
 
-// How often the waiting lock may look, about, while the test looks for a starver. Its patience is 25 times that.
+// About how often the waiting lock may look while the test looks for a starver. Its patience is 25 times that.
 const SLOW_LOOKS: u32 = 40;
 
 #[test]
@@ -85,7 +84,7 @@ fn a_waiting_lock_is_patient(rt: HostRuntime) {
     equal(&rt, patient, true);
 }
 
-// One more attempt of a call that waits.
+// Makes one more attempt of a waiting call.
 fn again<'a, R: Wait>(
     rt: &R,
     waiting: Waiting<'a, u64>,
@@ -93,7 +92,7 @@ fn again<'a, R: Wait>(
     look_and_try(rt, waiting)
 }
 
-// How many looks it takes until one gets the lock.
+// Returns how many looks it takes until one acquires the lock.
 fn looks_on<R: Wait>(rt: &R, waiting: Waiting<'_, u64>) -> usize {
     let mut waiting = waiting;
     let mut looked: usize = 0;

@@ -1,9 +1,12 @@
-//! Threads take turns, a look leaves the lock to them, and a guard may end in another thread than the one that took it.
+//! Threads take turns, a look does not disturb them, and a guard may be dropped in another thread.
 use crate::equal::equal;
 use crate::waiting::has_turn;
 use spin_core::lock::Lock;
 use spin_core::relax::{RelaxStrategy, Yield};
-use spin_mutex::mutex::{FairMutex, Mutex, SpinMutex, TicketMutex};
+use spin_fair::fair::FairMutex;
+use spin_flag::spin::SpinMutex;
+use spin_mutex::mutex::Mutex;
+use spin_ticket::ticket::TicketMutex;
 use std::alloc::Global;
 use std::ops::DerefMut;
 use std::process::Abort;
@@ -12,7 +15,7 @@ use std::sync::atomic::AtomicU64;
 use std::thread;
 use std::thread::Threads;
 
-/// A strategy of a user's own.
+/// A caller's own strategy.
 struct Patient;
 
 impl RelaxStrategy for Patient {
@@ -63,7 +66,7 @@ fn six_threads_lose_no_addition(rt: HostRuntime) {
     equal(&rt, sums, [6000; 4]);
 }
 
-/// Writes 3 in another thread, where the guard ends.
+/// Writes 3 in another thread, which drops the guard.
 pub fn write_elsewhere<G: DerefMut<Target = u64> + Drop + Send>(rt: &impl Threads, mut guard: G) {
     let write = move || {
         *guard = 3;
@@ -92,7 +95,7 @@ fn a_guard_may_end_in_another_thread(rt: HostRuntime) {
 
 const TURNS: u64 = 1_000_000;
 
-// Whether no try was refused, while turns are left.
+// Returns `true` if no try failed, while turns are left.
 fn try_often<L: Lock<u64>>(lock: &L, turns: &AtomicU64) -> bool {
     let mut granted = true;
     for _ in 0..TURNS {

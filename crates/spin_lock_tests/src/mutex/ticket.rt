@@ -1,12 +1,13 @@
-//! What no contract says of tickets: that parties enter in their order, which calls take one, and what is left once they
-//! are used up; and that a `Mutex` is over them.
+//! What no contract says of tickets: parties enter in their order, which calls take a ticket, and what happens once all
+//! are used up. Also that a `Mutex` uses tickets.
 use crate::equal::equal;
 use crate::waiting::MAX_LOOKS;
 use spin_core::lock::Lock;
 use spin_core::relax::{RelaxStrategy, Yield};
-use spin_mutex::mutex::{Mutex, TicketMutex, TicketMutexGuard};
+use spin_mutex::mutex::Mutex;
 use spin_mutex::testing::{next as next_of_mutex, starting_at as mutex_starting_at};
 use spin_ticket::testing::{next, starting_at};
+use spin_ticket::ticket::{TicketMutex, TicketMutexGuard};
 use std::alloc::Global;
 use std::process::Abort;
 use std::sync::Wait;
@@ -65,9 +66,9 @@ fn looks_and_the_owner_take_no_ticket(rt: HostRuntime) {
     equal(&rt, *guard, 43);
 }
 
-/// A lock whose parties queue.
+/// A lock whose threads queue.
 trait Tickets: Lock<u64> {
-    /// The number of the next ticket.
+    /// Returns the number of the next ticket.
     fn next(&self) -> u64;
 }
 
@@ -83,7 +84,7 @@ impl Tickets for Mutex<u64, Yield> {
     }
 }
 
-// Whether the next ticket's number came to be `number` within the looks.
+// Returns `true` if the next ticket's number reaches `number` within the looks.
 fn comes_to<Q: Tickets, R: Wait>(rt: &R, queue: &Q, number: u64) -> bool {
     for _ in 0..MAX_LOOKS {
         if queue.next() == number {
@@ -94,8 +95,8 @@ fn comes_to<Q: Tickets, R: Wait>(rt: &R, queue: &Q, number: u64) -> bool {
     false
 }
 
-// Comes once `before` have come, appends its digit to the text under the lock, and stays until all three have come. By
-// that text those who enter tell their order.
+// Waits until `before` threads have a ticket, then acquires the lock and appends its digit to the text. It holds the
+// lock until all three have a ticket. The text shows the order in which they entered.
 fn enter<Q: Tickets, R: Wait>(rt: &R, queue: &Q, before: u64) -> bool {
     let in_order = comes_to(rt, queue, before);
     let append = |text: &mut u64| {
@@ -105,7 +106,7 @@ fn enter<Q: Tickets, R: Wait>(rt: &R, queue: &Q, before: u64) -> bool {
     queue.with(rt, append) && in_order
 }
 
-// Three come one after the other while the first is in.
+// Three threads take tickets one after another, while the first one holds the lock.
 fn enter_in_three<Q: Tickets + Sync, R: Abort + Threads + Wait + Sync>(
     rt: &R,
     alloc: Global,
@@ -127,17 +128,18 @@ fn waiters_enter_in_the_order_in_which_they_came(rt: HostRuntime) {
 
 const TURNS: u64 = 8_000;
 
-/// A queue in which two take turns, each of whom stays until the other has come: from the first ticket to the last
-/// somebody is in.
+/// A queue in which two threads take turns. Each holds the lock until the other has a ticket. So from the first ticket
+/// to the last one somebody holds it.
 #[derive(Drop)]
 struct Relay {
-    // How many have been in.
+    // Its value is the number of turns so far.
     lock: TicketMutex<u64, Yield>,
     looked: AtomicBool,
 }
 
 impl Relay {
-    // Takes every other turn, until the looks are over. The last one stays as long.
+    // Takes turns until the looks are over. Each turn lasts until the other thread has the next ticket, or the looks
+    // are over.
     fn run<R: Wait>(&self, rt: &R) {
         for _ in 0..TURNS {
             if self.looked.load(SeqCst) {
@@ -159,8 +161,8 @@ impl Relay {
         }
     }
 
-    // Whether each look from the first ticket on found the lock taken. It looks no more often than that, however slowly
-    // the others take turns.
+    // Returns `true` if each look after the first ticket found the lock held. It makes at most a million looks, however
+    // slow the others are.
     fn look(&self) -> bool {
         let mut locked = true;
         for _ in 0..1_000_000u32 {
@@ -174,7 +176,7 @@ impl Relay {
         locked
     }
 
-    // The first looks, and two take turns.
+    // The first thread looks, and the two others take turns.
     fn act<R: Wait>(&self, rt: &R, index: usize) -> bool {
         if index == 0 {
             return self.look();

@@ -4,11 +4,11 @@ ghost use Rattle.spin_core.specs.Guard.{guard_value};
 ghost use Rattle.spin_mutex.specs.MutexGuard.{value_of};
 
 use crate::equal::equal;
-use spin_mutex::mutex::{
-    Mutex, MutexGuard, SpinMutex, SpinMutexGuard, TicketMutex, TicketMutexGuard,
-};
+use spin_flag::spin::{SpinMutex, SpinMutexGuard};
+use spin_mutex::mutex::{Mutex, MutexGuard};
+use spin_ticket::ticket::{TicketMutex, TicketMutexGuard};
 
-// A caller's proof, of each guard.
+// A caller's proof, for each guard.
 fn swap_in<R>(guard: &mut SpinMutexGuard<'_, u64, R>, value: u64) -> u64
     ensures old_value { result ≡ guard_value guard.old }
     ensures new_value { guard_value guard.new ≡ value }

@@ -1,4 +1,4 @@
-//! Which call runs its closure, and what it answers then.
+//! Which call runs its closure, and what the call returns then.
 
 use crate::equal::equal;
 use spin_core::relax::Loop;
@@ -6,12 +6,12 @@ use spin_once::once::Once;
 use std::cell::Cell;
 use std::sync::Wait;
 
-// A caller's closure may be generic, may borrow, and may wait.
+// Shows that a caller's closure may be generic, may borrow, and may wait.
 fn made_from<T: Copy, R: Wait>(rt: &R, once: &Once<T>, from: &Once<T>) -> T {
     *once.call_once(rt, || *from.wait(rt))
 }
 
-// By a closure that gives the value.
+// Calls with a closure that gives the value.
 fn make<R: Wait>(rt: &R, once: &Once<u64>, runs: &Cell<u32>, value: u64) -> u64 {
     let give = || {
         runs.set(runs.get().wrapping_add(1));
@@ -20,7 +20,7 @@ fn make<R: Wait>(rt: &R, once: &Once<u64>, runs: &Cell<u32>, value: u64) -> u64 
     *once.call_once(rt, give)
 }
 
-// By a closure that gives none.
+// Calls with a closure that fails.
 fn fail<R: Wait>(rt: &R, once: &Once<u64>, runs: &Cell<u32>) -> Result<u64, ()> {
     let give = || {
         runs.set(runs.get().wrapping_add(1));
@@ -78,7 +78,7 @@ fn with_a_value_from_the_start_or_without(rt: HostRuntime) {
     equal(&rt, once.is_completed(), true);
 }
 
-// The owner of any `Once` may change its value, also of one that may not be dropped.
+// The owner of any `Once` may change its value, even if the value may not be dropped.
 fn lends<T>(once: &mut Once<T>) -> Option<&mut T> {
     once.get_mut()
 }

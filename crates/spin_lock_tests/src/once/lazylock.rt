@@ -21,7 +21,7 @@ fn it_runs_once(rt: HostRuntime) {
     equal(&rt, runs.get(), 1);
 }
 
-/// The value is this number.
+/// The promise that the value is this number.
 #[derive(Clone, Copy)]
 struct Is(u64);
 
@@ -29,7 +29,7 @@ impl Promise<u64> for Is {
     ghost keeps = { λ promised value. value ≡ promised.0 };
 }
 
-// A caller's proof: what is promised of the initialiser's answers is known of the value.
+// A caller's proof: what is promised of the initialiser's answers holds of the value.
 fn ninety_two<W: Wait>(rt: &W) -> u64
     ensures { result ≡ 92 }
 {
@@ -53,14 +53,14 @@ fn a_promise_is_kept(rt: HostRuntime) {
     equal(&rt, seen_twice(&rt, &lazy), 7);
 }
 
-/// Forty-two, as its own type says.
+/// Forty-two, as the type itself says.
 #[derive(Drop)]
 struct FortyTwo {
     number: u64,
     ghost is: { number ≡ 42 },
 }
 
-// A caller's proof without a promise: what every value of the type keeps is known of the one that is made.
+// A caller's proof without a promise: the invariant of the type holds of the value that is made.
 fn forty_two<W: Wait>(rt: &W) -> u64
     ensures { result ≡ 42 }
 {

@@ -1,4 +1,4 @@
-//! In several threads.
+//! `Once` in several threads.
 
 use crate::equal::equal;
 use spin_core::relax::{RelaxStrategy, Yield};

@@ -1,4 +1,5 @@
-//! A thread that finds another's closure running waits for it, goes on with its value, and runs none of its own.
+//! A thread that finds another's closure running waits for it, continues with its value, and runs no closure of its
+//! own.
 
 use crate::equal::equal;
 use crate::waiting::{await_number, pause};
@@ -13,14 +14,14 @@ use std::thread;
 #[derive(Drop)]
 struct Shared {
     once: Once<u64, Yield>,
-    // How many have come to wait.
+    // How many threads have begun to wait.
     came: AtomicU64,
     // How many closures have begun.
     begun: AtomicU64,
 }
 
 impl Shared {
-    // It begins once one waits for it, and runs until all four do.
+    // Begins once a thread waits for it, and runs until all four do.
     fn make<R: Wait>(&self, rt: &R) -> u64 {
         await_number(rt, &self.came, 1);
         pause(rt);
@@ -37,14 +38,14 @@ impl Shared {
         self.begun.fetch_add(1, SeqCst)
     }
 
-    // Comes while the closure runs, with another.
+    // Calls with another closure while the first one runs.
     fn call<R: Wait>(&self, rt: &R) -> u64 {
         await_number(rt, &self.begun, 1);
         self.came.fetch_add(1, SeqCst);
         *self.once.call_once(rt, || self.begin())
     }
 
-    // Likewise, with one that fails.
+    // The same, with a closure that fails.
     fn try_call<R: Wait>(&self, rt: &R) -> Option<u64> {
         await_number(rt, &self.begun, 1);
         self.came.fetch_add(1, SeqCst);
@@ -52,7 +53,7 @@ impl Shared {
         value.ok().copied()
     }
 
-    // Comes while the closure runs, and there is no value yet.
+    // Polls while the closure runs and there is no value yet.
     fn poll<R: Wait>(&self, rt: &R) -> Option<u64> {
         await_number(rt, &self.begun, 1);
         let is_early = self.once.get().is_none();
@@ -64,7 +65,7 @@ impl Shared {
     fn act<R: Wait>(&self, rt: &R, index: usize) -> Option<u64> {
         match index {
             0 => Some(self.make(rt)),
-            // It waits from before a closure runs.
+            // It begins to wait before a closure runs.
             1 => {
                 self.came.fetch_add(1, SeqCst);
                 Some(*self.once.wait(rt))

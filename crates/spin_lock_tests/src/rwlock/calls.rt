@@ -1,4 +1,4 @@
-//! What no contract says: which call is granted, and what the counts tell.
+//! What no contract says: which calls succeed, and what the counts tell.
 
 use crate::equal::equal;
 use spin_core::relax::Loop;
@@ -8,7 +8,7 @@ use std::sync::Wait;
 
 const WEAK_ATTEMPTS: u32 = 10_000_000;
 
-// Which of `try_read`, `try_upgradeable_read` and `try_write` are granted.
+// Which of `try_read`, `try_upgradeable_read` and `try_write` succeed.
 type Granted = [bool; 3];
 
 const FREE: Granted = [true; 3];
@@ -20,7 +20,7 @@ const READ: Granted = [true, true, false];
 // One of the readers may upgrade.
 const READ_UPGRADABLY: Granted = [true, false, false];
 
-// Compares what is seen of a lock: which tries are granted, and then how many read and how many write.
+// Compares what a lock shows: which tries succeed, and then how many threads read and how many write.
 fn shows<R: Abort + Wait>(rt: &R, lock: &RwLock<u64>, granted: Granted, counts: [usize; 2]) {
     let reads = lock.try_read(rt).is_some();
     let upgrades = lock.try_upgradeable_read(rt).is_some();

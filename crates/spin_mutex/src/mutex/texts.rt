@@ -1,4 +1,4 @@
-//! `Debug` of a `Mutex`, and `Debug` and `Display` of its guard. Begin at `Debug` of the lock: a guard prints as its
+//! `Debug` of a `Mutex`, and `Debug` and `Display` of its guard. Begin at `Debug` of the lock. A guard prints its
 //! value.
 ghost use Rattle.std.specs.Prelude.{Option};
 ghost use Rattle.std.specs.Fmt.{DisplaysOnOk};
@@ -9,7 +9,7 @@ use super::{Mutex, MutexGuard};
 use std::fmt;
 use std::fmt::{Debug, Display, Formatter};
 
-/// Prints as the lock inside.
+/// Prints what the inner lock prints.
 impl<T: Debug, R> Debug for Mutex<T, R> {
     fn fmt<W: fmt::Write>(&self, f: &mut Formatter<W>) -> fmt::Result
         ensures { (found : Option T) × DisplaysOnOk W.write_str_gives f.old result (lock_text T.debug_output found) f.new }

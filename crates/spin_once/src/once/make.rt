@@ -45,7 +45,7 @@ pub(super) fn find_or_try<'a, T, R: RelaxStrategy, F: FnOnce() -> Result<T, E>, 
     }
 }
 
-// Kept out of line: inlined, it would lengthen the path of each caller that finds a value.
+// It is not inlined, since that would lengthen the path of each caller that finds a value.
 #[cold]
 #[inline(never)]
 pub(super) fn make<'a, T, R: RelaxStrategy, F: FnOnce() -> T, W: Wait>(

@@ -1,11 +1,12 @@
-//! The calls of a [`Once`] by a thread that keeps account of them. Begin at [`Once::pass`].
-ghost use Rattle.std.specs.Prelude.{◌≡◌, ◌⊎◌, Some, None, Err, [], true, IfOk, IfErr};
+//! The calls of a [`Once`] by a thread that keeps track of them. Begin at [`Once::pass`].
+ghost use Rattle.std.specs.Prelude.{◌≡◌, ◌⊎◌, Some, None, Err, [], true, IfSome, IfOk, IfErr};
 ghost use mathlib.Core.List.{IsPrefix};
 ghost use Rattle.spin_core.specs.Own.{what};
 ghost use Rattle.spin_core.specs.Passes.{Ends};
 ghost use Rattle.spin_model.specs.declared.answer.Answer.TheVariants.{Value, Is};
 ghost use Rattle.spin_model.specs.declared.once.OnceCall.TheVariants.{CallOnce, Wait as WaitCall, Poll, Get, IsCompleted};
 ghost use Rattle.spin_once.specs.Once.{is_out};
+ghost use Rattle.spin_once.specs.OnceValues.{IsValue};
 
 use super::Once;
 use super::make::{find_or_make, find_or_try};
@@ -14,16 +15,16 @@ use spin_core::relax::RelaxStrategy;
 use std::marker::PhantomData;
 use std::sync::Wait;
 
-/// A thread's account of its calls of a [`Once`].
+/// A thread's record of its calls of a [`Once`].
 ///
 /// The cell of the `Once` keeps the list of all moves that threads have made in it (its history). A pass knows which of
-/// these moves are its own, and the whole list up to its last one. Calls without a pass are in the history too, as
-/// calls of others. A pass is as large as a reference. It can be sent, and a `Once` has any number of them.
+/// these moves are its own, and the whole list up to its own last move. Calls without a pass are in the history too, as
+/// calls of others. A pass is as large as a reference. It can be sent, and a `Once` can have any number of passes.
 ///
 /// # Contract
-/// Each call takes the pass and returns it. It ensures `Called`: of the moves by which the history grew, those of this
-/// pass are exactly one call, with the answer that is returned. In the model of a `Once` on threads that call has this
-/// answer, at its place among the moves of all threads, and no move of the history is passed over.
+/// Each call takes the pass and returns it. It ensures `Called`: among the new moves of the history, those of this pass
+/// are exactly one call with the returned answer. In the model of a `Once` on threads that call gets this answer, at
+/// its place among the moves of all threads. No move of the history is skipped.
 ///
 /// # Examples
 /// ```
@@ -48,9 +49,10 @@ impl<T, R> Once<T, R> {
     /// Returns a pass that has made no call. It makes no operation on the `Once`.
     ///
     /// # Contract
-    /// The pass is of this `Once`, and knows nothing of its history yet (`new`).
+    /// The pass is of this `Once`, and knows nothing of its history yet (`new`, `lock`).
     pub fn pass(&self) -> Pass<'_, T, R>
-        ensures new { (result.account.seen.name ≡ self.now.core.cell.start.name) × (result.account.seen.entries ≡ []) × (result.account.party.view ≡ None) }
+        ensures new { (result.account.seen.name ≡ self.now.core.cell.opening.name) × (result.account.seen.entries ≡ []) × (result.account.party.view ≡ None) }
+        ensures lock { result.account.party.key ≡ self.now.core.cell }
     {
         Pass {
             account: self.core.account(),
@@ -60,14 +62,16 @@ impl<T, R> Once<T, R> {
 }
 
 impl<'a, T, R> Pass<'a, T, R> {
-    ghost use Rattle.spin_once.specs.OncePasses.{Called, found_or_none};
+    ghost use Rattle.spin_once.specs.OncePasses.{Called, found_or_none, history, opening_of};
 
     /// Returns the value, or `None` if there is none yet, as [`Once::get`] does.
     ///
     /// # Contract
-    /// The call is one `Get`, with the answer `Value` and a reference, or else `NoValue` (`made`).
+    /// The call is one `Get`, with the answer `Value` and a reference, or else `NoValue` (`made`). The value is the only
+    /// one in the history (`found`).
     pub fn get(self) -> (Option<&'a T>, Pass<'a, T, R>)
         ensures made { Called Get (found_or_none result.0) self.entry result.1 }
+        ensures found { IfSome result.0 (λ value. IsValue (opening_of self.entry) (history result.1) value.now) }
     {
         let Self { account, strategy } = self;
         match account.get() {
@@ -82,7 +86,7 @@ impl<'a, T, R> Pass<'a, T, R> {
     /// Returns whether there is a value, as [`Once::is_completed`] does.
     ///
     /// # Contract
-    /// The call is one `IsCompleted`, with the answer that is returned (`made`).
+    /// The call is one `IsCompleted`, with the returned answer (`made`).
     pub fn is_completed(self) -> (bool, Pass<'a, T, R>)
         ensures made { Called IsCompleted (Is result.0) self.entry result.1 }
     {
@@ -94,8 +98,8 @@ impl<'a, T, R> Pass<'a, T, R> {
     /// Compares what two passes of one `Once` know. It does nothing when it runs.
     ///
     /// # Contract
-    /// What one of them knows of the history is a beginning of what the other knows. So both know one history, and the
-    /// one that knows more has the calls of both in it, each once, in the order in which each pass made them.
+    /// One of them knows a prefix of the history that the other knows. So both know one history. The longer one has the
+    /// calls of both passes, each once, in the order in which each pass made them.
     pub fn compare(&self, other: &Pass<'_, T, R>)
         requires { self.now.account.seen.name ≡ other.now.account.seen.name }
         ensures { IsPrefix self.now.account.seen.entries other.now.account.seen.entries ⊎ IsPrefix other.now.account.seen.entries self.now.account.seen.entries }
@@ -105,16 +109,18 @@ impl<'a, T, R> Pass<'a, T, R> {
 }
 
 impl<'a, T, R: RelaxStrategy> Pass<'a, T, R> {
-    ghost use Rattle.spin_once.specs.OncePasses.{Called, Tried, found_or_none};
+    ghost use Rattle.spin_once.specs.OncePasses.{Called, Tried, found_or_none, history, opening_of};
 
     /// Returns the value, and makes it first by calling `f` if there is none, as [`Once::call_once`] does.
     ///
     /// # Contract
     /// The precondition of `f` has to hold. The call is one `CallOnce` with the answer `Value`, however often it looked
-    /// and tried, and whether `f` ran or not (`made`). Whether and when the call returns is not promised.
+    /// and tried, and whether `f` ran or not (`made`). The value is the only one in the history (`found`). Whether and
+    /// when the call returns is not promised.
     pub fn call_once<F: FnOnce() -> T, W: Wait>(self, rt: &W, f: F) -> (&'a T, Pass<'a, T, R>)
         requires { F.pre f }
         ensures made { Called (CallOnce tt) (Value tt) self.entry result.1 }
+        ensures found { IsValue (opening_of self.entry) (history result.1) result.0.now }
     {
         let Self { account, strategy } = self;
         let (value, account) = find_or_make::<T, R, F, W>(account, rt, f).read();
@@ -125,8 +131,9 @@ impl<'a, T, R: RelaxStrategy> Pass<'a, T, R> {
     ///
     /// # Contract
     /// The precondition of `f` has to hold. An `Err` is one that this caller's own `f` may return (`err`). With a value
-    /// the call is one `TryCallOnceOk` with the answer `Value`. With an error it is a call whose closure ran and
-    /// failed, with the answer `Failed` (`made`). Whether and when the call returns is not promised.
+    /// the call is one `TryCallOnceOk` with the answer `Value`, and the value is the only one in the history (`found`).
+    /// With an error it is a call whose closure ran and failed, with the answer `Failed` (`made`). Whether and when the
+    /// call returns is not promised.
     pub fn try_call_once<F: FnOnce() -> Result<T, E>, E, W: Wait>(
         self,
         rt: &W,
@@ -135,6 +142,7 @@ impl<'a, T, R: RelaxStrategy> Pass<'a, T, R> {
         requires { F.pre f }
         ensures err { IfErr result.0 (λ e. F.post f (Err e)) }
         ensures made { Tried result.0 self.entry result.1 }
+        ensures found { IfOk result.0 (λ value. IsValue (opening_of self.entry) (history result.1) value.now) }
     {
         let Self { account, strategy } = self;
         match find_or_try::<T, R, F, E, W>(account, rt, f) {
@@ -149,10 +157,11 @@ impl<'a, T, R: RelaxStrategy> Pass<'a, T, R> {
     /// Returns the value, spinning until there is one, as [`Once::wait`] does.
     ///
     /// # Contract
-    /// The call is one `Wait` with the answer `Value`, however often it looked (`made`). Whether and when it returns is
-    /// not promised.
+    /// The call is one `Wait` with the answer `Value`, however often it looked (`made`). The value is the only one in the
+    /// history (`found`). Whether and when it returns is not promised.
     pub fn wait<W: Wait>(self, rt: &W) -> (&'a T, Pass<'a, T, R>)
         ensures made { Called WaitCall (Value tt) self.entry result.1 }
+        ensures found { IsValue (opening_of self.entry) (history result.1) result.0.now }
     {
         let Self { account, strategy } = self;
         let (value, account) = account.wait::<R, W>(rt).read();
@@ -163,9 +172,10 @@ impl<'a, T, R: RelaxStrategy> Pass<'a, T, R> {
     ///
     /// # Contract
     /// The call is one `Poll`, however often it looked, with the answer `Value` and a reference, or else `NoValue`
-    /// (`made`). Whether and when it returns is not promised.
+    /// (`made`). The value is the only one in the history (`found`). Whether and when it returns is not promised.
     pub fn poll<W: Wait>(self, rt: &W) -> (Option<&'a T>, Pass<'a, T, R>)
         ensures made { Called Poll (found_or_none result.0) self.entry result.1 }
+        ensures found { IfSome result.0 (λ value. IsValue (opening_of self.entry) (history result.1) value.now) }
     {
         let Self { account, strategy } = self;
         match account.poll::<R, W>(rt) {

@@ -2,12 +2,14 @@
 //! gives the value or the right to make it.
 ghost use Rattle.std.specs.Prelude.{◌≡◌, ◌⊎◌, Some, true, length, IfOk, IfErr};
 ghost use mathlib.Core.List.{IsPrefix};
+ghost use Rattle.spin_core.specs.Cell.{use_of};
 ghost use Rattle.spin_core.specs.Own.{what};
 ghost use Rattle.spin_core.specs.Passes.{mark_of, IsCall, Begins as BeginsWith, Waits as Goes};
 ghost use Rattle.spin_core.specs.Stable.{maybe_stable};
 ghost use Rattle.spin_model.specs.declared.answer.Answer.TheVariants.{Value, NoValue, Is};
 ghost use Rattle.spin_model.specs.declared.once.OnceCall.TheVariants.{Get, IsCompleted, Wait as WaitCall, Poll};
-ghost use Rattle.spin_once.specs.Once.{call_of, closure_call, has_begun, is_out, may_begin, may_look, may_wait, may_poll};
+ghost use Rattle.spin_once.specs.Once.{use_of_party, call_of, closure_call, has_begun, is_out, may_begin, may_look, may_wait, may_poll};
+ghost use Rattle.spin_once.specs.OnceValues.{IsValue, Sees};
 ghost use Rattle.spin_once.specs.declared.once_core.rule.Stage.TheVariants.{Done};
 ghost use Rattle.spin_once.specs.declared.once_core.rule.View.TheVariants.{Idle, Reading};
 
@@ -21,12 +23,13 @@ use spin_core::trace::Watch;
 use spin_step::once;
 use std::sync::Wait;
 
-/// A party that knows which moves in the trace are its own, and the whole trace up to its last one.
+/// A party that knows which moves in the trace are its own, and the whole trace up to its own last move.
 pub(crate) struct Account<'a, T, S: Seed<T>> {
     party: Caller<'a, T, S>,
-    seen: Watch<Entry>,
-    ghost named: { party.key.start.name ≡ seen.name },
+    seen: Watch<Entry<T>>,
+    ghost named: { party.key.opening.name ≡ seen.name },
     ghost knows: { mark_of party.view ≡ length seen.entries },
+    ghost finds: { Sees party.key.opening seen.entries (use_of use_of_party party.view) party.value },
 }
 
 /// The account of a party that reads the value.
@@ -58,6 +61,7 @@ impl<'a, T, S: Seed<T>> Found<'a, T, S> {
         ensures made { S.makes self.entry.account.party.key.seed.value result.0.now }
         ensures same { Same (here self.entry.account) (here result.1) }
         ensures reads { what result.1.party.view ≡ Some Reading }
+        ensures found { IsValue result.1.party.key.opening result.1.seen.entries result.0.now }
     {
         let Self { account } = self;
         let Account { party, seen } = account;
@@ -65,7 +69,7 @@ impl<'a, T, S: Seed<T>> Found<'a, T, S> {
         (value, Account { party, seen })
     }
 
-    /// Returns the value to a caller that keeps no account.
+    /// Returns the value to a caller that keeps no record of its calls.
     pub(crate) fn value(self) -> &'a T
         ensures { S.makes self.entry.account.party.key.seed.value result.now }
     {
@@ -78,8 +82,8 @@ impl<'a, T, S: Seed<T>> Found<'a, T, S> {
 impl<'a, T, S: Seed<T>> Account<'a, T, S> {
     ghost use Rattle.spin_once.specs.Accounts.{here, Since, Wants};
 
-    pub(crate) fn new(party: Caller<'a, T, S>, seen: Watch<Entry>) -> Self
-        requires { (party.key.start.name ≡ seen.name) × (mark_of party.view ≡ length seen.entries) }
+    pub(crate) fn new(party: Caller<'a, T, S>, seen: Watch<Entry<T>>) -> Self
+        requires { (party.key.opening.name ≡ seen.name) × (mark_of party.view ≡ length seen.entries) × Sees party.key.opening seen.entries (use_of use_of_party party.view) party.value }
         ensures { (result.party ≡ party.entry) × (result.seen ≡ seen) }
     {
         Account { party, seen }
@@ -128,7 +132,7 @@ impl<'a, T, S: Seed<T>> Account<'a, T, S> {
         (found == COMPLETE as u64, Account { party, seen })
     }
 
-    /// Finds the value by its one load, or begins a call that goes on, with a closure of this kind.
+    /// Finds the value by its one load, or begins a call with a closure of this kind, which then continues.
     pub(crate) fn come<C: Closure>(self) -> Result<Found<'a, T, S>, Wanting<'a, T, S>>
         requires { is_out (what self.party.view) ≡ true }
         ensures found { IfOk result (λ found. Since (here self.entry) (IsCall (closure_call C.may_fail) (Value tt)) (here found.account)) }
@@ -173,13 +177,13 @@ impl<'a, T, S: Seed<T>> Account<'a, T, S> {
     }
 }
 
-/// A call with a closure that goes on with its exchange.
+/// A call with a closure, whose next step is its exchange.
 pub(crate) struct Wanting<'a, T, S: Seed<T>> {
     account: Account<'a, T, S>,
     ghost wants: { may_begin (what account.party.view) ≡ true },
 }
 
-// A call with a closure that goes on with a look, since another closure runs.
+// A call with a closure, whose next step is a look, since another closure runs.
 struct Awaiting<'a, T, S: Seed<T>> {
     account: Account<'a, T, S>,
     ghost awaits: { may_look (what account.party.view) ≡ true },
@@ -229,7 +233,7 @@ impl<'a, T, S: Seed<T>> Awaiting<'a, T, S> {
     #[inline(never)]
     fn claim<R: RelaxStrategy, W: Wait>(self, rt: &W) -> Claim<'a, T, S>
         ensures claims { IsClaimOf (call_of (what self.entry.account.party.view)) result }
-        ensures since { (p : Place S) → Since p Goes (here self.entry.account) → Claims p result }
+        ensures since { (p : Place T S) → Since p Goes (here self.entry.account) → Claims p result }
     {
         let mut awaiting = self;
         for _ in rt.forever() {
@@ -262,7 +266,7 @@ impl<'a, T, S: Seed<T>> Awaiting<'a, T, S> {
     }
 }
 
-// A call of `wait` that comes or goes on.
+// A call of `wait` that begins or continues.
 struct Waiting<'a, T, S: Seed<T>> {
     account: Account<'a, T, S>,
     ghost waits: { may_wait (what account.party.view) ≡ true },
@@ -276,7 +280,7 @@ impl<'a, T, S: Seed<T>> Waiting<'a, T, S> {
     #[inline(never)]
     fn wait<R: RelaxStrategy, W: Wait>(self, rt: &W) -> Found<'a, T, S>
         requires { has_begun (what self.account.party.view) ≡ true }
-        ensures { (p : Place S) → Since p (BeginsWith WaitCall Goes) (here self.entry.account) → Since p (IsCall WaitCall (Value tt)) (here result.account) }
+        ensures { (p : Place T S) → Since p (BeginsWith WaitCall Goes) (here self.entry.account) → Since p (IsCall WaitCall (Value tt)) (here result.account) }
     {
         let mut waiting = self;
         for _ in rt.forever() {
@@ -304,7 +308,7 @@ impl<'a, T, S: Seed<T>> Waiting<'a, T, S> {
     }
 }
 
-// A call of `poll` that comes or goes on.
+// A call of `poll` that begins or continues.
 struct Polling<'a, T, S: Seed<T>> {
     account: Account<'a, T, S>,
     ghost polls: { may_poll (what account.party.view) ≡ true },
@@ -318,7 +322,7 @@ impl<'a, T, S: Seed<T>> Polling<'a, T, S> {
     #[inline(never)]
     fn wait<R: RelaxStrategy, W: Wait>(self, rt: &W) -> Result<Found<'a, T, S>, Account<'a, T, S>>
         requires { has_begun (what self.account.party.view) ≡ true }
-        ensures { (p : Place S) → Since p (BeginsWith Poll Goes) (here self.entry.account) → IsPolled p result }
+        ensures { (p : Place T S) → Since p (BeginsWith Poll Goes) (here self.entry.account) → IsPolled p result }
     {
         let mut polling = self;
         for _ in rt.forever() {

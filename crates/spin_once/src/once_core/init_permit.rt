@@ -1,4 +1,4 @@
-//! The right to make the value, apart from its party's account. It ends by [`InitPermit::complete`] or
+//! The right to make the value, without its party's account. It ends by [`InitPermit::complete`] or
 //! [`InitPermit::fail`].
 ghost use Rattle.std.specs.Prelude.{◌≡◌, Some, true, length};
 ghost use Rattle.spin_core.specs.Own.{what};
@@ -15,21 +15,21 @@ use spin_core::trace::Watch;
 use spin_step::once;
 use std::mem::{self, ManuallyDrop};
 
-/// The right of the party that began: it has the cell's content alone.
+/// The right of the party that began: it has the cell's content to itself.
 pub(crate) struct InitPermit<'a, T, S: Seed<T>> {
     writer: Writer<'a, T, S>,
-    seen: Watch<Entry>,
+    seen: Watch<Entry<T>>,
     ghost runs: { is_running writer.view.0 ≡ true },
-    ghost named: { writer.key.start.name ≡ seen.name },
+    ghost named: { writer.key.opening.name ≡ seen.name },
     ghost knows: { writer.view.2 ≡ length seen.entries },
 }
 
 impl<'a, T, S: Seed<T>> InitPermit<'a, T, S> {
     ghost use Rattle.spin_once.specs.Accounts.{here, running, HasSeed, Same, Since};
 
-    pub(super) fn new(writer: Writer<'a, T, S>, seen: Watch<Entry>) -> Self
+    pub(super) fn new(writer: Writer<'a, T, S>, seen: Watch<Entry<T>>) -> Self
         requires runs { is_running writer.view.0 ≡ true }
-        requires knows { (writer.key.start.name ≡ seen.name) × (writer.view.2 ≡ length seen.entries) }
+        requires knows { (writer.key.opening.name ≡ seen.name) × (writer.view.2 ≡ length seen.entries) }
         ensures { (result.writer ≡ writer.entry) × (result.seen ≡ seen) }
     {
         InitPermit { writer, seen }
@@ -48,7 +48,7 @@ impl<'a, T, S: Seed<T>> InitPermit<'a, T, S> {
         }
     }
 
-    /// Puts the value, which all parties may read from then on. A seed that was not taken out is not dropped.
+    /// Stores the value, which all parties may read from then on. A seed that was not taken out is not dropped.
     pub(crate) fn complete(self, value: T) -> Found<'a, T, S>
         requires { S.makes self.writer.key.seed.value value }
         ensures value { result.account.party.value ≡ Some (maybe_stable (Done value)) }
@@ -59,7 +59,7 @@ impl<'a, T, S: Seed<T>> InitPermit<'a, T, S> {
         Found::new(Account::new(party, seen))
     }
 
-    /// Leaves the seed where it is, so that the next party may begin. The closure of the call is one that may fail.
+    /// Leaves the seed in the cell, so that the next party may begin. The closure of the call is one that may fail.
     pub(crate) fn fail(self) -> Account<'a, T, S>
         requires seed { HasSeed self }
         requires may { self.writer.view.0 ≡ will_run true }
@@ -72,11 +72,11 @@ impl<'a, T, S: Seed<T>> InitPermit<'a, T, S> {
         Account::new(party, seen)
     }
 
-    fn put(self, stage: Stage<T, S>) -> (Caller<'a, T, S>, Watch<Entry>)
+    fn put(self, stage: Stage<T, S>) -> (Caller<'a, T, S>, Watch<Entry<T>>)
         ensures runs { (result.0.view ≡ Some self.entry.writer.view) × (result.0.value ≡ Some (maybe_stable stage)) }
         ensures running { is_running self.entry.writer.view.0 ≡ true }
         ensures same { (result.0.key ≡ self.entry.writer.key) × (result.1 ≡ self.entry.seen) }
-        ensures knows { (self.entry.writer.key.start.name ≡ self.entry.seen.name) × (self.entry.writer.view.2 ≡ length self.entry.seen.entries) }
+        ensures knows { (self.entry.writer.key.opening.name ≡ self.entry.seen.name) × (self.entry.writer.view.2 ≡ length self.entry.seen.entries) }
     {
         let Self { mut writer, seen } = self;
         spend(mem::replace(&mut writer.get_mut().value, stage));
@@ -84,8 +84,8 @@ impl<'a, T, S: Seed<T>> InitPermit<'a, T, S> {
     }
 }
 
-// Forgets what was there, without a test: the thread that has the permit knows that it is no value. A first `call_once`
-// saves two tests.
+// Forgets what was there, without a test: the thread with the permit knows that it is no value. This saves two tests in
+// a first `call_once`.
 fn spend<T, S>(stage: Stage<T, S>) {
     let _gone = unsafe { ManuallyDrop::new_unchecked(stage) };
 }

@@ -1,10 +1,10 @@
-//! A value that is proved to be there. So where it is read no test is left.
+//! A value that is proved to exist, so that reading it needs no test.
 ghost use Rattle.std.specs.Prelude.{◌≡◌, IsSome, IsSomeAnd, IfSome};
 ghost use Rattle.std.specs.Ptr.{as_ptr};
 
 use std::ptr;
 
-/// Returns the value. That there is one is proved. Nothing may be read through null, so the compiler leaves no test.
+/// Returns the value, which is proved to exist. Nothing may be read through null, so the compiler leaves no test.
 pub(super) fn known<'a, T>(value: Option<&'a T>) -> &'a T
     requires { IsSome value }
     ensures { IfSome value.entry (λ there. result.now ≡ there.now) }

@@ -1,17 +1,17 @@
-//! The rule of a [`OnceCore`](super::OnceCore): what each party is to the value (`View`), what the word says of all of
-//! them, and each kind of step.
+//! The rule of a [`OnceCore`](super::OnceCore): what each party is to the value (`View`), what the word says of all
+//! parties, and each kind of step.
 ghost use Rattle.std.specs.Prelude.{◌≡◌, Bool, Option, Some, None, true, false, IsSomeAnd};
 ghost use Rattle.spin_core.specs.Own.{what};
 ghost use Rattle.spin_core.specs.Stable.{maybe_stable};
 ghost use Rattle.spin_once.specs.Once.{Told, gets_by, completes_by, comes_by, begins_by, looks_by, waits_by, polls_by, ends_by, fails_by, call_of};
 ghost use Rattle.spin_once.specs.declared.once_core.rule.View.TheVariants.{Reading};
-ghost use Rattle.spin_once.specs.declared.once_core.rule.Stage.TheVariants.{Done};
+ghost use Rattle.spin_once.specs.declared.once_core.rule.Stage.TheVariants.{Done, Seed as InSeed};
 
 use super::known::known;
 use spin_core::cell::stable::{MaybeStable, Stabilizes, Stable};
 use spin_core::cell::{Cell, Permit, Play, Rule, WritePermit};
-use spin_core::tie;
-use spin_core::trace::{Trace, Watch};
+use spin_core::tie::{self, Opening};
+use spin_core::trace::Trace;
 use spin_model::{OnceCall, OncePoint};
 use std::marker::PhantomData;
 use std::snapshot::Snapshot;
@@ -33,7 +33,7 @@ pub trait Seed<T> {
 #[derive(Clone, Copy)]
 pub enum View {
     Idle,
-    /// It reads the value for good.
+    /// It reads the value for ever.
     Reading,
     /// It is in this call, at this point. At `Run` it runs its closure.
     InCall(OnceCall<()>, OncePoint),
@@ -42,25 +42,23 @@ pub enum View {
 /// A party with its number.
 pub type Party = tie::Numbered<View>;
 
-/// An entry of the trace.
-pub type Entry = tie::Entry<OnceCall<()>>;
+/// An entry of the trace of a cell of values of type `T`.
+pub type Entry<T> = tie::Entry<OnceCall<()>, T>;
 
-/// What is settled when the cell is made.
+/// What is fixed when the cell is made.
 #[derive(Drop)]
-pub struct Key<S> {
+pub struct Key<T, S> {
     /// What the value is made from.
     pub seed: Snapshot<S>,
-    /// The value that the cell was made with, if it was.
-    pub given: Snapshot<Option<()>>,
-    /// What is known of the trace at first: its name.
-    pub start: Watch<Entry>,
+    /// The name of the trace, and what lay in the cell at first: the seed, or the value that it was made with.
+    pub opening: Opening<Stage<T, S>>,
 }
 
-/// What lies in the cell.
+/// The content of the cell.
 #[derive(Drop)]
 pub enum Stage<T, S> {
     Seed(S),
-    /// The party that runs has the seed.
+    /// The party that runs its closure has the seed.
     Taken,
     Done(T),
 }
@@ -71,7 +69,7 @@ impl<T, S> Stage<T, S> {
     ghost use Rattle.std.specs.Borrow.{sem, follows};
     ghost use Rattle.spin_once.specs.Made.{made_row, made_of};
 
-    /// Returns the value that was made. Another that is written over it counts as made too.
+    /// Returns the value that was made. Any value written over it counts as made too.
     pub(super) fn made(stable: &mut Stable<Self>) -> &mut T
         ensures* writes_back { sem 𝓛 (follows (made_row T.row S.row) T.row stable.entry.ghost_name result.ghost_name made_of) }
     {
@@ -89,20 +87,22 @@ impl<T, S> Stabilizes for Stage<T, S> {
     ghost stable = { is_done };
 }
 
-/// The word is that of a plain lock in whose phase these parties are. The trace is a schedule of the model, which leads
-/// to this word, with each party in the seat that its view names.
+/// The word is that of a plain lock in whose phase these parties are. The trace, without its values, is a schedule of the
+/// model, which leads to this word, with each party in the seat that its view names. It has one value at most, and none
+/// before the word is that of a value. The value that lies there is that one (`IsMade`), until the owner borrows it.
 impl<T, S: Seed<T>> Rule<Slot<T, S>, Party> for Stage<T, S> {
     ghost use Rattle.spin_once.specs.Once.{IsOnce, once_ways};
+    ghost use Rattle.spin_once.specs.OnceValues.{lent_key};
 
-    type Key = Key<S>;
+    type Key = Key<T, S>;
 
-    type Second = Trace<Entry>;
+    type Second = Trace<Entry<T>>;
 
-    ghost holds = { λ key. IsOnce key.given.value key.start.name };
+    ghost holds = { λ key. IsOnce key.opening };
 
-    ghost ways = { λ key. once_ways S.makes key.seed };
+    ghost ways = { once_ways S.makes };
 
-    ghost lent = { λ key. key };
+    ghost lent = { lent_key };
 }
 
 pub(super) type SeedCell<T, S> = Cell<Slot<T, S>, Party, Stage<T, S>>;
@@ -133,15 +133,15 @@ impl Closure for Unsure {
 /// The load of `get`.
 pub(super) struct Gets;
 
-impl<S> Play<Key<S>, Party, Entry> for Gets {
-    ghost told = { λ key old new before. Told key.given.value gets_by before };
+impl<T, S> Play<Key<T, S>, Party, Entry<T>> for Gets {
+    ghost told = { λ key old new before. Told key.opening gets_by before };
 }
 
 /// The load of `is_completed`.
 pub(super) struct Completes;
 
-impl<S> Play<Key<S>, Party, Entry> for Completes {
-    ghost told = { λ key old new before. Told key.given.value (completes_by (what before)) before };
+impl<T, S> Play<Key<T, S>, Party, Entry<T>> for Completes {
+    ghost told = { λ key old new before. Told key.opening (completes_by (what before)) before };
 }
 
 /// The first load of a call with a closure.
@@ -149,91 +149,90 @@ pub(super) struct Comes<C> {
     closure: PhantomData<C>,
 }
 
-impl<C: Closure, S> Play<Key<S>, Party, Entry> for Comes<C> {
-    ghost told = { λ key old new before. Told key.given.value (comes_by C.may_fail) before };
+impl<C: Closure, T, S> Play<Key<T, S>, Party, Entry<T>> for Comes<C> {
+    ghost told = { λ key old new before. Told key.opening (comes_by C.may_fail) before };
 }
 
 /// The exchange by which a call begins to run its closure.
 pub(super) struct Begins;
 
-impl<S> Play<Key<S>, Party, Entry> for Begins {
-    ghost told = { λ key old new before. Told key.given.value (begins_by (call_of (what before))) before };
+impl<T, S> Play<Key<T, S>, Party, Entry<T>> for Begins {
+    ghost told = { λ key old new before. Told key.opening (begins_by (call_of (what before))) before };
 }
 
 /// A load of a call with a closure, while another one runs.
 pub(super) struct Looks;
 
-impl<S> Play<Key<S>, Party, Entry> for Looks {
-    ghost told = { λ key old new before. Told key.given.value (looks_by (call_of (what before))) before };
+impl<T, S> Play<Key<T, S>, Party, Entry<T>> for Looks {
+    ghost told = { λ key old new before. Told key.opening (looks_by (call_of (what before))) before };
 }
 
 /// A load of `wait`.
 pub(super) struct Waits;
 
-impl<S> Play<Key<S>, Party, Entry> for Waits {
-    ghost told = { λ key old new before. Told key.given.value (waits_by (what before)) before };
+impl<T, S> Play<Key<T, S>, Party, Entry<T>> for Waits {
+    ghost told = { λ key old new before. Told key.opening (waits_by (what before)) before };
 }
 
 /// A load of `poll`.
 pub(super) struct Polls;
 
-impl<S> Play<Key<S>, Party, Entry> for Polls {
-    ghost told = { λ key old new before. Told key.given.value (polls_by (what before)) before };
+impl<T, S> Play<Key<T, S>, Party, Entry<T>> for Polls {
+    ghost told = { λ key old new before. Told key.opening (polls_by (what before)) before };
 }
 
-/// The store after a closure that gave a value.
+/// The store after a closure that gave a value. In the history it is a write of that value.
 pub(super) struct Complete;
 
-impl<S> Play<Key<S>, Party, Entry> for Complete {
-    ghost told = { λ key old new before. Told key.given.value (ends_by (call_of (what before))) before };
+impl<T, S> Play<Key<T, S>, Party, Entry<T>> for Complete {
+    ghost told = { λ key old new before. Told key.opening (ends_by (call_of (what before))) before };
 }
 
 /// The store after a closure that failed.
 pub(super) struct Fail;
 
-impl<S> Play<Key<S>, Party, Entry> for Fail {
-    ghost told = { λ key old new before. Told key.given.value fails_by before };
+impl<T, S> Play<Key<T, S>, Party, Entry<T>> for Fail {
+    ghost told = { λ key old new before. Told key.opening fails_by before };
 }
 
-/// Creates a cell with a seed, to which no party has come.
+/// Creates a cell with a seed, which no party has used.
 pub(super) fn with_seed<T, S: Seed<T>>(seed: S) -> SeedCell<T, S>
-    ensures { result.seed.value ≡ seed }
+    ensures seed { result.seed.value ≡ seed }
+    ensures opens { (result.opening.value ≡ InSeed seed) × (result.opening.told ≡ true) }
 {
     let trace = Trace::new(());
+    let known = Snapshot::of(&seed);
+    let stage = Stage::Seed(seed);
     let key = Key {
-        seed: Snapshot::of(&seed),
-        given: Snapshot::of(&None),
-        start: trace.watch(),
+        seed: known,
+        opening: Opening::of(&trace, &stage),
     };
-    let slot = MaybeStable {
-        value: Stage::Seed(seed),
-    };
+    let slot = MaybeStable { value: stage };
     Cell::new(slot, NOTHING as u64, trace, &key)
 }
 
-/// Creates a cell with a value, which a party has read.
+/// Creates a cell with a value, as if a party had read it.
 pub(super) fn completed<T, S: Seed<T>>(value: T, seed: &S) -> SeedCell<T, S>
     requires { S.makes seed.now value }
-    ensures { result.seed.value ≡ seed.now }
+    ensures seed { result.seed.value ≡ seed.now }
+    ensures opens { (result.opening.value ≡ Done value) × (result.opening.told ≡ true) }
 {
     let trace = Trace::new(());
+    let stage = Stage::Done(value);
     let key = Key {
         seed: Snapshot::of(seed),
-        given: Snapshot::of(&Some(())),
-        start: trace.watch(),
+        opening: Opening::of(&trace, &stage),
     };
-    let slot = MaybeStable {
-        value: Stage::Done(value),
-    };
+    let slot = MaybeStable { value: stage };
     Cell::new(slot, COMPLETE as u64, trace, &key)
 }
 
-/// Returns the value to a party that reads it, for as long as the cell is borrowed. The party goes on reading it.
+/// Returns the value to a party that reads it, for as long as the cell is borrowed. The party keeps reading it.
 pub(super) fn show_value<'a, T, S: Seed<T>>(party: Caller<'a, T, S>) -> (&'a T, Caller<'a, T, S>)
     requires { what party.view ≡ Some Reading }
     ensures value { party.entry.value ≡ Some (maybe_stable (Done result.0.now)) }
     ensures made { S.makes party.entry.key.seed.value result.0.now }
-    ensures same { (result.1.key ≡ party.entry.key) × (result.1.view ≡ party.entry.view) }
+    ensures same { (result.1.key ≡ party.entry.key) × (result.1.view ≡ party.entry.view) × (result.1.value ≡ party.entry.value) }
 {
     let (slot, party) = party.show();
     let value = match &slot.value {

@@ -2,8 +2,10 @@
 ghost use Rattle.std.specs.Prelude.{◌≡◌, ◌≤◌, ◌<◌, ℕ, true, false, OnOk, IfErr, IfSome, IfNone};
 ghost use Rattle.std.specs.Io.KnownBytes.{Appends};
 ghost use Rattle.spin_run.specs.declared.run.faults.Fault.{Fault};
-ghost use Rattle.spin_run.specs.Command.{AsksCount, AsksWorld, AsksNothing, Does, Tells, texts_of, total_text, usage_line};
+ghost use Rattle.spin_run.specs.Command.{AsksCount, AsksWorld, AsksNothing, Does, total_text, usage_line};
 ghost use Rattle.spin_run.specs.Faults.{Stops, StopsCount, line_of, status_of};
+ghost use Rattle.spin_text.specs.Failures.{Told};
+ghost use Rattle.spin_text.specs.Lines.{texts_of};
 
 use super::counting::{MAX_TIMES, MAX_WORKERS, count_with};
 use super::faults::{Fault, report};
@@ -122,7 +124,7 @@ fn run<I: Source, O: Sink, R: AllocGlobal + Threads + Wait + Sync, A: Allocator>
 /// - 2: the words are those of no command, or a line of the schedule is wrong. Then `output` is as before.
 ///
 /// With 1 or 2 the fault has this status (`status_of`), the run stopped as that fault says (`Stops`), and its line is
-/// on `errors`. If that write failed, a beginning of the line is there (`Tells`).
+/// on `errors`. If that write failed, a beginning of the line is there (`Told`).
 pub fn program<I: Source, O: Sink, E: Sink, R: AllocGlobal + Threads + Wait + Sync, A: Allocator>(
     rt: &R,
     alloc: A,
@@ -136,7 +138,7 @@ pub fn program<I: Source, O: Sink, E: Sink, R: AllocGlobal + Threads + Wait + Sy
     requires errors { E.failed errors.old ≡ false }
     ensures status { result ≤ 2 }
 
-    // 0: what the words ask for was done, and nothing is on standard error.
+    // 0: the program did what the words ask for, and wrote nothing on standard error.
     ensures done { result ≡ 0 → Does (texts_of words.now) (input.new ≡ input.old) (record {
       left = I.remaining input.old;
       left_after = I.remaining input.new;
@@ -147,7 +149,7 @@ pub fn program<I: Source, O: Sink, E: Sink, R: AllocGlobal + Threads + Wait + Sy
     }) }
     ensures silent { result ≡ 0 → errors.new ≡ errors.old }
 
-    // Any other: a fault that has this status, and its line is on standard error.
+    // Any other status is that of a fault, whose line is on standard error.
     ensures fault { 0 < result → (fault : Fault) × (result ≡ status_of fault)
         × Stops (texts_of words.now) (input.new ≡ input.old) (output.new ≡ output.old) (record {
           left = I.remaining input.old;
@@ -157,11 +159,11 @@ pub fn program<I: Source, O: Sink, E: Sink, R: AllocGlobal + Threads + Wait + Sy
           written_after = O.written output.new;
           sink_failed = O.failed output.new;
         }) fault
-        × Tells (E.failed errors.new) (E.written errors.old) (E.written errors.new) (line_of fault) }
+        × Told (E.failed errors.new) (E.written errors.old) (E.written errors.new) (line_of fault) }
 
-    // Where the words ask for nothing that the program does.
+    // If the words ask for nothing that the program does.
     ensures usage { AsksNothing (texts_of words.now) → (result ≡ 2)
-        × Tells (E.failed errors.new) (E.written errors.old) (E.written errors.new) usage_line }
+        × Told (E.failed errors.new) (E.written errors.old) (E.written errors.new) usage_line }
     ensures nothing_written { result ≡ 2 → output.new ≡ output.old }
 {
     match run(rt, alloc, words, input, output) {

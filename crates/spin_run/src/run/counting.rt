@@ -49,7 +49,7 @@ struct Counter<P: Plan> {
     ghost fits: { P.all < 2 ^ 64 },
 }
 
-/// What a worker returns: its part of the book, with no addition left.
+/// What a worker returns: its part of the book, with no additions left.
 #[derive(Drop)]
 struct Done<P: Plan> {
     share: Share<P>,

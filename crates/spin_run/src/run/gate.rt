@@ -2,15 +2,15 @@
 use spin_barrier::gate::Gate;
 use std::sync::Wait;
 
-/// The proof that a worker has passed its gate. Only [`pass`] makes one and the additions take one, so the gate is
-/// first.
+/// The proof that a worker has passed its gate. Only [`pass`] makes one, and the additions need one. So a worker passes
+/// the gate first.
 #[derive(Drop)]
 pub(super) struct Passed {
     /// Other modules cannot name the field, so they cannot make the struct.
     made_here: (),
 }
 
-/// Lets a worker pass its gate. That each worker passes once is shown by a test.
+/// Lets a worker pass its gate. A test shows that each worker passes once.
 pub(super) fn pass<G: Gate, R: Wait>(gate: &G, rt: &R, worker: usize) -> Passed {
     gate.before(rt, worker);
     Passed { made_here: () }

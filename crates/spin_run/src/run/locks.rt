@@ -1,7 +1,6 @@
 //! The lock of this crate. A change of this alias changes the lock of every count.
 use spin_core::relax::Yield;
-use spin_mutex::mutex::spin::SpinMutex;
+use spin_flag::spin::SpinMutex;
 
-/// A mutex whose waiting threads yield. There may be many more workers than cores, so a worker that waits lets others
-/// run.
+/// A mutex whose waiting threads yield. There may be many more workers than cores, so a waiting worker lets others run.
 pub(crate) type Lock<T> = SpinMutex<T, Yield>;

@@ -1,4 +1,4 @@
-//! All that three parties on two seats can come to. Such a test finds a wrong step before anything is proved.
+//! All that three parties on two seats may result in. Such a test finds a wrong step before anything is proved.
 
 ghost use Rattle.std.specs.Prelude.{◌<◌, length};
 ghost use Rattle.spin_explore.specs.Programs.{leads};
@@ -10,7 +10,7 @@ use spin_world_seats::{Seats, SeatsCall};
 use std::alloc::AllocError;
 use std::test::Fail;
 
-/// How many lines of a course were granted.
+/// Returns how many lines of a course were granted.
 fn granted<L: Lock>(course: &Course<L>) -> usize {
     let mut granted = 0usize;
     for came in course.got() {
@@ -27,7 +27,7 @@ fn granted<L: Lock>(course: &Course<L>) -> usize {
     granted
 }
 
-/// Returns the parties that take the turns to this course, in their order.
+/// Returns the parties whose turns lead to this course, in their order.
 fn turns_to<L: Lock>(found: &Found<L>, place: usize) -> Result<Vec<usize>, AllocError>
     requires within { place < length found.now.courses.items }
     requires traced { let f = found.now in

@@ -1,11 +1,12 @@
-//! The program over streams in memory: texts with all that is written of them, and what it says where it fails.
+//! The program over streams in memory: texts with all that is written for them, and what the program says when it
+//! fails.
 ghost use Rattle.std.specs.Prelude.{◌≡◌, Some, None, false};
 
 use spin_explore_run::{Failed, Sink, Source, program};
 use std::alloc::Global;
 use std::process::Abort;
 
-/// A text to be read. Where `fails`, a read fails behind it.
+/// A text to read. If `fails`, a read fails behind it.
 #[derive(Drop)]
 struct Tape<'a> {
     rest: &'a [u8],
@@ -93,7 +94,7 @@ impl Sink for Paper {
     }
 }
 
-/// Runs the program. A caller learns nothing of what it ensures: the tests look for themselves.
+/// Runs the program. A caller learns nothing of what it ensures: the tests check the results themselves.
 fn run(
     alloc: Global,
     words: &[&str],
@@ -225,7 +226,7 @@ fn streams_that_fail(rt: HostRuntime) {
     for room in 0..told.len().saturating_add(1) {
         let mut input = Tape::new("flag 5 1\n", false);
         let mut output = Paper::new(rt.alloc(), room);
-        // Where the line does not fit either, the status is the same.
+        // If the line does not fit either, the status is the same.
         let mut errors = Paper::new(rt.alloc(), room);
         let ended = run(rt.alloc(), &[], &mut input, &mut output, &mut errors);
         let fits = room == told.len();

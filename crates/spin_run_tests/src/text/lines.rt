@@ -1,6 +1,6 @@
-//! Lines that are in the grammar and lines that are not.
+//! Good lines and bad lines.
 
-/// Texts of the grammar, each with its result.
+/// Good texts, each with its result.
 pub const WITHIN: &[(&str, &str)] = &[
     ("flag 5 1", "end: 0 value 5\n"),
     ("flag 5 1\n", "end: 0 value 5\n"),
@@ -79,7 +79,7 @@ pub const WITHIN: &[(&str, &str)] = &[
     ),
 ];
 
-/// Texts outside the grammar, each with its first bad line.
+/// Bad texts, each with its first bad line.
 pub const OUTSIDE: &[(&str, usize)] = &[
     ("", 1),
     ("\n", 1),

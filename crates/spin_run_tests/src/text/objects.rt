@@ -1,11 +1,11 @@
-//! The object that a header names, and what its words are where no party is in a call: sums over the parties' places.
+//! The object that a header names, and its words while no party is in a call: sums over the parties' places.
 
 use spin_text::{Header, Spelled};
 use spin_world::{BarrierObject, Fair, Flag, Hold, OnceObject, Place, Rw, Ticket};
 
 /// An object that a header names.
 pub trait OfHeader: Spelled {
-    /// One in its opening state. `None`: the header names another object.
+    /// Creates one in its opening state. `None`: the header names another object.
     fn of_header(header: Header) -> Option<Self>;
 }
 
@@ -80,7 +80,7 @@ pub fn parties_of(header: Header) -> usize {
     }
 }
 
-/// How many parties hold so, by a guard or for good.
+/// How many parties hold in each way, by a guard or after a leak.
 #[derive(Clone, Copy, Debug)]
 pub struct Standing {
     pub reading: u64,
@@ -91,7 +91,7 @@ pub struct Standing {
 }
 
 impl Standing {
-    /// What stands at these places.
+    /// Counts what the parties at these places hold.
     pub fn at(places: &[Place]) -> Standing {
         let mut all = Standing {
             reading: 0,
@@ -121,12 +121,12 @@ impl Standing {
     }
 }
 
-/// So many of each, and so many more.
+/// Returns `many` times `each`, plus `more`.
 fn sum(many: u64, each: u64, more: u64) -> u64 {
     many.saturating_mul(each).saturating_add(more)
 }
 
-/// Whether these are the words of what stands, where so many calls have been answered and there is a value or none.
+/// Returns whether these are the words for these holders, this many answered calls, and a value or none.
 pub fn are_words_of(
     header: Header,
     (first, second): (u64, Option<u64>),

@@ -1,4 +1,4 @@
-//! Memory refused to a world: to `World::new`, to `run` and to `run_in_two`, in each room from none to enough.
+//! Memory refused to a world: to `World::new`, to `run` and to `run_in_two`, with each amount from none to enough.
 ghost use Rattle.std.specs.Prelude.{◌≤◌, length};
 
 use super::objects::OfHeader;
@@ -12,10 +12,10 @@ use spin_world::{Move, run_in_two};
 use std::alloc::Global;
 use std::process::Abort;
 
-/// More bytes than any world of a worked schedule takes with its transcripts.
+/// More bytes than any world of a worked schedule needs with its transcripts.
 const ROOM: usize = 16_384;
 
-/// What is allocated is so aligned: between two rooms that differ by less nothing changes.
+/// The alignment of all allocations: a smaller difference in room changes nothing.
 const STEP: usize = 8;
 
 /// An arena that gets no more memory than it begins with.
@@ -25,13 +25,13 @@ fn arena(rt: &impl Abort, alloc: Global) -> Bump {
     arena
 }
 
-/// Takes all but so many bytes of an arena.
+/// Allocates all but this many bytes of an arena.
 fn filled<'a>(rt: &impl Abort, arena: &'a Bump, left: usize) -> Vec<u8, &'a Bump> {
     let size = arena.chunk_capacity().saturating_sub(left);
     Vec::with_capacity(arena, size).expect(rt, "memory")
 }
 
-/// Whether a world can be made where so many bytes are left.
+/// Returns whether a world can be made with this many bytes left.
 fn opens_in<O: OfHeader>(rt: &impl Abort, alloc: Global, opening: Opening, left: usize) -> bool {
     let arena = arena(rt, alloc);
     let filled = filled(rt, &arena, left);
@@ -40,8 +40,8 @@ fn opens_in<O: OfHeader>(rt: &impl Abort, alloc: Global, opening: Opening, left:
     opens
 }
 
-/// The result of a world whose second schedule was refused: where it is, what that schedule tells when there is room
-/// again, and where it then stops.
+/// A world whose second schedule was refused: its state, what that schedule tells once there is room, and its last
+/// state.
 #[derive(Drop)]
 struct Again {
     refused: Shown,
@@ -49,7 +49,7 @@ struct Again {
     stop: Shown,
 }
 
-/// Plays a second schedule where so many bytes are left, and again where it was refused. `None`: so many bytes suffice.
+/// Plays a second schedule with this many bytes left, and again if it was refused. `None`: the bytes suffice.
 fn played_again<O: OfHeader>(
     rt: &impl Abort,
     alloc: Global,
@@ -77,7 +77,8 @@ fn played_again<O: OfHeader>(
     })
 }
 
-/// Where a world is of whose two runs one was refused where so many bytes are left. `None`: so many suffice.
+/// Returns the state of a world if one of its two runs was refused with this many bytes left. `None`: the bytes
+/// suffice.
 fn cut_short<O: OfHeader>(
     rt: &impl Abort,
     alloc: Global,
@@ -99,7 +100,7 @@ fn cut_short<O: OfHeader>(
     Some(look_at(rt, alloc, opening, &world))
 }
 
-/// How often memory was refused: to a world, to a run, to the first of two runs, and to the second.
+/// How often memory was refused: for a world, for a run, for the first of two runs, and for the second.
 #[derive(Clone, Copy, Debug)]
 struct Refusals {
     worlds: u32,
@@ -117,7 +118,7 @@ impl Refusals {
     }
 }
 
-/// Compares what came of a refused run, and of the same run again, with the two runs of a world that is never refused.
+/// Compares a refused run, and the same run again, with the two runs of a world that is never refused.
 fn is_as_wanted(rt: &impl Abort, shows: &str, left: usize, again: &Again, past: &Run, two: &Two) {
     holds(rt, shows, left, again.refused.is_like(&past.stop));
     holds(
@@ -129,7 +130,7 @@ fn is_as_wanted(rt: &impl Abort, shows: &str, left: usize, again: &Again, past: 
     holds(rt, shows, left, again.stop.is_like(&two.stop));
 }
 
-/// In each room from none to enough: a world is made, it plays on, and it plays in two runs.
+/// With each amount of memory from none to enough: makes a world, plays further, and plays in two runs.
 pub fn in_each_room<O: OfHeader>(
     rt: &impl Abort,
     alloc: Global,
@@ -169,7 +170,7 @@ pub fn in_each_room<O: OfHeader>(
     all_refused(rt, shows, refusals);
 }
 
-/// Each was refused in some room, and none in all.
+/// Checks that each was refused with some amount of memory.
 fn all_refused(rt: &impl Abort, shows: &str, refusals: Refusals) {
     let Refusals {
         worlds,

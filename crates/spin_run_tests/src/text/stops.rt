@@ -1,5 +1,5 @@
-//! Every stop of every call: each beginning of each worked schedule in a world of its own, and each schedule in two runs,
-//! cut at each place.
+//! Tests of every stop of every call. Each beginning of each worked schedule is played in a new world. Each schedule is
+//! played in two runs, cut at each place.
 ghost use Rattle.std.specs.Prelude.{◌≤◌, length};
 
 use super::objects::{OfHeader, Standing, are_words_of, parties_of};
@@ -18,7 +18,7 @@ pub struct Run {
     pub stop: Shown,
 }
 
-/// Plays a schedule in a world of its own.
+/// Plays a schedule in a new world.
 pub fn run_of<O: OfHeader>(
     rt: &impl Abort,
     alloc: Global,
@@ -36,7 +36,7 @@ pub fn run_of<O: OfHeader>(
     }
 }
 
-/// What two runs come to: what each tells, and where the second stops.
+/// The results of two runs: what each tells, and where the second stops.
 #[derive(Drop)]
 pub struct Two {
     pub first: Vec<Told>,
@@ -44,7 +44,7 @@ pub struct Two {
     pub stop: Shown,
 }
 
-/// Plays a schedule in a world of its own, cut in two at this place.
+/// Plays a schedule in a new world, cut in two at this place.
 pub fn runs_of<O: OfHeader>(
     rt: &impl Abort,
     alloc: Global,
@@ -66,7 +66,7 @@ pub fn runs_of<O: OfHeader>(
     }
 }
 
-/// Whether a party is in a call or gone, so that its place does not say what it has in the words.
+/// Returns whether a party is in a call or gone, so that its place does not say what it adds to the words.
 fn is_unsettled(places: &[Place]) -> bool {
     for place in places {
         if matches!(place, Place::InCall | Place::Gone) {
@@ -90,7 +90,7 @@ fn answers(events: &[Told]) -> u64 {
     answers
 }
 
-/// The value that an event leaves as the one last written: by a holder, by the owner, or by the closure whose value an
+/// Returns the last written value after an event: written by a holder, by the owner, or by the closure whose value an
 /// answer gives.
 fn written_by<C: Copy>(
     action: Move<C, u64>,
@@ -110,7 +110,7 @@ fn written_by<C: Copy>(
     }
 }
 
-/// Whether each look of a schedule found the value last written, and the last one lies there.
+/// Returns whether each look of a schedule found the last written value, and the world has the last one.
 fn keeps_value<C: Copy>(schedule: &[(usize, Move<C, u64>)], run: &Run) -> bool {
     let mut written = run.start.value;
     for ((_, action), event) in schedule.iter().zip(&run.events) {
@@ -122,7 +122,7 @@ fn keeps_value<C: Copy>(schedule: &[(usize, Move<C, u64>)], run: &Run) -> bool {
     written == run.stop.value
 }
 
-/// Looks at where a run of the first entries of a schedule stops.
+/// Checks where a run of the first entries of a schedule stops.
 fn is_in_order(rt: &impl Abort, opening: Opening, run: &Run) {
     let Opening { shows, header } = opening;
     let at = run.events.len();
@@ -141,7 +141,7 @@ fn is_in_order(rt: &impl Abort, opening: Opening, run: &Run) {
     holds(rt, shows, at, encodes || is_unsettled(places));
 }
 
-/// An event as a run tells it that starts at this place: nothing of where a call began before it.
+/// Returns an event as told by a run that starts at this place: it does not say where an earlier call began.
 fn told_from(start: usize, event: Told) -> Told {
     let outcome = match event.outcome {
         Outcome::Answered { answer, began } => Outcome::Answered {
@@ -160,7 +160,7 @@ fn told_from(start: usize, event: Told) -> Told {
     }
 }
 
-/// Compares the events of a run that starts at this place with those of the one run from there on.
+/// Compares the events of a run that starts at this place with those of the one run, from there on.
 fn is_part(rt: &impl Abort, shows: &str, start: usize, part: &[Told], whole: &[Told]) {
     holds(rt, shows, start, part.len() == whole.len());
     for (event, wanted) in part.iter().zip(whole) {
@@ -176,7 +176,7 @@ fn are_one(rt: &impl Abort, shows: &str, at: usize, two: &Two, one: &Run) {
     holds(rt, shows, at, two.stop.is_like(&one.stop));
 }
 
-/// Every stop of a schedule, and every cut.
+/// Checks every stop of a schedule, and every cut.
 pub fn at_each_place<O: OfHeader>(
     rt: &impl Abort,
     alloc: Global,
@@ -199,7 +199,7 @@ fn every_stop_of_every_call(rt: HostRuntime) {
     try_all(&rt, rt.alloc(), Trial::Stops);
 }
 
-/// A `lock` that registers by its 1029th step: the exchange, 1026 looks, the load, and the exchange.
+/// A `lock` that registers by its 1029th step: the exchange, 1026 looks, the load, and the exchange that registers.
 #[test]
 fn every_stop_of_a_lock_that_registers(rt: HostRuntime) {
     let header = Header::Fair {

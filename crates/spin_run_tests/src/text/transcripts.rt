@@ -14,8 +14,8 @@ use self::once::ONCE;
 use self::rw::RW;
 use self::ticket::TICKET;
 
-/// What a schedule shows, its text, and the text that is written.
+/// What a schedule shows, its text, and the text written for it.
 pub type Worked = (&'static str, &'static str, &'static str);
 
-/// Further ones than those of the gallery, object by object.
+/// Worked schedules in addition to those of the gallery, for each object.
 pub const WORKED: [&[Worked]; 6] = [FLAG, TICKET, RW, FAIR, ONCE, BARRIER];

@@ -1,4 +1,5 @@
-//! Plays each worked schedule in a new world, by one body for every object. It compares words and values as numbers.
+//! Plays each worked schedule in a new world, with the same code for every object. It compares words and values as
+//! numbers.
 
 use super::gallery::GALLERY;
 use super::objects::{OfHeader, parties_of};
@@ -21,8 +22,8 @@ pub struct Opening {
     pub header: Header,
 }
 
-/// Creates a world in that opening. This function, [`run`], [`numbers`] and [`value`] ensure nothing: the tests check
-/// the results themselves.
+/// Creates a world in that opening. Callers of this, of [`run`], of [`numbers`] and of [`value`] learn nothing of what
+/// these ensure: the tests check the results themselves.
 pub fn world<O: OfHeader, A: Allocator + Copy>(
     rt: &impl Abort,
     alloc: A,
@@ -59,7 +60,7 @@ pub fn opened<O: OfHeader, A: Allocator + Copy>(
     world(rt, alloc, opening).expect(rt, opening.shows)
 }
 
-/// Where a world is: its words as numbers, its value, and the places of its parties.
+/// The state of a world: its words as numbers, its value, and the places of its parties.
 #[derive(Drop)]
 pub struct Shown {
     pub numbers: (u64, Option<u64>),
@@ -75,7 +76,7 @@ impl Alike for Shown {
     }
 }
 
-/// Where a world is. A place past the last party's would be one too many.
+/// Returns the state of a world. If it had a place beyond the last party's, the answer would have one place too many.
 pub fn look_at<O: OfHeader, A: Allocator + Copy>(
     rt: &impl Abort,
     alloc: Global,
@@ -111,7 +112,7 @@ impl Alike for Told {
     }
 }
 
-/// What an event tells.
+/// Returns what an event tells.
 fn told_of<O: OfHeader>(event: &Event<O::Words, u64, Answer<u64>>) -> Told {
     Told {
         party: event.party,
@@ -120,7 +121,7 @@ fn told_of<O: OfHeader>(event: &Event<O::Words, u64, Answer<u64>>) -> Told {
     }
 }
 
-/// What these events tell.
+/// Returns what these events tell.
 pub fn tell<O: OfHeader>(
     rt: &impl Abort,
     alloc: Global,
@@ -133,7 +134,7 @@ pub fn tell<O: OfHeader>(
     told
 }
 
-/// Plays a schedule in a world, and tells its events.
+/// Plays a schedule in a world, and returns what its events tell.
 pub fn play<O: OfHeader, A: Allocator + Copy>(
     rt: &impl Abort,
     alloc: Global,
@@ -144,17 +145,17 @@ pub fn play<O: OfHeader, A: Allocator + Copy>(
     tell::<O>(rt, alloc, &transcript.events)
 }
 
-/// Fails, at a place of a schedule, unless it holds.
+/// Fails, naming a place of a schedule, unless the fact holds.
 pub fn holds(rt: &impl Abort, shows: &str, at: usize, fact: bool) {
     assert!(rt; fact, "{shows}, at {at}");
 }
 
-/// What is tried of each worked schedule.
+/// What to try with each worked schedule.
 #[derive(Clone, Copy)]
 pub enum Trial {
     /// Every stop of it, and every cut into two runs.
     Stops,
-    /// Its allocations refused.
+    /// Each of its allocations refused.
     Refused,
 }
 
@@ -188,7 +189,7 @@ fn try_schedule<O: OfHeader>(
     }
 }
 
-/// Tries a text, of whichever object.
+/// Tries a text of any object.
 fn try_text(rt: &impl Abort, alloc: Global, trial: Trial, shows: &'static str, text: &str) {
     let (line, lines) = first_line(text.as_bytes());
     let header = header_of(line).expect(rt, shows);
@@ -203,7 +204,7 @@ fn try_text(rt: &impl Abort, alloc: Global, trial: Trial, shows: &'static str, t
     }
 }
 
-/// Tries every worked schedule, and those of the gallery.
+/// Tries every worked schedule, including those of the gallery.
 pub fn try_all(rt: &impl Abort, alloc: Global, trial: Trial) {
     for worked in WORKED {
         for (shows, text, _) in worked {

@@ -1,11 +1,11 @@
-//! A reader on its way in. Begin at [`Coming`].
+//! A call that wants to read. Begin at [`Coming`].
 ghost use Rattle.std.specs.Prelude.{◌≡◌, ℕ, Bool, true, false, Some, None, IfOk, IfErr};
 ghost use Rattle.spin_step.specs.Plain.{Plain, gets, rw_word};
 ghost use Rattle.spin_step.specs.Steps.{Decides};
 ghost use Rattle.spin_step_more.specs.Readers.{OneOfEach, reader_limit};
 ghost use Rattle.spin_model.specs.declared.answer.Answer.TheVariants.{Granted, Refused};
 ghost use Rattle.spin_core.specs.Own.{what};
-ghost use Rattle.spin_rwlock.specs.Guards.{shared_party, ReadsWith};
+ghost use Rattle.spin_rwlock.specs.Guards.{shared_party, shared_opening, ReadsWith, ReadsLast};
 ghost use Rattle.spin_rwlock.specs.Rw.{Told, comes_by, looks_by, peeks_by, in_call, call_of, grants, missed, asks, MayCome, IsGrant, Seeks, Moves, Called};
 ghost use Rattle.spin_core.specs.Passes.{IsStep};
 ghost use Rattle.spin_rwlock.specs.Steps.{Knows, IsPass};
@@ -16,12 +16,14 @@ use super::reader::{RwLockReadGuard, SharedGuard};
 use super::rule::{CountsReaders, Entry, Kind, Party, RwPermit, RwRule};
 use spin_core::cell::{Cell, Play};
 use spin_core::relax::{Loop, RelaxStrategy, Spin};
+use spin_core::tie::Opening;
 use spin_core::trace::Watch;
 use spin_step_more::rw;
 use std::marker::PhantomData;
 use std::sync::Wait;
 
-// How often a reader that was too late twice spins. Readers that try again at once keep each other from succeeding.
+// A reader whose exchange has failed twice waits for this many hints. Readers that try again at once keep each other
+// from succeeding.
 const STAND_BACK: u32 = 512;
 
 /// Whether a call waits or tries.
@@ -48,8 +50,8 @@ struct Comes<K, M> {
     marker: PhantomData<(K, M)>,
 }
 
-impl<K: Kind, M: Mode> Play<Watch<Entry>, Party, Entry> for Comes<K, M> {
-    ghost told = { λ key old new before. Told (comes_by (in_call (what before)) K.view (call_of K.view M.waits) old) before };
+impl<T, K: Kind, M: Mode> Play<Opening<T>, Party, Entry<T>> for Comes<K, M> {
+    ghost told = { λ key old new before. Told key.value (comes_by (in_call (what before)) K.view (call_of K.view M.waits) old) before };
 }
 
 // The load of a call that waits to read.
@@ -57,24 +59,24 @@ struct Looks<K> {
     marker: PhantomData<K>,
 }
 
-impl<K: Kind> Play<Watch<Entry>, Party, Entry> for Looks<K> {
-    ghost told = { λ key old new before. Told (looks_by (call_of K.view true)) before };
+impl<T, K: Kind> Play<Opening<T>, Party, Entry<T>> for Looks<K> {
+    ghost told = { λ key old new before. Told key.value (looks_by (call_of K.view true)) before };
 }
 
-// The one exchange of `{:?}`.
+// The only exchange of `{:?}`.
 struct Peeks;
 
-impl Play<Watch<Entry>, Party, Entry> for Peeks {
-    ghost told = { λ key old new before. Told (peeks_by old) before };
+impl<T> Play<Opening<T>, Party, Entry<T>> for Peeks {
+    ghost told = { λ key old new before. Told key.value (peeks_by old) before };
 }
 
 /// What a call that wants to read has with the guard, or in its place: a watch of the lock's history.
-pub(super) type Lent<'a, T, K, R> = (SharedGuard<'a, T, K, R>, Watch<Entry>);
+pub(super) type Lent<'a, T, K, R> = (SharedGuard<'a, T, K, R>, Watch<Entry<T>>);
 
-/// A party in a call that wants to read, as a reader of kind `K`, and the word that it found last.
+/// A party in a call that wants to read, as a reader of kind `K`, with the word that it found last.
 pub(super) struct Coming<'a, T, K: Kind, M: Mode, R> {
     permit: RwPermit<'a, T>,
-    seen: Watch<Entry>,
+    seen: Watch<Entry<T>>,
     word: usize,
     marker: PhantomData<(K, M, R)>,
     ghost comes: { what permit.view ≡ Some (view.Coming (call_of K.view M.waits) word) },
@@ -84,16 +86,16 @@ pub(super) struct Coming<'a, T, K: Kind, M: Mode, R> {
 impl<'a, T, K: Kind, M: Mode, R> Coming<'a, T, K, M, R> {
     ghost use Rattle.spin_rwlock.specs.Waits.{SeeksOn, IsLetIn};
 
-    /// Begins the call. It takes the lock for free, and then tries at the word that it found in its place. To begin so
-    /// saves a load if the lock is free. If it is not, the failed exchange is the load.
+    /// Begins the call. It expects a free lock, and then tries at the word found instead. This saves a load if the lock
+    /// is free. If it is not, the failed exchange serves as the load.
     pub(super) fn begin(
         permit: RwPermit<'a, T>,
-        seen: Watch<Entry>,
+        seen: Watch<Entry<T>>,
     ) -> Result<Lent<'a, T, K, R>, Self>
         requires { IsPass permit seen }
-        ensures lent { IfOk result (λ lent. ReadsWith lent.0 lent.1 × (lent.1.name ≡ seen.name)) }
-        ensures granted { IfOk result (λ lent. Called (call_of K.view M.waits) Granted permit.entry.view seen.entries (shared_party lent.0) lent.1.entries) }
-        ensures missed { IfErr result (λ coming. (coming.seen.name ≡ seen.name) × Moves (Seeks (call_of K.view M.waits) coming.word) permit.entry.view seen.entries coming.permit.view coming.seen.entries) }
+        ensures lent { IfOk result (λ lent. ReadsWith lent.0 lent.1 × ReadsLast lent.0 lent.1 × (shared_opening lent.0 ≡ permit.entry.key) × (lent.1.name ≡ seen.name)) }
+        ensures granted { IfOk result (λ lent. Called permit.entry.key.value (call_of K.view M.waits) Granted permit.entry.view seen.entries (shared_party lent.0) lent.1.entries) }
+        ensures missed { IfErr result (λ coming. (coming.permit.key ≡ permit.entry.key) × (coming.seen.name ≡ seen.name) × Moves permit.entry.key.value (Seeks (call_of K.view M.waits) coming.word) permit.entry.view seen.entries coming.permit.view coming.seen.entries) }
     {
         let Some(next) = K::next(0) else {
             unreachable!()
@@ -126,7 +128,7 @@ impl<'a, T, K: Kind, M: Mode, R> Coming<'a, T, K, M, R> {
         }
     }
 
-    // Whether the word that it found lets no such reader in.
+    // Returns `true` if the word that it found does not admit such a reader.
     fn is_kept_out(&self) -> bool
         ensures { result ≡ true → grants (call_of K.view M.waits) self.now.word ≡ None }
     {
@@ -136,7 +138,7 @@ impl<'a, T, K: Kind, M: Mode, R> Coming<'a, T, K, M, R> {
     // Makes one exchange of this word for the next.
     fn come(
         permit: RwPermit<'a, T>,
-        seen: Watch<Entry>,
+        seen: Watch<Entry<T>>,
         word: usize,
         next: usize,
     ) -> Result<Lent<'a, T, K, R>, Self>
@@ -144,9 +146,9 @@ impl<'a, T, K: Kind, M: Mode, R> Coming<'a, T, K, M, R> {
         requires knows { Knows permit seen }
         requires exact { grants (call_of K.view M.waits) word ≡ Some next }
         requires plain { (s : Plain) (party : ℕ) → OneOfEach s → s.cap ≡ reader_limit → rw_word s ≡ word → Decides s (gets party (asks K.view)) rw_word (Some next) }
-        ensures lent { IfOk result (λ lent. ReadsWith lent.0 lent.1 × (lent.1.name ≡ seen.name)) }
-        ensures granted { IfOk result (λ lent. Moves (IsGrant (in_call (what permit.entry.view)) (call_of K.view M.waits)) permit.entry.view seen.entries (shared_party lent.0) lent.1.entries) }
-        ensures missed { IfErr result (λ coming. (coming.seen.name ≡ seen.name) × Moves (IsStep (in_call (what permit.entry.view)) (call_of K.view M.waits) (missed (call_of K.view M.waits) coming.word)) permit.entry.view seen.entries coming.permit.view coming.seen.entries) }
+        ensures lent { IfOk result (λ lent. ReadsWith lent.0 lent.1 × ReadsLast lent.0 lent.1 × (shared_opening lent.0 ≡ permit.entry.key) × (lent.1.name ≡ seen.name)) }
+        ensures granted { IfOk result (λ lent. Moves permit.entry.key.value (IsGrant (in_call (what permit.entry.view)) (call_of K.view M.waits)) permit.entry.view seen.entries (shared_party lent.0) lent.1.entries) }
+        ensures missed { IfErr result (λ coming. (coming.permit.key ≡ permit.entry.key) × (coming.seen.name ≡ seen.name) × Moves permit.entry.key.value (IsStep (in_call (what permit.entry.view)) (call_of K.view M.waits) (missed (call_of K.view M.waits) coming.word)) permit.entry.view seen.entries coming.permit.view coming.seen.entries) }
     {
         let (found, permit, seen) = permit.exchange::<Comes<K, M>>(word as u64, next as u64, seen);
         if found == word as u64 {
@@ -199,9 +201,9 @@ impl<'a, T, K: Kind, R> Coming<'a, T, K, Tries, R> {
 impl<'a, T, K: Kind, R: RelaxStrategy> Coming<'a, T, K, Waits, R> {
     ghost use Rattle.spin_rwlock.specs.Waits.{SeeksOn, IsLetIn};
 
-    /// Waits until it is let in.
-    // Kept out of line: inlined, it would lengthen the path of every caller that does not wait. Its pause depends on
-    // what it found, which `retry` does not offer.
+    /// Waits until the lock admits it.
+    // It is not inlined, since that would lengthen the path of every caller that does not wait. Its pause depends on
+    // the word found, which `retry` does not offer.
     #[cold]
     #[inline(never)]
     pub(super) fn wait<W: Wait>(self, rt: &W) -> Lent<'a, T, K, R>
@@ -259,12 +261,12 @@ impl<'a, T, K: Kind, R: RelaxStrategy> Coming<'a, T, K, Waits, R> {
 pub(super) fn try_to_lend<'a, T, K: Kind, R, W: Wait>(
     rt: &W,
     permit: RwPermit<'a, T>,
-    seen: Watch<Entry>,
+    seen: Watch<Entry<T>>,
 ) -> Result<Lent<'a, T, K, R>, Pass<'a, T, R>>
     requires { IsPass permit seen }
-    ensures lent { IfOk result (λ lent. ReadsWith lent.0 lent.1 × (lent.1.name ≡ seen.name)) }
-    ensures granted { IfOk result (λ lent. Called (call_of K.view false) Granted permit.entry.view seen.entries (shared_party lent.0) lent.1.entries) }
-    ensures refused { IfErr result (λ pass. (pass.seen.name ≡ seen.name) × Called (call_of K.view false) Refused permit.entry.view seen.entries pass.permit.view pass.seen.entries) }
+    ensures lent { IfOk result (λ lent. ReadsWith lent.0 lent.1 × ReadsLast lent.0 lent.1 × (shared_opening lent.0 ≡ permit.entry.key) × (lent.1.name ≡ seen.name)) }
+    ensures granted { IfOk result (λ lent. Called permit.entry.key.value (call_of K.view false) Granted permit.entry.view seen.entries (shared_party lent.0) lent.1.entries) }
+    ensures refused { IfErr result (λ pass. (pass.permit.key ≡ permit.entry.key) × (pass.seen.name ≡ seen.name) × Called permit.entry.key.value (call_of K.view false) Refused permit.entry.view seen.entries pass.permit.view pass.seen.entries) }
 {
     let coming = match Coming::begin(permit, seen) {
         Ok(lent) => return Ok(lent),

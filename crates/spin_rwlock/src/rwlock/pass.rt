@@ -1,13 +1,14 @@
-//! The calls of an [`RwLock`] by a thread that keeps account of them. Begin at [`RwLock::pass`].
+//! The calls of an [`RwLock`] by a thread that keeps track of them. Begin at [`RwLock::pass`].
 ghost use Rattle.std.specs.Prelude.{◌≡◌, ◌⊎◌, ◌≤◌, true, false, Some, None, [], IfOk, IfErr};
 ghost use mathlib.Core.List.{IsPrefix};
 ghost use Rattle.spin_core.specs.Calls.{AnswersOf, AnswersOfShared};
 ghost use Rattle.spin_core.specs.Own.{what};
+ghost use Rattle.spin_core.specs.Values.{IsLast};
 ghost use Rattle.spin_model.specs.declared.answer.Answer.TheVariants.{Granted, Refused, Count, Done};
 ghost use Rattle.spin_step_more.specs.Readers.{reader_limit};
 ghost use Rattle.spin_step_more.specs.declared.rw_calls.RwCall.TheVariants.{TryRead, Read, TryUpgradeableRead, UpgradeableRead, TryWrite, Write, ReaderCount, WriterCount, Release};
-ghost use Rattle.spin_rwlock.specs.Guards.{shared_party, write_party, ReadsWith, WritesWith};
-ghost use Rattle.spin_rwlock.specs.Rw.{call_of, Called};
+ghost use Rattle.spin_rwlock.specs.Guards.{shared_party, write_party, shared_opening, write_opening, write_value, ReadsWith, WritesWith, ReadsLast, FindsLast};
+ghost use Rattle.spin_rwlock.specs.Rw.{call_of, Called, Wrote};
 ghost use Rattle.spin_rwlock.specs.Steps.{IsPass};
 
 use super::coming::{Coming, Lent, Waits, try_to_lend};
@@ -26,17 +27,19 @@ use spin_step_more::rw;
 use std::marker::PhantomData;
 use std::sync::Wait;
 
-/// A thread's account of its calls of an [`RwLock`].
+/// A thread's record of its calls of an [`RwLock`].
 ///
 /// The lock's cell keeps the list of all moves that threads have made in it (its history). A pass knows which of these
-/// moves are its own, and the whole list up to its last one. Calls without a pass are in the history too, as calls of
-/// others. A pass is as large as a reference to the lock. It can be sent, and a lock has any number of them.
+/// moves are its own, and the whole list up to its own last move. Calls without a pass are in the history too, as calls
+/// of others. A pass is as large as a reference to the lock. It can be sent, and a lock can have any number of passes.
 ///
 /// # Contract
-/// Each call takes the pass, or a guard and what the pass knew with it, and returns it. It ensures `Called`: of the
-/// moves by which the history grew, those of this pass are exactly one call, with the answer that is returned. In the
-/// lock's model that call has this answer, at its place among the moves of all threads, and no move of the history is
-/// passed over.
+/// Each call takes the pass, or a guard and what the pass knew with it, and returns it. It ensures `Called`: among the
+/// new moves of the history, those of this pass are exactly one call with the returned answer. In the lock's model that
+/// call gets this answer, at its place among the moves of all threads. No move of the history is skipped.
+///
+/// A writer that releases or downgrades writes the value that it leaves into the history first (`Wrote`). So the value
+/// of a guard is the one written last there, until the owner borrows it by `get_mut` (`found`).
 ///
 /// # Examples
 /// ```
@@ -52,7 +55,7 @@ use std::sync::Wait;
 #[must_use = "a pass that is dropped ends: bind it, or write `drop(..)`"]
 pub struct Pass<'a, T, R> {
     permit: Permit<'a, T, Party, RwRule<T>>,
-    seen: Watch<Entry>,
+    seen: Watch<Entry<T>>,
     strategy: PhantomData<R>,
     ghost knows: { IsPass permit seen },
 }
@@ -61,9 +64,10 @@ impl<T, R> RwLock<T, R> {
     /// Returns a pass that has made no call. It makes no operation on the lock.
     ///
     /// # Contract
-    /// The pass is of this lock, and knows nothing of its history yet (`new`).
+    /// The pass is of this lock, and knows nothing of its history yet (`new`, `lock`).
     pub fn pass(&self) -> Pass<'_, T, R>
         ensures new { (result.seen.name ≡ self.now.cell.name) × (result.seen.entries ≡ []) × (result.permit.view ≡ None) }
+        ensures lock { result.permit.key ≡ self.now.cell }
     {
         Pass::new(self.cell.enter(), self.cell.watch())
     }
@@ -74,14 +78,15 @@ impl<T, R> RwLock<T, R> {
     ///
     /// # Contract
     /// `seen` has to be what the pass knew with the guard (`ReadsWith`). The call is in the history, as the pass's
-    /// next one (`made`).
+    /// next one (`made`). The guard's value is still the one written last there (`still`).
     pub fn unlock_shared<'a, K: Kind>(
         guard: SharedGuard<'a, T, K, R>,
-        seen: Watch<Entry>,
+        seen: Watch<Entry<T>>,
     ) -> Pass<'a, T, R>
         requires { ReadsWith guard seen }
-        ensures made { Called Release Done (shared_party guard.entry) seen.entries result.permit.view result.seen.entries }
-        ensures same { result.seen.name ≡ seen.name }
+        ensures still { ReadsLast guard.entry result.seen }
+        ensures made { Called (shared_opening guard.entry).value Release Done (shared_party guard.entry) seen.entries result.permit.view result.seen.entries }
+        ensures same { (result.seen.name ≡ seen.name) × (result.permit.key ≡ shared_opening guard.entry) }
     {
         let (permit, seen) = K::release(guard.into_permit(), seen);
         Pass::new(permit, seen)
@@ -92,12 +97,15 @@ impl<T, R> RwLock<T, R> {
     /// A guard that is dropped releases the lock too, and ends its pass.
     ///
     /// # Contract
-    /// `seen` has to be what the pass knew with the guard (`WritesWith`). The call is in the history, as the pass's
-    /// next one (`made`).
-    pub fn unlock<'a>(guard: RwLockWriteGuard<'a, T, R>, seen: Watch<Entry>) -> Pass<'a, T, R>
+    /// `seen` has to be what the pass knew with the guard (`WritesWith`). The pass makes the call, as its next one,
+    /// behind a write (`made`): it writes the guard's value into the history (`wrote`). So that value is the one
+    /// written last (`left`).
+    pub fn unlock<'a>(guard: RwLockWriteGuard<'a, T, R>, seen: Watch<Entry<T>>) -> Pass<'a, T, R>
         requires { WritesWith guard seen }
-        ensures made { Called Release Done (write_party guard.entry) seen.entries result.permit.view result.seen.entries }
-        ensures same { result.seen.name ≡ seen.name }
+        ensures made { Wrote (write_opening guard.entry).value (λ x. Unit {0}) Release (write_party guard.entry) seen.entries result.permit.view result.seen.entries }
+        ensures wrote { Wrote (write_opening guard.entry).value (λ x. (write_opening guard.entry).told ≡ true → x ≡ write_value guard.entry) Release (write_party guard.entry) seen.entries result.permit.view result.seen.entries }
+        ensures left { IsLast (write_opening guard.entry) result.seen.entries (write_value guard.entry) }
+        ensures same { (result.seen.name ≡ seen.name) × (result.permit.key ≡ write_opening guard.entry) }
     {
         let (permit, seen) = rule::release_write(guard.into_writer(), seen);
         Pass::new(permit, seen)
@@ -105,39 +113,44 @@ impl<T, R> RwLock<T, R> {
 }
 
 impl<'a, T, R: RelaxStrategy> Pass<'a, T, R> {
-    /// Acquires shared access as [`RwLock::read`] does. Returns the guard, and what the pass knows then.
+    /// Acquires shared access as [`RwLock::read`] does. Returns the guard, and what the pass then knows.
     ///
     /// # Contract
-    /// The call is one `Read` with the answer `Granted`, however often it looked and tried (`made`). Whether and when
-    /// the call returns is not promised.
-    pub fn read<W: Wait>(self, rt: &W) -> (RwLockReadGuard<'a, T, R>, Watch<Entry>)
+    /// The call is one `Read` with the answer `Granted`, however often it looked and tried (`made`). The guard's value
+    /// is the one written last in the history (`found`). Whether and when the call returns is not promised.
+    pub fn read<W: Wait>(self, rt: &W) -> (RwLockReadGuard<'a, T, R>, Watch<Entry<T>>)
         ensures reads { ReadsWith result.0 result.1 × (result.1.name ≡ self.entry.seen.name) }
-        ensures made { Called Read Granted self.entry.permit.view self.entry.seen.entries (shared_party result.0) result.1.entries }
+        ensures found { ReadsLast result.0 result.1 }
+        ensures lock { shared_opening result.0 ≡ self.entry.permit.key }
+        ensures made { Called self.entry.permit.key.value Read Granted self.entry.permit.view self.entry.seen.entries (shared_party result.0) result.1.entries }
     {
         self.lend::<Reader, _>(rt)
     }
 
     /// Acquires upgradable shared access as [`RwLock::upgradeable_read`] does. Returns the guard, and what the pass
-    /// knows then.
+    /// then knows.
     ///
     /// # Contract
-    /// The call is one `UpgradeableRead` with the answer `Granted`, however often it looked and tried (`made`). Whether
-    /// and when the call returns is not promised.
+    /// The call is one `UpgradeableRead` with the answer `Granted`, however often it looked and tried (`made`). The
+    /// guard's value is the one written last in the history (`found`). Whether and when the call returns is not
+    /// promised.
     pub fn upgradeable_read<W: Wait>(
         self,
         rt: &W,
-    ) -> (RwLockUpgradableGuard<'a, T, R>, Watch<Entry>)
+    ) -> (RwLockUpgradableGuard<'a, T, R>, Watch<Entry<T>>)
         ensures reads { ReadsWith result.0 result.1 × (result.1.name ≡ self.entry.seen.name) }
-        ensures made { Called UpgradeableRead Granted self.entry.permit.view self.entry.seen.entries (shared_party result.0) result.1.entries }
+        ensures found { ReadsLast result.0 result.1 }
+        ensures lock { shared_opening result.0 ≡ self.entry.permit.key }
+        ensures made { Called self.entry.permit.key.value UpgradeableRead Granted self.entry.permit.view self.entry.seen.entries (shared_party result.0) result.1.entries }
     {
         self.lend::<Upgrader, _>(rt)
     }
 
-    /// Acquires exclusive access as [`RwLock::write`] does. Returns the guard, and what the pass knows then.
+    /// Acquires exclusive access as [`RwLock::write`] does. Returns the guard, and what the pass then knows.
     ///
     /// # Contract
-    /// The call is one `Write` with the answer `Granted`, however often it tried (`made`). Whether and when the call
-    /// returns is not promised.
+    /// The call is one `Write` with the answer `Granted`, however often it tried (`made`). The guard's value is the one
+    /// written last in the history (`found`). Whether and when the call returns is not promised.
     ///
     /// # Examples
     /// ```
@@ -152,9 +165,11 @@ impl<'a, T, R: RelaxStrategy> Pass<'a, T, R> {
     /// assert_eq!(rt; count, 0);
     /// drop(pass);
     /// ```
-    pub fn write<W: Wait>(self, rt: &W) -> (RwLockWriteGuard<'a, T, R>, Watch<Entry>)
+    pub fn write<W: Wait>(self, rt: &W) -> (RwLockWriteGuard<'a, T, R>, Watch<Entry<T>>)
         ensures writes { WritesWith result.0 result.1 × (result.1.name ≡ self.entry.seen.name) }
-        ensures made { Called Write Granted self.entry.permit.view self.entry.seen.entries (write_party result.0) result.1.entries }
+        ensures found { FindsLast result.0 result.1 }
+        ensures lock { write_opening result.0 ≡ self.entry.permit.key }
+        ensures made { Called self.entry.permit.key.value Write Granted self.entry.permit.view self.entry.seen.entries (write_party result.0) result.1.entries }
     {
         let Self {
             permit,
@@ -168,10 +183,12 @@ impl<'a, T, R: RelaxStrategy> Pass<'a, T, R> {
         (RwLockWriteGuard::new(writer), seen)
     }
 
-    // Admits a reader of this kind, and waits until it may.
+    // Waits until it may admit a reader of this kind, and admits it.
     fn lend<K: Kind, W: Wait>(self, rt: &W) -> Lent<'a, T, K, R>
         ensures reads { ReadsWith result.0 result.1 × (result.1.name ≡ self.entry.seen.name) }
-        ensures made { Called (call_of K.view true) Granted self.entry.permit.view self.entry.seen.entries (shared_party result.0) result.1.entries }
+        ensures found { ReadsLast result.0 result.1 }
+        ensures lock { shared_opening result.0 ≡ self.entry.permit.key }
+        ensures made { Called self.entry.permit.key.value (call_of K.view true) Granted self.entry.permit.view self.entry.seen.entries (shared_party result.0) result.1.entries }
     {
         let Self {
             permit,
@@ -194,7 +211,8 @@ impl<'a, T, R: RelaxStrategy> Pass<'a, T, R> {
     ///
     /// # Contract
     /// The closure has to be always callable. Its answer is returned (`answers`). The pass made one `Write`, and then
-    /// one `Release` (`made`). Whether and when the call returns is not promised.
+    /// one `Release` behind a write of the value that it left (`made`). Whether and when the call returns is not
+    /// promised.
     ///
     /// # Examples
     /// ```
@@ -210,7 +228,7 @@ impl<'a, T, R: RelaxStrategy> Pass<'a, T, R> {
         requires { F.IsAlwaysCallable by }
         ensures answers { AnswersOf F.FnOnce by result.0 }
         ensures made { WroteOnce self.entry result.1 }
-        ensures same { result.1.seen.name ≡ self.entry.seen.name }
+        ensures same { (result.1.seen.name ≡ self.entry.seen.name) × (result.1.permit.key ≡ self.entry.permit.key) }
     {
         let (mut guard, seen) = self.write(rt);
         let answer = by(&mut *guard);
@@ -227,7 +245,7 @@ impl<'a, T, R: RelaxStrategy> Pass<'a, T, R> {
         requires { F.IsAlwaysCallable by }
         ensures answers { AnswersOfShared F.FnOnce by result.0 }
         ensures made { ReadOnce self.entry result.1 }
-        ensures same { result.1.seen.name ≡ self.entry.seen.name }
+        ensures same { (result.1.seen.name ≡ self.entry.seen.name) × (result.1.permit.key ≡ self.entry.permit.key) }
     {
         let (guard, seen) = self.read(rt);
         let answer = by(&*guard);
@@ -239,15 +257,18 @@ impl<'a, T, R> Pass<'a, T, R> {
     /// Tries to acquire shared access as [`RwLock::try_read`] does. Fails with the pass.
     ///
     /// # Contract
-    /// The call is one `TryRead`, with the answer `Granted` and a guard (`granted`), or else `Refused` (`refused`).
-    /// Whether and when the call returns is not promised.
+    /// The call is one `TryRead`, with the answer `Granted` and a guard (`granted`), or else `Refused` (`refused`). The
+    /// guard's value is the one written last in the history (`found`). Whether and when the call returns is not
+    /// promised.
     pub fn try_read<W: Wait>(
         self,
         rt: &W,
-    ) -> Result<(RwLockReadGuard<'a, T, R>, Watch<Entry>), Pass<'a, T, R>>
+    ) -> Result<(RwLockReadGuard<'a, T, R>, Watch<Entry<T>>), Pass<'a, T, R>>
         ensures reads { IfOk result (λ lent. ReadsWith lent.0 lent.1 × (lent.1.name ≡ self.entry.seen.name)) }
-        ensures granted { IfOk result (λ lent. Called TryRead Granted self.entry.permit.view self.entry.seen.entries (shared_party lent.0) lent.1.entries) }
-        ensures refused { IfErr result (λ pass. (pass.seen.name ≡ self.entry.seen.name) × Called TryRead Refused self.entry.permit.view self.entry.seen.entries pass.permit.view pass.seen.entries) }
+        ensures found { IfOk result (λ lent. ReadsLast lent.0 lent.1) }
+        ensures lock { IfOk result (λ lent. shared_opening lent.0 ≡ self.entry.permit.key) }
+        ensures granted { IfOk result (λ lent. Called self.entry.permit.key.value TryRead Granted self.entry.permit.view self.entry.seen.entries (shared_party lent.0) lent.1.entries) }
+        ensures refused { IfErr result (λ pass. (pass.permit.key ≡ self.entry.permit.key) × (pass.seen.name ≡ self.entry.seen.name) × Called self.entry.permit.key.value TryRead Refused self.entry.permit.view self.entry.seen.entries pass.permit.view pass.seen.entries) }
     {
         let Self {
             permit,
@@ -261,14 +282,17 @@ impl<'a, T, R> Pass<'a, T, R> {
     ///
     /// # Contract
     /// The call is one `TryUpgradeableRead`, with the answer `Granted` and a guard (`granted`), or else `Refused`
-    /// (`refused`). Whether and when the call returns is not promised.
+    /// (`refused`). The guard's value is the one written last in the history (`found`). Whether and when the call
+    /// returns is not promised.
     pub fn try_upgradeable_read<W: Wait>(
         self,
         rt: &W,
-    ) -> Result<(RwLockUpgradableGuard<'a, T, R>, Watch<Entry>), Pass<'a, T, R>>
+    ) -> Result<(RwLockUpgradableGuard<'a, T, R>, Watch<Entry<T>>), Pass<'a, T, R>>
         ensures reads { IfOk result (λ lent. ReadsWith lent.0 lent.1 × (lent.1.name ≡ self.entry.seen.name)) }
-        ensures granted { IfOk result (λ lent. Called TryUpgradeableRead Granted self.entry.permit.view self.entry.seen.entries (shared_party lent.0) lent.1.entries) }
-        ensures refused { IfErr result (λ pass. (pass.seen.name ≡ self.entry.seen.name) × Called TryUpgradeableRead Refused self.entry.permit.view self.entry.seen.entries pass.permit.view pass.seen.entries) }
+        ensures found { IfOk result (λ lent. ReadsLast lent.0 lent.1) }
+        ensures lock { IfOk result (λ lent. shared_opening lent.0 ≡ self.entry.permit.key) }
+        ensures granted { IfOk result (λ lent. Called self.entry.permit.key.value TryUpgradeableRead Granted self.entry.permit.view self.entry.seen.entries (shared_party lent.0) lent.1.entries) }
+        ensures refused { IfErr result (λ pass. (pass.permit.key ≡ self.entry.permit.key) × (pass.seen.name ≡ self.entry.seen.name) × Called self.entry.permit.key.value TryUpgradeableRead Refused self.entry.permit.view self.entry.seen.entries pass.permit.view pass.seen.entries) }
     {
         let Self {
             permit,
@@ -283,7 +307,7 @@ impl<'a, T, R> Pass<'a, T, R> {
     ///
     /// # Contract
     /// The call is one `TryWrite`, with the answer `Granted` and a guard (`granted`), or else `Refused`
-    /// (`refused`). The call returns.
+    /// (`refused`). The guard's value is the one written last in the history (`found`). The call returns.
     ///
     /// # Examples
     /// ```
@@ -295,10 +319,12 @@ impl<'a, T, R> Pass<'a, T, R> {
     /// drop(reader);
     /// assert!(rt; pass.try_write().is_ok());
     /// ```
-    pub fn try_write(self) -> Result<(RwLockWriteGuard<'a, T, R>, Watch<Entry>), Pass<'a, T, R>>
+    pub fn try_write(self) -> Result<(RwLockWriteGuard<'a, T, R>, Watch<Entry<T>>), Pass<'a, T, R>>
         ensures writes { IfOk result (λ held. WritesWith held.0 held.1 × (held.1.name ≡ self.entry.seen.name)) }
-        ensures granted { IfOk result (λ held. Called TryWrite Granted self.entry.permit.view self.entry.seen.entries (write_party held.0) held.1.entries) }
-        ensures refused { IfErr result (λ pass. (pass.seen.name ≡ self.entry.seen.name) × Called TryWrite Refused self.entry.permit.view self.entry.seen.entries pass.permit.view pass.seen.entries) }
+        ensures found { IfOk result (λ held. FindsLast held.0 held.1) }
+        ensures lock { IfOk result (λ held. write_opening held.0 ≡ self.entry.permit.key) }
+        ensures granted { IfOk result (λ held. Called self.entry.permit.key.value TryWrite Granted self.entry.permit.view self.entry.seen.entries (write_party held.0) held.1.entries) }
+        ensures refused { IfErr result (λ pass. (pass.permit.key ≡ self.entry.permit.key) × (pass.seen.name ≡ self.entry.seen.name) × Called self.entry.permit.key.value TryWrite Refused self.entry.permit.view self.entry.seen.entries pass.permit.view pass.seen.entries) }
     {
         let Self {
             permit,
@@ -317,12 +343,12 @@ impl<'a, T, R> Pass<'a, T, R> {
     /// Counts the readers, as [`RwLock::reader_count`] does.
     ///
     /// # Contract
-    /// The call is one `ReaderCount`, with the answer that is returned (`made`). The answer is at most
-    /// `rw::MAX_READERS` (`reader_limit`).
+    /// The call is one `ReaderCount`, with the returned answer (`made`), which is at most `rw::MAX_READERS`
+    /// (`reader_limit`).
     pub fn reader_count(self) -> (usize, Pass<'a, T, R>)
         ensures limit { result.0 ≤ reader_limit }
-        ensures made { Called ReaderCount (Count result.0) self.entry.permit.view self.entry.seen.entries result.1.permit.view result.1.seen.entries }
-        ensures same { result.1.seen.name ≡ self.entry.seen.name }
+        ensures made { Called self.entry.permit.key.value ReaderCount (Count result.0) self.entry.permit.view self.entry.seen.entries result.1.permit.view result.1.seen.entries }
+        ensures same { (result.1.seen.name ≡ self.entry.seen.name) × (result.1.permit.key ≡ self.entry.permit.key) }
     {
         let Self {
             permit,
@@ -336,11 +362,11 @@ impl<'a, T, R> Pass<'a, T, R> {
     /// Counts the writers, as [`RwLock::writer_count`] does.
     ///
     /// # Contract
-    /// The call is one `WriterCount`, with the answer that is returned, 0 or 1 (`made`).
+    /// The call is one `WriterCount`, with the returned answer, 0 or 1 (`made`).
     pub fn writer_count(self) -> (usize, Pass<'a, T, R>)
         ensures limit { result.0 ≤ 1 }
-        ensures made { Called WriterCount (Count result.0) self.entry.permit.view self.entry.seen.entries result.1.permit.view result.1.seen.entries }
-        ensures same { result.1.seen.name ≡ self.entry.seen.name }
+        ensures made { Called self.entry.permit.key.value WriterCount (Count result.0) self.entry.permit.view self.entry.seen.entries result.1.permit.view result.1.seen.entries }
+        ensures same { (result.1.seen.name ≡ self.entry.seen.name) × (result.1.permit.key ≡ self.entry.permit.key) }
     {
         let Self {
             permit,
@@ -354,8 +380,8 @@ impl<'a, T, R> Pass<'a, T, R> {
     /// Compares what two passes of one lock know. It does nothing when it runs.
     ///
     /// # Contract
-    /// What one of them knows of the history is a beginning of what the other knows. So both know one history, and the
-    /// one that knows more has the calls of both in it, each once, in the order in which each pass made them.
+    /// One of them knows a prefix of the history that the other knows. So both know one history. The longer one has the
+    /// calls of both passes, each once, in the order in which each pass made them.
     pub fn compare(&self, other: &Pass<'_, T, R>)
         requires { self.now.seen.name ≡ other.now.seen.name }
         ensures { IsPrefix self.now.seen.entries other.now.seen.entries ⊎ IsPrefix other.now.seen.entries self.now.seen.entries }
@@ -363,7 +389,7 @@ impl<'a, T, R> Pass<'a, T, R> {
         self.seen.compare(&other.seen);
     }
 
-    pub(super) fn new(permit: RwPermit<'a, T>, seen: Watch<Entry>) -> Self
+    pub(super) fn new(permit: RwPermit<'a, T>, seen: Watch<Entry<T>>) -> Self
         requires { IsPass permit seen }
         ensures { (result.permit ≡ permit.entry) × (result.seen ≡ seen) }
     {

@@ -17,7 +17,7 @@ use std::ops::Deref;
 /// [`RwLockUpgradableGuard`](super::RwLockUpgradableGuard).
 ///
 /// # Contract
-/// `shared_value` is `Some` of the value behind the guard, which stays the same while the guard lives.
+/// `shared_value` is `Some` of the lock's value, which stays the same while the guard lives.
 #[must_use = "dropping the guard at once releases the lock: bind it, or write `drop(..)`"]
 pub struct SharedGuard<'a, T, K: Kind, R = Spin> {
     permit: Permit<'a, T, Party, RwRule<T>>,
@@ -61,8 +61,8 @@ impl<'a, T, K: Kind, R> SharedGuard<'a, T, K, R> {
 
     /// Consumes the guard and returns a reference to the value.
     ///
-    /// The reference lives as long as the borrow of the lock. The reader stays for good, so no thread acquires
-    /// exclusive access any more. If the reader was upgradable, no other becomes upgradable.
+    /// The reference lives as long as the borrow of the lock. The reader stays for ever, so no thread ever acquires
+    /// exclusive access again. If the reader was upgradable, no other ever becomes upgradable.
     ///
     /// # Contract
     /// The reference has the value of the guard. The call returns.
@@ -126,7 +126,7 @@ impl<'a, T, R> ReadHeld<'a, T, R> {
 
     /// Turns the hold into a guard again.
     ///
-    /// So a hold of a pass is released by that pass.
+    /// If a pass acquired the access, that pass can then release it.
     ///
     /// # Contract
     /// The guard has the hold's value and its party (`value`, `party`). The call returns.
@@ -181,7 +181,7 @@ unsafe impl<T: Send + Sync, K: Kind, R> Send for SharedGuard<'_, T, K, R> {}
 // SAFETY: a shared guard lends a `&T` and no more.
 unsafe impl<T: Sync, K: Kind, R> Sync for SharedGuard<'_, T, K, R> {}
 
-// SAFETY: its new thread releases by it, as a guard's would: what a guard asks.
+// SAFETY: the new thread releases the access, like a guard's new thread. It asks what a guard asks.
 unsafe impl<T: Send + Sync, R> Send for ReadHeld<'_, T, R> {}
 
 // SAFETY: a shared hold lends nothing. It asks what the lock asks.

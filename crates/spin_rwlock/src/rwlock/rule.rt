@@ -10,13 +10,14 @@ ghost use Rattle.spin_model.specs.declared.schedule.Outcome.TheVariants.{Answere
 ghost use Rattle.spin_core.specs.Cell.{reads};
 ghost use Rattle.spin_core.specs.Own.{what};
 ghost use Rattle.spin_core.specs.Passes.{Waits, Ends, IsCall, IsStep};
-ghost use Rattle.spin_rwlock.specs.Rw.{IsRw, IsRwWord, Told, ends_by, counts_by, writes_by, asks_by, upgrades_by, either_at, given, rw_ways, use_of_view, IsLent, Comes, MayWrite, in_call, grants, call_of, asks, Moves};
-ghost use Rattle.spin_rwlock.specs.Steps.{Knows, KnowsWriter, MayKnow, MayKnowWriter, Makes, MakesWriter, WriterMakes};
+ghost use Rattle.spin_core.specs.Values.{IsLast, untold};
+ghost use Rattle.spin_rwlock.specs.Rw.{IsRw, IsRwWord, Told, ends_by, leaves_by, counts_by, writes_by, asks_by, upgrades_by, either_at, given, rw_ways, use_of_view, IsLent, Comes, MayWrite, in_call, grants, call_of, asks, Moves};
+ghost use Rattle.spin_rwlock.specs.Steps.{Knows, KnowsWriter, MayKnow, MayKnowWriter, ShowsLast, WritesLast, Makes, MakesWriter, EndsWriting};
 ghost use Rattle.spin_rwlock.specs.declared.rwlock.rule.View.{View};
 ghost use Rattle.spin_rwlock.specs.declared.rwlock.rule.View.TheVariants.{Idle, Reading, Upgradable, Asking, Writing, WritingAsked, WaitingToWrite};
 
 use spin_core::cell::{Cell, Permit, Play, Rule, WritePermit};
-use spin_core::tie;
+use spin_core::tie::{self, Opening};
 use spin_core::trace::{Trace, Watch};
 use spin_step_more::rw;
 use spin_step_more::rw_calls::RwCall;
@@ -43,40 +44,40 @@ pub enum View {
     WritingAsked,
     /// It is in this call, which wants to read, and found this word last.
     Coming(RwCall, usize),
-    /// It is in `write`, and goes on with its exchange.
+    /// It is in `write`, and its next step is the exchange.
     WaitingToWrite,
 }
 
 /// The rule of an [`RwLock`](super::RwLock): its word is the sum of the weights of its holders.
 ///
-/// No value of this type is made, and no caller names it. It has a `T` since several parties read a `T` at once:
-/// whatever may share the one may share the other.
+/// No value of this type is made, and no caller names it. It has a `T` because several parties read a `T` at once: a
+/// thread that may share one may share the other.
 ///
 /// # Contract
 /// `IsRw`: the word is that of a plain lock of these parties. The trace is a schedule of the lock's model, which leads
-/// to this word, with each party in the seat that its view names.
+/// to this word, with each party in the seat that its view names. The value that nobody writes is the one that this
+/// schedule writes last (`IsLast`), until the owner borrows it.
 pub struct RwRule<T> {
     never: T,
 }
 
 impl<T> Rule<T, Party> for RwRule<T> {
-    // What is known of the lock's trace at first: its name.
-    type Key = Watch<Entry>;
+    type Key = Opening<T>;
 
-    type Second = Trace<Entry>;
+    type Second = Trace<Entry<T>>;
 
-    ghost holds = { λ start. IsRw start.name };
+    ghost holds = { IsRw };
 
-    ghost ways = { λ _. rw_ways };
+    ghost ways = { rw_ways };
 
-    ghost lent = { λ key. key };
+    ghost lent = { untold };
 }
 
 /// A party with its number.
 pub type Party = tie::Numbered<View>;
 
-/// An entry of the lock's trace.
-pub type Entry = tie::Entry<RwCall>;
+/// An entry of the trace of a lock of values of type `T`.
+pub type Entry<T> = tie::Entry<RwCall, T>;
 
 pub(super) type RwPermit<'a, T> = Permit<'a, T, Party, RwRule<T>>;
 
@@ -85,71 +86,85 @@ pub(super) type Writer<'a, T> = WritePermit<'a, T, Party, RwRule<T>>;
 // The load of `reader_count`.
 pub(super) struct CountsReaders;
 
-impl Play<Watch<Entry>, Party, Entry> for CountsReaders {
-    ghost told = { λ key old new before. Told (counts_by ReaderCount readers_in) before };
+impl<T> Play<Opening<T>, Party, Entry<T>> for CountsReaders {
+    ghost told = { λ key old new before. Told key.value (counts_by ReaderCount readers_in) before };
 }
 
 // The load of `writer_count`.
 pub(super) struct CountsWriters;
 
-impl Play<Watch<Entry>, Party, Entry> for CountsWriters {
-    ghost told = { λ key old new before. Told (counts_by WriterCount writers_in) before };
+impl<T> Play<Opening<T>, Party, Entry<T>> for CountsWriters {
+    ghost told = { λ key old new before. Told key.value (counts_by WriterCount writers_in) before };
 }
 
 // The exchange of `try_write`.
 pub(super) struct TriesToWrite;
 
-impl Play<Watch<Entry>, Party, Entry> for TriesToWrite {
-    ghost told = { λ key old new before. Told (ends_by TryWrite (given old) (either_at old Writing Idle)) before };
+impl<T> Play<Opening<T>, Party, Entry<T>> for TriesToWrite {
+    ghost told = { λ key old new before. Told key.value (ends_by TryWrite (given old) (either_at old Writing Idle)) before };
 }
 
 // The exchange of `write`.
 struct Writes;
 
-impl Play<Watch<Entry>, Party, Entry> for Writes {
-    ghost told = { λ key old new before. Told (writes_by (in_call (what before)) old) before };
+impl<T> Play<Opening<T>, Party, Entry<T>> for Writes {
+    ghost told = { λ key old new before. Told key.value (writes_by (in_call (what before)) old) before };
 }
 
 // The exchange of `try_upgrade`.
 struct TriesToUpgrade;
 
-impl Play<Watch<Entry>, Party, Entry> for TriesToUpgrade {
-    ghost told = { λ key old new before. Told (ends_by TryUpgrade (given old) (either_at old Writing Upgradable)) before };
+impl<T> Play<Opening<T>, Party, Entry<T>> for TriesToUpgrade {
+    ghost told = { λ key old new before. Told key.value (ends_by TryUpgrade (given old) (either_at old Writing Upgradable)) before };
 }
 
 // The addition by which `upgrade` asks.
 struct Asks;
 
-impl Play<Watch<Entry>, Party, Entry> for Asks {
-    ghost told = { λ key old new before. Told asks_by before };
+impl<T> Play<Opening<T>, Party, Entry<T>> for Asks {
+    ghost told = { λ key old new before. Told key.value asks_by before };
 }
 
 // The exchange of `upgrade`.
 struct Upgrades;
 
-impl Play<Watch<Entry>, Party, Entry> for Upgrades {
-    ghost told = { λ key old new before. Told (upgrades_by old) before };
+impl<T> Play<Opening<T>, Party, Entry<T>> for Upgrades {
+    ghost told = { λ key old new before. Told key.value (upgrades_by old) before };
 }
 
-// The addition by which a holder becomes a reader.
+// The addition by which the writer becomes a reader.
 struct Downgrades;
 
-impl Play<Watch<Entry>, Party, Entry> for Downgrades {
-    ghost told = { λ key old new before. Told (ends_by Downgrade (λ n. answer.Done) (λ n. Reading)) before };
+impl<T> Play<Opening<T>, Party, Entry<T>> for Downgrades {
+    ghost told = { λ key old new before. Told key.value (leaves_by Downgrade Reading) before };
+}
+
+// The addition by which the upgradable reader becomes a plain one.
+struct ReadsOn;
+
+impl<T> Play<Opening<T>, Party, Entry<T>> for ReadsOn {
+    ghost told = { λ key old new before. Told key.value (ends_by Downgrade (λ n. answer.Done) (λ n. Reading)) before };
 }
 
 // The addition by which the writer becomes the upgradable reader.
 struct DowngradesToUpgradable;
 
-impl Play<Watch<Entry>, Party, Entry> for DowngradesToUpgradable {
-    ghost told = { λ key old new before. Told (ends_by DowngradeToUpgradeable (λ n. answer.Done) (λ n. Upgradable)) before };
+impl<T> Play<Opening<T>, Party, Entry<T>> for DowngradesToUpgradable {
+    ghost told = { λ key old new before. Told key.value (leaves_by DowngradeToUpgradeable Upgradable) before };
 }
 
-// The subtraction by which a holder leaves.
+// The subtraction by which the writer leaves.
+struct Frees;
+
+impl<T> Play<Opening<T>, Party, Entry<T>> for Frees {
+    ghost told = { λ key old new before. Told key.value (leaves_by Release Idle) before };
+}
+
+// The subtraction by which a reader leaves.
 struct Releases;
 
-impl Play<Watch<Entry>, Party, Entry> for Releases {
-    ghost told = { λ key old new before. Told (ends_by Release (λ n. answer.Done) (λ n. Idle)) before };
+impl<T> Play<Opening<T>, Party, Entry<T>> for Releases {
+    ghost told = { λ key old new before. Told key.value (ends_by Release (λ n. answer.Done) (λ n. Idle)) before };
 }
 
 /// A kind of reader: [`Reader`] or [`Upgrader`].
@@ -171,10 +186,15 @@ pub trait Kind {
     /// Releases the shared access of such a reader, whose party is out then.
     ///
     /// # Contract
-    /// The caller hands over a party with the view of the kind. The release is one call (`made`).
-    fn release<'a, T>(party: RwPermit<'a, T>, seen: Watch<Entry>) -> (RwPermit<'a, T>, Watch<Entry>)
+    /// The caller hands over a party with the view of the kind. The release is one call (`made`). The value that it
+    /// read is still the one written last (`still`).
+    fn release<'a, T>(
+        party: RwPermit<'a, T>,
+        seen: Watch<Entry<T>>,
+    ) -> (RwPermit<'a, T>, Watch<Entry<T>>)
         requires { (what party.view ≡ Some Self.view) × MayKnow party seen }
-        ensures idle { what result.0.view ≡ Some Idle }
+        ensures idle { (what result.0.view ≡ Some Idle) × (result.0.key ≡ party.entry.key) }
+        ensures still { ShowsLast party.entry result.1 }
         ensures made { Makes (IsCall Release answer.Done) party.entry seen result.0 result.1 };
 
     ghost lends: { use_of_view Self.view ≡ reads };
@@ -195,9 +215,13 @@ impl Kind for Reader {
         rw::read(word, rw::MAX_READERS)
     }
 
-    fn release<'a, T>(party: RwPermit<'a, T>, seen: Watch<Entry>) -> (RwPermit<'a, T>, Watch<Entry>)
+    fn release<'a, T>(
+        party: RwPermit<'a, T>,
+        seen: Watch<Entry<T>>,
+    ) -> (RwPermit<'a, T>, Watch<Entry<T>>)
         requires { (what party.view ≡ Some Reading) × MayKnow party seen }
-        ensures idle { what result.0.view ≡ Some Idle }
+        ensures idle { (what result.0.view ≡ Some Idle) × (result.0.key ≡ party.entry.key) }
+        ensures still { ShowsLast party.entry result.1 }
         ensures made { Makes (IsCall Release answer.Done) party.entry seen result.0 result.1 }
     {
         let (_, party, seen) = party.subtract::<Releases>(READER, seen);
@@ -216,9 +240,13 @@ impl Kind for Upgrader {
         rw::upgradable(word, rw::MAX_READERS)
     }
 
-    fn release<'a, T>(party: RwPermit<'a, T>, seen: Watch<Entry>) -> (RwPermit<'a, T>, Watch<Entry>)
+    fn release<'a, T>(
+        party: RwPermit<'a, T>,
+        seen: Watch<Entry<T>>,
+    ) -> (RwPermit<'a, T>, Watch<Entry<T>>)
         requires { (what party.view ≡ Some Upgradable) × MayKnow party seen }
-        ensures idle { what result.0.view ≡ Some Idle }
+        ensures idle { (what result.0.view ≡ Some Idle) × (result.0.key ≡ party.entry.key) }
+        ensures still { ShowsLast party.entry result.1 }
         ensures made { Makes (IsCall Release answer.Done) party.entry seen result.0 result.1 }
     {
         let (_, party, seen) = party.subtract::<Releases>(UPGRADABLE, seen);
@@ -230,10 +258,10 @@ impl Kind for Upgrader {
     ghost comes = { tt };
 }
 
-/// A party in `write` that goes on with its exchange.
+/// A party in `write` whose next step is the exchange.
 pub(super) struct Waiting<'a, T> {
     pub(super) permit: RwPermit<'a, T>,
-    pub(super) seen: Watch<Entry>,
+    pub(super) seen: Watch<Entry<T>>,
     ghost waits: { what permit.view ≡ Some WaitingToWrite },
     ghost knows: { Knows permit seen },
 }
@@ -242,7 +270,7 @@ impl<'a, T> Waiting<'a, T> {
     ghost use Rattle.spin_rwlock.specs.Waits.{WritesOn};
 
     /// Tries again.
-    pub(super) fn write(self) -> Result<(Writer<'a, T>, Watch<Entry>), Self>
+    pub(super) fn write(self) -> Result<(Writer<'a, T>, Watch<Entry<T>>), Self>
         ensures { WritesOn self.entry result }
     {
         let Self { permit, seen } = self;
@@ -250,16 +278,17 @@ impl<'a, T> Waiting<'a, T> {
     }
 }
 
-/// Tries once to admit a writer that comes or waits. If the lock has a holder, it waits.
+/// Tries once to acquire exclusive access, for a call that begins or waits. If anybody holds the lock, it waits.
 pub(super) fn write<'a, T>(
     permit: RwPermit<'a, T>,
-    seen: Watch<Entry>,
-) -> Result<(Writer<'a, T>, Watch<Entry>), Waiting<'a, T>>
+    seen: Watch<Entry<T>>,
+) -> Result<(Writer<'a, T>, Watch<Entry<T>>), Waiting<'a, T>>
     requires { MayWrite (what permit.view) × Knows permit seen }
-    ensures writes { IfOk result (λ held. (held.0.view.0 ≡ Writing) × KnowsWriter held.0 held.1 × (held.1.name ≡ seen.name)) }
-    ensures waits { IfErr result (λ next. next.seen.name ≡ seen.name) }
-    ensures granted { IfOk result (λ held. Moves (IsStep (in_call (what permit.entry.view)) Write (Answered answer.Granted None)) permit.entry.view seen.entries (Some held.0.view) held.1.entries) }
-    ensures missed { IfErr result (λ next. Moves (IsStep (in_call (what permit.entry.view)) Write GoingOn) permit.entry.view seen.entries next.permit.view next.seen.entries) }
+    ensures writes { IfOk result (λ held. (held.0.view.0 ≡ Writing) × KnowsWriter held.0 held.1 × (held.0.key ≡ permit.entry.key) × (held.1.name ≡ seen.name)) }
+    ensures waits { IfErr result (λ next. (next.permit.key ≡ permit.entry.key) × (next.seen.name ≡ seen.name)) }
+    ensures found { IfOk result (λ held. WritesLast held.0 held.1) }
+    ensures granted { IfOk result (λ held. Moves permit.entry.key.value (IsStep (in_call (what permit.entry.view)) Write (Answered answer.Granted None)) permit.entry.view seen.entries (Some held.0.view) held.1.entries) }
+    ensures missed { IfErr result (λ next. Moves permit.entry.key.value (IsStep (in_call (what permit.entry.view)) Write GoingOn) permit.entry.view seen.entries next.permit.view next.seen.entries) }
 {
     let next = rw::write(0).unwrap();
     let (found, permit, seen) = permit.exchange::<Writes>(0, next as u64, seen);
@@ -273,11 +302,13 @@ pub(super) fn write<'a, T>(
 /// Tries once to make the upgradable reader the writer. Fails if the lock has another holder.
 pub(super) fn upgrade<'a, T>(
     party: RwPermit<'a, T>,
-    seen: Watch<Entry>,
-) -> Result<(Writer<'a, T>, Watch<Entry>), (RwPermit<'a, T>, Watch<Entry>)>
+    seen: Watch<Entry<T>>,
+) -> Result<(Writer<'a, T>, Watch<Entry<T>>), (RwPermit<'a, T>, Watch<Entry<T>>)>
     requires { IsLent party Upgradable × MayKnow party seen }
-    ensures writes { IfOk result (λ held. (held.0.view.0 ≡ Writing) × (party.entry.value ≡ Some held.0.value)) }
-    ensures reads { IfErr result (λ still. (what still.0.view ≡ Some Upgradable) × (still.0.value ≡ party.entry.value)) }
+    ensures writes { IfOk result (λ held. (held.0.view.0 ≡ Writing) × (party.entry.value ≡ Some held.0.value) × (held.0.key ≡ party.entry.key)) }
+    ensures reads { IfErr result (λ still. (what still.0.view ≡ Some Upgradable) × (still.0.value ≡ party.entry.value) × (still.0.key ≡ party.entry.key)) }
+    ensures found { IfOk result (λ held. WritesLast held.0 held.1) }
+    ensures shown { IfErr result (λ still. ShowsLast still.0 still.1) }
     ensures granted { IfOk result (λ held. MakesWriter (IsCall TryUpgrade answer.Granted) party.entry seen held.0 held.1) }
     ensures refused { IfErr result (λ still. Makes (IsCall TryUpgrade answer.Refused) party.entry seen still.0 still.1) }
 {
@@ -293,10 +324,10 @@ pub(super) fn upgrade<'a, T>(
 /// Asks for the upgradable reader to become the writer, as `rw::ask` says: from now on no reader is admitted.
 pub(super) fn ask<'a, T>(
     party: RwPermit<'a, T>,
-    seen: Watch<Entry>,
-) -> (RwPermit<'a, T>, Watch<Entry>)
+    seen: Watch<Entry<T>>,
+) -> (RwPermit<'a, T>, Watch<Entry<T>>)
     requires { IsLent party Upgradable × MayKnow party seen }
-    ensures lent { IsLent result.0 Asking × (result.0.value ≡ party.entry.value) }
+    ensures lent { IsLent result.0 Asking × (result.0.value ≡ party.entry.value) × (result.0.key ≡ party.entry.key) }
     ensures made { Makes (IsStep false Upgrade GoingOn) party.entry seen result.0 result.1 }
 {
     let (_, party, seen) = party.add::<Asks>(ASKING, seen);
@@ -306,11 +337,12 @@ pub(super) fn ask<'a, T>(
 /// Tries once to make the reader that has asked the writer. If the lock has another holder, it still asks.
 pub(super) fn upgrade_asked<'a, T>(
     party: RwPermit<'a, T>,
-    seen: Watch<Entry>,
-) -> Result<(Writer<'a, T>, Watch<Entry>), (RwPermit<'a, T>, Watch<Entry>)>
+    seen: Watch<Entry<T>>,
+) -> Result<(Writer<'a, T>, Watch<Entry<T>>), (RwPermit<'a, T>, Watch<Entry<T>>)>
     requires { IsLent party Asking × MayKnow party seen }
-    ensures writes { IfOk result (λ held. (held.0.view.0 ≡ WritingAsked) × (party.entry.value ≡ Some held.0.value)) }
-    ensures asks { IfErr result (λ still. IsLent still.0 Asking × (still.0.value ≡ party.entry.value)) }
+    ensures writes { IfOk result (λ held. (held.0.view.0 ≡ WritingAsked) × (party.entry.value ≡ Some held.0.value) × (held.0.key ≡ party.entry.key)) }
+    ensures asks { IfErr result (λ still. IsLent still.0 Asking × (still.0.value ≡ party.entry.value) × (still.0.key ≡ party.entry.key)) }
+    ensures found { IfOk result (λ held. WritesLast held.0 held.1) }
     ensures granted { IfOk result (λ held. MakesWriter (Ends answer.Granted) party.entry seen held.0 held.1) }
     ensures missed { IfErr result (λ still. Makes Waits party.entry seen still.0 still.1) }
 {
@@ -324,28 +356,30 @@ pub(super) fn upgrade_asked<'a, T>(
     }
 }
 
-/// Makes the writer a reader, as `rw::write_to_read` says.
+/// Makes the writer a reader, as `rw::write_to_read` says. It writes its value into the history.
 pub(super) fn write_to_read<'a, T>(
     writer: Writer<'a, T>,
-    seen: Watch<Entry>,
-) -> (RwPermit<'a, T>, Watch<Entry>)
+    seen: Watch<Entry<T>>,
+) -> (RwPermit<'a, T>, Watch<Entry<T>>)
     requires { MayKnowWriter writer seen }
-    ensures reads { (what result.0.view ≡ Some Reading) × (result.0.value ≡ Some writer.entry.value) }
-    ensures made { WriterMakes (IsCall Downgrade answer.Done) writer.entry seen result.0 result.1 }
+    ensures reads { (what result.0.view ≡ Some Reading) × (result.0.value ≡ Some writer.entry.value) × (result.0.key ≡ writer.entry.key) }
+    ensures left { IsLast writer.entry.key result.1.entries writer.entry.value }
+    ensures wrote { EndsWriting Downgrade writer.entry seen result.0 result.1 }
 {
     let permit = writer.into_permit();
     let (_, party, seen) = permit.add::<Downgrades>(READER - WRITER, seen);
     (party, seen)
 }
 
-/// Makes the writer the upgradable reader, as `rw::write_to_upgradable` says.
+/// Makes the writer the upgradable reader, as `rw::write_to_upgradable` says. It writes its value into the history.
 pub(super) fn write_to_upgradable<'a, T>(
     writer: Writer<'a, T>,
-    seen: Watch<Entry>,
-) -> (RwPermit<'a, T>, Watch<Entry>)
+    seen: Watch<Entry<T>>,
+) -> (RwPermit<'a, T>, Watch<Entry<T>>)
     requires { MayKnowWriter writer seen }
-    ensures reads { (what result.0.view ≡ Some Upgradable) × (result.0.value ≡ Some writer.entry.value) }
-    ensures made { WriterMakes (IsCall DowngradeToUpgradeable answer.Done) writer.entry seen result.0 result.1 }
+    ensures reads { (what result.0.view ≡ Some Upgradable) × (result.0.value ≡ Some writer.entry.value) × (result.0.key ≡ writer.entry.key) }
+    ensures left { IsLast writer.entry.key result.1.entries writer.entry.value }
+    ensures wrote { EndsWriting DowngradeToUpgradeable writer.entry seen result.0 result.1 }
 {
     let permit = writer.into_permit();
     let (_, party, seen) = permit.add::<DowngradesToUpgradable>(UPGRADABLE - WRITER, seen);
@@ -355,26 +389,28 @@ pub(super) fn write_to_upgradable<'a, T>(
 /// Makes the upgradable reader a plain reader, as `rw::upgradable_to_read` says.
 pub(super) fn upgradable_to_read<'a, T>(
     party: RwPermit<'a, T>,
-    seen: Watch<Entry>,
-) -> (RwPermit<'a, T>, Watch<Entry>)
+    seen: Watch<Entry<T>>,
+) -> (RwPermit<'a, T>, Watch<Entry<T>>)
     requires { IsLent party Upgradable × MayKnow party seen }
-    ensures reads { (what result.0.view ≡ Some Reading) × (result.0.value ≡ party.entry.value) }
+    ensures reads { (what result.0.view ≡ Some Reading) × (result.0.value ≡ party.entry.value) × (result.0.key ≡ party.entry.key) }
+    ensures shown { ShowsLast result.0 result.1 }
     ensures made { Makes (IsCall Downgrade answer.Done) party.entry seen result.0 result.1 }
 {
-    let (_, party, seen) = party.add::<Downgrades>(READER - UPGRADABLE, seen);
+    let (_, party, seen) = party.add::<ReadsOn>(READER - UPGRADABLE, seen);
     (party, seen)
 }
 
-/// Releases the exclusive access of the writer, whose party is out then.
+/// Releases the exclusive access of the writer, whose party is out then. It writes its value into the history.
 pub(super) fn release_write<'a, T>(
     writer: Writer<'a, T>,
-    seen: Watch<Entry>,
-) -> (RwPermit<'a, T>, Watch<Entry>)
+    seen: Watch<Entry<T>>,
+) -> (RwPermit<'a, T>, Watch<Entry<T>>)
     requires { MayKnowWriter writer seen }
-    ensures idle { what result.0.view ≡ Some Idle }
-    ensures made { WriterMakes (IsCall Release answer.Done) writer.entry seen result.0 result.1 }
+    ensures idle { (what result.0.view ≡ Some Idle) × (result.0.key ≡ writer.entry.key) }
+    ensures left { IsLast writer.entry.key result.1.entries writer.entry.value }
+    ensures wrote { EndsWriting Release writer.entry seen result.0 result.1 }
 {
     let permit = writer.into_permit();
-    let (_, party, seen) = permit.subtract::<Releases>(WRITER, seen);
+    let (_, party, seen) = permit.subtract::<Frees>(WRITER, seen);
     (party, seen)
 }

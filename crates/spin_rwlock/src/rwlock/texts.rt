@@ -1,4 +1,4 @@
-//! `Debug` of an `RwLock`, and `Debug` and `Display` of its guards. Begin at `Debug` of the lock: a guard prints as its
+//! `Debug` of an `RwLock`, and `Debug` and `Display` of its guards. Begin at `Debug` of the lock. A guard prints its
 //! value.
 ghost use Rattle.std.specs.Prelude.{Option};
 ghost use Rattle.std.specs.Fmt.{DisplaysOnOk};
@@ -14,8 +14,8 @@ use spin_core::texts::write_named;
 use std::fmt;
 use std::fmt::{Debug, Display, Formatter};
 
-/// Tries once to acquire shared access, and keeps it while it writes the value. Where the try fails it writes
-/// `<locked>`. The try makes one load and at most one compare-exchange.
+/// Tries once to acquire shared access, and keeps it while it writes the value. If the try fails it writes `<locked>`.
+/// The try makes one load and at most one compare-exchange.
 impl<T: Debug, R> Debug for RwLock<T, R> {
     fn fmt<W: fmt::Write>(&self, f: &mut Formatter<W>) -> fmt::Result
         ensures { (found : Option T) × DisplaysOnOk W.write_str_gives f.old result (rw_text T.debug_output found) f.new }

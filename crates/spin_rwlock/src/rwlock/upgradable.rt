@@ -1,8 +1,8 @@
-//! The guard of the upgradable reader: what it can do besides reading. Begin at `upgrade`.
+//! The guard of the upgradable reader, and what it can do besides reading. Begin at `upgrade`.
 ghost use Rattle.std.specs.Prelude.{◌≡◌, Some, IfOk, IfErr};
 ghost use Rattle.spin_model.specs.declared.answer.Answer.TheVariants.{Granted, Refused, Done};
 ghost use Rattle.spin_step_more.specs.declared.rw_calls.RwCall.TheVariants.{TryUpgrade, Upgrade, Downgrade};
-ghost use Rattle.spin_rwlock.specs.Guards.{write_value, shared_party, write_party, ReadsWith, WritesWith};
+ghost use Rattle.spin_rwlock.specs.Guards.{write_value, shared_party, write_party, shared_opening, write_opening, ReadsWith, WritesWith, ReadsLast, FindsLast};
 ghost use Rattle.spin_rwlock.specs.Rw.{IsLent, Called};
 ghost use Rattle.spin_rwlock.specs.Steps.{Knows};
 ghost use Rattle.spin_rwlock.specs.declared.rwlock.rule.View.TheVariants.{Asking, WritingAsked};
@@ -18,7 +18,7 @@ use std::sync::Wait;
 
 /// The guard of the upgradable reader of an [`RwLock`](super::RwLock). Dropping it releases the shared access.
 ///
-/// Other readers come and go meanwhile, until its `upgrade` asks.
+/// Meanwhile other readers may acquire and release, until its `upgrade` asks.
 ///
 /// # Contract
 /// That of [`SharedGuard`]. The value stays the same when the reader becomes the writer.
@@ -60,16 +60,19 @@ impl<'a, T, R> SharedGuard<'a, T, Upgrader, R> {
     ///
     /// # Contract
     /// `seen` has to be what the pass knew with the guard (`ReadsWith`). The call is one `TryUpgrade`, with the answer
-    /// `Granted` and a writer's guard, or else `Refused`. The guard has the value that this one had.
+    /// `Granted` and a writer's guard, or else `Refused`. The guard has the value that this one had: the one written
+    /// last in the history (`found`, `shown`).
     pub fn try_upgrade_seen(
         self,
-        seen: Watch<Entry>,
-    ) -> Result<(RwLockWriteGuard<'a, T, R>, Watch<Entry>), (Self, Watch<Entry>)>
+        seen: Watch<Entry<T>>,
+    ) -> Result<(RwLockWriteGuard<'a, T, R>, Watch<Entry<T>>), (Self, Watch<Entry<T>>)>
         requires { ReadsWith self seen }
         ensures granted_value { IfOk result (λ held. Some (write_value held.0) ≡ shared_value self.entry) }
         ensures refused_value { IfErr result (λ held. shared_value held.0 ≡ shared_value self.entry) }
-        ensures granted { IfOk result (λ held. WritesWith held.0 held.1 × (held.1.name ≡ seen.name) × Called TryUpgrade Granted (shared_party self.entry) seen.entries (write_party held.0) held.1.entries) }
-        ensures refused { IfErr result (λ held. ReadsWith held.0 held.1 × (held.1.name ≡ seen.name) × Called TryUpgrade Refused (shared_party self.entry) seen.entries (shared_party held.0) held.1.entries) }
+        ensures found { IfOk result (λ held. FindsLast held.0 held.1 × (write_opening held.0 ≡ shared_opening self.entry)) }
+        ensures shown { IfErr result (λ held. ReadsLast held.0 held.1 × (shared_opening held.0 ≡ shared_opening self.entry)) }
+        ensures granted { IfOk result (λ held. WritesWith held.0 held.1 × (held.1.name ≡ seen.name) × Called (shared_opening self.entry).value TryUpgrade Granted (shared_party self.entry) seen.entries (write_party held.0) held.1.entries) }
+        ensures refused { IfErr result (λ held. ReadsWith held.0 held.1 × (held.1.name ≡ seen.name) × Called (shared_opening self.entry).value TryUpgrade Refused (shared_party self.entry) seen.entries (shared_party held.0) held.1.entries) }
     {
         match upgrade(self.into_permit(), seen) {
             Ok((writer, seen)) => Ok((RwLockWriteGuard::new(writer), seen)),
@@ -118,12 +121,17 @@ impl<'a, T, R> SharedGuard<'a, T, Upgrader, R> {
     ///
     /// # Contract
     /// `seen` has to be what the pass knew with the guard (`ReadsWith`). The call is one `Downgrade` (`made`). The
-    /// guard has the value that this one had.
-    pub fn downgrade_seen(self, seen: Watch<Entry>) -> (RwLockReadGuard<'a, T, R>, Watch<Entry>)
+    /// guard has the value that this one had: the one written last in the history (`found`).
+    pub fn downgrade_seen(
+        self,
+        seen: Watch<Entry<T>>,
+    ) -> (RwLockReadGuard<'a, T, R>, Watch<Entry<T>>)
         requires { ReadsWith self seen }
         ensures value { shared_value result.0 ≡ shared_value self.entry }
         ensures reads { ReadsWith result.0 result.1 × (result.1.name ≡ seen.name) }
-        ensures made { Called Downgrade Done (shared_party self.entry) seen.entries (shared_party result.0) result.1.entries }
+        ensures found { ReadsLast result.0 result.1 }
+        ensures lock { shared_opening result.0 ≡ shared_opening self.entry }
+        ensures made { Called (shared_opening self.entry).value Downgrade Done (shared_party self.entry) seen.entries (shared_party result.0) result.1.entries }
     {
         let (permit, seen) = upgradable_to_read(self.into_permit(), seen);
         (SharedGuard::new(permit), seen)
@@ -168,7 +176,8 @@ impl<'a, T, R: RelaxStrategy> SharedGuard<'a, T, Upgrader, R> {
     ///
     /// # Contract
     /// `seen` has to be what the pass knew with the guard (`ReadsWith`). The call is one `Upgrade` with the answer
-    /// `Granted`, which asked by its first step (`made`). The guard has the value that this one had.
+    /// `Granted`, which asked by its first step (`made`). The guard has the value that this one had: the one written
+    /// last in the history (`found`).
     ///
     /// # Examples
     /// ```
@@ -184,13 +193,15 @@ impl<'a, T, R: RelaxStrategy> SharedGuard<'a, T, Upgrader, R> {
     pub fn upgrade_seen<W: Wait>(
         self,
         rt: &W,
-        seen: Watch<Entry>,
-    ) -> (RwLockWriteGuard<'a, T, R>, Watch<Entry>)
+        seen: Watch<Entry<T>>,
+    ) -> (RwLockWriteGuard<'a, T, R>, Watch<Entry<T>>)
         requires { ReadsWith self seen }
         ensures asked { result.0.writer.view.0 ≡ WritingAsked }
         ensures value { Some (write_value result.0) ≡ shared_value self.entry }
         ensures writes { WritesWith result.0 result.1 × (result.1.name ≡ seen.name) }
-        ensures made { Called Upgrade Granted (shared_party self.entry) seen.entries (write_party result.0) result.1.entries }
+        ensures found { FindsLast result.0 result.1 }
+        ensures lock { write_opening result.0 ≡ shared_opening self.entry }
+        ensures made { Called (shared_opening self.entry).value Upgrade Granted (shared_party self.entry) seen.entries (write_party result.0) result.1.entries }
     {
         let (permit, seen) = ask(self.into_permit(), seen);
         let (writer, seen) = (AsksOn { permit, seen }).wait::<R, W>(rt);
@@ -198,10 +209,10 @@ impl<'a, T, R: RelaxStrategy> SharedGuard<'a, T, Upgrader, R> {
     }
 }
 
-/// A party in `upgrade` that has asked, and goes on with its exchange.
+/// A party in `upgrade` that has asked, and whose next step is the exchange.
 pub(super) struct AsksOn<'a, T> {
     permit: RwPermit<'a, T>,
-    seen: Watch<Entry>,
+    seen: Watch<Entry<T>>,
     ghost asks: { IsLent permit Asking },
     ghost knows: { Knows permit seen },
 }
@@ -210,7 +221,7 @@ impl<'a, T> AsksOn<'a, T> {
     ghost use Rattle.spin_rwlock.specs.Waits.{IsUpgraded, UpgradesOn};
 
     // Tries until it is the writer.
-    fn wait<R: RelaxStrategy, W: Wait>(self, rt: &W) -> (Writer<'a, T>, Watch<Entry>)
+    fn wait<R: RelaxStrategy, W: Wait>(self, rt: &W) -> (Writer<'a, T>, Watch<Entry<T>>)
         ensures { IsUpgraded self.entry result }
     {
         match self.upgrade() {
@@ -219,7 +230,7 @@ impl<'a, T> AsksOn<'a, T> {
         }
     }
 
-    fn upgrade(self) -> Result<(Writer<'a, T>, Watch<Entry>), Self>
+    fn upgrade(self) -> Result<(Writer<'a, T>, Watch<Entry<T>>), Self>
         ensures { UpgradesOn self.entry result }
     {
         let Self { permit, seen } = self;

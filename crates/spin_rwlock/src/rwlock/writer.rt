@@ -1,9 +1,9 @@
 //! The writer's guard, and its hold without a guard. Begin at [`RwLockWriteGuard`].
-ghost use Rattle.std.specs.Prelude.{◌≡◌, Some};
+ghost use Rattle.std.specs.Prelude.{◌≡◌, true, Some};
 ghost use Rattle.spin_core.specs.Cell.{use_of, writes};
-ghost use Rattle.spin_model.specs.declared.answer.Answer.TheVariants.{Done};
+ghost use Rattle.spin_core.specs.Values.{IsLast};
 ghost use Rattle.spin_step_more.specs.declared.rw_calls.RwCall.TheVariants.{Downgrade, DowngradeToUpgradeable};
-ghost use Rattle.spin_rwlock.specs.Rw.{use_of_party, Called};
+ghost use Rattle.spin_rwlock.specs.Rw.{use_of_party, Wrote};
 
 use super::reader::{RwLockReadGuard, SharedGuard};
 use super::rule::{
@@ -21,7 +21,7 @@ use std::ops::{Deref, DerefMut};
 /// It gives access to the value by `Deref` and `DerefMut`.
 ///
 /// # Contract
-/// `write_value` is the value behind the guard. What is written through the guard is read through it.
+/// `write_value` is the lock's value. What is written through the guard is read through it.
 #[must_use = "dropping the guard at once releases the lock: bind it, or write `drop(..)`"]
 pub struct RwLockWriteGuard<'a, T, R = Spin> {
     writer: WritePermit<'a, T, Party, RwRule<T>>,
@@ -43,7 +43,7 @@ pub struct WriteHeld<'a, T, R = Spin> {
 }
 
 impl<'a, T, R> RwLockWriteGuard<'a, T, R> {
-    ghost use Rattle.spin_rwlock.specs.Guards.{shared_value, write_value, write_held_value, shared_party, write_party, write_held_party, ReadsWith, WritesWith};
+    ghost use Rattle.spin_rwlock.specs.Guards.{shared_value, write_value, write_held_value, shared_party, write_party, write_held_party, shared_opening, write_opening, ReadsWith, WritesWith};
 
     pub(super) fn new(writer: Writer<'a, T>) -> Self
         ensures { result.writer ≡ writer.entry }
@@ -56,7 +56,7 @@ impl<'a, T, R> RwLockWriteGuard<'a, T, R> {
 
     /// Becomes a reader. Other readers are then admitted too. It never fails.
     ///
-    /// It makes one atomic addition, so no other writer comes in between.
+    /// It makes one atomic addition, so no other writer acquires the lock in between.
     ///
     /// # Contract
     /// The reader's guard has the value that this one had. The call returns.
@@ -82,13 +82,20 @@ impl<'a, T, R> RwLockWriteGuard<'a, T, R> {
     /// Becomes a reader, as [`downgrade`](Self::downgrade) does, in the call of a pass.
     ///
     /// # Contract
-    /// `seen` has to be what the pass knew with the guard (`WritesWith`). The call is one `Downgrade` (`made`). The
-    /// reader's guard has the value that this one had.
-    pub fn downgrade_seen(self, seen: Watch<Entry>) -> (RwLockReadGuard<'a, T, R>, Watch<Entry>)
+    /// `seen` has to be what the pass knew with the guard (`WritesWith`). The call is one `Downgrade`, behind a write
+    /// (`made`): it writes the guard's value into the history (`wrote`). The reader's guard has the value that this one
+    /// had, which is the one written last (`left`).
+    pub fn downgrade_seen(
+        self,
+        seen: Watch<Entry<T>>,
+    ) -> (RwLockReadGuard<'a, T, R>, Watch<Entry<T>>)
         requires { WritesWith self seen }
         ensures value { shared_value result.0 ≡ Some (write_value self.entry) }
         ensures reads { ReadsWith result.0 result.1 × (result.1.name ≡ seen.name) }
-        ensures made { Called Downgrade Done (write_party self.entry) seen.entries (shared_party result.0) result.1.entries }
+        ensures lock { shared_opening result.0 ≡ write_opening self.entry }
+        ensures made { Wrote (write_opening self.entry).value (λ x. Unit {0}) Downgrade (write_party self.entry) seen.entries (shared_party result.0) result.1.entries }
+        ensures wrote { Wrote (write_opening self.entry).value (λ x. (write_opening self.entry).told ≡ true → x ≡ write_value self.entry) Downgrade (write_party self.entry) seen.entries (shared_party result.0) result.1.entries }
+        ensures left { IsLast (write_opening self.entry) result.1.entries (write_value self.entry) }
     {
         let (permit, seen) = write_to_read(self.into_writer(), seen);
         (SharedGuard::new(permit), seen)
@@ -96,7 +103,7 @@ impl<'a, T, R> RwLockWriteGuard<'a, T, R> {
 
     /// Becomes the upgradable reader. It never fails.
     ///
-    /// It makes one atomic addition, so no other writer comes in between.
+    /// It makes one atomic addition, so no other writer acquires the lock in between.
     ///
     /// # Contract
     /// The upgradable reader's guard has the value that this one had. The call returns.
@@ -121,16 +128,20 @@ impl<'a, T, R> RwLockWriteGuard<'a, T, R> {
     /// of a pass.
     ///
     /// # Contract
-    /// `seen` has to be what the pass knew with the guard (`WritesWith`). The call is one `DowngradeToUpgradeable`
-    /// (`made`). The upgradable reader's guard has the value that this one had.
+    /// `seen` has to be what the pass knew with the guard (`WritesWith`). The call is one `DowngradeToUpgradeable`,
+    /// behind a write (`made`): it writes the guard's value into the history (`wrote`). The upgradable reader's guard
+    /// has the value that this one had, which is the one written last (`left`).
     pub fn downgrade_to_upgradeable_seen(
         self,
-        seen: Watch<Entry>,
-    ) -> (RwLockUpgradableGuard<'a, T, R>, Watch<Entry>)
+        seen: Watch<Entry<T>>,
+    ) -> (RwLockUpgradableGuard<'a, T, R>, Watch<Entry<T>>)
         requires { WritesWith self seen }
         ensures value { shared_value result.0 ≡ Some (write_value self.entry) }
         ensures reads { ReadsWith result.0 result.1 × (result.1.name ≡ seen.name) }
-        ensures made { Called DowngradeToUpgradeable Done (write_party self.entry) seen.entries (shared_party result.0) result.1.entries }
+        ensures lock { shared_opening result.0 ≡ write_opening self.entry }
+        ensures made { Wrote (write_opening self.entry).value (λ x. Unit {0}) DowngradeToUpgradeable (write_party self.entry) seen.entries (shared_party result.0) result.1.entries }
+        ensures wrote { Wrote (write_opening self.entry).value (λ x. (write_opening self.entry).told ≡ true → x ≡ write_value self.entry) DowngradeToUpgradeable (write_party self.entry) seen.entries (shared_party result.0) result.1.entries }
+        ensures left { IsLast (write_opening self.entry) result.1.entries (write_value self.entry) }
     {
         let (permit, seen) = write_to_upgradable(self.into_writer(), seen);
         (SharedGuard::new(permit), seen)
@@ -190,7 +201,7 @@ impl<'a, T, R> WriteHeld<'a, T, R> {
 
     /// Turns the hold into a guard again.
     ///
-    /// So a hold of a pass is released by that pass.
+    /// If a pass acquired the lock, that pass can then release it.
     ///
     /// # Contract
     /// The guard has the hold's value and its party (`value`, `party`). The call returns.
@@ -259,13 +270,13 @@ impl<T, R> Drop for WriteHeld<'_, T, R> {
     }
 }
 
-// SAFETY: its new thread has the value to itself, and may become one reader among others.
+// SAFETY: the new thread has the value to itself, and may become one reader among others.
 unsafe impl<T: Send + Sync, R> Send for RwLockWriteGuard<'_, T, R> {}
 
 // SAFETY: a shared guard lends a `&T` and no more.
 unsafe impl<T: Sync, R> Sync for RwLockWriteGuard<'_, T, R> {}
 
-// SAFETY: its new thread passes the value on to the next user: what a guard asks.
+// SAFETY: the new thread releases the lock, and so passes the value to its next user. That asks what a guard asks.
 unsafe impl<T: Send + Sync, R> Send for WriteHeld<'_, T, R> {}
 
 // SAFETY: a shared hold lends nothing. It asks what the lock asks.

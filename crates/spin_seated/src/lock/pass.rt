@@ -1,4 +1,4 @@
-//! Passes, with which callers call. Begin with [`Pass`].
+//! Passes, which callers use to make calls. Begin with [`Pass`].
 ghost use Rattle.std.specs.Prelude.{◌≡◌};
 ghost use Rattle.spin_seated.specs.Histories.{holds};
 ghost use Rattle.spin_seated.specs.Passes.{Seated, seated_of, IsOneSeat};
@@ -8,7 +8,7 @@ use crate::history::View;
 use atomic_table::Seat;
 use std::marker::Model;
 
-/// A seat at the table that stands for one pass.
+/// A seat at the table, for one pass.
 #[derive(Drop)]
 pub struct Place<C> {
     pub(super) seat: Option<Seat<u64, View<Opening, C, Answer>>>,
@@ -24,8 +24,7 @@ impl<C> Model for Place<C> {
 
 /// A place among the callers of one lock. Contracts see what it knows: a history with all calls made with it.
 ///
-/// It cannot be copied, and may go to another thread. A pass that is dropped while it holds the lock leaves the lock
-/// held.
+/// It cannot be copied, but can be sent. If a pass is dropped while it holds the lock, the lock stays held.
 #[derive(Drop)]
 #[must_use = "only a pass makes calls: bind it"]
 pub struct Pass<C: Calls> {

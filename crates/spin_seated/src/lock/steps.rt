@@ -1,7 +1,7 @@
 //! The steps on the table. Begin with [`SeatedLock::meet`]; the others are private to the locks.
 //!
-//! Each step tells which call it is, if it is one. Such a step owes three facts: the call may be made, the words become
-//! those of the state after it, and its answer is the plain one.
+//! Each step tells which call it is, if it is one. For such a step the lock shows three facts: the call may be made,
+//! the words become those of the next state, and its answer is the plain one.
 ghost use Rattle.std.specs.Prelude.{◌≡◌, ℕ, ◌<◌, ◌+◌, ◌-◌, ◌%◌, ◌^◌, ◌==◌, Option};
 ghost use prog.Atomic.{either};
 ghost use Rattle.spin_seated.specs.Histories.{Owes, Turned, Met, holds, held_then};
@@ -17,7 +17,7 @@ use std::marker::PhantomData;
 pub(crate) trait Tells<C> {
     ghost use Rattle.spin_seated.specs.declared.lock.Answer.{Answer};
 
-    // Of the operand (0 where there is none) and the word found; of an exchange, the word that it looks for.
+    // By the operand (0 if there is none) and the word found; for an exchange, by the word that it expects.
     ghost told: { ℕ → ℕ → Option (C × Answer) };
 }
 
@@ -42,7 +42,7 @@ impl<C: Calls> Play<u64, View<Opening, C, Answer>> for Meets<C> {
 }
 
 impl<C: Calls, A: Allocator> SeatedLock<C, A> {
-    /// Reads a word.
+    /// Loads a word.
     pub(crate) fn load<T: Tells<C>>(&self, place: &mut Place<C>, word: usize) -> u64
         requires own { IsPassOf self.now place.old }
         requires word { word < 2 }
@@ -58,7 +58,7 @@ impl<C: Calls, A: Allocator> SeatedLock<C, A> {
         self.table.shared.load::<Told<C, T>>(seat, word)
     }
 
-    /// Writes `new` over a word.
+    /// Stores `new` in a word.
     pub(crate) fn store<T: Tells<C>>(&self, place: &mut Place<C>, word: usize, new: u64)
         requires own { IsPassOf self.now place.old }
         requires word { word < 2 }
@@ -74,7 +74,7 @@ impl<C: Calls, A: Allocator> SeatedLock<C, A> {
         self.table.shared.store::<Told<C, T>>(seat, word, new);
     }
 
-    /// Writes `new` over a word if it is `old`, and returns the word as it was.
+    /// Stores `new` in a word if that is `old`, and returns the word found.
     pub(crate) fn exchange<T: Tells<C>>(
         &self,
         place: &mut Place<C>,
@@ -98,7 +98,7 @@ impl<C: Calls, A: Allocator> SeatedLock<C, A> {
             .compare_exchange::<Told<C, T>>(seat, word, old, new)
     }
 
-    /// Adds `by` to a word, modulo 2^64, and returns the word as it was.
+    /// Adds `by` to a word, modulo 2^64, and returns the word found.
     pub(crate) fn add<T: Tells<C>>(&self, place: &mut Place<C>, word: usize, by: u64) -> u64
         requires own { IsPassOf self.now place.old }
         requires word { word < 2 }
@@ -114,7 +114,7 @@ impl<C: Calls, A: Allocator> SeatedLock<C, A> {
         self.table.shared.fetch_add::<Told<C, T>>(seat, word, by)
     }
 
-    /// Subtracts `by` from a word, modulo 2^64, and returns the word as it was.
+    /// Subtracts `by` from a word, modulo 2^64, and returns the word found.
     pub(crate) fn subtract<T: Tells<C>>(&self, place: &mut Place<C>, word: usize, by: u64) -> u64
         requires own { IsPassOf self.now place.old }
         requires word { word < 2 }
@@ -130,11 +130,11 @@ impl<C: Calls, A: Allocator> SeatedLock<C, A> {
         self.table.shared.fetch_sub::<Told<C, T>>(seat, word, by)
     }
 
-    /// Brings two passes to one history. It makes three loads of the first word, which decide nothing.
+    /// Brings two passes to one history. It makes three loads of the first word and ignores their results.
     ///
     /// # Contract
-    /// Both have to be passes of this lock. Both know the same history then (`Met`). It extends what each knew,
-    /// and has of each one's own calls just those that it knew. What they hold stays as it is.
+    /// Both have to be passes of this lock. Afterwards both know the same history (`Met`). It extends what each knew,
+    /// and contains of each pass's own calls exactly those that it knew. What they hold does not change.
     pub fn meet(&self, a: &mut Pass<C>, b: &mut Pass<C>)
         requires first { IsPassOf self.now a.old }
         requires second { IsPassOf self.now b.old }

@@ -28,8 +28,8 @@ impl<A: Allocator> SeatedLock<Call, A> {
     /// Tries to acquire the lock, by one exchange. Returns `false` if it is held.
     ///
     /// # Contract
-    /// The pass has to be one of this lock. The call and its answer end the history that the pass knows then (`Made`).
-    /// The pass holds the lock then if it held it before or the answer is `true`.
+    /// The pass has to be one of this lock. The history that it then knows ends with the call and its answer (`Made`).
+    /// The pass then holds the lock if it held it before or the answer is `true`.
     #[must_use = "the answer tells whether the pass holds the lock"]
     pub fn try_lock(&self, pass: &mut Pass) -> bool
         requires { IsPassOf self.now pass.old }
@@ -51,7 +51,7 @@ impl<A: Allocator> SeatedLock<Call, A> {
     /// may be out of date.
     ///
     /// # Contract
-    /// The pass has to be one of this lock. The call and its answer end the history that the pass knows then (`Made`).
+    /// The pass has to be one of this lock. The history that it then knows ends with the call and its answer (`Made`).
     pub fn is_locked(&self, pass: &mut Pass) -> bool
         requires { IsPassOf self.now pass.old }
         ensures own { IsPassOf self.now pass.new }
@@ -64,8 +64,8 @@ impl<A: Allocator> SeatedLock<Call, A> {
     /// Returns the value, by one load.
     ///
     /// # Contract
-    /// The pass has to be one of this lock, and to hold it. The call and its answer end the history that the pass knows
-    /// then (`Made`).
+    /// The pass has to be one of this lock, and to hold it. The history that it then knows ends with the call and its
+    /// answer (`Made`).
     pub fn read(&self, pass: &mut Pass) -> u64
         requires own { IsPassOf self.now pass.old }
         requires holder { IsTrue (holds pass.old.known) }
@@ -79,8 +79,8 @@ impl<A: Allocator> SeatedLock<Call, A> {
     /// Replaces the value, by one store.
     ///
     /// # Contract
-    /// The pass has to be one of this lock, and to hold it. The call and its answer end the history that the pass knows
-    /// then (`Made`).
+    /// The pass has to be one of this lock, and to hold it. The history that it then knows ends with the call and its
+    /// answer (`Made`).
     pub fn write(&self, pass: &mut Pass, value: u64)
         requires own { IsPassOf self.now pass.old }
         requires holder { IsTrue (holds pass.old.known) }
@@ -94,8 +94,8 @@ impl<A: Allocator> SeatedLock<Call, A> {
     /// Releases the lock, by one store.
     ///
     /// # Contract
-    /// The pass has to be one of this lock, and to hold it. The call and its answer end the history that the pass knows
-    /// then (`Made`). The pass does not hold the lock then.
+    /// The pass has to be one of this lock, and to hold it. The history that it then knows ends with the call and its
+    /// answer (`Made`). The pass then does not hold the lock.
     pub fn unlock(&self, pass: &mut Pass)
         requires own { IsPassOf self.now pass.old }
         requires holder { IsTrue (holds pass.old.known) }

@@ -24,11 +24,11 @@ const VALUE: usize = 1;
 impl<A: Allocator> SeatedLock<Call, A> {
     /// Tries to acquire the lock as a reader. Returns `false` if a writer holds it, or at the cap of readers.
     ///
-    /// It makes a load, and then exchanges until one finds the word that it expects or the lock refuses.
+    /// It makes a load. Then it repeats its exchange until it succeeds or the lock refuses the word found.
     ///
     /// # Contract
-    /// The pass has to be one of this lock, and to hold nothing. The call and its answer end the history that the pass
-    /// knows then (`Made`). If the answer is `true` it holds as a reader then. Whether and when the call returns is not
+    /// The pass has to be one of this lock, and to hold nothing. The history that it then knows ends with the call and
+    /// its answer (`Made`). If the answer is `true` it then holds as a reader. Whether and when the call returns is not
     /// promised.
     #[must_use = "the answer tells whether the pass holds the lock"]
     pub fn try_read<W: Wait>(&self, rt: &W, pass: &mut RwPass) -> bool
@@ -69,8 +69,8 @@ impl<A: Allocator> SeatedLock<Call, A> {
     /// Tries to acquire the lock as the writer, by one exchange. Returns `false` if any pass holds it.
     ///
     /// # Contract
-    /// The pass has to be one of this lock, and to hold nothing. The call and its answer end the history that the pass
-    /// knows then (`Made`). If the answer is `true` it holds as the writer then.
+    /// The pass has to be one of this lock, and to hold nothing. The history that it then knows ends with the call and
+    /// its answer (`Made`). If the answer is `true` it then holds as the writer.
     #[must_use = "the answer tells whether the pass holds the lock"]
     pub fn try_write(&self, pass: &mut RwPass) -> bool
         requires own { IsPassOf self.now pass.old }
@@ -93,7 +93,7 @@ impl<A: Allocator> SeatedLock<Call, A> {
     /// Returns how many passes hold as readers, by one load.
     ///
     /// # Contract
-    /// The pass has to be one of this lock. The call and its answer end the history that the pass knows then (`Made`).
+    /// The pass has to be one of this lock. The history that it then knows ends with the call and its answer (`Made`).
     pub fn reader_count(&self, pass: &mut RwPass) -> u64
         requires { IsPassOf self.now pass.old }
         ensures own { IsPassOf self.now pass.new }
@@ -106,7 +106,7 @@ impl<A: Allocator> SeatedLock<Call, A> {
     /// Returns how many passes hold as writers, by one load.
     ///
     /// # Contract
-    /// The pass has to be one of this lock. The call and its answer end the history that the pass knows then (`Made`).
+    /// The pass has to be one of this lock. The history that it then knows ends with the call and its answer (`Made`).
     pub fn writer_count(&self, pass: &mut RwPass) -> u64
         requires { IsPassOf self.now pass.old }
         ensures own { IsPassOf self.now pass.new }
@@ -119,8 +119,8 @@ impl<A: Allocator> SeatedLock<Call, A> {
     /// Returns the value, by one load.
     ///
     /// # Contract
-    /// The pass has to be one of this lock, and to hold it as a reader or as the writer. The call and its answer end
-    /// the history that the pass knows then (`Made`).
+    /// The pass has to be one of this lock, and to hold it as a reader or as the writer. The history that it then knows
+    /// ends with the call and its answer (`Made`).
     pub fn read(&self, pass: &mut RwPass) -> u64
         requires own { IsPassOf self.now pass.old }
         requires holder { may_with Read (holds pass.old.known) ≡ true }
@@ -134,8 +134,8 @@ impl<A: Allocator> SeatedLock<Call, A> {
     /// Replaces the value, by one store.
     ///
     /// # Contract
-    /// The pass has to be one of this lock, and to hold it as the writer. The call and its answer end the history that
-    /// the pass knows then (`Made`).
+    /// The pass has to be one of this lock, and to hold it as the writer. The history that it then knows ends with the
+    /// call and its answer (`Made`).
     pub fn write(&self, pass: &mut RwPass, value: u64)
         requires own { IsPassOf self.now pass.old }
         requires holder { holds pass.old.known ≡ Some hold.Write }
@@ -149,8 +149,8 @@ impl<A: Allocator> SeatedLock<Call, A> {
     /// Releases the lock of a reader, by one subtraction.
     ///
     /// # Contract
-    /// The pass has to be one of this lock, and to hold it as a reader. The call and its answer end the history that
-    /// the pass knows then (`Made`). It holds nothing then.
+    /// The pass has to be one of this lock, and to hold it as a reader. The history that it then knows ends with the
+    /// call and its answer (`Made`). The pass then holds nothing.
     pub fn unlock_read(&self, pass: &mut RwPass)
         requires own { IsPassOf self.now pass.old }
         requires holder { holds pass.old.known ≡ Some hold.Read }
@@ -165,8 +165,8 @@ impl<A: Allocator> SeatedLock<Call, A> {
     /// Releases the lock of the writer, by one subtraction.
     ///
     /// # Contract
-    /// The pass has to be one of this lock, and to hold it as the writer. The call and its answer end the history that
-    /// the pass knows then (`Made`). It holds nothing then.
+    /// The pass has to be one of this lock, and to hold it as the writer. The history that it then knows ends with the
+    /// call and its answer (`Made`). The pass then holds nothing.
     pub fn unlock_write(&self, pass: &mut RwPass)
         requires own { IsPassOf self.now pass.old }
         requires holder { holds pass.old.known ≡ Some hold.Write }
@@ -181,8 +181,8 @@ impl<A: Allocator> SeatedLock<Call, A> {
     /// Turns the writer into a reader, by one addition. No other pass writes in between.
     ///
     /// # Contract
-    /// The pass has to be one of this lock, and to hold it as the writer. The call and its answer end the history that
-    /// the pass knows then (`Made`). It holds as a reader then.
+    /// The pass has to be one of this lock, and to hold it as the writer. The history that it then knows ends with the
+    /// call and its answer (`Made`). The pass then holds as a reader.
     pub fn downgrade(&self, pass: &mut RwPass)
         requires own { IsPassOf self.now pass.old }
         requires holder { holds pass.old.known ≡ Some hold.Write }

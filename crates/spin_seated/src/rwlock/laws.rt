@@ -18,38 +18,38 @@ pub fn nobody_writes_beside_another()
     ensures { (k : Opening) (log : History) → IsLegal rw k log → 0 < count_kind writing (holders k log) → length (holders k log) ≡ 1 }
 {}
 
-/// States that a try to read is granted exactly if no holder keeps readers out, as a writer does, and fewer than
+/// States that a try to read succeeds exactly if every holder admits readers (a writer does not), and fewer than
 /// `MAX_READERS` hold.
 pub fn a_reader_comes_where_nobody_keeps_it_out()
     ensures { (k : Opening) (before after : History) (p : ℕ) (granted : Bool) → IsLegal rw k (before ++ entry p TryRead (Truth granted) ∷ after) → granted ≡ ((count_against reading (holders k before) == 0) && nat_lt (length (holders k before)) reader_limit) }
 {}
 
-/// States that a try to write is granted exactly if no pass holds.
+/// States that a try to write succeeds exactly if no pass holds the lock.
 pub fn a_writer_comes_where_nobody_holds()
     ensures { (k : Opening) (before after : History) (p : ℕ) (granted : Bool) → IsLegal rw k (before ++ entry p TryWrite (Truth granted) ∷ after) → granted ≡ is_empty (holders k before) }
 {}
 
-/// States that a read gives the last write before it, or else the value that the lock was opened with. That is so too
-/// for a pass that wrote and reads on.
+/// States that a read returns the last write before it, or the opening value if there is none. This also holds for a
+/// pass that wrote and then reads.
 pub fn a_read_gives_the_last_write()
     ensures { (k : Opening) (before after : History) (p v : ℕ) → IsLegal rw k (before ++ entry p Read (Value v) ∷ after) → v ≡ last_written k.value before }
 {}
 
-/// States that a count is the number of passes that hold so at that point.
+/// States that a count is the number of passes that then hold in that way.
 pub fn a_count_is_the_number_of_holders()
     ensures { (k : Opening) (before after : History) (p n : ℕ) → (IsLegal rw k (before ++ entry p ReaderCount (Value n) ∷ after) → n ≡ reader_count (holders k before)) × (IsLegal rw k (before ++ entry p WriterCount (Value n) ∷ after) → n ≡ count_kind writing (holders k before)) }
 {}
 
-/// States that a pass holds from a try that is granted until it unlocks. It reads on after a downgrade, and stands
-/// among the holders as it holds. Each call but a count comes from a pass that holds what the call is for.
+/// States that a pass holds from a try that succeeds until it unlocks. After a downgrade it reads, and the plain lock's
+/// holders always agree. Only a pass that holds what the call is for makes a call that is no count.
 pub fn a_pass_holds_from_its_try_until_it_unlocks()
     ensures holds { (x : Knows) → IsLegal rw x.opening x.seen → holds x ≡ holds_by (calls_by x.pass x.seen) }
     ensures stands { (k : Opening) (log : History) (p : ℕ) → IsLegal rw k log → filter (λ h. h.party == p) (holders k log) ≡ place_of p (holds_by (calls_by p log)) }
     ensures calls { (k : Opening) (before after : History) (p : ℕ) (c : Call) (a : Answer) → IsLegal rw k (before ++ entry p c a ∷ after) → MayCall c (holds_by (calls_by p before)) }
 {}
 
-/// States that two passes that met agree on every answer so far. What either had seen stands at the same place in what
-/// both know now.
+/// States that two passes that met agree on every answer so far. What either had seen is at the same place in what both
+/// know now.
 pub fn passes_that_met_agree()
     ensures { (a b met_a met_b : Knows) → Met rw a met_a.seen met_a → Met rw b met_a.seen met_b → (met_b.seen ≡ met_a.seen) × ((n : ℕ) (e : Entry Call Answer) → slice_get a.seen n ≡ Some e → slice_get met_b.seen n ≡ Some e) × ((n : ℕ) (e : Entry Call Answer) → slice_get b.seen n ≡ Some e → slice_get met_a.seen n ≡ Some e) }
 {}

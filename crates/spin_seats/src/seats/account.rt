@@ -43,8 +43,8 @@ impl<'a, const N: usize> Account<'a, N> {
         (found as usize, Account { permit, seen })
     }
 
-    // The exchange of the word that a call found for `next`, which the step function gives for it. Returns the word
-    // that it found if that is another.
+    // Exchanges the word that a call found for `next`, as the step function says. Returns the word found if that is
+    // another.
     pub(super) fn sit(
         self,
         word: usize,

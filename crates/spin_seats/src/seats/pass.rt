@@ -1,4 +1,4 @@
-//! The calls of a [`Seats`] by a thread that keeps account of them. Begin with [`Seats::pass`].
+//! The calls of a [`Seats`] by a thread that keeps track of them. Begin with [`Seats::pass`].
 ghost use Rattle.std.specs.Prelude.{◌≡◌, ◌≤◌, ◌⊎◌, Some, None, [], IfOk, IfErr, true, false};
 ghost use mathlib.Core.List.{IsPrefix};
 ghost use Rattle.spin_core.specs.Own.{what};
@@ -16,16 +16,16 @@ use crate::steps;
 use spin_core::relax::{MAX_HINTS, RelaxStrategy, Spin};
 use std::sync::Wait;
 
-/// A thread's account of its calls of a [`Seats`].
+/// A thread's record of its calls of a [`Seats`].
 ///
 /// The lock's cell keeps the list of all moves that threads have made in it (its history). A pass knows which of these
-/// moves are its own, and the whole list up to its last one. It is as large as a reference to the lock, can be sent,
-/// and a lock has any number of them.
+/// moves are its own, and the whole list up to its own last move. It is as large as a reference to the lock, can be
+/// sent, and a lock can have any number of passes.
 ///
 /// # Contract
-/// Each call takes the pass, and ensures `Called`: of the moves by which the history grew, those of this pass are
-/// exactly one call, with the answer that is returned. In the lock's model that call has this answer, at its place
-/// among the moves of all threads, and no move of the history is passed over.
+/// Each call takes the pass, and ensures `Called`: among the new moves of the history, those of this pass are exactly
+/// one call with the returned answer. In the lock's model that call gets this answer, at its place among the moves of
+/// all threads. No move of the history is skipped.
 ///
 /// # Examples
 /// ```
@@ -80,8 +80,8 @@ impl<'a, const N: usize> Pass<'a, N> {
     /// Tries to take a seat as [`Seats::try_enter`] does. Returns the pass if all are taken.
     ///
     /// # Contract
-    /// The call is one `TryEnter`, with the answer `Granted` and a guard (`granted`), or else `Refused`
-    /// (`refused`). Whether and when it returns is not promised.
+    /// The call is one `TryEnter`. Its answer is `Granted` with a guard (`granted`), else `Refused` (`refused`).
+    /// Whether and when it returns is not promised.
     pub fn try_enter<W: Wait>(self, rt: &W) -> Result<SeatGuard<'a, N>, Pass<'a, N>>
         ensures granted { IfOk result (λ guard. Called N TryEnter Granted self.entry.account guard.account) }
         ensures refused { IfErr result (λ pass. Called N TryEnter Refused self.entry.account pass.account) }
@@ -92,7 +92,7 @@ impl<'a, const N: usize> Pass<'a, N> {
     /// Returns how many seats were taken at some moment during this call, as [`Seats::count`] does.
     ///
     /// # Contract
-    /// The call is one `Count`, with the answer that is returned (`made`).
+    /// The call is one `Count`, with the returned answer (`made`).
     pub fn count(self) -> (usize, Pass<'a, N>)
         ensures made { Called N Count (Counted result.0) self.entry.account result.1.account }
         ensures few { result.0 ≤ seats N }
@@ -123,7 +123,7 @@ impl<'a, const N: usize> Pass<'a, N> {
     /// Compares what two passes of one lock know. It does nothing when it runs.
     ///
     /// # Contract
-    /// What one of them knows of the history is a beginning of what the other knows.
+    /// One of them knows a prefix of the history that the other knows.
     pub fn compare(&self, other: &Pass<'_, N>)
         requires { self.now.account.seen.name ≡ other.now.account.seen.name }
         ensures { IsPrefix self.now.account.seen.entries other.now.account.seen.entries ⊎ IsPrefix other.now.account.seen.entries self.now.account.seen.entries }
@@ -147,7 +147,7 @@ impl<'a, const N: usize> SeatGuard<'a, N> {
     }
 }
 
-// A call of `try_enter`, at the word that it found.
+// A call of `try_enter`, with the word that it found.
 pub(super) struct Trying<'a, const N: usize> {
     word: usize,
     account: Account<'a, N>,
@@ -169,7 +169,7 @@ impl<'a, const N: usize> Trying<'a, N> {
         unreachable!()
     }
 
-    // Tries to take a seat at its word. If none is free there, the call is refused.
+    // Tries to take a seat at its word. If no seat is free there, the call fails.
     fn attempt(self) -> Result<Result<SeatGuard<'a, N>, Pass<'a, N>>, Trying<'a, N>>
         ensures { (before : TheAccount N) → IsTrying N self.entry.word before self.entry.account → IfOk result (λ answer. IfOk answer (λ guard. Called N TryEnter Granted before guard.account) × IfErr answer (λ pass. Called N TryEnter Refused before pass.account)) × IfErr result (λ further. IsTrying N further.word before further.account) }
     {
@@ -184,7 +184,7 @@ impl<'a, const N: usize> Trying<'a, N> {
     }
 }
 
-// A call of `enter`, at the word that it found.
+// A call of `enter`, with the word that it found.
 pub(super) struct Entering<'a, const N: usize> {
     word: usize,
     account: Account<'a, N>,
@@ -192,7 +192,7 @@ pub(super) struct Entering<'a, const N: usize> {
 }
 
 impl<'a, const N: usize> Entering<'a, N> {
-    // As `back_off` of the strategies, whose closure the borrow checker does not cover here.
+    // Does what `back_off` of the strategies does. The borrow checker does not accept its closure here.
     pub(super) fn wait<W: Wait>(self, rt: &W) -> SeatGuard<'a, N>
         ensures { (before : TheAccount N) → IsIn N Enter before self.entry.account → Called N Enter Granted before result.account }
     {
@@ -223,7 +223,7 @@ impl<'a, const N: usize> Entering<'a, N> {
         }
     }
 
-    // The same, after a look if its word has no free seat.
+    // The same, but it looks first if its word has no free seat.
     fn again(self) -> Result<SeatGuard<'a, N>, Entering<'a, N>>
         ensures { (before : TheAccount N) → IsIn N Enter before self.entry.account → IfOk result (λ guard. Called N Enter Granted before guard.account) × IfErr result (λ further. IsIn N Enter before further.account) }
     {

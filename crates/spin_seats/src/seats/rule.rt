@@ -1,5 +1,5 @@
-//! The rule of a lock of seats: what each party is to it ([`View`]), what its word and its trace say of all of them,
-//! each kind of step, and what a party has in hand between its steps ([`Account`]).
+//! The rule of a lock of seats: what each party is to it ([`View`]), what its word and its trace say of all parties,
+//! and each kind of step. Also what a party keeps between its steps ([`Account`]).
 ghost use Rattle.spin_core.specs.Own.{what};
 ghost use Rattle.spin_core.specs.Passes.{mark_of};
 ghost use Rattle.spin_seats.specs.Rule.{IsSeats, Told, counts_by, gets_up_by, looks_by, seat_ways, sits_by};
@@ -15,9 +15,9 @@ use spin_core::trace::{Trace, Watch};
 pub enum View {
     Idle,
     Seated,
-    /// It is in `enter`, if the flag is true, or else in `try_enter`. It goes on with its exchange of this word.
+    /// It is in `enter` if the flag is true, else in `try_enter`. Its next step is the exchange of this word.
     Coming(bool, usize),
-    /// It is in `enter`, and goes on with a look.
+    /// It is in `enter`, and its next step is a look.
     Waiting,
 }
 
@@ -27,8 +27,8 @@ pub type Party = tie::Numbered<View>;
 /// An entry of the lock's trace.
 pub type Entry = tie::Entry<SeatsCall>;
 
-/// The rule: the word is the number of parties that sit, and that is at most `N`. The trace is a schedule of the lock's
-/// model, which leads to this word, with each party where its view says.
+/// The rule: the word is the number of parties that sit, at most `N`. The trace is a schedule of the lock's model,
+/// which leads to this word and to each party's view.
 pub struct SeatsRule<const N: usize>;
 
 impl<const N: usize> Rule<(), Party> for SeatsRule<N> {
@@ -44,7 +44,7 @@ impl<const N: usize> Rule<(), Party> for SeatsRule<N> {
     ghost lent = { λ key. key };
 }
 
-/// The load of `count`. It finds that at most `N` sit.
+/// The load of `count`. It finds at most `N` seats taken.
 pub(super) struct Counts<const N: usize>;
 
 impl<const N: usize> Play<Watch<Entry>, Party, Entry> for Counts<N> {
@@ -65,14 +65,14 @@ impl<const N: usize> Play<Watch<Entry>, Party, Entry> for Looks<N> {
     ghost told = { λ key old new before. Told N (looks_by N true (what before)) before };
 }
 
-/// The exchange of a call that takes a seat. It sits if it finds the word that it expects.
+/// The exchange of a call that takes a seat. The party sits if it finds the word that it expects.
 pub(super) struct SitsDown<const N: usize>;
 
 impl<const N: usize> Play<Watch<Entry>, Party, Entry> for SitsDown<N> {
     ghost told = { λ key old new before. Told N (sits_by N old (what before)) before };
 }
 
-/// The subtraction of a party that sits and goes.
+/// The subtraction of a party that frees its seat.
 pub(super) struct GetsUp<const N: usize>;
 
 impl<const N: usize> Play<Watch<Entry>, Party, Entry> for GetsUp<N> {

@@ -1,22 +1,20 @@
-//! The calls of a [`TicketMutex`] by a thread that keeps account of them. Begin at [`TicketMutex::pass`].
+//! The calls of a [`TicketMutex`] by a thread that keeps track of them. Begin at [`TicketMutex::pass`].
 ghost use Rattle.std.specs.Prelude.{◌≡◌, ◌⊎◌, ◌≤◌, not, true, Some, None, [], ◌==◌, length, IfOk, IfErr};
 ghost use mathlib.Core.List.{IsPrefix};
 ghost use Rattle.spin_core.specs.Guard.{IsHolder, guard_view, guard_key, guard_value};
 ghost use Rattle.spin_core.specs.Own.{what};
-ghost use Rattle.spin_core.specs.Passes.{mark_of, Begins, Waits};
+ghost use Rattle.spin_core.specs.Passes.{mark_of};
 ghost use Rattle.spin_core.specs.Values.{IsLast};
-ghost use Rattle.spin_ticket.specs.Queue.{use_of_party, stands, IsOut, Moves, Called, Left};
+ghost use Rattle.spin_ticket.specs.Queue.{use_of_party, stands, IsOut, Called, Left};
 ghost use Rattle.spin_ticket.specs.Guards.{Holds};
-ghost use Rattle.spin_ticket.specs.Waits.{GoesFor, Enters};
+ghost use Rattle.spin_ticket.specs.Accounts.{Spot, here, IsIn, HasCalled, GoesFor, Enters, Tries, Gets};
 ghost use Rattle.spin_ticket.specs.declared.ticket.rule.View.TheVariants.{Idle};
 ghost use Rattle.spin_model.specs.declared.answer.Answer.TheVariants.{Granted, Refused, Is};
+ghost use Rattle.spin_model.specs.declared.ticket.TicketCall.{TicketCall};
 ghost use Rattle.spin_model.specs.declared.ticket.TicketCall.TheVariants.{Lock, TryLock, IsLocked};
 
-use super::rule::{
-    Await, Entry, FindOwn, LoadNext, LookNext, LookServing, Party, Serve, Take, TicketRule,
-    TryLoadNext, TryLoadServing, TryTake,
-};
-use super::waiting::{Going, Grant, Place};
+use super::rule::{Await, Entry, LoadNext, Party, Take, TicketRule};
+use super::waiting::{Account, Going, Grant, Place};
 use super::{HINTS_EACH, TicketMutex, TicketMutexGuard};
 use spin_core::cell::Permit;
 use spin_core::guard::Guard;
@@ -26,16 +24,16 @@ use spin_step::ticket;
 use std::marker::PhantomData;
 use std::sync::Wait;
 
-/// A thread's account of its calls of a [`TicketMutex`].
+/// A thread's record of its calls of a [`TicketMutex`].
 ///
 /// The lock's cell keeps the list of all moves that threads have made in it (its history). A pass knows which of these
-/// moves are its own, and the whole list up to its last one. Calls without a pass are in the history too, as calls of
-/// others. A pass is as large as a reference to the lock. It can be sent, and a lock has any number of them.
+/// moves are its own, and the whole list up to its own last move. Calls without a pass are in the history too, as calls
+/// of others. A pass is as large as a reference to the lock. It can be sent, and a lock can have any number of passes.
 ///
 /// # Contract
-/// Each call takes the pass and returns it. It ensures `Called`: of the moves by which the history grew, those of this
-/// pass are exactly one call, with the answer that is returned. In the lock's model that call has this answer, at its
-/// place among the moves of all threads, and no move of the history is passed over.
+/// Each call takes the pass and returns it. It ensures `Called`: among the new moves of the history, those of this pass
+/// are exactly one call with the returned answer. In the lock's model that call gets this answer, at its place among
+/// the moves of all threads. No move of the history is skipped.
 ///
 /// # Examples
 /// ```
@@ -78,8 +76,8 @@ impl<T, R> TicketMutex<T, R> {
     /// A guard that is dropped releases the lock too, and ends its pass.
     ///
     /// # Contract
-    /// `seen` has to be what [`Pass::lock`] or [`Pass::try_lock`] returned beside the guard (`Holds`). The pass makes the
-    /// call, as its next one, behind a write (`made`): it writes the guard's value into the history (`wrote`). So that
+    /// `seen` has to be what [`Pass::lock`] or [`Pass::try_lock`] returned with the guard (`Holds`). The release is the
+    /// next call of the pass (`made`). Just before it the history gets a write of the guard's value (`wrote`). So that
     /// value is the one written last (`left`).
     pub fn unlock<'a>(guard: TicketMutexGuard<'a, T, R>, seen: Watch<Entry<T>>) -> Pass<'a, T, R>
         requires { Holds guard seen }
@@ -89,8 +87,8 @@ impl<T, R> TicketMutex<T, R> {
         ensures same { (result.seen.name ≡ seen.name) × (result.permit.key ≡ guard_key guard.entry) }
     {
         let permit = Guard::into_writer(guard).into_permit();
-        let (number, permit, seen) = permit.load_second::<FindOwn>(seen);
-        let (permit, seen) = permit.store_second::<Serve>(ticket::serve(number), seen);
+        let (number, account) = Account { permit, seen }.find_own();
+        let Account { permit, seen } = account.serve(number);
         Pass {
             permit,
             seen,
@@ -100,7 +98,7 @@ impl<T, R> TicketMutex<T, R> {
 }
 
 impl<'a, T, R: RelaxStrategy> Pass<'a, T, R> {
-    /// Acquires the lock as [`TicketMutex::lock`] does. Returns the guard, and what the pass knows then.
+    /// Acquires the lock as [`TicketMutex::lock`] does. Returns the guard, and what the pass then knows.
     ///
     /// # Contract
     /// The call is one `Lock` with the answer `Granted`, however often it looked and tried (`made`). The guard belongs
@@ -118,15 +116,15 @@ impl<'a, T, R: RelaxStrategy> Pass<'a, T, R> {
             seen,
             strategy: _,
         } = self;
-        let place = match go(permit, seen).take() {
+        let place = match go(Account { permit, seen }).take() {
             Ok(place) => place,
             Err(going) => Loop::retry(rt, going, Going::take),
         };
-        let Grant { writer, seen } = match place.enter() {
+        let grant = match place.enter() {
             Ok(grant) => grant,
             Err(place) => R::retry_after(rt, place, Place::pause, Place::enter),
         };
-        (Guard::new(writer), seen)
+        grant.into_guard()
     }
 }
 
@@ -134,8 +132,8 @@ impl<'a, T, R> Pass<'a, T, R> {
     /// Tries to acquire the lock as [`TicketMutex::try_lock`] does. Returns the pass at once if the lock is held.
     ///
     /// # Contract
-    /// The call is one `TryLock`, with the answer `Granted` beside a guard (`granted`), and else `Refused` (`refused`).
-    /// The guard's value is the one written last in the history (`found`).
+    /// The call is one `TryLock`. Its answer is `Granted` with a guard (`granted`), else `Refused` (`refused`). The
+    /// guard's value is the one written last in the history (`found`).
     pub fn try_lock(self) -> Result<(TicketMutexGuard<'a, T, R>, Watch<Entry<T>>), Pass<'a, T, R>>
         ensures holder { IfOk result (λ held. IsHolder use_of_party held.0 × Holds held.0 held.1) }
         ensures same { IfOk result (λ held. (held.1.name ≡ self.entry.seen.name) × (guard_key held.0 ≡ self.entry.permit.key)) }
@@ -148,38 +146,23 @@ impl<'a, T, R> Pass<'a, T, R> {
             seen,
             strategy,
         } = self;
-        let (next, permit, seen) = permit.load::<TryLoadNext>(seen);
-        let (serving, permit, seen) = permit.load_second::<TryLoadServing>(seen);
-        if !ticket::is_turn(serving, next) {
-            return Err(Pass {
-                permit,
-                seen,
-                strategy,
-            });
-        }
-        let Some(after) = ticket::take(next) else {
-            return Err(Pass {
-                permit,
-                seen,
-                strategy,
-            });
-        };
-        let (found, permit, seen) = permit.exchange::<TryTake>(next, after, seen);
-        if found == next {
-            Ok((Guard::new(permit.into_writer()), seen))
-        } else {
-            Err(Pass {
-                permit,
-                seen,
-                strategy,
-            })
+        match try_once(Account { permit, seen }) {
+            Ok(grant) => Ok(grant.into_guard()),
+            Err(account) => {
+                let Account { permit, seen } = account;
+                Err(Pass {
+                    permit,
+                    seen,
+                    strategy,
+                })
+            }
         }
     }
 
-    /// Looks whether the lock is held, as [`TicketMutex::is_locked`] does.
+    /// Returns whether the lock is held, as [`TicketMutex::is_locked`] does.
     ///
     /// # Contract
-    /// The call is one `IsLocked`, with the answer that is returned (`made`).
+    /// The call is one `IsLocked`, with the returned answer (`made`).
     pub fn is_locked(self) -> (bool, Pass<'a, T, R>)
         ensures made { Called self.entry.permit.key IsLocked (Is result.0) self.entry.permit.view self.entry.seen.entries result.1.permit.view result.1.seen.entries }
         ensures same { (result.1.seen.name ≡ self.entry.seen.name) × (result.1.permit.key ≡ self.entry.permit.key) }
@@ -188,7 +171,7 @@ impl<'a, T, R> Pass<'a, T, R> {
         (!ticket::is_turn(serving, next), pass)
     }
 
-    // Makes the steps of `is_locked`. Returns the number that is served, and then the next one.
+    // Makes the steps of `is_locked`. Returns the served number and the next number.
     pub(super) fn look(self) -> (u64, u64, Pass<'a, T, R>)
         ensures order { result.0 ≤ result.1 }
         ensures made { Called self.entry.permit.key IsLocked (Is (not (result.1 == result.0))) self.entry.permit.view self.entry.seen.entries result.2.permit.view result.2.seen.entries }
@@ -199,9 +182,10 @@ impl<'a, T, R> Pass<'a, T, R> {
             seen,
             strategy,
         } = self;
-        // In this order, so that tickets stood between the two numbers.
-        let (serving, permit, seen) = permit.load_second::<LookServing>(seen);
-        let (next, permit, seen) = permit.load::<LookNext>(seen);
+        // In this order: the tickets between the two numbers exist at the second load.
+        let (serving, account) = Account { permit, seen }.look_served();
+        let (next, account) = account.look_next(serving);
+        let Account { permit, seen } = account;
         (
             serving,
             next,
@@ -216,8 +200,8 @@ impl<'a, T, R> Pass<'a, T, R> {
     /// Compares what two passes of one lock know. It does nothing when it runs.
     ///
     /// # Contract
-    /// What one of them knows of the history is a beginning of what the other knows. So both know one history, and the
-    /// one that knows more has the calls of both in it, each once, in the order in which each pass made them.
+    /// One of them knows a prefix of the history that the other knows. So both know one history. The longer one has the
+    /// calls of both passes, each once, in the order in which each pass made them.
     pub fn compare(&self, other: &Pass<'_, T, R>)
         requires { self.now.seen.name ≡ other.now.seen.name }
         ensures { IsPrefix self.now.seen.entries other.now.seen.entries ⊎ IsPrefix other.now.seen.entries self.now.seen.entries }
@@ -227,61 +211,75 @@ impl<'a, T, R> Pass<'a, T, R> {
 }
 
 // Begins a call of `lock`.
-pub(super) fn go<'a, T>(
-    permit: Permit<'a, T, Party, TicketRule>,
-    seen: Watch<Entry<T>>,
-) -> Going<'a, T>
-    requires { IsOut (what permit.view) × (permit.key.0.name ≡ seen.name) × (mark_of permit.view ≡ length seen.entries) }
-    ensures same { (result.seen.name ≡ seen.name) × (result.permit.key ≡ permit.entry.key) }
-    ensures made { Moves permit.entry.key (Begins Lock Waits) permit.entry.view seen.entries result.permit.view result.seen.entries }
+pub(super) fn go<'a, T>(account: Account<'a, T>) -> Going<'a, T>
+    requires { IsOut (what account.permit.view) }
+    ensures { IsIn Lock (here account.entry) (here result.account) }
 {
+    let Account { permit, seen } = account;
     let (number, permit, seen) = permit.load::<LoadNext>(seen);
     Going {
         number,
-        permit,
-        seen,
+        account: Account { permit, seen },
+    }
+}
+
+// Makes a call of `try_lock`.
+fn try_once<'a, T>(account: Account<'a, T>) -> Result<Grant<'a, T>, Account<'a, T>>
+    requires { IsOut (what account.permit.view) }
+    ensures { Tries (here account.entry) result }
+{
+    let (next, account) = account.find_next();
+    let (serving, account) = account.find_served(next);
+    if !ticket::is_turn(serving, next) {
+        return Err(account);
+    }
+    let Some(after) = ticket::take(next) else {
+        return Err(account);
+    };
+    account.take_and_enter(next, after)
+}
+
+impl<'a, T> Grant<'a, T> {
+    fn into_guard<R>(self) -> (TicketMutexGuard<'a, T, R>, Watch<Entry<T>>)
+        ensures { (call : TicketCall) (p : Spot T) → HasCalled call Granted p (here self.entry.account) → Gets call p result }
+    {
+        let Self { account } = self;
+        let Account { permit, seen } = account;
+        (Guard::new(permit.into_writer()), seen)
     }
 }
 
 impl<'a, T> Going<'a, T> {
-    // Takes the ticket. `Err` goes for the number that was found in its place, which is the same once the tickets are
-    // used up.
+    // Takes the ticket. `Err` is a call that tries the number found instead. Once the tickets are used up, that is the
+    // same number.
     pub(super) fn take(self) -> Result<Place<'a, T>, Going<'a, T>>
         ensures { GoesFor self.entry result }
     {
-        let Self {
-            number,
-            permit,
-            seen,
-        } = self;
+        let Self { number, account } = self;
         let Some(after) = ticket::take(number) else {
-            return Err(Going {
-                number,
-                permit,
-                seen,
-            });
+            return Err(Going { number, account });
         };
+        let Account { permit, seen } = account;
         let (found, permit, seen) = permit.exchange::<Take>(number, after, seen);
+        let account = Account { permit, seen };
         if found == number {
             Ok(Place {
                 number,
                 ahead: 0,
-                permit,
-                seen,
+                account,
             })
         } else {
             Err(Going {
                 number: found,
-                permit,
-                seen,
+                account,
             })
         }
     }
 }
 
 impl<'a, T> Place<'a, T> {
-    // The next thread in turn looks again after one hint. One with others before it looks seldom, so that it does not
-    // disturb them.
+    // The next thread in turn looks again after one hint. A thread with others before it looks seldom, so that it does
+    // not disturb them.
     pub(super) fn pause(&self) -> u32 {
         if self.ahead <= 1 {
             return 1;
@@ -296,21 +294,18 @@ impl<'a, T> Place<'a, T> {
         let Self {
             number,
             ahead: _,
-            permit,
-            seen,
+            account,
         } = self;
+        let Account { permit, seen } = account;
         let (serving, permit, seen) = permit.load_second::<Await>(seen);
+        let account = Account { permit, seen };
         if ticket::is_turn(serving, number) {
-            Ok(Grant {
-                writer: permit.into_writer(),
-                seen,
-            })
+            Ok(Grant { account })
         } else {
             Err(Place {
                 number,
                 ahead: number.saturating_sub(serving),
-                permit,
-                seen,
+                account,
             })
         }
     }

@@ -20,13 +20,13 @@ pub enum View {
     Idle,
     /// It is in `lock`, and found no ticket left.
     Coming,
-    /// It is in `lock`, and tries to take the ticket of this number, which it found next.
+    /// It is in `lock`, and tries to take the ticket with this number, which it found next.
     Going(u64),
     Waiting(u64),
     Entered(u64),
     /// It is in `try_lock`, and found this number next.
     LoadedNext(u64),
-    /// It is in `try_lock`, and found this number next and served.
+    /// It is in `try_lock`, and found this number both next and served.
     Trying(u64),
     /// It is in `is_locked`, and found this number served.
     LoadedServing(u64),
@@ -34,18 +34,18 @@ pub enum View {
 
 /// The rule of a [`TicketMutex`](super::TicketMutex): its words are the next ticket's number and the number served.
 ///
-/// No caller names it: it is a parameter of the type of the guard.
+/// Callers need not name it: it is a parameter of the guard's type.
 ///
 /// # Contract
 /// `IsQueue`: the words are those of a plain lock whose tickets are those of the parties that wait or have entered. The
-/// trace is a schedule of the lock's model, which leads to these words, with each party in the seat that its view
-/// names. The value that nobody holds is the one that this schedule writes last (`IsLast`), until the owner borrows it.
+/// trace is a schedule of the lock's model, which leads to these words and to each party's view. A value that nobody
+/// holds is the one that this schedule writes last (`IsLast`), until the owner borrows it.
 pub struct TicketRule;
 
 impl<T> Rule<T, Party> for TicketRule {
     type Key = Key<T>;
 
-    // The trace, and beside it the number that is served.
+    // The trace, with the served number.
     type Second = Trace<Entry<T>, u64>;
 
     ghost holds = { IsQueue };
@@ -55,8 +55,7 @@ impl<T> Rule<T, Party> for TicketRule {
     ghost lent = { lent_key };
 }
 
-/// What is settled of a lock when it is made: the name of its trace and the value that it opens with, and the number of
-/// its first ticket.
+/// What is fixed when a lock is made: the name of its trace, its opening value, and the number of its first ticket.
 pub(super) type Key<T> = (Opening<T>, u64);
 
 /// A party with its number.
@@ -65,65 +64,65 @@ pub type Party = tie::Numbered<View>;
 /// An entry of the trace of a lock of values of type `T`.
 pub type Entry<T> = tie::Entry<TicketCall, T>;
 
-/// The load of the next number with which `lock` begins.
+/// The load of the next number at the beginning of `lock`.
 pub(super) struct LoadNext;
 
 impl<T> Play<Key<T>, Party, Entry<T>> for LoadNext {
     ghost told = { λ key old new before. Told key (step_by false Lock goes_on going) before };
 }
 
-/// The compare-exchange of `lock`: the party takes the ticket that it expected to be next, and waits with it. Else it
-/// goes for the number that it found.
+/// The compare-exchange of `lock`. If the ticket that the party expected is next, it takes it and waits. Else the
+/// party tries the number that it found.
 pub(super) struct Take;
 
 impl<T> Play<Key<T>, Party, Entry<T>> for Take {
     ghost told = { λ key old new before. Told key (step_by true Lock goes_on (taken old)) before };
 }
 
-/// The load of the number that is served, of a party that waits. It has entered if that is its own.
+/// The load of the served number by a party that waits. It has entered if that number is its own.
 pub(super) struct Await;
 
 impl<T> Play<Key<T>, Party, Entry<T>> for Await {
     ghost told = { λ key old new before. Told key (awaits_by (what before)) before };
 }
 
-/// The load of the next number with which `try_lock` begins.
+/// The load of the next number at the beginning of `try_lock`.
 pub(super) struct TryLoadNext;
 
 impl<T> Play<Key<T>, Party, Entry<T>> for TryLoadNext {
     ghost told = { λ key old new before. Told key (step_by false TryLock goes_on LoadedNext) before };
 }
 
-/// The load of the number that is served, of `try_lock`. It goes on if that is the one that it found next.
+/// The load of the served number in `try_lock`. The call continues if it is the number that it found next.
 pub(super) struct TryLoadServing;
 
 impl<T> Play<Key<T>, Party, Entry<T>> for TryLoadServing {
     ghost told = { λ key old new before. Told key (tries_by (what before)) before };
 }
 
-/// The compare-exchange of `try_lock`: the party takes the ticket that it expected to be next, and has entered with it.
+/// The compare-exchange of `try_lock`. If the ticket that the party expected is next, it takes it and has entered.
 pub(super) struct TryTake;
 
 impl<T> Play<Key<T>, Party, Entry<T>> for TryTake {
     ghost told = { λ key old new before. Told key (step_by true TryLock (answers_attempt old) (attempted old)) before };
 }
 
-/// The load of the number that is served with which `is_locked` begins.
+/// The load of the served number at the beginning of `is_locked`.
 pub(super) struct LookServing;
 
 impl<T> Play<Key<T>, Party, Entry<T>> for LookServing {
     ghost told = { λ key old new before. Told key (step_by false IsLocked goes_on LoadedServing) before };
 }
 
-/// The load of the next number, of `is_locked`.
+/// The load of the next number in `is_locked`.
 pub(super) struct LookNext;
 
 impl<T> Play<Key<T>, Party, Entry<T>> for LookNext {
     ghost told = { λ key old new before. Told key (compares_by (what before)) before };
 }
 
-/// The load of a party that releases: it finds the number of its own ticket. It is no move of the model, whose parties
-/// know the numbers of their tickets.
+/// The load of a party that releases: it finds the number of its own ticket. The model has no move for it, since its
+/// parties know their numbers.
 pub(super) struct FindOwn;
 
 impl<T> Play<Key<T>, Party, Entry<T>> for FindOwn {
@@ -142,7 +141,7 @@ impl Uses<Party> for TicketRule {
 }
 
 impl<T> guard::Release<T, Party> for TicketRule {
-    // The number that is served is the writer's own. A guard keeps no number, since what ties it to the view would keep
+    // The served number is the writer's own. A guard keeps no number: a link from that number to the view would keep
     // `deref_mut` from lending the guard's permit.
     fn release(writer: WritePermit<'_, T, Party, TicketRule>) {
         let permit = writer.into_permit();

@@ -1,6 +1,6 @@
-//! What a call of `lock` has in hand between two of its steps. Begin at [`Going`].
+//! A party that knows the lock's history, between two of its steps. Begin with [`Account`].
 ghost use Rattle.std.specs.Prelude.{◌≡◌, Some, length};
-ghost use Rattle.spin_core.specs.Cell.{writes};
+ghost use Rattle.spin_core.specs.Cell.{writes, use_of};
 ghost use Rattle.spin_core.specs.Own.{what};
 ghost use Rattle.spin_core.specs.Passes.{mark_of};
 ghost use Rattle.spin_core.specs.Values.{IsLast};
@@ -8,36 +8,35 @@ ghost use Rattle.spin_ticket.specs.Queue.{use_of_party, going};
 ghost use Rattle.spin_ticket.specs.declared.ticket.rule.View.TheVariants.{Waiting};
 
 use super::rule::{Entry, Party, TicketRule};
-use spin_core::cell::{Permit, WritePermit};
+use spin_core::cell::Permit;
 use spin_core::trace::Watch;
 
-// A call that tries to take the ticket of this number, the next one when it last looked.
-pub(super) struct Going<'a, T> {
-    pub(super) number: u64,
+// A party, and all moves in the lock up to its last step.
+pub(super) struct Account<'a, T> {
     pub(super) permit: Permit<'a, T, Party, TicketRule>,
     pub(super) seen: Watch<Entry<T>>,
     ghost named: { permit.key.0.name ≡ seen.name },
-    ghost goes: { what permit.view ≡ Some (going number) },
     ghost knows: { mark_of permit.view ≡ length seen.entries },
+}
+
+// A call of `lock` that tries to take the ticket of this number, the next one when it last looked.
+pub(super) struct Going<'a, T> {
+    pub(super) number: u64,
+    pub(super) account: Account<'a, T>,
+    ghost goes: { what account.permit.view ≡ Some (going number) },
 }
 
 // A place in the queue, and how many tickets were before it when it last looked.
 pub(super) struct Place<'a, T> {
     pub(super) number: u64,
     pub(super) ahead: u64,
-    pub(super) permit: Permit<'a, T, Party, TicketRule>,
-    pub(super) seen: Watch<Entry<T>>,
-    ghost named: { permit.key.0.name ≡ seen.name },
-    ghost waiting: { what permit.view ≡ Some (Waiting number) },
-    ghost knows: { mark_of permit.view ≡ length seen.entries },
+    pub(super) account: Account<'a, T>,
+    ghost waiting: { what account.permit.view ≡ Some (Waiting number) },
 }
 
-// A call that is answered.
+// A party that acquired the lock. The value is the one written last.
 pub(super) struct Grant<'a, T> {
-    pub(super) writer: WritePermit<'a, T, Party, TicketRule>,
-    pub(super) seen: Watch<Entry<T>>,
-    ghost named: { writer.key.0.name ≡ seen.name },
-    ghost holds: { use_of_party writer.view ≡ writes },
-    ghost knows: { writer.view.2 ≡ length seen.entries },
-    ghost finds: { IsLast writer.key.0 seen.entries writer.value },
+    pub(super) account: Account<'a, T>,
+    ghost holds: { use_of use_of_party account.permit.view ≡ writes },
+    ghost finds: { (x : T) → account.permit.value ≡ Some x → IsLast account.permit.key.0 account.seen.entries x },
 }

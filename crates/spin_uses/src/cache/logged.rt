@@ -1,5 +1,5 @@
-//! A cache with a log of its answers. Once a caller's snapshot has an answer for a key, each later call with it returns
-//! a clone of that answer, or fails. Begin with [`LoggedCache::answer`].
+//! A cache with a log of its answers. Once a caller's snapshot has an answer for a key, each later call with that key
+//! and snapshot returns a clone of that answer, or fails. Begin with [`LoggedCache::answer`].
 ghost use Rattle.std.specs.Prelude.{◌≡◌, [], Some, None, Ok, IsTrue, IfSome, IfOk, OnOk, OnErr};
 ghost use Rattle.std.specs.Fn.{FnOnceTakesAt, FnOnceReturnsAt};
 ghost use Rattle.std.specs.Option.{ForSome, option_copied};
@@ -14,7 +14,7 @@ use spin_rwlock::rwlock::{RwLock, RwLockReadGuard};
 use std::alloc::{AllocError, Allocator, Global};
 use std::sync::Wait;
 
-/// The answers that were made, by their keys, and the log of them.
+/// The answers made so far, by their keys, and their log.
 #[derive(Drop)]
 pub struct LoggedTable<C: Answers, A: Allocator, H: History> {
     table: Table<C, A>,
@@ -35,8 +35,8 @@ impl<C: Answers, A: Allocator, H: History> LoggedTable<C, A, H> {
     /// Returns the answer for `key`, or `None` if none was made, and brings `seen` up to date.
     ///
     /// # Contract
-    /// Afterwards `seen` has the whole log (`exact`), and the answer is the one in it (`known`), one for this key
-    /// (`may`). If `seen` had one before, it is that one (`same`). All that `seen` had stays (`later`).
+    /// Afterwards `seen` has the whole log (`exact`). The answer is the one in it (`known`), and right for this key
+    /// (`may`). If `seen` had an answer before, it is that one (`same`). `seen` keeps all that it had (`later`).
     pub fn answer(
         &self,
         key: &C::Key,
@@ -52,7 +52,7 @@ impl<C: Answers, A: Allocator, H: History> LoggedTable<C, A, H> {
         self.table.answer(key)
     }
 
-    /// Adds an answer for a key that has none. Fails if there is no memory for it. The other answers stay as they are.
+    /// Adds an answer for a key that has none. Fails if there is no memory for it. The other answers do not change.
     fn add(
         &mut self,
         key: C::Key,
@@ -79,10 +79,10 @@ impl<C: Answers, A: Allocator, H: History> LoggedTable<C, A, H> {
     }
 }
 
-/// A [`Cache`](super::Cache) for callers that rely on an answer to stay.
+/// A [`Cache`](super::Cache) for callers that need an answer to stay the same.
 ///
-/// Each caller has a [`Snapshot`] of the log: the answers that it saw, and those before. A call brings it up to date.
-/// The log is ghost state: it takes no memory and no steps.
+/// Each caller has a [`Snapshot`] of the log: the answers that it has seen, and all earlier ones. A call brings it up
+/// to date. The log is ghost state: it takes no memory and no steps.
 #[derive(Drop)]
 pub struct LoggedCache<C: Answers, H: History, A: Allocator = Global, R = Spin> {
     table: RwLock<LoggedTable<C, A, H>, R>,
@@ -101,7 +101,7 @@ impl<C: Answers, H: History, A: Allocator + Clone, R: RelaxStrategy> LoggedCache
         }
     }
 
-    /// Acquires shared access to the answers that are there, as [`Cache::read`](super::Cache::read) does.
+    /// Acquires shared access to the existing answers, as [`Cache::read`](super::Cache::read) does.
     ///
     /// # Contract
     /// Whether and when the call returns is not promised.
@@ -113,10 +113,10 @@ impl<C: Answers, H: History, A: Allocator + Clone, R: RelaxStrategy> LoggedCache
     /// [`Cache::answer`](super::Cache::answer) does. Brings `seen` up to date.
     ///
     /// # Contract
-    /// The caller owes for `make` what [`Cache::answer`](super::Cache::answer) asks. On `Ok` the answer is one for this
-    /// key (`may`), and a clone of the one that `seen` has afterwards (`known`). If `seen` had one before, it is a clone
-    /// of that one (`same`). All that `seen` had stays, also on `Err` (`later`). Whether and when the call returns is not
-    /// promised.
+    /// `make` has to satisfy what [`Cache::answer`](super::Cache::answer) asks of it. On `Ok` the answer is right for
+    /// this key (`may`), and is a clone of the one that `seen` then has (`known`). If `seen` had an answer before, it
+    /// is a clone of that one (`same`). `seen` keeps all that it had, also on `Err` (`later`). Whether and when the
+    /// call returns is not promised.
     pub fn answer<W: Wait, E: From<AllocError>, F: FnOnce(&C::Key) -> Result<C::Value, E>>(
         &self,
         rt: &W,
@@ -159,7 +159,7 @@ impl<C: Answers, H: History, A: Allocator + Clone, R: RelaxStrategy> LoggedCache
         }
         let value = make(&key)?;
         let answer = value.clone()?;
-        // It never released the lock, so the key has no answer still.
+        // It never released the lock, so the key still has no answer.
         let mut guard = guard.upgrade(rt);
         guard.add(key, value, seen)?;
         Ok(answer)

@@ -1,4 +1,4 @@
-//! A table of answers that only grows: no entry is taken out or changed. Begin with [`Table::answer`].
+//! A table of answers that only grows: no entry is removed or changed. Begin with [`Table::answer`].
 ghost use Rattle.std.specs.Prelude.{◌≡◌, ◌<◌, Some, None, IsTrue, IfSome, IsOk, OnOk, OnErr};
 ghost use Rattle.std.specs.Option.{ForSome, option_copied};
 ghost use Rattle.std.specs.HashMap.{get, spare, IsEmpty, IsUnchanged, Updates};
@@ -9,7 +9,7 @@ use std::collections::HashMap;
 use std::hash::{BuildHasherDefault, FoldHasher};
 use std::marker::PhantomData;
 
-/// The answers that were made, by their keys.
+/// The answers made so far, by their keys.
 #[derive(Drop)]
 pub struct Table<C: Answers, A: Allocator> {
     map: HashMap<C::Key, C::Value, BuildHasherDefault<FoldHasher>, A>,
@@ -30,7 +30,7 @@ impl<C: Answers, A: Allocator> Table<C, A> {
     /// Returns the answer for `key`, or `None` if none was made.
     ///
     /// # Contract
-    /// The answer is exact, and one for this key (`may`).
+    /// The answer is exact, and right for this key (`may`).
     pub fn answer(&self, key: &C::Key) -> Option<&C::Value>
         ensures exact { option_copied result ≡ get C.Key.eq self.now.map key.now }
         ensures may { IfSome result (λ value. IsTrue (C.may key.now value.now)) }
@@ -38,7 +38,7 @@ impl<C: Answers, A: Allocator> Table<C, A> {
         self.map.get(key)
     }
 
-    /// Makes room for one answer more. Fails if there is no memory for it.
+    /// Makes room for one more answer. Fails if there is no memory for it.
     pub(super) fn reserve(&mut self) -> Result<(), AllocError>
     where
         A: Clone,
@@ -48,7 +48,7 @@ impl<C: Answers, A: Allocator> Table<C, A> {
         self.map.reserve(1)
     }
 
-    /// Adds an answer for a key that has none. Fails if there is no memory for it. The other answers stay as they are.
+    /// Adds an answer for a key that has none. Fails if there is no memory for it. The other answers do not change.
     pub(super) fn add(&mut self, key: C::Key, value: C::Value) -> Result<(), AllocError>
     where
         A: Clone,

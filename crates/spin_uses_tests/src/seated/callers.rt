@@ -1,5 +1,5 @@
-//! What no contract says of the callers of the seated locks: that they are let in, that memory suffices, and that their
-//! threads end.
+//! What no contract says of the callers of the seated locks: they acquire the lock, memory suffices, and their threads
+//! end.
 use crate::equal::equal;
 use spin_seated_uses::adding::add_in_two;
 use spin_seated_uses::publishing::publish_to_two;

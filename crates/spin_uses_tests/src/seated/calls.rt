@@ -1,5 +1,4 @@
-//! What no contract says of a `SeatedMutex`: that a try is granted at all, and two threads that repeat a try until it is
-//! granted.
+//! What no contract says of a `SeatedMutex`: a try can succeed, and two threads that repeat a try both succeed.
 ghost use Rattle.spin_seated.specs.Passes.{IsPassOf};
 
 use crate::equal::equal;
@@ -38,7 +37,7 @@ fn a_hold_lets_nobody_in(rt: HostRuntime) {
     equal(&rt, lock.read(&mut second), 9);
 }
 
-// Adds 1 a hundred times, and each time tries until the lock is granted.
+// Adds 1 a hundred times; each time it tries until it acquires the lock.
 fn add_a_hundred<R: Wait>(rt: &R, lock: &SeatedMutex, mut pass: Pass) -> Pass
     requires { IsPassOf lock.now pass }
     ensures { IsPassOf lock.now result }

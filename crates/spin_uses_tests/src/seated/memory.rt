@@ -1,4 +1,4 @@
-//! What no contract says of `new`: that memory suffices, and that where it is refused nothing stays allocated.
+//! What no contract says of `new`: memory suffices, and if it is refused nothing stays allocated.
 use crate::equal::equal;
 use bumpalo::Bump;
 use spin_seated::lock::{Calls, SeatedLock};
@@ -9,7 +9,7 @@ use std::process::Abort;
 // The bytes of a lock's two words. Its passes are allocated after them.
 const WORDS: u32 = 16;
 
-// Whether a lock for two fits where so many bytes are left.
+// Returns whether a lock for two passes fits into this many bytes.
 fn opens_in<C: Calls>(arena: &Bump, left: usize) -> bool {
     arena.set_allocation_limit(Some(0));
     let filled = arena.chunk_capacity().saturating_sub(left);
@@ -28,8 +28,8 @@ fn opens_in<C: Calls>(arena: &Bump, left: usize) -> bool {
     }
 }
 
-// Whether each allocation of a lock is refused where too little is left, and each time, as where the lock is dropped, all
-// that it had is free again: an arena of which a block is still out refuses to be reset.
+// Returns whether each allocation of a lock fails if too little memory is left, and everything is free again each time,
+// as when the lock is dropped. An arena with a block in use cannot be reset.
 fn gives_all_back<C: Calls>(rt: &impl Abort, alloc: Global) -> bool {
     let mut refused = 0u32;
     for left in 0..256usize {

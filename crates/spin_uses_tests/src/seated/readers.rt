@@ -1,4 +1,4 @@
-//! What no contract says of a `SeatedRwLock`: that a try is granted at all, and threads that end.
+//! What no contract says of a `SeatedRwLock`: a try can succeed, and threads end.
 ghost use Rattle.std.specs.Prelude.{◌≡◌, None};
 ghost use Rattle.spin_seated.specs.Passes.{IsPassOf};
 ghost use Rattle.spin_seated.specs.Rw.{holds};
@@ -49,7 +49,7 @@ fn a_writer_goes_on_as_a_reader(rt: HostRuntime) {
     equal(&rt, b.holds().is_none(), true);
 }
 
-// Adds 1 so many times, each time that it is let in, and looks at its own number again as a reader.
+// Adds 1 each time it acquires the lock, and then reads its own number as a reader.
 fn add_some<R: Wait>(rt: &R, lock: &SeatedRwLock, mut pass: RwPass) -> (RwPass, bool)
     requires { IsPassOf lock.now pass × (holds pass.known ≡ None) }
     ensures { IsPassOf lock.now result.0 × (holds result.0.known ≡ None) }
@@ -74,7 +74,7 @@ fn add_some<R: Wait>(rt: &R, lock: &SeatedRwLock, mut pass: RwPass) -> (RwPass, 
     (pass, same && added == TIMES)
 }
 
-// Reads so many times, each time that it is let in, and says whether no number was less than one before.
+// Reads each time it acquires the lock. Returns whether no number was less than an earlier one.
 fn read_some<R: Wait>(rt: &R, lock: &SeatedRwLock, mut pass: RwPass) -> (RwPass, bool)
     requires { IsPassOf lock.now pass × (holds pass.known ≡ None) }
     ensures { IsPassOf lock.now result.0 × (holds result.0.known ≡ None) }

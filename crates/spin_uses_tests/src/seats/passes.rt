@@ -1,4 +1,4 @@
-//! Three threads with a pass each, which know one history of the seats once they have joined.
+//! Three threads with a pass each. Once they have joined, the passes know one history of the seats.
 ghost use Rattle.std.specs.Prelude.{◌≡◌, ◌≤◌, ◌⊎◌, IfErr};
 ghost use mathlib.Core.List.{IsPrefix};
 ghost use Rattle.spin_seats.specs.Passes.{history, lock_of, name_of, Counted, SatOnce, WasRefused};
@@ -36,7 +36,8 @@ fn look(pass: Pass<'_, 2>) -> (usize, Pass<'_, 2>)
     pass.count()
 }
 
-// Two threads visit, and a third counts. Of any two of them, one knows a beginning of the history that the other knows.
+// Two threads visit, and a third one counts. Of any two of them, one knows a prefix of the history that the other
+// knows.
 fn visit_beside_count<'a, W: Threads + Wait + Sync>(
     rt: &W,
     seats: &'a Seats<2>,

@@ -1,5 +1,5 @@
-//! Laws of the fair lock. Each is the contract of a function that does nothing: a caller calls it for what it states.
-//! Begin with [`starvers_come_first`].
+//! Laws of the fair lock. Each is the contract of a function that does nothing. A caller calls it to learn what it
+//! states. Begin with [`starvers_come_first`].
 ghost use Rattle.std.specs.Prelude.{◌≡◌, ◌↔◌, ℕ, List, []};
 ghost use Rattle.spin_model.specs.declared.schedule.Move.{Move};
 ghost use Rattle.spin_model.specs.Schedules.{after, at_first};
@@ -19,19 +19,19 @@ pub fn a_word_is_zero_when_nobody_holds_or_starves<V: Copy>()
 
 /// States that a newcomer acquires the lock only while no party is registered as a starver.
 ///
-/// A newcomer is a party that before its move neither holds the lock nor is registered.
+/// A newcomer is a party that neither holds the lock nor is registered before its move.
 pub fn starvers_come_first<V: Copy>()
     ensures { (object : Fair V) (n : ℕ) (past : List (ℕ × Move FairCall V)) (party : ℕ) (move : Move FairCall V) → ComesAfterStarvers (⟦<Fair<V> as Object>⟧.machine object) n past party move }
 {}
 
 /// States that a starver that has set the flag is granted the lock by its next step, whatever other parties do. So it
-/// never keeps the flag without an answer while it steps.
+/// keeps the flag without an answer only while it does not step.
 pub fn a_starver_with_the_flag_is_granted_next<V: Copy>()
     ensures { (object : Fair V) (n : ℕ) (past : List (ℕ × Move FairCall V)) → IsGrantedNext (⟦<Fair<V> as Object>⟧.machine object) n past }
 {}
 
-/// States that a waiting starver goes for a clear flag. If it steps while no party holds the lock, this step sets the
-/// flag, or the next one does if the flag is clear then. So other parties that register and leave do not keep it from
+/// States that a waiting starver acquires a clear flag. If it steps while no party holds the lock, this step sets the
+/// flag, or the next one does if the flag is then clear. So other parties that register and leave cannot keep it from
 /// the lock.
 pub fn a_starver_goes_for_a_clear_flag<V: Copy>()
     ensures { (object : Fair V) (n : ℕ) (past : List (ℕ × Move FairCall V)) → GoesForAClearFlag (⟦<Fair<V> as Object>⟧.machine object) n past }

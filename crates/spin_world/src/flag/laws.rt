@@ -1,4 +1,4 @@
-//! Laws of the flag. Each is the contract of a function that does nothing: a caller calls it for what it states.
+//! Laws of the flag. Each is the contract of a function that does nothing. A caller calls it to learn what it states.
 ghost use Rattle.std.specs.Prelude.{◌≡◌, ◌↔◌, ℕ, List, [], false};
 ghost use Rattle.spin_model.specs.declared.schedule.Move.{Move};
 ghost use Rattle.spin_model.specs.Schedules.{after, at_first};
@@ -16,7 +16,7 @@ pub fn a_flag_is_clear_when_nobody_holds<V: Copy>()
     ensures { (object : Flag V) (n : ℕ) (past : List (ℕ × Move FlagCall V)) → let m = ⟦<Flag<V> as Object>⟧.machine object in ((after m (at_first m n) past).words ≡ false) ↔ ((seen_after m (opening m n) past).plain.holders ≡ []) }
 {}
 
-/// States that each flag is what its name says (`IsFlag`), also one that a caller is handed in a world and did not make.
+/// States that each flag is what its name says (`IsFlag`), even one in a world that the caller did not make.
 pub fn a_flag_is_what_its_name_says<V: Copy>()
     ensures { (object : Flag V) → IsFlag object.value (⟦<Flag<V> as Object>⟧.machine object) }
 {}

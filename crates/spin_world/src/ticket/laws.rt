@@ -1,5 +1,5 @@
-//! Laws of the ticket lock. Each is the contract of a function that does nothing: a caller calls it for what it states.
-//! Begin with [`tickets_enter_by_releases`].
+//! Laws of the ticket lock. Each is the contract of a function that does nothing. A caller calls it to learn what it
+//! states. Begin with [`tickets_enter_by_releases`].
 ghost use Rattle.std.specs.Prelude.{ℕ, List};
 ghost use Rattle.spin_model.specs.declared.schedule.Move.{Move};
 ghost use Rattle.spin_model.specs.Schedules.{after, at_first};
@@ -12,23 +12,22 @@ ghost use Rattle.spin_world.specs.Turns.{InOrder, InTurn, TriesByTwoLoads};
 use crate::ticket::Ticket;
 use spin_world_core::Object;
 
-/// States that the two words are the numbers of a queue of tickets. Its numbers have no gap, and only the first ticket
-/// may have entered.
+/// States that the two words are the numbers of a queue of tickets. There is no gap between the tickets' numbers, and
+/// only the first ticket may have entered.
 pub fn tickets_stand_in_order<V: Copy>()
     ensures { (object : Ticket V) (n : ℕ) (past : List (ℕ × Move TicketCall V)) → let m = ⟦<Ticket<V> as Object>⟧.machine object in InOrder (after m (at_first m n) past).words (seen_after m (opening m n) past).plain }
 {}
 
-/// States that each party enters as soon as the tickets before its own have gone, and so before any later ticket.
+/// States that each party enters as soon as the tickets before its own have left, and so before any later ticket.
 ///
-/// Let `s` be the number that is served after `past`. After further entries, the next step of a party that waits with
-/// ticket `t` is granted exactly if `t - s` tickets have gone since. If a party holds with ticket `t`, so many have
-/// gone.
+/// Let `s` be the number served after `past`. After further entries, the next step of a party that waits with ticket
+/// `t` succeeds exactly if `t - s` tickets have left since. If a party holds with ticket `t`, so many have left.
 pub fn tickets_enter_by_releases<V: Copy>()
     ensures { (object : Ticket V) (n : ℕ) (past further : List (ℕ × Move TicketCall V)) → InTurn (⟦<Ticket<V> as Object>⟧.machine object) n past further }
 {}
 
-/// States that a `try_lock` never answers by its first step. The second answers only if the number that was next at the
-/// first is not served then, or is used up.
+/// States that a `try_lock` never answers by its first step. The second step answers only if the number found next is
+/// not served then, or is used up.
 pub fn a_try_finds_its_number_by_two_loads<V: Copy>()
     ensures { (object : Ticket V) (n : ℕ) (past : List (ℕ × Move TicketCall V)) → TriesByTwoLoads (⟦<Ticket<V> as Object>⟧.machine object) n past }
 {}

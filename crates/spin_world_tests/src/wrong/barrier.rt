@@ -6,7 +6,7 @@ ghost use Rattle.spin_world.specs.Groups.{InGroups, FollowersLeave};
 ghost use Rattle.spin_world.specs.Barrier.{IsBarrierOf};
 ghost use Rattle.spin_world_tests.specs.WrongBarrier.{first_leads, leaves_early, nobody_leads, leads_late, told_late, leaves_in_quiet, never_begins, asks_for_a_value, leaves_by_chance, opens_with_one, gathers_three, one_call, one_arrival, two_steps, five_steps, an_arrival_and_chance, one_group, one_group_and_one, leaves_in_the_next, two_groups};
 
-/// A barrier whose first arrival of each group leads: it fills no group.
+/// A barrier whose first arrival of each group leads, though it fills no group.
 pub fn the_first_of_a_group_follows()
     ensures { MomentsAll first_leads 1 one_arrival → ⊥ }
 {}
@@ -16,27 +16,27 @@ pub fn a_follower_waits_for_its_leader()
     ensures { MomentsAll leaves_early 1 two_steps → ⊥ }
 {}
 
-/// A group whose last arrival is told that it follows: by its arrival the group is full, so it leads.
+/// A group whose last arrival is told that it follows. Its arrival fills the group, so it should lead.
 pub fn the_last_of_a_group_is_no_follower()
     ensures { MomentsAll nobody_leads 2 one_group → ⊥ }
 {}
 
-/// A leader that waits for the next group: a party that fills a group has only to be answered.
+/// A leader that waits for the next group. A party that fills a group should get its answer at once.
 pub fn a_leader_waits_for_nobody()
     ensures { CountsAll leads_late 1 five_steps → ⊥ }
 {}
 
-/// A leader that is told so after its arrival.
+/// A leader that gets its answer only after a further step.
 pub fn a_leader_is_told_as_it_arrives()
     ensures { InGroups told_late 1 1 one_call → ⊥ }
 {}
 
-/// A follower that waits until nobody gathers: with others always on their way it would never leave.
+/// A follower that waits until nobody gathers. If others keep arriving it never leaves.
 pub fn a_follower_leaves_beside_newcomers()
     ensures { FollowersLeave leaves_in_quiet 3 one_group_and_one → ⊥ }
 {}
 
-/// A barrier at which nobody may arrive.
+/// A barrier at which nobody can arrive.
 pub fn a_party_may_arrive()
     ensures { Stepwise never_begins → ⊥ }
 {}
@@ -46,22 +46,22 @@ pub fn a_wait_asks_for_its_group()
     ensures { Stepwise asks_for_a_value → ⊥ }
 {}
 
-/// A follower that leaves by chance.
+/// A follower that may leave spuriously.
 pub fn a_follower_leaves_for_a_cause()
     ensures { KeepsAll leaves_by_chance 1 an_arrival_and_chance → ⊥ }
 {}
 
-/// A barrier that opens with one arrival.
+/// A barrier that opens with one arrival counted.
 pub fn a_barrier_opens_empty()
     ensures { KeepsAll opens_with_one 1 one_call → ⊥ }
 {}
 
-/// A barrier that gathers other groups than it was asked for, and is right otherwise.
+/// A barrier with groups of another size than asked for, which is right otherwise.
 pub fn a_group_has_the_size_asked_for()
     ensures { IsBarrierOf 2 gathers_three → ⊥ }
 {}
 
-/// A follower that leaves only while the next group gathers: one that is too late for that would wait for good.
+/// A follower that leaves only while the next group gathers. If it steps too late it waits for ever.
 pub fn a_follower_leaves_after_later_groups()
     ensures { FollowersLeave leaves_in_the_next 4 two_groups → ⊥ }
 {}

@@ -5,17 +5,17 @@ ghost use Rattle.spin_world_tests.specs.Dispenser.{IsDispenser, DrawsInOrder};
 ghost use Rattle.spin_world_tests.specs.WrongDispenser.{two_draw, forgets_to_store, wins_what_it_lost, wraps};
 ghost use Rattle.spin_world_tests.specs.WrongDispenser.{says_zero, draws_another, the_second, takes_back};
 
-/// A draw that stores the number that it found, and so hands it out again.
+/// A draw that stores the number that it found, so that the number is drawn again.
 pub fn a_number_that_is_drawn_is_used_up()
     ensures { KeepsAll forgets_to_store 2 two_draw → ⊥ }
 {}
 
-/// A draw whose exchange failed, and that answers as if it had won: the other party has that number.
+/// A draw whose exchange failed, but which answers as if it had succeeded. Another party has that number.
 pub fn a_lost_exchange_draws_nothing()
     ensures { KeepsAll wins_what_it_lost 2 two_draw → ⊥ }
 {}
 
-/// A draw that begins again at 0 once all numbers have been drawn.
+/// A draw that begins again at 0 after the last number.
 pub fn the_numbers_never_wrap()
     ensures { KeepsAll wraps 2 two_draw → ⊥ }
 {}
@@ -30,7 +30,7 @@ pub fn a_number_asked_for_is_the_one_drawn()
     ensures { MomentsAll draws_another 1 the_second → ⊥ }
 {}
 
-/// A dispenser of another kind, which takes numbers back.
+/// A dispenser of another kind, to which numbers can be returned.
 pub fn a_dispenser_is_of_its_kind()
     ensures { IsDispenser 2 takes_back → ⊥ }
 {}

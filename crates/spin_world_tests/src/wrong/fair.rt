@@ -8,28 +8,28 @@ ghost use Rattle.spin_world.specs.Fairness.{IsGrantedNext, GoesForAClearFlag};
 ghost use Rattle.spin_world.specs.Fair.{IsFairLock};
 ghost use Rattle.spin_world_tests.specs.WrongFair.{spins_by_setting, two_steps_of_a_starver, waits_for_starvers, lock_beside_a_dropped_starver, refuses_late, starver_beside_a_holder, tries_greedily, try_beside_a_starver, stays_a_starver, try_of_a_starver, starves_without_cap, two_starve, never_registers, lock_beside_a_holder, returns_to_its_exchange, lock_as_it_is_let_go, registers_at_once, hasty_lock, drop_frees, drop_beside_a_holder, tells_the_other_reason, try_beside_a_holder, waits_for_ever, four_looks_of_a_starver, waits_for_quiet, let_go_beside_a_starver, never_looks, loads_uncounted, counts_each_second_look, keeps_the_flag, lock_beside_a_starver, leaves_by_exchange, lock_of_a_starver, sets_by_chance, starver_in_vain, starves_again, tries_alone, opens_with_a_starver, counts_anew, lock_past_a_clear_flag};
 
-/// A `try_lock` that sets the flag wherever it is clear: beside a starver its step is not open.
+/// A `try_lock` that sets the flag whenever it is clear. While a party starves, that step is not open.
 pub fn a_newcomer_yields_to_starvers<V: Copy>()
     ensures { (value : V) → KeepsAll (tries_greedily value) 2 try_beside_a_starver → ⊥ }
 {}
 
-/// A `starver_try_lock` that never takes its starver out: its grant has made too few steps.
+/// A `starver_try_lock` that leaves its party a starver. When it succeeds it has made too few plain steps.
 pub fn a_granted_starver_leaves_the_starvers<V: Copy>()
     ensures { (value : V) → KeepsAll (stays_a_starver value) 1 try_of_a_starver → ⊥ }
 {}
 
-/// A `starve` without the cap: past it the step is not open.
+/// A `starve` that ignores the cap. Past the cap the step is not open.
 pub fn starvers_stay_within_the_cap<V: Copy>()
     ensures { (value : V) → KeepsAll (starves_without_cap value) 2 two_starve → ⊥ }
 {}
 
-/// A `lock` that never registers: two steps after a look past its patience it has to be a starver, or to have found the
+/// A `lock` that never registers. Two steps after a look past its patience it has to be a starver, or to have found the
 /// cap.
 pub fn a_lock_in_vain_registers<V: Copy>()
     ensures { (value : V) → CountsAll (never_registers value) 2 lock_beside_a_holder → ⊥ }
 {}
 
-/// A `lock` that goes back to its exchange where it should register: it is granted the lock as a newcomer.
+/// A `lock` that returns to its exchange when it should register. It acquires the lock as a newcomer.
 pub fn a_lock_past_its_patience_is_no_newcomer<V: Copy>()
     ensures { (value : V) → CountsAll (returns_to_its_exchange value) 2 lock_as_it_is_let_go → ⊥ }
 {}
@@ -39,96 +39,96 @@ pub fn a_lock_looks_before_it_registers<V: Copy>()
     ensures { (value : V) → CountsAll (registers_at_once value) 2 hasty_lock → ⊥ }
 {}
 
-/// A `starver_drop` that frees the flag: the word is not the encoding.
+/// A `starver_drop` that clears the flag. Then the word is not the encoding.
 pub fn a_dropped_starver_leaves_the_flag<V: Copy>()
     ensures { (value : V) → KeepsAll (drop_frees value) 2 drop_beside_a_holder → ⊥ }
 {}
 
-/// A `try_lock_starver` that tells the other reason: nobody starves at any moment.
+/// A `try_lock_starver` that tells the other reason, though nobody starves at any moment.
 pub fn a_refusal_tells_its_reason<V: Copy>()
     ensures { (value : V) → MomentsAll (tells_the_other_reason value) 2 try_beside_a_holder → ⊥ }
 {}
 
-/// A `starver_lock` that never tries again: undisturbed it has to be answered by its fourth step.
+/// A `starver_lock` that never tries again. If nobody disturbs it, it has to be answered by its fourth step.
 pub fn a_starver_tries_again<V: Copy>()
     ensures { (value : V) → CountsAll (waits_for_ever value) 2 four_looks_of_a_starver → ⊥ }
 {}
 
-/// A `lock` that makes its exchange again and again and never looks, and so never registers.
+/// A `lock` that repeats its exchange without a look, and so never registers.
 pub fn a_lock_looks_between_its_exchanges<V: Copy>()
     ensures { (value : V) → CountsAll (never_looks value) 2 lock_beside_a_holder → ⊥ }
 {}
 
-/// A `lock` that waits by loads which count nowhere, and so never registers.
+/// A `lock` that waits by loads that it does not count, and so never registers.
 pub fn a_lock_waits_by_looks<V: Copy>()
     ensures { (value : V) → CountsAll (loads_uncounted value) 2 lock_beside_a_holder → ⊥ }
 {}
 
-/// A `lock` that counts each second look alone, and so registers late: while it finds the lock held each step is a
-/// look.
+/// A `lock` that counts only each second look, and so registers too late. While it finds the lock held, each step has
+/// to be a look that counts.
 pub fn a_lock_counts_each_look<V: Copy>()
     ensures { (value : V) → CountsAll (counts_each_second_look value) 2 lock_beside_a_holder → ⊥ }
 {}
 
-/// A `starver_lock` that has set the flag and goes on while another party starves: its call has to be answered then.
+/// A `starver_lock` that has set the flag and waits while another party starves. Its call has to be answered then.
 pub fn a_starver_that_holds_is_answered<V: Copy>()
     ensures { (value : V) → CountsAll (keeps_the_flag value) 2 lock_beside_a_starver → ⊥ }
 {}
 
-/// A `starver_lock` that has set the flag and leaves the starvers by an exchange, again and again while others register
-/// and leave: it has to be granted by its next step.
+/// A `starver_lock` that has set the flag and stops starving by an exchange, again and again while others register and
+/// leave. Its next step has to grant the lock.
 pub fn a_starver_leaves_in_one_step<V: Copy>()
     ensures { (value : V) → IsGrantedNext (leaves_by_exchange value) 1 lock_of_a_starver → ⊥ }
 {}
 
-/// A `starver_lock` that waits until others have stopped coming and going, though the flag is clear.
+/// A `starver_lock` that waits until others stop registering and leaving, though the flag is clear.
 pub fn a_starver_waits_for_the_flag_alone<V: Copy>()
     ensures { (value : V) → GoesForAClearFlag (waits_for_quiet value) 2 let_go_beside_a_starver → ⊥ }
 {}
 
-/// A starver that sets the flag by a weak exchange: no call of a starver may be refused without cause.
+/// A starver that sets the flag by a weak exchange. No call of a starver may fail spuriously.
 pub fn a_starver_sets_the_flag_by_a_strong_exchange<V: Copy>()
     ensures { (value : V) → KeepsAll (sets_by_chance value) 1 starver_in_vain → ⊥ }
 {}
 
-/// A `starve` that begins where its party starves, and registers it twice.
+/// A `starve` that can begin though its party starves, and registers it twice.
 pub fn a_starver_may_not_starve_again<V: Copy>()
     ensures { (value : V) → Stepwise (starves_again value) → ⊥ }
 {}
 
-/// A `starver_try_lock` that yields to the other starvers.
+/// A `starver_try_lock` that yields to other starvers.
 pub fn a_starver_tries_beside_others<V: Copy>()
     ensures { (value : V) → IsFairLock value 2 1 (tries_alone value) → ⊥ }
 {}
 
-/// A fair lock that lets one party starve, whatever its cap is.
+/// A fair lock that admits one starver, whatever its cap is.
 pub fn as_many_may_starve_as_the_cap_says<V: Copy>()
     ensures { (value : V) → IsFairLock value 2 1 (fair_machine value 1 1) → ⊥ }
 {}
 
-/// A fair lock at which a starver stands at first.
+/// A fair lock with a starver at first.
 pub fn a_fair_lock_opens_without_starvers<V: Copy>()
     ensures { (value : V) → KeepsAll (opens_with_a_starver value) 1 [] → ⊥ }
 {}
 
-/// A `lock` that finds the flag clear beside a starver and looks on: by its step after such a look it gets the lock
-/// where it is free.
+/// A `lock` that finds the flag clear while a party starves, and looks again. The step after such a look has to acquire
+/// the lock if it is free.
 pub fn a_lock_exchanges_where_it_finds_the_flag_clear<V: Copy>()
     ensures { (value : V) → CountsAll (waits_for_starvers value) 3 lock_beside_a_dropped_starver → ⊥ }
 {}
 
-/// A `starver_try_lock` that finds the flag set, looks once more, and is refused even where it is clear by then.
+/// A `starver_try_lock` that finds the flag set, looks once more, and is refused even if the flag is then clear.
 pub fn a_starver_is_refused_where_it_finds_the_flag_set<V: Copy>()
     ensures { (value : V) → CountsAll (refuses_late value) 2 starver_beside_a_holder → ⊥ }
 {}
 
-/// A starver that waits by setting the flag again and again, without a look.
+/// A starver that waits by trying to set the flag again and again, without a look.
 pub fn a_starver_looks_until_the_flag_is_clear<V: Copy>()
     ensures { (value : V) → CountsAll (spins_by_setting value) 2 two_steps_of_a_starver → ⊥ }
 {}
 
-/// A `lock` that begins its count of looks anew where it has found the flag clear: it registers two steps after a look
-/// past its patience, whatever it found between.
+/// A `lock` that starts to count its looks anew when it has found the flag clear. It has to register two steps after a
+/// look past its patience, whatever it found in between.
 pub fn a_count_of_looks_survives_a_clear_flag<V: Copy>()
     ensures { (value : V) → CountsAll (counts_anew value) 2 lock_past_a_clear_flag → ⊥ }
 {}

@@ -6,28 +6,28 @@ ghost use Rattle.spin_model.specs.Operations.{Stepwise};
 ghost use Rattle.spin_world_core.specs.Runs.{KeepsAll};
 ghost use Rattle.spin_world_tests.specs.WrongFlag.{never_looks, lock_beside_a_holder, refuses_at_its_look, looks_first, lock_alone, looks_for_ever, two_looks, tries_by_chance, one_try, looks_by_chance, look_beside_a_holder, never_releases, locks_to_read, opens_set, grants_to_read, whole_try};
 
-/// A flag's `lock` that never tries again after its first refusal: undisturbed it has to be answered by its second
-/// step.
+/// A flag whose `lock` never tries again after its first failure. If nobody disturbs it, it has to be answered by its
+/// second step.
 pub fn a_lock_tries_again<V: Copy>()
     ensures { (value : V) → CountsAll (looks_for_ever value) 2 two_looks → ⊥ }
 {}
 
-/// A strong try that is refused without cause: the refusal has no moment.
+/// A strong try that fails spuriously: the refusal has no moment.
 pub fn a_strong_try_has_a_cause<V: Copy>()
     ensures { (value : V) → MomentsAll (tries_by_chance value) 1 one_try → ⊥ }
 {}
 
-/// A look that tells without cause that nobody holds.
+/// An `is_locked` that may answer spuriously that nobody holds.
 pub fn a_look_has_a_cause<V: Copy>()
     ensures { (value : V) → MomentsAll (looks_by_chance value) 2 look_beside_a_holder → ⊥ }
 {}
 
-/// A flag whose `release` begins nowhere: a call begins wherever its party holds what it is for.
+/// A flag whose `release` can never begin. A call has to begin whenever its party holds what it is for.
 pub fn a_holder_may_release<V: Copy>()
     ensures { (value : V) → Stepwise (never_releases value) → ⊥ }
 {}
 
-/// A flag whose `lock` asks for what no flag grants, and so is never answered.
+/// A flag whose `lock` asks what no flag grants, and so is never answered.
 pub fn a_lock_asks_what_a_flag_grants<V: Copy>()
     ensures { (value : V) → Stepwise (locks_to_read value) → ⊥ }
 {}
@@ -37,23 +37,23 @@ pub fn a_flag_opens_clear<V: Copy>()
     ensures { (value : V) → KeepsAll (opens_set value) 1 [] → ⊥ }
 {}
 
-/// A `lock` that begins by its look: by its first step it gets the lock where it is free.
+/// A `lock` that begins with its look. If the lock is free, the first step has to acquire it.
 pub fn a_lock_begins_by_its_exchange<V: Copy>()
     ensures { (value : V) → CountsAll (looks_first value) 1 lock_alone → ⊥ }
 {}
 
-/// A `lock` that may be refused without cause at its look. Only an exchange may be: where it finds the number that it
-/// expects, it makes a plain step, and a look makes none.
+/// A `lock` that may fail spuriously at its look. Only an exchange may: it makes a plain step when it finds the
+/// expected number, and a look never makes one.
 pub fn a_look_refuses_by_no_chance<V: Copy>()
     ensures { (value : V) → Stepwise (refuses_at_its_look value) → ⊥ }
 {}
 
-/// A `lock` that makes its exchange again where it was lost, and never looks.
+/// A `lock` that repeats its exchange when it fails, and never looks.
 pub fn a_lock_looks_between_its_exchanges<V: Copy>()
     ensures { (value : V) → CountsAll (never_looks value) 2 lock_beside_a_holder → ⊥ }
 {}
 
-/// A `try_lock` whose party is told that it reads, and holds the lock to write.
+/// A `try_lock` whose party is told that it reads, though it holds the lock to write.
 pub fn a_place_is_what_the_party_holds<V: Copy>()
     ensures { (value : V) → KeepsAll (grants_to_read value) 1 whole_try → ⊥ }
 {}

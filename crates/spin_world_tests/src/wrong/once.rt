@@ -9,89 +9,89 @@ ghost use Rattle.spin_world.specs.Keeping.{AnswersAtOnce, LooksFirst, LooksWhere
 ghost use Rattle.spin_world.specs.Once.{IsOnceOf};
 ghost use Rattle.spin_world_tests.specs.WrongOnce.{peeks, runs_on, six_steps, waits_idly, one_wait, always_fails, never_gets, never_looks, one_call, loses_by_chance, a_look_and_chance, opens_at_nothing, replaces, two_closures, sticks, sticks_silently, one_failure, gets_early, get_beside_a_closure, polls_early, poll_beside_a_closure, tells_another, places_another, one_closure, hesitates, a_failure_beside_a_call};
 
-/// A second closure whose value replaces the first: it is no value that a closure which completes has placed.
+/// A second closure whose value replaces the first one, though no closure that completes has stored it.
 pub fn a_second_closure_does_not_run<V: Copy>()
     ensures { (u v : V) → (u ≡ v → ⊥) → KeepsAll (replaces V) 1 (two_closures u v) → ⊥ }
 {}
 
-/// A closure that fails and leaves the word at running: its answer says that it has failed, and it has not.
+/// A closure that fails and leaves the word at running. The answer says that it has failed, but it has not.
 pub fn a_failure_lets_go<V: Copy>()
     ensures { KeepsAll (sticks V) 1 one_failure → ⊥ }
 {}
 
-/// A closure that fails and leaves the word at running, in a machine that reads this as its failure: the word is not the
-/// encoding.
+/// A closure that fails and leaves the word at running, in a machine that calls this step its failure. Then the word is
+/// not the encoding.
 pub fn a_failure_clears_the_word<V: Copy>()
     ensures { KeepsAll (sticks_silently V) 1 one_failure → ⊥ }
 {}
 
-/// A `get` that answers a value beside a running closure: at no moment of it is there one.
+/// A `get` that answers a value while a closure runs. At no moment of the call is there one.
 pub fn a_get_finds_a_value<V: Copy>()
     ensures { (v : V) → MomentsAll (gets_early v) 2 (get_beside_a_closure v) → ⊥ }
 {}
 
-/// A `get` that looks at the value without the word. No schedule shows it; a closure may be writing the value.
+/// A `get` that loads the value without the word. No schedule shows this, but a closure may be writing the value.
 pub fn a_get_looks_at_the_word<V: Copy>()
     ensures { (v : V) → LooksWhereComplete (peeks V) → ⊥ }
 {}
 
-/// A `poll` that answers none while a closure runs.
+/// A `poll` that answers that there is no value while a closure runs.
 pub fn a_poll_waits_for_the_closure<V: Copy>()
     ensures { (v : V) → MomentsAll (polls_early V) 2 (poll_beside_a_closure v) → ⊥ }
 {}
 
-/// A completed call that answers another value than it placed.
+/// A call that completes and answers another value than it stored.
 pub fn an_answer_is_the_value_placed<V: Copy>()
     ensures { (u v : V) → (u ≡ v → ⊥) → ValuesAll (tells_another u v) 1 (one_closure u) → ⊥ }
 {}
 
-/// A closure in whose place another value is put and answered.
+/// A closure for which another value is stored and answered.
 pub fn a_value_is_the_closures_own<V: Copy>()
     ensures { (u v : V) → (u ≡ v → ⊥) → ValuesAll (places_another v) 1 (one_closure u) → ⊥ }
 {}
 
-/// A closure that never ends: once it runs, its call has to be answered by its fourth step, if nobody disturbs it.
+/// A closure that never ends. Once it runs, its call has to be answered by its fourth step if nobody disturbs it.
 pub fn a_closure_ends<V: Copy>()
     ensures { (v : V) → CountsAll (runs_on V) 1 (six_steps v) → ⊥ }
 {}
 
-/// A `wait` that looks once more where there is a value.
+/// A `wait` that looks once more though there is a value.
 pub fn a_wait_answers_what_it_sees<V: Copy>()
     ensures { (v : V) → AnswersAtOnce (waits_idly v) 1 one_wait → ⊥ }
 {}
 
-/// A `try_call_once` that fails whatever its closure gives, and is right otherwise.
+/// A `try_call_once` that fails whatever its closure returns, and is right otherwise.
 pub fn a_try_call_once_runs_its_closure<V: Copy>()
     ensures { (v : V) → IsOnceOf None (always_fails V) → ⊥ }
 {}
 
-/// A cell that has lost the value that it was made with, and is right otherwise.
+/// A cell that has lost its opening value, and is right otherwise.
 pub fn an_initialized_cell_has_its_value<V: Copy>()
     ensures { (v : V) → IsOnceOf (Some v) (once_machine None) → ⊥ }
 {}
 
-/// A `get` that begins nowhere.
+/// A `get` that can never begin.
 pub fn a_get_begins<V: Copy>()
     ensures { Stepwise (never_gets V) → ⊥ }
 {}
 
-/// A `call_once` that begins by its exchange.
+/// A `call_once` that begins with its exchange.
 pub fn a_call_once_looks_first<V: Copy>()
     ensures { (v : V) → LooksFirst (never_looks V) 1 (one_call v) → ⊥ }
 {}
 
-/// A `call_once` that loses its exchange without cause.
+/// A `call_once` whose exchange may fail spuriously.
 pub fn a_lost_exchange_has_a_cause<V: Copy>()
     ensures { (v : V) → KeepsAll (loses_by_chance V) 1 (a_look_and_chance v) → ⊥ }
 {}
 
-/// A cell with a value whose word says that there is none.
+/// A cell with a value, but whose word says that there is none.
 pub fn a_cell_with_a_value_opens_complete<V: Copy>()
     ensures { (v : V) → KeepsAll (opens_at_nothing v) 1 [] → ⊥ }
 {}
 
-/// A call that waits for a closure which fails, and then looks twice before it runs its own: where there is nothing it
-/// does so by its second step.
+/// A call that waits for a closure that fails, and then looks twice before it runs its own. If there is no value, it
+/// has to run by its second step.
 pub fn a_waiting_call_takes_over<V: Copy>()
     ensures { (v : V) → MayRunAgain (hesitates V) 2 (a_failure_beside_a_call v) → ⊥ }
 {}

@@ -5,17 +5,17 @@ ghost use Rattle.spin_world_progress.specs.Rw.{UpgradesInThree};
 ghost use Rattle.spin_world_progress.specs.Ticket.{EntersInRounds};
 ghost use Rattle.spin_world_tests.specs.WrongProgress.{never_looks, set_before_it, four_looks, serves_twice, one_before_it, four_turns, gives_up, asked, three_steps};
 
-/// A flag whose waiting party never looks again once its exchange has failed: nobody is granted it in four rounds.
+/// A flag whose waiting party never looks again after its exchange has failed. Nobody acquires it in four rounds.
 pub fn a_waiting_party_looks_again<V: Copy>()
     ensures { (value : V) → LocksInFour (never_looks value) 2 set_before_it four_looks → ⊥ }
 {}
 
-/// A ticket lock that serves a number twice: the next ticket is never served.
+/// A ticket lock that serves a number twice. The next ticket is never served.
 pub fn each_number_is_served_once<V: Copy>()
     ensures { (value : V) → EntersInRounds (serves_twice value) 2 one_before_it four_turns → ⊥ }
 {}
 
-/// An upgrade that gives up its asking: it is not granted in three rounds, though nobody reads beside it.
+/// An upgrade that withdraws its ask. It is not granted in three rounds, though nobody else reads.
 pub fn an_upgrade_asks_until_it_is_granted<V: Copy>()
     ensures { (value : V) → UpgradesInThree (gives_up value) 1 asked three_steps → ⊥ }
 {}

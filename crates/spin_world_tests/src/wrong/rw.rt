@@ -7,89 +7,90 @@ ghost use Rattle.spin_step_more.specs.RwCalls.{rw_machine};
 ghost use Rattle.spin_world.specs.Rw.{IsRw};
 ghost use Rattle.spin_world_tests.specs.WrongRw.{upgrades_plainly, upgrades_by_looks, upgrade_after_a_refusal, refuses_late, try_beside_a_writer, upgrades_at_once, upgrade_beside_a_reader, upgrades_unasked, ask_beside_a_reader, asks_twice, two_steps_of_an_upgrade, downgrades_asking, read_beside_an_asking_reader, counts_without_asking, count_beside_an_asking_reader, downgrades_in_two, downgrade_alone, reads_and_regrets, reads_and_regrets_unseen, read_beside_a_writer, reads_by_a_mask, writes_by_chance, write_alone, upgrades_anew, upgrade_alone, counts_without_upgradable, count_beside_an_upgradable, looks_for_ever, two_looks, looks_twice, looks_first, one_look, tries_for_ever, read_alone, reads_in_one, reads_by_a_guess, guess_beside_a_reader, reads_weakly, read_by_chance, writes_strongly, waits_strongly, upgrades_by_chance, upgrade_by_chance, never_releases, upgrades_any_reader, writes_by_reading, never_writes, opens_written, forgets_its_value, has_no_owner, comes_beyond_the_cap, upgradable_beside_a_reader, ends_reading, downgrade_to_upgradable};
 
-/// A `try_upgrade` that is granted while a reader stands: the plain step isn't open.
+/// A `try_upgrade` that succeeds while another party reads: the plain step is not open.
 pub fn an_upgrade_is_refused_beside_readers<V: Copy>()
     ensures { (value : V) → KeepsAll (upgrades_at_once value) 2 upgrade_beside_a_reader → ⊥ }
 {}
 
-/// An `upgrade` that asks and is granted in one event while a reader stands, and one that asks twice: the plain step
-/// isn't open to a party that has not asked, or has.
+/// An `upgrade` that asks and succeeds in one event while another party reads, and one that asks twice. The plain step
+/// is not open to a party that has not asked, or has asked already.
 pub fn an_upgrade_asks_once<V: Copy>()
     ensures unasked { (value : V) → KeepsAll (upgrades_unasked value) 2 ask_beside_a_reader → ⊥ }
     ensures twice { (value : V) → KeepsAll (asks_twice value) 1 two_steps_of_an_upgrade → ⊥ }
 {}
 
-/// An `upgrade` that tries again and again and never asks: its grant has made other steps than an upgrade's, and beside
-/// a reader it has not asked by its first step.
+/// An `upgrade` that tries again and again without asking. When it succeeds it has made other plain steps than an
+/// upgrade's. While another party reads, it has not asked by its first step.
 pub fn an_upgrade_asks<V: Copy>()
     ensures alone { (value : V) → KeepsAll (upgrades_plainly value) 1 upgrade_alone → ⊥ }
     ensures beside { (value : V) → CountsAll (upgrades_plainly value) 2 ask_beside_a_reader → ⊥ }
 {}
 
-/// A `downgrade` of the writer that leaves the word of a reader that asks: it counts a holder that is not there.
+/// A `downgrade` of the writer that stores the word of a reader that asks. It counts a holder that does not exist.
 pub fn a_downgrade_asks_nothing<V: Copy>()
     ensures { (value : V) → KeepsAll (downgrades_asking value) 1 downgrade_alone → ⊥ }
 {}
 
-/// A `downgrade` that frees the writer and then takes a reader's place: its one step changes what the party holds.
+/// A `downgrade` that releases the writer, and then acquires as a reader. Its one step has to change what the party
+/// holds.
 pub fn a_downgrade_is_one_step<V: Copy>()
     ensures { (value : V) → KeepsAll (downgrades_in_two value) 1 downgrade_alone → ⊥ }
 {}
 
-/// A `try_read` that adds its reader and takes it off again where it had no room. No reader joins a writer, even for
-/// a step; and where its steps read as no plain step, the word counts a reader that is not there.
+/// A `try_read` that adds its reader, and removes it if there was no room. No reader may join a writer, even for one
+/// step. If the table names no plain steps for this, the word counts a reader that does not exist.
 pub fn a_refused_try_adds_no_reader<V: Copy>()
     ensures seen { (value : V) → KeepsAll (reads_and_regrets value) 2 read_beside_a_writer → ⊥ }
     ensures unseen { (value : V) → KeepsAll (reads_and_regrets_unseen value) 2 read_beside_a_writer → ⊥ }
 {}
 
-/// A `try_read` that looks for the upgradable reader alone, and so joins a writer, or a reader that asks.
+/// A `try_read` that checks only for the upgradable reader, and so joins a writer, or a reader that asks.
 pub fn a_reader_stays_out_beside_a_writer<V: Copy>()
     ensures writer { (value : V) → KeepsAll (reads_by_a_mask value) 2 read_beside_a_writer → ⊥ }
     ensures asking { (value : V) → KeepsAll (reads_by_a_mask value) 2 read_beside_an_asking_reader → ⊥ }
 {}
 
-/// A strong `try_write` that refuses where nobody holds: the refusal has no moment.
+/// A strong `try_write` that fails though nobody holds: the refusal has no moment.
 pub fn a_try_write_has_a_cause<V: Copy>()
     ensures { (value : V) → MomentsAll (writes_by_chance value) 1 write_alone → ⊥ }
 {}
 
-/// An `upgrade` that releases the lock and then acquires it anew: an upgrade never releases it.
+/// An `upgrade` that releases the lock and then acquires it again. An upgrade may never release it.
 pub fn an_upgrade_never_lets_go<V: Copy>()
     ensures { (value : V) → KeepsAll (upgrades_anew value) 1 upgrade_alone → ⊥ }
 {}
 
-/// A `reader_count` that leaves the upgradable reader out, or only where it asks: so many read at no moment of the
-/// call.
+/// A `reader_count` that never counts the upgradable reader, or not one that asks. At no moment of the call do so many
+/// read.
 pub fn a_count_tells_the_upgradable_reader<V: Copy>()
     ensures upgradable { (value : V) → MomentsAll (counts_without_upgradable value) 2 count_beside_an_upgradable → ⊥ }
     ensures asking { (value : V) → MomentsAll (counts_without_asking value) 2 count_beside_an_asking_reader → ⊥ }
 {}
 
-/// A `read` that looks for ever, and one that looks twice: undisturbed it has to be answered by its second step. And a
-/// `write` that looks, where its first step is the exchange.
+/// A `read` that looks for ever, and one that looks twice. If nobody disturbs it, it has to be answered by its second
+/// step. And a `write` that looks, though its first step has to be the exchange.
 pub fn a_call_that_waits_is_answered<V: Copy>()
     ensures never { (value : V) → CountsAll (looks_for_ever value) 1 two_looks → ⊥ }
     ensures late { (value : V) → CountsAll (looks_twice value) 1 two_looks → ⊥ }
     ensures write { (value : V) → CountsAll (looks_first value) 1 one_look → ⊥ }
 {}
 
-/// A `try_read` that looks for ever: it has a limit, whatever other parties do.
+/// A `try_read` that looks for ever. It has a limit, whatever other parties do.
 pub fn a_try_read_is_answered<V: Copy>()
     ensures { (value : V) → CountsAll (tries_for_ever value) 1 read_alone → ⊥ }
 {}
 
-/// A `try_read` that looks and acquires access in one event: no processor does so in one step.
+/// A `try_read` that looks and acquires access in one event. No processor does both in one step.
 pub fn a_step_is_one_operation<V: Copy>()
     ensures { (value : V) → Stepwise (reads_in_one value) → ⊥ }
 {}
 
-/// A `read` that begins by guessing the word, and counts no failure where it was wrong.
+/// A `read` that begins by guessing the word, and counts no failure if the guess was wrong.
 pub fn a_wrong_guess_is_counted<V: Copy>()
     ensures { (value : V) → CountsAll (reads_by_a_guess value) 2 guess_beside_a_reader → ⊥ }
 {}
 
-/// A `read` whose exchange is weak, so that chance can keep it waiting.
+/// A `read` whose exchange is weak, so that spurious failures can keep it waiting.
 pub fn a_read_fails_by_no_chance<V: Copy>()
     ensures { (value : V) → KeepsAll (reads_weakly value) 1 read_by_chance → ⊥ }
 {}
@@ -100,22 +101,22 @@ pub fn a_weak_exchange_is_weak<V: Copy>()
     ensures waits { (value : V) → Stepwise (waits_strongly value) → ⊥ }
 {}
 
-/// A strong `try_upgrade` that may be refused without cause.
+/// A strong `try_upgrade` that may fail spuriously.
 pub fn a_strong_try_fails_by_no_chance<V: Copy>()
     ensures { (value : V) → KeepsAll (upgrades_by_chance value) 1 upgrade_by_chance → ⊥ }
 {}
 
-/// A lock that is never released: a call begins wherever its party holds what it is for.
+/// A lock that can never be released. A call has to begin whenever its party holds what it is for.
 pub fn a_holder_may_release<V: Copy>()
     ensures { (value : V) → Stepwise (never_releases value) → ⊥ }
 {}
 
-/// An `upgrade` of any reader: a call begins only where its party holds what it is for.
+/// An `upgrade` of any reader. A call may begin only if its party holds what it is for.
 pub fn only_the_upgradable_reader_upgrades<V: Copy>()
     ensures { (value : V) → Stepwise (upgrades_any_reader value) → ⊥ }
 {}
 
-/// A `write` that acquires shared access, and asks so; and one that asks for what no party is granted in such a lock.
+/// A `write` that acquires shared access and asks for that; and one that asks what no party is granted in such a lock.
 pub fn a_write_asks_to_write<V: Copy>()
     ensures other { (value : V) → IsRw value 9 (writes_by_reading value) → ⊥ }
     ensures unknown { (value : V) → Stepwise (never_writes value) → ⊥ }
@@ -126,24 +127,25 @@ pub fn a_lock_opens_free<V: Copy>()
     ensures { (value : V) → KeepsAll (opens_written value) 1 [] → ⊥ }
 {}
 
-/// A lock without the value that it was given, one that nobody owns, and one that lets in fewer than its cap.
+/// A lock without the value given to it, one that nobody owns, and one that admits fewer parties than its cap.
 pub fn a_lock_is_as_it_was_made<V: Copy>()
     ensures value { (value : V) → IsRw value 9 (forgets_its_value value) → ⊥ }
     ensures owner { (value : V) → IsRw value 9 (has_no_owner value) → ⊥ }
     ensures cap { (value : V) → IsRw value 9 (rw_machine value 1) → ⊥ }
 {}
 
-/// A `try_read` that finds it closed, looks once more, and is refused even where it is open by then.
+/// A `try_read` that finds the lock closed, looks once more, and is refused even if the lock is then open.
 pub fn a_try_is_refused_where_it_finds_it_closed<V: Copy>()
     ensures { (value : V) → CountsAll (refuses_late value) 2 try_beside_a_writer → ⊥ }
 {}
 
-/// An `upgrade` that looks between its exchanges: each of its steps, once it has asked, gets it where it is open.
+/// An `upgrade` that looks between its exchanges. Once it has asked, each of its steps has to succeed if the upgrade is
+/// open.
 pub fn an_upgrade_makes_its_exchange_again<V: Copy>()
     ensures { (value : V) → CountsAll (upgrades_by_looks value) 1 upgrade_after_a_refusal → ⊥ }
 {}
 
-/// A `try_upgradeable_read` that lets an upgradable reader in beyond the cap: it is one of those that the cap counts.
+/// A `try_upgradeable_read` that admits an upgradable reader beyond the cap. The cap counts it too.
 pub fn the_cap_counts_the_upgradable_reader<V: Copy>()
     ensures { (value : V) → KeepsAll (comes_beyond_the_cap value) 2 upgradable_beside_a_reader → ⊥ }
 {}

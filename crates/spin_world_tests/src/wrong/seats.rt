@@ -7,42 +7,42 @@ ghost use Rattle.spin_seats.specs.Table.{seats_machine};
 ghost use Rattle.spin_world_seats.specs.Named.{IsSeats};
 ghost use Rattle.spin_world_tests.specs.WrongSeats.{seats_one_too_many, two_on_one_seat, leaves_for_two, one_of_two_leaves, tries_for_ever, two_looks, looks_twice, enter_alone, enters_in_one, enters_by_a_guess, guess_beside_one, enters_by_chance, enter_by_chance, nobody_leaves, enters_or_not, opens_taken, seats_one_on_none, one_sits, counts_free, count_alone, looks_on, enter_in_vain, keeps_all};
 
-/// A lock of one seat on which two sit down: the second one's plain step is not open.
+/// A lock of one seat on which two parties sit. The second one's plain step is not open.
 pub fn nobody_sits_beyond_the_seats()
     ensures { KeepsAll seats_one_too_many 2 two_on_one_seat → ⊥ }
 {}
 
-/// A leave that frees two seats: the word is no longer how many sit.
+/// A leave that frees two seats. Then the word is not the number of parties that sit.
 pub fn a_leave_frees_one_seat()
     ensures { KeepsAll leaves_for_two 2 one_of_two_leaves → ⊥ }
 {}
 
-/// A try that looks for ever: it has a limit, whatever other parties do.
+/// A try that looks for ever. It has a limit, whatever other parties do.
 pub fn a_try_is_answered()
     ensures { CountsAll tries_for_ever 1 two_looks → ⊥ }
 {}
 
-/// An `enter` that looks twice: undisturbed it has to be answered by its second step.
+/// An `enter` that looks twice. If nobody disturbs it, it has to be answered by its second step.
 pub fn an_enter_is_answered()
     ensures { CountsAll looks_twice 1 enter_alone → ⊥ }
 {}
 
-/// A try that looks and takes its seat in one event: no processor does so in one step.
+/// A try that looks and takes its seat in one event. No processor does both in one step.
 pub fn a_step_is_one_operation()
     ensures { Stepwise enters_in_one → ⊥ }
 {}
 
-/// An `enter` that begins by guessing the word, and counts no failure where it was wrong.
+/// An `enter` that begins by guessing the word, and counts no failure if the guess was wrong.
 pub fn a_wrong_guess_is_counted()
     ensures { CountsAll enters_by_a_guess 2 guess_beside_one → ⊥ }
 {}
 
-/// A try that may be refused without cause.
+/// A try that may fail spuriously.
 pub fn a_try_fails_by_no_chance()
     ensures { KeepsAll enters_by_chance 1 enter_by_chance → ⊥ }
 {}
 
-/// A lock that nobody leaves: a call begins wherever its party holds what it is for.
+/// A lock that nobody can leave. A call has to begin whenever its party holds what it is for.
 pub fn a_seated_party_may_leave()
     ensures { Stepwise nobody_leaves → ⊥ }
 {}
@@ -57,28 +57,28 @@ pub fn all_seats_are_free_at_first()
     ensures { KeepsAll opens_taken 1 [] → ⊥ }
 {}
 
-/// A lock with fewer seats than it was asked to have.
+/// A lock with fewer seats than asked for.
 pub fn a_lock_has_its_seats()
     ensures { IsSeats 2 (seats_machine 1) → ⊥ }
 {}
 
-/// A lock without seats on which one sits down.
+/// A lock without seats on which one party can sit.
 pub fn nobody_sits_where_there_are_no_seats()
     ensures { KeepsAll seats_one_on_none 1 one_sits → ⊥ }
 {}
 
-/// A `count` that tells how many seats are free: at no moment of it do so many sit.
+/// A `count` that tells how many seats are free. At no moment of the call do so many parties sit.
 pub fn a_count_tells_the_seated_parties()
     ensures { MomentsAll counts_free 1 count_alone → ⊥ }
 {}
 
-/// An `enter` that looks again and again, and a kind of lock with a thousand undisturbed steps: in no kind are there
-/// more than four.
+/// An `enter` that looks again and again, and a kind of lock with a thousand undisturbed steps. No kind may have more
+/// than four.
 pub fn a_kind_of_lock_has_four_steps()
     ensures { CountsAll looks_on 1 enter_in_vain → ⊥ }
 {}
 
-/// A lock of another kind, which has no call to leave: the clause `named` says which kind a lock is.
+/// A lock of another kind, which has no call to leave. The clause `named` says which kind a lock is.
 pub fn a_lock_is_of_its_kind()
     ensures { IsSeats 2 keeps_all → ⊥ }
 {}

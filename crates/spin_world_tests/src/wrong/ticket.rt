@@ -7,74 +7,72 @@ ghost use Rattle.spin_world.specs.Ticket.{IsTicketLock};
 ghost use Rattle.spin_world.specs.Turns.{TriesByTwoLoads};
 ghost use Rattle.spin_world_tests.specs.WrongTicket.{tries_by_one_load, one_load, swaps_its_loads, let_go_between, looks_in_vain, three_loads, looks_backwards, look_beside_a_queue, queues_behind_nobody, lock_beside_a_holder, never_enters, lock_alone, enters_by_look, two_queue, never_tries, try_alone, looks_at_both, locks_again, tries_by_looking, takes_by_chance, try_in_vain, lock_in_vain, opens_with_a_ticket, leaves_the_last_ticket};
 
-/// A ticket lock in whose queue a ticket stands at first.
+/// A ticket lock with a ticket in its queue at first.
 pub fn a_ticket_lock_opens_empty<V: Copy>()
     ensures { (value : V) → KeepsAll (opens_with_a_ticket value) 1 [] → ⊥ }
 {}
 
-/// An `is_locked` of a ticket lock that loads the next number first: its `false` has no moment.
+/// An `is_locked` that loads the next number first: its `false` has no moment.
 pub fn a_look_loads_the_served_number_first<V: Copy>()
     ensures { (value : V) → MomentsAll (looks_backwards value) 3 look_beside_a_queue → ⊥ }
 {}
 
-/// An `is_locked` that finds both numbers in one step: a step is on one word.
+/// An `is_locked` that loads both numbers in one step. A step is on one word.
 pub fn a_look_loads_one_number_at_a_time<V: Copy>()
     ensures { (value : V) → Stepwise (looks_at_both value) → ⊥ }
 {}
 
-/// An `is_locked` of three loads: it answers by its second.
+/// An `is_locked` with three loads. It has to answer by its second.
 pub fn a_look_takes_two_loads<V: Copy>()
     ensures { (value : V) → CountsAll (looks_in_vain value) 1 three_loads → ⊥ }
 {}
 
-/// A `lock` of a ticket lock that takes its ticket only where none stands: it has to have its ticket by its second
-/// step.
+/// A `lock` that takes its ticket only if there is none. It has to have its ticket by its second step.
 pub fn a_lock_queues_behind_others<V: Copy>()
     ensures { (value : V) → CountsAll (queues_behind_nobody value) 2 lock_beside_a_holder → ⊥ }
 {}
 
-/// A `lock` of a ticket lock that never enters.
+/// A `lock` that never enters.
 pub fn a_lock_enters<V: Copy>()
     ensures { (value : V) → CountsAll (never_enters value) 1 lock_alone → ⊥ }
 {}
 
-/// A `lock` that enters by its first look, though another party has the earlier ticket: that step is not open.
+/// A `lock` that enters by its first look, though another party has an earlier ticket. That step is not open.
 pub fn tickets_enter_in_the_order_they_are_taken<V: Copy>()
     ensures { (value : V) → KeepsAll (enters_by_look value) 3 two_queue → ⊥ }
 {}
 
-/// A `lock` that begins where its party holds the lock, and so waits for itself.
+/// A `lock` that can begin though its party holds the lock, and so waits for itself.
 pub fn a_holder_may_not_lock_again<V: Copy>()
     ensures { (value : V) → Stepwise (locks_again value) → ⊥ }
 {}
 
-/// A `lock` whose exchange for a ticket is weak: no call that queues may be refused without cause.
+/// A `lock` that takes its ticket by a weak exchange. No call that queues may fail spuriously.
 pub fn a_ticket_is_taken_by_a_strong_exchange<V: Copy>()
     ensures { (value : V) → KeepsAll (takes_by_chance value) 1 lock_in_vain → ⊥ }
 {}
 
-/// A `try_lock` that is refused where no ticket stood: the refusal has no moment.
+/// A `try_lock` that is refused though there was no ticket: the refusal has no moment.
 pub fn a_refused_try_found_a_ticket<V: Copy>()
     ensures { (value : V) → MomentsAll (never_tries value) 1 try_alone → ⊥ }
 {}
 
-/// A strong try that is refused without cause: the refusal has no moment.
+/// A strong try that fails spuriously: the refusal has no moment.
 pub fn a_strong_try_has_a_cause<V: Copy>()
     ensures { (value : V) → MomentsAll (takes_by_chance value) 1 try_in_vain → ⊥ }
 {}
 
-/// A `try_lock` that is refused where the last ticket is next: it is no less a ticket than the others.
+/// A `try_lock` that is refused when the last ticket is next. That ticket is as good as the others.
 pub fn the_last_ticket_is_taken<V: Copy>()
     ensures { (value : V) → MomentsAll (leaves_the_last_ticket value) 1 try_alone → ⊥ }
 {}
 
-/// A `try_lock` that is an `is_locked`.
+/// A `try_lock` that does what `is_locked` does.
 pub fn a_try_lock_asks_to_enter<V: Copy>()
     ensures { (value : V) → IsTicketLock value 0 (tries_by_looking value) → ⊥ }
 {}
 
-/// A `try_lock` that takes the number that it finds served, by two steps; and one that loads that number before the
-/// next.
+/// A `try_lock` that takes the served number, in two steps; and one that loads that number before the next one.
 pub fn a_try_loads_the_next_number_first<V: Copy>()
     ensures hurries { (value : V) → TriesByTwoLoads (tries_by_one_load value) 1 one_load → ⊥ }
     ensures swaps { (value : V) → TriesByTwoLoads (swaps_its_loads value) 2 let_go_between → ⊥ }

@@ -1,4 +1,4 @@
-//! Schedules of a value that is made once.
+//! Schedules of a `Once`.
 
 use super::Worked;
 

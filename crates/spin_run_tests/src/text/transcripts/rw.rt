@@ -208,7 +208,7 @@ pub const RW: &[Worked] = &[
          end: 18 value 1\n\
         ",
     ),
-    // Line 19: a party that holds the lock doesn't come anew.
+    // Line 19: a party that holds the lock cannot acquire it again.
     (
         "a writer goes down to a reader",
         "rw 1 9 2\n\
@@ -293,7 +293,7 @@ pub const RW: &[Worked] = &[
          end: 16 value 1\n\
         ",
     ),
-    // Line 12: to ask is no exchange, so it is not weak.
+    // Line 12: to ask is no exchange, so it cannot fail spuriously.
     (
         "a conversion keeps the value",
         "rw 1 9 2\n\
@@ -339,7 +339,8 @@ pub const RW: &[Worked] = &[
          end: 0 value 2\n\
         ",
     ),
-    // Line 13: its exchange finds an upgradable reader, so it tries again beside it. Line 16: now it asks, so it looks again.
+    // Line 13: its exchange finds an upgradable reader, so it tries again. Line 16: that reader now asks, so the call
+    // looks again.
     (
         "calls wait for the writer and for readers",
         "rw 1 9 3\n\

@@ -1,4 +1,4 @@
--- a pass that was refused stands as before
+-- a pass whose try failed is as before
 use Rattle.std.proofs.Common.{◌≡◌, [], None}
 use Rattle.spin_seated.specs.Passes.{IsPassOf}
 use Rattle.spin_seated.specs.Rw.{holds}

@@ -2,7 +2,7 @@ use Rattle.std.proofs.Common.{◌+◌, length, arith, length-drop, ◌∙◌, ap
 use Rattle.spin_text.proofs.Appended.{Appends-take, drop_more}
 use Rattle.spin_text.proofs.ends.write_whole.Goals as goal
 
--- the bytes that this write took come behind those that were written
+-- the bytes that this write accepted follow those written before
 pub loop-rest-preserved : goal.loop-rest-preserved
 loop-rest-preserved g c =
     let before = c.loop-rest.invariant in (

@@ -1,6 +1,7 @@
-use Rattle.std.proofs.Common.{arith, length, ◌∙◌, ap, sym}
+use Rattle.std.proofs.Common.{ℕ, List, arith, length, ◌∙◌, ap, sym, subst}
+use Rattle.spin_text.specs.Readable.{AllRead}
 use Rattle.spin_text.specs.Reading.{lines_left}
-use Rattle.spin_text.proofs.Scripts.{checked_next, checked_all}
+use Rattle.spin_text.proofs.Scripts.{checked_next, checked_all, all_read}
 use Rattle.spin_text.proofs.entries.check_entries.Goals as goal
 
 pub loop-rest-preserved : goal.loop-rest-preserved
@@ -17,3 +18,10 @@ loop-rest-preserved g c =
 pub returns-clause-spelled : goal.returns-clause-spelled
 returns-clause-spelled g c =
     checked_all g.O.Spelled.calls g.O.Spelled.read c.reads_calls.ensures _ _ _ c.loop-rest.invariant.checked (ap lines_left c.in_default.is)
+
+pub returns-clause-read : goal.returns-clause-read
+returns-clause-read g c =
+    let reads = c.reads_calls.ensures in
+    let spelled = checked_all g.O.Spelled.calls g.O.Spelled.read reads _ _ _ c.loop-rest.invariant.checked (ap lines_left c.in_default.is) in
+    let P : List (List (List ℕ)) → Type 0 = AllRead g.O.Spelled.read in
+    subst P (sym spelled.1) (all_read g.O.Spelled.calls g.O.Spelled.read reads _ spelled.0)

@@ -1,4 +1,4 @@
--- what was read so far is what the source gave
+-- the bytes read so far are those that the source gave
 use Rattle.std.proofs.Common.{◌≡◌, ◌-◌, ◌^◌, length}
 use Rattle.std.specs.Io.KnownBytes.{Consumes}
 use Rattle.spin_text.proofs.text.read_by.Given as goal

@@ -1,11 +1,12 @@
--- the first moves were played, and their lines were written but for a piece
+-- the first moves were played, and their lines were written except for a piece
 use Rattle.std.proofs.Common.{◌≡◌, ◌≤◌, ◌+◌, length, take, drop}
 use Rattle.spin_text.specs.declared.piece.TheConstants.{LONGEST_LINE, PIECE}
 use Rattle.spin_text.specs.Ends.{AppendsBut}
+use Rattle.spin_text.specs.Readable.{AllRead}
 use Rattle.spin_text.specs.Reading.{entries_in, lines_left}
 use Rattle.spin_text.specs.Transcripts.{schedule_lines}
 use Rattle.spin_text.proofs.Cuts.{bytes_left}
-use Rattle.spin_text.proofs.Lines.{Told}
+use Rattle.spin_text.proofs.Lines.{PlayedFirst}
 use Rattle.spin_text.proofs.transcript.write_events.Given as goal
 
 abbrev pub invariant-loop-rest : goal.invariant-loop-rest
@@ -13,8 +14,9 @@ invariant-loop-rest g l =
     let schedule = entries_in g.O.Spelled.read (lines_left l.fn.lines) in
     record {
       left : drop l.place schedule ≡ entries_in g.O.Spelled.read (lines_left l.rest);
+      read : AllRead g.O.Spelled.read (lines_left l.rest);
       counted : l.place + length (lines_left l.rest) ≤ length (lines_left l.fn.lines);
-      told : Told (g.O.Object.machine l.initial.world.object) l.initial.world.state l.world.state l.begins schedule l.place;
+      told : PlayedFirst (g.O.Object.machine l.initial.world.object) l.initial.world.state l.world.state l.begins schedule l.place;
       object : l.world.object ≡ l.initial.world.object;
       line : length l.buffer ≡ LONGEST_LINE;
       piece : length l.piece ≡ PIECE;

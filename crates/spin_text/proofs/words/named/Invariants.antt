@@ -1,4 +1,4 @@
--- what the rest of the table has beside the word, the whole has
+-- the rest of the table has the same entry for the word as the whole table
 use Rattle.std.proofs.Common.{◌≡◌, length, map}
 use Rattle.spin_text.specs.Reading.{named}
 use Rattle.spin_text.proofs.words.named.Given as goal

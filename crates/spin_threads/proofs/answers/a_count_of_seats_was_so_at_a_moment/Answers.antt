@@ -1,4 +1,4 @@
-use Rattle.std.proofs.Common.{◌≡◌, refl, ◌==◌}
+use Rattle.std.proofs.Common.{refl, ◌==◌}
 use Rattle.std.proofs.lemmas.Bool.{eqb-true}
 use Rattle.spin_model.specs.Calls.{readers}
 use Rattle.spin_seats.specs.Rule.{model}

@@ -1,4 +1,4 @@
-use Rattle.std.proofs.Common.{◌≡◌, refl}
+use Rattle.std.proofs.Common.{refl}
 use Rattle.spin_step.specs.Parties.{is_held}
 use Rattle.spin_flag.specs.Flag.{model}
 use Rattle.spin_world.proofs.FlagOwed.{flag_keeping, flag_facts}

@@ -1,4 +1,4 @@
-use Rattle.std.proofs.Common.{◌≡◌, refl}
+use Rattle.std.proofs.Common.{refl}
 use Rattle.spin_step.specs.Parties.{is_held}
 use Rattle.spin_ticket.specs.Queue.{model}
 use Rattle.spin_world.proofs.TicketOwed.{ticket_keeping, ticket_facts}

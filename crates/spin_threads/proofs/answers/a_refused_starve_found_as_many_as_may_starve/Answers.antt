@@ -10,5 +10,5 @@ as_many : (s : Plain) (p : ℕ) → s.cap ≡ most_starvers → not (is_open_to 
 as_many s p room closed = grind (arith, room, closed)
 
 pub returns : goal.returns
-returns g =
-    found model (fair_keeping tt most_starvers patience) (fair_facts tt most_starvers patience) (λ p s. not (is_open_to s p to_starve)) (λ h. refl) (λ p l h seen call closed. as_many seen.plain p call.shape.room closed)
+returns g c = λ opening.
+    found (model opening) (fair_keeping opening most_starvers patience) (fair_facts opening most_starvers patience) (λ p s. not (is_open_to s p to_starve)) (λ h. refl) (λ p l h seen call closed. as_many seen.plain p call.shape.room closed)

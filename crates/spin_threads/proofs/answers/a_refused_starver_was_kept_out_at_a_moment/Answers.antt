@@ -15,10 +15,10 @@ use Rattle.spin_world.proofs.FairOwed.{fair_keeping, fair_facts}
 use Rattle.spin_threads.proofs.Moments.{found}
 use Rattle.spin_threads.proofs.answers.a_refused_starver_was_kept_out_at_a_moment.Goals as goal
 
--- who tries so is registered as a starver
-starving : (c : FairCall) (p : ℕ) (l : FairPoint) (h : Option Hold) (seen : Seen ℕ (Unit {0}) FairCall FairPoint) → (c ≡ StarverTryLock) ⊎ (c ≡ StarverTryLockFair)
-    → InCall model (fair_keeping tt most_starvers patience) p c l h seen.plain seen.state.value seen.state.words (seen.span p) → is_starver p seen.plain.starvers ≡ true
-starving c p l h seen is call = grind (arith, is, call.knows, is_starving p seen.plain, is_starving_still p seen.plain)
+-- a party that makes this try is registered as a starver
+starving : {T : Type 0} (opening : T) (c : FairCall) (p : ℕ) (l : FairPoint) (h : Option Hold) (seen : Seen ℕ T FairCall FairPoint) → (c ≡ StarverTryLock) ⊎ (c ≡ StarverTryLockFair)
+    → InCall (model opening) (fair_keeping opening most_starvers patience) p c l h seen.plain seen.state.value seen.state.words (seen.span p) → is_starver p seen.plain.starvers ≡ true
+starving opening c p l h seen is call = grind (arith, is, call.knows, is_starving p seen.plain, is_starving_still p seen.plain)
 
 held : (s : Plain) (p : ℕ) → is_starver p s.starvers ≡ true → not (is_open_to s p to_lock_starving) ≡ true → is_held s ≡ true
 held s p found closed = grind (arith, found, closed)
@@ -27,9 +27,9 @@ not_alone : (s : Plain) (p : ℕ) → is_starver p s.starvers ≡ true → not (
 not_alone s p found closed = grind (arith, found, closed)
 
 pub returns-clause-try_lock : goal.returns-clause-try_lock
-returns-clause-try_lock g =
-    found model (fair_keeping tt most_starvers patience) (fair_facts tt most_starvers patience) (λ p s. not (is_open_to s p to_lock_starving)) (λ h. refl) (λ p l h seen call closed. held seen.plain p (starving StarverTryLock p l h seen (inl refl) call) closed)
+returns-clause-try_lock g c = λ opening.
+    found (model opening) (fair_keeping opening most_starvers patience) (fair_facts opening most_starvers patience) (λ p s. not (is_open_to s p to_lock_starving)) (λ h. refl) (λ p l h seen call closed. held seen.plain p (starving opening StarverTryLock p l h seen (inl refl) call) closed)
 
 pub returns-clause-try_lock_fair : goal.returns-clause-try_lock_fair
-returns-clause-try_lock_fair g =
-    found model (fair_keeping tt most_starvers patience) (fair_facts tt most_starvers patience) (λ p s. not (is_open_to s p to_lock_starving_alone)) (λ h. refl) (λ p l h seen call closed. not_alone seen.plain p (starving StarverTryLockFair p l h seen (inr refl) call) closed)
+returns-clause-try_lock_fair g c = λ opening.
+    found (model opening) (fair_keeping opening most_starvers patience) (fair_facts opening most_starvers patience) (λ p s. not (is_open_to s p to_lock_starving_alone)) (λ h. refl) (λ p l h seen call closed. not_alone seen.plain p (starving opening StarverTryLockFair p l h seen (inr refl) call) closed)

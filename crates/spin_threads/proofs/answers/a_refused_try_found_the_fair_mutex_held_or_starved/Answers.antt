@@ -12,5 +12,5 @@ kept_out : (s : Plain) (p : ℕ) → not (is_open_to s p to_lock_unregistered) �
 kept_out s p closed = grind (arith, closed)
 
 pub returns : goal.returns
-returns g =
-    found model (fair_keeping tt most_starvers patience) (fair_facts tt most_starvers patience) (λ p s. not (is_open_to s p to_lock_unregistered)) (λ h. refl) (λ p l h seen call closed. kept_out seen.plain p closed)
+returns g c = λ opening.
+    found (model opening) (fair_keeping opening most_starvers patience) (fair_facts opening most_starvers patience) (λ p s. not (is_open_to s p to_lock_unregistered)) (λ h. refl) (λ p l h seen call closed. kept_out seen.plain p closed)

@@ -12,5 +12,5 @@ kept_out : (s : Plain) (p : ℕ) → Within reader_limit s → not (is_open_to s
 kept_out s p shape closed = grind (arith, shape, by_kinds (against reading) s.holders, closed)
 
 pub returns : goal.returns
-returns g =
-    found model (rw_keeping tt reader_limit) (rw_facts tt reader_limit) (λ p s. not (is_open_to s p to_read)) (λ h. refl) (λ p l h seen call closed. kept_out seen.plain p call.shape closed)
+returns g c = λ opening.
+    found (model opening) (rw_keeping opening reader_limit) (rw_facts opening reader_limit) (λ p s. not (is_open_to s p to_read)) (λ h. refl) (λ p l h seen call closed. kept_out seen.plain p call.shape closed)

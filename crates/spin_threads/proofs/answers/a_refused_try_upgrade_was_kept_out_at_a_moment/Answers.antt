@@ -18,12 +18,12 @@ use Rattle.spin_threads.proofs.answers.a_refused_try_upgrade_was_kept_out_at_a_m
 not_alone : (s : Plain) (p : ℕ) → entries p s ≡ entries_at p (holds upgradable) → not (is_open_to s p to_upgrade) ≡ true → 1 < length s.holders
 not_alone s p mine closed = grind (arith, holder_by p upgradable s mine, closed)
 
--- who tries to upgrade is an upgradable reader
-stands : (p : ℕ) (l : RwPoint) (h : Option Hold) (seen : Seen ℕ (Unit {0}) RwCall RwPoint)
-    → InCall model (rw_keeping tt reader_limit) p TryUpgrade l h seen.plain seen.state.value seen.state.words (seen.span p) → entries p seen.plain ≡ entries_at p (holds upgradable)
-stands p l (Some hold.Upgradable) seen call = call.knows.0.stand
-stands p l _ seen call = absurd call.knows
+-- a party that tries to upgrade is an upgradable reader
+stands : {T : Type 0} (opening : T) (p : ℕ) (l : RwPoint) (h : Option Hold) (seen : Seen ℕ T RwCall RwPoint)
+    → InCall (model opening) (rw_keeping opening reader_limit) p TryUpgrade l h seen.plain seen.state.value seen.state.words (seen.span p) → entries p seen.plain ≡ entries_at p (holds upgradable)
+stands opening p l (Some hold.Upgradable) seen call = call.knows.0.stand
+stands opening p l _ seen call = absurd call.knows
 
 pub returns : goal.returns
-returns g =
-    found model (rw_keeping tt reader_limit) (rw_facts tt reader_limit) (λ p s. not (is_open_to s p to_upgrade)) (λ h. refl) (λ p l h seen call closed. not_alone seen.plain p (stands p l h seen call) closed)
+returns g c = λ opening.
+    found (model opening) (rw_keeping opening reader_limit) (rw_facts opening reader_limit) (λ p s. not (is_open_to s p to_upgrade)) (λ h. refl) (λ p l h seen call closed. not_alone seen.plain p (stands opening p l h seen call) closed)

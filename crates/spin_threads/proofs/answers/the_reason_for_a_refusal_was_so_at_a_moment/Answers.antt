@@ -12,9 +12,9 @@ told_locked : (s : Plain) → (is_held s && is_empty s.starvers) ≡ true → (i
 told_locked s is = grind (arith, is)
 
 pub returns-clause-locked : goal.returns-clause-locked
-returns-clause-locked g =
-    found model (fair_keeping tt most_starvers patience) (fair_facts tt most_starvers patience) (λ p s. is_held s && is_empty s.starvers) (λ h. refl) (λ p l h seen call is. told_locked seen.plain is)
+returns-clause-locked g c = λ opening.
+    found (model opening) (fair_keeping opening most_starvers patience) (fair_facts opening most_starvers patience) (λ p s. is_held s && is_empty s.starvers) (λ h. refl) (λ p l h seen call is. told_locked seen.plain is)
 
 pub returns-clause-starved : goal.returns-clause-starved
-returns-clause-starved g =
-    found model (fair_keeping tt most_starvers patience) (fair_facts tt most_starvers patience) (λ p s. is_starved s) (λ h. refl) (λ p l h seen call is. is)
+returns-clause-starved g c = λ opening.
+    found (model opening) (fair_keeping opening most_starvers patience) (fair_facts opening most_starvers patience) (λ p s. is_starved s) (λ h. refl) (λ p l h seen call is. is)

@@ -5,4 +5,4 @@ use Rattle.spin_threads.proofs.Between.{between}
 use Rattle.spin_threads.proofs.laws.between_any_two_steps_of_a_fair_mutex.Goals as goal
 
 pub returns : goal.returns
-returns g = λ name word trace parties is. between model seat_of words_of (fair_keeping tt most_starvers patience) (fair_facts tt most_starvers patience) trace.entries (word, trace.word) parties is.2
+returns g c = λ opening word trace parties is. between (model opening.value) seat_of words_of (fair_keeping opening.value most_starvers patience) (fair_facts opening.value most_starvers patience) trace.entries (word, trace.word) parties is.2

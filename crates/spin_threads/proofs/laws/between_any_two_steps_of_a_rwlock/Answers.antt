@@ -5,4 +5,4 @@ use Rattle.spin_threads.proofs.Between.{between}
 use Rattle.spin_threads.proofs.laws.between_any_two_steps_of_a_rwlock.Goals as goal
 
 pub returns : goal.returns
-returns g = λ name word trace parties is. between model seat_of words_of (rw_keeping tt reader_limit) (rw_facts tt reader_limit) trace.entries (word, trace.word) parties is.2
+returns g c = λ opening word trace parties is. between (model opening.value) seat_of words_of (rw_keeping opening.value reader_limit) (rw_facts opening.value reader_limit) trace.entries (word, trace.word) parties is.2

@@ -5,4 +5,4 @@ use Rattle.spin_threads.proofs.Counts.{keeps_limits}
 use Rattle.spin_threads.proofs.limits.a_call_of_a_fair_mutex_keeps_its_limit.Goals as goal
 
 pub returns : goal.returns
-returns g = keeps_limits model (fair_keeping tt most_starvers patience) (fair_facts tt most_starvers patience)
+returns g c = λ opening. keeps_limits (model opening) (fair_keeping opening most_starvers patience) (fair_facts opening most_starvers patience)

@@ -5,4 +5,4 @@ use Rattle.spin_threads.proofs.Counts.{keeps_limits}
 use Rattle.spin_threads.proofs.limits.a_call_of_a_rwlock_keeps_its_limit.Goals as goal
 
 pub returns : goal.returns
-returns g = keeps_limits model (rw_keeping tt reader_limit) (rw_facts tt reader_limit)
+returns g c = λ opening. keeps_limits (model opening) (rw_keeping opening reader_limit) (rw_facts opening reader_limit)

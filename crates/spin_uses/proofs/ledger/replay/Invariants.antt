@@ -1,4 +1,4 @@
--- what is left of the journal leads from the balances so far to those of the whole
+-- the rest of the journal leads from the balances so far to those of the whole
 use Rattle.std.proofs.Common.{◌≡◌, sum, drop}
 use Rattle.spin_uses.specs.Ledger.{replayed}
 use Rattle.spin_uses.proofs.ledger.replay.Given as goal

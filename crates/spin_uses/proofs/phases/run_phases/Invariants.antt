@@ -1,4 +1,4 @@
--- the book of this call: all gains are still to come
+-- the book of this call: no gain has been added yet
 use Rattle.std.proofs.Common.{◌*◌}
 use Rattle.spin_uses.proofs.phases.run_phases.Given as goal
 

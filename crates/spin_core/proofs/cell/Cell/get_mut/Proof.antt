@@ -1,4 +1,4 @@
--- `get_mut` lends the value, under a new name, and gives the cell the key that the rule names.
+-- `get_mut` lends the value under a new name, and gives the cell the key that the rule names.
 use Rattle.spin_core.proofs.WalkNames.{◌+◌, [], ◌∷◌, refl, dcons, dnil, named, vptr, inst_fn, sep, Fml, flft, sem, ‵, raw, ◌⊛◌, some, later, ◌$◌, ◌∵◌, !, qed, by, move, keep, split, split3, join, fsplit, fsplit3, fjoin, pick, fpick, drop, use1, await, stop, fld, addr, returns, enter, alloc_all, pass_all, free_all, look_at, through, sets, no, owns, types_at, plain, RefMutOf, param, layout, bounded, param_laws, Stays, stay_dropped, walk_of, fact, nothing, heard, proved, leaves}
 use base.Fml.{GName}
 use types.Kit.{group}

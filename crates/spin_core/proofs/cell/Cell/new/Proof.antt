@@ -1,4 +1,4 @@
--- `new` lays the words and the value side by side.
+-- `new` writes the words and the value into memory, one after another.
 use Rattle.spin_core.proofs.PermitFields.{both}
 use Rattle.spin_core.proofs.WalkNames.{◌≡◌, ℕ, ◌^◌, ◌&&◌, T, true, List, [], ◌∷◌, ◌++◌, sym, refl, subst, w64, dcons, dnil, Val, vint, vptr, vstruct, vcons, vnil, has_ty, WT, inst_fn, SProp, ent, id⊢, Fml, ftrue, fsep, fex, fact, tables, WpFn, ‵, raw, ◌⊛◌, ◌$◌, ◌∵◌, !, qed, by, move, keep, split, fsplit, fsplit3, fjoin, fpack, use0, rewrite, feq_i, flt_i, suffices, of_opd, no_more, and_then, returns, enter, alloc_all, pass_all, free_all, look_at, get, sets, agg, yes, no, RattleType, Valss, owns, types_at, plain, nothing, heard, Typed, param, layout, bounded, param_laws, RefOf, u64, within, alive, Stays, stay_dropped, walk_of, Goes-dropped, El, lawful, Good, one, proved_at, leaves, says}
 use denote.Shadow.{makes_shadow}

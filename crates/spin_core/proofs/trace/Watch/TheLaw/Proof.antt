@@ -1,4 +1,4 @@
--- A `&` to a `Watch` holds what it knows, which can be had twice. Assumes `Logic`.
+-- A `&` to a `Watch` owns what the watch knows, which may be copied. Assumes `Logic`.
 use base.Logic.{snd∗}
 use base.Before.{before}
 use types.Logic.{sem}

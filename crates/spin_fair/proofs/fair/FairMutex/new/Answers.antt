@@ -1,11 +1,13 @@
 use Rattle.std.proofs.Common.{[], refl, sym}
+use denote.Param.{param}
 use Rattle.spin_step_more.specs.contracts.fair_calls.FairCall as call
-use Rattle.spin_core.proofs.Sends.{entry, sends_word_less}
+use Rattle.spin_core.proofs.Sends.{entry_over, sends_word_less}
+use Rattle.spin_core.proofs.Values.{opens_last}
 use Rattle.spin_fair.proofs.Steps.{starts, never_reads}
 use Rattle.spin_fair.proofs.fair.FairMutex.new.Goals as goal
 
 pub new-requires-clause-known : goal.new-requires-clause-known
-new-requires-clause-known g c = (λ no. absurd no, (λ v e. absurd (never_reads v.0 e)), sends_word_less (entry call.the_row))
+new-requires-clause-known g c = (λ no. absurd no, (λ v e. absurd (never_reads v.0 e)), sends_word_less (entry_over call.the_row (param 0 g.row.T)))
 
 pub new-requires-clause-rule : goal.new-requires-clause-rule
-new-requires-clause-rule g c = let w = c.watch-start.ensures in ([], refl, starts c.watch-start.result.name c.new-trace.result (sym w.0) c.new-trace.ensures.0, tt)
+new-requires-clause-rule g c = let o = c.of-opening in let t = c.new-trace in ([], refl, starts o.result t.result (sym o.ensures.0) t.ensures.0, (opens_last o.result t.result.entries c.args.value t.ensures.0 o.ensures.1, tt))

@@ -10,10 +10,10 @@ use Rattle.spin_fair.proofs.Takes.{may_know, took, as_held}
 use Rattle.spin_fair.proofs.fair.starving.stop_starving.Goals as goal
 
 pub subtract-permit-requires : goal.subtract-permit-requires
-subtract-permit-requires g c = let me = c.args.account in (inr (may_know me.permit.key.name me.seen me.named), unregisters me.permit.key.name me.permit.view c.requires)
+subtract-permit-requires g c = let me = c.args.account in (inr (may_know me.permit.key me.seen me.named), unregisters me.permit.key me.permit.view me.permit.value c.requires)
 
 pub returns : goal.returns
 returns g c =
     let me = c.args.account in let s = c.subtract-permit in let held = c.into_guard in
-    let so = took me.permit.key.name true (call_of (view_of me)) (λ n. answered Granted ∷ []) (λ n. Served) (Some Granted) me.permit.view s.result.1.view me.seen s.result.2 s.result.0 me.knows me.named s.ensures.moved (0, refl) in
-    (held.ensures.holder, held.ensures.holds, as_held me s.result.1.view s.result.2 (Ends Granted) held.result held.ensures.same so.0)
+    let so = took me s.result.1.view s.result.2 s.result.1.key s.result.0 s.ensures.key true (call_of (view_of me)) (λ n. answered Granted ∷ []) (λ n. Served) (Some Granted) s.ensures.moved (0, refl) in
+    (held.ensures.granted, as_held me s.result.1.key s.result.1.view s.result.2 (Ends Granted) held.result held.ensures.same so.0)

@@ -6,34 +6,34 @@ use Rattle.spin_model.specs.declared.schedule.Outcome.TheVariants.{GoingOn}
 use Rattle.spin_step_more.specs.declared.fair_calls.FairCall.TheVariants.{Lock}
 use Rattle.spin_fair.specs.Fair.{answered, in_call, tried, Comes, tried_by}
 use Rattle.spin_fair.specs.Waits.{view_of}
-use Rattle.spin_fair.proofs.Steps.{tries}
-use Rattle.spin_fair.proofs.Takes.{may_know, still_knows, took, as_held}
+use Rattle.spin_fair.proofs.Steps.{tries, try_off}
+use Rattle.spin_fair.proofs.Takes.{may_know, knows_again, took, as_held}
 use Rattle.spin_fair.proofs.fair.waiting.try_with.Goals as goal
 
 pub exchange-found-requires : goal.exchange-found-requires
 exchange-found-requires g c =
     let me = c.args.account in let exact = c.lock.ensures.exact in let got = c.unwrap-taken.ensures in let taken : ℕ = 1 in
     let same : c.unwrap-taken.result ≡ taken = cc in
-    (inr (may_know me.permit.key.name me.seen me.named), rw same (tries me.permit.key.name c.args.spins me.permit.view c.requires 1 refl (rw exact at c.lock.ensures.plain)))
+    (inr (may_know me.permit.key me.seen me.named), rw same (tries me.permit.key c.args.spins me.permit.view me.permit.value c.requires 1 refl (rw exact at c.lock.ensures.plain)))
 
 pub returns-then-found-free : goal.returns-then-found-free
 returns-then-found-free g c =
     let me = c.args.account in let v = view_of me in let f = c.exchange-found in let n = f.result.0 in let held = c.into_guard in
-    let so = took me.permit.key.name (in_call v) Lock (λ n. (if n == 0 then answered Granted else GoingOn) ∷ []) (tried v) (Some Granted) me.permit.view f.result.1.view me.seen f.result.2 n me.knows me.named f.ensures.moved
+    let so = took me f.result.1.view f.result.2 f.result.1.key n f.ensures.key (in_call v) Lock (λ n. (if n == 0 then answered Granted else GoingOn) ∷ []) (tried v) (Some Granted) f.ensures.moved
     (0, ap (λ b. (if b then answered Granted else GoingOn) ∷ []) (eq-eqb n 0 c.if-found-free.true)) in
-    ((held.ensures.holder, held.ensures.holds, as_held me f.result.1.view f.result.2 (Comes (in_call v) Lock (Some Granted)) held.result held.ensures.same so.0), tt)
+    ((held.ensures.granted, as_held me f.result.1.key f.result.1.view f.result.2 (Comes (in_call v) Lock (Some Granted)) held.result held.ensures.same so.0), tt)
 
 pub returns-else-found-free : goal.returns-else-found-free
 returns-else-found-free g c =
     let me = c.args.account in let v = view_of me in let f = c.exchange-found in let n = f.result.0 in
-    let so = took me.permit.key.name (in_call v) Lock (λ n. (if n == 0 then answered Granted else GoingOn) ∷ []) (tried v) None me.permit.view f.result.1.view me.seen f.result.2 n me.knows me.named f.ensures.moved
+    let so = took me f.result.1.view f.result.2 f.result.1.key n f.ensures.key (in_call v) Lock (λ n. (if n == 0 then answered Granted else GoingOn) ∷ []) (tried v) None f.ensures.moved
     (1, ap (λ b. (if b then answered Granted else GoingOn) ∷ []) (ne_eqb n 0 c.if-found-free.false)) in
     (tt, so.0)
 
 pub invariant_of-account : goal.invariant_of-account
 invariant_of-account g c = let me = c.args.account in let f = c.exchange-found in
-    let all = still_knows me.permit.key.name (tried_by (what me.permit.view)) me.permit.view f.result.1.view me.seen f.result.2 f.result.1.key.name f.result.0 me.knows me.named (ap (λ k. k.name) f.ensures.key) f.ensures.moved in record { named = all.0; knows = all.1 }
+    let all = knows_again me f.result.1.view f.result.2 f.result.1.key f.result.0 f.ensures.key (tried_by (what me.permit.view)) f.result.1.value (try_off c.args.spins (view_of me) c.requires) f.ensures.moved f.ensures.found in record { named = all.0; knows = all.1; finds = all.2 }
 
 pub invariant_of-account-else-found-free : goal.invariant_of-account-else-found-free
 invariant_of-account-else-found-free g c = let me = c.args.account in let f = c.exchange-found in
-    let all = still_knows me.permit.key.name (tried_by (what me.permit.view)) me.permit.view f.result.1.view me.seen f.result.2 f.result.1.key.name f.result.0 me.knows me.named (ap (λ k. k.name) f.ensures.key) f.ensures.moved in record { named = all.0; knows = all.1 }
+    let all = knows_again me f.result.1.view f.result.2 f.result.1.key f.result.0 f.ensures.key (tried_by (what me.permit.view)) f.result.1.value (try_off c.args.spins (view_of me) c.requires) f.ensures.moved f.ensures.found in record { named = all.0; knows = all.1; finds = all.2 }

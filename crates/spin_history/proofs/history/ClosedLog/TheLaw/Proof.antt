@@ -1,4 +1,4 @@
--- A `&` to a `Closed` holds what it knows, which can be had twice. Assumes `Logic`.
+-- A `&` to a `ClosedLog` owns what it knows, which may be copied. Assumes `Logic`.
 use mathlib.Core.List.{[], ◌∷◌}
 use base.Logic.{snd∗}
 use base.Before.{before}

@@ -1,4 +1,4 @@
--- A `&` to a `Seen` holds what it knows, which can be had twice. Assumes `Logic`.
+-- A `&` to a `Snapshot` owns what it knows, which may be copied. Assumes `Logic`.
 use mathlib.Core.List.{[], ◌∷◌}
 use base.Logic.{snd∗}
 use base.Before.{before}

@@ -9,7 +9,7 @@ use Rattle.spin_once.specs.declared.once_core.account.Found.{Found}
 use Rattle.spin_once.proofs.Accounts.{call_ends, call_fails}
 use Rattle.spin_once.proofs.once.make.find_or_try.Goals as goal
 
-module _ {T E : Type 0} (p q : Place (Unit {0})) (begun : Since p (Begins (TryCallOnceOk tt) Waits) q) where
+module _ {T E : Type 0} (p q : Place T (Unit {0})) (begun : Since p (Begins (TryCallOnceOk tt) Waits) q) where
   found_by : (r : Result (Found T (Unit {0})) (E × Account T (Unit {0}))) → IfOk r (λ found. Since q (Ends (Value tt)) (here found.account)) → IfOk r (λ found. Since p (IsCall (TryCallOnceOk tt) (Value tt)) (here found.account))
   found_by (Ok found) later = call_ends p q (here found.account) (TryCallOnceOk tt) (Value tt) begun later
   found_by (Err failed) later = tt

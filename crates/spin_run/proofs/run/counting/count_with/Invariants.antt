@@ -1,4 +1,4 @@
--- the book of this call: all additions are still to come
+-- the book of this call: no addition has been made yet
 use Rattle.std.proofs.Common.{◌*◌}
 use Rattle.spin_run.proofs.run.counting.count_with.Given as goal
 

@@ -1,4 +1,4 @@
-use Rattle.std.proofs.Common.{false, ap}
+use Rattle.std.proofs.Common.{false}
 use Rattle.spin_core.specs.Passes.{IsStep}
 use Rattle.spin_model.specs.declared.schedule.Outcome.TheVariants.{GoingOn}
 use Rattle.spin_step_more.specs.declared.rw_calls.RwCall.TheVariants.{Upgrade}
@@ -9,9 +9,9 @@ use Rattle.spin_rwlock.proofs.Passes.{may, told}
 use Rattle.spin_rwlock.proofs.rwlock.rule.ask.Goals as goal
 
 pub add-party-requires : goal.add-party-requires
-add-party-requires g c = let it = c.args.party in (may it.key.name c.args.seen c.requires.1, asks_on it.key.name it.view c.requires.0.0)
+add-party-requires g c = let it = c.args.party in (may it.key c.args.seen c.requires.1, asks_on it.key it.view it.value c.requires.0.0)
 
 pub returns-clause-made : goal.returns-clause-made
 returns-clause-made g c knew =
     let it = c.args.party in let f = c.add-party in
-    told asks_by (λ n. Asking) (λ n. IsStep false Upgrade GoingOn) (λ own outs n v said. said) it.view c.args.seen f.result.2 f.result.0 it.key.name f.result.1.key.name (ap (λ k. k.name) f.ensures.key) f.result.1.view knew f.ensures.moved
+    told it.key it.view f.result.1.view c.args.seen f.result.2 f.result.0 f.result.1.key f.ensures.key knew asks_by (λ n. Asking) (λ n. IsStep false Upgrade GoingOn) (λ own outs n v said. said) f.ensures.moved

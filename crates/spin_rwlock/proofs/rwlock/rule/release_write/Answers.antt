@@ -1,20 +1,28 @@
-use Rattle.std.proofs.Common.{ap, ◌∙◌, subst}
+use Rattle.std.proofs.Common.{refl, ap, ◌∙◌}
+use Rattle.spin_core.specs.Cell.{use_of}
 use Rattle.spin_core.specs.Passes.{mark_of}
-use Rattle.spin_model.specs.declared.answer.Answer.TheVariants.{Done}
 use Rattle.spin_step_more.specs.declared.rw_calls.RwCall.TheVariants.{Release}
-use Rattle.spin_rwlock.specs.Rw.{Called}
+use Rattle.spin_rwlock.specs.Rw.{leaves_by, use_of_view, use_of_party}
 use Rattle.spin_rwlock.specs.declared.rwlock.rule.View.TheVariants.{Idle}
 use Rattle.spin_rwlock.proofs.Steps.{writer_leaves}
-use Rattle.spin_rwlock.proofs.Passes.{may, may_as, answered}
+use Rattle.spin_rwlock.proofs.Passes.{may, may_as, stood, left_gone, ended}
 use Rattle.spin_rwlock.proofs.rwlock.rule.release_write.Goals as goal
 
 pub subtract-party-requires : goal.subtract-party-requires
 subtract-party-requires g c =
     let it = c.into_permit-permit in let w = c.args.writer in
-    (may it.result.key.name c.args.seen (may_as it.result.key.name w.key.name c.args.seen (ap (λ k. k.name) it.ensures.key) c.requires), rw it.ensures.same.0 (writer_leaves it.result.key.name w.view it.ensures.use_of_view))
+    (may it.result.key c.args.seen (may_as it.result.key w.key c.args.seen it.ensures.key c.requires), rw (it.ensures.same.0, it.ensures.same.1) (writer_leaves it.result.key w.view w.value it.ensures.use_of_view))
 
-pub returns-clause-made : goal.returns-clause-made
-returns-clause-made g c knew =
-    let it = c.into_permit-permit in let f = c.subtract-party in let seen = c.args.seen in
-    let t = answered Release (λ n. Done) (λ n. Idle) it.result.view seen f.result.2 f.result.0 it.result.key.name f.result.1.key.name (ap (λ k. k.name) f.ensures.key) f.result.1.view (ap (λ k. k.name) it.ensures.key ∙ knew.0, ap mark_of it.ensures.same.0 ∙ knew.1) f.ensures.moved in
-    (t.0, t.1, subst (λ o. Called Release Done o seen.entries f.result.1.view f.result.2.entries) it.ensures.same.0 t.2)
+pub returns-clause-left : goal.returns-clause-left
+returns-clause-left g c =
+    let it = c.into_permit-permit in let f = c.subtract-party in let w = c.args.writer in let seen = c.args.seen in
+    let at = stood it.result.key it.result.view f.result.1.view seen f.result.2 f.result.0 (leaves_by Release Idle) (λ n. Idle) (λ own outs n v said. said.0) f.result.1.view f.ensures.moved in
+    let last = left_gone it.result.key it.result.view f.result.1.view it.result.value f.result.1.value f.result.2 f.ensures.found f.ensures.kept w.value it.ensures.same.1 w.key it.ensures.key (ap (use_of use_of_party) it.ensures.same.0 ∙ it.ensures.use_of_view) (ap (use_of use_of_view) at) in
+    last
+
+pub returns-clause-wrote : goal.returns-clause-wrote
+returns-clause-wrote g c knew =
+    let it = c.into_permit-permit in let f = c.subtract-party in let w = c.args.writer in let seen = c.args.seen in
+    let at = stood it.result.key it.result.view f.result.1.view seen f.result.2 f.result.0 (leaves_by Release Idle) (λ n. Idle) (λ own outs n v said. said.0) f.result.1.view f.ensures.moved in
+    let last = left_gone it.result.key it.result.view f.result.1.view it.result.value f.result.1.value f.result.2 f.ensures.found f.ensures.kept w.value it.ensures.same.1 it.result.key refl (ap (use_of use_of_party) it.ensures.same.0 ∙ it.ensures.use_of_view) (ap (use_of use_of_view) at) in
+    ended it.result.key it.result.view f.result.1.view seen f.result.2 f.result.0 f.result.1.key f.ensures.key (ap (λ k. k.name) it.ensures.key ∙ knew.0, ap mark_of it.ensures.same.0 ∙ knew.1) w.value last Release Idle w.key it.ensures.key w.view it.ensures.same.0 f.ensures.moved

@@ -1,4 +1,4 @@
--- each turn of the loop leaves the pass as it found it: of this lock, without a hold
+-- after each turn of the loop the pass is of this lock, and holds nothing
 use Rattle.std.proofs.Common.{◌≡◌, ◌≤◌, None}
 use Rattle.spin_seated.specs.Passes.{IsPassOf}
 use Rattle.spin_seated.specs.Rw.{holds}

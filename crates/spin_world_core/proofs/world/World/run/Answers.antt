@@ -16,13 +16,13 @@ play-requires-clause-can g c = λ k p call local holds there.
     let there_now = after-append m (at_first m led.0) led.1 front ∙ ap (λ s. after m s front) led.2 in
     subst (CanStep m) there_now can p call local holds there)
 
--- what a schedule leads to from a state that is reached is reached
+-- a state that a schedule leads to from a reached state is reached
 further : {W V C L A : Type 0} (m : Machine W V C L A) (s t : State W V C L) (schedule : List (ℕ × Move C V)) → t ≡ after m s schedule → IsReached m s → IsReached m t
 further m s t schedule is reached =
     ∥∥₁_map reached (λ led.
     (led.0, led.1 ++ schedule, after-append m (at_first m led.0) led.1 schedule ∙ (ap (λ u. after m u schedule) led.2 ∙ sym is)))
 
--- what is written back into a vector of so many
+-- what is written back into a vector of this length
 kept_length : {X : Type 0} (n : ℕ) (xs ys : List X) → length xs ≡ n → length (take n (xs ++ ys)) ≡ length xs
 kept_length n xs ys is = length-take-le n (xs ++ ys) (omega (arith, length-append xs ys, is)) ∙ sym is
 

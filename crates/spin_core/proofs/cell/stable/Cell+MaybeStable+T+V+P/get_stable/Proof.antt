@@ -19,7 +19,7 @@ use Rattle.core.proofs.option.Made.{Some-of, none_of}
 use Rattle.core.proofs.alloc.Shapes.{after}
 use Rattle.atomic_table.specs.Seated.{fact as said}
 use Rattle.spin_core.proofs.CellStepWalks.{others}
-use Rattle.spin_core.specs.Cell.{Starts}
+use Rattle.spin_core.specs.Cell.{Starts, Lends}
 use Rattle.spin_core.specs.Stable.{StableAt}
 use Rattle.spin_core.specs.CellMemory.{offset}
 use Rattle.spin_core.specs.declared.cell.stable.Stabilizes.{Ghosts}
@@ -27,7 +27,7 @@ use Rattle.spin_core.specs.contracts.cell.Cell as cell
 use Rattle.spin_core.specs.contracts.cell.stable.MaybeStable as maybe_stable
 use Rattle.spin_core.specs.contracts.cell.stable.Stable as stable
 use Rattle.spin_core.proofs.cell.stable.MaybeStable.TheLaws as maybe_stable_laws
-use Rattle.spin_core.proofs.CellFields.{Knows, All, Rule, Row, row_out, row_in, standing_words, At, Joins, fields_out, rejoined}
+use Rattle.spin_core.proofs.CellFields.{Knows, All, Rule, Row, row_out, row_in, standing_words, At, Joins, fields_out, rejoined, rekeyed}
 use Rattle.spin_core.specs.contracts.cell.stable.Cell+MaybeStable+T+V+P.get_stable.{ended, clauses}
 use Rattle.spin_core.specs.contracts.cell.stable.Cell+MaybeStable+T+V+P.get_stable.Key.{name as #self}
 use Rattle.spin_core.proofs.cell.stable.Cell+MaybeStable+T+V+P.get_stable.Statement.{statement}
@@ -54,19 +54,19 @@ get_stable_spec 𝓤 𝓛 𝓜 𝓡 wired X U P K N L _ _ _ LN s d' g d _ _ =
     proved 𝓛 En hs c 𝓜 𝓡 (Goes-spent_ref 𝓛 6 (0 ∷ []) tt (plain (λ _. Ty)), (Goes-dropped 𝓛 6 number yes (λ κs x f. refl), tt))
     (#self inst) fn (code.unfolded 𝓤 H 𝓜 𝓡 wired (X, (U, (P, (K, (N, tt))))) d' d)
     (λ κs. (mut_vals, (uint_vals w64, tt))) (λ κs. (mut_Tells (named 0) κs.0 Ty, (uint_Tells w64, tt))) (λ κs qs bounds a gh are.
-    let b = a.0.ref_ptr.0 in let o = a.0.ref_ptr.1 in let key = a.0.now in let γ = a.0.ghost_name in let wanted = a.1.0 in let κ = κs.0 in let q = qs.0 in
+    let b = a.0.ref_ptr.0 in let o = a.0.ref_ptr.1 in let old = a.0.now in let key = g.lent old in let γ = a.0.ghost_name in let wanted = a.1.0 in let κ = κs.0 in let q = qs.0 in
     let e = o + offset R in let at = vptr b e in
     let y : (walk_of 𝓛 En hs c).Ghost = ((κs, qs, bounds, a, (vptr b o ∷ [], (vint w64 wanted ∷ [], tt))), gh) in let Post = (walk_of 𝓛 En hs c).post y in
     let Lent = MutRef (named 0) κ S in let Out = option.the_row Lent in let os = others 5 κs.1 qs.1 in
-    let Ok = StableAt (g.holds key) (g.ways key) s.stable wanted in let Q = sem 𝓛 (Row 𝓛 m ms V Y Kr g key b o) in
+    let Ok = StableAt (g.holds key) (g.ways key) s.stable wanted in let Same = Lends (g.holds old) (g.ways old) (g.holds key) (g.ways key) in let Q = sem 𝓛 (Row 𝓛 m ms V Y Kr g key b o) in
     let words = standing_words 𝓛 m ms V Y Kr g key b o in let Lies = At 𝓛 m ms V Y Kr g key b o in
     let Holds = Rule 𝓛 m ms V Y Kr g key b o in
     let Joined = Joins 𝓛 m ms V Y Kr g key b o Lw Ls (Row 𝓛 m ms V Y Kr g key b o) (row_out 𝓛 m ms V Y Kr g key b o) (row_in 𝓛 m ms V Y Kr g key b o) in
     let Rest : ℕ × N.Denot → SProp 𝓤 = λ ns. sep 𝓤 (sem 𝓛 (words ns)) Joined in
     let shuts = rejoined 𝓛 m ms V Y Kr g key b o Lw Ls (Row 𝓛 m ms V Y Kr g key b o) (row_out 𝓛 m ms V Y Kr g key b o) (row_in 𝓛 m ms V Y Kr g key b o) in
-    qed 𝓛 (((‵ (flft κ q) ⊛ ‵ os) ⊛ ‵ (owns (types_at En.signature.params κs) a y.0.4)) ∷ raw (fact 𝓤 _) ∷ raw (fact 𝓤 _) ∷ raw (fact 𝓤 _) ∷ raw (fact 𝓤 _) ∷ raw (fact 𝓤 _) ∷ raw (fact 𝓤 Ok) ∷ []) ∵ keep ! (6 ∷ 0 ∷ []) $ heard ! Ok (λ ok. split ! $ split ! $ move ! (2 ∷ []) $ fsplit ! $ fsplit3 ! $ keep ! (1 ∷ 2 ∷ 4 ∷ 5 ∷ []) $
+    qed 𝓛 (((‵ (flft κ q) ⊛ ‵ os) ⊛ ‵ (owns (types_at En.signature.params κs) a y.0.4)) ∷ raw (fact 𝓤 _) ∷ raw (fact 𝓤 _) ∷ raw (fact 𝓤 _) ∷ raw (fact 𝓤 _) ∷ raw (fact 𝓤 _) ∷ raw (fact 𝓤 Ok) ∷ raw (fact 𝓤 Same) ∷ []) ∵ keep ! (6 ∷ 7 ∷ 0 ∷ []) $ heard ! Ok (λ ok. heard ! Same (λ so. split ! $ split ! $ move ! (2 ∷ []) $ fsplit ! $ fsplit3 ! $ keep ! (1 ∷ 2 ∷ 4 ∷ 5 ∷ []) $
     enter ! _ _ _ _ _ $ alloc_all ! (λ l. pass_all ! refl ((tt, tt), ((tt, record { fits = are.1.0.1 }), tt)) $ let Ev = env fn.locals l in
-    open_ref ! tt (in_memory Ty) $ use1 𝓛 (some (λ (z : Knows 𝓛 m ms V Y Kr g key b o × All 𝓛 m ms V Y Kr g key b o). ‵ (words (z.1.0, z.1.1)) ⊛ ‵ (Lies z.1.2) ⊛ ‵ (said (Holds z.1)) ⊛ raw Joined))
+    open_ref ! tt (in_memory Ty) $ use1 𝓛 (‵ (Row 𝓛 m ms V Y Kr g key b o)) (rekeyed 𝓛 m ms V Y Kr g old key b o so) $ use1 𝓛 (some (λ (z : Knows 𝓛 m ms V Y Kr g key b o × All 𝓛 m ms V Y Kr g key b o). ‵ (words (z.1.0, z.1.1)) ⊛ ‵ (Lies z.1.2) ⊛ ‵ (said (Holds z.1)) ⊛ raw Joined))
     (fields_out 𝓛 m ms V Y Kr g key b o Lw Ls (Row 𝓛 m ms V Y Kr g key b o) (row_out 𝓛 m ms V Y Kr g key b o) (row_in 𝓛 m ms V Y Kr g key b o)) $
     pick ! (λ z. let n = z.1.0 in let k = z.1.1 in let x = z.1.2 in
     split ! $ fsplit ! $ move ! (2 ∷ []) $ split3 ! $ move ! (1 ∷ []) $ fpick ! (λ rule. drop ! $ move ! (2 ∷ []) $
@@ -80,11 +80,11 @@ get_stable_spec 𝓤 𝓛 𝓜 𝓡 wired X U P K N L _ _ _ LN s d' g d _ _ =
     sets_last ! (agg ! (and_then ! (lit ! tt) (and_then ! (get ! refl) (no_more !)))) refl (tt, (record { fits = lit< tt }, (tt, tt))) $ exec ! 𝓣.C 𝓣.Λ Ev (after 4 fn.body) (at_ret Ev Post) $ sets ! (of_opd ! (get ! refl)) refl (tt, (record { fits = lit< tt }, (tt, tt))) $
     move ! (0 ∷ 3 ∷ []) $ fjoin ! $ move ! (0 ∷ 2 ∷ []) $ join ! $ move ! (1 ∷ []) $ rewrite ! 0 (λ (F : Fml). ‵ F) (sym (lies X₀ s w b e)) refl $ move ! (2 ∷ 3 ∷ 4 ∷ 0 ∷ 1 ∷ []) $ group ! 5 $
     use1 𝓛 (later (some (λ (δ : GName). ‵ (Lent.own_val (record { ref_ptr = (b, e); ghost_name = δ; now = w }) (at ∷ [])) ⊛ ‵ (flft κ q) ⊛ ‵ (follows Ty S γ δ (λ _. key)))))
-    (lends_Part 𝓛 Ty S (λ _. key) (named 0) κ q b o b e γ (Rest (n, k)) (λ v. subst (λ (F : Fml). ent 𝓤 (sep 𝓤 (sem 𝓛 F) (Rest (n, k))) Q) (sym (lies X₀ s v b e)) (shuts (n, k, record { value = v.value }) (subst (λ (j : ℕ). Starts (g.holds key) (g.ways key) j k (record { value = v.value })) (sym is) (may.1 v.value v.stable)))) (K.coded.code key) (K.coded.code key) w) $ await ! tt $ pick ! (λ δ.
+    (lends_Part 𝓛 Ty S (λ _. key) (named 0) κ q b o b e γ (Rest (n, k)) (λ v. subst (λ (F : Fml). ent 𝓤 (sep 𝓤 (sem 𝓛 F) (Rest (n, k))) Q) (sym (lies X₀ s v b e)) (shuts (n, k, record { value = v.value }) (subst (λ (j : ℕ). Starts (g.holds key) (g.ways key) j k (record { value = v.value })) (sym is) (may.1 v.value v.stable)))) (K.coded.code old) (K.coded.code old) w) $ await ! tt $ pick ! (λ δ.
     let r : MutBor S.Denot = record { ref_ptr = (b, e); ghost_name = δ; now = w } in
     split3 ! $ use1 𝓛 (‵ (Out.own_val (Some r) (live 1 (vcons at vnil) ∷ []))) (Some-of 𝓛 Lent r at) $ move ! (2 ∷ []) $ drop ! $ move ! (1 ∷ 2 ∷ []) $ join ! $ nothing ! $ nothing ! $ nothing ! $ fjoin ! $ nothing ! $ fjoin ! $
     returns ! (look_at ! 0 refl) $ free_all ! refl $ keep ! (2 ∷ 0 ∷ 3 ∷ 1 ∷ []) $ by ! (leaves 𝓛 En hs c y (live 1 (vcons at vnil)) (Some r) (tt, (tt, tt)) (tt, (tt, tt)))))
     (λ other. sets_last ! (agg ! (and_then ! (lit ! tt) (no_more !))) refl (tt, (record { fits = lit< tt }, tt)) $ exec ! 𝓣.C 𝓣.Λ Ev (after 4 fn.body) (at_ret Ev Post) $ sets ! (of_opd ! (get ! refl)) refl (tt, (record { fits = lit< tt }, tt)) $
     move ! (0 ∷ 3 ∷ []) $ fjoin ! $ move ! (0 ∷ 2 ∷ []) $ join ! $ move ! (1 ∷ 0 ∷ []) $ use2 𝓛 (‵ (Row 𝓛 m ms V Y Kr g key b o)) (shuts z.1 rule) $ close_ref ! tt (in_memory Ty) key $ drop ! $ drop ! $ join ! $
     use0 𝓛 (‵ (Out.own_val None (live 0 vnil ∷ []))) (none_of 𝓛 Lent) $ move ! (1 ∷ []) $ nothing ! $ nothing ! $ nothing ! $ fjoin ! $ nothing ! $ fjoin ! $
-    returns ! (look_at ! 0 refl) $ free_all ! refl $ keep ! (2 ∷ 0 ∷ 3 ∷ 1 ∷ []) $ by ! (leaves 𝓛 En hs c y (live 0 vnil) None (tt, (tt, tt)) (tt, (tt, tt))))))))))
+    returns ! (look_at ! 0 refl) $ free_all ! refl $ keep ! (2 ∷ 0 ∷ 3 ∷ 1 ∷ []) $ by ! (leaves 𝓛 En hs c y (live 0 vnil) None (tt, (tt, tt)) (tt, (tt, tt)))))))))))

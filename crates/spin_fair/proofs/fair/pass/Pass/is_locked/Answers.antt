@@ -10,10 +10,10 @@ use Rattle.spin_fair.proofs.Takes.{may_know, took}
 use Rattle.spin_fair.proofs.fair.pass.Pass.is_locked.Goals as goal
 
 pub load-found-requires : goal.load-found-requires
-load-found-requires g c = let me = c.args.self.account in (inr (may_know me.permit.key.name me.seen me.named), looks me.permit.key.name me.permit.view (is_out me.permit.view c.args.self.rests))
+load-found-requires g c = let me = c.args.self.account in (inr (may_know me.permit.key me.seen me.named), looks me.permit.key me.permit.view me.permit.value (is_out me.permit.view c.args.self.rests))
 
 pub returns-clause-made : goal.returns-clause-made
 returns-clause-made g c =
     let me = c.args.self.account in let f = c.load-found in
-    let so = took me.permit.key.name false IsLocked (λ n. answered (Is (is_set n)) ∷ []) (λ n. Idle) (Some (Is (is_set f.result.0))) me.permit.view f.result.1.view me.seen f.result.2 f.result.0 me.knows me.named f.ensures.moved (0, refl) in
-    subst (λ b. Called IsLocked (Is b) me.permit.view me.seen.entries f.result.1.view f.result.2.entries) (sym c.is_locked.ensures.exact) so.0.1
+    let so = took me f.result.1.view f.result.2 f.result.1.key f.result.0 f.ensures.key false IsLocked (λ n. answered (Is (is_set n)) ∷ []) (λ n. Idle) (Some (Is (is_set f.result.0))) f.ensures.moved (0, refl) in
+    subst (λ b. Called me.permit.key.value IsLocked (Is b) me.permit.view me.seen.entries f.result.1.view f.result.2.entries) (sym c.is_locked.ensures.exact) so.0.1

@@ -8,7 +8,7 @@ use denote.Param.{layouts}
 use denote.Triple.Spec.{triple_of}
 use denote.Triple.Table.{widened}
 use Rattle.spin_core.proofs.Released.{released}
-use Rattle.spin_core.proofs.TieLaws.{numbered, watched, traced}
+use Rattle.spin_core.proofs.TieLaws.{numbered, opened, traced_over}
 use Rattle.spin_fair.specs.contracts.fair.rule.View as V
 use Rattle.spin_fair.specs.contracts.fair.rule.FairRule as F
 use Rattle.spin_fair.specs.contracts.fair.rule.FairRuleRuleParty.TheImpl as rule
@@ -26,6 +26,6 @@ bound γ wired T LT M 𝓤 𝓛 𝓜 𝓡 = let at = layouts (a_type ∷ []) (T,
   same = same-law T;
   Self-Key-lives = (rule_met.bound γ T LT M 𝓤 𝓛 𝓜 𝓡).Self-Key-lives;
   Self-Second-lives = (rule_met.bound γ T LT M 𝓤 𝓛 𝓜 𝓡).Self-Second-lives;
-  release = released F.the_row (numbered V.the_row) (watched call.the_row) (traced call.the_row unit) T (rule.ghosts T) 𝓛 𝓜 𝓡 (γ called) (block.ghosts T) uses.ghosts (block.dict T) (rule.dict T) uses.dict
+  release = released F.the_row (numbered V.the_row) (opened T) (traced_over call.the_row T unit) T (rule.ghosts T) 𝓛 𝓜 𝓡 (γ called) (block.ghosts T) uses.ghosts (block.dict T) (rule.dict T) uses.dict
       (widened 𝓤 𝓛.H (triple_of 𝓛 (own.signature T) (own.spec T 𝓛 𝓜.mem 𝓡.returns)) 𝓜 𝓡 γ (γ (name at)) (γ called) (as_method γ wired called refl) (met 𝓤 𝓛 𝓜 (within 𝓤 𝓛.H 𝓜 𝓡 γ) wired T LT));
 }

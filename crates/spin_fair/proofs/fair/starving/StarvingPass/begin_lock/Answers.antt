@@ -10,19 +10,18 @@ use Rattle.spin_fair.proofs.fair.starving.StarvingPass.begin_lock.Goals as goal
 
 pub exchange-found-requires : goal.exchange-found-requires
 exchange-found-requires g c =
-    let me = c.args.self.account in (inr (may_know me.permit.key.name me.seen me.named), rw c.taken_alone.ensures.exact (locks_alone me.permit.key.name me.permit.view c.args.self.starving c.taken_alone.ensures.plain))
+    let me = c.args.self.account in (inr (may_know me.permit.key me.seen me.named), rw c.taken_alone.ensures.exact (locks_alone me.permit.key me.permit.view me.permit.value c.args.self.starving c.taken_alone.ensures.plain))
 
 pub returns-then-found-eq-STARVER-clause-got : goal.returns-then-found-eq-STARVER-clause-got
 returns-then-found-eq-STARVER-clause-got g c =
     let me = c.args.self.account in let f = c.exchange-found in let held = c.into_guard in (
-      held.ensures.holder,
-      held.ensures.holds,
-      as_held me f.result.1.view f.result.2 (IsCall StarverLock Granted) held.result held.ensures.same
-          (was_alone me.permit.key.name StarverLock me.permit.view f.result.1.view me.seen f.result.2 f.result.0 me.knows me.named f.ensures.moved c.if-found-eq-STARVER.true),
+      held.ensures.granted,
+      as_held me f.result.1.key f.result.1.view f.result.2 (IsCall StarverLock Granted) held.result held.ensures.same
+          (was_alone me f.result.1.view f.result.2 f.result.1.key f.result.0 f.ensures.key StarverLock f.ensures.moved c.if-found-eq-STARVER.true),
     )
 
 pub returns-else-found-eq-STARVER-clause-begun : goal.returns-else-found-eq-STARVER-clause-begun
 returns-else-found-eq-STARVER-clause-begun g c =
     let me = c.args.self.account in let f = c.exchange-found in
-    let so = was_not_alone me.permit.key.name StarverLock me.permit.view f.result.1.view me.seen f.result.2 f.result.0 me.knows me.named f.ensures.moved None (0, refl) c.if-found-eq-STARVER.false in
+    let so = was_not_alone me f.result.1.view f.result.2 f.result.1.key f.result.0 f.ensures.key StarverLock f.ensures.moved None (0, refl) c.if-found-eq-STARVER.false in
     (subst MayAwait (sym so.1) refl, so.0)

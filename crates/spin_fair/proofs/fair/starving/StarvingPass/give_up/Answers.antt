@@ -9,9 +9,9 @@ use Rattle.spin_fair.proofs.Takes.{may_know, took}
 use Rattle.spin_fair.proofs.fair.starving.StarvingPass.give_up.Goals as goal
 
 pub subtract-permit-requires : goal.subtract-permit-requires
-subtract-permit-requires g c = let me = c.args.self.account in (inr (may_know me.permit.key.name me.seen me.named), gives_up me.permit.key.name me.permit.view c.args.self.starving)
+subtract-permit-requires g c = let me = c.args.self.account in (inr (may_know me.permit.key me.seen me.named), gives_up me.permit.key me.permit.view me.permit.value c.args.self.starving)
 
 pub returns-clause-made : goal.returns-clause-made
 returns-clause-made g c =
     let me = c.args.self.account in let s = c.subtract-permit in
-    (took me.permit.key.name false StarverDrop (λ n. answered Done ∷ []) (λ n. Idle) (Some Done) me.permit.view s.result.1.view me.seen s.result.2 s.result.0 me.knows me.named s.ensures.moved (0, refl)).0.1
+    (took me s.result.1.view s.result.2 s.result.1.key s.result.0 s.ensures.key false StarverDrop (λ n. answered Done ∷ []) (λ n. Idle) (Some Done) s.ensures.moved (0, refl)).0.1

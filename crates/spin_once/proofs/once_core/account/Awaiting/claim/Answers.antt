@@ -7,7 +7,7 @@ use Rattle.spin_once.specs.declared.once_core.account.Claim.TheVariants.{Found, 
 use Rattle.spin_once.proofs.Accounts.{and_waits, and_ends}
 use Rattle.spin_once.proofs.once_core.account.Awaiting.claim.Goals as goal
 
-claims_on : {T S : Type 0} (p q : Place S) → Since p Waits q → (r : Claim T S) → Claims q r → Claims p r
+claims_on : {T S : Type 0} (p q : Place T S) → Since p Waits q → (r : Claim T S) → Claims q r → Claims p r
 claims_on p q since (Found found) later = and_ends p q (here found.account) (Value tt) since later
 claims_on p q since (Init permit) later = and_waits p q (running permit) since later
 

@@ -8,4 +8,4 @@ use Rattle.spin_once.proofs.once_core.account.Awaiting.claim.Given as goal
 abbrev pub invariant-loop : goal.invariant-loop
 invariant-loop g l =
     (goal.iterator-loop g).can_next l.iterator' × (goal.iterator-loop g).is_finite l.iterator'
-    × (call_of (what l.awaiting.account.party.view) ≡ call_of (what l.fn.self.account.party.view)) × ((p : Place g.row.S.Denot) → Since p Waits (here l.fn.self.account) → Since p Waits (here l.awaiting.account))
+    × (call_of (what l.awaiting.account.party.view) ≡ call_of (what l.fn.self.account.party.view)) × ((p : Place g.row.T.Denot g.row.S.Denot) → Since p Waits (here l.fn.self.account) → Since p Waits (here l.awaiting.account))

@@ -12,7 +12,7 @@ use Rattle.spin_once.specs.declared.once_core.account.Found.{Found}
 use Rattle.spin_once.proofs.Accounts.{goes, ends, call_waits, call_ends}
 use Rattle.spin_once.proofs.once_core.account.Polling.wait.Goals as goal
 
-in_the_end : {T S : Type 0} (p : Place S) (was : Account T S) → Since p (Begins Poll Waits) (here was) → has_begun (what was.party.view) ≡ true → (r : Result (Found T S) (Account T S)) → PollsOn was (Ok r) → IsPolled p r
+in_the_end : {T S : Type 0} (p : Place T S) (was : Account T S) → Since p (Begins Poll Waits) (here was) → has_begun (what was.party.view) ≡ true → (r : Result (Found T S) (Account T S)) → PollsOn was (Ok r) → IsPolled p r
 in_the_end p was since begun (Ok found) made = (call_ends p (here was) (here found.account) Poll (Value tt) since (ends (here was) (here found.account) Poll (Value tt) (subst (λ b. Since (here was) (IsStep b Poll (Answered (Value tt) None)) (here found.account)) begun made)), tt)
 in_the_end p was since begun (Err none) made = (tt, (call_ends p (here was) (here none) Poll NoValue since (ends (here was) (here none) Poll NoValue (subst (λ b. Since (here was) (IsStep b Poll (Answered NoValue None)) (here none)) begun made.0)), made.1))
 

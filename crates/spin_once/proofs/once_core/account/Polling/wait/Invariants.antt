@@ -9,4 +9,4 @@ use Rattle.spin_once.proofs.once_core.account.Polling.wait.Given as goal
 abbrev pub invariant-loop : goal.invariant-loop
 invariant-loop g l =
     (goal.iterator-loop g).can_next l.iterator' × (goal.iterator-loop g).is_finite l.iterator'
-    × (has_begun (what l.polling.account.party.view) ≡ true) × ((p : Place g.row.S.Denot) → Since p (Begins Poll Waits) (here l.fn.self.account) → Since p (Begins Poll Waits) (here l.polling.account))
+    × (has_begun (what l.polling.account.party.view) ≡ true) × ((p : Place g.row.T.Denot g.row.S.Denot) → Since p (Begins Poll Waits) (here l.fn.self.account) → Since p (Begins Poll Waits) (here l.polling.account))

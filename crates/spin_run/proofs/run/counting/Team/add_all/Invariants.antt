@@ -1,4 +1,4 @@
--- the share has what the worker is still to add
+-- the share has what the worker still has to add
 use Rattle.std.proofs.Common.{◌≡◌, ◌+◌}
 use Rattle.spin_run.proofs.run.counting.Team.add_all.Given as goal
 

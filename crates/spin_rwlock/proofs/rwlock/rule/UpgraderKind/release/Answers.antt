@@ -1,15 +1,23 @@
 use Rattle.std.proofs.Common.{ap}
+use Rattle.spin_core.specs.Cell.{use_of}
 use Rattle.spin_model.specs.declared.answer.Answer.TheVariants.{Done}
 use Rattle.spin_step_more.specs.declared.rw_calls.RwCall.TheVariants.{Release}
+use Rattle.spin_rwlock.specs.Rw.{ends_by, use_of_view}
 use Rattle.spin_rwlock.specs.declared.rwlock.rule.View.TheVariants.{Idle}
 use Rattle.spin_rwlock.proofs.Steps.{upgradable_leaves}
-use Rattle.spin_rwlock.proofs.Passes.{may, answered}
+use Rattle.spin_rwlock.proofs.Passes.{may, stood, answered, still_last}
 use Rattle.spin_rwlock.proofs.rwlock.rule.UpgraderKind.release.Goals as goal
 
 pub subtract-party-requires : goal.subtract-party-requires
-subtract-party-requires g c = let it = c.args.party in (may it.key.name c.args.seen c.requires.1, upgradable_leaves it.key.name it.view c.requires.0)
+subtract-party-requires g c = let it = c.args.party in (may it.key c.args.seen c.requires.1, upgradable_leaves it.key it.view it.value c.requires.0)
+
+pub returns-clause-still : goal.returns-clause-still
+returns-clause-still g c =
+    let it = c.args.party in let f = c.subtract-party in
+    let at = stood it.key it.view f.result.1.view c.args.seen f.result.2 f.result.0 (ends_by Release (λ n. Done) (λ n. Idle)) (λ n. Idle) (λ own outs n v said. said.0) f.result.1.view f.ensures.moved in
+    still_last it.key it.view f.result.1.view it.value f.result.1.value f.result.2 f.ensures.found f.ensures.kept (ap (use_of use_of_view) c.requires.0) (ap (use_of use_of_view) at)
 
 pub returns-clause-made : goal.returns-clause-made
 returns-clause-made g c knew =
     let it = c.args.party in let f = c.subtract-party in
-    answered Release (λ n. Done) (λ n. Idle) it.view c.args.seen f.result.2 f.result.0 it.key.name f.result.1.key.name (ap (λ k. k.name) f.ensures.key) f.result.1.view knew f.ensures.moved
+    answered it.key it.view f.result.1.view c.args.seen f.result.2 f.result.0 f.result.1.key f.ensures.key knew Release (λ n. Done) (λ n. Idle) f.ensures.moved

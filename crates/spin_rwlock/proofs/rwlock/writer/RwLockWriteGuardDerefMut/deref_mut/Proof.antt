@@ -1,11 +1,11 @@
--- `deref_mut` lends the guard's permit to `get_mut`, and the guard follows what follows the permit. Assumes `Logic`.
+-- `deref_mut` lends the guard's permit to `get_mut`, and the guard follows what the permit follows. Assumes `Logic`.
 use Rattle.spin_core.proofs.WalkNames.{◌≡◌, ℕ, ◌+◌, List, [], ◌∷◌, ◌++◌, refl, ap, a_type, named, Val, vptr, vunit, inst_fn, full_share, SProp, emp, id⊢, Lft, Share, Fml, ftrue, fsep, flft, fbor, Logic, ‵, raw, ◌⊛◌, ◌$◌, ◌∵◌, !, qed, by, move, keep, drop, split, split3, join, fsplit, fsplit3, fjoin, fjoin3, feq_i, feq_l, use0, use1, use2, use3, later, some, await, pick, stop, addr, no_more, and_then, returns, enter, fld, alloc_all, pass_all, free_all, look_at, get, through, sets, env, ⊑_meet, tables, fact, fact_i, yes, no, RattleType, owns, types_at, plain, named_lft, RefMutOf, nothing, heard, param, layout, param_laws, Stays, stay_dropped, walk_of, proved, leaves}
 use seplogic.Ra.Ura.{Ura}
 use mathlib.Core.Option.{Option, some as found}
 use prog.Memory.{align, up}
 use mir.Syntax.{Ty, tcons, tnil, ty_struct}
 use mir.Raw.{raw as raw_type}
-use base.Share
+use base.Fraction.{left as half, right as other}
 use base.Fml.{GName, Incl, fobs}
 use types.SemTy.{Body}
 use types.ByLocal.{lands_as}
@@ -37,7 +37,7 @@ use Rattle.spin_rwlock.proofs.rwlock.rule.RwRule.TheLaws as FL
 use Rattle.spin_step_more.specs.contracts.rw_calls.RwCall as call
 use Rattle.spin_step_more.proofs.rw_calls.RwCall.TheLaws as call_laws
 use Rattle.spin_core.proofs.Sends.{at_first}
-use Rattle.spin_core.proofs.TieLaws.{numbered, numbered_laws, watched, watch_laws, traced, trace_laws, units}
+use Rattle.spin_core.proofs.TieLaws.{numbered, numbered_laws, opened, opening_laws, traced_over, trace_over_laws, units, permit_within, trace_within}
 use Rattle.spin_rwlock.specs.contracts.rwlock.rule.RwRuleRuleParty.TheImpl.{ghosts, dict}
 use Rattle.spin_rwlock.proofs.rwlock.rule.RwRuleRuleParty.TheImpl.Met.{bound}
 use Rattle.spin_rwlock.specs.Guards.{write_with}
@@ -46,7 +46,7 @@ use Rattle.spin_rwlock.specs.contracts.rwlock.writer.RwLockWriteGuardDerefMut.de
 use Rattle.spin_rwlock.proofs.rwlock.writer.RwLockWriteGuardDerefMut.deref_mut.Statement.{statement}
 use Rattle.spin_rwlock.proofs.rwlock.writer.RwLockWriteGuardDerefMut.deref_mut.Code as code
 
--- the writer stands at the guard's beginning
+-- the writer is at the beginning of the guard
 starts : {τ : Ty} → ◌≡◌ {A = Option (Ty × ℕ)} (found (τ, up (align τ) 0)) (found (τ, 0))
 starts {τ} = ap at (at_first (align τ))
   where
@@ -57,16 +57,16 @@ starts {τ} = ap at (at_first (align τ))
 twice : (κ ν : Lft) → Incl κ ν → Incl κ ((ν ++ []) ++ (ν ++ []))
 twice κ ν h = let once = ⊑_meet κ ν [] h (⊑_static κ) in ⊑_meet κ (ν ++ []) (ν ++ []) once once
 
--- a party, and what stands for the key and the second word
+-- a party, and the types of the key and of the second word
 
 abbrev Party : RattleType
 Party = numbered V.the_row
 
-abbrev Key : RattleType
-Key = watched call.the_row
+abbrev Key : RattleType → RattleType
+Key T = opened T
 
-abbrev Second : RattleType
-Second = traced call.the_row unit
+abbrev Second : RattleType → RattleType
+Second T = traced_over call.the_row T unit
 
 module _ (ℓ : NamedLft) (T S : RattleType) (LT : Laws T) (LS : Laws S) where
   abbrev R : RattleType
@@ -79,7 +79,7 @@ module _ (ℓ : NamedLft) (T S : RattleType) (LT : Laws T) (LS : Laws S) where
   G = the_row ℓ R Q
 
   abbrev pub Pen : RattleType
-  Pen = Permit.the_row ℓ R Party (F.the_row R) Key Second (ghosts R)
+  Pen = Permit.the_row ℓ R Party (F.the_row R) (Key R) (Second R) (ghosts R)
 
   abbrev pub put : G.Denot → Pen.Denot → G.Denot
   put h p = record { writer = p; strategy = h.strategy }
@@ -97,17 +97,19 @@ deref_mut_spec {M} 𝓤 𝓛 𝓜 𝓡 wired T S LT LS =
     let H = 𝓛.H in let 𝓣 = tables 𝓤 H 𝓜 𝓡 𝓡.env in let R : RattleType = param 0 T in let Q : RattleType = param 1 S in
     let En = ended T S in let c = clauses T S 𝓛 𝓜.mem 𝓡.returns in let inst = layouts (a_type ∷ a_type ∷ []) (T, (S, tt)) in let fn = inst_fn inst code.function in let closed = code.unfolded 𝓤 H 𝓜 𝓡 wired (T, (S, tt)) in
     let row = plain (λ κs. the_row (named_lft 4 1 tt κs) R Q) in let self = RefMutOf (0 ∷ []) tt row (λ _. tt) in let hs : Stays En.signature.params En.kept = (stay_dropped self no, tt) in
-    let X : RattleType = arg (layout T) yes R in let W : RattleType = arg (raw_type (layout Party)) no Party in let Y : RattleType = arg (ty_struct [] (tcons (layout T) tnil)) no (F.the_row R) in let K : RattleType = arg (raw_type (layout Key)) no Key in let U : RattleType = arg (raw_type (layout Second)) no Second in let I : RattleType = arg (layout T) no R in
+    let X : RattleType = arg (layout T) yes R in let W : RattleType = arg (raw_type (layout Party)) no Party in let Y : RattleType = arg (ty_struct [] (tcons (layout T) tnil)) no (F.the_row R) in let K : RattleType = arg (raw_type (layout (Key R))) no (Key R) in let U : RattleType = arg (raw_type (layout (Second R))) no (Second R) in let I : RattleType = arg (layout T) no R in
     let met_rule = bound 𝓡.env I (arg_laws (layout T) no R (param_laws 0 T LT) refl) M 𝓤 𝓛 𝓜 𝓡 in
     let called = met 𝓤 𝓛 𝓜 𝓡 (code.calls-spin_core::cell::WritePermit::get_mut 𝓡.env wired) X W Y K U (arg_laws (layout T) yes R (param_laws 0 T LT) refl)
     (arg_laws (raw_type (layout Party)) no Party (numbered_laws V.the_row VL.the_row_laws) refl) (arg_laws (ty_struct [] (tcons (layout T) tnil)) no (F.the_row R) (FL.the_row_laws R (param_laws 0 T LT)) refl)
-    (arg_laws (raw_type (layout Key)) no Key (watch_laws call.the_row call_laws.the_row_laws) refl) (arg_laws (raw_type (layout Second)) no Second (trace_laws call.the_row unit call_laws.the_row_laws units) refl) (ghosts I) (dict I) (record { Self-Key-lives = met_rule.Self-Key-lives; Self-Second-lives = met_rule.Self-Second-lives }) in
+    (arg_laws (raw_type (layout (Key R))) no (Key R) (opening_laws R (param_laws 0 T LT)) refl) (arg_laws (raw_type (layout (Second R))) no (Second R) (trace_over_laws call.the_row R unit call_laws.the_row_laws (param_laws 0 T LT) units) refl) (ghosts I) (dict I) (record { Self-Key-lives = met_rule.Self-Key-lives; Self-Second-lives = met_rule.Self-Second-lives }) in
     proved 𝓛 En hs c 𝓜 𝓡 (Goes-spent_ref 𝓛 4 (0 ∷ []) tt row, tt) (#self inst) fn closed
     (λ κs. (mut_vals, tt)) (λ κs. (mut_Tells (named 0) κs.0 (the_row (named_lft 4 1 tt κs) R Q), tt)) (λ κs qs bounds a gh are.
     let ℓ = named_lft 4 1 tt κs in let G : RattleType = the_row ℓ R Q in let P : RattleType = Pen ℓ T S LT LS in let m = a.0 in let b : ℕ = m.ref_ptr.0 in let o : ℕ = m.ref_ptr.1 in let γ : GName = m.ghost_name in let h : G.Denot = m.now in
     let κ : Lft = κs.0 in let q : Share = qs.0 in let β : Lft = κs.1.0 in let τ : Lft = κs.1.1.0 in let s : Share = qs.1.1.0 in let u : Fml = flft κs.1.1.1.0 qs.1.1.1.0 in
     let y : (walk_of 𝓛 En hs c).Ghost = ((κs, qs, bounds, a, (vptr b o ∷ [], tt)), gh) in let Post : Val → SProp 𝓤 = (walk_of 𝓛 En hs c).post y in
-    let κs' : Lfts 7 = (κ, (β, (τ, ([], (τ, ([], ([], tt))))))) in let qs' : Shares 7 = (q, (qs.1.0, (Share.left s, (full_share, (Share.right s, (full_share, (full_share, tt))))))) in
+    let here : Fml = flft τ (half s) in let rest : Fml = flft τ (other s) in let its_rule : Fml = flft τ (half (other s)) in let more : Fml = flft τ (other (other s)) in
+    let its_key : Fml = flft τ (half (other (other s))) in let its_second : Fml = flft τ (other (other (other s))) in
+    let κs' : Lfts 7 = (κ, (β, (τ, ([], (τ, (τ, (τ, tt))))))) in let qs' : Shares 7 = (q, (qs.1.0, (half s, (full_share, (half (other s), (half (other (other s)), (other (other (other s)), tt))))))) in
     let C = triple_of 𝓛 (callee.signature X W Y K U (ghosts I) (dict I)) (callee.spec X W Y K U (ghosts I) (dict I) 𝓛 𝓜.mem 𝓡.returns) in
     qed 𝓛 (((‵ (flft κ q) ⊛ (‵ (flft β qs.1.0) ⊛ (‵ (flft τ qs.1.1.0) ⊛ (‵ u ⊛ ‵ ftrue)))) ⊛ ‵ (owns (types_at En.signature.params κs) a y.0.4)) ∷ raw (fact 𝓤 (Incl τ T.lives)) ∷ raw (fact 𝓤 (Incl κs.1.1.1.0 S.lives)) ∷ ‵ ftrue ∷ []) ∵
     split ! $ split ! $ move ! (1 ∷ []) $ split3 ! $ move ! (4 ∷ []) $ fsplit ! $ fsplit3 ! $
@@ -119,21 +121,23 @@ deref_mut_spec {M} 𝓤 𝓛 𝓜 𝓡 wired T S LT LS =
     let yc : C.Ghost = ((κs', qs', (bounds.0, (bounds.1.0, (⊑_static κ, (bounds.1.0, (bounds.1.1.1.0, tt))))), (m', tt), (vptr b (o + 0) ∷ [], tt)), tt) in
     move ! (3 ∷ 0 ∷ []) $ feq_i ! (List Val) (mut_vals m') (mut_vals m') refl $ fjoin3 ! $ nothing ! $ move ! (1 ∷ 0 ∷ []) $ fjoin ! $
     -- [the argument; κ; what follows; β; τ; the others; T lives; ..]
-    move ! (6 ∷ []) $ heard ! (Incl τ T.lives) (λ lives. move ! (4 ∷ []) $ use1 𝓛 (‵ (flft τ (Share.left s)) ⊛ ‵ (flft τ (Share.right s))) (𝓛.lfts.lft_split τ s) $ split ! $
-    -- [τ; τ; the argument; κ; what follows; β; the others; ..]
-    use0 𝓛 (‵ (flft [] full_share)) (𝓛.lfts.lft-nil full_share) $ use0 𝓛 (‵ (flft [] full_share)) (𝓛.lfts.lft-nil full_share) $ use0 𝓛 (‵ (flft [] full_share)) (𝓛.lfts.lft-nil full_share) $ nothing ! $
-    move ! (1 ∷ 0 ∷ []) $ fjoin ! $ move ! (1 ∷ 0 ∷ []) $ fjoin ! $ move ! (3 ∷ 0 ∷ []) $ fjoin ! $ move ! (1 ∷ 0 ∷ []) $ fjoin ! $ move ! (1 ∷ 0 ∷ []) $ fjoin ! $ move ! (4 ∷ 0 ∷ []) $ fjoin ! $ move ! (2 ∷ 0 ∷ []) $ fjoin ! $ join ! $
+    move ! (6 ∷ []) $ heard ! (Incl τ T.lives) (λ lives. move ! (4 ∷ []) $ use1 𝓛 (‵ here ⊛ ‵ rest) (𝓛.lfts.lft_split τ s) $ split ! $
+    move ! (1 ∷ []) $ use1 𝓛 (‵ its_rule ⊛ ‵ more) (𝓛.lfts.lft_split τ (other s)) $ split ! $ move ! (1 ∷ []) $ use1 𝓛 (‵ its_key ⊛ ‵ its_second) (𝓛.lfts.lft_split τ (other (other s))) $ split ! $
+    -- [τ of the key; of the second word; of the rule; of the value; the argument; κ; what follows; β; the others; ..]
+    nothing ! $ move ! (2 ∷ 0 ∷ []) $ fjoin ! $ move ! (1 ∷ 0 ∷ []) $ fjoin ! $ move ! (1 ∷ 0 ∷ []) $ fjoin ! $ use0 𝓛 (‵ (flft [] full_share)) (𝓛.lfts.lft-nil full_share) $ fjoin ! $
+    move ! (1 ∷ 0 ∷ []) $ fjoin ! $ move ! (4 ∷ 0 ∷ []) $ fjoin ! $ move ! (2 ∷ 0 ∷ []) $ fjoin ! $ join ! $
     -- [tokens and argument; what follows; the others; ..]
-    nothing ! $ use0 𝓛 (raw (fact 𝓤 (Incl [] U.lives))) (fact_i 𝓤 (Incl [] U.lives) (emp 𝓤) (⊑_static [])) $ join ! $ use0 𝓛 (raw (fact 𝓤 (Incl [] U.lives))) (fact_i 𝓤 (Incl [] U.lives) (emp 𝓤) (⊑_static [])) $ join ! $ use0 𝓛 (raw (fact 𝓤 (Incl τ Y.lives))) (fact_i 𝓤 (Incl τ Y.lives) (emp 𝓤) (twice τ T.lives lives)) $ join ! $ use0 𝓛 (raw (fact 𝓤 (Incl [] W.lives))) (fact_i 𝓤 (Incl [] W.lives) (emp 𝓤) (⊑_static [])) $ join ! $
+    nothing ! $ use0 𝓛 (raw (fact 𝓤 (Incl τ U.lives))) (fact_i 𝓤 (Incl τ U.lives) (emp 𝓤) (trace_within τ T.lives lives)) $ join ! $ use0 𝓛 (raw (fact 𝓤 (Incl τ K.lives))) (fact_i 𝓤 (Incl τ K.lives) (emp 𝓤) (permit_within τ T.lives lives)) $ join ! $ use0 𝓛 (raw (fact 𝓤 (Incl τ Y.lives))) (fact_i 𝓤 (Incl τ Y.lives) (emp 𝓤) (twice τ T.lives lives)) $ join ! $ use0 𝓛 (raw (fact 𝓤 (Incl [] W.lives))) (fact_i 𝓤 (Incl [] W.lives) (emp 𝓤) (⊑_static [])) $ join ! $
     use0 𝓛 (raw (fact 𝓤 (Incl τ T.lives))) (fact_i 𝓤 (Incl τ T.lives) (emp 𝓤) lives) $ join ! $ move ! (1 ∷ 0 ∷ []) $ join ! $ use1 𝓛 (raw (C.pre yc)) (id⊢ 𝓤 (C.pre yc)) $
     sets ! (addr ! (through ! refl (fld ! starts (stop !)))) refl (tt, tt) $
     calls_at ! (fm 𝓛 𝓜 𝓡) C called yc (and_then ! (get ! refl) (no_more !)) (λ v.
-    use1 𝓛 (later (some (λ (r : MutBor T.Denot). ((‵ (flft κ q) ⊛ (‵ (flft β qs.1.0) ⊛ (‵ (flft τ (Share.left s)) ⊛ (‵ (flft [] full_share) ⊛ (‵ (flft τ (Share.right s)) ⊛ ‵ (fsep (flft [] full_share) (fsep (flft [] full_share) ftrue))))))) ⊛ ‵ ((MutRef (named 0) κ R).own_val r (v ∷ []))) ⊛
+    use1 𝓛 (later (some (λ (r : MutBor T.Denot). ((‵ (flft κ q) ⊛ (‵ (flft β qs.1.0) ⊛ (‵ here ⊛ (‵ (flft [] full_share) ⊛ (‵ its_rule ⊛ ‵ (fsep its_key (fsep its_second ftrue))))))) ⊛ ‵ ((MutRef (named 0) κ R).own_val r (v ∷ []))) ⊛
     some (λ (ws : Unit {0} × Unit {0}). ‵ (fsep ftrue ftrue) ⊛ (‵ (follows P R δ r.ghost_name (with_value h.writer)) ⊛ raw (fact 𝓤 (r.now ≡ h.writer.value))))))) (id⊢ 𝓤 (C.post yc v)) $
     await ! tt $ pick ! (λ r. split ! $ split ! $ move ! (1 ∷ []) $ fsplit3 ! $ feq_l ! (λ e. move ! (3 ∷ []) $ pick ! (λ ws. split3 ! $ drop ! $ move ! (5 ∷ 0 ∷ []) $
     use2 𝓛 (‵ (follows G R γ r.ghost_name (write_with h))) (follows_then 𝓛 G P R (put ℓ T S LT LS h) (with_value h.writer) γ δ r.ghost_name) $
     -- [what follows; the value; its place; its borrow; the tokens; the others; ..]
-    move ! (4 ∷ []) $ split3 ! $ move ! (2 ∷ []) $ split3 ! $ move ! (2 ∷ []) $ split ! $ move ! (2 ∷ 0 ∷ []) $ use2 𝓛 (‵ (flft τ s)) (𝓛.lfts.lft_join τ s) $ move ! (1 ∷ []) $ drop ! $ move ! (1 ∷ []) $ drop ! $
+    move ! (4 ∷ []) $ split3 ! $ move ! (2 ∷ []) $ split3 ! $ move ! (2 ∷ []) $ split ! $ move ! (1 ∷ []) $ fsplit3 ! $
+    use2 𝓛 (‵ more) (𝓛.lfts.lft_join τ (other (other s))) $ move ! (2 ∷ 0 ∷ []) $ use2 𝓛 (‵ rest) (𝓛.lfts.lft_join τ (other s)) $ move ! (2 ∷ 0 ∷ []) $ use2 𝓛 (‵ (flft τ s)) (𝓛.lfts.lft_join τ s) $ move ! (1 ∷ []) $ drop ! $ move ! (1 ∷ []) $ drop ! $
     -- [τ; κ; β; what follows; the value; its place; its borrow; the others; ..]
     move ! (0 ∷ 7 ∷ []) $ join ! $ move ! (2 ∷ 0 ∷ []) $ join ! $ move ! (1 ∷ 0 ∷ []) $ join ! $
     move ! (3 ∷ 4 ∷ []) $ feq_i ! (List Val) (mut_vals r) (mut_vals r) refl $ fjoin3 ! $ move ! (2 ∷ 3 ∷ []) $ join ! $ nothing ! $ nothing ! $ fjoin ! $

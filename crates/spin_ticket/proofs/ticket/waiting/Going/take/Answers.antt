@@ -1,26 +1,27 @@
-use Rattle.std.proofs.Common.{Some, true, refl, ap, ◌∙◌}
-use mathlib.Core.Logic.{inl, inr}
-use Rattle.spin_core.proofs.Passes.{goes}
+use Rattle.std.proofs.Common.{true}
 use Rattle.spin_model.specs.declared.ticket.TicketCall.TheVariants.{Lock}
-use Rattle.spin_ticket.specs.Queue.{model, goes_on, taken}
-use Rattle.spin_ticket.proofs.Queue.{takes, left_of, goes_for, may_know, learnt}
+use Rattle.spin_ticket.specs.Accounts.{spot, here}
+use Rattle.spin_ticket.specs.Queue.{goes_on, taken}
+use Rattle.spin_ticket.proofs.Queue.{takes}
+use Rattle.spin_ticket.proofs.Accounts.{may_know, stepped, stays_in}
 use Rattle.spin_ticket.proofs.ticket.waiting.Going.take.Goals as goal
 
 pub returns-in_default : goal.returns-in_default
-returns-in_default g c = (tt, inl (refl, refl))
+returns-in_default g c p is_in = (tt, is_in)
 
 pub exchange-found-requires : goal.exchange-found-requires
-exchange-found-requires g c = let me = c.args.self in let p = me.permit in let left = left_of me.number c.in-Some.after c.in-Some.ensures.exact in
-    (inr (may_know p.key me.seen me.named), takes p.key p.view p.value me.number c.in-Some.after (me.goes ∙ ap Some (goes_for me.number left.0)) left.1 left.0 c.in-Some.ensures.plain)
+exchange-found-requires g c =
+    let it = c.args.self in let me = it.account in
+    (may_know me, takes me.permit.key me.permit.view me.permit.value it.number c.in-Some.after it.goes c.in-Some.ensures.exact)
 
 pub returns-then-found-number : goal.returns-then-found-number
-returns-then-found-number g c =
-    let me = c.args.self in let p = me.permit in let f = c.exchange-found in
-    let told = learnt p.key true Lock goes_on (taken me.number) p.view f.result.1.view me.seen f.result.2 f.result.0 me.knows me.named f.ensures.moved in
-    ((told.named, f.ensures.key, goes (model p.key) p.view f.result.1.view me.seen.entries f.result.2.entries Lock told.made), tt)
+returns-then-found-number g c p is_in =
+    let me = c.args.self.account in let f = c.exchange-found in let to = taken c.args.self.number in
+    let step = stepped me f.result.0 f.result.1 f.result.2 f.ensures.key true Lock goes_on to f.ensures.moved in
+    (stays_in Lock p (here me) (spot f.result.1 f.result.2) is_in step.0, tt)
 
 pub returns-else-found-number : goal.returns-else-found-number
-returns-else-found-number g c =
-    let me = c.args.self in let p = me.permit in let f = c.exchange-found in
-    let told = learnt p.key true Lock goes_on (taken me.number) p.view f.result.1.view me.seen f.result.2 f.result.0 me.knows me.named f.ensures.moved in
-    (tt, inr (told.named, f.ensures.key, goes (model p.key) p.view f.result.1.view me.seen.entries f.result.2.entries Lock told.made))
+returns-else-found-number g c p is_in =
+    let me = c.args.self.account in let f = c.exchange-found in let to = taken c.args.self.number in
+    let step = stepped me f.result.0 f.result.1 f.result.2 f.ensures.key true Lock goes_on to f.ensures.moved in
+    (tt, stays_in Lock p (here me) (spot f.result.1 f.result.2) is_in step.0)

@@ -1,0 +1,213 @@
+-- A step that is moves of the model, in the history that has the value. The last step of a call whose closure gave a value is a write of it there.
+-- It keeps what is known of the value.
+use Rattle.std.proofs.Common.{◌≡◌, ◌≢◌, ℕ, suc, ◌≤◌, Bool, true, false, Option, Some, None, is_some, List, [], ◌∷◌, ◌++◌, map, length, refl, sym, ap, ◌∙◌, subst, arith}
+use Rattle.std.proofs.lemmas.List.{append_assoc, append-nil, map-append}
+use mathlib.Core.List.{IsPrefix}
+use Rattle.spin_core.specs.Cell.{Use, off, reads, writes, use_of, Way, no_fact, Carries, Carrying, Meets, Moved, Shows, SameValue, Learns, readers_of, after as views_after}
+use Rattle.spin_core.specs.Own.{Numbered, Runs, IsRun, Tells, by_party}
+use Rattle.spin_core.specs.Traced.{Traces, Watches, Learnt, grown}
+use Rattle.spin_core.specs.Stable.{maybe_stable}
+use Rattle.spin_core.specs.declared.cell.stable.MaybeStable.{MaybeStable}
+use Rattle.spin_core.specs.declared.tie.Opening.{Opening}
+use Rattle.spin_core.specs.declared.trace.Trace.{Trace}
+use Rattle.spin_core.specs.declared.trace.Watch.{Watch}
+use Rattle.spin_core.proofs.CellWays.{going_map}
+use Rattle.spin_model.specs.declared.once.OnceCall.{OnceCall}
+use Rattle.spin_model.specs.declared.schedule.Move.{Move}
+use Rattle.spin_model.specs.declared.schedule.Move.TheVariants.{Begin, Step, Weak}
+use Rattle.spin_once.specs.Model.{model}
+use Rattle.spin_once.specs.Once.{OneMove, Ending, Says, Word, use_of_view, use_of_party, once_ways, seat_of, words_of, IsOnce, Told}
+use Rattle.spin_once.specs.OnceValues.{Valued, Made, bare_move, bare, bare_trace, bare_watch, value_of, values_of, values, lies_in, given_of, made, AtMostOne, IsMade, IsValue, uses, Sees}
+use Rattle.spin_once.specs.declared.once_core.rule.Key.{Key}
+use Rattle.spin_once.specs.declared.once_core.rule.Stage.{Stage}
+use Rattle.spin_once.specs.declared.once_core.rule.Stage.TheVariants.{Done}
+use Rattle.spin_once.specs.declared.once_core.rule.View.{View}
+
+abbrev pub ValueMove : Type 0 → Type 0
+ValueMove T = Move (OnceCall (Unit {0})) T
+
+module _ {T : Type 0} where
+  abbrev pub bare_moves : List (ValueMove T) → List OneMove
+  bare_moves own = map bare_move own
+
+  pub bare_append : (xs ys : List (Valued T)) → bare (xs ++ ys) ≡ bare xs ++ bare ys
+  bare_append xs ys = map-append (λ (e : Valued T). (e.0, bare_move e.1)) xs ys
+
+  bare_by : (p : ℕ) (own : List (ValueMove T)) → bare (by_party p own) ≡ by_party p (bare_moves own)
+  bare_by p [] = refl
+  bare_by p (move ∷ own) = ap (λ l. (p, bare_move move) ∷ l) (bare_by p own)
+
+  pub as_long : (es : List (Valued T)) → length (bare es) ≡ length es
+  as_long [] = refl
+  as_long (e ∷ es) = ap suc (as_long es)
+
+  values-append : (xs ys : List (Valued T)) → values (xs ++ ys) ≡ values xs ++ values ys
+  values-append [] ys = refl
+  values-append (x ∷ xs) ys = ap (λ l. value_of x.1 ++ l) (values-append xs ys) ∙ sym (append_assoc (value_of x.1) (values xs) (values ys))
+
+  values_by : (p : ℕ) (own : List (ValueMove T)) → values (by_party p own) ≡ values_of own
+  values_by p [] = refl
+  values_by p (move ∷ own) = ap (λ l. value_of move ++ l) (values_by p own)
+
+  -- moves that write nothing
+  abbrev plain_move : OneMove → ValueMove T
+  plain_move (Begin c) = Begin c
+  plain_move Weak = Weak
+  plain_move _ = Step
+
+  abbrev pub plainly : List OneMove → List (ValueMove T)
+  plainly own = map plain_move own
+
+  none_written : (own : List OneMove) → values_of (plainly own) ≡ []
+  none_written [] = refl
+  none_written (move ∷ own) = by_move move ∙ none_written own
+    where
+      by_move : (move : OneMove) → value_of (plain_move move) ++ values_of (plainly own) ≡ values_of (plainly own)
+      by_move (Begin c) = refl
+      by_move Weak = refl
+      by_move _ = refl
+
+  module _ {S : Type 0} (first : Stage T S) where
+    made-append : (xs ys : List (Valued T)) → made first (xs ++ ys) ≡ made first xs ++ values ys
+    made-append xs ys = ap (λ l. lies_in first ++ l) (values-append xs ys) ∙ sym (append_assoc (lies_in first) (values xs) (values ys))
+
+    made_by : (log : List (Valued T)) (p : ℕ) (own : List (ValueMove T)) → made first (log ++ by_party p own) ≡ made first log ++ values_of own
+    made_by log p own = made-append log (by_party p own) ∙ ap (λ l. made first log ++ l) (values_by p own)
+
+  -- the only value of a list that goes on to at most one
+  only : (v : T) (more : List T) → length (v ∷ more) ≤ 1 → v ∷ more ≡ v ∷ []
+  only v [] few = refl
+  only v (x ∷ xs) few = absurd (omega (arith, few))
+
+-- two histories, of which one goes on from the other, have the same value
+pub agree : {T S : Type 0} (opening : Opening (Stage T S)) (old new : List (Valued T)) (x y : T)
+    → opening.told ≡ true → IsPrefix old new → IsValue opening old x → IsValue opening new y → x ≡ y
+agree opening old new x y told more is is' =
+    let longer : y ∷ [] ≡ x ∷ values more.0 =
+    sym (is' told) ∙ ap (made opening.value) (sym more.1) ∙ made-append opening.value old more.0 ∙ ap (λ l. l ++ values more.0) (is told) in sym (cc (longer))
+
+-- where nobody wrote before
+pub carries_on : {X : Type 0} (φ ψ : X → Type 0) (u u' : Use) (shown : Option X) → u ≢ writes
+    → ((x : X) → φ x → ψ x) → Carries φ ψ u u' shown
+carries_on φ ψ off u' shown ne on = on
+carries_on φ ψ reads u' shown ne on = on
+carries_on φ ψ writes u' shown ne on = absurd (ne refl)
+
+module _ {T S : Type 0} (makes : S → T → Type 0) (key : Key T S) where
+  abbrev first : Stage T S
+  first = key.opening.value
+
+  abbrev told : Bool
+  told = key.opening.told
+
+  abbrev Content : Type 0
+  Content = MaybeStable (Stage T S)
+
+  abbrev Is : List T → Content → Type 0
+  Is vs x = IsMade told vs x.value
+
+  abbrev way : Way Content
+  way = (once_ways makes key).0
+
+  abbrev Bare : ℕ → Trace Made (Unit {0}) → List (Numbered View) → Type 0
+  Bare = Runs (model (given_of first)) seat_of words_of Word key.opening.name
+
+  module _ (view : Option (Numbered View)) (shown : Option Content) (f : ℕ → ℕ) (exact says : Says) (put : List OneMove → List (ValueMove T)) where
+    abbrev pub Each : (List OneMove → ℕ → View → Type 0) → Type 0
+    Each P = (own : List OneMove) (outs : List Ending) (n : ℕ) (u : View) → exact own outs n u → P own n u
+
+    -- such moves keep that there is at most one value, and what is known of it
+    abbrev pub Leaving : Type 0
+    Leaving = Each (λ own n u. (vs : List T) → AtMostOne n vs
+        → AtMostOne (f n) (vs ++ values_of (put own)) × Carries (Is vs) (Is (vs ++ values_of (put own))) (use_of use_of_party view) (use_of_view u) shown)
+
+    pub valued : ((own : List OneMove) (outs : List Ending) (n : ℕ) (u : View) → exact own outs n u → says own outs n u)
+        → Each (λ own n u. bare_moves (put own) ≡ own) → Leaving
+        → Traces Bare (way, use_of_party, no_fact) view shown f (Tells (model (given_of first)) seat_of words_of exact view)
+        → Traces (IsOnce key.opening) (once_ways makes key) view shown f (Told key.opening says view)
+    valued less lifts leaves traces id n t vs meets at small =
+        let (w, es, going, (own, outs, is, mark, none, mine, said)) = traces id n (bare_trace t) vs (meets.0.0, meets.1) at small in
+        let es' : List (Valued T) = by_party w.1 (put own) in let had : List T = made first t.entries in let m = model (given_of first) in
+        let same : bare es' ≡ es = bare_by w.1 (put own) ∙ ap (by_party w.1) (lifts own outs n w.0 said) ∙ sym is in
+        let whole : bare (t.entries ++ es') ≡ bare t.entries ++ es = bare_append t.entries es' ∙ ap (λ l. bare t.entries ++ l) same in
+        let now : made first (t.entries ++ es') ≡ had ++ values_of (put own) = made_by first t.entries w.1 (put own) in
+        let left = leaves own outs n w.0 said had meets.0.1 in let us : List (Numbered View) = views_after id view vs w in
+        let few : AtMostOne (f n) (made first (t.entries ++ es')) = subst (AtMostOne (f n)) (sym now) left.0 in
+        let owed = subst (λ l. Carries (Is had) (Is l) (use_of use_of_party view) (use_of_party w) shown) (sym now) left.1 in
+        let Kept : Type 0 =
+        Carrying (once_ways makes key).2 t (grown t es') (use_of use_of_party view) (use_of_party w) shown
+        (Meets (IsOnce key.opening) (once_ways makes key) (f n) (grown t es') us) in
+        let keeps : Meets Bare (way, use_of_party, no_fact) (f n) (grown (bare_trace t) es) us → Kept = λ met.
+        (owed, (((met.0.0, met.0.1, subst (λ l. IsRun m seat_of words_of l (f n, t.word) us) (sym whole) met.0.2), few), met.1)) in (
+          w,
+          es',
+          going_map way (use_of use_of_party view) (use_of_party w) shown (readers_of use_of_party vs) keeps going,
+          (subst (λ l. Tells m seat_of words_of says view (bare t.entries) l n w) (sym same) (own, outs, is, mark, none, mine, less own outs n w.0 said), few.1),
+        )
+
+  -- moves that write nothing, of a party that does not write
+  pub writes_none : (view : Option (Numbered View)) (shown : Option Content) (f : ℕ → ℕ) (says : Says)
+      → use_of use_of_party view ≢ writes → ((n : ℕ) → n ≡ 2 → f n ≡ 2) → Leaving view shown f says says plainly
+  writes_none view shown f says ne two own outs n u said vs few =
+      let none : vs ++ values_of (plainly own) ≡ vs = ap (λ l. vs ++ l) (none_written own) ∙ append-nil vs in
+      subst (λ l. AtMostOne (f n) l × Carries (Is vs) (Is l) (use_of use_of_party view) (use_of_view u) shown) (sym none)
+      (((λ other. few.0 (λ e. other (two n e))), few.1), carries_on (Is vs) (Is vs) (use_of use_of_party view) (use_of_view u) shown ne (λ x is. is))
+
+  -- ---- what a step tells
+  module _ (says : Says) (named : Type 0) (view : Option (Numbered View)) (before now : Watch (Valued T)) (n : ℕ) where
+    abbrev pub Bared : Option (Numbered View) → Type 0
+    Bared view' = Moved (Watches named (bare_watch before) (bare_watch now) (Tells (model (given_of first)) seat_of words_of says view) n) view'
+
+    pub bared : (view' : Option (Numbered View)) → Moved (Watches named before now (Told key.opening says view) n) view' → Bared view'
+    bared None moved = absurd moved
+    bared (Some v) (same, (log, es, known, is, (tells, few))) =
+        (same, (bare log, bare es, (bare known.0, sym (bare_append before.entries known.0) ∙ ap bare known.1), ap bare is ∙ bare_append log es, tells))
+
+    abbrev Grows : Type 0
+    Grows = (more : List (Valued T)) × (now.entries ≡ before.entries ++ more) × (length (made first now.entries) ≤ 1)
+
+    grows : (view' : Option (Numbered View)) → Moved (Watches named before now (Told key.opening says view) n) view' → Grows
+    grows None moved = absurd moved
+    grows (Some v) (same, (log, es, known, is, (tells, few))) =
+        (known.0 ++ es, is ∙ ap (λ l. l ++ es) (sym known.1) ∙ append_assoc before.entries known.0 es, subst (λ l. length (made first l) ≤ 1) (sym is) few)
+
+    -- a value that was the only one is the only one still
+    pub stays : (view' : Option (Numbered View)) → Moved (Watches named before now (Told key.opening says view) n) view'
+        → (v : T) → IsValue key.opening before.entries v → IsValue key.opening now.entries v
+    stays view' moved v so is_told =
+        let g = grows view' moved in
+        let one : made first now.entries ≡ v ∷ values g.0 = ap (made first) g.1 ∙ made-append first before.entries g.0 ∙ ap (λ l. l ++ values g.0) (so is_told) in
+        one ∙ only v (values g.0) (subst (λ l. length l ≤ 1) one g.2)
+
+  -- what a party is shown where it uses the value after a step: what it was shown, if it used it so before, and else what it finds
+  module _ (old new : List (Valued T)) (stays_on : (v : T) → IsValue key.opening old v → IsValue key.opening new v) where
+    some_is : (before after : Option Content) → SameValue before after → is_some after ≡ true
+    some_is None after same = ap is_some same.1
+    some_is (Some x) after same = ap is_some same
+
+    same_value : (before after : Option Content) → is_some before ≡ true → SameValue before after → before ≡ after
+    same_value None after is same = absurd (let d : false ≡ true = is in cc)
+    same_value (Some x) after is same = sym same
+
+    kept_on : (u : Use) (before after : Option Content) → Sees key.opening old u before → uses u ≡ true → SameValue before after
+        → (v : T) → after ≡ Some (maybe_stable (Done v)) → IsValue key.opening new v
+    kept_on u before after had used same v is = let h = had used in stays_on v (h.1 v (same_value before after h.0 same ∙ is))
+
+    abbrev Learning : Use → Use → Option Content → Option Content → Type 0
+    Learning u u' before after = Learnt {S = Unit {0}} (once_ways makes key).2 u u' before after new
+
+    found_by : (u u' : Use) (before after : Option Content) → ((φ : Content → Type 0) (x : Content) → Learns φ u u' before (Some x) → φ x)
+        → Learning u u' before after → (v : T) → after ≡ Some (maybe_stable (Done v)) → IsValue key.opening new v
+    found_by u u' before after says learnt v is =
+        let l = subst (Learning u u' before) is learnt in
+        subst (λ vs. IsMade {S = S} told vs (Done v)) (ap (made first) l.1) (says (λ x. Is (made first l.0.entries) x) (maybe_stable (Done v)) l.2)
+
+    pub sees_on : (u u' : Use) (before after : Option Content) → (u ≡ u' → Sees key.opening old u before) → Shows u' before after
+        → Learning u u' before after → Sees key.opening new u' after
+    sees_on u off before after had shows learnt used = absurd (let d : false ≡ true = used in cc)
+    sees_on reads reads before after had shows learnt used = (some_is before after shows, kept_on reads before after (had refl) refl shows)
+    sees_on writes writes before after had shows learnt used = (some_is before after shows, kept_on writes before after (had refl) refl shows)
+    sees_on off reads before after had shows learnt used = (some_is before after shows, found_by off reads before after (λ φ x l. l) learnt)
+    sees_on off writes before after had shows learnt used = (some_is before after shows, found_by off writes before after (λ φ x l. l) learnt)
+    sees_on reads writes before after had shows learnt used = (some_is before after shows, found_by reads writes before after (λ φ x l. l) learnt)
+    sees_on writes reads before after had shows learnt used = (some_is before after shows, found_by writes reads before after (λ φ x l. l) learnt)
