@@ -129,7 +129,7 @@ won_by old found won lost is = ap (λ b. if b then won else lost) (eq-eqb found 
 pub lost_by : {X : Type 0} (old found : ℕ) (won lost : X) → found ≢ old → either_at old won lost found ≡ lost
 lost_by old found won lost other = ap (λ b. if b then won else lost) (ne_eqb found old other)
 
--- what is known of a party is known of it as a writer, and the other way round
+-- what is known of a party is known of it as a writer, and vice versa
 module _ {T A : Type 0} (R : Option (Numbered View) → Type 0) (now : Watch (Done T)) (it other : Opening T) (v : Numbered View) (view : Option (Numbered View)) where
   pub to_writer : it ≡ other → Some v ≡ view → ((other.name ≡ now.name) × (mark_of view ≡ length now.entries)) × A × R view → ((it.name ≡ now.name) × (v.2 ≡ length now.entries)) × A × R (Some v)
   to_writer same is (knows, a, r) = ((ap (λ o. o.name) same ∙ knows.0, ap mark_of is ∙ knows.1), a, subst R (sym is) r)
@@ -196,7 +196,7 @@ module _ {T : Type 0} (v₀ : T) (call : RwCall) (u v w : Option (Numbered View)
   begun : Moves v₀ (Begins call Waits) u a v b
   begun = subst (λ x. Moves v₀ (Begins call (Left x)) u a v b) goes so_far
 
-  -- an exchange of the call that goes on
+  -- an exchange of a call under way
   pub then_granted : Moves v₀ (IsStep true call (Answered Granted None)) v b w c → Called v₀ call Granted u a w c
   then_granted made = call_ends (model v₀) u v w a b c call Granted begun (passes.ends (model v₀) v w b c call Granted made)
 

@@ -180,7 +180,7 @@ Holds Reading k = k ≡ 8
 Holds Upgradable k = k ≡ 2
 Holds _ k = ⊥
 
--- a party in the call that goes on
+-- a party in a call under way
 pub in_its_call : (won : View) (waits : Bool) → Comes won → (old new : ℕ) → grants (call_of won waits) old ≡ Some new → in_call (Some (Coming (call_of won waits) old)) ≡ true
 in_its_call Reading false cm old new grant = rw grant refl
 in_its_call Reading true cm old new grant = rw grant refl
@@ -193,7 +193,7 @@ sits_idle Reading cm n none = rw none refl
 sits_idle Upgradable cm n none = rw none refl
 sits_idle _ cm n none = absurd cm
 
--- The moves of each: a call of the model and its one step, or a step of a call that has begun
+-- The moves of each step: a call of the model and its only step, or a step of a call under way
 
 module _ {T : Type 0} (v₀ : T) where
   abbrev Moves : Option View → (ℕ → ℕ) → (ℕ → View → Type 0) → Says T → Type 0

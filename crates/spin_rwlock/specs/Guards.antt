@@ -1,4 +1,4 @@
--- The value of a guard, the write guard with another value in its place, and what is known of the history beside it.
+-- The value of a guard, the write guard with another value in its place, and what is known of the history with a guard.
 use Rattle.std.specs.Prelude.{◌≡◌, Option, Some, IfSome, length}
 use Rattle.spin_core.specs.Own.{Numbered}
 use Rattle.spin_core.specs.Passes.{mark_of}
@@ -54,7 +54,7 @@ module _ {T R : Type 0} where
   abbrev pub write_opening : RwLockWriteGuard T R → Opening T
   write_opening it = it.writer.key
 
-  -- beside a guard its pass knows all of the lock's history up to the guard's last step
+  -- the pass of a guard knows the lock's whole history, up to the guard's last step
   abbrev pub ReadsWith : {K : Type 0} {kind : Ghosts K} → SharedGuard T K R kind → Watch (Done T) → Type 0
   ReadsWith it seen = (it.permit.key.name ≡ seen.name) × (mark_of it.permit.view ≡ length seen.entries)
 

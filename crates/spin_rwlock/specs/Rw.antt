@@ -48,7 +48,7 @@ use_of_view = used_by part
 abbrev pub use_of_party : Numbered View → Use
 use_of_party v = use_of_view v.0
 
--- the word that a call which comes to read makes of the word that it found, if that lets it in
+-- the word after a call to read, if the word found admits it
 abbrev pub grants : RwCall → ℕ → Option ℕ
 grants TryRead n = read reader_limit n
 grants Read n = read reader_limit n
@@ -73,7 +73,7 @@ seat_of WritingAsked = seat.Holding hold.Write
 seat_of (Coming call n) = either (is_some (grants call n)) (seat.Calling call (point.Exchange n) None) (kept_out call)
 seat_of WaitingToWrite = seat.Calling Write point.First None
 
--- the lock's words, by the model's
+-- the words of the lock, from those of the model
 abbrev pub words_of : ℕ → ℕ × Unit {0}
 words_of n = (n, tt)
 
@@ -146,7 +146,7 @@ still TryRead n = is_some (grants TryRead n)
 still TryUpgradeableRead n = is_some (grants TryUpgradeableRead n)
 still _ n = true
 
--- an exchange that finds the number which it expected, and one that finds another
+-- `won` if the exchange found the number that it expected, otherwise `lost`
 abbrev pub either_at : {X : Type 0} → ℕ → X → X → ℕ → X
 either_at old won lost n = if n == old then won else lost
 
@@ -154,7 +154,7 @@ either_at old won lost n = if n == old then won else lost
 abbrev pub came : View → RwCall → ℕ → ℕ → View
 came won call old n = if n == old then won else Coming call n
 
--- The steps: which moves, with which outcomes, by the number found, and the view after
+-- The steps: the moves, their outcomes and the next view of each, by the number found
 
 abbrev pub Says : Type 0 → Type 1
 Says T = List (OneMove T) → List (Ending T) → ℕ → View → Type 0

@@ -1,4 +1,4 @@
--- What a pass knows: the lock's history so far, and which moves in it are its own.
+-- What a pass knows: the lock's history so far, and which of its moves are the pass's own.
 use Rattle.std.specs.Prelude.{◌≡◌, ℕ, Option, List}
 use Rattle.spin_core.specs.Own.{Numbered}
 use Rattle.spin_core.specs.declared.tie.Opening.{Opening}
@@ -11,11 +11,11 @@ use Rattle.spin_rwlock.specs.declared.rwlock.pass.Pass.{Pass}
 use Rattle.spin_rwlock.specs.declared.rwlock.rule.View.{View}
 
 module _ {T R : Type 0} where
-  -- all moves in the lock up to the pass's last step
+  -- all moves in the lock, up to the pass's last step
   abbrev pub history : Pass T R → List (Done T)
   history it = it.seen.entries
 
-  -- the name of the history of a lock, and of the lock of a pass
+  -- the name of a lock's history; also by a pass of the lock
   abbrev pub name_of : {P S : Type 0} → RwLock T R (Numbered View) P (Opening T) S → ℕ
   name_of lock = lock.cell.name
 
@@ -29,7 +29,7 @@ module _ {T R : Type 0} where
   abbrev pub opening_of : Pass T R → Opening T
   opening_of it = it.permit.key
 
-  -- the party of the pass: none before its first call
+  -- the party of the pass; there is none before its first call
   abbrev pub party : Pass T R → Option (Numbered View)
   party it = it.permit.view
 

@@ -1,4 +1,4 @@
--- What a step makes of a party and of what is known beside it.
+-- What a step does to a party, and to what is known with it.
 use Rattle.std.specs.Prelude.{◌≡◌, ◌⊎◌, true, Some, IfSome, [], length}
 use Rattle.spin_core.specs.Own.{Numbered, what}
 use Rattle.spin_core.specs.Passes.{mark_of}
@@ -18,21 +18,21 @@ abbrev pub Writer : Type 0 → Type 0 → Type 0 → Type 0
 Writer T P S = WritePermit T (Numbered View) P (Opening T) S
 
 module _ {T P S : Type 0} where
-  -- it knows all of the lock's history up to the party's last step
+  -- it knows the lock's whole history, up to the party's last step
   abbrev pub Knows : Party T P S → Watch (Done T) → Type 0
   Knows it seen = (it.key.name ≡ seen.name) × (mark_of it.view ≡ length seen.entries)
 
   abbrev pub KnowsWriter : Writer T P S → Watch (Done T) → Type 0
   KnowsWriter it seen = (it.key.name ≡ seen.name) × (it.view.2 ≡ length seen.entries)
 
-  -- it is of the lock's history, or knows nothing
+  -- it is a watch of the lock's history, or knows nothing
   abbrev pub MayKnow : Party T P S → Watch (Done T) → Type 0
   MayKnow it seen = (seen.entries ≡ []) ⊎ (it.key.name ≡ seen.name)
 
   abbrev pub MayKnowWriter : Writer T P S → Watch (Done T) → Type 0
   MayKnowWriter it seen = (seen.entries ≡ []) ⊎ (it.key.name ≡ seen.name)
 
-  -- the party of a pass that makes no call
+  -- the party of a pass that is in no call
   abbrev pub IsPass : Party T P S → Watch (Done T) → Type 0
   IsPass it seen = IsOut (what it.view) × Knows it seen
 
@@ -43,7 +43,7 @@ module _ {T P S : Type 0} where
   abbrev pub WritesLast : Writer T P S → Watch (Done T) → Type 0
   WritesLast it seen = IsLast it.key seen.entries it.value
 
-  -- Where all was known before it, all is known after it, and the party has made moves of this course
+  -- If everything was known before, everything is known afterwards, and the party has made moves of this course.
   abbrev pub Makes : OneCourse T → Party T P S → Watch (Done T) → Party T P S → Watch (Done T) → Type 0
   Makes course it seen it' seen' = Knows it seen → Knows it' seen' × (seen'.name ≡ seen.name) × Moves it.key.value course it.view seen.entries it'.view seen'.entries
 

@@ -36,7 +36,7 @@ module _ {T K M R : Type 0} {k : kind.Ghosts K} {m : mode.Ghosts M} (call : RwCa
   abbrev pub IsRefused : Pass T R → Type 0
   IsRefused pass = (pass.permit.key ≡ was.permit.key) × (pass.seen.name ≡ was.seen.name) × LeadsOn (IsCall call Refused) pass.permit.view pass.seen
 
-  -- a try is answered, or goes on
+  -- a try is answered, or continues
   abbrev pub TriesOn : Result (Result (SharedGuard T K R k × Watch (Done T)) (Pass T R)) (Coming T K M R k m) → Type 0
   TriesOn r = IfOk r (λ answer. IfOk answer IsLetIn × IfErr answer IsRefused) × IfErr r SeeksOn
 

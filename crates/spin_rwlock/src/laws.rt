@@ -17,8 +17,8 @@ ghost use Rattle.spin_rwlock.specs.Standing.{readers, upgradables, askers, write
 /// move.
 ///
 /// # Contract
-/// Whatever holds between any two steps of threads (`IsRw`): no move of the list is passed over in the model. After
-/// the list the model has the lock's word, and has each party where the lock has it.
+/// The law holds between any two steps of threads (`IsRw`): no move of the list is skipped in the model. After the list
+/// the model has the lock's word, and each party is where the lock has it.
 pub fn every_run_of_a_rwlock_is_a_schedule<T>()
     ensures { (opening : Opening T) (word : ℕ) (trace : Trace (Done T) (Unit {0})) (parties : List (Numbered View)) → IsRw opening word trace parties → IsRun (model opening.value) seat_of words_of trace.entries (word, trace.word) parties }
 {}
@@ -26,7 +26,7 @@ pub fn every_run_of_a_rwlock_is_a_schedule<T>()
 /// States that the word of an `RwLock` is the sum of the weights of its holders.
 ///
 /// # Contract
-/// Where the rule holds (`IsRw`), the word is the number of holders of each kind, times the weight of that kind.
+/// If the rule holds (`IsRw`), the word is the sum over all kinds of the number of holders times the kind's weight.
 pub fn the_word_of_a_rwlock_counts_its_parties<T>()
     ensures { (opening : Opening T) (word : ℕ) (trace : Trace (Done T) (Unit {0})) (parties : List (Numbered View)) → IsRw opening word trace parties → word ≡ ((weight reading * readers (views parties) + weight upgradable * upgradables (views parties)) + weight asking * askers (views parties)) + weight writing * writers (views parties) }
 {}
@@ -34,8 +34,8 @@ pub fn the_word_of_a_rwlock_counts_its_parties<T>()
 /// States that several parties read an `RwLock`, or one writes it alone.
 ///
 /// # Contract
-/// Where the rule holds (`IsRw`), at most one holder is upgradable, whether it has asked or not. Where a party writes,
-/// it is the only holder (`ReadersOrWriter`).
+/// If the rule holds (`IsRw`), at most one holder is upgradable, whether or not it has asked. If a party writes, it is
+/// the only holder (`ReadersOrWriter`).
 pub fn the_parties_of_a_rwlock_read_or_one_writes<T>()
     ensures { (opening : Opening T) (word : ℕ) (trace : Trace (Done T) (Unit {0})) (parties : List (Numbered View)) → IsRw opening word trace parties → ReadersOrWriter (views parties) }
 {}
@@ -43,7 +43,7 @@ pub fn the_parties_of_a_rwlock_read_or_one_writes<T>()
 /// States that the word of an `RwLock` is zero exactly when the lock has no holder.
 ///
 /// # Contract
-/// Where the rule holds (`IsRw`), a word of 0 means no holder, and no holder means a word of 0.
+/// If the rule holds (`IsRw`), the word is 0 exactly if there is no holder.
 pub fn the_word_of_a_rwlock_is_zero_when_nobody_holds<T>()
     ensures { (opening : Opening T) (word : ℕ) (trace : Trace (Done T) (Unit {0})) (parties : List (Numbered View)) → IsRw opening word trace parties → (word ≡ 0 → holders (views parties) ≡ 0) × (holders (views parties) ≡ 0 → word ≡ 0) }
 {}
@@ -53,7 +53,7 @@ pub fn the_word_of_a_rwlock_is_zero_when_nobody_holds<T>()
 /// A holder releases by a subtraction, and downgrades or asks to upgrade by an addition. Neither loads the word first.
 ///
 /// # Contract
-/// On each word that the rule allows, the operation makes the word that the step function gives (`released`, `turned`).
+/// On each word that the rule allows, the result is that of the step function (`released`, `turned`).
 pub fn an_addition_is_its_step_function<T>()
     ensures release { (opening : Opening T) (word : ℕ) (trace : Trace (Done T) (Unit {0})) (parties : List (Numbered View)) (p : ℕ) (k : Kind) → IsRw opening word trace parties → HoldsAt (views parties) p k → (tells k word ≡ true) × ((word + (2 ^ 64 - weight k)) % 2 ^ 64 ≡ released k word) }
     ensures downgrade { (opening : Opening T) (word : ℕ) (trace : Trace (Done T) (Unit {0})) (parties : List (Numbered View)) (p : ℕ) (j k : Kind) → IsRw opening word trace parties → HoldsAt (views parties) p j → may_turn j k ≡ true → (tells j word ≡ true) × ((word + (weight k - weight j)) % 2 ^ 64 ≡ turned j k word) }

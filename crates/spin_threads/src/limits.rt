@@ -51,7 +51,7 @@ pub fn a_call_of_a_fair_mutex_keeps_its_limit<T>()
 /// meanwhile. Any other try, a count, a downgrade and a release take one.
 ///
 /// # Contract
-/// `KeepsLimits`, which says it of the steps that all threads made while the call ran.
+/// `KeepsLimits`, for the steps that all threads made during the call.
 pub fn a_call_of_a_rwlock_keeps_its_limit<T>()
     ensures { (opening : T) → KeepsLimits (rwlock.model opening) RwLockView }
 {}
