@@ -21,7 +21,6 @@ use Rattle.spin_core_tests.specs.declared.latch.calls.LatchPoint.{LatchPoint}
 use Rattle.spin_core_tests.specs.declared.latch.calls.LatchPoint.TheVariants.{First, Exchange}
 use Rattle.spin_core_tests.specs.declared.latch.rule.View.{View}
 use Rattle.spin_core_tests.specs.declared.latch.rule.View.TheVariants.{Idle, Reading, Writing, Coming, WaitingToRead, WaitingToWrite}
-use Rattle.spin_model.specs.Asks.{waits}
 
 abbrev pub part : View → Part
 part Reading = holds reading

@@ -1,6 +1,6 @@
 -- The moment of an answer: what the model's laws say of the steps of a call holds of some state of the history during
 -- the call.
-use Rattle.std.proofs.Common.{◌≡◌, ℕ, Bool, true, false, ◌||◌, Option, Some, None, List, [], ◌∷◌, refl, ap, sym, ◌∙◌, subst, arith}
+use Rattle.std.proofs.Common.{◌≡◌, ℕ, Bool, true, false, ◌||◌, Option, Some, None, List, [], ◌∷◌, refl, subst, arith}
 use Rattle.std.specs.List.{All, list_any}
 use Rattle.std.proofs.lemmas.Bool.{false≢true}
 use Rattle.std.proofs.lemmas.List.Elements.{All-head, All-tail}
@@ -30,13 +30,18 @@ pub same_is : (there said : Bool) → same said there ≡ true → there ≡ sai
 same_is there said is = grind (arith, is)
 
 -- one passes the test, and that one is of a moment between
-pick : (test : Mark → Bool) (Q : Mark → Type 0) (span : List Mark) → All Q span → list_any test span ≡ true → (mark : Mark) × (test mark ≡ true) × Q mark
+abbrev Picked : (Mark → Bool) → (Mark → Type 0) → Type 0
+Picked test Q = (mark : Mark) × (test mark ≡ true) × Q mark
+
+pick_by : (test : Mark → Bool) (Q : Mark → Type 0) (x : Mark) (rest b : Bool) → test x ≡ b → Q x → (rest ≡ true → Picked test Q)
+    → (b || rest) ≡ true → Picked test Q
+pick_by test Q x rest true is here later some = (x, is, here)
+pick_by test Q x rest false is here later some = later some
+
+pick : (test : Mark → Bool) (Q : Mark → Type 0) (span : List Mark) → All Q span → list_any test span ≡ true → Picked test Q
 pick test Q [] all some = absurd (false≢true some)
-pick test Q (x ∷ xs) all some = by (test x) refl
-  where
-    by : (b : Bool) → test x ≡ b → (mark : Mark) × (test mark ≡ true) × Q mark
-    by true is = (x, is, All-head Q x xs all)
-    by false is = pick test Q xs (All-tail Q x xs all) (ap (λ b. b || list_any test xs) (sym is) ∙ some)
+pick test Q (x ∷ xs) all some =
+    pick_by test Q x (list_any test xs) (test x) refl (All-head Q x xs all) (λ more. pick test Q xs (All-tail Q x xs all) more) some
 
 module _ {W V C L A : Type 0} (m : Machine W V C L A) (k : LocalInvariant V C L) (facts : Facts m k) {c : C} {a : A} where
   right_by : (p : ℕ) (l : L) (h : Option Hold) (span : List Mark) (o : Outcome A V) (seat : Option (Seat C L)) → seat ≡ Some (Calling c l h) → o ≡ Answered a None → RightAnswer m p span o (asked m seat) Step → HasMoment (m.asks c h) (m.says a) p span

@@ -1,5 +1,5 @@
-use Rattle.std.proofs.Common.{◌≡◌, true, false}
-use Rattle.spin_step.specs.Plain.{is_nothing}
+use Rattle.std.proofs.Common.{◌≡◌, true, false, not, refl, arith}
+use Rattle.spin_step.specs.Plain.{is_nothing, is_complete}
 use Rattle.spin_model.specs.declared.answer.Answer.TheVariants.{NoValue}
 use Rattle.spin_model.specs.declared.once.OnceCall.TheVariants.{Get, Poll}
 use Rattle.spin_threads.specs.Onces.{has_value}

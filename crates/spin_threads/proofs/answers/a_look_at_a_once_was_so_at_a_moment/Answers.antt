@@ -1,9 +1,12 @@
-use Rattle.std.proofs.Common.{◌≡◌}
+use Rattle.std.proofs.Common.{◌≡◌, refl}
 use Rattle.spin_model.specs.declared.answer.Answer.TheVariants.{Is}
 use Rattle.spin_model.specs.declared.once.OnceCall.TheVariants.{IsCompleted}
 use Rattle.spin_threads.specs.Onces.{has_value}
 use Rattle.spin_threads.proofs.Onces.{found_once}
+use Rattle.spin_model.specs.Asks.{same}
+use Rattle.spin_threads.proofs.Moments.{same_is}
+use Rattle.spin_step.specs.Plain.{is_complete}
 use Rattle.spin_threads.proofs.answers.a_look_at_a_once_was_so_at_a_moment.Goals as goal
 
 pub returns : goal.returns
-returns g there = found_once IsCompleted (Is there) (λ s. same there (is_complete s.phase)) (λ s. has_value s ≡ there) (λ given h. refl) (λ s is. same_is _ there is)
+returns g there = found_once IsCompleted (Is there) (λ s. same there (is_complete s.phase)) (λ s. has_value s ≡ there) (λ given h. refl) (λ s is. same_is (is_complete s.phase) there is)

@@ -1,4 +1,4 @@
-use Rattle.std.proofs.Common.{◌≡◌, ◌⊎◌, ◌<◌, ℕ, true, false, Option, length, refl, arith}
+use Rattle.std.proofs.Common.{◌≡◌, ◌⊎◌, ◌<◌, ℕ, true, Option, length, refl, arith, not}
 use mathlib.Core.Logic.{inl, inr}
 use Rattle.spin_step.specs.Plain.{Plain, is_open_to, is_starver, to_lock_starving, to_lock_starving_alone}
 use Rattle.spin_step.specs.Parties.{is_held}
@@ -28,8 +28,8 @@ not_alone s p found closed = grind (arith, found, closed)
 
 pub returns-clause-try_lock : goal.returns-clause-try_lock
 returns-clause-try_lock g c = λ opening.
-    found (model opening) (fair_keeping opening most_starvers patience) (fair_facts opening most_starvers patience) (λ p s. is_open_to s p to_lock_starving ≡ false) (λ h p span some. some) (λ p l h seen call closed. held seen.plain p (starving opening StarverTryLock p l h seen (inl refl) call) closed)
+    found (model opening) (fair_keeping opening most_starvers patience) (fair_facts opening most_starvers patience) (λ p s. not (is_open_to s p to_lock_starving)) (λ h. refl) (λ p l h seen call closed. held seen.plain p (starving opening StarverTryLock p l h seen (inl refl) call) closed)
 
 pub returns-clause-try_lock_fair : goal.returns-clause-try_lock_fair
 returns-clause-try_lock_fair g c = λ opening.
-    found (model opening) (fair_keeping opening most_starvers patience) (fair_facts opening most_starvers patience) (λ p s. is_open_to s p to_lock_starving_alone ≡ false) (λ h p span some. some) (λ p l h seen call closed. not_alone seen.plain p (starving opening StarverTryLockFair p l h seen (inr refl) call) closed)
+    found (model opening) (fair_keeping opening most_starvers patience) (fair_facts opening most_starvers patience) (λ p s. not (is_open_to s p to_lock_starving_alone)) (λ h. refl) (λ p l h seen call closed. not_alone seen.plain p (starving opening StarverTryLockFair p l h seen (inr refl) call) closed)

@@ -1,4 +1,4 @@
-use Rattle.std.proofs.Common.{◌≡◌, ℕ, false, length, refl, arith}
+use Rattle.std.proofs.Common.{◌≡◌, ℕ, length, refl, arith, not, true}
 use Rattle.spin_step.specs.Plain.{Plain, is_open_to, to_read}
 use Rattle.spin_seats.specs.Rule.{model}
 use Rattle.spin_seats.specs.Seats.{seats}

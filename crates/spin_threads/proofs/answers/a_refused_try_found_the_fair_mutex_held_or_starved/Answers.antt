@@ -1,4 +1,4 @@
-use Rattle.std.proofs.Common.{◌≡◌, ◌⊎◌, ℕ, true, false, arith}
+use Rattle.std.proofs.Common.{◌≡◌, ◌⊎◌, ℕ, true, arith, not, refl}
 use Rattle.spin_step.specs.Plain.{Plain, is_open_to, to_lock_unregistered}
 use Rattle.spin_step.specs.Parties.{is_held}
 use Rattle.spin_model.specs.Calls.{is_starved}
@@ -13,4 +13,4 @@ kept_out s p closed = grind (arith, closed)
 
 pub returns : goal.returns
 returns g c = λ opening.
-    found (model opening) (fair_keeping opening most_starvers patience) (fair_facts opening most_starvers patience) (λ p s. is_open_to s p to_lock_unregistered ≡ false) (λ h p span some. some) (λ p l h seen call closed. kept_out seen.plain p closed)
+    found (model opening) (fair_keeping opening most_starvers patience) (fair_facts opening most_starvers patience) (λ p s. not (is_open_to s p to_lock_unregistered)) (λ h. refl) (λ p l h seen call closed. kept_out seen.plain p closed)

@@ -1,4 +1,4 @@
-use Rattle.std.proofs.Common.{◌≡◌, false, arith}
+use Rattle.std.proofs.Common.{arith, not, refl}
 use Rattle.spin_step.specs.Plain.{is_open_to, to_write}
 use Rattle.spin_flag.specs.Flag.{model}
 use Rattle.spin_world.proofs.FlagOwed.{flag_keeping, flag_facts}

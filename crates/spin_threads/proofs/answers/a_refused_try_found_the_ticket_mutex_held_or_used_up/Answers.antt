@@ -1,4 +1,4 @@
-use Rattle.std.proofs.Common.{◌≡◌, ◌⊎◌, ℕ, true, false, arith}
+use Rattle.std.proofs.Common.{◌≡◌, ◌⊎◌, ℕ, true, false, arith, not, refl}
 use Rattle.spin_step.specs.Plain.{Plain, is_open_to, to_take_and_enter}
 use Rattle.spin_step.specs.Parties.{is_held}
 use Rattle.spin_model.specs.Ticket.{is_left}

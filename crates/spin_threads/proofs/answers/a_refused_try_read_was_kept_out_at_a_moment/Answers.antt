@@ -1,4 +1,4 @@
-use Rattle.std.proofs.Common.{◌≡◌, ◌⊎◌, ◌<◌, ℕ, false, length, arith}
+use Rattle.std.proofs.Common.{◌≡◌, ◌⊎◌, ◌<◌, ℕ, length, arith, not, refl, true}
 use Rattle.spin_step.specs.Plain.{Plain, reading, asking, count_kind, is_open_to, to_read}
 use Rattle.spin_step.proofs.Sums.{against, by_kinds}
 use Rattle.spin_model.specs.Calls.{writers}
@@ -13,4 +13,4 @@ kept_out s p shape closed = grind (arith, shape, by_kinds (against reading) s.ho
 
 pub returns : goal.returns
 returns g c = λ opening.
-    found (model opening) (rw_keeping opening reader_limit) (rw_facts opening reader_limit) (λ p s. is_open_to s p to_read ≡ false) (λ h p span some. some) (λ p l h seen call closed. kept_out seen.plain p call.shape closed)
+    found (model opening) (rw_keeping opening reader_limit) (rw_facts opening reader_limit) (λ p s. not (is_open_to s p to_read)) (λ h. refl) (λ p l h seen call closed. kept_out seen.plain p call.shape closed)

@@ -1,4 +1,4 @@
-use Rattle.std.proofs.Common.{◌≡◌, ◌<◌, ℕ, false, Option, Some, length, arith}
+use Rattle.std.proofs.Common.{◌≡◌, ◌<◌, ℕ, Option, Some, length, arith, not, refl, true}
 use Rattle.spin_step.specs.Plain.{Plain, upgradable, is_open_to, to_upgrade}
 use Rattle.spin_step.specs.Parties.{entries}
 use Rattle.spin_model.specs.declared.place.Hold.{Hold}
@@ -26,4 +26,4 @@ stands opening p l _ seen call = absurd call.knows
 
 pub returns : goal.returns
 returns g c = λ opening.
-    found (model opening) (rw_keeping opening reader_limit) (rw_facts opening reader_limit) (λ p s. is_open_to s p to_upgrade ≡ false) (λ h p span some. some) (λ p l h seen call closed. not_alone seen.plain p (stands opening p l h seen call) closed)
+    found (model opening) (rw_keeping opening reader_limit) (rw_facts opening reader_limit) (λ p s. not (is_open_to s p to_upgrade)) (λ h. refl) (λ p l h seen call closed. not_alone seen.plain p (stands opening p l h seen call) closed)

@@ -1,5 +1,5 @@
-use Rattle.std.proofs.Common.{◌≡◌, ◌&&◌, true, false, not, arith}
-use Rattle.spin_step.specs.Plain.{Plain}
+use Rattle.std.proofs.Common.{◌≡◌, ◌&&◌, true, false, arith, refl}
+use Rattle.spin_step.specs.Plain.{Plain, is_empty}
 use Rattle.spin_step.specs.Parties.{is_held}
 use Rattle.spin_model.specs.Calls.{is_starved}
 use Rattle.spin_fair.specs.Fair.{model, patience}
@@ -13,8 +13,8 @@ told_locked s is = grind (arith, is)
 
 pub returns-clause-locked : goal.returns-clause-locked
 returns-clause-locked g c = λ opening.
-    found (model opening) (fair_keeping opening most_starvers patience) (fair_facts opening most_starvers patience) (λ p s. (is_held s && not (is_starved s)) ≡ true) (λ h p span some. some) (λ p l h seen call is. told_locked seen.plain is)
+    found (model opening) (fair_keeping opening most_starvers patience) (fair_facts opening most_starvers patience) (λ p s. is_held s && is_empty s.starvers) (λ h. refl) (λ p l h seen call is. told_locked seen.plain is)
 
 pub returns-clause-starved : goal.returns-clause-starved
 returns-clause-starved g c = λ opening.
-    found (model opening) (fair_keeping opening most_starvers patience) (fair_facts opening most_starvers patience) (λ p s. is_starved s ≡ true) (λ h p span some. some) (λ p l h seen call is. is)
+    found (model opening) (fair_keeping opening most_starvers patience) (fair_facts opening most_starvers patience) (λ p s. is_starved s) (λ h. refl) (λ p l h seen call is. is)
