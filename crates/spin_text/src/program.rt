@@ -13,7 +13,7 @@ use std::{env, io};
 
 /// Returns the arguments of the process after the program's name, or `None` if one of them is not text.
 ///
-/// It asks for the room first. `collect` would answer a failed allocation with a smaller request, and tell nothing.
+/// It reserves the room first. If an allocation failed, `collect` would try a smaller one and report nothing.
 pub fn arguments<R: Env + Alloc>(rt: &R) -> Result<Option<Vec<String<R::A>, R::A>>, AllocError> {
     match env::args(rt) {
         Ok(mut all) => {
