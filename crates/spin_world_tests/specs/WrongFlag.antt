@@ -58,11 +58,11 @@ look_beside_a_holder = (0, Begin TryLock) ∷ (0, Step) ∷ (1, Begin IsLocked) 
 abbrev pub never_releases : {V : Type 0} → V → FlagMachine V
 never_releases {V} v = let m : FlagMachine V = flag_machine v in record m { begin = λ c h. elim c [ Release ↦ None | other ↦ m.begin other h ] }
 
--- a `lock` that asks to read; no flag has such a call, so it never answers
+-- a `lock` that asks to read; to be granted that, it would have to make a plain step that no flag makes
 abbrev pub locks_to_read : {V : Type 0} → V → FlagMachine V
 locks_to_read {V} v = let m : FlagMachine V = flag_machine v in record m { asks = λ c h. elim c [ Lock ↦ waits to_read | other ↦ m.asks other h ] }
 
--- a lock that is held at first and for ever, by nobody
+-- a flag that is set at first and for ever, though nobody holds it
 abbrev pub opens_set : {V : Type 0} → V → FlagMachine V
 opens_set {V} v = let m : FlagMachine V = flag_machine v in record m { words = true }
 
@@ -86,7 +86,7 @@ never_looks v = with_steps v (λ c act. elim c [ Lock ↦ weak_exchange 0 lock (
 abbrev pub lock_beside_a_holder : {V : Type 0} → Entries V
 lock_beside_a_holder = (0, Begin TryLock) ∷ (0, Step) ∷ (1, Begin Lock) ∷ (1, Step) ∷ (1, Step) ∷ []
 
--- a `try_lock` that tells its party that it reads
+-- a `try_lock` whose party is told that it reads, though it holds the lock to write
 abbrev pub grants_to_read : {V : Type 0} → V → FlagMachine V
 grants_to_read {V} v =
     let to_reader : FlagAct V = exchange (swap 0 lock) (λ p. gets p to_write) (Answers Granted (Some Read)) (λ n. Answers Refused None) in
