@@ -51,26 +51,28 @@ module _ {W V C L A : Type 0} (m : Machine W V C L A) (k : LocalInvariant V C L)
   right p start old new h n it = right_by p it.point h (span_of m k facts p it.seen) (event m k facts it.seen (p, Step)).outcome (event m k facts it.seen (p, Step)).seat it.there it.comes (kept m k facts it.seen p Step it.fine).right
 
   -- Such an answer says that a state passed this test, so one did at a moment; and so was Q, where it follows for the party in its call
-  module _ (test : ℕ → Plain → Bool) (says : (h : Option Hold) → (m.asks c h).answers (m.says a) ≡ meaning.found test) {Q : Plain → Type 0}
-      (so : (p : ℕ) (l : L) (h : Option Hold) (seen : Seen W V C L) → InCall m k p c l h seen.plain seen.state.value seen.state.words (seen.span p) → test p seen.plain ≡ true → Q seen.plain) where
+  module _ (test : ℕ → Plain → Bool) (says : (h : Option Hold) → (m.asks c h).answers (m.says a) ≡ meaning.found test) where
     right_so : (p : ℕ) (h : Option Hold) (span : List Mark) → HasMoment (m.asks c h) (m.says a) p span → list_any (λ mark. test p mark.before) span ≡ true
     right_so p h span is = subst (λ what. moment what p span ≡ true) (says h) is
 
-    of_call : {X : Type 0} (view : Option (Numbered X)) (old new : List (Entry C V)) → Call m k facts c a view old new → AtAMoment m c view old new Q
-    of_call view old new call =
-        let it = call.answered in let p = call.party in let h = call.held in let start = opening m call.parties in
-        let (mark, found, (past, from, to, before, (l, there))) = pick (λ mark. test p mark.before) (IsBetween m k facts p start old new c h) (span_of m k facts p it.seen) it.span (right_so p h (span_of m k facts p it.seen) (right p start old new h call.steps it)) in
-        record {
-          party = p;
-          is_number = call.is_number;
-          parties = call.parties;
-          played = call.played;
-          moment = past;
-          behind = from;
-          before = to;
-          in_call = (l, h, there);
-          so = so p l h (seen_after m start past) (in_call m k (seen_after m start past) p c l h (good m k facts call.parties past) there) (subst (λ s. test p s ≡ true) before found);
-        }
+    module _ {Q : Plain → Type 0}
+        (so : (p : ℕ) (l : L) (h : Option Hold) (seen : Seen W V C L) → InCall m k p c l h seen.plain seen.state.value seen.state.words (seen.span p)
+        → test p seen.plain ≡ true → Q seen.plain) where
+      of_call : {X : Type 0} (view : Option (Numbered X)) (old new : List (Entry C V)) → Call m k facts c a view old new → AtAMoment m c view old new Q
+      of_call view old new call =
+          let it = call.answered in let p = call.party in let h = call.held in let start = opening m call.parties in
+          let (mark, found, (past, from, to, before, (l, there))) = pick (λ mark. test p mark.before) (IsBetween m k facts p start old new c h) (span_of m k facts p it.seen) it.span (right_so p h (span_of m k facts p it.seen) (right p start old new h call.steps it)) in
+          record {
+            party = p;
+            is_number = call.is_number;
+            parties = call.parties;
+            played = call.played;
+            moment = past;
+            behind = from;
+            before = to;
+            in_call = (l, h, there);
+            so = so p l h (seen_after m start past) (in_call m k (seen_after m start past) p c l h (good m k facts call.parties past) there) (subst (λ s. test p s ≡ true) before found);
+          }
 
-    pub found : {X : Type 0} → Found m X c a Q
-    found view now old new made = of_call now old new (call_of m k facts c a view now old new made)
+      pub found : {X : Type 0} → Found m X c a Q
+      found view now old new made = of_call now old new (call_of m k facts c a view now old new made)
