@@ -10,8 +10,9 @@ use std::sync::Wait;
 /// Writes a value under one pass, and then reads it under another one.
 ///
 /// # Contract
-/// Each pass has acquired the lock and released it, once, and is returned in its place (`wrote`, `read`). The value that
-/// is returned was the last one in the history that the second pass knows (`found`).
+/// Each pass has acquired the lock and released it, once, and is returned in its place (`wrote`, `read`). `value` is the
+/// last one in the history that the first pass knows (`left`). The value that is returned is the last one in the history
+/// that the second pass knows (`found`).
 pub fn relay<'a, T: Copy, R: RelaxStrategy, W: Wait>(
     rt: &W,
     writer: Pass<'a, T, R>,
@@ -19,6 +20,7 @@ pub fn relay<'a, T: Copy, R: RelaxStrategy, W: Wait>(
     value: T,
 ) -> (Pass<'a, T, R>, (T, Pass<'a, T, R>))
     ensures wrote { HeldOnce writer.entry result.0 }
+    ensures left { IsLast (opening_of writer.entry) (history result.0) value }
     ensures read { HeldOnce reader.entry result.1.1 }
     ensures found { IsLast (opening_of reader.entry) (history result.1.1) result.1.0 }
 {
