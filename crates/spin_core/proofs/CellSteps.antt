@@ -90,10 +90,13 @@ module _ {M : Type 1} {𝓤 : Ura M} (𝓛 : Logic 𝓤) (R : RattleType) (L : R
           → ⟦ states m vs ⟧ ∗ ⟦ Held u way v ⟧ ⊢ upd 𝓤 (⟦ states m' us ⟧ ∗ ⟦ Got way (know m') u (f w) v ⟧)
       shifts m m' =
           let r = splits (λ x. reading (f x)) id view vs h in let q = splits (λ x. writing (f x)) id view vs h in
-          let was_r : readers_of f vs ≡ r.0 + reading u = r.1 ∙ ap (λ n. r.0 + n) (use_part reading refl view) in let was_w : writers_of f vs ≡ q.0 + writing u = q.1 ∙ ap (λ n. q.0 + n) (use_part writing refl view) in
+          let was_r : readers_of f vs ≡ value.with_reader u r.0 = r.1 ∙ ap (λ n. r.0 + n) (use_part reading refl view) ∙ value.one_reader u r.0 in
+          let was_w : writers_of f vs ≡ value.with_writer u q.0 = q.1 ∙ ap (λ n. q.0 + n) (use_part writing refl view) ∙ value.one_writer u q.0 in
+          let now_r : readers_of f us ≡ value.with_reader (f w) r.0 = r.2 w ∙ value.one_reader (f w) r.0 in
+          let now_w : writers_of f us ≡ value.with_writer (f w) q.0 = q.2 w ∙ value.one_writer (f w) q.0 in
           let F : (ℕ × ℕ) × (ℕ × ℕ) → Type 1 = λ z. Limits way z.0.0 z.0.1 → Going way u (f w) v z.0.0 (Limits way z.1.0 z.1.1) → Carries (know m) (know m') u (f w) v
           → ⟦ St way (know m) z.0.0 z.0.1 ⟧ ∗ ⟦ Held u way v ⟧ ⊢ upd 𝓤 (⟦ St way (know m') z.1.0 z.1.1 ⟧ ∗ ⟦ Got way (know m') u (f w) v ⟧) in
-          subst F (λ i. ((sym was_r i, sym was_w i), (sym (r.2 w) i, sym (q.2 w) i))) (value.turns 𝓛 R L b o t (know m) (know m') way r.0 q.0 u (f w) v)
+          subst F (λ i. ((sym was_r i, sym was_w i), (sym now_r i, sym now_w i))) (value.turns 𝓛 R L b o t (know m) (know m') way r.0 q.0 u (f w) v)
 
     packs : (view : Option V) (id k : ℕ) (s : ℕ × S.Denot) (us : List V) (w : V) (v : Option R.Denot) (then : ℕ → V → Type 0) → Meets holds ways s.0 s.1 us → then k w
         → ⟦ roster cv.code ρ 0 us ⟧ ∗ ⟦ seen cv.code ρ id three_quarters w ⟧ ∗ ⟦ states s.1 us ⟧ ∗ ⟦ Got way (know s.1) (use_of f view) (f w) v ⟧ ⊢ ⟦ Core s ⟧ ∗ ⟦ moved view (learning view v s.1 then) k v ⟧
