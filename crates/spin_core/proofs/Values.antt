@@ -1,15 +1,15 @@
 -- Steps keep what is known of the value. Moves that write nothing keep it, and a holder writes the value that it
 -- leaves.
-use Rattle.std.proofs.Common.{◌≡◌, ℕ, zero, suc, Bool, true, false, Option, Some, None, List, [], ◌∷◌, ◌++◌, refl, sym, ap, ◌∙◌, subst}
+use Rattle.std.proofs.Common.{◌≡◌, ℕ, Bool, true, false, Option, Some, None, List, [], ◌∷◌, ◌++◌, refl, sym, ap, ◌∙◌, subst}
 use Rattle.std.specs.Option.{IfSome}
 use Rattle.spin_model.specs.declared.schedule.Move.{Move}
 use Rattle.spin_model.specs.declared.schedule.Outcome.{Outcome}
 use Rattle.spin_model.specs.Schedules.{Entry}
-use Rattle.spin_core.specs.Cell.{Use, off, reads, writes, Way, Owed, Learns, Shows, Knowing, Freeing, Fixed, readers_of, writers_of, Lends}
+use Rattle.spin_core.specs.Cell.{Use, off, reads, writes, Owed, Learns, Shows}
 use Rattle.spin_core.specs.Own.{by_party}
 use Rattle.spin_core.specs.Passes.{IsStep, Writes}
 use Rattle.spin_core.specs.Traced.{Learnt, grown_at}
-use Rattle.spin_core.specs.Values.{written, left, latest, IsLast, last, Leaves, untold}
+use Rattle.spin_core.specs.Values.{written, left, latest, IsLast, last, Leaves}
 use Rattle.spin_core.specs.declared.tie.Opening.{Opening}
 use Rattle.spin_core.specs.declared.trace.Trace.{Trace}
 
@@ -108,15 +108,3 @@ module _ {C V : Type 0} where
     -- what is read later was written since, or was there before
     pub read_on : (old new more : List (Entry C V)) (x y : V) → opening.told ≡ true → new ≡ old ++ more → IsLast opening old x → IsLast opening new y → latest x more ≡ y
     read_on old new more x y told grew is is' = ap (λ z. latest z more) (sym (is told)) ∙ sym (latest-append opening.value old more) ∙ ap (latest opening.value) (sym grew) ∙ is' told
-
-    -- the owner may borrow the value; from then on nothing is known of it
-    module _ {S X : Type 0} (holds : ℕ → Trace (Entry C V) S → List X → Type 0) (way : Way V) (f : X → Use) where
-      less : (w : ℕ) (t : Trace (Entry C V) S) (x : V) (A : Type 0) → Knowing (last opening) t w x A → Knowing (last (untold opening)) t w x A
-      less zero t x A known = ((λ e. absurd (let no : false ≡ true = e in cc (no))), known.1)
-      less (suc w) t x A known = known
-
-      pub lends : Lends holds (way, f, last opening) holds (way, f, last (untold opening))
-      lends = ((λ shared. shared), (λ v. refl), λ n t x starts. (starts.0, starts.1, less (writers_of f starts.0) t x (Fixed way (readers_of f starts.0) (writers_of f starts.0) x) starts.2))
-
-    pub frees : {S A : Type 0} → A → Freeing {S = Trace (Entry C V) S} (last (untold opening)) A
-    frees a = ((λ t x e. absurd (let no : false ≡ true = e in cc (no))), a)

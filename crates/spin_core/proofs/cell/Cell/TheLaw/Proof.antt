@@ -32,7 +32,7 @@ use denote.Struct.Lending.{Law}
 use Rattle.core.proofs.cell.Borrows.{by_one}
 use Rattle.atomic_table.specs.Seated.{halved}
 use Rattle.spin_core.specs.Cell.{Way, alone, lends, fixes, Ways, writes, Limits, Fixed, Meets, readers_of, writers_of, IsKnown, Knowing}
-use Rattle.spin_core.specs.CellMemory.{offset, second_at, Known, Id, unused, roster, tag, idle, tracked, resting, lying, state, core, core_at, standing, inner, kept, cell_shares}
+use Rattle.spin_core.specs.CellMemory.{offset, second_at, Known, Id, unused, roster, tag, idle, tracked, resting, lying, state, core_at, standing, inner, kept, cell_shares}
 use Rattle.spin_core.specs.declared.cell.Rule.{Ghosts}
 use Rattle.spin_core.specs.contracts.cell.Cell as C
 use Rattle.spin_core.proofs.CellFields.{All, Rule, Written, written_out, written_in, standing_words, At, Joins, fields_out}
@@ -184,9 +184,6 @@ module _ {M : Type 1} {𝓤 : Ura M} (𝓛 : Logic 𝓤) (m ms : Member) (V Y K 
 
     abbrev I : Fml
     I = inner R b o t c S (g.holds key) ways
-
-    abbrev Core : ℕ × S.Denot → Fml
-    Core = core R b o t c S (g.holds key) ways
 
     words_back : emp 𝓤 ⊢ ⟦ fwand (fsep (fdead κ) (fseps (I ∷ []))) (fupd (Words ν)) ⟧
     unfolding fseps
