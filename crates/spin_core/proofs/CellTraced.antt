@@ -119,7 +119,7 @@ module _ {M : Type 1} {𝓤 : Ura M} (𝓛 : Logic 𝓤) (Er Ur : RattleType) wh
       grows γ k may n₀ n m u found law = let X : Type 0 = List E × (Named holds ways γ → m.name ≡ γ) in let to : X → ℕ × Trace E U = λ x. (n, grown_at m u x.0) in let Z : SProp 𝓤 = ⟦ I ⟧ ∗ ⟦ watched γ k found ⟧ in
           let then : X → ℕ → V → Type 0 = λ x. told m.entries x.0 in let Led : X → Fml = steps.led 𝓛 R L b o t cv S holds ways view v then to found in let m' : Trace E U = beside m u in
           qed 𝓛 (‵ (word b (o + 0) n) ∷ ‵ (Traced m') ∷ ‵ (Core (n₀, m)) ∷ ‵ Mine ∷ ‵ (Known γ k) ∷ []) ∵ move ! (2 ∷ 3 ∷ []) $
-          use2 𝓛 (raw (upd 𝓤 ⟦ fex X Led ⟧)) (steps.changes 𝓛 R L b o t cv S holds ways view v then (n₀, m) to found (λ id vs meets at. let r = law id vs meets at in (r.0, (r.1, λ named. named n₀ m vs meets), r.2, r.3))) $
+          use2 𝓛 (raw (upd 𝓤 ⟦ fex X Led ⟧)) (steps.changes 𝓛 R L b o t cv S holds ways view v then to found (n₀, m) (λ id vs meets at. let r = law id vs meets at in (r.0, (r.1, λ named. named n₀ m vs meets), r.2, r.3))) $
           settle 𝓛 Z (‵ (fex X Led)) $ fpick ! (λ x. let es : List E = x.0 in fsplit ! $ move ! (1 ∷ []) $
           let F : ℕ → V → Option R.Denot → Type 0 = finding (m.entries ++ es) (told m.entries es) in
           use1 𝓛 (‵ (moved F found)) (steps.tells_less 𝓛 R L b o t cv S holds ways view v (steps.learning 𝓛 R L b o t cv S holds ways view v (to x).1 (then x)) F found
