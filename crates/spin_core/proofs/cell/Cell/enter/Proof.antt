@@ -1,6 +1,6 @@
 -- `enter` makes a permit that has taken no step.
 use Rattle.spin_core.proofs.WalkNames.{◌≡◌, [], ◌∷◌, refl, None, dcons, dnil, named, Val, vptr, inst_fn, fex, flft, ‵, raw, ◌⊛◌, ◌$◌, ◌∵◌, !, qed, by, move, keep, split, join, fsplit, fjoin, fpick, fpack, use0, stop, addr, no_more, and_then, returns, enter, alloc_all, pass_all, free_all, look_at, get, through, sets, agg, yes, owns, types_at, plain, named_lft, block_ptr, nothing, param, bounded, Stays, stay_dropped, walk_of, Goes-dropped, proved, leaves, RefOf, shr_vals, shr_Tells, unhide, says}
-use Rattle.spin_core.proofs.CellStepWalks.{others}
+use Rattle.spin_core.proofs.WalkSteps.{others}
 use Rattle.spin_core.specs.CellMemory.{Known, Id, permit_at}
 use Rattle.spin_core.specs.contracts.cell.Cell as cell
 use Rattle.spin_core.specs.contracts.cell.Permit as hand

@@ -9,7 +9,7 @@ use denote.Ref.{MutRef, mut_vals, mut_Tells}
 use denote.Struct.Members.{Member}
 use denote.Triple.Walked.{Goes-spent_ref}
 use Rattle.spin_core.proofs.CellWays.{restarts}
-use Rattle.spin_core.proofs.CellStepWalks.{others}
+use Rattle.spin_core.proofs.WalkSteps.{others}
 use Rattle.spin_core.specs.Cell.{Frees, Freeing, Lends}
 use Rattle.atomic_table.specs.Seated.{fact as said}
 use Rattle.spin_core.specs.CellMemory.{offset}

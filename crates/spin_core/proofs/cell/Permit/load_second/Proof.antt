@@ -8,8 +8,8 @@ use Rattle.spin_core.proofs.TraceTokens.{token, token_told}
 use types.Kit.{keep, fsplit}
 use Rattle.spin_core.specs.contracts.cell.Permit as hand
 use Rattle.spin_core.proofs.PermitFields.{hand_of, told, typed}
-use Rattle.spin_core.proofs.CellStepWalks.{others}
-use Rattle.spin_core.proofs.CellWatchWalks.{begins_with, opens_second, closes_watched, left as left_of, next, knowing}
+use Rattle.spin_core.proofs.WalkSteps.{others}
+use Rattle.spin_core.proofs.CellWatchWalks.{begins_with, opens, asks_second, next, knowing}
 use Rattle.spin_core.specs.contracts.cell.Permit.load_second.{ended, clauses}
 use Rattle.spin_core.specs.contracts.cell.Permit.load_second.Key.{name as #self}
 use Rattle.spin_core.proofs.cell.Permit.load_second.Statement.{statement}
@@ -30,7 +30,7 @@ load_second_spec 𝓤 𝓛 𝓜 𝓡 wired T V E P K Mv L _ _ _ _ _ g d g' d' _ 
     let y : (walk_of 𝓛 En hs c).Ghost = ((κs, qs, bounds, a, (hand_of p ∷ [], (token ∷ [], tt))), gh) in let Post = (walk_of 𝓛 En hs c).post y in
     begins_with 𝓛 ℓ T W Y Kr Sr g 5 (_, (_, (_, (_, (_, tt))))) h Asked q τ r os (owns (types_at En.signature.params κs) a y.0.4) _ refl (λ asked le inb.
     move ! (4 ∷ []) $ fsplit ! $ fsplit ! $ keep ! (3 ∷ 4 ∷ 5 ∷ 1 ∷ 6 ∷ []) $ enter ! _ _ _ _ _ $ alloc_all ! (λ l. pass_all ! refl (typed p inb, ((tt, (tt, tt)), tt)) $ let Ev = env fn.locals l in
-    opens_second 𝓛 𝓜 𝓡 ℓ T W Y Kr Er L g b o h q seen told' ! tt τ r le f asked (λ k. let left = left_of 𝓛 𝓜 𝓡 ℓ T W Y Kr Er u64 L g b o h q seen told' k in
+    opens 𝓛 𝓜 𝓡 ℓ T W Y Kr Er u64 L g b o h q τ r seen told' ! tt le (block_ptr b e) f (asks_second 𝓛 𝓜 𝓡 ℓ T W Y Kr Er L g b o h q τ r seen told' f asked) (λ left rest closes.
     sets ! (is ! (of_opd ! (get_in ! (fld ! refl (stop !)) (sub ! 0 refl (whole !)))) (ap ptr_val (at_block p inb))) refl (tt, tt) $ first ! $ blocks ! $ sets ! (addr ! (through ! refl (fld ! refl (fld ! refl (stop !))))) refl (tt, tt) $
     use1 𝓛 (raw (𝓣.C _ (vptr b e ∷ seq_cst ∷ []) (λ u. mean 𝓛 (found left u)))) (loads 𝓛 𝓜 𝓡 (code.calls-core::raw_atomic::load 𝓡.env wired) (block_ptr b e) left) $
     sets ! (agg ! (and_then ! (lit ! tt) (no_more !))) refl (tt, (record { fits = lit< tt }, tt)) $
@@ -38,5 +38,5 @@ load_second_spec 𝓤 𝓛 𝓜 𝓡 wired T V E P K Mv L _ _ _ _ _ g d g' d' _ 
     lands_last ! refl (tt, record { fits = fits }) $ exec ! 𝓣.C 𝓣.Λ Ev (tail (tail fn.body)) (at_ret Ev Post) $ sets ! (of_opd ! (get ! refl)) refl (tt, record { fits = fits }) $
     sets ! (agg ! (no_more !)) refl (tt, tt) $ sets ! (agg ! (and_then ! (get ! refl) (and_then ! (get ! refl) (no_more !)))) refl (tt, (tt, (tt, tt))) $
     sets ! (of_opd ! (get ! refl)) refl (tt, (tt, tt)) $ sets ! (agg ! (and_then ! (get ! refl) (and_then ! (get ! refl) (and_then ! (get ! refl) (no_more !))))) refl (tt, (record { fits = fits }, ((tt, (tt, tt)), ((tt, tt), tt)))) $
-    closes_watched 𝓛 𝓜 𝓡 ℓ T W Y Kr Er u64 L g b o h q seen told' ! tt k n fits τ r os (λ s l. nothing ! $ nothing ! $ fjoin ! $ nothing ! $ fjoin ! $
-    returns ! (look_at ! 0 refl) $ free_all ! refl $ move ! (1 ∷ []) $ by ! (leaves 𝓛 En hs c y _ (n, next 𝓛 𝓜 𝓡 ℓ T W Y Kr Er u64 L g b o h q s, knowing 𝓛 𝓜 𝓡 ℓ T W Y Kr Er u64 L g b o h q l) (tt, (tt, tt)) (tt, (tt, tt))))))))))
+    closes.found ! tt n fits os (λ s l. nothing ! $ nothing ! $ fjoin ! $ nothing ! $ fjoin ! $
+    returns ! (look_at ! 0 refl) $ free_all ! refl $ move ! (1 ∷ []) $ by ! (leaves 𝓛 En hs c y _ (n, next h b o s, knowing l) (tt, (tt, tt)) (tt, (tt, tt))))))))))

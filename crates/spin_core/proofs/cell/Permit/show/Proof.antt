@@ -5,7 +5,7 @@ use mir.Val.{vstruct, vcons, vnil, of_list}
 use types.Kit.{fpack}
 use denote.RattleType.{Valss}
 use denote.Ref.{ShrRef}
-use Rattle.spin_core.proofs.CellStepWalks.{others}
+use Rattle.spin_core.proofs.WalkSteps.{others}
 use Rattle.spin_core.specs.CellMemory.{offset, permit_owns}
 use Rattle.spin_core.specs.Cell.{reads, use_of, Fixes, Seen}
 use Rattle.spin_core.specs.contracts.cell.Permit as hand

@@ -3,7 +3,7 @@ use Rattle.spin_core.proofs.WalkNames.{◌≡◌, ℕ, ◌+◌, List, [], ◌∷
 use seplogic.Ra.Ura.{Ura}
 use base.Logic.{ex, all, all_e}
 use denote.Ref.{NamedLft, MutBor}
-use Rattle.spin_core.proofs.CellStepWalks.{others}
+use Rattle.spin_core.proofs.WalkSteps.{others}
 use Rattle.spin_core.specs.declared.cell.Rule.{Ghosts}
 use base.Fml.{Incl, GName}
 use types.Kit.{each, show, frame, assume}

@@ -1,6 +1,6 @@
 -- `into_permit` keeps what the permit owns.
 use Rattle.spin_core.proofs.WalkNames.{◌≡◌, [], ◌∷◌, refl, Some, dcons, dnil, Val, inst_fn, Fml, flft, ‵, raw, ◌⊛◌, given, ◌$◌, ◌∵◌, !, qed, by, move, keep, split, join, fsplit, fjoin, learn, use0, use1, stop, fld, of_opd, no_more, and_then, returns, enter, alloc_all, pass_all, free_all, look_at, get, get_in, sets, agg, sub, whole, no, owns, types_at, plain, named_lft, Ptr, nothing, param, bounded, Stays, stay_dropped, walk_of, Goes-dropped, proved, leaves, says, lies}
-use Rattle.spin_core.proofs.CellStepWalks.{others}
+use Rattle.spin_core.proofs.WalkSteps.{others}
 use Rattle.spin_core.specs.Cell.{writes}
 use Rattle.spin_core.specs.CellMemory.{permit_owns, writer_owns}
 use Rattle.spin_core.specs.contracts.cell.Permit as hand

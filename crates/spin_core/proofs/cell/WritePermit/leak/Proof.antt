@@ -1,7 +1,7 @@
 -- `leak` gives up the value's borrow for the rest of the cell's borrow.
 use Rattle.spin_core.proofs.WalkNames.{◌≡◌, ◌+◌, List, [], ◌∷◌, refl, ap, dcons, dnil, named, Val, vptr, inst_fn, Fml, flft, fbor, ‵, raw, ◌⊛◌, later, at_ret, ◌$◌, ◌∵◌, !, qed, by, move, keep, split, join, fsplit, fjoin, fjoin3, fpick, use3, await, feq_i, stop, fld, addr, of_opd, first, blocks, exec, returns, enter, alloc_all, pass_all, free_all, look_at, get, get_in, through, sets, sets_last, is, env, sub, whole, tables, no, owns, types_at, plain, named_lft, Ptr, ptr_val, block_of, count_of, at_block, nothing, param, bounded, Stays, stay_dropped, walk_of, Goes-dropped, tail, proved, leaves, says, lies_at}
 use denote.Ref.{MutRef}
-use Rattle.spin_core.proofs.CellStepWalks.{others}
+use Rattle.spin_core.proofs.WalkSteps.{others}
 use Rattle.spin_core.specs.CellMemory.{offset, named as body, writer_owns}
 use Rattle.spin_core.specs.contracts.cell.WritePermit as pen
 use Rattle.spin_core.proofs.PermitFields.{hand_of, told, typed}

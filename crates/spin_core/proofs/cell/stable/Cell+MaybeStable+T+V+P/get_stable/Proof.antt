@@ -18,7 +18,7 @@ use Rattle.core.specs.declared.option.Option.TheVariants.{None, Some}
 use Rattle.core.proofs.option.Made.{Some-of, none_of}
 use Rattle.core.proofs.alloc.Shapes.{after}
 use Rattle.atomic_table.specs.Seated.{fact as said}
-use Rattle.spin_core.proofs.CellStepWalks.{others}
+use Rattle.spin_core.proofs.WalkSteps.{others}
 use Rattle.spin_core.specs.Cell.{Starts, Lends}
 use Rattle.spin_core.specs.Stable.{StableAt}
 use Rattle.spin_core.specs.CellMemory.{offset}
