@@ -44,11 +44,12 @@ split {X} k (Some u ∷ us) (x ∷ before) v behind e =
 abbrev Came : Type 0 → Type 0
 Came X = List (Option (X × ℕ))
 
-module _ {C V : Type 0} where
-  picked : (x : Entry C V) (ls rs ts : List (Entry C V)) → ls ≡ rs ++ ts → (b : Bool) → (if b then x ∷ ls else ls) ≡ (if b then x ∷ rs else rs) ++ ts
-  picked x ls rs ts e true = ap (λ l. x ∷ l) e
-  picked x ls rs ts e false = e
+-- one more in front, if it is picked
+pub picked : {X : Type 0} (x : X) (ls rs ts : List X) → ls ≡ rs ++ ts → (b : Bool) → (if b then x ∷ ls else ls) ≡ (if b then x ∷ rs else rs) ++ ts
+picked x ls rs ts e true = ap (λ l. x ∷ l) e
+picked x ls rs ts e false = e
 
+module _ {C V : Type 0} where
   pub by-append : (q : ℕ) (xs ys : List (Entry C V)) → entries_by q (xs ++ ys) ≡ entries_by q xs ++ entries_by q ys
   by-append q [] ys = refl
   by-append q (x ∷ xs) ys = picked x (entries_by q (xs ++ ys)) (entries_by q xs) (entries_by q ys) (by-append q xs ys) (x.0 == q)

@@ -18,7 +18,8 @@ use Rattle.spin_core.specs.Passes.{mark_of, MayBe, IsNumber, Course, Nothing, Wa
 use Rattle.spin_core.specs.Cell.{Ways, Moved}
 use Rattle.spin_core.specs.Traced.{Watches, Named}
 use Rattle.spin_core.specs.declared.trace.Trace.{Trace}
-use Rattle.spin_core.proofs.Owns.{by-append}
+use Rattle.spin_model.proofs.Schedules.{after-append}
+use Rattle.spin_core.proofs.Owns.{picked, by-append}
 
 module _ {C V : Type 0} where
   nothing_known : (old : List (Entry C V)) → 0 ≡ length old → old ≡ []
@@ -33,17 +34,9 @@ module _ {W V C L A : Type 0} (m : Machine W V C L A) where
   abbrev Schedule : Type 0
   Schedule = List (Entry C V)
 
-  chosen : (o : Outcome A V) (ls rs ts : List (Outcome A V)) → ls ≡ rs ++ ts → (b : Bool) → (if b then o ∷ ls else ls) ≡ (if b then o ∷ rs else rs) ++ ts
-  chosen o ls rs ts e true = ap (λ l. o ∷ l) e
-  chosen o ls rs ts e false = e
-
   by-both : (p : ℕ) (s : State W V C L) (xs ys : Schedule) → outcomes_by m p s (xs ++ ys) ≡ outcomes_by m p s xs ++ outcomes_by m p (after m s xs) ys
   by-both p s [] ys = refl
-  by-both p s (x ∷ xs) ys = let h = happens m s x.0 x.1 in chosen h.outcome (outcomes_by m p h.next (xs ++ ys)) (outcomes_by m p h.next xs) (outcomes_by m p (after m h.next xs) ys) (by-both p h.next xs ys) (x.0 == p)
-
-  after-both : (s : State W V C L) (xs ys : Schedule) → after m s (xs ++ ys) ≡ after m (after m s xs) ys
-  after-both s [] ys = refl
-  after-both s (x ∷ xs) ys = after-both (happens m s x.0 x.1).next xs ys
+  by-both p s (x ∷ xs) ys = let h = happens m s x.0 x.1 in picked h.outcome (outcomes_by m p h.next (xs ++ ys)) (outcomes_by m p h.next xs) (outcomes_by m p (after m h.next xs) ys) (by-both p h.next xs ys) (x.0 == p)
 
   -- entries of others have no outcomes for the party
   unasked : (p : ℕ) (s : State W V C L) (x : Entry C V) (xs : Schedule) (b : Bool) → (if b then x ∷ entries_by p xs else entries_by p xs) ≡ [] → (entries_by p xs ≡ [] → (s' : State W V C L) → outcomes_by m p s' xs ≡ [])
@@ -73,7 +66,7 @@ module _ {W V C L A : Type 0} (m : Machine W V C L A) where
         let one : least + (least' + k) ≡ least + least' + k = omega arith in let two : least' + (least + k) ≡ least + least' + k = omega arith in
         by-both p s more more'
         ∙ ap (λ l. l ++ outcomes_by m p (after m s more) more') (ap (λ n. outcomes_by m p (after m (at_first m n) a) more) (sym one) ∙ came (least' + k))
-        ∙ ap (λ l. outs ++ l) (ap (λ z. outcomes_by m p z more') (sym (after-both (at_first m (least + least' + k)) a more) ∙ ap (after m (at_first m (least + least' + k))) (sym is)) ∙ ap (λ n. outcomes_by m p (after m (at_first m n) b) more') (sym two) ∙ came' (least + k)),
+        ∙ ap (λ l. outs ++ l) (ap (λ z. outcomes_by m p z more') (sym (after-append m (at_first m (least + least' + k)) a more) ∙ ap (after m (at_first m (least + least' + k))) (sym is)) ∙ ap (λ n. outcomes_by m p (after m (at_first m n) b) more') (sym two) ∙ came' (least + k)),
   )
 
   module _ {X : Type 0} where
@@ -117,7 +110,7 @@ module _ {W V C L A : Type 0} (m : Machine W V C L A) where
               subst (IsPlayed m least) (sym is) mine.3,
               λ k. let s : State W V C L = after m (at_first m (least + k)) before.entries in
                   by-both p s between (by_party p own) ∙ ap (λ l. l ++ outcomes_by m p (after m s between) (by_party p own)) (by-others p between apart.1 s) ∙ by-own p (after m s between) own
-                  ∙ ap (λ z. outcomes m z (by_party p own)) (sym (after-both (at_first m (least + k)) before.entries between) ∙ ap (after m (at_first m (least + k))) here) ∙ ap (outcomes m (after m (at_first m (least + k)) log)) (sym es_is) ∙ mine.4 k,
+                  ∙ ap (λ z. outcomes m z (by_party p own)) (sym (after-append m (at_first m (least + k)) before.entries between) ∙ ap (after m (at_first m (least + k))) here) ∙ ap (outcomes m (after m (at_first m (least + k)) log)) (sym es_is) ∙ mine.4 k,
             ),
             said,
           ),

@@ -1,6 +1,5 @@
 -- `load` reads the first word.
 use Rattle.spin_core.proofs.WalkNames.{ℕ, ◌+◌, [], ◌∷◌, refl, ap, lit<, dcons, dnil, vptr, inst_fn, raw, mean, at_ret, ◌$◌, !, by, move, fjoin, use1, stop, fld, addr, lit, of_opd, no_more, and_then, first, blocks, exec, Calls-last, returns, enter, alloc_all, pass_all, free_all, look_at, get, get_in, through, sets, lands_last, is, env, agg, sub, whole, tables, owns, types_at, named_lft, block_ptr, ptr_val, block_of, count_of, at_block, nothing, param, bounded, walk_of, tail, proved, leaves, fm, seq_cst, found, finds, loads}
-use Rattle.spin_core.specs.Traced.{MayKnow, Traces}
 use Rattle.spin_core.specs.contracts.trace.Trace as trace
 use Rattle.spin_core.proofs.TraceTokens.{token, token_told}
 use types.Kit.{keep, fsplit}
@@ -22,9 +21,9 @@ load_spec 𝓤 𝓛 𝓜 𝓡 wired T V E S P K Mv L _ _ _ _ _ _ g d g' d' _ _ =
     (λ κs. ((λ x. hand_of x.cell ∷ []), ((λ x. token ∷ []), tt))) (λ κs. ((λ x vs so. told (named_lft 8 0 tt κs) R W Y Kr Sr g x.cell vs so.0), ((λ x vs so. token_told Er vs so.0), tt))) (λ κs qs bounds a gh are.
     let ℓ = named_lft 8 0 tt κs in let h = a.0 in let p = h.cell in let b = block_of p in let o = count_of p in let q = qs.0 in let τ = κs.1.0 in
     let seen = a.1.0 in let r = qs.1.0 in let os = others 6 κs.1.1 qs.1.1 in
-    let told' = g'.told h.key 0 0 h.view in let f : ℕ → ℕ = λ n. n in let Asked = MayKnow (g.holds h.key) (g.ways h.key) seen × Traces (g.holds h.key) (g.ways h.key) h.view h.value f told' in
+    let told' = g'.told h.key 0 0 h.view in let f : ℕ → ℕ = λ n. n in
     let y : (walk_of 𝓛 En hs c).Ghost = ((κs, qs, bounds, a, (hand_of p ∷ [], (token ∷ [], tt))), gh) in let Post = (walk_of 𝓛 En hs c).post y in
-    begins_with 𝓛 ℓ T W Y Kr Sr g 6 (_, (_, (_, (_, (_, (_, tt)))))) h Asked q τ r os (owns (types_at En.signature.params κs) a y.0.4) _ refl (λ asked le inb.
+    begins_with 𝓛 ℓ T W Y Kr Sr g 6 (_, (_, (_, (_, (_, (_, tt)))))) h _ q τ r os (owns (types_at En.signature.params κs) a y.0.4) _ refl (λ asked le inb.
     move ! (4 ∷ []) $ fsplit ! $ fsplit ! $ keep ! (3 ∷ 4 ∷ 5 ∷ 1 ∷ 6 ∷ []) $ enter ! _ _ _ _ _ $ alloc_all ! (λ l. pass_all ! refl (typed p inb, ((tt, (tt, tt)), tt)) $ let Ev = env fn.locals l in
     opens 𝓛 𝓜 𝓡 ℓ T W Y Kr Er Ur L g b o h q τ r seen told' ! tt le (block_ptr b (o + 0)) f (asks_first 𝓛 𝓜 𝓡 ℓ T W Y Kr Er Ur L g b o h q τ r seen told' f asked) (λ left rest closes.
     sets ! (is ! (of_opd ! (get_in ! (fld ! refl (stop !)) (sub ! 0 refl (whole !)))) (ap ptr_val (at_block p inb))) refl (tt, tt) $ first ! $ blocks ! $ sets ! (addr ! (through ! refl (fld ! refl (stop !)))) refl (tt, tt) $
