@@ -32,9 +32,11 @@ use Rattle.spin_core.proofs.CellParts.{piece_in, piece_cut}
 use Rattle.spin_core.proofs.Signs.{signs}
 
 -- ---- what is shared may be copied, and may be shared for less time
-module _ (Y R : RattleType) {V : Type 0} (c : V → Gv) (S : RattleType) (holds : ℕ → S.Denot → List V → Type 0) (ways : Ways R.Denot V S.Denot) (L : RowLaws R) (β : Lft) where
+module _ (Y R : RattleType) {V : Type 0} (c : V → Gv) (S : RattleType) (holds : ℕ → S.Denot → List V → Type 0) (ways : Ways R.Denot V S.Denot)
+    (L : RowLaws R) (β : Lft) where
   reader_laws : (b o : ℕ) (u : Use) (x : Option R.Denot) → ShrLaws (reader_shares Y R c S holds ways β b o u x)
-  reader_laws b o reads (Some x) = some_shr_laws (Known ways Y S R) (λ _. within β (shown R b o x)) (λ _. within_shr_laws β (shown R b o x) (L x b (o + offset R)))
+  reader_laws b o reads (Some x) =
+      some_shr_laws (Known ways Y S R) (λ _. within β (shown R b o x)) (λ _. within_shr_laws β (shown R b o x) (L x b (o + offset R)))
   reader_laws b o reads None = said_shr_laws ffalse tt
   reader_laws b o _ x = nothing_shr_laws
 

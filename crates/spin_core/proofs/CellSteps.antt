@@ -236,7 +236,8 @@ module _ {M : Type 1} {𝓤 : Ura M} (𝓛 : Logic 𝓤) (Er Ur : RattleType) wh
           each ! (λ (_ : Unit {0}). Again 𝓛 t.life q I b e to always left n) (λ _. assume ! (‵ (word b e (to n))) $ by ! (go typed.1.fits)))
 
       pub first_steps : (q : Share) (to : ℕ → ℕ) (γ : ℕ) (k : List E) → May γ k → Traces holds ways view v to told
-          → 𝓛.A.inv (fbor t.life I) ∗ (𝓛.A.lft t.life q ∗ ⟦ fsep Mine (Known γ k) ⟧) ⊢ asks 𝓛 (block_ptr b (o + 0)) to always (λ n. fsep (flft t.life q) (watched γ k n))
+          → 𝓛.A.inv (fbor t.life I) ∗ (𝓛.A.lft t.life q ∗ ⟦ fsep Mine (Known γ k) ⟧)
+          ⊢ asks 𝓛 (block_ptr b (o + 0)) to always (λ n. fsep (flft t.life q) (watched γ k n))
       first_steps q to γ k may allows =
           let e : ℕ = o + 0 in let Own : Fml = fsep Mine (Known γ k) in let left : ℕ → Fml = watched γ k in
           borrowed 𝓛 t.life q I b e to always left ⟦ Own ⟧ (qed 𝓛 (‵ I ∷ ‵ Own ∷ []) ∵ suffices ! _ (upd_i 𝓤 (ex 𝓤 (Lies 𝓛 t.life q I b e to always left))) $
@@ -267,12 +268,14 @@ module _ {M : Type 1} {𝓤 : Ura M} (𝓛 : Logic 𝓤) (Er R : RattleType) (L 
       → 𝓛.A.inv (fbor t.life J) ∗ (𝓛.A.lft t.life q ∗ ⟦ Hand γ k ⟧) ⊢ asks 𝓛 (block_ptr b (place + 0)) to always (λ n. fsep (flft t.life q) (left γ k n))
   second_steps q to γ k may allows =
       let e : ℕ = place + 0 in let Own : Fml = Hand γ k in
-      borrowed 𝓛 t.life q J b e to always (left γ k) ⟦ Own ⟧ (qed 𝓛 (‵ J ∷ ‵ Own ∷ []) ∵ suffices ! _ (upd_i 𝓤 (ex 𝓤 (Lies 𝓛 t.life q J b e to always (left γ k)))) $
+      borrowed 𝓛 t.life q J b e to always (left γ k) ⟦ Own ⟧ (qed 𝓛 (‵ J ∷ ‵ Own ∷ []) ∵
+      suffices ! _ (upd_i 𝓤 (ex 𝓤 (Lies 𝓛 t.life q J b e to always (left γ k)))) $
       fpick ! (λ s. let n : ℕ = s.0 in let m : Trace Er.Denot ℕ = s.1 in let y : ℕ = m.word in let First : Fml = word b (o + 0) n in
       let Inside : Fml = core R b o t cv.code (S 𝓛 Er u64) holds ways s in
       fsplit ! $ move ! (1 ∷ []) $ fsplit ! $ use1 𝓛 (‵ (word b e y) ⊛ raw (Takes 𝓛 Er b place m)) (word_apart 𝓛 Er b place m) $ split ! $
       by ! (answers 𝓛 Er u64 R L b o t cv holds ways view v told e to q (left γ k) y (Takes 𝓛 Er b place m ∗ ⟦ Inside ⟧ ∗ ⟦ First ⟧ ∗ ⟦ Own ⟧) (λ small.
-      qed 𝓛 (‵ (word b e (to y)) ∷ raw (Takes 𝓛 Er b place m) ∷ ‵ Inside ∷ ‵ First ∷ ‵ Own ∷ []) ∵ let Here : Fml = Traced 𝓛 Er u64 R L b o t cv holds ways view v (beside m (to y)) in
+      qed 𝓛 (‵ (word b e (to y)) ∷ raw (Takes 𝓛 Er b place m) ∷ ‵ Inside ∷ ‵ First ∷ ‵ Own ∷ []) ∵
+      let Here : Fml = Traced 𝓛 Er u64 R L b o t cv holds ways view v (beside m (to y)) in
       move ! (1 ∷ []) $ use1 𝓛 (raw (with 𝓛 Er b place m (to y))) (all_e 𝓤 (with 𝓛 Er b place m) (to y)) $
       move ! (1 ∷ 0 ∷ []) $ use2 𝓛 (‵ Here) (apply∗ 𝓤 ⟦ word b e (to y) ⟧ ⟦ Here ⟧) $ move ! (3 ∷ []) $ fsplit ! $ move ! (4 ∷ 2 ∷ 3 ∷ 0 ∷ 1 ∷ []) $
       by ! (grows 𝓛 Er u64 R L b o t cv holds ways view v told γ k may n n m (to y) y (λ id vs meets here. allows id n m vs meets here small))))))

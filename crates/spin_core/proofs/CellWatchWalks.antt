@@ -73,7 +73,8 @@ module _ {M : Type 1} {𝓤 : Ura M} (𝓛 : Logic 𝓤) (𝓜 : Model 𝓤 𝓛
   Known s = steps.Known 𝓛 Er Ur s.name s.entries
 
   -- a step of the party with this permit and this watch; its tokens are those of its cell and of its value's type
-  module _ (b o : ℕ) (h : Hr.Denot) (q : Share) (τ : Lft) (r : Share) (seen : Watch Er.Denot) (told : List Er.Denot → List Er.Denot → ℕ → W.Denot → Type 0) where
+  module _ (b o : ℕ) (h : Hr.Denot) (q : Share) (τ : Lft) (r : Share) (seen : Watch Er.Denot)
+      (told : List Er.Denot → List Er.Denot → ℕ → W.Denot → Type 0) where
     abbrev ways : Ways R.Denot W.Denot Sr.Denot
     ways = g.ways h.key
 
@@ -143,7 +144,8 @@ module _ {M : Type 1} {𝓤 : Ura M} (𝓛 : Logic 𝓤) (𝓜 : Model 𝓤 𝓛
         use2 𝓛 (later (‵ (flft β q))) (apply∗ 𝓤 (A.lft t.life k.1.1) (H.⇛ (A.lft β q))) $ await ! tt $ move ! (1 ∷ []) $
         fpick ! (λ s. fsplit ! $ fpick ! (λ so. drop ! $ fsplit ! $ move ! (1 ∷ []) $
         use1 𝓛 (later (‵ (right R b o t ways.0 (ways.1 s.0) s.1))) (settles_down 𝓛 R b o t (ways.1 s.0) ways.0 s.1) $ await ! tt $
-        move ! (1 ∷ 0 ∷ []) $ fjoin ! $ move ! (2 ∷ 0 ∷ []) $ fjoin ! $ fpack ! Id (At (Some s.0) s.1) t $ fpack ! (Shares ways Y Sr R) (λ _. fex Id (At (Some s.0) s.1)) k.0 $
+        move ! (1 ∷ 0 ∷ []) $ fjoin ! $ move ! (2 ∷ 0 ∷ []) $ fjoin ! $ fpack ! Id (At (Some s.0) s.1) t $
+        fpack ! (Shares ways Y Sr R) (λ _. fex Id (At (Some s.0) s.1)) k.0 $
         use1 𝓛 (raw (ex 𝓤 (Left tells)))
         (via 𝓤 (Left tells s) (guard_i 𝓤 (Closed tells s) ⟦ Owned (Some s.0) s.1 ⟧ so) (ex_i 𝓤 (Left tells) s)) $ now ! $ done !))
 
@@ -155,7 +157,8 @@ module _ {M : Type 1} {𝓤 : Ura M} (𝓛 : Logic 𝓤) (𝓜 : Model 𝓤 𝓛
     then l = Watches (Named (g.holds h.key) ways seen.name) seen (knowing l) told
 
     abbrev Says : ℕ × List Er.Denot → ℕ → W.Denot × Option R.Denot → Item 𝓤
-    Says l n s = raw (fact 𝓤 (then l n s.0)) ⊛ raw (fact 𝓤 (Keeps ways h.view (Some s.0) h.value s.1)) ⊛ raw (fact 𝓤 (finds l.1 s.0 s.1)) ⊛ raw (fact 𝓤 (h.key ≡ h.key))
+    Says l n s = raw (fact 𝓤 (then l n s.0)) ⊛ raw (fact 𝓤 (Keeps ways h.view (Some s.0) h.value s.1)) ⊛ raw (fact 𝓤 (finds l.1 s.0 s.1))
+        ⊛ raw (fact 𝓤 (h.key ≡ h.key))
 
     abbrev Tokens : Fml → Item 𝓤
     Tokens os = ‵ (flft β q) ⊛ ‵ (flft τ r) ⊛ ‵ os
@@ -169,7 +172,8 @@ module _ {M : Type 1} {𝓤 : Ura M} (𝓛 : Logic 𝓤) (𝓜 : Model 𝓤 𝓛
           fsplit t $ fpick t (λ p. drop t $ fsplit t $ move t (1 ∷ []) $
           let tells : W.Denot → Option R.Denot → Type 0 = λ w x. told s.1.0 s.1.1 n w × finds l.1 w x in
           -- [what the step leaves; what the watch knows; the lifetime's token; the way back; the other tokens]
-          move t (2 ∷ 0 ∷ 3 ∷ []) $ use3 𝓛 (later (some (λ (v : W.Denot × Option R.Denot). given (Closed tells v) (‵ (Owned (Some v.0) v.1))) ⊛ ‵ (flft β q) ⊛ ‵ (flft τ r)))
+          move t (2 ∷ 0 ∷ 3 ∷ []) $
+          use3 𝓛 (later (some (λ (v : W.Denot × Option R.Denot). given (Closed tells v) (‵ (Owned (Some v.0) v.1))) ⊛ ‵ (flft β q) ⊛ ‵ (flft τ r)))
           (exits k tells) $ await t z $ split3 t $ pick t (λ v. learn t (λ so.
           use0 𝓛 (‵ ((Words ℓ R W Y Kr Sr g).own_val (here, (tt, tt)) (hand_of here ∷ []))) (made ℓ R W Y Kr Sr g 𝓛 here) $ fjoin t $
           says t (h.key ≡ h.key) refl $ says t (finds l.1 v.0 v.1) so.0.1 $ join t $ says t (Keeps ways h.view (Some v.0) h.value v.1) so.1 $ join t $
@@ -257,7 +261,8 @@ module _ {M : Type 1} {𝓤 : Ura M} (𝓛 : Logic 𝓤) (𝓜 : Model 𝓤 𝓛
 
 -- a step on the second word, if that is a number
 module _ {M : Type 1} {𝓤 : Ura M} (𝓛 : Logic 𝓤) (𝓜 : Model 𝓤 𝓛.H) (𝓡 : Running 𝓤 𝓛.H 𝓜) (ℓ : NamedLft) (T W Y Kr Er : RattleType) (L : Laws T)
-    (g : Ghosts Y.Denot T.Denot W.Denot Kr.Denot (trace.the_row Er u64).Denot) (b o : ℕ) (h : (hand.the_row ℓ (param 0 T) W Y Kr (trace.the_row Er u64) g).Denot)
+    (g : Ghosts Y.Denot T.Denot W.Denot Kr.Denot (trace.the_row Er u64).Denot) (b o : ℕ)
+    (h : (hand.the_row ℓ (param 0 T) W Y Kr (trace.the_row Er u64) g).Denot)
     (q : Share) (τ : Lft) (r : Share) (seen : Watch Er.Denot) (told : List Er.Denot → List Er.Denot → ℕ → W.Denot → Type 0) where
   -- where that word is
   abbrev pub place : ℕ

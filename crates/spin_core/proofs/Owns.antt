@@ -139,7 +139,8 @@ module _ {W V C L A X S : Type 0} (m : Machine W V C L A) (seat_of : X → Seat 
     made_none : MadeNone m seat_of words_of log number view
     becomes : (u : X) (mark : ℕ) → views_after id view vs (u, number, mark) ≡ present_from 0 (front ++ Some (u, mark) ∷ back)
 
-  placed : (view : Option (Numbered X)) (id : ℕ) (s : ℕ × S) (log : Schedule) (vs : List (Numbered X)) → Run log s vs → Stands id view vs → Placed view id s log vs
+  placed : (view : Option (Numbered X)) (id : ℕ) (s : ℕ × S) (log : Schedule) (vs : List (Numbered X)) → Run log s vs → Stands id view vs
+      → Placed view id s log vs
   placed None id s log vs (came, w, value, is, s_is, led, played, rested) at =
       let p : ℕ = length came in let last : p ≡ 0 + length came = sym (zero-add p) in record {
         words = w;
@@ -181,7 +182,8 @@ module _ {W V C L A X S : Type 0} (m : Machine W V C L A) (seat_of : X → Seat 
   -- the result of a step by which the party with this view gets the view u
   abbrev pub Comes : Option (Numbered X) → X → (List (Move C V) → List (Outcome A V) → Type 0) → ℕ → ℕ × S → Schedule → List (Numbered X) → Type 0
   Comes view u says id s log vs = (p : ℕ) × (own : List (Move C V)) × (outs : List (Outcome A V)) × (let es = by_party p own in
-      Run (log ++ es) s (views_after id view vs (u, p, length (log ++ es))) × MadeNone m seat_of words_of log p view × run.AreOwn m own outs log es × says own outs)
+      Run (log ++ es) s (views_after id view vs (u, p, length (log ++ es))) × MadeNone m seat_of words_of log p view × run.AreOwn m own outs log es
+      × says own outs)
 
   pub step : (view : Option (Numbered X)) (to : ℕ × S → ℕ × S) (found : ℕ × S → ℕ) (tells : ℕ → X → Type 0)
       (says : List (Move C V) → List (Outcome A V) → ℕ → X → Type 0) → run.AreMoves m seat_of words_of (what view) to found tells says
@@ -216,7 +218,8 @@ module _ {W V C L A X S : Type 0} (m : Machine W V C L A) (seat_of : X → Seat 
       )
 
   -- an idle party may leave
-  pub leave : (v : Numbered X) → seat_of v.0 ≡ Idle → (s : ℕ × S) (log : Schedule) (before behind_it : List (Numbered X)) → Run log s (before ++ v ∷ behind_it) → Run log s (before ++ behind_it)
+  pub leave : (v : Numbered X) → seat_of v.0 ≡ Idle → (s : ℕ × S) (log : Schedule) (before behind_it : List (Numbered X))
+      → Run log s (before ++ v ∷ behind_it) → Run log s (before ++ behind_it)
   leave v idle s log before behind_it (came, w, value, is, s_is, led, played, rested) =
       let (front, back, came_is, front_is, place, back_is) = split 0 came before v behind_it is in let last : Option (X × ℕ) = Some (v.0, v.2) in
       let are : map kind came ≡ map kind front ++ Some v.0 ∷ map kind back = ap (map kind) came_is ∙ kinds front last back in

@@ -150,7 +150,8 @@ module _ {W V C L A X S : Type 0} (m : Machine W V C L A) (seat_of : X → Seat 
   abbrev seats : List (Option X) → List (Seat C L)
   seats us = map sits us
 
-  seats-seam : (front back : List (Option X)) (o : Option X) (ys : List (Seat C L)) → seats (front ++ o ∷ back) ++ ys ≡ seats front ++ sits o ∷ (seats back ++ ys)
+  seats-seam : (front back : List (Option X)) (o : Option X) (ys : List (Seat C L))
+      → seats (front ++ o ∷ back) ++ ys ≡ seats front ++ sits o ∷ (seats back ++ ys)
   seats-seam front back o ys = ap (λ xs. xs ++ ys) (map-append sits front (o ∷ back)) ∙ append_assoc (seats front) (seats (o ∷ back)) ys
 
   -- a party joins, and sits idle until its first step
@@ -173,7 +174,8 @@ module _ {W V C L A X S : Type 0} (m : Machine W V C L A) (seat_of : X → Seat 
     as_many u = length-append front (u ∷ back) ∙ sym (length-append front (o ∷ back))
 
     -- where the schedule leads, with the party's seat among the others'
-    comes_to : (u : Option X) (more : ℕ) → after m (at_first m (length (with u) + more)) log ≡ world w value (seats front ++ sits o ∷ (seats back ++ replicate more Idle))
+    comes_to : (u : Option X) (more : ℕ)
+        → after m (at_first m (length (with u) + more)) log ≡ world w value (seats front ++ sits o ∷ (seats back ++ replicate more Idle))
     comes_to u more =
         ap (λ k. after m (at_first m (k + more)) log) (as_many u) ∙ leads more ∙ ap (world w value) (seats-seam front back o (replicate more Idle))
 

@@ -138,7 +138,8 @@ module _ {M : Type 1} {𝓤 : Ura M} (𝓛 : Logic 𝓤) (m ms : Member) (V Y K 
   cut : (q : Share) → A.bor κ P ∗ A.lft κ q ⊢ H.⇛ (⟦ Two ⟧ ∗ A.lft κ q)
   unfolding fseps
   cut q = qed 𝓛 (‵ (fbor κ P) ∷ ‵ (flft κ q) ∷ []) ∵ updating ! $ bor_open ! tt $ move ! (1 ∷ []) $
-      use1 𝓛 (some (λ (z : Sure × All 𝓛 m ms V Y K g key b o). ‵ (Both (z.1.0, z.1.1)) ⊛ ‵ (Lies z.1.2) ⊛ ‵ (fact (Starting z.1)) ⊛ raw Back)) (fields_out 𝓛 m ms V Y K g key b o L LS P (written_out 𝓛 m ms V Y K g key b o) (written_in 𝓛 m ms V Y K g key b o)) $
+      use1 𝓛 (some (λ (z : Sure × All 𝓛 m ms V Y K g key b o). ‵ (Both (z.1.0, z.1.1)) ⊛ ‵ (Lies z.1.2) ⊛ ‵ (fact (Starting z.1)) ⊛ raw Back))
+      (fields_out 𝓛 m ms V Y K g key b o L LS P (written_out 𝓛 m ms V Y K g key b o) (written_in 𝓛 m ms V Y K g key b o)) $
       pick ! (λ z. let x = z.1.2 in let s : ℕ × S.Denot = (z.1.0, z.1.1) in split ! $ move ! (1 ∷ []) $ split3 ! $ move ! (1 ∷ []) $ fpick ! (λ rule. drop ! $
       let vs = rule.0 in let r = read vs in let w = wrote vs in
       name_new ! tt (R.coded.code x) (λ ν. move ! (2 ∷ 1 ∷ []) $ fjoin ! $ fpack ! R.Denot (λ y. fsep (Lies y) (fauth ν (R.coded.code y))) x $
@@ -207,12 +208,14 @@ module _ {M : Type 1} {𝓤 : Ura M} (𝓛 : Logic 𝓤) (m ms : Member) (V Y K 
     words_back = qed 𝓛 [] ∵ assume ! (‵ (fsep (fdead κ) (fsep I ftrue))) $ suffices ! ⟦ Words ν ⟧ (upd_i 𝓤 ⟦ Words ν ⟧) $ fsplit3 ! $ keep ! (1 ∷ []) $ fpick ! (λ s. fsplit3 ! $ move ! (2 ∷ []) $
         fpick ! (λ vs. let r = read vs in let w = wrote vs in fsplit3 ! $ move ! (1 ∷ []) $ fpick ! (λ meets. drop ! $ drop ! $
         use1 𝓛 (‵ (IsFound s.1 way ν r w)) (finds s.1 way r w) $ nothing ! $
-        fpack ! (Met s vs) (λ _. ftrue) meets $ fjoin ! $ fpack ! (List V.Denot) (views_at ν s) vs $ move ! (1 ∷ 2 ∷ 0 ∷ []) $ fjoin3 ! $ fpack ! (ℕ × S.Denot) (standing_at ν) s $ done !)))
+        fpack ! (Met s vs) (λ _. ftrue) meets $ fjoin ! $ fpack ! (List V.Denot) (views_at ν s) vs $ move ! (1 ∷ 2 ∷ 0 ∷ []) $ fjoin3 ! $
+        fpack ! (ℕ × S.Denot) (standing_at ν) s $ done !)))
 
     -- ---- the invariant is made: some views that satisfy the rule take their places
     module _ (l : Lft) (shares : Shares 𝓛 R l) (μ : Lft) (e f : Share) (i : Incl μ κ) (j : Incl μ l) where
       stands : (k : S.Denot) (vs : List V.Denot) (v : Option R.Denot) → Limits way (read vs) (wrote vs)
-          → ⟦ found k way ν (read vs) (wrote vs) v ⟧ ∗ A.bor κ (Named ν) ∗ ⟦ idle γ ⟧ ∗ A.lft μ e ∗ A.lft μ f ⊢ H.⇛ (⟦ St way (φ k) (read vs) (wrote vs) ⟧ ∗ A.lft μ e ∗ A.lft μ f)
+          → ⟦ found k way ν (read vs) (wrote vs) v ⟧ ∗ A.bor κ (Named ν) ∗ ⟦ idle γ ⟧ ∗ A.lft μ e ∗ A.lft μ f
+          ⊢ H.⇛ (⟦ St way (φ k) (read vs) (wrote vs) ⟧ ∗ A.lft μ e ∗ A.lft μ f)
       stands k vs None lim = let r = read vs in let w = wrote vs in
           qed 𝓛 (‵ (found k way ν r w None) ∷ ‵ (fbor κ (Named ν)) ∷ ‵ (idle γ) ∷ ‵ (flft μ e) ∷ ‵ (flft μ f) ∷ []) ∵ updating ! $ fpick ! (λ writes. drop ! $ drop ! $ use1 𝓛 (‵ (St way (φ k) r w)) (away k way r w writes) $ now ! $ done !)
       stands k vs (Some x) lim = let r = read vs in let w = wrote vs in
@@ -230,7 +233,8 @@ module _ {M : Type 1} {𝓤 : Ura M} (𝓛 : Logic 𝓤) (m ms : Member) (V Y K 
           -- [what was found; the words; the open borrow; the round's name; two tokens; the value; the keys]
           let Q = St way (φ s.1) (read vs) (wrote vs) in move ! (0 ∷ 7 ∷ 4 ∷ 5 ∷ 6 ∷ []) $ group ! 5 $
           use1 𝓛 (later (‵ Q ⊛ ‵ (flft μ e) ⊛ ‵ (flft μ f))) (stands s.1 vs v meets.1) $ await ! tt $ split3 ! $
-          move ! (6 ∷ []) $ use1 𝓛 (later (‵ (roster c ρ 0 vs))) (via 𝓤 _ (enrols 𝓛 V.coded ρ vs 0 u) (basic 𝓛 ⟦ roster c ρ 0 vs ⟧)) $ await ! tt $ nothing ! $ fpack ! (Met s vs) (λ _. ftrue) meets $
+          move ! (6 ∷ []) $ use1 𝓛 (later (‵ (roster c ρ 0 vs))) (via 𝓤 _ (enrols 𝓛 V.coded ρ vs 0 u) (basic 𝓛 ⟦ roster c ρ 0 vs ⟧)) $ await ! tt $
+          nothing ! $ fpack ! (Met s vs) (λ _. ftrue) meets $
           move ! (1 ∷ 0 ∷ 2 ∷ []) $ fjoin3 ! $ fpack ! (List V.Denot) (core_at R b o t c S (g.holds key) ways s.0 s.1) vs $ move ! (3 ∷ 4 ∷ 0 ∷ []) $ fjoin3 ! $ fpack ! (ℕ × S.Denot) (standing R b o t c S (g.holds key) ways) s $
           nothing ! $ move ! (1 ∷ 0 ∷ []) $ fjoin ! $ use0 𝓛 (‵ (fwand (fsep (fdead κ) (fseps (I ∷ []))) (fupd (Words ν)))) words_back $ move ! (4 ∷ 1 ∷ 0 ∷ []) $ obor_alter ! tt (I ∷ []) $
           use1 𝓛 (‵ (fbor κ I) ⊛ ‵ ftrue) (id⊢ 𝓤 _) $ split ! $ use1 𝓛 (later (‵ (finv (fbor κ I)))) (𝓛.invs.inv_new (fbor κ I)) $ await ! tt $

@@ -22,7 +22,9 @@ into_inner_spec 𝓤 𝓛 𝓜 𝓡 wired X U P K S L _ _ _ LS g d _ =
     let N : El = record { row = S; laws = LS } in
     let inst = bounded code.function.ty_params (X, (U, (P, (K, (S, tt))))) (dcons d dnil) in let fn = inst_fn inst code.function in
     let Row = cell.the_row R V Y Kr Sr g in
-    let hs = all_dropped En.signature.params En.kept in let fine : (v : Val) → Good E v → T (has_ty (layout X) v && true) = λ v h. both (has_ty (layout X) v) true h.0 tt in let fine_second : (v : Val) → Good N v → T (has_ty (layout S) v && true) = λ v h. both (has_ty (layout S) v) true h.0 tt in
+    let hs = all_dropped En.signature.params En.kept in
+    let fine : (v : Val) → Good E v → T (has_ty (layout X) v && true) = λ v h. both (has_ty (layout X) v) true h.0 tt in
+    let fine_second : (v : Val) → Good N v → T (has_ty (layout S) v && true) = λ v h. both (has_ty (layout S) v) true h.0 tt in
     proved_at 𝓛 En hs c 𝓜 𝓡 (all_go 𝓛 En.signature.params En.kept (λ κs x f. refl, tt))
     (#self inst) fn (code.unfolded 𝓤 H 𝓜 𝓡 wired (X, (U, (P, (K, (S, tt))))) d) (λ z are.
     let Post = (walk_of 𝓛 En hs c).post z in let Run : List Val → SProp 𝓤 = λ ws. WpFn 𝓤 H 𝓣.C 𝓣.Λ fn ws Post in

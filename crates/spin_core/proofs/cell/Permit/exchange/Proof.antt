@@ -15,7 +15,8 @@ use Rattle.spin_core.proofs.cell.Permit.exchange.Code as code
 
 pub exchange_spec : {M : Type 1} → statement M
 exchange_spec 𝓤 𝓛 𝓜 𝓡 wired T V E S P K Mv L _ _ _ _ _ _ g d g' d' _ _ =
-    let H = 𝓛.H in let 𝓣 = tables 𝓤 H 𝓜 𝓡 𝓡.env in let R = param 0 T in let W = param 1 V in let Er = param 2 E in let Ur = param 3 S in let Y = param 4 P in let Kr = param 5 K in let Sr = trace.the_row Er Ur in
+    let H = 𝓛.H in let 𝓣 = tables 𝓤 H 𝓜 𝓡 𝓡.env in let R = param 0 T in let W = param 1 V in let Er = param 2 E in let Ur = param 3 S in
+    let Y = param 4 P in let Kr = param 5 K in let Sr = trace.the_row Er Ur in
     let En = ended T V E S P K Mv g d g' d' in let c = clauses T V E S P K Mv g d g' d' 𝓛 𝓜.mem 𝓡.returns in
     let inst = bounded code.function.ty_params (T, (V, (E, (S, (P, (K, (Mv, tt))))))) (dcons d (dcons d' dnil)) in let fn = inst_fn inst code.function in
     let hs = all_dropped En.signature.params En.kept in
@@ -30,7 +31,8 @@ exchange_spec 𝓤 𝓛 𝓜 𝓡 wired T V E S P K Mv L _ _ _ _ _ _ g d g' d' _
     begins_with 𝓛 ℓ T W Y Kr Sr g 6 (_, (_, (_, (_, (_, (_, tt)))))) h _ q τ r os (owns (types_at En.signature.params κs) a y.0.4) _ refl (λ asked le inb.
     move ! (4 ∷ []) $ fsplit ! $ move ! (1 ∷ []) $ fsplit ! $ move ! (1 ∷ []) $ fsplit ! $ fsplit ! $ keep ! (5 ∷ 6 ∷ 7 ∷ 1 ∷ 8 ∷ []) $ enter ! _ _ _ _ _ $ alloc_all ! (λ l. pass_all ! refl (typed p inb, ((tt, record { fits = are.1.0.1 }), ((tt, record { fits = are.1.1.0.1 }), ((tt, (tt, tt)), tt)))) $
     let Ev = env fn.locals l in
-    opens 𝓛 𝓜 𝓡 ℓ T W Y Kr Er Ur L g b o h q τ r seen told' ! tt le (block_ptr b (o + 0)) f (asks_first 𝓛 𝓜 𝓡 ℓ T W Y Kr Er Ur L g b o h q τ r seen told' f asked) (λ left rest closes.
+    opens 𝓛 𝓜 𝓡 ℓ T W Y Kr Er Ur L g b o h q τ r seen told' ! tt le (block_ptr b (o + 0)) f
+    (asks_first 𝓛 𝓜 𝓡 ℓ T W Y Kr Er Ur L g b o h q τ r seen told' f asked) (λ left rest closes.
     sets ! (is ! (of_opd ! (get_in ! (fld ! refl (stop !)) (sub ! 0 refl (whole !)))) (ap ptr_val (at_block p inb))) refl (tt, tt) $ first ! $ blocks ! $ sets ! (addr ! (through ! refl (fld ! refl (stop !)))) refl (tt, tt) $
     use1 𝓛 (raw (𝓣.C _ (vptr b (o + 0) ∷ vint w64 old ∷ vint w64 new ∷ []) (λ u. mean 𝓛 (found left u)))) (exchanges 𝓛 𝓜 𝓡 (code.calls-atomic_table::exchange 𝓡.env wired) (block_ptr b (o + 0)) old new are.1.0.1 are.1.1.0.1 left) $
     Calls-last ! (fm 𝓛 𝓜 𝓡) (found left) (and_then ! (get ! refl) (and_then ! (get ! refl) (and_then ! (get ! refl) (no_more !)))) (λ u. finds ! left (λ n fits.
@@ -38,4 +40,5 @@ exchange_spec 𝓤 𝓛 𝓜 𝓡 wired T V E S P K Mv L _ _ _ _ _ _ g d g' d' _
     sets ! (agg ! (no_more !)) refl (tt, tt) $ sets ! (agg ! (and_then ! (get ! refl) (and_then ! (get ! refl) (no_more !)))) refl (tt, (tt, (tt, tt))) $
     sets ! (of_opd ! (get ! refl)) refl (tt, (tt, tt)) $ sets ! (agg ! (and_then ! (get ! refl) (and_then ! (get ! refl) (and_then ! (get ! refl) (no_more !))))) refl (tt, (record { fits = fits }, ((tt, (tt, tt)), ((tt, tt), tt)))) $
     closes.found ! tt n fits os (λ s l. nothing ! $ nothing ! $ fjoin ! $ nothing ! $ fjoin ! $ nothing ! $ fjoin ! $ nothing ! $ fjoin ! $
-    returns ! (look_at ! 0 refl) $ free_all ! refl $ move ! (1 ∷ []) $ by ! (leaves 𝓛 En hs c y _ (n, next h b o s, knowing l) (tt, (tt, (tt, (tt, tt)))) (tt, (tt, (tt, (tt, tt))))))))))))
+    returns ! (look_at ! 0 refl) $ free_all ! refl $ move ! (1 ∷ []) $
+    by ! (leaves 𝓛 En hs c y _ (n, next h b o s, knowing l) (tt, (tt, (tt, (tt, tt)))) (tt, (tt, (tt, (tt, tt))))))))))))
