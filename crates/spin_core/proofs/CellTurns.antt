@@ -216,25 +216,28 @@ module _ {M : Type 1} {𝓤 : Ura M} (𝓛 : Logic 𝓤) (R : RattleType) (L : R
     takes_nothing way r x known A a =
         qed 𝓛 (‵ (Rest way r x) ∷ []) ∵ check ! a $ use1 𝓛 (‵ (St way ψ r 0)) (lies way ψ r x known) $ nothing ! $ move ! (1 ∷ 0 ∷ []) $ done !
 
+    -- a reader takes its piece of a round, and the state keeps the rest
+    taken : (way : Way X) (r : ℕ) (Rem : Round R → Fml) (x : X) (a : ℕ) → ψ x → ⟦ fex ℕ (λ e. fsep (Rem (e, x)) (shared R b o t (e, x))) ⟧
+        ⊢ ⟦ Rest way (suc r) x ⟧
+        → ⟦ piece R way γ (a, x) ⟧ ∗ ⟦ Rem (a, x) ⟧ ∗ ⟦ shared R b o t (a, x) ⟧ ⊢ ⟦ St way ψ (suc r) 0 ⟧ ∗ ⟦ reader R b o t way x ⟧
+    taken way r Rem x a known rests = let Lent : ℕ → Fml = λ e. fsep (Rem (e, x)) (shared R b o t (e, x)) in
+        qed 𝓛 (‵ (piece R way γ (a, x)) ∷ ‵ (Rem (a, x)) ∷ ‵ (shared R b o t (a, x)) ∷ []) ∵ move ! (2 ∷ []) $ fsplit3 ! $ move ! (1 ∷ []) $
+        use1 𝓛 (‵ (V x (a ∷ t.life)) ⊛ ‵ (V x (a ∷ t.life))) (contraction 𝓛 (V x) (L x b (o + offset R)) (a ∷ t.life)) $ split ! $
+        move ! (4 ∷ 0 ∷ []) $ fjoin ! $ fpack ! ℕ (λ e. fsep (piece R way γ (e, x)) (V x (e ∷ t.life))) a $
+        move ! (2 ∷ 1 ∷ 3 ∷ []) $ fjoin3 ! $ move ! (2 ∷ 0 ∷ []) $ fjoin ! $ fpack ! ℕ Lent a $ use1 𝓛 (‵ (Rest way (suc r) x)) rests $
+        use1 𝓛 (‵ (St way ψ (suc r) 0)) (lies way ψ (suc r) x known) $ done !
+
     takes_part : (r : ℕ) (x : X) → ψ x → suc r < 2 ^ 63 → Takes lends r reads x
     takes_part r x known small = qed 𝓛 (‵ (Rest lends r x) ∷ []) ∵ check ! tt $ fpick ! (λ a. fsplit ! $
         use1 𝓛 (‵ (parts R γ (a, x) 1) ⊛ ‵ (parts R γ (a, x) (2 ^ 63 - suc r)))
         (parts_cut 𝓛 R γ (a, x) (2 ^ 63 - r) 1 (2 ^ 63 - suc r) (omega arith) (omega arith) (omega arith) (omega arith)) $ split ! $
-        move ! (2 ∷ []) $ fsplit3 ! $ move ! (1 ∷ []) $
-        use1 𝓛 (‵ (V x (a ∷ t.life)) ⊛ ‵ (V x (a ∷ t.life))) (contraction 𝓛 (V x) (L x b (o + offset R)) (a ∷ t.life)) $ split ! $
-        move ! (4 ∷ 0 ∷ []) $ fjoin ! $ fpack ! ℕ (λ e. fsep (parts R γ (e, x) 1) (V x (e ∷ t.life))) a $
-        move ! (2 ∷ 1 ∷ 3 ∷ []) $ fjoin3 ! $ move ! (2 ∷ 0 ∷ []) $ fjoin ! $ fpack ! ℕ (λ e. lent (suc r) (e, x)) a $
-        use1 𝓛 (‵ (St lends ψ (suc r) 0)) (lies lends ψ (suc r) x known) $ done !)
+        by ! (taken lends r (λ s. parts R γ s (2 ^ 63 - suc r)) x a known (id⊢ 𝓤 _)))
 
     -- a reader takes half of what the earlier readers left
     takes_piece : (facts : Bool → X → Type 0) (r : ℕ) (x : X) → ψ x → Takes (fixes facts) r reads x
     takes_piece facts r x known = let way : Way X = fixes facts in qed 𝓛 (‵ (Rest way (suc r) x) ∷ []) ∵ fpick ! (λ a. fsplit ! $
-        let s : Round R = (a, x) in use1 𝓛 (given (facts true x) (‵ (piece R way γ s) ⊛ ‵ (piece R way γ s))) (piece_cut 𝓛 R γ facts s) $
-        learn ! (λ so. check ! so $ split ! $ move ! (2 ∷ []) $ fsplit3 ! $ move ! (1 ∷ []) $
-        use1 𝓛 (‵ (V x (a ∷ t.life)) ⊛ ‵ (V x (a ∷ t.life))) (contraction 𝓛 (V x) (L x b (o + offset R)) (a ∷ t.life)) $ split ! $
-        move ! (4 ∷ 0 ∷ []) $ fjoin ! $ fpack ! ℕ (λ e. fsep (piece R way γ (e, x)) (V x (e ∷ t.life))) a $
-        move ! (2 ∷ 1 ∷ 3 ∷ []) $ fjoin3 ! $ move ! (2 ∷ 0 ∷ []) $ fjoin ! $ fpack ! ℕ (λ e. seen_on facts (suc r) (e, x)) a $
-        use1 𝓛 (‵ (St way ψ (suc r) 0)) (lies way ψ (suc r) x known) $ done !))
+        use1 𝓛 (given (facts true x) (‵ (piece R way γ (a, x)) ⊛ ‵ (piece R way γ (a, x)))) (piece_cut 𝓛 R γ facts (a, x)) $
+        learn ! (λ so. check ! so $ split ! $ by ! (taken way r (λ s. piece R way γ s) x a known (id⊢ 𝓤 _))))
 
     -- one that writes takes the whole round
     takes : (way : Way X) (r : ℕ) (u : Use) (x : X) → ψ x → Lim way r 0 u → Takes way r u x
