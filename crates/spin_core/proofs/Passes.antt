@@ -69,7 +69,8 @@ module _ {W V C L A : Type 0} (m : Machine W V C L A) where
         let one : least + (least' + k) ≡ least + least' + k = omega arith in let two : least' + (least + k) ≡ least + least' + k = omega arith in
         let there : after m (after m start a) more ≡ after m start b = sym (after-append m start a more) ∙ ap (after m start) (sym is) in
         by-both p (after m start a) more more'
-        ∙ ap (λ l. l ++ outcomes_by m p (after m (after m start a) more) more') (ap (λ n. outcomes_by m p (after m (at_first m n) a) more) (sym one) ∙ came (least' + k))
+        ∙ ap (λ l. l ++ outcomes_by m p (after m (after m start a) more) more')
+        (ap (λ n. outcomes_by m p (after m (at_first m n) a) more) (sym one) ∙ came (least' + k))
         ∙ ap (λ l. outs ++ l) (ap (λ z. outcomes_by m p z more') there
         ∙ ap (λ n. outcomes_by m p (after m (at_first m n) b) more') (sym two) ∙ came' (least + k)),
   )
