@@ -180,8 +180,6 @@ module _ {M : Type 1} {𝓤 : Ura M} (𝓛 : Logic 𝓤) (R : RattleType) (L : R
   has_room : (way : Way X) (u' : Use) (v : Option X) (r : ℕ) (x : X) (A : Type 0) → Going way off u' v r A → ⟦ Rest way r x ⟧ ⊢ ⟦ Rest way (room way u' r) x ⟧
   has_room (fixes facts) reads v zero x A going = absurd (omega (arith, going.1))
   has_room (fixes facts) reads v (suc r) x A going = id⊢ 𝓤 _
-  has_room (fixes facts) off v r x A going = id⊢ 𝓤 _
-  has_room (fixes facts) writes v r x A going = id⊢ 𝓤 _
   has_room _ u' v r x A going = id⊢ 𝓤 _
 
   gives : (φ : X → Type 0) (way : Way X) (r : ℕ) (u u' : Use) (v : Option X) (A : Type 0) → (u ≡ writes → u' ≢ writes) → Lim way r 0 u
@@ -190,17 +188,16 @@ module _ {M : Type 1} {𝓤 : Ura M} (𝓛 : Logic 𝓤) (R : RattleType) (L : R
   gives φ way r off u' None A turned lim going = let Z : SProp 𝓤 = ⟦ Given φ r way off u' None ⟧ in
       qed 𝓛 (‵ (St way φ r 0) ∷ ‵ ftrue ∷ []) ∵ suffices ! Z (upd_i 𝓤 Z) $ fpick ! (λ x. fpick ! (λ known.
       use1 𝓛 (‵ (Rest way (room way u' r) x)) (has_room way u' None r x A going) $ keep ! (0 ∷ []) $ by ! (gave φ r way off u' None x refl known)))
-  gives φ way r reads u' None A turned lim going = nobody reads way ⟦ St way φ (suc r) 0 ⟧ _ (λ e. absurd cc)
-  gives φ way r writes u' None A turned lim going = nobody writes way ⟦ St way φ r 1 ⟧ _ (λ e. absurd cc)
+  gives φ way r u u' None A turned lim going = nobody u way ⟦ St way φ (with_reader u r) (with_writer u 0) ⟧ _ (λ e. absurd cc)
   gives φ alone r reads u' (Some x) A turned lim going = absurd (omega arith)
   gives φ alone r writes u' (Some x) A turned lim going = let Z : SProp 𝓤 = ⟦ Given φ r alone writes u' (Some x) ⟧ in
       qed 𝓛 (‵ ftrue ∷ ‵ (tracked R b o t x) ∷ []) ∵ suffices ! Z (upd_i 𝓤 Z) $ drop ! $ by ! (gave φ r alone writes u' (Some x) x refl tt)
   gives φ lends r reads u' (Some x) A turned lim going =
       via 𝓤 _ (gave_part φ r u' x (omega arith)) (upd_i 𝓤 ⟦ Given φ r lends reads u' (Some x) ⟧)
   gives φ lends r writes u' (Some x) A turned lim going = gave_whole φ r lends u' x (rests_lent 𝓛 R b o t r x (omega arith))
-  gives φ (fixes facts) r reads off (Some x) A turned lim going = absurd (let e : off ≡ reads = going.0 refl in cc)
-  gives φ (fixes facts) r reads writes (Some x) A turned lim going = absurd (let e : writes ≡ reads = going.0 refl in cc)
-  gives φ (fixes facts) r reads reads (Some x) A turned lim going = via 𝓤 _ (gave_piece φ r facts x) (upd_i 𝓤 ⟦ Given φ r (fixes facts) reads reads (Some x) ⟧)
+  gives φ (fixes facts) r reads reads (Some x) A turned lim going =
+      via 𝓤 _ (gave_piece φ r facts x) (upd_i 𝓤 ⟦ Given φ r (fixes facts) reads reads (Some x) ⟧)
+  gives φ (fixes facts) r reads u' (Some x) A turned lim going = absurd (let e : u' ≡ reads = going.0 refl in cc)
   gives φ (fixes facts) r writes off (Some x) A turned lim going = let none : r ≡ 0 = lim.1 (omega arith) in
       gave_whole φ r (fixes facts) off x (rests_fixed 𝓛 R b o t facts r x (subst (λ k. Fixed (fixes facts) k 0 x) (sym none) going.1))
   gives φ (fixes facts) r writes reads (Some x) A turned lim going = gave_whole φ r (fixes facts) reads x (rests_fixed 𝓛 R b o t facts (suc r) x going.1)
@@ -242,8 +239,7 @@ module _ {M : Type 1} {𝓤 : Ura M} (𝓛 : Logic 𝓤) (R : RattleType) (L : R
     -- one that writes takes the whole round
     takes : (way : Way X) (r : ℕ) (u : Use) (x : X) → ψ x → Lim way r 0 u → Takes way r u x
     takes alone r off x known lim = takes_nothing alone r x known (Unit {0}) tt
-    takes lends r off x known lim = takes_nothing lends r x known (Unit {0}) tt
-    takes (fixes facts) r off x known lim = takes_nothing (fixes facts) r x known (Unit {0}) tt
+    takes way r off x known lim = takes_nothing way r x known (Unit {0}) tt
     takes alone r reads x known lim = absurd (omega arith)
     takes lends r reads x known lim = takes_part r x known (omega arith)
     takes (fixes facts) r reads x known lim = takes_piece facts r x known

@@ -16,18 +16,14 @@ use Rattle.spin_core.specs.declared.trace.Trace.{Trace}
 some_none : {V : Type 0} (x : V) → Some x ≡ None → ⊥
 some_none x e = absurd cc
 
--- what a step tells of the value that it shows after, where its party comes to use it or reads on: also one that wrote before
+-- what a step tells of the value that it shows after, where its party comes to use it or reads on: also one that wrote
+-- before
 tells : {V : Type 0} (ψ : V → Type 0) (u u' : Use) (before after : Option V) → (u ≡ writes → u' ≡ reads) → Shows u' before after → Learns ψ u u' before after → IfSome after ψ
-tells ψ writes off before after so shows learns = absurd (let e : off ≡ reads = so refl in cc)
-tells ψ writes writes before after so shows learns = absurd (let e : writes ≡ reads = so refl in cc)
-tells ψ writes reads before None so shows learns = tt
+tells ψ u u' before None so shows learns = tt
 tells ψ writes reads before (Some x) so shows learns = learns
-tells ψ off u' before None so shows learns = tt
-tells ψ off u' before (Some x) so shows learns = learns
-tells ψ reads u' before None so shows learns = tt
+tells ψ writes u' before (Some x) so shows learns = absurd (let e : u' ≡ reads = so refl in cc)
 tells ψ reads off before (Some x) so shows learns = absurd (some_none x shows)
-tells ψ reads reads before (Some x) so shows learns = learns
-tells ψ reads writes before (Some x) so shows learns = learns
+tells ψ _ u' before (Some x) so shows learns = learns
 
 -- and of the value that a reader leaves
 leaves_told : {V : Type 0} (ψ : V → Type 0) (before after : Option V) → Learns ψ reads off before after → IfSome before ψ
@@ -69,12 +65,9 @@ module _ {C V : Type 0} where
       -- what such moves must show
       pub owed : (u u' : Use) (shown : Option V) → Leaves u u' shown own → Owed (last opening) t (grown_at t word (by_party p own)) u u' shown
       owed writes writes shown l = tt
-      owed writes off None l = tt
-      owed writes reads None l = tt
-      owed writes off (Some x) l = leaves x l
-      owed writes reads (Some x) l = leaves x l
-      owed off u' shown l = keeps l
-      owed reads u' shown l = keeps l
+      owed writes _ None l = tt
+      owed writes _ (Some x) l = leaves x l
+      owed _ u' shown l = keeps l
 
     -- a lock opens with the value that is in it
     pub opens_last : (es : List (Entry C V)) (x : V) → es ≡ [] → opening.value ≡ x → IsLast opening es x
