@@ -18,6 +18,7 @@ use types.Na.{before_dup, before_shorten}
 use denote.RattleType.{RattleType, RowLaws}
 use denote.Memory.{part_at, mem}
 use denote.Moves.{moves, moves_before}
+use types.Within.{within as inside}
 use denote.RawPtr.{Ptr, block_ptr, null_ptr}
 use denote.Sharing.{ShrLaws, within}
 use denote.SharingLaws.{contraction, shortens, nothing_shr_laws, said_shr_laws, some_shr_laws, within_shr_laws}
@@ -31,21 +32,21 @@ use Rattle.spin_core.proofs.CellParts.{piece_in, piece_cut}
 use Rattle.spin_core.proofs.Signs.{signs}
 
 -- ---- what is shared may be copied, and may be shared for less time
-reader_laws : (Y R : RattleType) {V : Type 0} (c : V → Gv) (S : RattleType) (holds : ℕ → S.Denot → List V → Type 0) (ways : Ways R.Denot V S.Denot) → RowLaws R → (β : Lft) (b o : ℕ) (u : Use) (x : Option R.Denot)
-    → ShrLaws (reader_shares Y R c S holds ways β b o u x)
-reader_laws Y R c S holds ways L β b o reads (Some x) = some_shr_laws (Known ways Y S R) (λ _. within β (shown R b o x)) (λ _. within_shr_laws β (shown R b o x) (L x b (o + offset R)))
-reader_laws Y R c S holds ways L β b o reads None = said_shr_laws ffalse tt
-reader_laws Y R c S holds ways L β b o _ x = nothing_shr_laws
+module _ (Y R : RattleType) {V : Type 0} (c : V → Gv) (S : RattleType) (holds : ℕ → S.Denot → List V → Type 0) (ways : Ways R.Denot V S.Denot)
+    (L : RowLaws R) (β : Lft) where
+  reader_laws : (b o : ℕ) (u : Use) (x : Option R.Denot) → ShrLaws (reader_shares Y R c S holds ways β b o u x)
+  reader_laws b o reads (Some x) =
+      some_shr_laws (Known ways Y S R) (λ _. within β (shown R b o x)) (λ _. within_shr_laws β (shown R b o x) (L x b (o + offset R)))
+  reader_laws b o reads None = said_shr_laws ffalse tt
+  reader_laws b o _ x = nothing_shr_laws
 
-pub permit_laws : (Y R : RattleType) {V : Type 0} (c : V → Gv) (S : RattleType) (holds : ℕ → S.Denot → List V → Type 0) (ways : Ways R.Denot V S.Denot) → RowLaws R → (β : Lft) (p : Ptr) (view : Option V) (x : Option R.Denot)
-    → ShrLaws (permit_shares Y R c S holds ways β p view x)
-permit_laws Y R c S holds ways L β (block_ptr b o) view x = reader_laws Y R c S holds ways L β b o (use_of ways.1 view) x
-permit_laws Y R c S holds ways L β null_ptr view x = said_shr_laws ffalse tt
+  pub permit_laws : (p : Ptr) (view : Option V) (x : Option R.Denot) → ShrLaws (permit_shares Y R c S holds ways β p view x)
+  permit_laws (block_ptr b o) view x = reader_laws b o (use_of ways.1 view) x
+  permit_laws null_ptr view x = said_shr_laws ffalse tt
 
-pub writer_laws : (Y R : RattleType) {V : Type 0} (c : V → Gv) (S : RattleType) (holds : ℕ → S.Denot → List V → Type 0) (ways : Ways R.Denot V S.Denot) → RowLaws R → (β : Lft) (p : Ptr) (view : V) (x : R.Denot)
-    → ShrLaws (writer_shares Y R c S holds ways β p view x)
-writer_laws Y R c S holds ways L β (block_ptr b o) view x = within_shr_laws β (shown R b o x) (L x b (o + offset R))
-writer_laws Y R c S holds ways L β null_ptr view x = said_shr_laws ffalse tt
+  pub writer_laws : (p : Ptr) (view : V) (x : R.Denot) → ShrLaws (writer_shares Y R c S holds ways β p view x)
+  writer_laws (block_ptr b o) view x = within_shr_laws β (shown R b o x) (L x b (o + offset R))
+  writer_laws null_ptr view x = said_shr_laws ffalse tt
 
 module _ {M : Type 1} {𝓤 : Ura M} (𝓛 : Logic 𝓤) where
   open 𝓛 use {H, A}
@@ -119,6 +120,24 @@ module _ {M : Type 1} {𝓤 : Ura M} (𝓛 : Logic 𝓤) where
     Lends-writer l le s (block_ptr b o) view x = Lends-tracked R b o β x (writer_owns Y R c S holds ways β (block_ptr b o) view x) l le s (writer_gives b o view x)
     Lends-writer l le s null_ptr view x = Lends-false 𝓛 (writer_shares Y R c S holds ways β null_ptr view x) l
 
+    -- what is shown for a lifetime that lasts for ν is shown for ν
+    shows_for : RowLaws R → (b o : ℕ) (t : Id) (x : R.Denot) (ν : Lft) → Incl ν β → (n : ℕ)
+        → ⟦ shown R b o x (n ∷ t.life) ⟧ ∗ ⟦ before β t.life ⟧ ∗ ⟦ inside ν (n ∷ []) ⟧ ⊢ ⟦ shown R b o x ν ⟧
+    shows_for L b o t x ν inc n =
+        let a : Lft = n ∷ [] in let μ : Lft = a ++ ν in let V' : Lft → Fml = shown R b o x in let K = L x b (o + offset R) in
+        let within_life : Incl (μ ++ t.life) (a ++ t.life) =
+        ⊑_meet (μ ++ t.life) a t.life (Incl-trans (meet_⊑_left μ t.life) (meet_⊑_left a ν)) (meet_⊑_right μ t.life) in
+        qed 𝓛 (‵ (V' (n ∷ t.life)) ∷ ‵ (before β t.life) ∷ ‵ (inside ν a) ∷ []) ∵
+        use1 𝓛 (‵ (V' (μ ++ t.life))) (shortens 𝓛 V' K (a ++ t.life) (μ ++ t.life) within_life) $ move ! (1 ∷ []) $
+        use1 𝓛 (‵ (before μ t.life)) (before_shorten 𝓛 β μ t.life (Incl-trans (meet_⊑_right a ν) inc)) $
+        use2 𝓛 (‵ (V' μ)) (moves_before 𝓛 V' K μ t.life) $ move ! (1 ∷ 0 ∷ []) $ use2 𝓛 (‵ (V' ν)) (moves 𝓛 V' K ν a) $ done !
+
+    -- a party that reads is shown a value
+    shows_none : (b o : ℕ) (view : Option V) → use_of ways.1 view ≡ reads → (Q : SProp 𝓤) → ⟦ permit_owns Y R c S holds ways β (block_ptr b o) view None ⟧ ⊢ Q
+    shows_none b o view is Q = qed 𝓛 (‵ (permit_owns Y R c S holds ways β (block_ptr b o) view None) ∷ []) ∵
+        fpick ! (λ k. fpick ! (λ t. fsplit3 ! $ move ! (2 ∷ []) $
+        rewrite ! 0 (λ (u : Use). ‵ (right R b o t ways.0 u None)) is refl $ keep ! (0 ∷ []) $ by ! (never_e 𝓤 _)))
+
     -- ---- a permit, at each use
     module _ (b o : ℕ) (view : Option V) where
       abbrev owned_at : Use → Option R.Denot → Id → Fml
@@ -145,15 +164,13 @@ module _ {M : Type 1} {𝓤 : Ura M} (𝓛 : Logic 𝓤) where
         pub lends_shown : (q : Share) → A.bor ν P ∗ A.lft ν q ⊢ H.⇛ (⟦ fex Knows (λ _. V' ν) ⟧ ∗ A.lft ν q)
         unfolding fseps
         lends_shown q = qed 𝓛 (‵ (fbor ν P) ∷ ‵ (flft ν q) ∷ []) ∵ updating ! $ bor_open ! tt $ move ! (1 ∷ []) $ fpick ! (λ k. fpick ! (λ t. fsplit3 ! $ fsplit ! $ move ! (3 ∷ []) $ fpick ! (λ u. fsplit ! $ fpick ! (λ e. fpick ! (λ n. fsplit ! $
-            let a : Lft = u ∷ [] in let μ : Lft = a ++ ν in let K = L x b (o + offset R) in
+            let a : Lft = u ∷ [] in let K = L x b (o + offset R) in
             -- [the token; the tag; what is shown; the end; the invariant; the view; the open borrow]
             move ! (2 ∷ []) $ use1 𝓛 (‵ (V' (u ∷ t.life)) ⊛ ‵ (V' (u ∷ t.life))) (contraction 𝓛 V' K (a ++ t.life)) $ split ! $ move ! (4 ∷ []) $
             use1 𝓛 (‵ (before β t.life) ⊛ ‵ (before β t.life)) (before_dup 𝓛 β t.life) $ split ! $ move ! (0 ∷ 6 ∷ 7 ∷ 5 ∷ 2 ∷ []) $ group ! 5 $
             use1 𝓛 (‵ (fwand (fsep (fdead ν) (fseps (flft a e ∷ []))) (fupd P))) (reads_again k t u e n) $ nothing ! $ move ! (4 ∷ 0 ∷ []) $ fjoin ! $ move ! (4 ∷ 0 ∷ 1 ∷ []) $ obor_alter ! tt (flft a e ∷ []) $
-            use1 𝓛 (‵ (fbor ν (flft a e)) ⊛ ‵ ftrue) (id⊢ 𝓤 _) $ split ! $ bor_fracture ! tt (λ r. flft a r) e $ move ! (4 ∷ []) $
-            use1 𝓛 (‵ (V' (μ ++ t.life))) (shortens 𝓛 V' K (a ++ t.life) (μ ++ t.life) (⊑_meet (μ ++ t.life) a t.life (Incl-trans (meet_⊑_left μ t.life) (meet_⊑_left a ν)) (meet_⊑_right μ t.life))) $ move ! (4 ∷ []) $
-            use1 𝓛 (‵ (before μ t.life)) (before_shorten 𝓛 β μ t.life (Incl-trans (meet_⊑_right a ν) inc)) $ use2 𝓛 (‵ (V' μ)) (moves_before 𝓛 V' K μ t.life) $ move ! (1 ∷ 0 ∷ []) $
-            use2 𝓛 (‵ (V' ν)) (moves 𝓛 V' K ν a) $ fpack ! Knows (λ _. V' ν) k $ now ! $ keep ! (0 ∷ 2 ∷ []) $ done !)))))
+            use1 𝓛 (‵ (fbor ν (flft a e)) ⊛ ‵ ftrue) (id⊢ 𝓤 _) $ split ! $ bor_fracture ! tt (λ r. flft a r) e $ move ! (4 ∷ 3 ∷ 0 ∷ []) $
+            use3 𝓛 (‵ (V' ν)) (shows_for L b o t x ν inc u) $ fpack ! Knows (λ _. V' ν) k $ now ! $ keep ! (0 ∷ 2 ∷ []) $ done !)))))
 
       no_reader : (l : Lft) → Lends 𝓛 (Owned reads None) (λ _. ffalse) l
       no_reader l κ ts inc sp = let P : Fml = Owned reads None in qed 𝓛 (‵ (fbor κ P) ∷ raw (lfts 𝓛 ts) ∷ []) ∵ updating ! $
@@ -181,16 +198,12 @@ module _ {M : Type 1} {𝓤 : Ura M} (𝓛 : Logic 𝓤) where
 
     shown_by : RowLaws R → (b o : ℕ) (t : Id) (x : R.Denot) → ⟦ before β t.life ⟧ ∗ ⟦ reader R b o t ways.0 x ⟧ ⊢ H.⇛ (guard 𝓤 (Seen ways.0 x) ⟦ shown R b o x β ⟧)
     shown_by L b o t x = qed 𝓛 (‵ (before β t.life) ∷ ‵ (reader R b o t ways.0 x) ∷ []) ∵ updating ! $ move ! (1 ∷ []) $ fpick ! (λ n. fsplit ! $ fpick ! (λ e. fpick ! (λ known. fsplit ! $
-        let a : Lft = n ∷ [] in let μ : Lft = a ++ β in let V' : Lft → Fml = shown R b o x in let K = L x b (o + offset R) in
         -- [the token; the tag; what is shown; the end]
-        bor_new ! tt β $ bor_fracture ! tt (λ r. flft a r) e $ move ! (3 ∷ []) $
-        use1 𝓛 (‵ (V' (μ ++ t.life))) (shortens 𝓛 V' K (a ++ t.life) (μ ++ t.life) (⊑_meet (μ ++ t.life) a t.life (Incl-trans (meet_⊑_left μ t.life) (meet_⊑_left a β)) (meet_⊑_right μ t.life))) $ move ! (4 ∷ []) $
-        use1 𝓛 (‵ (before μ t.life)) (before_shorten 𝓛 β μ t.life (meet_⊑_right a β)) $ use2 𝓛 (‵ (V' μ)) (moves_before 𝓛 V' K μ t.life) $ move ! (1 ∷ 0 ∷ []) $
-        use2 𝓛 (‵ (V' β)) (moves 𝓛 V' K β a) $ now ! $ check ! (known_seen ways.0 x e known) $ keep ! (0 ∷ []) $ done !)))
+        bor_new ! tt β $ bor_fracture ! tt (λ r. flft (n ∷ []) r) e $ move ! (3 ∷ 4 ∷ 0 ∷ []) $
+        use3 𝓛 (‵ (shown R b o x β)) (shows_for L b o t x β (Incl-refl β) n) $ now ! $ check ! (known_seen ways.0 x e known) $ keep ! (0 ∷ []) $ done !)))
 
     pub shown_on : RowLaws R → (b o : ℕ) (view : Option V) (v : Option R.Denot) → use_of ways.1 view ≡ reads → ⟦ permit_owns Y R c S holds ways β (block_ptr b o) view v ⟧ ⊢ H.⇛ (ex 𝓤 (IsShown b o v))
-    shown_on L b o view None is = qed 𝓛 (‵ (permit_owns Y R c S holds ways β (block_ptr b o) view None) ∷ []) ∵ fpick ! (λ k. fpick ! (λ t. fsplit3 ! $ move ! (2 ∷ []) $
-        rewrite ! 0 (λ (u : Use). ‵ (right R b o t ways.0 u None)) is refl $ keep ! (0 ∷ []) $ by ! (never_e 𝓤 _)))
+    shown_on L b o view None is = shows_none b o view is _
     shown_on L b o view (Some x) is = qed 𝓛 (‵ (permit_owns Y R c S holds ways β (block_ptr b o) view (Some x)) ∷ []) ∵ updating ! $ fpick ! (λ k. fpick ! (λ t. fsplit3 ! $ fsplit ! $ move ! (3 ∷ []) $
         rewrite ! 0 (λ (u : Use). ‵ (right R b o t ways.0 u (Some x))) is refl $ move ! (1 ∷ 0 ∷ []) $ use2 𝓛 (later (given (Seen ways.0 x) (‵ (shown R b o x β)))) (shown_by L b o t x) $ await ! tt $ learn ! (λ known.
         now ! $ show ! (IsShown b o (Some x)) x $ check ! (refl, known) $ keep ! (0 ∷ []) $ done !)))
@@ -208,8 +221,7 @@ module _ {M : Type 1} {𝓤 : Ura M} (𝓛 : Logic 𝓤) where
     IsShownTo b o view v x = guard 𝓤 ((v ≡ Some x) × Seen ways.0 x) (⟦ shown R b o x β ⟧ ∗ ⟦ permit_owns Y R c S holds ways β (block_ptr b o) view v ⟧)
 
     pub shown_to : RowLaws R → (b o : ℕ) (view : Option V) (v : Option R.Denot) → use_of ways.1 view ≡ reads → Fixes ways.0 → ⟦ permit_owns Y R c S holds ways β (block_ptr b o) view v ⟧ ⊢ H.⇛ (ex 𝓤 (IsShownTo b o view v))
-    shown_to L b o view None is fixed = qed 𝓛 (‵ (permit_owns Y R c S holds ways β (block_ptr b o) view None) ∷ []) ∵ fpick ! (λ k. fpick ! (λ t. fsplit3 ! $ move ! (2 ∷ []) $
-        rewrite ! 0 (λ (u : Use). ‵ (right R b o t ways.0 u None)) is refl $ keep ! (0 ∷ []) $ by ! (never_e 𝓤 _)))
+    shown_to L b o view None is fixed = shows_none b o view is _
     shown_to L b o view (Some x) is fixed = let Rd : Id → Fml = λ t. reader R b o t ways.0 x in let At : Id → Fml = owned_at b o view (use_of ways.1 view) (Some x) in
         qed 𝓛 (‵ (permit_owns Y R c S holds ways β (block_ptr b o) view (Some x)) ∷ []) ∵ updating ! $ fpick ! (λ k. fpick ! (λ t. fsplit3 ! $ fsplit ! $ move ! (3 ∷ []) $
         rewrite ! 0 (λ (u : Use). ‵ (right R b o t ways.0 u (Some x))) is refl $ use1 𝓛 (‵ (Rd t) ⊛ ‵ (Rd t)) (reader_cut L b o t ways.0 fixed x) $ split ! $ move ! (2 ∷ []) $

@@ -10,7 +10,7 @@ use base.FractionLaws.{Counts, counts_some, Counts-op, Counts-all, not-OpDef-ful
 use base.Stored.{Gv, coded×, coded_ℕ}
 use base.SetCodes.{coded, SetCoded-set}
 use base.Logic.{SProp, guard, upd, guard_i, id⊢, via, snd∗}
-use base.Fml.{GName, Share, fex, flft}
+use base.Fml.{GName, Share, Fml, fex, flft}
 use types.Logic.{Logic}
 use types.Kit.{‵, ◌⊛◌, given, ◌$◌, ◌∵◌, !, qed, by, move, split, fsplit, fjoin, fpick, fpack, learn, check, use1, use2, done}
 use types.Owned.{own_sum, own_join, own_step}
@@ -26,8 +26,15 @@ module _ {M : Type 1} {𝓤 : Ura M} (𝓛 : Logic 𝓤) (R : RattleType) (γ : 
   sum : (g : Gv) (r e f : Share) → r ∈ Share.op e f → ◌∈◌ {α = Share × Gv} (r, g) (halved.op (e, g) (f, g))
   sum g r e f m = Prod.mk-mem-op Share.op (Ag.op (SetCoded-set (coded itself))) {a = e} {a' = f} {x = r} {b = g} {b' = g} {y = g} m (Ag.idem (SetCoded-set (coded itself)) g)
 
+  -- a share of which P holds
+  abbrev Some : (Share → Type 0) → Round R → Fml
+  Some P s = fex Share (λ e. fex (P e) (λ _. share R γ s e))
+
+  some_in : (P : Share → Type 0) (s : Round R) (e : Share) → P e → ⟦ share R γ s e ⟧ ⊢ ⟦ Some P s ⟧
+  some_in P s e is = qed 𝓛 (‵ (share R γ s e) ∷ []) ∵ fpack ! (P e) (λ _. share R γ s e) is $ fpack ! Share (λ r. fex (P r) (λ _. share R γ s r)) e $ done !
+
   pub parts_in : (s : Round R) (k : ℕ) (e : Share) → Counts 63 e k → ⟦ share R γ s e ⟧ ⊢ ⟦ parts R γ s k ⟧
-  parts_in s k e c = qed 𝓛 (‵ (share R γ s e) ∷ []) ∵ fpack ! (Counts 63 e k) (λ _. share R γ s e) c $ fpack ! Share (λ r. fex (Counts 63 r k) (λ _. share R γ s r)) e $ done !
+  parts_in s k = some_in (λ r. Counts 63 r k) s
 
   pub parts_cut : (s : Round R) (k i j : ℕ) → 0 < i → 0 < j → i + j ≡ k → k ≤ 2 ^ 63 → ⟦ parts R γ s k ⟧ ⊢ ⟦ parts R γ s i ⟧ ∗ ⟦ parts R γ s j ⟧
   parts_cut s k i j pi pj total fits = let g : Gv = round_code R s in let e = counts_some 63 i pi (omega arith) in let f = counts_some 63 j pj (omega arith) in
@@ -65,21 +72,22 @@ module _ {M : Type 1} {𝓤 : Ura M} (𝓛 : Logic 𝓤) (R : RattleType) (γ : 
       use2 𝓛 (given (s ≡ u) (‵ (tag γ e g) ⊛ ‵ (tag γ f h))) (own_sum 𝓛 halved γ (e, g) (f, h) (guard 𝓤 (s ≡ u) Z) (λ x m. guard_i 𝓤 (s ≡ u) Z ((coded× coded_ℕ R.coded).inj s u m.0.1))) $
       learn ! (λ same. check ! same $ split ! $ move ! (2 ∷ 1 ∷ []) $ fjoin ! $ move ! (2 ∷ 1 ∷ []) $ fjoin ! $ done !)
 
+  some_agree : (P Q : Share → Type 0) (s u : Round R) → ⟦ Some P s ⟧ ∗ ⟦ Some Q u ⟧ ⊢ guard 𝓤 (s ≡ u) (⟦ Some P s ⟧ ∗ ⟦ Some Q u ⟧)
+  some_agree P Q s u = qed 𝓛 (‵ (Some P s) ∷ ‵ (Some Q u) ∷ []) ∵
+      fpick ! (λ e. fpick ! (λ is. move ! (1 ∷ []) $ fpick ! (λ f. fpick ! (λ it. move ! (1 ∷ []) $
+      use2 𝓛 (given (s ≡ u) (‵ (share R γ s e) ⊛ ‵ (share R γ u f))) (shares_agree s u e f) $ learn ! (λ same. check ! same $ split ! $
+      use1 𝓛 (‵ (Some P s)) (some_in P s e is) $ move ! (1 ∷ []) $ use1 𝓛 (‵ (Some Q u)) (some_in Q u f it) $ move ! (1 ∷ []) $ done !)))))
+
   -- so two parts are
   pub parts_agree : (s u : Round R) (i j : ℕ) → ⟦ parts R γ s i ⟧ ∗ ⟦ parts R γ u j ⟧ ⊢ guard 𝓤 (s ≡ u) (⟦ parts R γ s i ⟧ ∗ ⟦ parts R γ u j ⟧)
-  parts_agree s u i j = qed 𝓛 (‵ (parts R γ s i) ∷ ‵ (parts R γ u j) ∷ []) ∵ fpick ! (λ e. fpick ! (λ ce. move ! (1 ∷ []) $ fpick ! (λ f. fpick ! (λ cf. move ! (1 ∷ []) $
-      use2 𝓛 (given (s ≡ u) (‵ (share R γ s e) ⊛ ‵ (share R γ u f))) (shares_agree s u e f) $
-      learn ! (λ same. check ! same $ split ! $ use1 𝓛 (‵ (parts R γ s i)) (parts_in s i e ce) $ move ! (1 ∷ []) $ use1 𝓛 (‵ (parts R γ u j)) (parts_in u j f cf) $ move ! (1 ∷ []) $ done !)))))
+  parts_agree s u i j = some_agree (λ r. Counts 63 r i) (λ r. Counts 63 r j) s u
 
   -- ---- some part of a round whose readers may read for ever
   pub piece_in : (way : Way R.Denot) (s : Round R) (e : Share) → Part way s.1 e → ⟦ share R γ s e ⟧ ⊢ ⟦ piece R way γ s ⟧
-  piece_in way s e known = qed 𝓛 (‵ (share R γ s e) ∷ []) ∵ fpack ! (Part way s.1 e) (λ _. share R γ s e) known $ fpack ! Share (λ r. fex (Part way s.1 r) (λ _. share R γ s r)) e $ done !
+  piece_in way s = some_in (Part way s.1) s
 
-  -- two pieces are of one round
   pub pieces_agree : (way : Way R.Denot) (s u : Round R) → ⟦ piece R way γ s ⟧ ∗ ⟦ piece R way γ u ⟧ ⊢ guard 𝓤 (s ≡ u) (⟦ piece R way γ s ⟧ ∗ ⟦ piece R way γ u ⟧)
-  pieces_agree way s u = qed 𝓛 (‵ (piece R way γ s) ∷ ‵ (piece R way γ u) ∷ []) ∵ fpick ! (λ e. fpick ! (λ is. move ! (1 ∷ []) $ fpick ! (λ f. fpick ! (λ it. move ! (1 ∷ []) $
-      use2 𝓛 (given (s ≡ u) (‵ (share R γ s e) ⊛ ‵ (share R γ u f))) (shares_agree s u e f) $
-      learn ! (λ same. check ! same $ split ! $ use1 𝓛 (‵ (piece R way γ s)) (piece_in way s e is) $ move ! (1 ∷ []) $ use1 𝓛 (‵ (piece R way γ u)) (piece_in way u f it) $ move ! (1 ∷ []) $ done !)))))
+  pieces_agree way s u = some_agree (Part way s.1) (Part way u.1) s u
 
   halved_share : (s : Round R) (e : Share) → ⟦ share R γ s e ⟧ ⊢ ⟦ share R γ s (Share.left e) ⟧ ∗ ⟦ share R γ s (Share.right e) ⟧
   halved_share s e = let g : Gv = round_code R s in let l : Share = Share.left e in let r : Share = Share.right e in

@@ -1,5 +1,5 @@
 -- The views in the invariant: one at a time, and at the beginning. Assumes `Logic`.
-use Rattle.std.proofs.Common.{◌≡◌, ℕ, zero, suc, ◌+◌, List, [], ◌∷◌, ◌++◌, set, sym, refl, ap, subst, arith}
+use Rattle.std.proofs.Common.{◌≡◌, ℕ, zero, suc, ◌+◌, List, [], ◌∷◌, ◌++◌, set, sym, refl, ap, subst, arith, Option, Some, None}
 use mathlib.Core.Path.{Path}
 use mathlib.Core.Option.{some}
 use lib.ListN.{get_elem?}
@@ -16,12 +16,13 @@ use base.Stored.{Gv, Coded}
 use base.SetCodes.{coded, SetCoded-set}
 use base.Algebras.{pcs, shares}
 use base.Logic.{SProp, ex, all, guard, upd, via, all_e, ex_e, guard_e, guard_i, upd_i, upd_mono}
-use base.Fml.{GName, Share, Fml}
+use base.Fml.{GName, Share, Fml, ftrue, fex}
 use types.Logic.{Logic}
 use types.Keyed.{entry, entries_take, entries_beside, entry_cut, entry_glue, entry_set}
 use types.Kit.{‵, raw, ◌⊛◌, given, ◌$◌, ◌∵◌, !, qed, by, move, keep, drop, split, fpick, fpack, pick, learn, check, each, suffices, settle, done, use1, use2, rewrite}
 use types.Kit as Kit
 use Rattle.atomic_table.specs.Seated.{itself, halved, seen}
+use Rattle.spin_core.specs.Cell.{Stands, after}
 use Rattle.spin_core.specs.CellMemory.{unused, roster}
 use Rattle.spin_core.proofs.Signs.{signs}
 
@@ -55,11 +56,11 @@ module _ {M : Type 1} {𝓤 : Ura M} (𝓛 : Logic 𝓤) {V : Type 0} (cv : Code
       via 𝓤 (ex 𝓤 F) (entry_glue halved 𝓛 γ k (quarter, c w) (three_quarters, c v)) (ex_e 𝓤 F (λ x. guard_e 𝓤 (x ∈ halved.op (quarter, c w) (three_quarters, c v)) ⟦ entry halved γ k x ⟧ (λ m.
       subst (λ (y : Share × Gv). ⟦ entry halved γ k y ⟧ ⊢ Z) m.1 (guard_i 𝓤 (w ≡ v) ⟦ Whole k (c w) ⟧ (cv.inj w v m.0.1)))))
 
-  abbrev pub Moved : ℕ → List V → ℕ → ℕ → V → SProp 𝓤
+  abbrev Moved : ℕ → List V → ℕ → ℕ → V → SProp 𝓤
   Moved k vs i j u = upd 𝓤 (⟦ roster c γ k (set vs i u) ⟧ ∗ ⟦ R j u ⟧)
 
   -- a party's view is the one in the roster, and both change together
-  pub moves : (vs : List V) (k i j : ℕ) (v : V) → j ≡ k + i → ⟦ roster c γ k vs ⟧ ∗ ⟦ R j v ⟧ ⊢ guard 𝓤 (get_elem? vs i ≡ some v) (all 𝓤 (Moved k vs i j))
+  moves : (vs : List V) (k i j : ℕ) (v : V) → j ≡ k + i → ⟦ roster c γ k vs ⟧ ∗ ⟦ R j v ⟧ ⊢ guard 𝓤 (get_elem? vs i ≡ some v) (all 𝓤 (Moved k vs i j))
   moves [] k i j v e = qed 𝓛 (‵ (roster c γ k []) ∷ ‵ (R j v) ∷ []) ∵ fpick ! (λ g. move ! (1 ∷ 0 ∷ []) $
       use2 𝓛 (given (OpDef halved.op (three_quarters, c v) (full_share, g)) (‵ (R j v) ⊛ ‵ (unused γ k g))) (entries_beside halved 𝓛 γ k j (λ _. (full_share, g)) (three_quarters, c v) (omega arith)) $
       learn ! (λ x. absurd (not-OpDef-full_share three_quarters ((OpDef-comm (pcs shares) {a = three_quarters} {b = full_share}).0 x.0))))
@@ -72,16 +73,40 @@ module _ {M : Type 1} {𝓤 : Ura M} (𝓛 : Logic 𝓤) {V : Type 0} (cv : Code
       use1 𝓛 (raw (Moved (suc k) ws i j u)) (all_e 𝓤 (Moved (suc k) ws i j) u) $ let Z : SProp 𝓤 = ⟦ roster c γ k (w ∷ set ws i u) ⟧ ∗ ⟦ R j u ⟧ in
       settle 𝓛 Z (‵ (roster c γ (suc k) (set ws i u)) ⊛ ‵ (R j u)) $ split ! $ suffices ! _ (upd_i 𝓤 Z) $ move ! (2 ∷ 0 ∷ []) $ Kit.join ! $ done !))
 
-  abbrev pub Joined : ℕ → List V → V → ℕ → SProp 𝓤
-  Joined k vs u j = ⟦ roster c γ k (vs ++ u ∷ []) ⟧ ∗ ⟦ R j u ⟧
+  -- what a party owns of its view
+  abbrev Stand : Option V → Fml
+  Stand None = ftrue
+  Stand (Some v) = fex ℕ (λ i. R i v)
+
+  abbrev Joined : ℕ → List V → V → SProp 𝓤
+  Joined k vs u = ⟦ roster c γ k (vs ++ u ∷ []) ⟧ ∗ ⟦ Stand (Some u) ⟧
 
   -- a new party takes the next key
-  pub joins : (vs : List V) (k : ℕ) (u : V) → ⟦ roster c γ k vs ⟧ ⊢ upd 𝓤 (ex 𝓤 (Joined k vs u))
-  joins [] k u = let Z : SProp 𝓤 = ex 𝓤 (Joined k [] u) in qed 𝓛 (‵ (roster c γ k []) ∷ []) ∵ fpick ! (λ g. use1 𝓛 (‵ (Whole k g) ⊛ ‵ (unused γ (suc k) g)) (entries_take halved 𝓛 γ k (λ _. (full_share, g))) $ split ! $
-      use1 𝓛 (raw (upd 𝓤 (⟦ L k u ⟧ ∗ ⟦ R k u ⟧))) (resets k g u) $ settle 𝓛 Z (‵ (L k u) ⊛ ‵ (R k u)) $ split ! $ suffices ! _ (upd_i 𝓤 Z) $ Kit.show ! (Joined k [] u) k $
-      move ! (2 ∷ []) $ fpack ! Gv (unused γ (suc k)) g $ move ! (1 ∷ 0 ∷ []) $ Kit.join ! $ done !)
-  joins (w ∷ ws) k u = let Z : SProp 𝓤 = ex 𝓤 (Joined k (w ∷ ws) u) in qed 𝓛 (‵ (L k w) ∷ ‵ (roster c γ (suc k) ws) ∷ []) ∵ move ! (1 ∷ []) $ use1 𝓛 (raw (upd 𝓤 (ex 𝓤 (Joined (suc k) ws u)))) (joins ws (suc k) u) $
-      settle 𝓛 Z (Kit.some (λ (j : ℕ). ‵ (roster c γ (suc k) (ws ++ u ∷ [])) ⊛ ‵ (R j u))) $ pick ! (λ j. split ! $ suffices ! _ (upd_i 𝓤 Z) $ Kit.show ! (Joined k (w ∷ ws) u) j $ move ! (2 ∷ 0 ∷ []) $ Kit.join ! $ done !)
+  joins : (vs : List V) (k : ℕ) (u : V) → ⟦ roster c γ k vs ⟧ ⊢ upd 𝓤 (Joined k vs u)
+  joins [] k u = let Z : SProp 𝓤 = Joined k [] u in qed 𝓛 (‵ (roster c γ k []) ∷ []) ∵ fpick ! (λ g.
+      use1 𝓛 (‵ (Whole k g) ⊛ ‵ (unused γ (suc k) g)) (entries_take halved 𝓛 γ k (λ _. (full_share, g))) $ split ! $
+      use1 𝓛 (raw (upd 𝓤 (⟦ L k u ⟧ ∗ ⟦ R k u ⟧))) (resets k g u) $ settle 𝓛 Z (‵ (L k u) ⊛ ‵ (R k u)) $ split ! $ suffices ! Z (upd_i 𝓤 Z) $
+      move ! (1 ∷ []) $ fpack ! ℕ (λ i. R i u) k $ move ! (2 ∷ []) $ fpack ! Gv (unused γ (suc k)) g $ move ! (2 ∷ 0 ∷ []) $ Kit.join ! $ done !)
+  joins (w ∷ ws) k u = let Z : SProp 𝓤 = Joined k (w ∷ ws) u in qed 𝓛 (‵ (L k w) ∷ ‵ (roster c γ (suc k) ws) ∷ []) ∵ move ! (1 ∷ []) $
+      use1 𝓛 (raw (upd 𝓤 (Joined (suc k) ws u))) (joins ws (suc k) u) $
+      settle 𝓛 Z (‵ (roster c γ (suc k) (ws ++ u ∷ [])) ⊛ ‵ (Stand (Some u))) $ split ! $ suffices ! Z (upd_i 𝓤 Z) $ move ! (2 ∷ 0 ∷ []) $ Kit.join ! $ done !
+
+  abbrev pub Turned : ℕ → Option V → List V → V → SProp 𝓤
+  Turned id view vs w = upd 𝓤 (⟦ roster c γ 0 (after id view vs w) ⟧ ∗ ⟦ Stand (Some w) ⟧)
+
+  abbrev pub Placed : Option V → List V → ℕ → SProp 𝓤
+  Placed view vs id = guard 𝓤 (Stands id view vs) (all 𝓤 (Turned id view vs))
+
+  -- a party has a place among the views, or takes the next one, and there it gets any view
+  pub places : (view : Option V) (vs : List V) → ⟦ roster c γ 0 vs ⟧ ∗ ⟦ Stand view ⟧ ⊢ ex 𝓤 (Placed view vs)
+  places None vs = qed 𝓛 (‵ (roster c γ 0 vs) ∷ ‵ ftrue ∷ []) ∵ Kit.show ! (Placed None vs) 0 $ check ! tt $ each ! (Turned 0 None vs) (λ w.
+      use1 𝓛 (raw (Turned 0 None vs w)) (joins vs 0 w) $ keep ! (0 ∷ []) $ done !)
+  places (Some v) vs = qed 𝓛 (‵ (roster c γ 0 vs) ∷ ‵ (Stand (Some v)) ∷ []) ∵ move ! (1 ∷ []) $ fpick ! (λ id. move ! (1 ∷ 0 ∷ []) $
+      use2 𝓛 (given (get_elem? vs id ≡ some v) (raw (all 𝓤 (Moved 0 vs id id)))) (moves vs 0 id id v (omega arith)) $ learn ! (λ at.
+      Kit.show ! (Placed (Some v) vs) id $ check ! at $ each ! (Turned id (Some v) vs) (λ w. let us = set vs id w in
+      use1 𝓛 (raw (Moved 0 vs id id w)) (all_e 𝓤 (Moved 0 vs id id) w) $ let Z : SProp 𝓤 = ⟦ roster c γ 0 us ⟧ ∗ ⟦ Stand (Some w) ⟧ in
+      settle 𝓛 Z (‵ (roster c γ 0 us) ⊛ ‵ (R id w)) $ split ! $ suffices ! Z (upd_i 𝓤 Z) $
+      move ! (1 ∷ []) $ fpack ! ℕ (λ i. R i w) id $ move ! (1 ∷ 0 ∷ []) $ done !)))
 
   -- the views of parties that have left
   pub enrols : (vs : List V) (k : ℕ) (g : Gv) → ⟦ unused γ k g ⟧ ⊢ upd 𝓤 ⟦ roster c γ k vs ⟧

@@ -13,14 +13,11 @@ use denote.Param.Send.{IsSend, IsSync, part_keyless, whole-keyless}
 use Rattle.core.proofs.atomic.Sent.{chain-Keyless}
 use Rattle.atomic_table.specs.Seated.{halved}
 use Rattle.spin_core.specs.Cell.{Use, off, reads, writes, Way, alone, lends, fixes, Ways, IsKnown, use_of, IsShared}
-use Rattle.spin_core.specs.CellMemory.{offset, second_at, Common, Sends, Known, Id, Round, roster, parts, remains, named, tracked, resting, missing, state, right, stand, kept, cell_shares, permit_owns, permit_shares, reader_shares, writer_owns, writer_shares}
+use Rattle.spin_core.specs.CellMemory.{offset, second_at, Common, Sends, Known, Id, Round, roster, remains, named, tracked, resting, missing, state, right, stand, kept, cell_shares, permit_owns, permit_shares, reader_shares, writer_owns, writer_shares}
 
 roster_keyless : {V : Type 0} (c : V → Gv) (ρ k : ℕ) (vs : List V) → Keyless (roster c ρ k vs)
 roster_keyless c ρ k [] = λ g. entries_keyless halved ρ k (λ _. (full_share, g))
 roster_keyless c ρ k (v ∷ vs) = (entry_keyless halved ρ k _, roster_keyless c ρ (suc k) vs)
-
-parts_keyless : (R : RattleType) (γ : ℕ) (s : Round R) (k : ℕ) → Keyless (parts R γ s k)
-parts_keyless R γ s k = λ e n. (tt, tt)
 
 stand_keyless : (R : RattleType) (b o : ℕ) (t : Id) {V : Type 0} (c : V → Gv) (view : Option V) → Keyless (stand R b o t c view)
 stand_keyless R b o t c None = tt
@@ -39,7 +36,7 @@ module _ (R : RattleType) (s : IsSend R) (b o : ℕ) (t : Id) where
 
   resting_keyless : (way : Way R.Denot) → (IsShared way → Common R) → (r : ℕ) (x : R.Denot) → Keyless (resting R b o t way r x)
   resting_keyless alone sees r x = tracked_keyless x
-  resting_keyless lends sees r x = λ a. (parts_keyless R t.round (a, x) _, (tt, (sees tt x b (o + offset R) (a ∷ t.life), named_keyless)))
+  resting_keyless lends sees r x = λ a. ((λ e n. (tt, tt)), (tt, (sees tt x b (o + offset R) (a ∷ t.life), named_keyless)))
   resting_keyless (fixes fact) sees r x = λ a. (remains_keyless fact (a, x) r, (tt, (sees tt x b (o + offset R) (a ∷ t.life), named_keyless)))
 
   missing_keyless : (way : Way R.Denot) → Keyless (missing R b o t way)
@@ -58,7 +55,17 @@ module _ (R : RattleType) (s : IsSend R) (b o : ℕ) (t : Id) where
 
   module _ {V : Type 0} (c : V → Gv) (S : RattleType) (holds : ℕ → S.Denot → List V → Type 0) (ways : Ways R.Denot V S.Denot) where
     kept_keyless : (IsShared ways.0 → Common R) → Sends S → (κ : Lft) → Keyless (kept R b o t c S holds ways κ)
-    kept_keyless sees sent κ = ((λ νs. chain-Keyless νs κ t.life), λ z. (tt, (whole-keyless (raw_all S.mir) S.own_val sent full_share z.1 b (o + second_at S R), λ vs. (roster_keyless c t.views 0 vs, ((λ _. tt), state_keyless ways.0 (IsKnown ways.2 z.1) sees _ _)))))
+    kept_keyless sees sent κ = (
+      (λ νs. chain-Keyless νs κ t.life),
+      λ z. (
+        tt,
+        (
+          whole-keyless (raw_all S.mir) S.own_val sent full_share z.1 b (o + second_at S R),
+          λ vs.
+              (roster_keyless c t.views 0 vs, ((λ _. tt), state_keyless ways.0 (IsKnown ways.2 z.1) sees _ _)),
+        ),
+      ),
+    )
 
 module _ (Y R : RattleType) {V : Type 0} (c : V → Gv) (S : RattleType) (holds : ℕ → S.Denot → List V → Type 0) (ways : Ways R.Denot V S.Denot) where
   pub cell_keyless : IsSend R → IsSync Y → (p : Ptr) (κ : Lft) → Keyless (cell_shares Y R c S holds ways p κ)

@@ -1,157 +1,281 @@
--- One step on a cell's words: the party gives back what it had of the value, gets a new view, and takes what that view
--- may use. Assumes `Logic`.
-use Rattle.std.proofs.Common.{◌≡◌, ◌∙◌, ◌++◌, ℕ, ◌+◌, [], ◌∷◌, List, refl, sym, subst, arith, Option, Some, None, ap}
+-- One step on the words of a cell. The party gives back what it had of the value, gets a new view, and takes what that
+-- view may use. It also appends to the trace, and a watch is brought up to date. Assumes `Logic`.
+--     first_steps, second_steps     a step on the first word, and one on the word next to the trace
+use Rattle.std.proofs.Common.{◌≡◌, ◌⊎◌, ◌∙◌, ◌++◌, ℕ, ◌+◌, T, [], ◌∷◌, List, refl, sym, subst, w64, Option, Some, None, ap, ◌<◌}
+use mathlib.Core.Logic.{inl, inr}
+use mathlib.Core.List.{IsPrefix}
 use seplogic.Ra.Ura.{Ura}
-use base.Logic.{SProp, ex, all, all_e, upd, upd_i, via}
-use base.Fml.{Fml, ftrue, fsep, fex}
-use types.Logic.{Logic}
-use types.Kit.{‵, raw, ◌⊛◌, given, ◌$◌, ◌∵◌, !, qed, by, move, drop, split, fsplit, fjoin, fpick, fpack, learn, settle, suffices, use1, use2, done}
-use denote.RattleType.{RattleType}
-use denote.RattleType.{RowLaws}
-use denote.Steps.{nothing}
-use mathlib.Core.Option as maybe
-use lib.ListN.{get_elem?}
+use mir.Syntax.{ty_int}
+use mir.Val.{Val, vint, has_ty, WT}
+use base.Fraction.{full_share}
+use base.Logic.{SProp, ex, all, all_e, apply∗, guard, upd, upd_i}
+use base.Fml.{Share, Fml, ftrue, fsep, fex, flft, fbor}
 use base.Stored.{Coded}
-use base.Share.{three_quarters}
-use types.Kit.{pick, some}
-use Rattle.std.specs.Prelude.{slice_set}
-use Rattle.atomic_table.specs.Seated.{fact, seen}
-use Rattle.spin_core.proofs.CellRoster.{Moved, moves, Joined, joins}
-use Rattle.spin_core.proofs.CellCounts.{part_of, splits}
-use Rattle.spin_core.specs.Cell.{Ways, use_of, readers_of, writers_of, Meets, Stands, after, Going, IsKnown, Carries, Carrying, Learns, Keeps, Use, off, Way, reading, writing, Limits}
-use Rattle.spin_core.specs.CellMemory.{roster, Id, state, stand, core, core_at, inner}
-use Rattle.spin_core.proofs.CellWays.{going_rest, going_map, carrying_rest, carrying_carries}
+use types.Logic.{Logic}
+use types.Kit.{‵, raw, ◌⊛◌, some, given, ◌$◌, ◌∵◌, !, qed, by, move, drop, group, split, fsplit, fjoin, fpick, fpack, pick, learn, check, rewrite, settle, suffices, use1, use2, done, show, frame, each, assume}
+use denote.RattleType.{RattleType, RowLaws}
+use denote.RawPtr.{block_ptr}
+use denote.Memory.{part_at, part_of, cell_at}
+use denote.Steps.{nothing}
+use denote.Builtin.{u64}
+use Rattle.core.specs.Sync.RawAtomic.{asks, always, word}
+use Rattle.core.proofs.raw_atomic.Asked.{borrowed, Lies, Again}
+use Rattle.atomic_table.specs.Seated.{fact}
+use Rattle.spin_core.specs.Logs.{log_owns, known_owns}
+use Rattle.spin_core.specs.contracts.trace.Trace as trace
+use Rattle.spin_core.specs.declared.trace.Trace.{Trace}
+use Rattle.spin_core.specs.Cell.{words, Ways, use_of, readers_of, writers_of, Meets, Stands, after, Going, IsKnown, Carries, Carrying, Keeps, Use, off, Way, reading, writing, Limits}
+use Rattle.spin_core.specs.CellMemory.{second_at, roster, Id, state, stand, core, core_at, standing, inner}
+use Rattle.spin_core.specs.Traced.{grown, grown_at, Learnt, Named, Traces, TracesSecond}
+use Rattle.spin_core.proofs.CellCounts.{part_of as counted, splits}
+use Rattle.spin_core.proofs.CellRoster.{Turned, places}
 use Rattle.spin_core.proofs.CellRounds.{held}
 use Rattle.spin_core.proofs.CellTurns as value
+use Rattle.spin_core.proofs.CellWays.{going_rest, going_map, carrying_rest, carrying_carries, learnt_of}
 use Rattle.spin_core.proofs.Signs.{signs}
+use Rattle.spin_core.proofs.TraceSteps.{appends, observes_whole, shows_whole}
+use Rattle.spin_core.proofs.TraceWord.{beside, with, Takes, word_apart}
 
-module _ {M : Type 1} {𝓤 : Ura M} (𝓛 : Logic 𝓤) (R : RattleType) (L : RowLaws R) (b o : ℕ) (t : Id) where
+module _ {M : Type 1} {𝓤 : Ura M} (𝓛 : Logic 𝓤) (Er Ur : RattleType) where
   open (signs 𝓛) use {◌⊢◌, ◌∗◌, ⟦◌⟧}
 
-  abbrev Held : Use → Way R.Denot → Option R.Denot → Fml
-  Held = held 𝓛 R b o t
+  abbrev pub S : RattleType
+  S = trace.the_row Er Ur
 
-  abbrev St : Way R.Denot → (R.Denot → Type 0) → ℕ → ℕ → Fml
-  St = state R b o t
+  abbrev E : Type 0
+  E = Er.Denot
 
-  abbrev Got : Way R.Denot → (R.Denot → Type 0) → Use → Use → Option R.Denot → Fml
-  Got = value.Got 𝓛 R L b o t
+  abbrev U : Type 0
+  U = Ur.Denot
 
-  module _ {V : Type 0} (cv : Coded V) (S : RattleType) (holds : ℕ → S.Denot → List V → Type 0) (ways : Ways R.Denot V S.Denot) where
+  abbrev Log : Trace E U → Fml
+  Log m = log_owns Er.coded.code m.name m.entries
+
+  abbrev pub Known : ℕ → List E → Fml
+  Known = known_owns Er.coded.code
+
+  -- what a watch of this trace knew is a prefix; so it is of one that knew nothing
+  knew : (γ : ℕ) (k : List E) (m : Trace E U) → (k ≡ []) ⊎ (m.name ≡ γ) → ⟦ Log m ⟧ ∗ ⟦ Known γ k ⟧ ⊢ guard 𝓤 (IsPrefix k m.entries) ⟦ Log m ⟧
+  knew γ k m (inl none) = qed 𝓛 (‵ (Log m) ∷ ‵ (Known γ k) ∷ []) ∵ move ! (1 ∷ []) $ drop ! $
+      check ! (subst (λ l. IsPrefix l m.entries) (sym none) (m.entries, refl)) $ done !
+  knew γ k m (inr is) = qed 𝓛 (‵ (Log m) ∷ ‵ (Known γ k) ∷ []) ∵ rewrite ! 1 (λ (z : ℕ). ‵ (Known z k)) (sym is) refl $
+      use2 𝓛 (given (IsPrefix k m.entries) (‵ (Log m) ⊛ ‵ (Known m.name m.entries))) (observes_whole 𝓛 Er.coded m.name m.entries k) $
+      learn ! (λ p. check ! p $ split ! $ move ! (1 ∷ []) $ drop ! $ done !)
+
+  -- a trace in memory grows; then the watch knows all of it
+  shows : (γ : ℕ) (k : List E) (m : Trace E U) (es : List E) (b e : ℕ) → (k ≡ []) ⊎ (m.name ≡ γ) → ⟦ part_at S full_share m b e ⟧ ∗ ⟦ Known γ k ⟧
+      ⊢ guard 𝓤 (IsPrefix k m.entries) (upd 𝓤 (⟦ part_at S full_share (grown m es) b e ⟧ ∗ ⟦ Known m.name (m.entries ++ es) ⟧))
+  unfolding part_of
+  shows γ k m es b e may = let m' : Trace E U = grown m es in let Now : Fml = Known m.name (m.entries ++ es) in
+      let Z : SProp 𝓤 = ⟦ part_at S full_share m' b e ⟧ ∗ ⟦ Now ⟧ in qed 𝓛 (‵ (part_at S full_share m b e) ∷ ‵ (Known γ k) ∷ []) ∵
+      fpick ! (λ vs. fsplit ! $ move ! (1 ∷ []) $ fsplit ! $ move ! (1 ∷ 3 ∷ []) $
+      use2 𝓛 (given (IsPrefix k m.entries) (‵ (Log m))) (knew γ k m may) $ learn ! (λ p. check ! p $
+      use1 𝓛 (raw (upd 𝓤 ⟦ Log m' ⟧)) (appends 𝓛 Er.coded m.name m.entries es) $ settle 𝓛 Z (‵ (Log m')) $
+      use1 𝓛 (‵ (Log m') ⊛ ‵ Now) (shows_whole 𝓛 Er.coded m.name (m.entries ++ es)) $ split ! $ suffices ! Z (upd_i 𝓤 Z) $
+      move ! (2 ∷ 0 ∷ []) $ fjoin ! $ move ! (2 ∷ 0 ∷ []) $ fjoin ! $
+      fpack ! (List Val) (λ us. fsep (cell_at full_share S.mir us b e) (S.own_val m' us)) vs $ done !))
+
+  module _ (R : RattleType) (L : RowLaws R) (b o : ℕ) (t : Id) {V : Type 0} (cv : Coded V) (holds : ℕ → Trace E U → List V → Type 0)
+      (ways : Ways R.Denot V (Trace E U)) (view : Option V) (v : Option R.Denot) where
     abbrev way : Way R.Denot
     way = ways.0
 
     abbrev f : V → Use
     f = ways.1
 
+    abbrev u : Use
+    u = use_of f view
+
     abbrev ρ : ℕ
     ρ = t.views
 
-    abbrev pub Core : ℕ × S.Denot → Fml
-    Core = core R b o t cv.code S holds ways
+    abbrev Held : Use → Option R.Denot → Fml
+    Held w = held 𝓛 R b o t w way
+
+    abbrev St : (R.Denot → Type 0) → ℕ → ℕ → Fml
+    St = state R b o t way
 
     abbrev Stand : Option V → Fml
     Stand = stand R b o t cv.code
 
+    abbrev Core : ℕ × Trace E U → Fml
+    Core = core R b o t cv.code S holds ways
+
     abbrev pub I : Fml
     I = inner R b o t cv.code S holds ways
 
-    -- what is known of a value that nobody writes, by the second word
-    abbrev know : S.Denot → R.Denot → Type 0
+    abbrev pub Mine : Fml
+    Mine = fsep (Stand view) (Held u v)
+
+    -- what is known of a value that nobody writes
+    abbrev know : Trace E U → R.Denot → Type 0
     know = IsKnown ways.2
 
-    -- what a step leaves to its party, if it found the number n
-    abbrev pub told : Option V → (ℕ → V → Option R.Denot → Type 0) → ℕ → Option R.Denot → V × Option R.Denot → Fml
-    told view then n v s = fsep (fact (then n s.0 s.1 × Keeps ways view (Some s.0) v s.1)) (fsep (Stand (Some s.0)) (Held (f s.0) way s.1))
+    abbrev states : Trace E U → List V → Fml
+    states m vs = St (know m) (readers_of f vs) (writers_of f vs)
 
-    abbrev pub moved : Option V → (ℕ → V → Option R.Denot → Type 0) → ℕ → Option R.Denot → Fml
-    moved view then n v = fex (V × Option R.Denot) (told view then n v)
+    abbrev Got : Trace E U → V → Fml
+    Got m w = value.Got 𝓛 R L b o t way (know m) u (f w) v
 
-    -- what a step tells in addition if the second word is then m: what the party learns of the value
-    abbrev pub learning : Option V → Option R.Denot → S.Denot → (ℕ → V → Type 0) → ℕ → V → Option R.Denot → Type 0
-    learning view v m then n w x = then n w × Learns (know m) (use_of f view) (f w) v x
+    -- what a step tells if it found the number n and the trace then has these entries
+    abbrev pub finding : List E → (ℕ → V → Type 0) → ℕ → V → Option R.Denot → Type 0
+    finding es then n w x = then n w × Learnt ways.2 u (f w) v x es
 
-    abbrev states : S.Denot → List V → Fml
-    states m vs = St way (know m) (readers_of f vs) (writers_of f vs)
+    -- and what it leaves to its party
+    abbrev pub left_to : (V → Option R.Denot → Type 0) → V × Option R.Denot → Fml
+    left_to tells s = fsep (fact (tells s.0 s.1 × Keeps ways view (Some s.0) v s.1)) (fsep (Stand (Some s.0)) (Held (f s.0) s.1))
 
-    use_part : (g : Use → ℕ) → g off ≡ 0 → (view : Option V) → part_of (λ v. g (f v)) view ≡ g (use_of f view)
+    abbrev pub moved : (V → Option R.Denot → Type 0) → Fml
+    moved tells = fex (V × Option R.Denot) (left_to tells)
+
+    -- where the trace is
+    abbrev pub at : ℕ
+    at = o + second_at S R
+
+    abbrev pub Traced : Trace E U → Fml
+    Traced m = part_at S full_share m b at
+
+    use_part : (g : Use → ℕ) → g off ≡ 0 → (w : Option V) → counted (λ x. g (f x)) w ≡ g (use_of f w)
     use_part g none None = sym none
-    use_part g none (Some v) = refl
+    use_part g none (Some w) = refl
 
-    module _ (id : ℕ) (view : Option V) (vs : List V) (v : Option R.Denot) (h : Stands id view vs) (w : V) where
+    -- what a step must show that leads from m to these words and views, if r parties read
+    abbrev Owed : ℕ → Trace E U → ℕ × Trace E U → List V → V → Type 0
+    Owed r m s us w = Going way u (f w) v r (Carrying ways.2 m s.1 u (f w) v (Meets holds ways s.0 s.1 us))
+
+    module _ (id : ℕ) (vs : List V) (m : Trace E U) (s : ℕ × Trace E U) (w : V) (owed : Owed (readers_of f vs) m s (after id view vs w) w) where
       abbrev us : List V
       us = after id view vs w
 
-      abbrev u : Use
-      u = use_of ways.1 view
+      carrying : Carrying ways.2 m s.1 u (f w) v (Meets holds ways s.0 s.1 us)
+      carrying = going_rest way u (f w) v (readers_of f vs) owed
 
       -- the state of the value changes with the views
-      shifts : (m m' : S.Denot) → Limits way (readers_of f vs) (writers_of f vs) → Going way u (f w) v (readers_of f vs) (Limits way (readers_of f us) (writers_of f us)) → Carries (know m) (know m') u (f w) v
-          → ⟦ states m vs ⟧ ∗ ⟦ Held u way v ⟧ ⊢ upd 𝓤 (⟦ states m' us ⟧ ∗ ⟦ Got way (know m') u (f w) v ⟧)
-      shifts m m' =
-          let r = splits (λ x. reading (f x)) id view vs h in let q = splits (λ x. writing (f x)) id view vs h in
-          let was_r : readers_of f vs ≡ r.0 + reading u = r.1 ∙ ap (λ n. r.0 + n) (use_part reading refl view) in let was_w : writers_of f vs ≡ q.0 + writing u = q.1 ∙ ap (λ n. q.0 + n) (use_part writing refl view) in
-          let F : (ℕ × ℕ) × (ℕ × ℕ) → Type 1 = λ z. Limits way z.0.0 z.0.1 → Going way u (f w) v z.0.0 (Limits way z.1.0 z.1.1) → Carries (know m) (know m') u (f w) v
-          → ⟦ St way (know m) z.0.0 z.0.1 ⟧ ∗ ⟦ Held u way v ⟧ ⊢ upd 𝓤 (⟦ St way (know m') z.1.0 z.1.1 ⟧ ∗ ⟦ Got way (know m') u (f w) v ⟧) in
-          subst F (λ i. ((sym was_r i, sym was_w i), (sym (r.2 w) i, sym (q.2 w) i))) (value.turns 𝓛 R L b o t (know m) (know m') way r.0 q.0 u (f w) v)
+      shifts : Stands id view vs → Limits way (readers_of f vs) (writers_of f vs) → ⟦ states m vs ⟧ ∗ ⟦ Held u v ⟧ ⊢ upd 𝓤 (⟦ states s.1 us ⟧ ∗ ⟦ Got s.1 w ⟧)
+      shifts h lim =
+          let r = splits (λ y. reading (f y)) id view vs h in let q = splits (λ y. writing (f y)) id view vs h in
+          let was_r : readers_of f vs ≡ value.with_reader u r.0 = r.1 ∙ ap (λ n. r.0 + n) (use_part reading refl view) ∙ value.one_reader u r.0 in
+          let was_w : writers_of f vs ≡ value.with_writer u q.0 = q.1 ∙ ap (λ n. q.0 + n) (use_part writing refl view) ∙ value.one_writer u q.0 in
+          let now_r : readers_of f us ≡ value.with_reader (f w) r.0 = r.2 w ∙ value.one_reader (f w) r.0 in
+          let now_w : writers_of f us ≡ value.with_writer (f w) q.0 = q.2 w ∙ value.one_writer (f w) q.0 in
+          let Turns : (ℕ × ℕ) × (ℕ × ℕ) → Type 1 = λ z. Limits way z.0.0 z.0.1 → Going way u (f w) v z.0.0 (Limits way z.1.0 z.1.1)
+          → Carries (know m) (know s.1) u (f w) v
+          → ⟦ St (know m) z.0.0 z.0.1 ⟧ ∗ ⟦ Held u v ⟧ ⊢ upd 𝓤 (⟦ St (know s.1) z.1.0 z.1.1 ⟧ ∗ ⟦ Got s.1 w ⟧) in
+          let limits_of : Carrying ways.2 m s.1 u (f w) v (Meets holds ways s.0 s.1 us) → Limits way (readers_of f us) (writers_of f us) =
+          λ rest. (carrying_rest ways.2 m s.1 u (f w) v rest).1 in
+          subst Turns (λ i. ((sym was_r i, sym was_w i), (sym now_r i, sym now_w i)))
+          (value.turns 𝓛 R L b o t (know m) (know s.1) way r.0 q.0 u (f w) v) lim
+          (going_map way u (f w) v (readers_of f vs) limits_of owed)
+          (carrying_carries ways.2 m s.1 u (f w) v (Meets holds ways s.0 s.1 us) carrying)
 
-    packs : (view : Option V) (id k : ℕ) (s : ℕ × S.Denot) (us : List V) (w : V) (v : Option R.Denot) (then : ℕ → V → Type 0) → Meets holds ways s.0 s.1 us → then k w
-        → ⟦ roster cv.code ρ 0 us ⟧ ∗ ⟦ seen cv.code ρ id three_quarters w ⟧ ∗ ⟦ states s.1 us ⟧ ∗ ⟦ Got way (know s.1) (use_of f view) (f w) v ⟧ ⊢ ⟦ Core s ⟧ ∗ ⟦ moved view (learning view v s.1 then) k v ⟧
-    packs view id k s us w v then meets so = let th : ℕ → V → Option R.Denot → Type 0 = learning view v s.1 then in
-        qed 𝓛 (‵ (roster cv.code ρ 0 us) ∷ ‵ (seen cv.code ρ id three_quarters w) ∷ ‵ (states s.1 us) ∷ ‵ (Got way (know s.1) (use_of f view) (f w) v) ∷ []) ∵ move ! (1 ∷ []) $
-        fpack ! ℕ (λ i. seen cv.code ρ i three_quarters w) id $ move ! (3 ∷ []) $ fpick ! (λ v'. fsplit ! $ fpick ! (λ kept. drop ! $ move ! (1 ∷ 0 ∷ []) $ fjoin ! $
-        nothing ! $ fpack ! (th k w v' × Keeps ways view (Some w) v v') (λ _. ftrue) ((so, kept.1), kept.0) $ fjoin ! $ fpack ! (V × Option R.Denot) (told view th k v) (w, v') $ move ! (2 ∷ []) $
-        nothing ! $ fpack ! (Meets holds ways s.0 s.1 us) (λ _. ftrue) meets $ fjoin ! $ move ! (2 ∷ 0 ∷ []) $ fjoin ! $ fpack ! (List V) (core_at R b o t cv.code S holds ways s.0 s.1) us $ done !))
+      -- the rule holds again, and the party has what it got
+      leads : (then : ℕ → V → Type 0) (k : ℕ) → then k w → ⟦ roster cv.code ρ 0 us ⟧ ∗ ⟦ Stand (Some w) ⟧ ∗ ⟦ states s.1 us ⟧ ∗ ⟦ Got s.1 w ⟧
+          ⊢ ⟦ Core s ⟧ ∗ ⟦ moved (finding s.1.entries then k) ⟧
+      leads then k so = let tells : V → Option R.Denot → Type 0 = finding s.1.entries then k in
+          qed 𝓛 (‵ (roster cv.code ρ 0 us) ∷ ‵ (Stand (Some w)) ∷ ‵ (states s.1 us) ∷ ‵ (Got s.1 w) ∷ []) ∵
+          move ! (3 ∷ []) $ fpick ! (λ v'. fsplit ! $ fpick ! (λ kept. drop ! $ move ! (2 ∷ 0 ∷ []) $ fjoin ! $ nothing ! $
+          fpack ! (tells w v' × Keeps ways view (Some w) v v') (λ _. ftrue) ((so, learnt_of ways.2 s.1 u (f w) v v' kept.1), kept.0) $ fjoin ! $
+          fpack ! (V × Option R.Denot) (left_to tells) (w, v') $ move ! (2 ∷ []) $ nothing ! $
+          fpack ! (Meets holds ways s.0 s.1 us) (λ _. ftrue) (carrying_rest ways.2 m s.1 u (f w) v carrying) $ fjoin ! $ move ! (2 ∷ 0 ∷ []) $ fjoin ! $
+          fpack ! (List V) (core_at R b o t cv.code S holds ways s.0 s.1) us $ done !))
 
-    abbrev pub Mine : Option V → Option R.Denot → Fml
-    Mine view v = fsep (Stand view) (Held (use_of f view) way v)
+    -- the watch is a watch of the cell's trace, or knows nothing
+    abbrev pub May : ℕ → List E → Type 0
+    May γ k = (k ≡ []) ⊎ Named holds ways γ
 
-    -- what a step must show that leaves s and these views, if the second word was m
-    abbrev Owed : Option V → Option R.Denot → ℕ → S.Denot → ℕ × S.Denot → List V → V → Type 0
-    Owed view v r m s us w = Going way (use_of f view) (f w) v r (Carrying ways.2 m s.1 (use_of f view) (f w) v (Meets holds ways s.0 s.1 us))
+    name_of : (γ name : ℕ) (k : List E) → May γ k → (Named holds ways γ → name ≡ γ) → (k ≡ []) ⊎ (name ≡ γ)
+    name_of γ name k (inl none) is = inl none
+    name_of γ name k (inr named) is = inr (is named)
 
-    module _ (view : Option V) (v : Option R.Denot) (r : ℕ) (m : S.Denot) (s : ℕ × S.Denot) (us : List V) (w : V) (owed : Owed view v r m s us w) where
-      limits_of : Going way (use_of f view) (f w) v r (Limits way (readers_of f us) (writers_of f us))
-      limits_of = going_map way (use_of f view) (f w) v r (λ (rest : Carrying ways.2 m s.1 (use_of f view) (f w) v (Meets holds ways s.0 s.1 us)). (carrying_rest ways.2 m s.1 (use_of f view) (f w) v rest).1) owed
+    module _ (told : List E → List E → ℕ → V → Type 0) where
+      -- what the step leaves to its party and its watch
+      abbrev pub seen_by : ℕ → List E → ℕ → ℕ × (List E × List E) → Fml
+      seen_by γ k n s = fsep (fact (IsPrefix k s.1.0 × (Named holds ways γ → s.0 ≡ γ)))
+          (fsep (Known s.0 (s.1.0 ++ s.1.1)) (moved (finding (s.1.0 ++ s.1.1) (told s.1.0 s.1.1) n)))
 
-      meets_of : Meets holds ways s.0 s.1 us
-      meets_of = carrying_rest ways.2 m s.1 (use_of f view) (f w) v (going_rest way (use_of f view) (f w) v r owed)
+      abbrev pub watched : ℕ → List E → ℕ → Fml
+      watched γ k n = fex (ℕ × (List E × List E)) (seen_by γ k n)
 
-      carries_of : Carries (know m) (know s.1) (use_of f view) (f w) v
-      carries_of = carrying_carries ways.2 m s.1 (use_of f view) (f w) v (Meets holds ways s.0 s.1 us) (going_rest way (use_of f view) (f w) v r owed)
+      -- what a step needs that finds the number k and leaves the words n and y; before it the words were n₀ and the one
+      -- next to m
+      abbrev pub Grows : ℕ → Trace E U → ℕ → U → ℕ → Type 0
+      Grows n₀ m n y k = (id : ℕ) (vs : List V) → Meets holds ways n₀ m vs → Stands id view vs
+          → (w : V) × (es : List E) × Owed (readers_of f vs) m (n, grown_at m y es) (after id view vs w) w × told m.entries es k w
 
-    -- What a step from s needs, if it finds k and chooses an x of X. The x says where it leads.
-    abbrev pub Law : {X : Type 0} → Option V → Option R.Denot → (X → ℕ → V → Type 0) → ℕ × S.Denot → (X → ℕ × S.Denot) → ℕ → Type 0
-    Law {X} view v then s to k = (id : ℕ) (vs : List V) → Meets holds ways s.0 s.1 vs → Stands id view vs
-        → (w : V) × (x : X) × Owed view v (readers_of f vs) s.1 (to x) (after id view vs w) w × then x k w
+      -- the step, with its words in place
+      pub grows : (γ : ℕ) (k : List E) → May γ k → (n₀ n : ℕ) (m : Trace E U) (y : U) (found : ℕ) → Grows n₀ m n y found
+          → ⟦ word b (o + 0) n ⟧ ∗ ⟦ Traced (beside m y) ⟧ ∗ ⟦ Core (n₀, m) ⟧ ∗ ⟦ Mine ⟧ ∗ ⟦ Known γ k ⟧ ⊢ upd 𝓤 (⟦ I ⟧ ∗ ⟦ watched γ k found ⟧)
+      grows γ k may n₀ n m y found law = let m' : Trace E U = beside m y in let Z : SProp 𝓤 = ⟦ I ⟧ ∗ ⟦ watched γ k found ⟧ in
+          qed 𝓛 (‵ (word b (o + 0) n) ∷ ‵ (Traced m') ∷ ‵ (Core (n₀, m)) ∷ ‵ Mine ∷ ‵ (Known γ k) ∷ []) ∵
+          move ! (2 ∷ []) $ fpick ! (λ vs. fsplit ! $ move ! (4 ∷ []) $ fsplit ! $ move ! (2 ∷ 0 ∷ []) $
+          -- [the views; the party's view; what it had; the rest of the core; the first word; the trace; the watch]
+          use2 𝓛 (some (λ (id : ℕ). given (Stands id view vs) (raw (all 𝓤 (Turned 𝓛 cv ρ id view vs))))) (places 𝓛 cv ρ view vs) $
+          pick ! (λ id. learn ! (λ here. move ! (2 ∷ []) $ fsplit ! $ fpick ! (λ meets. drop ! $
+          let r = law id vs meets here in let w : V = r.0 in let es : List E = r.1 in let s : ℕ × Trace E U = (n, grown_at m y es) in
+          let us : List V = after id view vs w in let Now : Fml = Known m.name (m.entries ++ es) in
+          move ! (1 ∷ []) $ use1 𝓛 (raw (Turned 𝓛 cv ρ id view vs w)) (all_e 𝓤 (Turned 𝓛 cv ρ id view vs) w) $
+          settle 𝓛 Z (‵ (roster cv.code ρ 0 us) ⊛ ‵ (Stand (Some w))) $ split ! $ move ! (2 ∷ 3 ∷ []) $
+          use2 𝓛 (raw (upd 𝓤 (⟦ states s.1 us ⟧ ∗ ⟦ Got s.1 w ⟧))) (shifts id vs m s w r.2 here meets.1) $
+          settle 𝓛 Z (‵ (states s.1 us) ⊛ ‵ (Got s.1 w)) $ split ! $ move ! (5 ∷ 6 ∷ []) $
+          use2 𝓛 (given (IsPrefix k m.entries) (raw (upd 𝓤 (⟦ Traced s.1 ⟧ ∗ ⟦ Now ⟧))))
+          (shows γ k m' es b at (name_of γ m.name k may (λ named. named n₀ m vs meets))) $ learn ! (λ p.
+          settle 𝓛 Z (‵ (Traced s.1) ⊛ ‵ Now) $ split ! $ suffices ! Z (upd_i 𝓤 Z) $ move ! (4 ∷ 5 ∷ 2 ∷ 3 ∷ []) $ group ! 4 $
+          use1 𝓛 (‵ (Core s) ⊛ ‵ (moved (finding s.1.entries (told m.entries es) found))) (leads id vs m s w r.2 (told m.entries es) found r.3) $ split ! $
+          -- [the core; what the step leaves; the trace; what the watch knows; the first word]
+          move ! (2 ∷ 0 ∷ []) $ fjoin ! $ move ! (3 ∷ 0 ∷ []) $ fjoin ! $ fpack ! (ℕ × Trace E U) (standing R b o t cv.code S holds ways) s $
+          move ! (2 ∷ 1 ∷ []) $ fjoin ! $ nothing ! $
+          fpack ! (IsPrefix k m.entries × (Named holds ways γ → m.name ≡ γ)) (λ _. ftrue) (p, λ named. named n₀ m vs meets) $ fjoin ! $
+          fpack ! (ℕ × (List E × List E)) (seen_by γ k found) (m.name, (m.entries, es)) $ move ! (1 ∷ 0 ∷ []) $ done !)))))
 
-    abbrev pub led : {X : Type 0} → Option V → Option R.Denot → (X → ℕ → V → Type 0) → (X → ℕ × S.Denot) → ℕ → X → Fml
-    led view v then to k x = fsep (Core (to x)) (moved view (learning view v (to x).1 (then x)) k v)
+      -- a word is found, and another one put in its place
+      pub answers : (e : ℕ) (to : ℕ → ℕ) (q : Share) (left : ℕ → Fml) (n : ℕ) (P : SProp 𝓤) → (n < words → ⟦ word b e (to n) ⟧ ∗ P ⊢ upd 𝓤 (⟦ I ⟧ ∗ ⟦ left n ⟧))
+          → ⟦ word b e n ⟧ ∗ P ⊢ ex 𝓤 (Lies 𝓛 t.life q I b e to always left)
+      answers e to q left n P go = qed 𝓛 (‵ (word b e n) ∷ raw P ∷ []) ∵
+          use1 𝓛 (given (T (has_ty (ty_int w64) (vint w64 n)) × WT (vint w64 n)) (‵ (word b e n))) (𝓛.laws.at_wt full_share (ty_int w64) b e (vint w64 n)) $
+          learn ! (λ typed. show ! (Lies 𝓛 t.life q I b e to always left) n $ frame ! $
+          each ! (λ (_ : Unit {0}). Again 𝓛 t.life q I b e to always left n) (λ _. assume ! (‵ (word b e (to n))) $ by ! (go typed.1.fits)))
 
-    leads : {X : Type 0} (view : Option V) (id k : ℕ) (to : X → ℕ × S.Denot) (us : List V) (w : V) (v : Option R.Denot) (then : X → ℕ → V → Type 0) (x : X) → Meets holds ways (to x).0 (to x).1 us → then x k w
-        → ⟦ roster cv.code ρ 0 us ⟧ ∗ ⟦ seen cv.code ρ id three_quarters w ⟧ ∗ ⟦ states (to x).1 us ⟧ ∗ ⟦ Got way (know (to x).1) (use_of f view) (f w) v ⟧ ⊢ ⟦ fex X (led view v then to k) ⟧
-    leads {X} view id k to us w v then x meets so = let th : ℕ → V → Option R.Denot → Type 0 = learning view v (to x).1 (then x) in
-        via 𝓤 (⟦ Core (to x) ⟧ ∗ ⟦ moved view th k v ⟧) (packs view id k (to x) us w v (then x) meets so)
-        (qed 𝓛 (‵ (Core (to x)) ∷ ‵ (moved view th k v) ∷ []) ∵ fjoin ! $ fpack ! X (led view v then to k) x $ done !)
+      pub first_steps : (q : Share) (to : ℕ → ℕ) (γ : ℕ) (k : List E) → May γ k → Traces holds ways view v to told
+          → 𝓛.A.inv (fbor t.life I) ∗ (𝓛.A.lft t.life q ∗ ⟦ fsep Mine (Known γ k) ⟧)
+          ⊢ asks 𝓛 (block_ptr b (o + 0)) to always (λ n. fsep (flft t.life q) (watched γ k n))
+      first_steps q to γ k may allows =
+          let e : ℕ = o + 0 in let Own : Fml = fsep Mine (Known γ k) in let left : ℕ → Fml = watched γ k in
+          borrowed 𝓛 t.life q I b e to always left ⟦ Own ⟧ (qed 𝓛 (‵ I ∷ ‵ Own ∷ []) ∵ suffices ! _ (upd_i 𝓤 (ex 𝓤 (Lies 𝓛 t.life q I b e to always left))) $
+          fpick ! (λ s. let n : ℕ = s.0 in let m : Trace E U = s.1 in let Rest : Fml = fsep (Traced m) (Core s) in fsplit ! $
+          by ! (answers e to q left n (⟦ Rest ⟧ ∗ ⟦ Own ⟧) (λ small. qed 𝓛 (‵ (word b e (to n)) ∷ ‵ Rest ∷ ‵ Own ∷ []) ∵
+          move ! (1 ∷ []) $ fsplit ! $ move ! (3 ∷ []) $ fsplit ! $ move ! (4 ∷ 2 ∷ 3 ∷ 0 ∷ 1 ∷ []) $
+          by ! (grows γ k may n (to n) m m.word n (λ id vs meets here. allows id n m vs meets here small))))))
 
-    pub changes : {X : Type 0} (view : Option V) (v : Option R.Denot) (then : X → ℕ → V → Type 0) (s : ℕ × S.Denot) (to : X → ℕ × S.Denot) (k : ℕ) → Law view v then s to k
-        → ⟦ Core s ⟧ ∗ ⟦ Mine view v ⟧ ⊢ upd 𝓤 ⟦ fex X (led view v then to k) ⟧
-    changes {X} None v then s to k law = let Z : SProp 𝓤 = ⟦ fex X (led None v then to k) ⟧ in qed 𝓛 (‵ (Core s) ∷ ‵ (Mine None v) ∷ []) ∵ fpick ! (λ vs. fsplit ! $ move ! (1 ∷ []) $ fsplit ! $ fpick ! (λ so. drop ! $
-        let r = law 0 vs so tt in let w : V = r.0 in let s' : ℕ × S.Denot = to r.1 in let us : List V = vs ++ w ∷ [] in move ! (2 ∷ []) $ fsplit ! $ drop ! $ move ! (1 ∷ 0 ∷ []) $
-        use2 𝓛 (raw (upd 𝓤 (⟦ states s'.1 us ⟧ ∗ ⟦ Got way (know s'.1) off (f w) v ⟧))) (shifts 0 None vs v tt w s.1 s'.1 so.1 (limits_of None v (readers_of f vs) s.1 s' us w r.2) (carries_of None v (readers_of f vs) s.1 s' us w r.2)) $
-        settle 𝓛 Z (‵ (states s'.1 us) ⊛ ‵ (Got way (know s'.1) off (f w) v)) $ split ! $ move ! (2 ∷ []) $
-        use1 𝓛 (raw (upd 𝓤 (ex 𝓤 (Joined 𝓛 cv ρ 0 vs w)))) (joins 𝓛 cv ρ vs 0 w) $ settle 𝓛 Z (some (λ (j : ℕ). ‵ (roster cv.code ρ 0 us) ⊛ ‵ (seen cv.code ρ j three_quarters w))) $ pick ! (λ j. split ! $ suffices ! Z (upd_i 𝓤 Z) $
-        by ! (leads None j k to us w v then r.1 (meets_of None v (readers_of f vs) s.1 s' us w r.2) r.3))))
-    changes {X} (Some v₀) v then s to k law = let Z : SProp 𝓤 = ⟦ fex X (led (Some v₀) v then to k) ⟧ in qed 𝓛 (‵ (Core s) ∷ ‵ (Mine (Some v₀) v) ∷ []) ∵ fpick ! (λ vs. fsplit ! $ move ! (1 ∷ []) $ fsplit ! $ fpick ! (λ so. drop ! $
-        move ! (2 ∷ []) $ fsplit ! $ fpick ! (λ id. move ! (3 ∷ 0 ∷ []) $
-        use2 𝓛 (given (get_elem? vs id ≡ maybe.some v₀) (raw (all 𝓤 (Moved 𝓛 cv ρ 0 vs id id)))) (moves 𝓛 cv ρ vs 0 id id v₀ (omega arith)) $ learn ! (λ at.
-        let r = law id vs so at in let w : V = r.0 in let s' : ℕ × S.Denot = to r.1 in let us : List V = slice_set vs id w in
-        use1 𝓛 (raw (Moved 𝓛 cv ρ 0 vs id id w)) (all_e 𝓤 (Moved 𝓛 cv ρ 0 vs id id) w) $ settle 𝓛 Z (‵ (roster cv.code ρ 0 us) ⊛ ‵ (seen cv.code ρ id three_quarters w)) $ split ! $ move ! (3 ∷ 2 ∷ []) $
-        use2 𝓛 (raw (upd 𝓤 (⟦ states s'.1 us ⟧ ∗ ⟦ Got way (know s'.1) (f v₀) (f w) v ⟧))) (shifts id (Some v₀) vs v at w s.1 s'.1 so.1 (limits_of (Some v₀) v (readers_of f vs) s.1 s' us w r.2) (carries_of (Some v₀) v (readers_of f vs) s.1 s' us w r.2)) $
-        settle 𝓛 Z (‵ (states s'.1 us) ⊛ ‵ (Got way (know s'.1) (f v₀) (f w) v)) $ split ! $ suffices ! Z (upd_i 𝓤 Z) $ move ! (2 ∷ 3 ∷ []) $
-        by ! (leads (Some v₀) id k to us w v then r.1 (meets_of (Some v₀) v (readers_of f vs) s.1 s' us w r.2) r.3)))))
+-- the same if the word next to the trace is a number
+module _ {M : Type 1} {𝓤 : Ura M} (𝓛 : Logic 𝓤) (Er R : RattleType) (L : RowLaws R) (b o : ℕ) (t : Id) {V : Type 0} (cv : Coded V)
+    (holds : ℕ → Trace Er.Denot ℕ → List V → Type 0) (ways : Ways R.Denot V (Trace Er.Denot ℕ)) (view : Option V) (v : Option R.Denot)
+    (told : List Er.Denot → List Er.Denot → ℕ → V → Type 0) where
+  open (signs 𝓛) use {◌⊢◌, ◌∗◌, ⟦◌⟧}
 
-    -- a step may tell less
-    pub tells_less : (view : Option V) (v : Option R.Denot) (then then' : ℕ → V → Option R.Denot → Type 0) (k : ℕ) → ((w : V) (x : Option R.Denot) → then k w x → then' k w x) → ⟦ moved view then k v ⟧ ⊢ ⟦ moved view then' k v ⟧
-    tells_less view v then then' k weaker = qed 𝓛 (‵ (moved view then k v) ∷ []) ∵ fpick ! (λ s. fsplit ! $ fpick ! (λ so. drop ! $
-        nothing ! $ fpack ! (then' k s.0 s.1 × Keeps ways view (Some s.0) v s.1) (λ _. ftrue) (weaker s.0 s.1 so.0, so.1) $ fjoin ! $ fpack ! (V × Option R.Denot) (told view then' k v) s $ done !))
+  abbrev place : ℕ
+  place = at 𝓛 Er u64 R L b o t cv holds ways view v
+
+  abbrev J : Fml
+  J = I 𝓛 Er u64 R L b o t cv holds ways view v
+
+  abbrev Hand : ℕ → List Er.Denot → Fml
+  Hand γ k = fsep (Mine 𝓛 Er u64 R L b o t cv holds ways view v) (Known 𝓛 Er u64 γ k)
+
+  abbrev left : ℕ → List Er.Denot → ℕ → Fml
+  left = watched 𝓛 Er u64 R L b o t cv holds ways view v told
+
+  pub second_steps : (q : Share) (to : ℕ → ℕ) (γ : ℕ) (k : List Er.Denot) → (k ≡ []) ⊎ Named holds ways γ → TracesSecond holds ways view v to told
+      → 𝓛.A.inv (fbor t.life J) ∗ (𝓛.A.lft t.life q ∗ ⟦ Hand γ k ⟧) ⊢ asks 𝓛 (block_ptr b (place + 0)) to always (λ n. fsep (flft t.life q) (left γ k n))
+  second_steps q to γ k may allows =
+      let e : ℕ = place + 0 in let Own : Fml = Hand γ k in
+      borrowed 𝓛 t.life q J b e to always (left γ k) ⟦ Own ⟧ (qed 𝓛 (‵ J ∷ ‵ Own ∷ []) ∵
+      suffices ! _ (upd_i 𝓤 (ex 𝓤 (Lies 𝓛 t.life q J b e to always (left γ k)))) $
+      fpick ! (λ s. let n : ℕ = s.0 in let m : Trace Er.Denot ℕ = s.1 in let y : ℕ = m.word in let First : Fml = word b (o + 0) n in
+      let Inside : Fml = core R b o t cv.code (S 𝓛 Er u64) holds ways s in
+      fsplit ! $ move ! (1 ∷ []) $ fsplit ! $ use1 𝓛 (‵ (word b e y) ⊛ raw (Takes 𝓛 Er b place m)) (word_apart 𝓛 Er b place m) $ split ! $
+      by ! (answers 𝓛 Er u64 R L b o t cv holds ways view v told e to q (left γ k) y (Takes 𝓛 Er b place m ∗ ⟦ Inside ⟧ ∗ ⟦ First ⟧ ∗ ⟦ Own ⟧) (λ small.
+      qed 𝓛 (‵ (word b e (to y)) ∷ raw (Takes 𝓛 Er b place m) ∷ ‵ Inside ∷ ‵ First ∷ ‵ Own ∷ []) ∵
+      let Here : Fml = Traced 𝓛 Er u64 R L b o t cv holds ways view v (beside m (to y)) in
+      move ! (1 ∷ []) $ use1 𝓛 (raw (with 𝓛 Er b place m (to y))) (all_e 𝓤 (with 𝓛 Er b place m) (to y)) $
+      move ! (1 ∷ 0 ∷ []) $ use2 𝓛 (‵ Here) (apply∗ 𝓤 ⟦ word b e (to y) ⟧ ⟦ Here ⟧) $ move ! (3 ∷ []) $ fsplit ! $ move ! (4 ∷ 2 ∷ 3 ∷ 0 ∷ 1 ∷ []) $
+      by ! (grows 𝓛 Er u64 R L b o t cv holds ways view v told γ k may n n m (to y) y (λ id vs meets here. allows id n m vs meets here small))))))

@@ -1,342 +1,304 @@
 -- A party changes its use of a cell's value: it gives back what it had of the value, and takes what it may use. Assumes
 -- `Logic`.
-use Rattle.std.proofs.Common.{◌≡◌, ◌≢◌, ℕ, suc, ◌+◌, ◌-◌, ◌^◌, ◌<◌, ◌≤◌, Bool, zero, true, [], ◌∷◌, refl, sym, subst, arith, Option, Some, None}
+use Rattle.std.proofs.Common.{◌≡◌, ◌≢◌, ℕ, suc, ◌+◌, ◌-◌, ◌^◌, ◌<◌, Bool, zero, true, [], ◌∷◌, refl, sym, subst, arith, Option, Some, None}
 use seplogic.Ra.Ura.{Ura}
 use base.Fraction.{full_share}
 use base.Stored.{Gv}
 use base.Logic.{SProp, guard, upd, upd_i, via, id⊢, never_e, snd∗}
-use base.Fml.{Lft, Share, Fml, ftrue, fsep, fex, flft, fobs}
+use base.Fml.{Lft, Fml, ftrue, ffalse, fsep, fex}
 use types.Logic.{Logic}
-use types.Kit.{‵, raw, ◌⊛◌, given, ◌$◌, ◌∵◌, !, qed, by, move, keep, drop, split, fsplit, fsplit3, fjoin, fjoin3, fpick, fpack, learn, rewrite, settle, suffices, use1, use2, done}
-use denote.RattleType.{RattleType}
+use types.Kit.{‵, raw, ◌⊛◌, given, ◌$◌, ◌∵◌, !, qed, by, move, keep, drop, split, fsplit, fsplit3, fjoin, fjoin3, fpick, fpack, learn, check, rewrite, settle, suffices, use1, use2, done}
+use denote.RattleType.{RattleType, RowLaws}
 use denote.SharingLaws.{contraction}
-use denote.RattleType.{RowLaws}
 use denote.Steps.{nothing}
-use base.Fml.{fbor}
-use types.Kit.{check}
 use Rattle.atomic_table.specs.Seated.{fact}
-use Rattle.spin_core.specs.Cell.{Going, Preserves, Carries, Learns, Use, off, reads, writes, Way, alone, lends, fixes, reading, writing, Limits, Fixed}
+use Rattle.spin_core.specs.Cell.{Going, Preserves, Shows, Finds, Carries, Learns, Use, off, reads, writes, Way, alone, lends, fixes, reading, writing, Limits, Fixed}
 use Rattle.spin_core.specs.CellMemory.{Id, Round, round_code, tag, share, parts, piece, remains, idle, offset, shown, tracked, shared, resting, lying, state, reader}
 use Rattle.spin_core.proofs.CellWays.{going_rest}
 use Rattle.spin_core.proofs.CellParts.{parts_cut, parts_glue, parts_whole, parts_agree, pieces_agree, piece_cut}
 use Rattle.spin_core.proofs.CellRounds.{begun, held, whole, renewed, rests_lent, rests_fixed}
 use Rattle.spin_core.proofs.Signs.{signs}
 
+-- one reader more, or one writer more, if a party uses the value so
+abbrev pub with_reader : Use → ℕ → ℕ
+with_reader reads r = suc r
+with_reader _ r = r
+
+abbrev pub with_writer : Use → ℕ → ℕ
+with_writer writes w = suc w
+with_writer _ w = w
+
+pub one_reader : (u : Use) (r : ℕ) → r + reading u ≡ with_reader u r
+one_reader reads r = omega arith
+one_reader _ r = omega arith
+
+pub one_writer : (u : Use) (w : ℕ) → w + writing u ≡ with_writer u w
+one_writer writes w = omega arith
+one_writer _ w = omega arith
+
+module _ {X : Type 0} where
+  -- what a party is shown of the value x
+  abbrev shown_to : Use → X → Option X
+  shown_to off x = None
+  shown_to _ x = Some x
+
+  abbrev Lim : Way X → ℕ → ℕ → Use → Type 0
+  Lim way r w u = Limits way (with_reader u r) (with_writer u w)
+
+  -- nobody else writes while a party uses the value
+  none_else : (u : Use) (way : Way X) (r w : ℕ) → u ≢ off → Lim way r w u → w ≡ 0
+  none_else u way r w on lim = grind arith
+
+  -- how many readers there are where a party takes its part: one that may read for ever takes it from another
+  abbrev room : Way X → Use → ℕ → ℕ
+  room (fixes facts) reads r = suc r
+  room _ u r = r
+
+  -- what is known of a value that a party gives back, if φ is known of one that nobody writes
+  abbrev Had : (X → Type 0) → Use → X → Type 0
+  Had φ writes x = Unit {0}
+  Had φ _ x = φ x
+
+  shows : (u u' : Use) (x : X) → Shows u' (shown_to u x) (shown_to u' x)
+  shows off reads x = (x, refl)
+  shows off writes x = (x, refl)
+  shows _ off x = refl
+  shows _ _ x = refl
+
+  -- only a party that begins to use the value finds out something
+  finds_so : (way : Way X) (u u' : Use) (x : X) → Finds way off u' (shown_to u' x) → Finds way u u' (shown_to u' x)
+  finds_so way off u' x finds = finds
+  finds_so alone _ u' x finds = tt
+  finds_so _ _ u' x finds = tt
+
+  writes_so : (way : Way X) (x : X) → Preserves way writes writes (Some x) (Some x)
+  writes_so alone x = (refl, tt)
+  writes_so _ x = (refl, tt)
+
+  rests_so : (way : Way X) → Preserves way off off None None
+  rests_so alone = (refl, tt)
+  rests_so _ = (refl, tt)
+
+  module _ (φ ψ : X → Type 0) where
+    learns : (u u' : Use) (x : X) → ψ x → Learns ψ u u' (shown_to u x) (shown_to u' x)
+    learns writes writes x known = tt
+    learns off off x known = tt
+    learns off _ x known = known
+    learns _ off x known = known
+    learns _ _ x known = known
+
+    -- what is known after the step, unless the party writes on
+    known_after : (u u' : Use) (x : X) → (u ≡ writes → u' ≢ writes) → Carries φ ψ u u' (shown_to u x) → Had φ u x → ψ x
+    known_after off u' x turned owed had = owed x had
+    known_after reads u' x turned owed had = owed x had
+    known_after writes off x turned owed had = owed
+    known_after writes reads x turned owed had = owed
+    known_after writes writes x turned owed had = absurd (turned refl refl)
+
 module _ {M : Type 1} {𝓤 : Ura M} (𝓛 : Logic 𝓤) (R : RattleType) (L : RowLaws R) (b o : ℕ) (t : Id) where
   open (signs 𝓛) use {◌⊢◌, ◌∗◌, ⟦◌⟧}
+
+  abbrev X : Type 0
+  X = R.Denot
 
   abbrev γ : ℕ
   γ = t.round
 
-  abbrev Held : Use → Way R.Denot → Option R.Denot → Fml
+  abbrev Held : Use → Way X → Option X → Fml
   Held = held 𝓛 R b o t
 
-  abbrev St : Way R.Denot → (R.Denot → Type 0) → ℕ → ℕ → Fml
+  abbrev St : Way X → (X → Type 0) → ℕ → ℕ → Fml
   St = state R b o t
 
-  abbrev Rest : Way R.Denot → ℕ → R.Denot → Fml
+  abbrev Rest : Way X → ℕ → X → Fml
   Rest = resting R b o t
 
-  abbrev Lie : Way R.Denot → (R.Denot → Type 0) → ℕ → R.Denot → Fml
-  Lie = lying R b o t
+  abbrev V : X → Lft → Fml
+  V = shown R b o
 
+  -- what is lent of a round to r readers, and the rest of it
   abbrev lent : ℕ → Round R → Fml
   lent r s = fsep (parts R γ s (2 ^ 63 - r)) (shared R b o t s)
 
-  -- what a party knows of the value that it gives back, if φ is known of a value that nobody writes
-  abbrev Had : (R.Denot → Type 0) → Use → R.Denot → Type 0
-  Had φ reads x = φ x
-  Had φ _ x = Unit {0}
+  abbrev seen_on : (Bool → X → Type 0) → ℕ → Round R → Fml
+  seen_on facts r s = fsep (remains R facts γ s r) (shared R b o t s)
 
-  abbrev Given : (R.Denot → Type 0) → Use → Way R.Denot → ℕ → R.Denot → Fml
-  Given φ u way r x = fex (Had φ u x) (λ _. Rest way r x)
+  -- a party that uses the value is shown one
+  nobody : (u : Use) (way : Way X) (P Q : SProp 𝓤) → u ≢ off → P ∗ ⟦ Held u way None ⟧ ⊢ Q
+  nobody off way P Q on = absurd (on refl)
+  nobody writes alone P Q on = via 𝓤 _ (snd∗ 𝓤 P ⟦ ffalse ⟧) (never_e 𝓤 _)
+  nobody _ _ P Q on = via 𝓤 _ (snd∗ 𝓤 P ⟦ ffalse ⟧) (never_e 𝓤 _)
 
-  -- ---- a reader or a writer gives back what it had
-  read_back : (φ : R.Denot → Type 0) (r : ℕ) (x : R.Denot) → r < 2 ^ 63 → ⟦ St lends φ (suc r) 0 ⟧ ∗ ⟦ reader R b o t lends x ⟧ ⊢ ⟦ Lie lends φ r x ⟧
-  read_back φ r x small = qed 𝓛 (‵ (St lends φ (suc r) 0) ∷ ‵ (reader R b o t lends x) ∷ []) ∵ fpick ! (λ y. fpick ! (λ known. fpick ! (λ a. fsplit ! $ move ! (2 ∷ []) $ fpick ! (λ c. fsplit ! $ move ! (2 ∷ 0 ∷ []) $
-      use2 𝓛 (given (let s : Round R = (a, y) in let u : Round R = (c, x) in s ≡ u) (‵ (parts R γ (a, y) (2 ^ 63 - suc r)) ⊛ ‵ (parts R γ (c, x) 1))) (parts_agree 𝓛 R γ (a, y) (c, x) (2 ^ 63 - suc r) 1) $ learn ! (λ same. split ! $
-      rewrite ! 0 (λ (s : Round R). ‵ (parts R γ s (2 ^ 63 - suc r))) same refl $ use2 𝓛 (‵ (parts R γ (c, x) ((2 ^ 63 - suc r) + 1))) (parts_glue 𝓛 R γ (c, x) (2 ^ 63 - suc r) 1 (omega arith) (omega arith)) $
-      let more : (2 ^ 63 - suc r) + 1 ≡ 2 ^ 63 - r = omega arith in rewrite ! 0 (λ (k : ℕ). ‵ (parts R γ (c, x) k)) more refl $ move ! (2 ∷ []) $
-      rewrite ! 0 (λ (s : Round R). ‵ (shared R b o t s)) same refl $ move ! (1 ∷ 0 ∷ []) $ fjoin ! $ fpack ! ℕ (λ e. lent r (e, x)) c $
-      fpack ! (φ x) (λ _. Rest lends r x) (subst (λ (s : Round R). φ s.1) same known) $ keep ! (0 ∷ []) $ done !)))))
+  lies : (way : Way X) (φ : X → Type 0) (r : ℕ) (x : X) → φ x → ⟦ Rest way r x ⟧ ⊢ ⟦ St way φ r 0 ⟧
+  lies way φ r x known =
+      qed 𝓛 (‵ (Rest way r x) ∷ []) ∵ fpack ! (φ x) (λ _. Rest way r x) known $ fpack ! X (lying R b o t way φ r) x $ done !
 
-  write_back : (φ : R.Denot → Type 0) (x : R.Denot) → ⟦ idle γ ⟧ ∗ ⟦ fex ℕ (begun 𝓛 R b o t x) ⟧ ⊢ upd 𝓤 ⟦ Given φ writes lends 0 x ⟧
-  write_back φ x = renewed 𝓛 R b o t x ⟦ Given φ writes lends 0 x ⟧ (qed 𝓛 (‵ (whole 𝓛 R b o t x) ∷ []) ∵
-      use1 𝓛 (‵ (Rest lends 0 x)) (rests_lent 𝓛 R b o t 0 x (omega arith)) $ fpack ! (Unit {0}) (λ _. Rest lends 0 x) tt $ done !)
+  -- ---- a party gives back what it had
+  module _ (φ : X → Type 0) (r : ℕ) where
+    abbrev given_at : Way X → Use → Use → Option X → X → Fml
+    given_at way u u' v x = fex ((v ≡ shown_to u x) × Had φ u x) (λ _. Rest way (room way u' r) x)
 
-  -- ---- a reader or a writer takes its part
-  read_on : (ψ : R.Denot → Type 0) (r : ℕ) (x : R.Denot) → ψ x → suc r < 2 ^ 63 → ⟦ Rest lends r x ⟧ ⊢ ⟦ St lends ψ (suc r) 0 ⟧ ∗ ⟦ reader R b o t lends x ⟧
-  read_on ψ r x known small = qed 𝓛 (‵ (Rest lends r x) ∷ []) ∵ fpick ! (λ a. fsplit ! $
-      use1 𝓛 (‵ (parts R γ (a, x) 1) ⊛ ‵ (parts R γ (a, x) (2 ^ 63 - suc r))) (parts_cut 𝓛 R γ (a, x) (2 ^ 63 - r) 1 (2 ^ 63 - suc r) (omega arith) (omega arith) (omega arith) (omega arith)) $ split ! $
-      move ! (2 ∷ []) $ fsplit3 ! $ move ! (1 ∷ []) $ let V : Lft → Fml = shown R b o x in
-      use1 𝓛 (‵ (V (a ∷ t.life)) ⊛ ‵ (V (a ∷ t.life))) (contraction 𝓛 V (L x b (o + offset R)) (a ∷ t.life)) $ split ! $
-      move ! (4 ∷ 0 ∷ []) $ fjoin ! $ fpack ! ℕ (λ e. fsep (parts R γ (e, x) 1) (V (e ∷ t.life))) a $ move ! (2 ∷ 1 ∷ 3 ∷ []) $ fjoin3 ! $ move ! (2 ∷ 0 ∷ []) $ fjoin ! $
-      fpack ! ℕ (λ e. lent (suc r) (e, x)) a $ fpack ! (ψ x) (λ _. Rest lends (suc r) x) known $ fpack ! R.Denot (Lie lends ψ (suc r)) x $ done !)
+    abbrev Given : Way X → Use → Use → Option X → Fml
+    Given way u u' v = fex X (given_at way u u' v)
 
-  write_on : (x : R.Denot) → ⟦ Rest lends 0 x ⟧ ⊢ ⟦ idle γ ⟧ ∗ ⟦ fex ℕ (begun 𝓛 R b o t x) ⟧
-  write_on x = qed 𝓛 (‵ (Rest lends 0 x) ∷ []) ∵ fpick ! (λ a. fsplit ! $ use1 𝓛 (‵ (share R γ (a, x) full_share)) (parts_whole 𝓛 R γ (a, x)) $ fsplit ! $ move ! (0 ∷ 2 ∷ []) $ fjoin ! $
-      fpack ! ℕ (begun 𝓛 R b o t x) a $ move ! (1 ∷ []) $ fpack ! Gv (tag γ full_share) (round_code R (a, x)) $ done !)
+    gave : (way : Way X) (u u' : Use) (v : Option X) (x : X) → v ≡ shown_to u x → Had φ u x
+        → ⟦ Rest way (room way u' r) x ⟧ ⊢ ⟦ Given way u u' v ⟧
+    gave way u u' v x is had = qed 𝓛 (‵ (Rest way (room way u' r) x) ∷ []) ∵
+        fpack ! ((v ≡ shown_to u x) × Had φ u x) (λ _. Rest way (room way u' r) x) (is, had) $ fpack ! X (given_at way u u' v) x $ done !
 
-  -- ---- the same for both uses, with what else is there, in a way whose readers give back
-  abbrev Returns : Way R.Denot → Type 0
-  Returns (fixes fact) = ⊥
-  Returns _ = Unit {0}
+    -- a writer gives back a whole round
+    gave_whole : (way : Way X) (u' : Use) (x : X) → ⟦ whole 𝓛 R b o t x ⟧ ⊢ ⟦ Rest way (room way u' r) x ⟧
+        → ⟦ idle γ ⟧ ∗ ⟦ fex ℕ (begun 𝓛 R b o t x) ⟧ ⊢ upd 𝓤 ⟦ Given way writes u' (Some x) ⟧
+    gave_whole way u' x to =
+        renewed 𝓛 R b o t x ⟦ Given way writes u' (Some x) ⟧ (via 𝓤 ⟦ Rest way (room way u' r) x ⟧ to (gave way writes u' (Some x) x refl tt))
 
-  gives : (φ : R.Denot → Type 0) (u : Use) (way : Way R.Denot) (x : R.Denot) (r w : ℕ) → Returns way → u ≢ off → Limits way (r + reading u) (w + writing u)
-      → ⟦ St way φ (r + reading u) (w + writing u) ⟧ ∗ ⟦ Held u way (Some x) ⟧ ⊢ upd 𝓤 ⟦ Given φ u way r x ⟧
-  gives φ off way x r w is on lim = absurd (on refl)
-  gives φ reads alone x r w is on lim = absurd (omega arith)
-  gives φ reads lends x r w is on lim = let one : r + 1 ≡ suc r = omega arith in let none : w + 0 ≡ 0 = omega arith in
-      qed 𝓛 (‵ (St lends φ (r + 1) (w + 0)) ∷ ‵ (reader R b o t lends x) ∷ []) ∵ rewrite ! 0 (λ (k : ℕ × ℕ). ‵ (St lends φ k.0 k.1)) (λ i. (one i, none i)) refl $
-      use2 𝓛 (‵ (Lie lends φ r x)) (read_back φ r x (omega arith)) $ by ! (upd_i 𝓤 ⟦ Lie lends φ r x ⟧)
-  gives φ writes alone x r w is on lim = qed 𝓛 (‵ (St alone φ (r + 0) (w + 1)) ∷ ‵ (tracked R b o t x) ∷ []) ∵ drop ! $ fpack ! (Unit {0}) (λ _. Rest alone r x) tt $ by ! (upd_i 𝓤 ⟦ Given φ writes alone r x ⟧)
-  gives φ u (fixes fact) x r w is on lim = absurd is
-  gives φ writes lends x r w is on lim = let one : w + 1 ≡ suc 0 = omega arith in let none : r ≡ 0 = omega arith in
-      subst (λ (k : ℕ). ⟦ St lends φ (r + 0) (w + 1) ⟧ ∗ ⟦ Held writes lends (Some x) ⟧ ⊢ upd 𝓤 ⟦ Given φ writes lends k x ⟧) (sym none)
-      (qed 𝓛 (‵ (St lends φ (r + 0) (w + 1)) ∷ ‵ (Held writes lends (Some x)) ∷ []) ∵ rewrite ! 0 (λ (k : ℕ). ‵ (St lends φ (r + 0) k)) one refl $ by ! (write_back φ x))
+    -- a reader gives back one part, which is of the round that the state has
+    gave_part : (u' : Use) (x : X) → r < 2 ^ 63 → ⟦ St lends φ (suc r) 0 ⟧ ∗ ⟦ reader R b o t lends x ⟧ ⊢ ⟦ Given lends reads u' (Some x) ⟧
+    gave_part u' x small = qed 𝓛 (‵ (St lends φ (suc r) 0) ∷ ‵ (reader R b o t lends x) ∷ []) ∵ fpick ! (λ y. fpick ! (λ known. fpick ! (λ a.
+        fsplit ! $ move ! (2 ∷ []) $ fpick ! (λ c. let s : Round R = (a, y) in let u : Round R = (c, x) in fsplit ! $ move ! (2 ∷ 0 ∷ []) $
+        use2 𝓛 (given (s ≡ u) (‵ (parts R γ s (2 ^ 63 - suc r)) ⊛ ‵ (parts R γ u 1))) (parts_agree 𝓛 R γ s u (2 ^ 63 - suc r) 1) $
+        learn ! (λ same. split ! $ rewrite ! 0 (λ (z : Round R). ‵ (parts R γ z (2 ^ 63 - suc r))) same refl $
+        use2 𝓛 (‵ (parts R γ u ((2 ^ 63 - suc r) + 1))) (parts_glue 𝓛 R γ u (2 ^ 63 - suc r) 1 (omega arith) (omega arith)) $
+        let more : (2 ^ 63 - suc r) + 1 ≡ 2 ^ 63 - r = omega arith in rewrite ! 0 (λ (k : ℕ). ‵ (parts R γ u k)) more refl $ move ! (2 ∷ []) $
+        rewrite ! 0 (λ (z : Round R). ‵ (shared R b o t z)) same refl $ move ! (1 ∷ 0 ∷ []) $ fjoin ! $ fpack ! ℕ (λ e. lent r (e, x)) c $
+        keep ! (0 ∷ []) $ by ! (gave lends reads u' (Some x) x refl (subst (λ (z : Round R). φ z.1) same known)))))))
 
-  takes : (ψ : R.Denot → Type 0) (u : Use) (way : Way R.Denot) (x : R.Denot) (r w : ℕ) → ψ x → Returns way → u ≢ off → Limits way (r + reading u) (w + writing u)
-      → ⟦ Rest way r x ⟧ ⊢ ⟦ St way ψ (r + reading u) (w + writing u) ⟧ ∗ ⟦ Held u way (Some x) ⟧
-  takes ψ off way x r w known is on lim = absurd (on refl)
-  takes ψ reads alone x r w known is on lim = absurd (omega arith)
-  takes ψ reads lends x r w known is on lim = let one : suc r ≡ r + 1 = omega arith in let none : 0 ≡ w + 0 = omega arith in
-      qed 𝓛 (‵ (Rest lends r x) ∷ []) ∵ use1 𝓛 (‵ (St lends ψ (suc r) 0) ⊛ ‵ (reader R b o t lends x)) (read_on ψ r x known (omega arith)) $ split ! $
-      rewrite ! 0 (λ (k : ℕ × ℕ). ‵ (St lends ψ k.0 k.1)) (λ i. (one i, none i)) refl $ done !
-  takes ψ writes alone x r w known is on lim = let one : suc w ≡ w + 1 = omega arith in
-      qed 𝓛 (‵ (tracked R b o t x) ∷ []) ∵ nothing ! $ rewrite ! 0 (λ (k : ℕ). ‵ (St alone ψ (r + 0) k)) one refl $ done !
-  takes ψ u (fixes fact) x r w known is on lim = absurd is
-  takes ψ writes lends x r w known is on lim = let one : suc 0 ≡ w + 1 = omega arith in let none : r ≡ 0 = omega arith in
-      subst (λ (k : ℕ). ⟦ Rest lends k x ⟧ ⊢ ⟦ St lends ψ (r + 0) (w + 1) ⟧ ∗ ⟦ Held writes lends (Some x) ⟧) (sym none)
-      (qed 𝓛 (‵ (Rest lends 0 x) ∷ []) ∵ use1 𝓛 (‵ (idle γ) ⊛ ‵ (fex ℕ (begun 𝓛 R b o t x))) (write_on x) $ split ! $ rewrite ! 0 (λ (k : ℕ). ‵ (St lends ψ (r + 0) k)) one refl $ done !)
+    -- a reader that may read for ever lets its piece go
+    gave_piece : (facts : Bool → X → Type 0) (x : X)
+        → ⟦ St (fixes facts) φ (suc r) 0 ⟧ ∗ ⟦ reader R b o t (fixes facts) x ⟧ ⊢ ⟦ Given (fixes facts) reads reads (Some x) ⟧
+    gave_piece facts x = let way : Way X = fixes facts in
+        qed 𝓛 (‵ (St way φ (suc r) 0) ∷ ‵ (reader R b o t way x) ∷ []) ∵ fpick ! (λ y. fpick ! (λ known. fpick ! (λ a. fsplit ! $ move ! (2 ∷ []) $
+        fpick ! (λ c. let s : Round R = (a, y) in let u : Round R = (c, x) in fsplit ! $ move ! (2 ∷ 0 ∷ []) $
+        use2 𝓛 (given (s ≡ u) (‵ (piece R way γ s) ⊛ ‵ (piece R way γ u))) (pieces_agree 𝓛 R γ way s u) $ learn ! (λ same. split ! $
+        move ! (0 ∷ 3 ∷ []) $ fjoin ! $ rewrite ! 0 (λ (z : Round R). ‵ (seen_on facts (suc r) z)) same refl $
+        fpack ! ℕ (λ e. seen_on facts (suc r) (e, x)) c $
+        keep ! (0 ∷ []) $ by ! (gave way reads reads (Some x) x refl (subst (λ (z : Round R). φ z.1) same known)))))))
 
-  -- nobody writes while a party may begin to use the value, or after one has stopped
-  none_else : (u : Use) (way : Way R.Denot) (r w : ℕ) → u ≢ off → Limits way (r + reading u) (w + writing u) → w ≡ 0
-  none_else u way r w on lim = grind arith
+    abbrev Gives : Way X → Use → Use → Option X → Type 1
+    Gives way u u' v = ⟦ St way φ (with_reader u r) (with_writer u 0) ⟧ ∗ ⟦ Held u way v ⟧ ⊢ upd 𝓤 ⟦ Given way u u' v ⟧
 
-  -- what a party has after its use changed from u to u'
-  abbrev pub got : Way R.Denot → (R.Denot → Type 0) → Use → Use → Option R.Denot → Option R.Denot → Fml
+  has_room : (way : Way X) (u' : Use) (v : Option X) (r : ℕ) (x : X) (A : Type 0) → Going way off u' v r A → ⟦ Rest way r x ⟧ ⊢ ⟦ Rest way (room way u' r) x ⟧
+  has_room (fixes facts) reads v zero x A going = absurd (omega (arith, going.1))
+  has_room (fixes facts) reads v (suc r) x A going = id⊢ 𝓤 _
+  has_room _ u' v r x A going = id⊢ 𝓤 _
+
+  gives : (φ : X → Type 0) (way : Way X) (r : ℕ) (u u' : Use) (v : Option X) (A : Type 0) → (u ≡ writes → u' ≢ writes) → Lim way r 0 u
+      → Going way u u' v (with_reader u r) A → Gives φ r way u u' v
+  gives φ way r off u' (Some x) A turned lim going = via 𝓤 _ (snd∗ 𝓤 ⟦ St way φ r 0 ⟧ ⟦ ffalse ⟧) (never_e 𝓤 _)
+  gives φ way r off u' None A turned lim going = let Z : SProp 𝓤 = ⟦ Given φ r way off u' None ⟧ in
+      qed 𝓛 (‵ (St way φ r 0) ∷ ‵ ftrue ∷ []) ∵ suffices ! Z (upd_i 𝓤 Z) $ fpick ! (λ x. fpick ! (λ known.
+      use1 𝓛 (‵ (Rest way (room way u' r) x)) (has_room way u' None r x A going) $ keep ! (0 ∷ []) $ by ! (gave φ r way off u' None x refl known)))
+  gives φ way r u u' None A turned lim going = nobody u way ⟦ St way φ (with_reader u r) (with_writer u 0) ⟧ _ (λ e. absurd cc)
+  gives φ alone r reads u' (Some x) A turned lim going = absurd (omega arith)
+  gives φ alone r writes u' (Some x) A turned lim going = let Z : SProp 𝓤 = ⟦ Given φ r alone writes u' (Some x) ⟧ in
+      qed 𝓛 (‵ ftrue ∷ ‵ (tracked R b o t x) ∷ []) ∵ suffices ! Z (upd_i 𝓤 Z) $ drop ! $ by ! (gave φ r alone writes u' (Some x) x refl tt)
+  gives φ lends r reads u' (Some x) A turned lim going =
+      via 𝓤 _ (gave_part φ r u' x (omega arith)) (upd_i 𝓤 ⟦ Given φ r lends reads u' (Some x) ⟧)
+  gives φ lends r writes u' (Some x) A turned lim going = gave_whole φ r lends u' x (rests_lent 𝓛 R b o t r x (omega arith))
+  gives φ (fixes facts) r reads reads (Some x) A turned lim going =
+      via 𝓤 _ (gave_piece φ r facts x) (upd_i 𝓤 ⟦ Given φ r (fixes facts) reads reads (Some x) ⟧)
+  gives φ (fixes facts) r reads u' (Some x) A turned lim going = absurd (let e : u' ≡ reads = going.0 refl in cc)
+  gives φ (fixes facts) r writes off (Some x) A turned lim going = let none : r ≡ 0 = lim.1 (omega arith) in
+      gave_whole φ r (fixes facts) off x (rests_fixed 𝓛 R b o t facts r x (subst (λ k. Fixed (fixes facts) k 0 x) (sym none) going.1))
+  gives φ (fixes facts) r writes reads (Some x) A turned lim going = gave_whole φ r (fixes facts) reads x (rests_fixed 𝓛 R b o t facts (suc r) x going.1)
+  gives φ (fixes facts) r writes writes (Some x) A turned lim going = absurd (turned refl refl)
+
+  -- ---- a party takes what it may use
+  module _ (ψ : X → Type 0) where
+    abbrev Takes : Way X → ℕ → Use → X → Type 1
+    Takes way r u x = ⟦ Rest way (room way u r) x ⟧
+        ⊢ guard 𝓤 (Finds way off u (shown_to u x)) (⟦ St way ψ (with_reader u r) (with_writer u 0) ⟧ ∗ ⟦ Held u way (shown_to u x) ⟧)
+
+    takes_nothing : (way : Way X) (r : ℕ) (x : X) → ψ x → (A : Type 0) → A → ⟦ Rest way r x ⟧ ⊢ guard 𝓤 A (⟦ St way ψ r 0 ⟧ ∗ ⟦ ftrue ⟧)
+    takes_nothing way r x known A a =
+        qed 𝓛 (‵ (Rest way r x) ∷ []) ∵ check ! a $ use1 𝓛 (‵ (St way ψ r 0)) (lies way ψ r x known) $ nothing ! $ move ! (1 ∷ 0 ∷ []) $ done !
+
+    -- a reader takes its piece of a round, and the state keeps the rest
+    taken : (way : Way X) (r : ℕ) (Rem : Round R → Fml) (x : X) (a : ℕ) → ψ x → ⟦ fex ℕ (λ e. fsep (Rem (e, x)) (shared R b o t (e, x))) ⟧
+        ⊢ ⟦ Rest way (suc r) x ⟧
+        → ⟦ piece R way γ (a, x) ⟧ ∗ ⟦ Rem (a, x) ⟧ ∗ ⟦ shared R b o t (a, x) ⟧ ⊢ ⟦ St way ψ (suc r) 0 ⟧ ∗ ⟦ reader R b o t way x ⟧
+    taken way r Rem x a known rests = let Lent : ℕ → Fml = λ e. fsep (Rem (e, x)) (shared R b o t (e, x)) in
+        qed 𝓛 (‵ (piece R way γ (a, x)) ∷ ‵ (Rem (a, x)) ∷ ‵ (shared R b o t (a, x)) ∷ []) ∵ move ! (2 ∷ []) $ fsplit3 ! $ move ! (1 ∷ []) $
+        use1 𝓛 (‵ (V x (a ∷ t.life)) ⊛ ‵ (V x (a ∷ t.life))) (contraction 𝓛 (V x) (L x b (o + offset R)) (a ∷ t.life)) $ split ! $
+        move ! (4 ∷ 0 ∷ []) $ fjoin ! $ fpack ! ℕ (λ e. fsep (piece R way γ (e, x)) (V x (e ∷ t.life))) a $
+        move ! (2 ∷ 1 ∷ 3 ∷ []) $ fjoin3 ! $ move ! (2 ∷ 0 ∷ []) $ fjoin ! $ fpack ! ℕ Lent a $ use1 𝓛 (‵ (Rest way (suc r) x)) rests $
+        use1 𝓛 (‵ (St way ψ (suc r) 0)) (lies way ψ (suc r) x known) $ done !
+
+    takes_part : (r : ℕ) (x : X) → ψ x → suc r < 2 ^ 63 → Takes lends r reads x
+    takes_part r x known small = qed 𝓛 (‵ (Rest lends r x) ∷ []) ∵ check ! tt $ fpick ! (λ a. fsplit ! $
+        use1 𝓛 (‵ (parts R γ (a, x) 1) ⊛ ‵ (parts R γ (a, x) (2 ^ 63 - suc r)))
+        (parts_cut 𝓛 R γ (a, x) (2 ^ 63 - r) 1 (2 ^ 63 - suc r) (omega arith) (omega arith) (omega arith) (omega arith)) $ split ! $
+        by ! (taken lends r (λ s. parts R γ s (2 ^ 63 - suc r)) x a known (id⊢ 𝓤 _)))
+
+    -- a reader takes half of what the earlier readers left
+    takes_piece : (facts : Bool → X → Type 0) (r : ℕ) (x : X) → ψ x → Takes (fixes facts) r reads x
+    takes_piece facts r x known = let way : Way X = fixes facts in qed 𝓛 (‵ (Rest way (suc r) x) ∷ []) ∵ fpick ! (λ a. fsplit ! $
+        use1 𝓛 (given (facts true x) (‵ (piece R way γ (a, x)) ⊛ ‵ (piece R way γ (a, x)))) (piece_cut 𝓛 R γ facts (a, x)) $
+        learn ! (λ so. check ! so $ split ! $ by ! (taken way r (λ s. piece R way γ s) x a known (id⊢ 𝓤 _))))
+
+    -- one that writes takes the whole round
+    takes : (way : Way X) (r : ℕ) (u : Use) (x : X) → ψ x → Lim way r 0 u → Takes way r u x
+    takes alone r off x known lim = takes_nothing alone r x known (Unit {0}) tt
+    takes way r off x known lim = takes_nothing way r x known (Unit {0}) tt
+    takes alone r reads x known lim = absurd (omega arith)
+    takes lends r reads x known lim = takes_part r x known (omega arith)
+    takes (fixes facts) r reads x known lim = takes_piece facts r x known
+    takes alone r writes x known lim = qed 𝓛 (‵ (tracked R b o t x) ∷ []) ∵ check ! tt $ nothing ! $ done !
+    takes lends (suc r) writes x known lim = absurd (omega arith)
+    takes lends zero writes x known lim = qed 𝓛 (‵ (Rest lends 0 x) ∷ []) ∵ check ! tt $ fpick ! (λ a. fsplit ! $
+        use1 𝓛 (‵ (share R γ (a, x) full_share)) (parts_whole 𝓛 R γ (a, x)) $ fsplit ! $ move ! (0 ∷ 2 ∷ []) $ fjoin ! $
+        fpack ! ℕ (begun 𝓛 R b o t x) a $ move ! (1 ∷ []) $ fpack ! Gv (tag γ full_share) (round_code R (a, x)) $ done !)
+    takes (fixes facts) (suc r) writes x known lim = absurd (let e : suc r ≡ 0 = lim.1 (omega arith) in omega (arith, e))
+    takes (fixes facts) zero writes x known lim = qed 𝓛 (‵ (Rest (fixes facts) 0 x) ∷ []) ∵ fpick ! (λ a. fsplit ! $ fpick ! (λ so. check ! so $
+        fsplit ! $ move ! (0 ∷ 2 ∷ []) $ fjoin ! $ fpack ! ℕ (begun 𝓛 R b o t x) a $ move ! (1 ∷ []) $
+        fpack ! Gv (tag γ full_share) (round_code R (a, x)) $ done !))
+
+  -- ---- what a party has after its use changed from u to u'
+  abbrev pub got : Way X → (X → Type 0) → Use → Use → Option X → Option X → Fml
   got way ψ u u' v v' = fsep (fact (Preserves way u u' v v' × Learns ψ u u' v v')) (Held u' way v')
 
-  abbrev pub Got : Way R.Denot → (R.Denot → Type 0) → Use → Use → Option R.Denot → Fml
-  Got way ψ u u' v = fex (Option R.Denot) (got way ψ u u' v)
+  abbrev pub Got : Way X → (X → Type 0) → Use → Use → Option X → Fml
+  Got way ψ u u' v = fex (Option X) (got way ψ u u' v)
 
-  got_in : (way : Way R.Denot) (ψ : R.Denot → Type 0) (u u' : Use) (v v' : Option R.Denot) → Preserves way u u' v v' → Learns ψ u u' v v' → ⟦ Held u' way v' ⟧ ⊢ ⟦ Got way ψ u u' v ⟧
-  got_in way ψ u u' v v' s learns = qed 𝓛 (‵ (Held u' way v') ∷ []) ∵ nothing ! $ fpack ! (Preserves way u u' v v' × Learns ψ u u' v v') (λ _. ftrue) (s, learns) $ fjoin ! $
-      fpack ! (Option R.Denot) (got way ψ u u' v) v' $ done !
-
-  -- what a party is told of a value that it comes to use, leaves, uses otherwise, or reads on
-  learns_come : (ψ : R.Denot → Type 0) (u : Use) (x : R.Denot) → ψ x → Learns ψ off u None (Some x)
-  learns_come ψ _ x known = known
-
-  learns_left : (ψ : R.Denot → Type 0) (u : Use) (x : R.Denot) → ψ x → Learns ψ u off (Some x) None
-  learns_left ψ off x known = tt
-  learns_left ψ _ x known = known
-
-  learns_turned : (ψ : R.Denot → Type 0) (u u' : Use) (x : R.Denot) → ψ x → Learns ψ u u' (Some x) (Some x)
-  learns_turned ψ writes writes x known = tt
-  learns_turned ψ off u' x known = known
-  learns_turned ψ _ off x known = known
-  learns_turned ψ _ reads x known = known
-  learns_turned ψ reads writes x known = known
-
-  nobody : (u : Use) (way : Way R.Denot) → u ≢ off → ⟦ Held u way None ⟧ ⊢ ⟦ base.Fml.ffalse ⟧
-  nobody off way on = absurd (on refl)
-  nobody writes alone on = id⊢ 𝓤 _
-  nobody _ _ on = id⊢ 𝓤 _
-
-  -- a party that begins to use the value takes its part
-  arrives : (ψ : R.Denot → Type 0) (u : Use) (way : Way R.Denot) (x : R.Denot) (r w : ℕ) → ψ x → Returns way → u ≢ off → Limits way (r + reading u) (w + writing u) → Preserves way off u None (Some x)
-      → ⟦ Rest way r x ⟧ ⊢ ⟦ St way ψ (r + reading u) (w + writing u) ⟧ ∗ ⟦ Got way ψ off u None ⟧
-  arrives ψ u way x r w known is on lim kept = qed 𝓛 (‵ (Rest way r x) ∷ []) ∵ use1 𝓛 (‵ (St way ψ (r + reading u) (w + writing u)) ⊛ ‵ (Held u way (Some x))) (takes ψ u way x r w known is on lim) $ split ! $ move ! (1 ∷ []) $
-      use1 𝓛 (‵ (Got way ψ off u None)) (got_in way ψ off u None (Some x) kept (learns_come ψ u x known)) $ move ! (1 ∷ 0 ∷ []) $ done !
-
-  first_shown : (way : Way R.Denot) (u : Use) (x : R.Denot) → Returns way → u ≢ off → Preserves way off u None (Some x)
-  first_shown way off x is on = absurd (on refl)
-  first_shown (fixes fact) u x is on = absurd is
-  first_shown _ _ x is on = ((x, refl), tt)
-
-  -- what is known of a value that a party keeps using, stops using, or begins to use
-  goes_on : (way : Way R.Denot) (u u' : Use) (x : R.Denot) → u ≢ off → u' ≢ off → Preserves way u u' (Some x) (Some x)
-  goes_on alone off u' x on on' = absurd (on refl)
-  goes_on _ off u' x on on' = absurd (on refl)
-  goes_on _ u off x on on' = absurd (on' refl)
-  goes_on _ _ _ x on on' = (refl, tt)
-
-  ends_at : (way : Way R.Denot) (u : Use) (v : Option R.Denot) → Preserves way u off v None
-  ends_at (fixes fact) off v = (refl, tt)
-  ends_at _ _ v = (refl, tt)
+  got_in : (way : Way X) (ψ : X → Type 0) (u u' : Use) (v v' : Option X) → Preserves way u u' v v' × Learns ψ u u' v v'
+      → ⟦ Held u' way v' ⟧ ⊢ ⟦ Got way ψ u u' v ⟧
+  got_in way ψ u u' v v' so = qed 𝓛 (‵ (Held u' way v') ∷ []) ∵
+      nothing ! $ fpack ! (Preserves way u u' v v' × Learns ψ u u' v v') (λ _. ftrue) so $ fjoin ! $
+      fpack ! (Option X) (got way ψ u u' v) v' $ done !
 
   -- before the step φ is known of a value that nobody writes, after it ψ
-  module _ (φ ψ : R.Denot → Type 0) where
-    -- a value that nobody writes stays there; one that somebody writes is away
-    carried : (way : Way R.Denot) → ((x : R.Denot) → φ x → ψ x) → (r w : ℕ) → ⟦ St way φ r w ⟧ ⊢ ⟦ St way ψ r w ⟧
-    carried way to r zero = qed 𝓛 (‵ (St way φ r 0) ∷ []) ∵ fpick ! (λ x. fpick ! (λ known. fpack ! (ψ x) (λ _. Rest way r x) (to x known) $ fpack ! R.Denot (Lie way ψ r) x $ done !))
-    carried way to r (suc w) = id⊢ 𝓤 _
+  module _ (φ ψ : X → Type 0) (way : Way X) (r : ℕ) where
+    abbrev Turns : ℕ → Use → Use → Option X → Type 1
+    Turns w u u' v = Lim way r w u → Going way u u' v (with_reader u r) (Lim way r w u') → Carries φ ψ u u' v
+        → ⟦ St way φ (with_reader u r) (with_writer u w) ⟧ ∗ ⟦ Held u way v ⟧
+        ⊢ upd 𝓤 (⟦ St way ψ (with_reader u' r) (with_writer u' w) ⟧ ∗ ⟦ Got way ψ u u' v ⟧)
 
-    away : (way : Way R.Denot) (r w : ℕ) → 0 < w → ⟦ St way φ r w ⟧ ⊢ ⟦ St way ψ r w ⟧
-    away way r zero some = absurd (omega (arith, some))
-    away way r (suc w) some = id⊢ 𝓤 _
+    -- nobody else writes: what the party had is given back, and what it may use is taken
+    passes : (u u' : Use) (v : Option X) → (u ≡ writes → u' ≢ writes) → Turns 0 u u' v
+    passes u u' v turned lim going owed =
+        let Before : Fml = St way φ (with_reader u r) (with_writer u 0) in let After : Fml = St way ψ (with_reader u' r) (with_writer u' 0) in
+        let Gave : Fml = Given φ r way u u' v in let Now : X → Fml = λ x. Held u' way (shown_to u' x) in
+        let So : Option X → X → Type 0 = λ z x. Preserves way u u' z (shown_to u' x) × Learns ψ u u' z (shown_to u' x) in
+        let Z : SProp 𝓤 = ⟦ After ⟧ ∗ ⟦ Got way ψ u u' v ⟧ in qed 𝓛 (‵ Before ∷ ‵ (Held u way v) ∷ []) ∵
+        use2 𝓛 (raw (upd 𝓤 ⟦ Gave ⟧)) (gives φ way r u u' v (Lim way r 0 u') turned lim going) $ settle 𝓛 Z (‵ Gave) $
+        suffices ! Z (upd_i 𝓤 Z) $ fpick ! (λ x. fpick ! (λ had.
+        let known : ψ x = known_after φ ψ u u' x turned (subst (Carries φ ψ u u') had.0 owed) had.1 in
+        use1 𝓛 (given (Finds way off u' (shown_to u' x)) (‵ After ⊛ ‵ (Now x)))
+        (takes ψ way r u' x known (going_rest way u u' v (with_reader u r) going)) $ learn ! (λ finds.
+        let so : So v x = subst (λ z. So z x) (sym had.0) ((shows u u' x, finds_so way u u' x finds), learns φ ψ u u' x known) in
+        split ! $ move ! (1 ∷ []) $ use1 𝓛 (‵ (Got way ψ u u' v)) (got_in way ψ u u' v (shown_to u' x) so) $ move ! (1 ∷ 0 ∷ []) $ done !)))
 
-    -- a party keeps its use of the value
-    same_state : (way : Way R.Denot) (u : Use) (v : Option R.Denot) (r w : ℕ) → Carries φ ψ u u v → ⟦ St way φ (r + reading u) (w + writing u) ⟧ ⊢ ⟦ St way ψ (r + reading u) (w + writing u) ⟧
-    same_state way off v r w owed = carried way owed (r + 0) (w + 0)
-    same_state way reads v r w owed = carried way owed (r + 1) (w + 0)
-    same_state way writes v r w owed = away way (r + 0) (w + 1) (omega arith)
+    -- a party stays as it is
+    stays : (u : Use) (P : Fml) (v : Option X) → Preserves way u u v v × Learns ψ u u v v → ⟦ P ⟧ ∗ ⟦ Held u way v ⟧ ⊢ upd 𝓤 (⟦ P ⟧ ∗ ⟦ Got way ψ u u v ⟧)
+    stays u P v so = let Z : SProp 𝓤 = ⟦ P ⟧ ∗ ⟦ Got way ψ u u v ⟧ in qed 𝓛 (‵ P ∷ ‵ (Held u way v) ∷ []) ∵
+        suffices ! Z (upd_i 𝓤 Z) $ move ! (1 ∷ []) $ use1 𝓛 (‵ (Got way ψ u u v)) (got_in way ψ u u v v so) $ move ! (1 ∷ 0 ∷ []) $ done !
 
-    -- what is known after a party gave a value back, and does not write on
-    known_after : (u u' : Use) (x : R.Denot) → u ≢ off → (u ≡ writes → u' ≢ writes) → Carries φ ψ u u' (Some x) → Had φ u x → ψ x
-    known_after off u' x on turned owed had = absurd (on refl)
-    known_after reads u' x on turned owed had = owed x had
-    known_after writes off x on turned owed had = owed
-    known_after writes reads x on turned owed had = owed
-    known_after writes writes x on turned owed had = absurd (turned refl refl)
-
-    module _ (way : Way R.Denot) (r w : ℕ) where
-      abbrev Before : Use → Fml
-      Before u = St way φ (r + reading u) (w + writing u)
-
-      abbrev After : Use → Fml
-      After u = St way ψ (r + reading u) (w + writing u)
-
-      abbrev Lim : Use → Type 0
-      Lim u = Limits way (r + reading u) (w + writing u)
-
-      abbrev Turns : Use → Use → Option R.Denot → Type 1
-      Turns u u' v = Lim u → Going way u u' v (r + reading u) (Lim u') → Carries φ ψ u u' v → ⟦ Before u ⟧ ∗ ⟦ Held u way v ⟧ ⊢ upd 𝓤 (⟦ After u' ⟧ ∗ ⟦ Got way ψ u u' v ⟧)
-
-      -- a party stays as it is
-      stays : (u : Use) (v v' : Option R.Denot) → Carries φ ψ u u v → ⟦ Held u way v ⟧ ⊢ ⟦ Held u way v' ⟧ → Preserves way u u v v' → Learns ψ u u v v' → ⟦ Before u ⟧ ∗ ⟦ Held u way v ⟧ ⊢ upd 𝓤 (⟦ After u ⟧ ∗ ⟦ Got way ψ u u v ⟧)
-      stays u v v' owed same kept learns = let Z : SProp 𝓤 = ⟦ After u ⟧ ∗ ⟦ Got way ψ u u v ⟧ in qed 𝓛 (‵ (Before u) ∷ ‵ (Held u way v) ∷ []) ∵ suffices ! Z (upd_i 𝓤 Z) $
-          use1 𝓛 (‵ (After u)) (same_state way u v r w owed) $ move ! (1 ∷ []) $
-          use1 𝓛 (‵ (Held u way v')) same $ use1 𝓛 (‵ (Got way ψ u u v)) (got_in way ψ u u v v' kept learns) $ move ! (1 ∷ 0 ∷ []) $ done !
-
-      rests : (v : Option R.Denot) → Turns off off v
-      rests None lim going owed = stays off None None owed (id⊢ 𝓤 _) (ends_at way off None) tt
-      rests (Some x) lim going owed = via 𝓤 _ (snd∗ 𝓤 ⟦ Before off ⟧ ⟦ Held off way (Some x) ⟧) (never_e 𝓤 _)
-
-      unshown : (u u' : Use) → u ≢ off → Turns u u' None
-      unshown u u' on lim going owed = via 𝓤 _ (snd∗ 𝓤 ⟦ Before u ⟧ ⟦ Held u way None ⟧) (via 𝓤 _ (nobody u way on) (never_e 𝓤 _))
-
-      writes_on : (v : Option R.Denot) → Turns writes writes v
-      writes_on None = unshown writes writes (λ e. absurd cc)
-      writes_on (Some x) = λ lim going owed. stays writes (Some x) (Some x) owed (id⊢ 𝓤 _) (goes_on way writes writes x (λ e. absurd cc) (λ e. absurd cc)) tt
-
-      -- ---- a way whose readers give back
-      comes : (u : Use) → Returns way → u ≢ off → (v : Option R.Denot) → Turns off u v
-      comes u is on (Some x) lim lim' owed = qed 𝓛 (‵ (Before off) ∷ ‵ base.Fml.ffalse ∷ []) ∵ drop ! $ by ! (never_e 𝓤 _)
-      comes u is on None lim going owed = let lim' : Lim u = going_rest way off u None (r + reading off) going in let Z : SProp 𝓤 = ⟦ After u ⟧ ∗ ⟦ Got way ψ off u None ⟧ in let none : w + 0 ≡ 0 = (let z = none_else u way r w on lim' in omega arith) in let same_r : r + 0 ≡ r = omega arith in
-          qed 𝓛 (‵ (Before off) ∷ ‵ ftrue ∷ []) ∵ suffices ! Z (upd_i 𝓤 Z) $ rewrite ! 0 (λ (k : ℕ × ℕ). ‵ (St way φ k.0 k.1)) (λ i. (same_r i, none i)) refl $ fpick ! (λ x. fpick ! (λ known.
-          use1 𝓛 (‵ (After u) ⊛ ‵ (Got way ψ off u None)) (arrives ψ u way x r w (owed x known) is on lim' (first_shown way u x is on)) $ split ! $ keep ! (0 ∷ 1 ∷ []) $ done !))
-
-      goes : (u : Use) → Returns way → u ≢ off → (v : Option R.Denot) → Turns u off v
-      goes u is on None lim going owed = unshown u off on lim going owed
-      goes u is on (Some x) lim going owed = let Z : SProp 𝓤 = ⟦ After off ⟧ ∗ ⟦ Got way ψ u off (Some x) ⟧ in let none : 0 ≡ w + 0 = (let z = none_else u way r w on lim in omega arith) in let same_r : r ≡ r + 0 = omega arith in
-          qed 𝓛 (‵ (Before u) ∷ ‵ (Held u way (Some x)) ∷ []) ∵ use2 𝓛 (raw (upd 𝓤 ⟦ Given φ u way r x ⟧)) (gives φ u way x r w is on lim) $ settle 𝓛 Z (‵ (Given φ u way r x)) $ suffices ! Z (upd_i 𝓤 Z) $
-          fpick ! (λ had. let known : ψ x = known_after u off x on (λ w e. absurd cc) owed had in fpack ! (ψ x) (λ _. Rest way r x) known $ fpack ! R.Denot (Lie way ψ r) x $
-          rewrite ! 0 (λ (k : ℕ × ℕ). ‵ (St way ψ k.0 k.1)) (λ i. (same_r i, none i)) refl $ nothing ! $
-          use1 𝓛 (‵ (Got way ψ u off (Some x))) (got_in way ψ u off (Some x) None (ends_at way u (Some x)) (learns_left ψ u x known)) $ keep ! (1 ∷ 0 ∷ []) $ done !)
-
-      -- a party that goes on using the value gives its part back, and takes it again
-      passes : (u u' : Use) → Returns way → u ≢ off → u' ≢ off → (u ≡ writes → u' ≢ writes) → (v : Option R.Denot) → Turns u u' v
-      passes u u' is on on' turned None lim going owed = unshown u u' on lim going owed
-      passes u u' is on on' turned (Some x) lim going owed = let lim' : Lim u' = going_rest way u u' (Some x) (r + reading u) going in let Z : SProp 𝓤 = ⟦ After u' ⟧ ∗ ⟦ Got way ψ u u' (Some x) ⟧ in
-          qed 𝓛 (‵ (Before u) ∷ ‵ (Held u way (Some x)) ∷ []) ∵ use2 𝓛 (raw (upd 𝓤 ⟦ Given φ u way r x ⟧)) (gives φ u way x r w is on lim) $ settle 𝓛 Z (‵ (Given φ u way r x)) $ suffices ! Z (upd_i 𝓤 Z) $
-          fpick ! (λ had. let known : ψ x = known_after u u' x on turned owed had in
-          use1 𝓛 (‵ (After u') ⊛ ‵ (Held u' way (Some x))) (takes ψ u' way x r w known is on' lim') $ split ! $ move ! (1 ∷ []) $
-          use1 𝓛 (‵ (Got way ψ u u' (Some x))) (got_in way ψ u u' (Some x) (Some x) (goes_on way u u' x on on') (learns_turned ψ u u' x known)) $ move ! (1 ∷ 0 ∷ []) $ done !)
-
-      lent_turns : Returns way → (u u' : Use) (v : Option R.Denot) → Turns u u' v
-      lent_turns is off off v = rests v
-      lent_turns is off reads v = comes reads is (λ e. absurd cc) v
-      lent_turns is off writes v = comes writes is (λ e. absurd cc) v
-      lent_turns is reads off v = goes reads is (λ e. absurd cc) v
-      lent_turns is reads reads v = passes reads reads is (λ e. absurd cc) (λ e. absurd cc) (λ e. absurd cc) v
-      lent_turns is reads writes v = passes reads writes is (λ e. absurd cc) (λ e. absurd cc) (λ e. absurd cc) v
-      lent_turns is writes off v = goes writes is (λ e. absurd cc) v
-      lent_turns is writes reads v = passes writes reads is (λ e. absurd cc) (λ e. absurd cc) (λ w e. absurd cc) v
-      lent_turns is writes writes v = writes_on v
-
-    -- ---- the way in which a reader may read for ever
-    module _ (fact : Bool → R.Denot → Type 0) where
-      abbrev fixed : Way R.Denot
-      fixed = fixes fact
-
-      -- a reader takes half of what the earlier readers left
-      reads_on : (k : ℕ) (x : R.Denot) → ψ x → ⟦ Rest fixed (suc k) x ⟧ ⊢ guard 𝓤 (fact true x) (⟦ St fixed ψ (suc (suc k)) 0 ⟧ ∗ ⟦ reader R b o t fixed x ⟧)
-      reads_on k x is = let V : Lft → Fml = shown R b o x in qed 𝓛 (‵ (Rest fixed (suc k) x) ∷ []) ∵ fpick ! (λ a. fsplit ! $ let s : Round R = (a, x) in
-          use1 𝓛 (given (fact true x) (‵ (piece R fixed γ s) ⊛ ‵ (piece R fixed γ s))) (piece_cut 𝓛 R γ fact s) $ learn ! (λ known. check ! known $ split ! $ move ! (2 ∷ []) $ fsplit3 ! $ move ! (1 ∷ []) $
-          use1 𝓛 (‵ (V (a ∷ t.life)) ⊛ ‵ (V (a ∷ t.life))) (contraction 𝓛 V (L x b (o + offset R)) (a ∷ t.life)) $ split ! $
-          move ! (4 ∷ 0 ∷ []) $ fjoin ! $ fpack ! ℕ (λ e. fsep (piece R fixed γ (e, x)) (V (e ∷ t.life))) a $
-          move ! (2 ∷ 1 ∷ 3 ∷ []) $ fjoin3 ! $ move ! (2 ∷ 0 ∷ []) $ fjoin ! $ fpack ! ℕ (λ e. fsep (remains R fact γ (e, x) (suc (suc k))) (shared R b o t (e, x))) a $
-          fpack ! (ψ x) (λ _. Rest fixed (suc (suc k)) x) is $ fpack ! R.Denot (Lie fixed ψ (suc (suc k))) x $ done !))
-
-      comes_to_read : (r w : ℕ) (x : R.Denot) → 0 < r → w ≡ 0 → ψ x → ⟦ Rest fixed r x ⟧ ⊢ ⟦ St fixed ψ (r + 1) (w + 0) ⟧ ∗ ⟦ Got fixed ψ off reads None ⟧
-      comes_to_read zero w x more none is = absurd (omega (arith, more))
-      comes_to_read (suc k) w x more none is = let one : suc (suc k) ≡ suc k + 1 = omega arith in let same : 0 ≡ w + 0 = omega (arith, none) in
-          qed 𝓛 (‵ (Rest fixed (suc k) x) ∷ []) ∵ use1 𝓛 (given (fact true x) (‵ (St fixed ψ (suc (suc k)) 0) ⊛ ‵ (reader R b o t fixed x))) (reads_on k x is) $ learn ! (λ known. split ! $
-          rewrite ! 0 (λ (i : ℕ × ℕ). ‵ (St fixed ψ i.0 i.1)) (λ i. (one i, same i)) refl $ move ! (1 ∷ []) $
-          use1 𝓛 (‵ (Got fixed ψ off reads None)) (got_in fixed ψ off reads None (Some x) ((x, refl), known) is) $ move ! (1 ∷ 0 ∷ []) $ done !)
-
-      -- a party that begins to write takes the whole round
-      comes_to_write : (r w : ℕ) (x : R.Denot) → r ≡ 0 → w ≡ 0 → ψ x → ⟦ Rest fixed r x ⟧ ⊢ ⟦ St fixed ψ (r + 0) (w + 1) ⟧ ∗ ⟦ Got fixed ψ off writes None ⟧
-      comes_to_write (suc r) w x none none' is = absurd (omega (arith, none))
-      comes_to_write zero (suc w) x none none' is = absurd (omega (arith, none'))
-      comes_to_write zero zero x none none' is = qed 𝓛 (‵ (Rest fixed 0 x) ∷ []) ∵ fpick ! (λ a. fsplit ! $ fpick ! (λ known. fsplit ! $ move ! (0 ∷ 2 ∷ []) $ fjoin ! $
-          fpack ! ℕ (begun 𝓛 R b o t x) a $ use1 𝓛 (‵ (Got fixed ψ off writes None)) (got_in fixed ψ off writes None (Some x) ((x, refl), known) is) $
-          move ! (1 ∷ []) $ fpack ! Gv (tag γ full_share) (round_code R (a, x)) $ done !))
-
-      -- a party that has written leaves a whole round, and may be its first reader
-      leaves_whole : (r w : ℕ) (u : Use) (x : R.Denot) → r ≡ 0 → w ≡ 0 → u ≢ writes → Fixed fixed (reading u) 0 x → Carries φ ψ writes u (Some x)
-          → ⟦ St fixed φ (r + 0) (w + 1) ⟧ ∗ ⟦ fex ℕ (begun 𝓛 R b o t x) ⟧ ⊢ upd 𝓤 (⟦ St fixed ψ (r + reading u) (w + writing u) ⟧ ∗ ⟦ Got fixed ψ writes u (Some x) ⟧)
-      leaves_whole (suc r) w u x none none' on known is = absurd (omega (arith, none))
-      leaves_whole zero (suc w) u x none none' on known is = absurd (omega (arith, none'))
-      leaves_whole zero zero writes x none none' on known is = absurd (on refl)
-      leaves_whole zero zero off x none none' on known is = renewed 𝓛 R b o t x (⟦ St fixed ψ 0 0 ⟧ ∗ ⟦ Got fixed ψ writes off (Some x) ⟧) (
-          qed 𝓛 (‵ (whole 𝓛 R b o t x) ∷ []) ∵ use1 𝓛 (‵ (Rest fixed 0 x)) (rests_fixed 𝓛 R b o t fact 0 x known) $ fpack ! (ψ x) (λ _. Rest fixed 0 x) is $ fpack ! R.Denot (Lie fixed ψ 0) x $ nothing ! $
-          use1 𝓛 (‵ (Got fixed ψ writes off (Some x))) (got_in fixed ψ writes off (Some x) None (refl, tt) is) $ move ! (1 ∷ 0 ∷ []) $ done !)
-      leaves_whole zero zero reads x none none' on known is = renewed 𝓛 R b o t x (⟦ St fixed ψ 1 0 ⟧ ∗ ⟦ Got fixed ψ writes reads (Some x) ⟧) (
-          qed 𝓛 (‵ (whole 𝓛 R b o t x) ∷ []) ∵ use1 𝓛 (‵ (Rest fixed 1 x)) (rests_fixed 𝓛 R b o t fact 1 x known) $
-          use1 𝓛 (given (fact true x) (‵ (St fixed ψ 2 0) ⊛ ‵ (reader R b o t fixed x))) (reads_on 0 x is) $ learn ! (λ again. split ! $ move ! (1 ∷ []) $
-          use1 𝓛 (‵ (Got fixed ψ writes reads (Some x))) (got_in fixed ψ writes reads (Some x) (Some x) (refl, tt) is) $ move ! (1 ∷ 0 ∷ []) $ done !))
-
-      fixed_comes : (r w : ℕ) (u : Use) → w ≡ 0 → ((x : R.Denot) → φ x → ψ x) → ((x : R.Denot) → ψ x → ⟦ Rest fixed r x ⟧ ⊢ ⟦ St fixed ψ (r + reading u) (w + writing u) ⟧ ∗ ⟦ Got fixed ψ off u None ⟧)
-          → ⟦ St fixed φ (r + 0) (w + 0) ⟧ ∗ ⟦ ftrue ⟧ ⊢ upd 𝓤 (⟦ St fixed ψ (r + reading u) (w + writing u) ⟧ ∗ ⟦ Got fixed ψ off u None ⟧)
-      fixed_comes r w u none owed to = let Z : SProp 𝓤 = ⟦ St fixed ψ (r + reading u) (w + writing u) ⟧ ∗ ⟦ Got fixed ψ off u None ⟧ in let none' : w + 0 ≡ 0 = omega (arith, none) in let same : r + 0 ≡ r = omega arith in
-          qed 𝓛 (‵ (St fixed φ (r + 0) (w + 0)) ∷ ‵ ftrue ∷ []) ∵ suffices ! Z (upd_i 𝓤 Z) $ rewrite ! 0 (λ (k : ℕ × ℕ). ‵ (St fixed φ k.0 k.1)) (λ i. (same i, none' i)) refl $ fpick ! (λ x. fpick ! (λ known.
-          use1 𝓛 (‵ (St fixed ψ (r + reading u) (w + writing u)) ⊛ ‵ (Got fixed ψ off u None)) (to x (owed x known)) $ split ! $ keep ! (0 ∷ 1 ∷ []) $ done !))
-
-      no_other : (r w : ℕ) → Limits fixed (r + 0) (w + 1) → (r ≡ 0) × (w ≡ 0)
-      no_other r w lim = let e : r + 0 ≡ 0 = lim.1 (omega arith) in let l : w + 1 ≤ 1 = lim.0 in (omega (arith, e), omega (arith, l))
-
-      -- a reader's piece is of the round that the readers before it left some of
-      reads_still : (r w : ℕ) (v : Option R.Denot) → Turns fixed r w reads reads v
-      reads_still r w None = unshown fixed r w reads reads (λ e. absurd cc)
-      reads_still r w (Some x) = λ lim going owed. let Z : SProp 𝓤 = ⟦ St fixed ψ (r + 1) (w + 0) ⟧ ∗ ⟦ Got fixed ψ reads reads (Some x) ⟧ in
-          let one : r + 1 ≡ suc r = omega arith in let none : w + 0 ≡ 0 = (let z = none_else reads fixed r w (λ e. absurd cc) lim in omega arith) in
-          qed 𝓛 (‵ (St fixed φ (r + 1) (w + 0)) ∷ ‵ (reader R b o t fixed x) ∷ []) ∵ suffices ! Z (upd_i 𝓤 Z) $ rewrite ! 0 (λ (k : ℕ × ℕ). ‵ (St fixed φ k.0 k.1)) (λ i. (one i, none i)) refl $
-          fpick ! (λ y. fpick ! (λ known. fpick ! (λ a. fsplit ! $ move ! (2 ∷ []) $ fpick ! (λ c. fsplit ! $ move ! (2 ∷ 0 ∷ []) $
-          use2 𝓛 (given (let s : Round R = (a, y) in let u : Round R = (c, x) in s ≡ u) (‵ (piece R fixed γ (a, y)) ⊛ ‵ (piece R fixed γ (c, x)))) (pieces_agree 𝓛 R γ fixed (a, y) (c, x)) $ learn ! (λ same. split ! $
-          move ! (1 ∷ 2 ∷ []) $ fjoin ! $ fpack ! ℕ (λ e. fsep (piece R fixed γ (e, x)) (shown R b o x (e ∷ t.life))) c $
-          move ! (1 ∷ 2 ∷ []) $ fjoin ! $ fpack ! ℕ (λ e. fsep (remains R fact γ (e, y) (suc r)) (shared R b o t (e, y))) a $
-          fpack ! (ψ y) (λ _. Rest fixed (suc r) y) (owed y known) $ fpack ! R.Denot (Lie fixed ψ (suc r)) y $
-          rewrite ! 0 (λ (k : ℕ × ℕ). ‵ (St fixed ψ k.0 k.1)) (λ i. (sym one i, sym none i)) refl $ move ! (1 ∷ []) $
-          use1 𝓛 (‵ (Got fixed ψ reads reads (Some x))) (got_in fixed ψ reads reads (Some x) (Some x) (refl, tt) (subst (λ (s : Round R). ψ s.1) same (owed y known))) $ move ! (1 ∷ 0 ∷ []) $ done !)))))
-
-      fixed_turns : (r w : ℕ) (u u' : Use) (v : Option R.Denot) → Turns fixed r w u u' v
-      fixed_turns r w off off v = rests fixed r w v
-      fixed_turns r w reads reads v = reads_still r w v
-      fixed_turns r w writes writes v = writes_on fixed r w v
-      fixed_turns r w off u (Some x) = λ lim going owed. via 𝓤 _ (snd∗ 𝓤 ⟦ St fixed φ (r + 0) (w + 0) ⟧ ⟦ Held off fixed (Some x) ⟧) (never_e 𝓤 _)
-      fixed_turns r w off reads None = λ lim going owed. let none = none_else reads fixed r w (λ e. absurd cc) going.2 in fixed_comes r w reads none owed (λ x is. comes_to_read r w x (let more : 0 < r + 0 = going.1 in omega (arith, more)) none is)
-      fixed_turns r w off writes None = λ lim going owed. let none = no_other r w going.2 in fixed_comes r w writes none.1 owed (λ x is. comes_to_write r w x none.0 none.1 is)
-      fixed_turns r w reads off v = λ lim going owed. absurd (let e : off ≡ reads = going.0 refl in cc)
-      fixed_turns r w reads writes v = λ lim going owed. absurd (let e : writes ≡ reads = going.0 refl in cc)
-      fixed_turns r w writes off None = λ lim going owed. via 𝓤 _ (snd∗ 𝓤 ⟦ St fixed φ (r + 0) (w + 1) ⟧ ⟦ Held writes fixed None ⟧) (never_e 𝓤 _)
-      fixed_turns r w writes reads None = λ lim going owed. via 𝓤 _ (snd∗ 𝓤 ⟦ St fixed φ (r + 0) (w + 1) ⟧ ⟦ Held writes fixed None ⟧) (never_e 𝓤 _)
-      fixed_turns r w writes off (Some x) = λ lim going owed. let none = no_other r w lim in leaves_whole r w off x none.0 none.1 (λ e. absurd cc) going.1 owed
-      fixed_turns r w writes reads (Some x) = λ lim going owed. let none = no_other r w lim in leaves_whole r w reads x none.0 none.1 (λ e. absurd cc) going.1 owed
-
-    pub turns : (way : Way R.Denot) (r w : ℕ) (u u' : Use) (v : Option R.Denot) → Turns way r w u u' v
-    turns alone r w = lent_turns alone r w tt
-    turns lends r w = lent_turns lends r w tt
-    turns (fixes fact) r w = fixed_turns fact r w
+    pub turns : (w : ℕ) (u u' : Use) (v : Option X) → Turns w u u' v
+    turns w writes writes None lim going owed = nobody writes way ⟦ St way φ r (suc w) ⟧ _ (λ e. absurd cc)
+    turns w writes writes (Some x) lim going owed = stays writes (St way φ r (suc w)) (Some x) (writes_so way x, tt)
+    turns (suc w) off off (Some x) lim going owed = via 𝓤 _ (snd∗ 𝓤 ⟦ St way φ r (suc w) ⟧ ⟦ ffalse ⟧) (never_e 𝓤 _)
+    turns (suc w) off off None lim going owed = stays off (St way φ r (suc w)) None (rests_so way, tt)
+    turns (suc w) off u' v lim going owed =
+        absurd (let e = none_else u' way r (suc w) (λ e. absurd cc) (going_rest way off u' v r going) in omega (arith, e))
+    turns (suc w) u u' v lim going owed = absurd (let e = none_else u way r (suc w) (λ e. absurd cc) lim in omega (arith, e))
+    turns zero u u' v lim going owed = passes u u' v (λ is e. absurd cc) lim going owed

@@ -1,5 +1,5 @@
 -- What a caller learns of a permit's view.
-use Rattle.std.proofs.Common.{◌≡◌, ℕ, zero, suc, ◌==◌, if◌then◌else◌, List, [], ◌∷◌, Option, Some, refl, arith}
+use Rattle.std.proofs.Common.{◌≡◌, ℕ, zero, suc, List, [], ◌∷◌, Option, Some, refl, arith}
 use Rattle.spin_core.specs.Cell.{Moved, Stands, after}
 
 module _ {V : Type 0} where
@@ -11,7 +11,3 @@ module _ {V : Type 0} where
   stands_after id v w [] at = absurd (cc (at))
   stands_after zero v w (x ∷ xs) at = refl
   stands_after (suc i) v w (x ∷ xs) at = stands_after i v w xs at
-
-  -- an exchange that found another number than it expected
-  pub missed : (view : Option V) (taken away : V) (found expected : ℕ) → Moved (λ v. v ≡ (if found == expected then taken else away)) view → (found ≡ expected → ⊥) → view ≡ Some away
-  missed view taken away found expected moved ne = grind arith

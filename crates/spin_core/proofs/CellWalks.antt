@@ -1,68 +1,15 @@
--- How each walk of a step begins and ends: a permit is opened for a step on its cell, and closed at its new view.
--- Assumes `Logic`.
+-- A permit becomes a write permit, and a write permit a permit. Assumes `Logic`.
 use Rattle.std.proofs.Common.{◌≡◌, sym, refl, ℕ, List, [], ◌∷◌, Option, Some, None}
 use seplogic.Ra.Ura.{Ura}
 use base.Stored.{Coded}
-use base.Logic.{SProp, ent, ex, guard, guard_i, ex_i, via, apply∗, never_e}
-use base.Fml.{Lft, Share, Incl, Incl-refl, Fml, fsep, fex, fbor, finv, flft}
-use base.Before.{before}
-use prog.Model.{Model}
+use base.Logic.{SProp, ent, ex, guard, never_e}
+use base.Fml.{Lft, Fml, fex}
 use types.Logic.{Logic, sem}
-use types.Kit.{‵, raw, ◌⊛◌, some, later, ◌$◌, ◌∵◌, !, qed, move, keep, drop, split, split3, fsplit, fjoin, fpick, fpack, pick, show, check, by, rewrite, use1, use2, use3, await, updating, now, done}
-use types.Na.{before_dup}
-use contract.Running.{Running}
-use contract.Shared.{Lends-one}
+use types.Kit.{‵, ◌$◌, ◌∵◌, !, qed, move, keep, fsplit, fjoin, fpick, fpack, show, check, by, rewrite, done}
 use denote.RattleType.{RattleType}
 use denote.RawPtr.{Ptr, block_ptr, null_ptr}
-use denote.Shares.{Shares}
-use Rattle.spin_core.specs.Cell.{Use, writes, Ways, use_of, Keeps}
-use Rattle.spin_core.specs.CellMemory.{Known, Id, right, inner, kept, permit_at, permit_owns, writer_at, writer_owns}
-use Rattle.spin_core.proofs.CellRounds.{held, readies, settles_down}
-use Rattle.spin_core.proofs.CellSteps.{Mine, moved}
-use Rattle.spin_core.proofs.Signs.{signs}
-
-module _ {M : Type 1} {𝓤 : Ura M} (𝓛 : Logic 𝓤) (𝓜 : Model 𝓤 𝓛.H) (𝓡 : Running 𝓤 𝓛.H 𝓜) (Y R : RattleType) (L : denote.RattleType.RowLaws R) {V : Type 0} (cv : Coded V) (S : RattleType) (holds : ℕ → S.Denot → List V → Type 0) (ways : Ways R.Denot V S.Denot) (β : Lft) (b o : ℕ) where
-  open 𝓛 use {H, A}
-  open (signs 𝓛) use {◌⊢◌, ◌∗◌, ◌-∗◌, ⟦◌⟧}
-
-  -- why the rule may share, the cell's names, and a share of its lifetime's token
-  abbrev pub Entry : Type 0
-  Entry = Known ways Y S R × (Id × Share)
-
-  abbrev pub J : Id → Fml
-  J t = fbor t.life (inner R b o t cv.code S holds ways)
-
-  abbrev pub Back : Share → Entry → SProp 𝓤
-  Back q k = A.lft k.1.0.life k.1.1 -∗ H.⇛ (A.lft β q)
-
-  abbrev pub mine : Option V → Option R.Denot → Entry → Fml
-  mine view v k = Mine 𝓛 R L b o k.1.0 cv S holds ways view v
-
-  abbrev pub Entered : Option V → Option R.Denot → Share → Lft → Share → Entry → SProp 𝓤
-  Entered view v q τ r k = ⟦ finv (J k.1.0) ⟧ ∗ A.lft k.1.0.life k.1.1 ∗ ⟦ mine view v k ⟧ ∗ ⟦ kept R b o k.1.0 cv.code S holds ways β ⟧ ∗ Back q k ∗ A.lft τ r
-
-  pub enters : (l : Lft) → Shares 𝓛 R l → (view : Option V) (v : Option R.Denot) (q : Share) (τ : Lft) (r : Share) → Incl τ l
-      → ⟦ permit_owns Y R cv.code S holds ways β (block_ptr b o) view v ⟧ ∗ A.lft β q ∗ A.lft τ r ⊢ H.⇛ (ex 𝓤 (Entered view v q τ r))
-  enters l shares view v q τ r le = qed 𝓛 (‵ (permit_owns Y R cv.code S holds ways β (block_ptr b o) view v) ∷ ‵ (flft β q) ∷ ‵ (flft τ r) ∷ []) ∵ updating ! $
-      fpick ! (λ known. fpick ! (λ t. fsplit ! $ fsplit ! $ use1 𝓛 (‵ (before β t.life) ⊛ ‵ (before β t.life)) (before_dup 𝓛 β t.life) $ split ! $ move ! (2 ∷ []) $
-      use1 𝓛 (‵ (finv (J t)) ⊛ ‵ (finv (J t))) (𝓛.invs.inv_dup (J t)) $ split ! $ move ! (2 ∷ 0 ∷ []) $ fjoin ! $ move ! (2 ∷ 4 ∷ []) $
-      use2 𝓛 (later (some (λ (s : Share). ‵ (flft t.life s) ⊛ raw (A.lft t.life s -∗ H.⇛ (A.lft β q))))) (Lends-one 𝓛 𝓜 𝓡 β t.life q) $ await ! tt $ pick ! (λ s. split ! $
-      move ! (4 ∷ []) $ fsplit ! $ move ! (1 ∷ 2 ∷ 6 ∷ []) $ use3 𝓛 (later (‵ (held 𝓛 R b o t (use_of ways.1 view) ways.0 v) ⊛ ‵ (flft t.life s) ⊛ ‵ (flft τ r)))
-      (readies 𝓛 R b o t l shares (use_of ways.1 view) ways.0 v t.life s τ r (Incl-refl t.life) le) $ await ! tt $ split3 ! $ move ! (3 ∷ 0 ∷ []) $ fjoin ! $
-      now ! $ show ! (Entered view v q τ r) (known, (t, s)) $ move ! (5 ∷ 1 ∷ 0 ∷ 4 ∷ 3 ∷ 2 ∷ []) $ done !)))
-
-  abbrev pub Left : Option V → (ℕ → V → Option R.Denot → Type 0) → ℕ → Option R.Denot → V × Option R.Denot → SProp 𝓤
-  Left view then n v s = guard 𝓤 (then n s.0 s.1 × Keeps ways view (Some s.0) v s.1) ⟦ permit_owns Y R cv.code S holds ways β (block_ptr b o) (Some s.0) s.1 ⟧
-
-  pub exits : (k : Entry) (view : Option V) (then : ℕ → V → Option R.Denot → Type 0) (n : ℕ) (v : Option R.Denot) (q : Share)
-      → ⟦ fsep (flft k.1.0.life k.1.1) (moved 𝓛 R L b o k.1.0 cv S holds ways view then n v) ⟧ ∗ ⟦ kept R b o k.1.0 cv.code S holds ways β ⟧ ∗ Back q k ⊢ H.⇛ (ex 𝓤 (Left view then n v) ∗ A.lft β q)
-  exits k view then n v q = let t : Id = k.1.0 in let Moved : Fml = moved 𝓛 R L b o t cv S holds ways view then n v in
-      qed 𝓛 (‵ (fsep (flft t.life k.1.1) Moved) ∷ ‵ (kept R b o t cv.code S holds ways β) ∷ raw (Back q k) ∷ []) ∵ updating ! $ fsplit ! $ move ! (0 ∷ 3 ∷ []) $
-      use2 𝓛 (later (‵ (flft β q))) (apply∗ 𝓤 (A.lft t.life k.1.1) (H.⇛ (A.lft β q))) $ await ! tt $ move ! (1 ∷ []) $ fpick ! (λ s. fsplit ! $ fpick ! (λ so. drop ! $ fsplit ! $ move ! (1 ∷ []) $
-      use1 𝓛 (later (‵ (right R b o t ways.0 (ways.1 s.0) s.1))) (settles_down 𝓛 R b o t (ways.1 s.0) ways.0 s.1) $ await ! tt $ move ! (1 ∷ 0 ∷ []) $ fjoin ! $ move ! (2 ∷ 0 ∷ []) $ fjoin ! $
-      fpack ! Id (permit_at Y R cv.code S holds ways β b o (Some s.0) s.1) t $ fpack ! (Known ways Y S R) (λ _. fex Id (permit_at Y R cv.code S holds ways β b o (Some s.0) s.1)) k.0 $
-      use1 𝓛 (raw (ex 𝓤 (Left view then n v))) (via 𝓤 (Left view then n v s) (guard_i 𝓤 (then n s.0 s.1 × Keeps ways view (Some s.0) v s.1) ⟦ permit_owns Y R cv.code S holds ways β (block_ptr b o) (Some s.0) s.1 ⟧ so) (ex_i 𝓤 (Left view then n v) s)) $
-      now ! $ keep ! (0 ∷ 1 ∷ []) $ done !))
+use Rattle.spin_core.specs.Cell.{Use, writes, Ways, use_of}
+use Rattle.spin_core.specs.CellMemory.{Known, Id, right, permit_at, permit_owns, writer_at, writer_owns}
 
 -- the view and the value exist, and are these
 abbrev pub Writes : {V X : Type 0} → Option V → Option X → V × X → Type 0

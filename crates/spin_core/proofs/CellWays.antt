@@ -1,6 +1,6 @@
 -- What a step needs besides the rule, part by part.
 use Rattle.std.proofs.Common.{◌≡◌, ℕ, zero, suc, ◌<◌, true, false, List, Option, Some, None, refl, arith}
-use Rattle.spin_core.specs.Cell.{Use, off, reads, writes, Way, fixes, Ways, Going, Frees, Limits, Fixed, Starts, readers_of, writers_of, Knowledge, no_fact, knows, IsKnown, Knowing, Freeing, Carries, Owed, Carrying, Learns}
+use Rattle.spin_core.specs.Cell.{Use, writes, Way, fixes, Ways, Going, Frees, Limits, Fixed, Starts, readers_of, writers_of, Knowledge, no_fact, knows, IsKnown, Knowing, Freeing, Carries, Owed, Carrying, Learns}
 use Rattle.spin_core.specs.Traced.{Learnt}
 use Rattle.spin_core.specs.declared.trace.Trace.{Trace}
 
@@ -22,12 +22,9 @@ module _ {X : Type 0} where
   -- if there is no fact, a step shows nothing
   carries_nothing : (u v : Use) (shown : Option X) → Carries (λ x. Unit {0}) (λ x. Unit {0}) u v shown
   carries_nothing writes writes shown = tt
-  carries_nothing writes off None = tt
-  carries_nothing writes reads None = tt
-  carries_nothing writes off (Some x) = tt
-  carries_nothing writes reads (Some x) = tt
-  carries_nothing off v shown = λ x known. tt
-  carries_nothing reads v shown = λ x known. tt
+  carries_nothing writes _ None = tt
+  carries_nothing writes _ (Some x) = tt
+  carries_nothing _ v shown = λ x known. tt
 
   -- ---- what is known of the value in addition
   module _ {S : Type 0} where

@@ -16,8 +16,6 @@ pub mod PermitFields
 pub mod WalkSteps
 pub mod WalkNames
 pub mod CellWalks
-pub mod CellStepWalks
-pub mod CellTraced
 pub mod CellWatchWalks
 pub mod CellTurns
 pub mod CellWays

@@ -10,7 +10,7 @@ use Rattle.spin_model.specs.declared.schedule.Move.{Move}
 use Rattle.spin_model.specs.declared.schedule.Outcome.{Outcome}
 use Rattle.spin_model.specs.Machines.{Machine}
 use Rattle.spin_model.specs.Schedules.{Entry, at_first}
-use Rattle.spin_core.specs.Run.{is_of_call, is_played, IsPlayed, outcomes}
+use Rattle.spin_core.specs.Run.{IsPlayed}
 use Rattle.spin_core.specs.Run as run
 use Rattle.spin_core.specs.Own.{Numbered, by_party, present_from, kind, entries_by, Rested, IsRun, MadeNone, what}
 use Rattle.spin_core.proofs.Runs.{around, set_seam, world}
@@ -44,11 +44,12 @@ split {X} k (Some u ∷ us) (x ∷ before) v behind e =
 abbrev Came : Type 0 → Type 0
 Came X = List (Option (X × ℕ))
 
-module _ {C V : Type 0} where
-  picked : (x : Entry C V) (ls rs ts : List (Entry C V)) → ls ≡ rs ++ ts → (b : Bool) → (if b then x ∷ ls else ls) ≡ (if b then x ∷ rs else rs) ++ ts
-  picked x ls rs ts e true = ap (λ l. x ∷ l) e
-  picked x ls rs ts e false = e
+-- one more in front, if it is picked
+pub picked : {X : Type 0} (x : X) (ls rs ts : List X) → ls ≡ rs ++ ts → (b : Bool) → (if b then x ∷ ls else ls) ≡ (if b then x ∷ rs else rs) ++ ts
+picked x ls rs ts e true = ap (λ l. x ∷ l) e
+picked x ls rs ts e false = e
 
+module _ {C V : Type 0} where
   pub by-append : (q : ℕ) (xs ys : List (Entry C V)) → entries_by q (xs ++ ys) ≡ entries_by q xs ++ entries_by q ys
   by-append q [] ys = refl
   by-append q (x ∷ xs) ys = picked x (entries_by q (xs ++ ys)) (entries_by q xs) (entries_by q ys) (by-append q xs ys) (x.0 == q)
@@ -113,108 +114,123 @@ module _ {W V C L A X S : Type 0} (m : Machine W V C L A) (seat_of : X → Seat 
   abbrev Leads : Schedule → W → Option V → List (Option X) → Type 0
   Leads = run.LeadsTo m seat_of words_of
 
-  number_is : (front : Came X) → length (map (run.sits m seat_of words_of) (map kind front)) ≡ length front
-  number_is front = length-map (map kind front) (run.sits m seat_of words_of) ∙ length-map front kind
-
-  same_entries : (front : Came X) (p : ℕ) (own : List (Move C V)) → p ≡ length front → by_party (length (map (run.sits m seat_of words_of) (map kind front))) own ≡ by_party p own
-  same_entries front p own is = ap (λ j. by_party j own) (number_is front ∙ sym is)
+  abbrev Run : Schedule → ℕ × S → List (Numbered X) → Type 0
+  Run = IsRun m seat_of words_of
 
   kinds : (front : Came X) (o : Option (X × ℕ)) (back : Came X) → map kind (front ++ o ∷ back) ≡ map kind front ++ kind o ∷ map kind back
   kinds front o back = map-append kind front (o ∷ back)
 
-  pub opens : (s : ℕ × S) → s ≡ words_of m.words → IsRun m seat_of words_of [] s []
+  pub opens : (s : ℕ × S) → s ≡ words_of m.words → Run [] s []
   opens s is = ([], m.words, m.value, refl, is, (λ more. ap (at_first m) (zero-add more)), (λ more. refl), λ q le. refl)
 
-  -- where the party's moves lead, whatever its place is
-  leads : (log : Schedule) (w : W) (value : Option V) (front : Came X) (o : Option (X × ℕ)) (back : Came X) (p : ℕ) (u : X) (mark : ℕ) (s : ℕ × S) (P : List (Move C V) → List (Outcome A V) → Type 0)
-      (moves : run.Goes m seat_of words_of (kind o) u w value s P) → p ≡ length front
-      → Leads log w value (map kind (front ++ o ∷ back)) → IsPlayed m (length (map kind (front ++ o ∷ back))) log
-      → let es = by_party p moves.0 in let there = front ++ Some (u, mark) ∷ back in
-      Leads (log ++ es) moves.5 moves.6 (map kind there) × IsPlayed m (length (map kind there)) (log ++ es) × run.AreOwn m moves.0 moves.1 log es
-  leads log w value front o back p u mark s P (own, outs, said, all, fine, w', now, alone, outs_are, become) is led played =
-      let fs = map kind front in let bs = map kind back in let e = same_entries front p own is in
-      let led' : Leads log w value (fs ++ kind o ∷ bs) = subst (Leads log w value) (kinds front o back) led in
-      let played' : IsPlayed m (length (fs ++ kind o ∷ bs)) log = subst (λ c. IsPlayed m (length c) log) (kinds front o back) played in
-      let on = runs.leads_on m seat_of words_of log w value fs (kind o) bs u own w' now all alone led' in
-      let on_played = runs.plays_on m seat_of words_of (log ++ runs.entries_at m seat_of words_of fs own) fs (kind o) (Some u) bs (runs.played_with m seat_of words_of log w value fs (kind o) bs own outs all outs_are fine led' played') in
-      let mine = runs.are_own m seat_of words_of log w value fs (kind o) bs own outs all outs_are fine led' played' in
-      let There : List (Option X) → Type 0 = λ c. Leads (log ++ runs.entries_at m seat_of words_of fs own) w' now c in
-      subst (λ l. Leads (log ++ l) w' now (map kind (front ++ Some (u, mark) ∷ back)) × IsPlayed m (length (map kind (front ++ Some (u, mark) ∷ back))) (log ++ l) × run.AreOwn m own outs log l) e
-      (subst There (sym (kinds front (Some (u, mark)) back)) on, subst (λ c. IsPlayed m (length c) (log ++ runs.entries_at m seat_of words_of fs own)) (sym (kinds front (Some (u, mark)) back)) on_played, mine)
+  -- A run in which a party with this view stands at a place of its own: at one that it had, or behind all others.
+  record Placed (view : Option (Numbered X)) (id : ℕ) (s : ℕ × S) (log : Schedule) (vs : List (Numbered X)) : Type 0 where
+    words : W
+    value : Option V
+    words_are : s ≡ words_of words
+    front : Came X
+    last : Option (X × ℕ)
+    back : Came X
+    number : ℕ
+    place : number ≡ 0 + length front
+    leads : Leads log words value (map kind front ++ what view ∷ map kind back)
+    played : IsPlayed m (length (map kind front ++ what view ∷ map kind back)) log
+    rested : Rested log 0 (front ++ last ∷ back)
+    made_none : MadeNone m seat_of words_of log number view
+    becomes : (u : X) (mark : ℕ) → views_after id view vs (u, number, mark) ≡ present_from 0 (front ++ Some (u, mark) ∷ back)
+
+  placed : (view : Option (Numbered X)) (id : ℕ) (s : ℕ × S) (log : Schedule) (vs : List (Numbered X)) → Run log s vs → Stands id view vs
+      → Placed view id s log vs
+  placed None id s log vs (came, w, value, is, s_is, led, played, rested) at =
+      let p : ℕ = length came in let last : p ≡ 0 + length came = sym (zero-add p) in record {
+        words = w;
+        value = value;
+        words_are = s_is;
+        front = came;
+        last = None;
+        back = [];
+        number = p;
+        place = last;
+        leads = runs.comes m seat_of words_of log w value (map kind came) led;
+        played = runs.plays_more m seat_of words_of log (map kind came) played;
+        rested = comes log 0 came rested;
+        made_none = nobody log 0 p came (let x : 0 + length came ≤ length came = omega arith in x) rested;
+        becomes = λ u mark. ap (λ xs. xs ++ (u, p, mark) ∷ []) is ∙ sym (present_from-append 0 p came (Some (u, mark) ∷ []) last);
+      }
+  placed (Some v) id s log vs (came, w, value, is, s_is, led, played, rested) at =
+      let (before, behind_it, vs_is, id_is) = around vs id v at in
+      let (front, back, came_is, front_is, place, back_is) = split 0 came before v behind_it (sym vs_is ∙ is) in
+      let last : Option (X × ℕ) = Some (v.0, v.2) in let there : Rested log 0 (front ++ last ∷ back) = subst (Rested log 0) came_is rested in
+      let are : map kind came ≡ map kind front ++ Some v.0 ∷ map kind back = ap (map kind) came_is ∙ kinds front last back in record {
+        words = w;
+        value = value;
+        words_are = s_is;
+        front = front;
+        last = last;
+        back = back;
+        number = v.1;
+        place = place;
+        leads = subst (Leads log w value) are led;
+        played = subst (λ c. IsPlayed m (length c) log) are played;
+        rested = there;
+        made_none = (refl, rested_at log 0 v.1 front (v.0, v.2) back place there);
+        becomes = λ u mark. let now : Numbered X = (u, v.1, mark) in
+            (λ i. slice_set (vs_is i) (id_is i) now) ∙ set_seam before v behind_it now ∙ (λ i. front_is i ++ now ∷ back_is i)
+            ∙ sym (present_from-append 0 v.1 front (Some (u, mark) ∷ back) place);
+      }
 
   -- the result of a step by which the party with this view gets the view u
   abbrev pub Comes : Option (Numbered X) → X → (List (Move C V) → List (Outcome A V) → Type 0) → ℕ → ℕ × S → Schedule → List (Numbered X) → Type 0
   Comes view u says id s log vs = (p : ℕ) × (own : List (Move C V)) × (outs : List (Outcome A V)) × (let es = by_party p own in
-      IsRun m seat_of words_of (log ++ es) s (views_after id view vs (u, p, length (log ++ es))) × MadeNone m seat_of words_of log p view × run.AreOwn m own outs log es × says own outs)
+      Run (log ++ es) s (views_after id view vs (u, p, length (log ++ es))) × MadeNone m seat_of words_of log p view × run.AreOwn m own outs log es
+      × says own outs)
 
-  pub step : (view : Option (Numbered X)) (to : ℕ × S → ℕ × S) (found : ℕ × S → ℕ) (tells : ℕ → X → Type 0) (says : List (Move C V) → List (Outcome A V) → ℕ → X → Type 0)
-      → run.AreMoves m seat_of words_of (what view) to found tells says
-      → (id : ℕ) (s : ℕ × S) (log : Schedule) (vs : List (Numbered X)) → IsRun m seat_of words_of log s vs → Stands id view vs → (u : X) → tells (found s) u
+  pub step : (view : Option (Numbered X)) (to : ℕ × S → ℕ × S) (found : ℕ × S → ℕ) (tells : ℕ → X → Type 0)
+      (says : List (Move C V) → List (Outcome A V) → ℕ → X → Type 0) → run.AreMoves m seat_of words_of (what view) to found tells says
+      → (id : ℕ) (s : ℕ × S) (log : Schedule) (vs : List (Numbered X)) → Run log s vs → Stands id view vs → (u : X) → tells (found s) u
       → Comes view u (λ own outs. says own outs (found s) u) id (to s) log vs
-  step None to found tells says moves id s log vs (came, w, value, is, s_is, led, played, rested) at u so =
-      let made_by = moves w value u (subst (λ z. tells (found z) u) s_is so) in let own = made_by.0 in
-      let p : ℕ = length came in let last : p ≡ 0 + length came = sym (zero-add p) in let es = by_party p own in let mark : ℕ = length (log ++ es) in
-      let here : Leads log w value (map kind (came ++ None ∷ [])) = subst (Leads log w value) (sym (kinds came None [])) (runs.comes m seat_of words_of log w value (map kind came) led) in
-      let plays : IsPlayed m (length (map kind (came ++ None ∷ []))) log = subst (λ c. IsPlayed m (length c) log) (sym (kinds came None [])) (runs.plays_more m seat_of words_of log (map kind came) played) in
-      let r = leads log w value came None [] p u mark (to (words_of w)) (λ own outs. says own outs (found (words_of w)) u) made_by refl here plays in (
-        p,
+  step view to found tells says moves id s log vs is at u so =
+      let z = placed view id s log vs is at in
+      let made_by = moves z.words z.value u (subst (λ y. tells (found y) u) z.words_are so) in let own = made_by.0 in
+      let mark : ℕ = length (log ++ by_party z.number own) in
+      let on = runs.goes m seat_of words_of log z.words z.value (map kind z.front) (map kind z.back) (what view) z.leads z.played
+      u (to (words_of z.words)) (λ own outs. says own outs (found (words_of z.words)) u) made_by z.number
+      (z.place ∙ zero-add (length z.front) ∙ sym (length-map z.front kind)) in
+      let now = sym (kinds z.front (Some (u, mark)) z.back) in (
+        z.number,
         own,
         made_by.1,
         (
           (
-            came ++ Some (u, mark) ∷ [],
+            z.front ++ Some (u, mark) ∷ z.back,
             made_by.5,
             made_by.6,
-            ap (λ xs. xs ++ (u, p, mark) ∷ []) is ∙ sym (present_from-append 0 p came (Some (u, mark) ∷ []) last),
-            ap to s_is ∙ sym made_by.9,
-            r.0,
-            r.1,
-            made log p own 0 came None u [] last (comes log 0 came rested),
+            z.becomes u mark,
+            ap to z.words_are ∙ sym made_by.9,
+            subst (Leads (log ++ by_party z.number own) made_by.5 made_by.6) now on.0,
+            subst (λ c. IsPlayed m (length c) (log ++ by_party z.number own)) now on.1,
+            made log z.number own 0 z.front z.last u z.back z.place z.rested,
           ),
-          nobody log 0 p came (let x : 0 + length came ≤ length came = omega arith in x) rested,
-          r.2,
-          subst (λ z. says own made_by.1 (found z) u) (sym s_is) made_by.2,
-        ),
-      )
-  step (Some v) to found tells says moves id s log vs (came, w, value, is, s_is, led, played, rested) at u so =
-      let made_by = moves w value u (subst (λ z. tells (found z) u) s_is so) in let own = made_by.0 in
-      let (before, after_it, vs_is, id_is) = around vs id v at in
-      let (front, back, came_is, front_is, p_is, back_is) = split 0 came before v after_it (sym vs_is ∙ is) in
-      let p : ℕ = v.1 in let es = by_party p own in let mark : ℕ = length (log ++ es) in let o : Option (X × ℕ) = Some (v.0, v.2) in
-      let there : Rested log 0 (front ++ o ∷ back) = subst (Rested log 0) came_is rested in
-      let r = leads log w value front o back p u mark (to (words_of w)) (λ own outs. says own outs (found (words_of w)) u) made_by (p_is ∙ zero-add (length front)) (subst (λ c. Leads log w value (map kind c)) came_is led) (subst (λ c. IsPlayed m (length (map kind c)) log) came_is played) in (
-        p,
-        own,
-        made_by.1,
-        (
-          (
-            front ++ Some (u, mark) ∷ back,
-            made_by.5,
-            made_by.6,
-            ap (λ xs. slice_set xs id (u, p, mark)) vs_is ∙ ap (λ j. slice_set (before ++ v ∷ after_it) j (u, p, mark)) id_is ∙ set_seam before v after_it (u, p, mark)
-                ∙ ap (λ xs. xs ++ (u, p, mark) ∷ after_it) front_is ∙ ap (λ xs. present_from 0 front ++ (u, p, mark) ∷ xs) back_is ∙ sym (present_from-append 0 p front (Some (u, mark) ∷ back) p_is),
-            ap to s_is ∙ sym made_by.9,
-            r.0,
-            r.1,
-            made log p own 0 front o u back p_is there,
-          ),
-          (refl, rested_at log 0 p front (v.0, v.2) back p_is there),
-          r.2,
-          subst (λ z. says own made_by.1 (found z) u) (sym s_is) made_by.2,
+          z.made_none,
+          on.2,
+          subst (λ y. says own made_by.1 (found y) u) (sym z.words_are) made_by.2,
         ),
       )
 
   -- an idle party may leave
-  pub leave : (v : Numbered X) → seat_of v.0 ≡ Idle → (s : ℕ × S) (log : Schedule) (before behind_it : List (Numbered X)) → IsRun m seat_of words_of log s (before ++ v ∷ behind_it) → IsRun m seat_of words_of log s (before ++ behind_it)
+  pub leave : (v : Numbered X) → seat_of v.0 ≡ Idle → (s : ℕ × S) (log : Schedule) (before behind_it : List (Numbered X))
+      → Run log s (before ++ v ∷ behind_it) → Run log s (before ++ behind_it)
   leave v idle s log before behind_it (came, w, value, is, s_is, led, played, rested) =
-      let (front, back, came_is, front_is, p_is, back_is) = split 0 came before v behind_it is in let o : Option (X × ℕ) = Some (v.0, v.2) in
-      let same : map kind came ≡ map kind front ++ kind o ∷ map kind back = ap (map kind) came_is ∙ kinds front o back in (
+      let (front, back, came_is, front_is, place, back_is) = split 0 came before v behind_it is in let last : Option (X × ℕ) = Some (v.0, v.2) in
+      let are : map kind came ≡ map kind front ++ Some v.0 ∷ map kind back = ap (map kind) came_is ∙ kinds front last back in
+      let led' = subst (Leads log w value) are led in let played' = subst (λ c. IsPlayed m (length c) log) are played in
+      let now = sym (kinds front None back) in let fs = map kind front in let bs = map kind back in (
         front ++ None ∷ back,
         w,
         value,
-        ap (λ xs. xs ++ behind_it) front_is ∙ ap (λ xs. present_from 0 front ++ xs) back_is ∙ sym (present_from-append 0 v.1 front (None ∷ back) p_is),
+        (λ i. front_is i ++ back_is i) ∙ sym (present_from-append 0 v.1 front (None ∷ back) place),
         s_is,
-        subst (Leads log w value) (sym (kinds front None back)) (runs.leaves m seat_of words_of log w value (map kind front) (map kind back) v.0 idle (subst (Leads log w value) same led)),
-        subst (λ c. IsPlayed m (length c) log) (sym (kinds front None back)) (runs.plays_on m seat_of words_of log (map kind front) (kind o) None (map kind back) (subst (λ c. IsPlayed m (length c) log) same played)),
+        subst (Leads log w value) now (runs.leaves m seat_of words_of log w value fs bs (Some v.0) led' played' idle),
+        subst (λ c. IsPlayed m (length c) log) now (runs.plays_on m seat_of words_of log w value fs bs (Some v.0) led' played' None),
         goes log 0 front (v.0, v.2) back (subst (Rested log 0) came_is rested),
       )

@@ -18,7 +18,8 @@ use Rattle.spin_core.specs.Passes.{mark_of, MayBe, IsNumber, Course, Nothing, Wa
 use Rattle.spin_core.specs.Cell.{Ways, Moved}
 use Rattle.spin_core.specs.Traced.{Watches, Named}
 use Rattle.spin_core.specs.declared.trace.Trace.{Trace}
-use Rattle.spin_core.proofs.Owns.{by-append}
+use Rattle.spin_model.proofs.Schedules.{after-append}
+use Rattle.spin_core.proofs.Owns.{picked, by-append}
 
 module _ {C V : Type 0} where
   nothing_known : (old : List (Entry C V)) → 0 ≡ length old → old ≡ []
@@ -33,17 +34,12 @@ module _ {W V C L A : Type 0} (m : Machine W V C L A) where
   abbrev Schedule : Type 0
   Schedule = List (Entry C V)
 
-  chosen : (o : Outcome A V) (ls rs ts : List (Outcome A V)) → ls ≡ rs ++ ts → (b : Bool) → (if b then o ∷ ls else ls) ≡ (if b then o ∷ rs else rs) ++ ts
-  chosen o ls rs ts e true = ap (λ l. o ∷ l) e
-  chosen o ls rs ts e false = e
-
   by-both : (p : ℕ) (s : State W V C L) (xs ys : Schedule) → outcomes_by m p s (xs ++ ys) ≡ outcomes_by m p s xs ++ outcomes_by m p (after m s xs) ys
   by-both p s [] ys = refl
-  by-both p s (x ∷ xs) ys = let h = happens m s x.0 x.1 in chosen h.outcome (outcomes_by m p h.next (xs ++ ys)) (outcomes_by m p h.next xs) (outcomes_by m p (after m h.next xs) ys) (by-both p h.next xs ys) (x.0 == p)
-
-  after-both : (s : State W V C L) (xs ys : Schedule) → after m s (xs ++ ys) ≡ after m (after m s xs) ys
-  after-both s [] ys = refl
-  after-both s (x ∷ xs) ys = after-both (happens m s x.0 x.1).next xs ys
+  by-both p s (x ∷ xs) ys =
+      let h = happens m s x.0 x.1 in
+      picked h.outcome (outcomes_by m p h.next (xs ++ ys)) (outcomes_by m p h.next xs) (outcomes_by m p (after m h.next xs) ys)
+      (by-both p h.next xs ys) (x.0 == p)
 
   -- entries of others have no outcomes for the party
   unasked : (p : ℕ) (s : State W V C L) (x : Entry C V) (xs : Schedule) (b : Bool) → (if b then x ∷ entries_by p xs else entries_by p xs) ≡ [] → (entries_by p xs ≡ [] → (s' : State W V C L) → outcomes_by m p s' xs ≡ [])
@@ -69,11 +65,14 @@ module _ {W V C L A : Type 0} (m : Machine W V C L A) where
     is' ∙ ap (λ l. l ++ more') is ∙ append_assoc a more more',
     by-append p more more' ∙ ap (λ l. l ++ entries_by p more') mine ∙ ap (λ l. by_party p own ++ l) mine' ∙ sym (map-append (λ move. (p, move)) own own'),
     (λ k. subst (λ n. list_all is_played (outcomes m (at_first m n) c) ≡ true) (let e : least' + (least + k) ≡ least + least' + k = omega arith in e) (played' (least + k))),
-    λ k. let s : State W V C L = after m (at_first m (least + least' + k)) a in
+    λ k. let start : State W V C L = at_first m (least + least' + k) in
         let one : least + (least' + k) ≡ least + least' + k = omega arith in let two : least' + (least + k) ≡ least + least' + k = omega arith in
-        by-both p s more more'
-        ∙ ap (λ l. l ++ outcomes_by m p (after m s more) more') (ap (λ n. outcomes_by m p (after m (at_first m n) a) more) (sym one) ∙ came (least' + k))
-        ∙ ap (λ l. outs ++ l) (ap (λ z. outcomes_by m p z more') (sym (after-both (at_first m (least + least' + k)) a more) ∙ ap (after m (at_first m (least + least' + k))) (sym is)) ∙ ap (λ n. outcomes_by m p (after m (at_first m n) b) more') (sym two) ∙ came' (least + k)),
+        let there : after m (after m start a) more ≡ after m start b = sym (after-append m start a more) ∙ ap (after m start) (sym is) in
+        by-both p (after m start a) more more'
+        ∙ ap (λ l. l ++ outcomes_by m p (after m (after m start a) more) more')
+        (ap (λ n. outcomes_by m p (after m (at_first m n) a) more) (sym one) ∙ came (least' + k))
+        ∙ ap (λ l. outs ++ l) (ap (λ z. outcomes_by m p z more') there
+        ∙ ap (λ n. outcomes_by m p (after m (at_first m n) b) more') (sym two) ∙ came' (least + k)),
   )
 
   module _ {X : Type 0} where
@@ -115,9 +114,11 @@ module _ {W V C L A : Type 0} (m : Machine W V C L A) where
               is ∙ ap (λ l. log ++ l) es_is ∙ ap (λ l. l ++ by_party p own) (sym here) ∙ append_assoc before.entries between (by_party p own),
               by-append p between (by_party p own) ∙ ap (λ l. l ++ entries_by p (by_party p own)) apart.1 ∙ own_of p own,
               subst (IsPlayed m least) (sym is) mine.3,
-              λ k. let s : State W V C L = after m (at_first m (least + k)) before.entries in
-                  by-both p s between (by_party p own) ∙ ap (λ l. l ++ outcomes_by m p (after m s between) (by_party p own)) (by-others p between apart.1 s) ∙ by-own p (after m s between) own
-                  ∙ ap (λ z. outcomes m z (by_party p own)) (sym (after-both (at_first m (least + k)) before.entries between) ∙ ap (after m (at_first m (least + k))) here) ∙ ap (outcomes m (after m (at_first m (least + k)) log)) (sym es_is) ∙ mine.4 k,
+              λ k. let start : State W V C L = at_first m (least + k) in let s : State W V C L = after m start before.entries in
+                  let there : after m s between ≡ after m start log = sym (after-append m start before.entries between) ∙ ap (after m start) here in
+                  by-both p s between (by_party p own) ∙ ap (λ l. l ++ outcomes_by m p (after m s between) (by_party p own)) (by-others p between apart.1 s)
+                  ∙ by-own p (after m s between) own ∙ ap (λ z. outcomes m z (by_party p own)) there
+                  ∙ ap (outcomes m (after m start log)) (sym es_is) ∙ mine.4 k,
             ),
             said,
           ),

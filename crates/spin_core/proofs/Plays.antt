@@ -4,11 +4,10 @@ use Rattle.std.proofs.Common.{◌≡◌, ℕ, ◌+◌, ◌-◌, ◌<◌, ◌≤�
 use mathlib.Core.Logic.{dite}
 use native.Mathlib.Decide.{ℕ_discrete}
 use prog.Atomic.{either}
-use Rattle.std.specs.Prelude.{◌≢◌}
 use Rattle.spin_step.specs.Plain.{Plain, Change, Kind, Ask, gets, releases, apply, is_open, fresh, ticket_limit}
 use Rattle.spin_step.specs.Steps.{Decides}
 use Rattle.spin_step.specs.Parties.{party_of, apply_some, IsOpenStep, entries_after, no_entries}
-use Rattle.spin_core.specs.Cell.{Use, Way, Ways, no_fact, Limits, Going, Meets, Allows, AllowsSecond, Moved, Rests, Stands, after, readers_of, writers_of, use_of, off, words}
+use Rattle.spin_core.specs.Cell.{Use, Way, Ways, no_fact, Limits, Going, Meets, Allows, AllowsSecond, Rests, Stands, after, readers_of, writers_of, use_of, off, words}
 use Rattle.spin_core.specs.Views.{Part, idle as nothing, holds, entries_of, Knows, HasPart, IsLockOf, Encodes}
 use Rattle.spin_step.specs.Orders.{IsInOrder}
 use Rattle.spin_core.specs.Plays.{becomes, exchanges}
@@ -17,7 +16,6 @@ use Rattle.spin_step.proofs.Holders.{is_holder-from_entries}
 use Rattle.spin_step.proofs.Sums.{sum_kinds, sum-less}
 use Rattle.spin_step.proofs.InOrder.{in_order-kept, in_order-fresh, cap-kept}
 use Rattle.spin_core.proofs.Views.{number, part_before, own_part, lock_after, release-own}
-use Rattle.spin_core.proofs.CellViews.{came_to}
 
 -- A lock over the cell: what each view is in the plain lock, and how it uses the value; the view of a party that has
 -- nothing; the first word; the second word or nothing; and that parties use the value together only if they may.
@@ -137,17 +135,6 @@ module _ {V S : Type 0} (lock : Lock V S) where
 
   pub idle_rests : (v : V) → v ≡ idle → Rests Holds uses (Some v)
   idle_rests v is = rw is (rests idle lock.is_idle.1 (λ p. ap (entries_of p) lock.is_idle.0))
-
-  pub left_rests : (view : Option V) → Moved (λ v. v ≡ idle) view → Rests Holds uses view
-  left_rests view moved = rw (came_to view idle moved) (idle_rests idle refl)
-
-  -- a party that found another number than it expected
-  pub missed_rests : (won v : V) (found expected : ℕ) → found ≢ expected → v ≡ (if found == expected then won else idle) → Rests Holds uses (Some v)
-  missed_rests won v found expected other is = idle_rests v (is ∙ ap (λ b. if b then won else idle) (ne_eqb found expected other))
-
-  pub refused_rests : (won : V) (view : Option V) (found expected : ℕ) → found ≢ expected → Moved (λ v. v ≡ (if found == expected then won else idle)) view → Rests Holds uses view
-  refused_rests won None found expected other moved = absurd moved
-  refused_rests won (Some v) found expected other moved = missed_rests won v found expected other moved
 
 -- For a lock of one word: a look, an exchange for what a party asks, and a subtraction by a holder
 module _ {V : Type 0} (lock : Lock V (Unit {0})) where

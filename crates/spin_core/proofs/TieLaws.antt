@@ -11,7 +11,6 @@ use denote.Struct.Laws.{unit-laws, unit-copy, usize-laws, usize-copy}
 use denote.Struct.Tuple.{Tuple, tuple_laws}
 use Rattle.spin_core.specs.contracts.trace.Watch as watch
 use Rattle.spin_core.specs.contracts.trace.Trace as trace
-use Rattle.spin_core.proofs.trace.Watch.TheLaws as watches
 use Rattle.spin_core.proofs.trace.Trace.TheLaws as traces
 use Rattle.spin_core.proofs.Sends.{entry, entry_over}
 use Rattle.spin_core.specs.contracts.tie.Opening as opening
@@ -35,20 +34,11 @@ numbered_laws V laws = tuple_laws (V ∷ usize ∷ usize ∷ []) (laws, (numbers
 abbrev pub entry_over_laws : (C V : RattleType) → Laws C → Laws V → Laws (entry_over C V)
 entry_over_laws C V laws values = tuple_laws (usize ∷ _ ∷ []) (numbers, (moves.the_row_laws C V laws values, tt))
 
-abbrev pub entry_laws : (C : RattleType) → Laws C → Laws (entry C)
-entry_laws C laws = entry_over_laws C unit laws units
-
 abbrev pub watched : RattleType → RattleType
 watched C = watch.the_row (entry C)
 
-abbrev pub watch_laws : (C : RattleType) → Laws C → Laws (watched C)
-watch_laws C laws = watches.the_row_laws (entry C) (entry_laws C laws)
-
 abbrev pub traced : RattleType → RattleType → RattleType
 traced C S = trace.the_row (entry C) S
-
-abbrev pub trace_laws : (C S : RattleType) → Laws C → Laws S → Laws (traced C S)
-trace_laws C S laws second = traces.the_row_laws (entry C) S (entry_laws C laws) second
 
 -- the same for a lock whose trace tells values of this row; and what is fixed when that lock is made
 abbrev pub opened : RattleType → RattleType

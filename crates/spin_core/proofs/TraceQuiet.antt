@@ -1,8 +1,8 @@
 -- A lock without a trace, on the steps that append: each appends nothing.
 use Rattle.std.proofs.Common.{ℕ, [], List, Option, Some, None, refl}
 use Rattle.spin_core.specs.declared.trace.Watch.{Watch}
-use Rattle.spin_core.specs.Cell.{Use, Way, Ways, no_fact, AllowsAt, AllowsSecondAt, Rests, Moved}
-use Rattle.spin_core.specs.Traced.{Traces, TracesSecond, Watches, Untraced, quiet}
+use Rattle.spin_core.specs.Cell.{Use, Way, Ways, no_fact, AllowsAt, Rests, Moved}
+use Rattle.spin_core.specs.Traced.{Traces, Watches, Untraced, quiet}
 
 module _ {V : Type 0} (E : Type 0) where
   module _ {X : Type 0} (way : Way X) (uses : V → Use) (view : Option V) (shown : Option X) (f : ℕ → ℕ) (then : ℕ → V → Type 0) where
@@ -11,9 +11,6 @@ module _ {V : Type 0} (E : Type 0) where
 
     pub quietly : {S : Type 0} (holds : ℕ → S → List V → Type 0) → AllowsAt holds ways view shown f then → Traces (Untraced {E = E} holds) ways view shown f (quiet then)
     quietly holds allows id n t vs meets at small = let r = allows id n t.word vs meets at small in (r.0, [], r.1, (refl, r.2))
-
-    pub quietly_second : (holds : ℕ → ℕ → List V → Type 0) → AllowsSecondAt holds ways view shown f then → TracesSecond (Untraced {E = E} holds) ways view shown f (quiet then)
-    quietly_second holds allows id n t vs meets at small = let r = allows id n t.word vs meets at small in (r.0, [], r.1, (refl, r.2))
 
   pub rests : {S : Type 0} (holds : ℕ → S → List V → Type 0) (uses : V → Use) (view : Option V) → Rests holds uses view → Rests (Untraced {E = E} holds) uses view
   rests holds uses None r = tt

@@ -1,33 +1,29 @@
 -- Steps keep what is known of the value. Moves that write nothing keep it, and a holder writes the value that it
 -- leaves.
-use Rattle.std.proofs.Common.{◌≡◌, ℕ, zero, suc, Bool, true, false, Option, Some, None, List, [], ◌∷◌, ◌++◌, refl, sym, ap, ◌∙◌, subst}
+use Rattle.std.proofs.Common.{◌≡◌, ℕ, Bool, true, false, Option, Some, None, List, [], ◌∷◌, ◌++◌, refl, sym, ap, ◌∙◌, subst}
 use Rattle.std.specs.Option.{IfSome}
 use Rattle.spin_model.specs.declared.schedule.Move.{Move}
 use Rattle.spin_model.specs.declared.schedule.Outcome.{Outcome}
 use Rattle.spin_model.specs.Schedules.{Entry}
-use Rattle.spin_core.specs.Cell.{Use, off, reads, writes, Way, Owed, Learns, Shows, Knowing, Freeing, Fixed, readers_of, writers_of, Lends}
+use Rattle.spin_core.specs.Cell.{Use, off, reads, writes, Owed, Learns, Shows}
 use Rattle.spin_core.specs.Own.{by_party}
 use Rattle.spin_core.specs.Passes.{IsStep, Writes}
 use Rattle.spin_core.specs.Traced.{Learnt, grown_at}
-use Rattle.spin_core.specs.Values.{written, left, latest, IsLast, last, Leaves, untold}
+use Rattle.spin_core.specs.Values.{written, left, latest, IsLast, last, Leaves}
 use Rattle.spin_core.specs.declared.tie.Opening.{Opening}
 use Rattle.spin_core.specs.declared.trace.Trace.{Trace}
 
 some_none : {V : Type 0} (x : V) → Some x ≡ None → ⊥
 some_none x e = absurd cc
 
--- what a step tells of the value that it shows after, where its party comes to use it or reads on: also one that wrote before
+-- what a step tells of the value that it shows after, where its party comes to use it or reads on: also one that wrote
+-- before
 tells : {V : Type 0} (ψ : V → Type 0) (u u' : Use) (before after : Option V) → (u ≡ writes → u' ≡ reads) → Shows u' before after → Learns ψ u u' before after → IfSome after ψ
-tells ψ writes off before after so shows learns = absurd (let e : off ≡ reads = so refl in cc)
-tells ψ writes writes before after so shows learns = absurd (let e : writes ≡ reads = so refl in cc)
-tells ψ writes reads before None so shows learns = tt
+tells ψ u u' before None so shows learns = tt
 tells ψ writes reads before (Some x) so shows learns = learns
-tells ψ off u' before None so shows learns = tt
-tells ψ off u' before (Some x) so shows learns = learns
-tells ψ reads u' before None so shows learns = tt
+tells ψ writes u' before (Some x) so shows learns = absurd (let e : u' ≡ reads = so refl in cc)
 tells ψ reads off before (Some x) so shows learns = absurd (some_none x shows)
-tells ψ reads reads before (Some x) so shows learns = learns
-tells ψ reads writes before (Some x) so shows learns = learns
+tells ψ _ u' before (Some x) so shows learns = learns
 
 -- and of the value that a reader leaves
 leaves_told : {V : Type 0} (ψ : V → Type 0) (before after : Option V) → Learns ψ reads off before after → IfSome before ψ
@@ -69,12 +65,9 @@ module _ {C V : Type 0} where
       -- what such moves must show
       pub owed : (u u' : Use) (shown : Option V) → Leaves u u' shown own → Owed (last opening) t (grown_at t word (by_party p own)) u u' shown
       owed writes writes shown l = tt
-      owed writes off None l = tt
-      owed writes reads None l = tt
-      owed writes off (Some x) l = leaves x l
-      owed writes reads (Some x) l = leaves x l
-      owed off u' shown l = keeps l
-      owed reads u' shown l = keeps l
+      owed writes _ None l = tt
+      owed writes _ (Some x) l = leaves x l
+      owed _ u' shown l = keeps l
 
     -- a lock opens with the value that is in it
     pub opens_last : (es : List (Entry C V)) (x : V) → es ≡ [] → opening.value ≡ x → IsLast opening es x
@@ -108,15 +101,3 @@ module _ {C V : Type 0} where
     -- what is read later was written since, or was there before
     pub read_on : (old new more : List (Entry C V)) (x y : V) → opening.told ≡ true → new ≡ old ++ more → IsLast opening old x → IsLast opening new y → latest x more ≡ y
     read_on old new more x y told grew is is' = ap (λ z. latest z more) (sym (is told)) ∙ sym (latest-append opening.value old more) ∙ ap (latest opening.value) (sym grew) ∙ is' told
-
-    -- the owner may borrow the value; from then on nothing is known of it
-    module _ {S X : Type 0} (holds : ℕ → Trace (Entry C V) S → List X → Type 0) (way : Way V) (f : X → Use) where
-      less : (w : ℕ) (t : Trace (Entry C V) S) (x : V) (A : Type 0) → Knowing (last opening) t w x A → Knowing (last (untold opening)) t w x A
-      less zero t x A known = ((λ e. absurd (let no : false ≡ true = e in cc (no))), known.1)
-      less (suc w) t x A known = known
-
-      pub lends : Lends holds (way, f, last opening) holds (way, f, last (untold opening))
-      lends = ((λ shared. shared), (λ v. refl), λ n t x starts. (starts.0, starts.1, less (writers_of f starts.0) t x (Fixed way (readers_of f starts.0) (writers_of f starts.0) x) starts.2))
-
-    pub frees : {S A : Type 0} → A → Freeing {S = Trace (Entry C V) S} (last (untold opening)) A
-    frees a = ((λ t x e. absurd (let no : false ≡ true = e in cc (no))), a)

@@ -1,12 +1,15 @@
--- Rules that the walks share, in addition to the toolchain's: how to state a fact, and that what somebody owns is in a
--- block. Assumes `Logic`.
-use Rattle.std.proofs.Common.{◌≡◌, List, ◌∷◌, refl}
+-- Rules that the walks share, in addition to the toolchain's: how to state a fact, that what somebody owns is in a
+-- block, and tokens and facts that a walk does not use. Assumes `Logic`.
+use Rattle.std.proofs.Common.{◌≡◌, ℕ, zero, suc, List, [], ◌∷◌, refl}
 use seplogic.Ra.Ura.{Ura}
-use base.Logic.{emp, never_e}
-use base.Fml.{Fml, ffalse, ftrue}
+use base.Logic.{SProp, ent, sep, emp, never_e, id⊢, via, snd∗}
+use base.Fml.{Lft, Share, Fml, ffalse, ftrue, fsep, flft}
 use contract.Monad.{fact, fact_i}
 use types.Logic.{Logic}
 use types.Kit.{Goal, Seq, Step, Item, ‵, raw, given, ◌$◌, learn, rewrite, use0, use1}
+use denote.Signature.{Slot}
+use denote.Triple.End.{Kepts}
+use denote.Triple.Walked.{Stays, Silent, AllGo, stay_dropped, Goes-dropped}
 use denote.RawPtr.{Ptr, InBlock, block_ptr, null_ptr, block_of, count_of}
 
 module _ {M : Type 1} {𝓤 : Ura M} {𝓛 : Logic 𝓤} {K : Type 0} {Γ : List (Item 𝓤)} {G : Goal 𝓤 𝓛.H} where
@@ -22,3 +25,41 @@ module _ {M : Type 1} {𝓤 : Ura M} {𝓛 : Logic 𝓤} {K : Type 0} {Γ : List
       → Seq K 𝓛 (‵ (F p) ∷ Γ) G
   lies_at t F never (block_ptr b o) go = go tt
   lies_at t F never null_ptr go = lies t F never null_ptr (λ no. absurd no)
+
+-- the tokens of lifetimes that a step does not use
+abbrev pub Many : Type 0 → ℕ → Type 0
+Many X zero = Unit {0}
+Many X (suc n) = X × Many X n
+
+abbrev pub others : (n : ℕ) → Many Lft n → Many Share n → Fml
+others zero κs qs = ftrue
+others (suc n) κs qs = fsep (flft κs.0 qs.0) (others n κs.1 qs.1)
+
+-- facts that a walk does not use, and a last one
+abbrev pub Facts : ℕ → Type 1
+Facts zero = Unit {1}
+Facts (suc n) = Type 0 × Facts n
+
+module _ {M : Type 1} (𝓤 : Ura M) (φ : Type 0) where
+  abbrev pub after_facts : (n : ℕ) → Facts n → SProp 𝓤
+  after_facts zero φs = fact 𝓤 φ
+  after_facts (suc n) φs = sep 𝓤 (fact 𝓤 φs.0) (after_facts n φs.1)
+
+  pub last_fact : (n : ℕ) (φs : Facts n) → ent 𝓤 (after_facts n φs) (fact 𝓤 φ)
+  last_fact zero φs = id⊢ 𝓤 (fact 𝓤 φ)
+  last_fact (suc n) φs = via 𝓤 (after_facts n φs.1) (snd∗ 𝓤 (fact 𝓤 φs.0) (after_facts n φs.1)) (last_fact n φs.1)
+
+-- A function that keeps nothing of its arguments: of each, the contract says nothing at the exit.
+module _ {n : ℕ} where
+  abbrev pub all_dropped : (ss : List (Slot n)) (ks : Kepts ss) → Stays ss ks
+  all_dropped [] ks = tt
+  all_dropped (s ∷ ss) ks = (stay_dropped s ks.0, all_dropped ss ks.1)
+
+  module _ {M : Type 1} {𝓤 : Ura M} (𝓛 : Logic 𝓤) where
+    abbrev pub AllSilent : (ss : List (Slot n)) → Kepts ss → Type 1
+    AllSilent [] ks = Unit {1}
+    AllSilent (s ∷ ss) ks = Silent 𝓛 n s ks.0 × AllSilent ss ks.1
+
+    pub all_go : (ss : List (Slot n)) (ks : Kepts ss) → AllSilent ss ks → AllGo 𝓛 n ss ks (all_dropped ss ks)
+    all_go [] ks silent = tt
+    all_go (s ∷ ss) ks silent = (Goes-dropped 𝓛 n s ks.0 silent.0, all_go ss ks.1 silent.1)

@@ -5,7 +5,7 @@ use mir.Syntax.{Ty}
 use base.Share
 use base.Fraction.{full_share}
 use base.Stored.{Gv, gnum}
-use base.Logic.{SProp, ex, emp, all_e, upd, upd_i, via, apply∗, id⊢}
+use base.Logic.{SProp, ex, guard, emp, all_e, upd, upd_i, via, apply∗, id⊢}
 use base.Fml.{Lft, GName, Share, Incl, Fml, ftrue, fsep, fseps, fex, fwand, fupd, fdead, fauth, fobs, fbor, flft, finv, Incl-refl, Incl-trans}
 use base.Before.{before}
 use contract.BorrowLft.{meet_⊑_left}
@@ -13,7 +13,7 @@ use ghost.Rules.{Toks, span}
 use types.Logic.{Logic, lfts}
 use types.SemTy.{Body}
 use types.Keyed.{entries_new}
-use types.Kit.{‵, raw, ◌⊛◌, some, later, ◌$◌, ◌∵◌, !, qed, by, move, keep, drop, use0, use1, use2, use3, split, split3, join, fsplit, fsplit3, fjoin, fjoin3, fpick, fpack, pick, assume, suffices, await, group, updating, now, done}
+use types.Kit.{‵, raw, ◌⊛◌, some, given, learn, check, later, ◌$◌, ◌∵◌, !, qed, by, move, keep, drop, use0, use1, use2, use3, split, split3, join, fsplit, fsplit3, fjoin, fjoin3, fpick, fpack, pick, assume, suffices, await, group, updating, now, done}
 use types.Tokens.{bor_open, obor_alter, name_new, name_agree, one_token}
 use types.Na.{before-Incl}
 use types.Owned.{basic, own_new}
@@ -32,7 +32,7 @@ use denote.Struct.Lending.{Law}
 use Rattle.core.proofs.cell.Borrows.{by_one}
 use Rattle.atomic_table.specs.Seated.{halved}
 use Rattle.spin_core.specs.Cell.{Way, alone, lends, fixes, Ways, writes, Limits, Fixed, Meets, readers_of, writers_of, IsKnown, Knowing}
-use Rattle.spin_core.specs.CellMemory.{offset, second_at, Known, Id, unused, roster, tag, idle, tracked, resting, lying, state, core, core_at, standing, inner, kept, cell_shares}
+use Rattle.spin_core.specs.CellMemory.{offset, second_at, Known, Id, unused, roster, tag, idle, tracked, resting, lying, state, core_at, standing, inner, kept, cell_shares}
 use Rattle.spin_core.specs.declared.cell.Rule.{Ghosts}
 use Rattle.spin_core.specs.contracts.cell.Cell as C
 use Rattle.spin_core.proofs.CellFields.{All, Rule, Written, written_out, written_in, standing_words, At, Joins, fields_out}
@@ -75,6 +75,9 @@ module _ {M : Type 1} {𝓤 : Ura M} (𝓛 : Logic 𝓤) (m ms : Member) (V Y K 
   abbrev Both : ℕ × S.Denot → Fml
   Both = standing_words 𝓛 m ms V Y K g key b o
 
+  abbrev Lies : R.Denot → Fml
+  Lies = At 𝓛 m ms V Y K g key b o
+
   abbrev Starting : ℕ × S.Denot × R.Denot → Type 0
   Starting = Rule 𝓛 m ms V Y K g key b o
 
@@ -86,8 +89,17 @@ module _ {M : Type 1} {𝓤 : Ura M} (𝓛 : Logic 𝓤) (m ms : Member) (V Y K 
   abbrev IsFound : S.Denot → Way R.Denot → GName → ℕ → ℕ → Fml
   IsFound k way' ν r w = fex (Option R.Denot) (found k way' ν r w)
 
+  abbrev read : List V.Denot → ℕ
+  read vs = readers_of ways.1 vs
+
+  abbrev wrote : List V.Denot → ℕ
+  wrote vs = writers_of ways.1 vs
+
+  abbrev Met : ℕ × S.Denot → List V.Denot → Type 0
+  Met s vs = Meets (g.holds key) ways s.0 s.1 vs
+
   abbrev views_at : GName → ℕ × S.Denot → List V.Denot → Fml
-  views_at ν s vs = fsep (fact (Meets (g.holds key) ways s.0 s.1 vs)) (IsFound s.1 way ν (readers_of ways.1 vs) (writers_of ways.1 vs))
+  views_at ν s vs = fsep (fact (Met s vs)) (IsFound s.1 way ν (read vs) (wrote vs))
 
   abbrev standing_at : GName → ℕ × S.Denot → Fml
   standing_at ν s = fsep (word b (o + 0) s.0) (fsep (part_at S full_share s.1 b (o + second_at S R)) (fex (List V.Denot) (views_at ν s)))
@@ -105,33 +117,34 @@ module _ {M : Type 1} {𝓤 : Ura M} (𝓛 : Logic 𝓤) (m ms : Member) (V Y K 
   Two = fex Sure (λ _. fex GName two)
 
   -- ---- the borrow of the cell becomes one of the words and one of the value
-  starts : (ν : GName) (s : ℕ × S.Denot) (vs : List V.Denot) (x : R.Denot) (v : Option R.Denot) → Meets (g.holds key) ways s.0 s.1 vs
-      → ⟦ found s.1 way ν (readers_of ways.1 vs) (writers_of ways.1 vs) v ⟧ ∗ A.auth ν (R.coded.code x) ⊢ ⟦ fact (Starting (s.0, s.1, x)) ⟧
-  starts ν s vs x None meets = let w = writers_of ways.1 vs in qed 𝓛 (‵ (fact (0 < w)) ∷ ‵ (fauth ν (R.coded.code x)) ∷ []) ∵ fpick ! (λ writes. drop ! $
+  starts : (ν : GName) (s : ℕ × S.Denot) (vs : List V.Denot) (x : R.Denot) (v : Option R.Denot) → Met s vs
+      → ⟦ found s.1 way ν (read vs) (wrote vs) v ⟧ ∗ A.auth ν (R.coded.code x) ⊢ ⟦ fact (Starting (s.0, s.1, x)) ⟧
+  starts ν s vs x None meets = let w = wrote vs in qed 𝓛 (‵ (fact (0 < w)) ∷ ‵ (fauth ν (R.coded.code x)) ∷ []) ∵ fpick ! (λ writes. drop ! $
       drop ! $ nothing ! $
-      fpack ! (Starting (s.0, s.1, x)) (λ _. ftrue) (vs, meets, knowing_none ways.2 s.1 w x writes (unknown way (readers_of ways.1 vs) w x meets.1 writes)) $ done !)
-  starts ν s vs x (Some y) meets = let r = readers_of ways.1 vs in let w = writers_of ways.1 vs in
+      fpack ! (Starting (s.0, s.1, x)) (λ _. ftrue) (vs, meets, knowing_none ways.2 s.1 w x writes (unknown way (read vs) w x meets.1 writes)) $ done !)
+  starts ν s vs x (Some y) meets = let r = read vs in let w = wrote vs in
       qed 𝓛 (‵ (found s.1 way ν r w (Some y)) ∷ ‵ (fauth ν (R.coded.code x)) ∷ []) ∵ fsplit ! $ move ! (1 ∷ []) $ fpick ! (λ known. drop ! $ name_agree ! R.coded (λ same. drop ! $ drop ! $ nothing ! $
       fpack ! (Starting (s.0, s.1, x)) (λ _. ftrue) (vs, meets, subst (λ (z : R.Denot). Knowing ways.2 s.1 w z (Fixed way r w z)) same known) $ done !))
 
   way_back : (ν : GName) → Back ⊢ ⟦ fwand (fsep (fdead κ) (fseps (Words ν ∷ Named ν ∷ []))) (fupd P) ⟧
   unfolding fseps
-  way_back ν = let J : ℕ × S.Denot × R.Denot → SProp 𝓤 = λ s. (⟦ Both (s.0, s.1) ⟧ ∗ ⟦ At 𝓛 m ms V Y K g key b o s.2 ⟧ ∗ ⟦ fact (Starting s) ⟧) -∗ ⟦ P ⟧ in
+  way_back ν = let J : ℕ × S.Denot × R.Denot → SProp 𝓤 = λ s. (⟦ Both (s.0, s.1) ⟧ ∗ ⟦ Lies s.2 ⟧ ∗ ⟦ fact (Starting s) ⟧) -∗ ⟦ P ⟧ in
       qed 𝓛 (raw Back ∷ []) ∵ assume ! (‵ (fsep (fdead κ) (fseps (Words ν ∷ Named ν ∷ [])))) $ suffices ! ⟦ P ⟧ (upd_i 𝓤 ⟦ P ⟧) $
       fsplit ! $ drop ! $ fsplit3 ! $ fpick ! (λ s. move ! (1 ∷ []) $ fpick ! (λ x. fsplit ! $ keep ! (2 ∷ 0 ∷ 1 ∷ 4 ∷ []) $ fsplit3 ! $ move ! (2 ∷ []) $ fpick ! (λ vs. fsplit ! $ fpick ! (λ meets. drop ! $ fpick ! (λ v.
       -- [what was found; the words; the value, under its name; the way back]
       let t : ℕ × S.Denot × R.Denot = (s.0, s.1, x) in move ! (0 ∷ 4 ∷ []) $ use2 𝓛 (‵ (fact (Starting t))) (starts ν s vs x v meets) $ move ! (1 ∷ 2 ∷ []) $ fjoin ! $ move ! (2 ∷ 1 ∷ []) $ join ! $ move ! (1 ∷ 0 ∷ []) $ join ! $ move ! (1 ∷ []) $
-      use1 𝓛 (raw (J t)) (all_e 𝓤 J t) $ move ! (1 ∷ 0 ∷ []) $ by ! (apply∗ 𝓤 (⟦ Both s ⟧ ∗ ⟦ At 𝓛 m ms V Y K g key b o x ⟧ ∗ ⟦ fact (Starting t) ⟧) ⟦ P ⟧))))))
+      use1 𝓛 (raw (J t)) (all_e 𝓤 J t) $ move ! (1 ∷ 0 ∷ []) $ by ! (apply∗ 𝓤 (⟦ Both s ⟧ ∗ ⟦ Lies x ⟧ ∗ ⟦ fact (Starting t) ⟧) ⟦ P ⟧))))))
 
   cut : (q : Share) → A.bor κ P ∗ A.lft κ q ⊢ H.⇛ (⟦ Two ⟧ ∗ A.lft κ q)
   unfolding fseps
   cut q = qed 𝓛 (‵ (fbor κ P) ∷ ‵ (flft κ q) ∷ []) ∵ updating ! $ bor_open ! tt $ move ! (1 ∷ []) $
-      use1 𝓛 (some (λ (z : Sure × All 𝓛 m ms V Y K g key b o). ‵ (Both (z.1.0, z.1.1)) ⊛ ‵ (At 𝓛 m ms V Y K g key b o z.1.2) ⊛ ‵ (fact (Starting z.1)) ⊛ raw Back)) (fields_out 𝓛 m ms V Y K g key b o L LS P (written_out 𝓛 m ms V Y K g key b o) (written_in 𝓛 m ms V Y K g key b o)) $
+      use1 𝓛 (some (λ (z : Sure × All 𝓛 m ms V Y K g key b o). ‵ (Both (z.1.0, z.1.1)) ⊛ ‵ (Lies z.1.2) ⊛ ‵ (fact (Starting z.1)) ⊛ raw Back))
+      (fields_out 𝓛 m ms V Y K g key b o L LS P (written_out 𝓛 m ms V Y K g key b o) (written_in 𝓛 m ms V Y K g key b o)) $
       pick ! (λ z. let x = z.1.2 in let s : ℕ × S.Denot = (z.1.0, z.1.1) in split ! $ move ! (1 ∷ []) $ split3 ! $ move ! (1 ∷ []) $ fpick ! (λ rule. drop ! $
-      let vs = rule.0 in let r = readers_of ways.1 vs in let w = writers_of ways.1 vs in
-      name_new ! tt (R.coded.code x) (λ ν. move ! (2 ∷ 1 ∷ []) $ fjoin ! $ fpack ! R.Denot (λ y. fsep (At 𝓛 m ms V Y K g key b o y) (fauth ν (R.coded.code y))) x $
+      let vs = rule.0 in let r = read vs in let w = wrote vs in
+      name_new ! tt (R.coded.code x) (λ ν. move ! (2 ∷ 1 ∷ []) $ fjoin ! $ fpack ! R.Denot (λ y. fsep (Lies y) (fauth ν (R.coded.code y))) x $
       nothing ! $ fpack ! (Knowing ways.2 s.1 w x (Fixed way r w x)) (λ _. ftrue) rule.2 $ move ! (2 ∷ 0 ∷ []) $ fjoin ! $ fpack ! (Option R.Denot) (found s.1 way ν r w) (Some x) $
-      nothing ! $ fpack ! (Meets (g.holds key) ways s.0 s.1 vs) (λ _. ftrue) rule.1 $ fjoin ! $ fpack ! (List V.Denot) (views_at ν s) vs $
+      nothing ! $ fpack ! (Met s vs) (λ _. ftrue) rule.1 $ fjoin ! $ fpack ! (List V.Denot) (views_at ν s) vs $
       -- [the views; the value; the way back; the words; the open borrow]
       move ! (3 ∷ []) $ fsplit ! $ move ! (0 ∷ 1 ∷ 2 ∷ []) $ fjoin3 ! $ fpack ! (ℕ × S.Denot) (standing_at ν) s $ nothing ! $ move ! (1 ∷ 2 ∷ 0 ∷ []) $ fjoin3 ! $ move ! (1 ∷ []) $
       use1 𝓛 (‵ (fwand (fsep (fdead κ) (fseps (Words ν ∷ Named ν ∷ []))) (fupd P))) (way_back ν) $
@@ -170,38 +183,42 @@ module _ {M : Type 1} {𝓤 : Ura M} (𝓛 : Logic 𝓤) (m ms : Member) (V Y K 
     begins k w r (suc n) x lim known = qed 𝓛 (‵ (idle γ) ∷ ‵ (Ready w x) ∷ []) ∵ keep ! (0 ∷ []) $ use1 𝓛 (‵ (St w (φ k) r (suc n))) (away k w r (suc n) (omega arith)) $ by ! (upd_i 𝓤 ⟦ St w (φ k) r (suc n) ⟧)
 
     -- ---- what is found of the value in each state
-    kept_found : (k : S.Denot) (w : Way R.Denot) (r : ℕ) (x : R.Denot) → φ k x → Fixed w r 0 x → A.obs ν (R.coded.code x) ⊢ ⟦ IsFound k w ν r 0 ⟧
-    kept_found k w r x is known = qed 𝓛 (‵ (fobs ν (R.coded.code x)) ∷ []) ∵ nothing ! $ fpack ! (Knowing ways.2 k 0 x (Fixed w r 0 x)) (λ _. ftrue) (knowing_at ways.2 k x is known) $ move ! (1 ∷ 0 ∷ []) $ fjoin ! $
-        fpack ! (Option R.Denot) (found k w ν r 0) (Some x) $ done !
+    named_at : (w : Way R.Denot) (r : ℕ) (x : R.Denot) → ⟦ resting R b o t w r x ⟧ ⊢ guard 𝓤 (Fixed w r 0 x) (A.obs ν (R.coded.code x))
+    named_at alone r x = qed 𝓛 (‵ (tracked R b o t x) ∷ []) ∵ check ! tt $ fsplit ! $ keep ! (0 ∷ []) $ done !
+    named_at lends r x = qed 𝓛 (‵ (resting R b o t lends r x) ∷ []) ∵ check ! tt $
+        fpick ! (λ a. fsplit ! $ move ! (1 ∷ []) $ fsplit ! $ keep ! (0 ∷ []) $ done !)
+    named_at (fixes fact) zero x = qed 𝓛 (‵ (resting R b o t (fixes fact) 0 x) ∷ []) ∵
+        fpick ! (λ a. fsplit ! $ fpick ! (λ known. check ! known $ drop ! $ fsplit ! $ keep ! (0 ∷ []) $ done !))
+    named_at (fixes fact) (suc r) x = qed 𝓛 (‵ (resting R b o t (fixes fact) (suc r) x) ∷ []) ∵
+        fpick ! (λ a. fsplit ! $ fpick ! (λ e. fpick ! (λ known. check ! known $ drop ! $ fsplit ! $ keep ! (0 ∷ []) $ done !)))
 
     finds : (k : S.Denot) (w : Way R.Denot) (r n : ℕ) → ⟦ St w (φ k) r n ⟧ ⊢ ⟦ IsFound k w ν r n ⟧
-    finds k alone r zero = qed 𝓛 (‵ (St alone (φ k) r 0) ∷ []) ∵ fpick ! (λ x. fpick ! (λ is. fsplit ! $ keep ! (0 ∷ []) $ by ! (kept_found k alone r x is tt)))
-    finds k lends r zero = qed 𝓛 (‵ (St lends (φ k) r 0) ∷ []) ∵ fpick ! (λ x. fpick ! (λ is. fpick ! (λ a. fsplit ! $ move ! (1 ∷ []) $ fsplit3 ! $ keep ! (0 ∷ []) $ by ! (kept_found k lends r x is tt))))
-    finds k (fixes fact) zero zero = qed 𝓛 (‵ (St (fixes fact) (φ k) 0 0) ∷ []) ∵ fpick ! (λ x. fpick ! (λ is. fpick ! (λ a. fsplit ! $ fpick ! (λ known. drop ! $ fsplit3 ! $ keep ! (0 ∷ []) $ by ! (kept_found k (fixes fact) 0 x is known)))))
-    finds k (fixes fact) (suc r) zero = qed 𝓛 (‵ (St (fixes fact) (φ k) (suc r) 0) ∷ []) ∵ fpick ! (λ x. fpick ! (λ is. fpick ! (λ a. fsplit ! $ fpick ! (λ e. fpick ! (λ known. drop ! $ fsplit3 ! $ keep ! (0 ∷ []) $
-        by ! (kept_found k (fixes fact) (suc r) x is known))))))
-    finds k w r (suc n) = qed 𝓛 (‵ (St w (φ k) r (suc n)) ∷ []) ∵ drop ! $ nothing ! $ fpack ! (0 < suc n) (λ _. ftrue) (omega arith) $ fpack ! (Option R.Denot) (found k w ν r (suc n)) None $ done !
+    finds k w r zero = qed 𝓛 (‵ (St w (φ k) r 0) ∷ []) ∵ fpick ! (λ x. fpick ! (λ is.
+        use1 𝓛 (given (Fixed w r 0 x) (‵ (fobs ν (R.coded.code x)))) (named_at w r x) $ learn ! (λ known. nothing ! $
+        fpack ! (Knowing ways.2 k 0 x (Fixed w r 0 x)) (λ _. ftrue) (knowing_at ways.2 k x is known) $ move ! (1 ∷ 0 ∷ []) $ fjoin ! $
+        fpack ! (Option R.Denot) (found k w ν r 0) (Some x) $ done !)))
+    finds k w r (suc n) = qed 𝓛 (‵ (St w (φ k) r (suc n)) ∷ []) ∵ drop ! $ nothing ! $
+        fpack ! (0 < suc n) (λ _. ftrue) (omega arith) $ fpack ! (Option R.Denot) (found k w ν r (suc n)) None $ done !
 
     abbrev I : Fml
     I = inner R b o t c S (g.holds key) ways
 
-    abbrev Core : ℕ × S.Denot → Fml
-    Core = core R b o t c S (g.holds key) ways
-
     words_back : emp 𝓤 ⊢ ⟦ fwand (fsep (fdead κ) (fseps (I ∷ []))) (fupd (Words ν)) ⟧
     unfolding fseps
     words_back = qed 𝓛 [] ∵ assume ! (‵ (fsep (fdead κ) (fsep I ftrue))) $ suffices ! ⟦ Words ν ⟧ (upd_i 𝓤 ⟦ Words ν ⟧) $ fsplit3 ! $ keep ! (1 ∷ []) $ fpick ! (λ s. fsplit3 ! $ move ! (2 ∷ []) $
-        fpick ! (λ vs. let r = readers_of ways.1 vs in let w = writers_of ways.1 vs in fsplit3 ! $ move ! (1 ∷ []) $ fpick ! (λ meets. drop ! $ drop ! $
+        fpick ! (λ vs. let r = read vs in let w = wrote vs in fsplit3 ! $ move ! (1 ∷ []) $ fpick ! (λ meets. drop ! $ drop ! $
         use1 𝓛 (‵ (IsFound s.1 way ν r w)) (finds s.1 way r w) $ nothing ! $
-        fpack ! (Meets (g.holds key) ways s.0 s.1 vs) (λ _. ftrue) meets $ fjoin ! $ fpack ! (List V.Denot) (views_at ν s) vs $ move ! (1 ∷ 2 ∷ 0 ∷ []) $ fjoin3 ! $ fpack ! (ℕ × S.Denot) (standing_at ν) s $ done !)))
+        fpack ! (Met s vs) (λ _. ftrue) meets $ fjoin ! $ fpack ! (List V.Denot) (views_at ν s) vs $ move ! (1 ∷ 2 ∷ 0 ∷ []) $ fjoin3 ! $
+        fpack ! (ℕ × S.Denot) (standing_at ν) s $ done !)))
 
     -- ---- the invariant is made: some views that satisfy the rule take their places
     module _ (l : Lft) (shares : Shares 𝓛 R l) (μ : Lft) (e f : Share) (i : Incl μ κ) (j : Incl μ l) where
-      stands : (k : S.Denot) (vs : List V.Denot) (v : Option R.Denot) → Limits way (readers_of ways.1 vs) (writers_of ways.1 vs)
-          → ⟦ found k way ν (readers_of ways.1 vs) (writers_of ways.1 vs) v ⟧ ∗ A.bor κ (Named ν) ∗ ⟦ idle γ ⟧ ∗ A.lft μ e ∗ A.lft μ f ⊢ H.⇛ (⟦ St way (φ k) (readers_of ways.1 vs) (writers_of ways.1 vs) ⟧ ∗ A.lft μ e ∗ A.lft μ f)
-      stands k vs None lim = let r = readers_of ways.1 vs in let w = writers_of ways.1 vs in
+      stands : (k : S.Denot) (vs : List V.Denot) (v : Option R.Denot) → Limits way (read vs) (wrote vs)
+          → ⟦ found k way ν (read vs) (wrote vs) v ⟧ ∗ A.bor κ (Named ν) ∗ ⟦ idle γ ⟧ ∗ A.lft μ e ∗ A.lft μ f
+          ⊢ H.⇛ (⟦ St way (φ k) (read vs) (wrote vs) ⟧ ∗ A.lft μ e ∗ A.lft μ f)
+      stands k vs None lim = let r = read vs in let w = wrote vs in
           qed 𝓛 (‵ (found k way ν r w None) ∷ ‵ (fbor κ (Named ν)) ∷ ‵ (idle γ) ∷ ‵ (flft μ e) ∷ ‵ (flft μ f) ∷ []) ∵ updating ! $ fpick ! (λ writes. drop ! $ drop ! $ use1 𝓛 (‵ (St way (φ k) r w)) (away k way r w writes) $ now ! $ done !)
-      stands k vs (Some x) lim = let r = readers_of ways.1 vs in let w = writers_of ways.1 vs in
+      stands k vs (Some x) lim = let r = read vs in let w = wrote vs in
           qed 𝓛 (‵ (found k way ν r w (Some x)) ∷ ‵ (fbor κ (Named ν)) ∷ ‵ (idle γ) ∷ ‵ (flft μ e) ∷ ‵ (flft μ f) ∷ []) ∵ updating ! $ fsplit ! $ move ! (1 ∷ []) $ fpick ! (λ known. drop ! $ fjoin ! $ move ! (0 ∷ 2 ∷ 3 ∷ []) $
           use3 𝓛 (later (‵ (Ready way x) ⊛ ‵ (flft μ e) ⊛ ‵ (flft μ f))) (readies 𝓛 R b o t l shares writes way (Some x) μ e μ f i j) $ await ! tt $ split3 ! $ move ! (3 ∷ 0 ∷ []) $
           use2 𝓛 (later (‵ (St way (φ k) r w))) (via 𝓤 _ (begins k way r w x lim known) (basic 𝓛 ⟦ St way (φ k) r w ⟧)) $ await ! tt $ now ! $ done !)
@@ -214,9 +231,10 @@ module _ {M : Type 1} {𝓤 : Ura M} (𝓛 : Logic 𝓤) (m ms : Member) (V Y K 
       guarded k u q = qed 𝓛 ((‵ (fbor κ (Words ν)) ⊛ ‵ (fbor κ (Named ν)) ⊛ ‵ (unused ρ 0 u) ⊛ ‵ (idle γ) ⊛ ‵ (flft μ e) ⊛ ‵ (flft μ f)) ∷ ‵ (flft κ q) ∷ []) ∵ updating ! $
           split ! $ move ! (1 ∷ []) $ split3 ! $ move ! (2 ∷ []) $ split3 ! $ move ! (5 ∷ 6 ∷ []) $ bor_open ! tt $ move ! (1 ∷ []) $ fpick ! (λ s. fsplit3 ! $ move ! (2 ∷ []) $ fpick ! (λ vs. fsplit ! $ fpick ! (λ meets. drop ! $ fpick ! (λ v.
           -- [what was found; the words; the open borrow; the round's name; two tokens; the value; the keys]
-          let Q = St way (φ s.1) (readers_of ways.1 vs) (writers_of ways.1 vs) in move ! (0 ∷ 7 ∷ 4 ∷ 5 ∷ 6 ∷ []) $ group ! 5 $
+          let Q = St way (φ s.1) (read vs) (wrote vs) in move ! (0 ∷ 7 ∷ 4 ∷ 5 ∷ 6 ∷ []) $ group ! 5 $
           use1 𝓛 (later (‵ Q ⊛ ‵ (flft μ e) ⊛ ‵ (flft μ f))) (stands s.1 vs v meets.1) $ await ! tt $ split3 ! $
-          move ! (6 ∷ []) $ use1 𝓛 (later (‵ (roster c ρ 0 vs))) (via 𝓤 _ (enrols 𝓛 V.coded ρ vs 0 u) (basic 𝓛 ⟦ roster c ρ 0 vs ⟧)) $ await ! tt $ nothing ! $ fpack ! (Meets (g.holds key) ways s.0 s.1 vs) (λ _. ftrue) meets $
+          move ! (6 ∷ []) $ use1 𝓛 (later (‵ (roster c ρ 0 vs))) (via 𝓤 _ (enrols 𝓛 V.coded ρ vs 0 u) (basic 𝓛 ⟦ roster c ρ 0 vs ⟧)) $ await ! tt $
+          nothing ! $ fpack ! (Met s vs) (λ _. ftrue) meets $
           move ! (1 ∷ 0 ∷ 2 ∷ []) $ fjoin3 ! $ fpack ! (List V.Denot) (core_at R b o t c S (g.holds key) ways s.0 s.1) vs $ move ! (3 ∷ 4 ∷ 0 ∷ []) $ fjoin3 ! $ fpack ! (ℕ × S.Denot) (standing R b o t c S (g.holds key) ways) s $
           nothing ! $ move ! (1 ∷ 0 ∷ []) $ fjoin ! $ use0 𝓛 (‵ (fwand (fsep (fdead κ) (fseps (I ∷ []))) (fupd (Words ν)))) words_back $ move ! (4 ∷ 1 ∷ 0 ∷ []) $ obor_alter ! tt (I ∷ []) $
           use1 𝓛 (‵ (fbor κ I) ⊛ ‵ ftrue) (id⊢ 𝓤 _) $ split ! $ use1 𝓛 (later (‵ (finv (fbor κ I)))) (𝓛.invs.inv_new (fbor κ I)) $ await ! tt $

@@ -1,6 +1,6 @@
 -- `enter` makes a permit that has taken no step.
-use Rattle.spin_core.proofs.WalkNames.{◌≡◌, [], ◌∷◌, refl, None, dcons, dnil, named, Val, vptr, inst_fn, fex, flft, ‵, raw, ◌⊛◌, ◌$◌, ◌∵◌, !, qed, by, move, keep, split, join, fsplit, fjoin, fpick, fpack, use0, stop, addr, no_more, and_then, returns, enter, alloc_all, pass_all, free_all, look_at, get, through, sets, agg, yes, owns, types_at, plain, named_lft, block_ptr, nothing, param, bounded, Stays, stay_dropped, walk_of, Goes-dropped, proved, leaves, RefOf, shr_vals, shr_Tells, unhide, says}
-use Rattle.spin_core.proofs.CellStepWalks.{others}
+use Rattle.spin_core.proofs.WalkNames.{◌≡◌, [], ◌∷◌, refl, None, dcons, dnil, named, Val, vptr, inst_fn, fex, flft, ‵, raw, ◌⊛◌, ◌$◌, ◌∵◌, !, qed, by, move, keep, split, join, fsplit, fjoin, fpick, fpack, use0, stop, addr, no_more, and_then, returns, enter, alloc_all, pass_all, free_all, look_at, get, through, sets, agg, owns, types_at, named_lft, block_ptr, nothing, param, bounded, walk_of, proved, leaves, shr_vals, shr_Tells, unhide, says}
+use Rattle.spin_core.proofs.WalkSteps.{others, all_dropped, all_go}
 use Rattle.spin_core.specs.CellMemory.{Known, Id, permit_at}
 use Rattle.spin_core.specs.contracts.cell.Cell as cell
 use Rattle.spin_core.specs.contracts.cell.Permit as hand
@@ -15,9 +15,9 @@ enter_spec 𝓤 𝓛 𝓜 𝓡 wired T V P K S L _ _ _ LS g d _ =
     let R = param 0 T in let W = param 1 V in let Y = param 2 P in let Kr = param 3 K in let Sr = param 4 S in let cw = W.coded in
     let En = ended T V P K S g d in let c = clauses T V P K S g d 𝓛 𝓜.mem 𝓡.returns in
     let inst = bounded code.function.ty_params (T, (V, (P, (K, (S, tt))))) (dcons d dnil) in let fn = inst_fn inst code.function in
-    let Row = cell.the_row R W Y Kr Sr g in let self = RefOf (0 ∷ []) tt (plain (λ _. Row)) (λ _. tt) in
-    let hs : Stays En.signature.params En.kept = (stay_dropped self yes, tt) in
-    proved 𝓛 En hs c 𝓜 𝓡 (Goes-dropped 𝓛 6 self yes (λ κs x f. refl), tt)
+    let Row = cell.the_row R W Y Kr Sr g in
+    let hs = all_dropped En.signature.params En.kept in
+    proved 𝓛 En hs c 𝓜 𝓡 (all_go 𝓛 En.signature.params En.kept (λ κs x f. refl, tt))
     (#self inst) fn (code.unfolded 𝓤 𝓛.H 𝓜 𝓡 wired (T, (V, (P, (K, (S, tt))))) d)
     (λ κs. (shr_vals, tt)) (λ κs. (shr_Tells (named 0) κs.0 Row, tt)) (λ κs qs bounds a gh are.
     let b = a.0.ref_ptr.0 in let o = a.0.ref_ptr.1 in let κ = κs.0 in let q = qs.0 in let ℓ = named_lft 6 0 tt κs in let Hr = hand.the_row ℓ R W Y Kr Sr g in

@@ -1,5 +1,5 @@
 -- `get_mut` lends the value under a new name, and gives the cell the key that the rule names.
-use Rattle.spin_core.proofs.WalkNames.{◌+◌, [], ◌∷◌, refl, dcons, dnil, named, vptr, inst_fn, sep, Fml, flft, sem, ‵, raw, ◌⊛◌, some, later, ◌$◌, ◌∵◌, !, qed, by, move, keep, split, split3, join, fsplit, fsplit3, fjoin, pick, fpick, drop, use1, await, stop, fld, addr, returns, enter, alloc_all, pass_all, free_all, look_at, through, sets, no, owns, types_at, plain, RefMutOf, param, layout, bounded, param_laws, Stays, stay_dropped, walk_of, fact, nothing, heard, proved, leaves}
+use Rattle.spin_core.proofs.WalkNames.{◌+◌, [], ◌∷◌, refl, dcons, dnil, named, vptr, inst_fn, sep, Fml, flft, sem, ‵, raw, ◌⊛◌, some, later, ◌$◌, ◌∵◌, !, qed, by, move, keep, split, split3, join, fsplit, fsplit3, fjoin, pick, fpick, drop, use1, await, stop, fld, addr, returns, enter, alloc_all, pass_all, free_all, look_at, through, sets, owns, types_at, param, layout, bounded, param_laws, walk_of, fact, nothing, heard, proved, leaves}
 use base.Fml.{GName}
 use types.Kit.{group}
 use denote.Memory.{mem as in_memory}
@@ -7,9 +7,8 @@ use denote.Follow.{follows, lends_Part}
 use types.Mut.{open_ref}
 use denote.Ref.{MutRef, mut_vals, mut_Tells}
 use denote.Struct.Members.{Member}
-use denote.Triple.Walked.{Goes-spent_ref}
 use Rattle.spin_core.proofs.CellWays.{restarts}
-use Rattle.spin_core.proofs.CellStepWalks.{others}
+use Rattle.spin_core.proofs.WalkSteps.{others, all_dropped, all_go}
 use Rattle.spin_core.specs.Cell.{Frees, Freeing, Lends}
 use Rattle.atomic_table.specs.Seated.{fact as said}
 use Rattle.spin_core.specs.CellMemory.{offset}
@@ -27,8 +26,8 @@ get_mut_spec 𝓤 𝓛 𝓜 𝓡 wired X U P K S L _ _ _ LS g d _ =
     let inst = bounded code.function.ty_params (X, (U, (P, (K, (S, tt))))) (dcons d dnil) in let fn = inst_fn inst code.function in
     let Ty = cell.the_row R V Y Kr Sr g in let m : Member = record { row = R; ty = layout X } in let ms : Member = record { row = Sr; ty = layout S } in
     let Lw = (param_laws 0 X L).lawful 𝓛 in let Ls = (param_laws 4 S LS).lawful 𝓛 in
-    let hs : Stays En.signature.params En.kept = (stay_dropped (RefMutOf (0 ∷ []) tt (plain (λ _. Ty)) (λ _. tt)) no, tt) in
-    proved 𝓛 En hs c 𝓜 𝓡 (Goes-spent_ref 𝓛 6 (0 ∷ []) tt (plain (λ _. Ty)), tt)
+    let hs = all_dropped En.signature.params En.kept in
+    proved 𝓛 En hs c 𝓜 𝓡 (all_go 𝓛 En.signature.params En.kept (λ κs x f. refl, tt))
     (#self inst) fn (code.unfolded 𝓤 𝓛.H 𝓜 𝓡 wired (X, (U, (P, (K, (S, tt))))) d)
     (λ κs. (mut_vals, tt)) (λ κs. (mut_Tells (named 0) κs.0 Ty, tt)) (λ κs qs bounds a gh are.
     let b = a.0.ref_ptr.0 in let o = a.0.ref_ptr.1 in let κ = κs.0 in let q = qs.0 in let e = o + offset R in

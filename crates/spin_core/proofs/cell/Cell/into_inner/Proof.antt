@@ -1,6 +1,6 @@
 -- `into_inner` takes the value, whatever the words are.
 use Rattle.spin_core.proofs.PermitFields.{both}
-use Rattle.spin_core.proofs.WalkNames.{◌≡◌, ◌&&◌, T, true, List, [], ◌∷◌, ◌++◌, sym, refl, ap, ◌∙◌, subst, w64, dcons, dnil, Val, vunit, vint, vstruct, vcons, vnil, of_list, has_ty, inst_fn, SProp, ent, id⊢, fsep, feq, ftrue, flft, tables, WpFn, ◌⊑◌, fact, param_laws, fm, ‵, raw, ◌⊛◌, ◌$◌, ◌∵◌, !, qed, by, move, keep, drop, split, split3, fsplit, fsplit3, fjoin, fpick, join, pick, await, later, some, use1, rewrite, feq_l, flt_l, suffices, stop, fld, of_opd, no_more, and_then, returns, enter, alloc_all, pass_all, free_all, look_at, get, get_in, sets, sub, whole, yes, no, plain, nothing, only, peeks, Is, shows, param, layout, bounded, Stays, stay_dropped, walk_of, Goes-dropped, El, lawful, Good, one, proved_at, leaves}
+use Rattle.spin_core.proofs.WalkNames.{◌≡◌, ◌&&◌, T, true, List, [], ◌∷◌, ◌++◌, sym, refl, ap, ◌∙◌, subst, w64, dcons, dnil, Val, vunit, vint, vstruct, vcons, vnil, of_list, has_ty, inst_fn, SProp, ent, id⊢, fsep, feq, ftrue, flft, tables, WpFn, ◌⊑◌, fact, param_laws, fm, ‵, raw, ◌⊛◌, ◌$◌, ◌∵◌, !, qed, by, move, keep, drop, split, split3, fsplit, fsplit3, fjoin, fpick, join, pick, await, later, some, use1, rewrite, feq_l, flt_l, suffices, stop, fld, of_opd, no_more, and_then, returns, enter, alloc_all, pass_all, free_all, look_at, get, get_in, sets, sub, whole, yes, nothing, only, peeks, Is, shows, param, layout, bounded, walk_of, El, lawful, Good, one, proved_at, leaves}
 use denote.Param.Laws.{arg_laws}
 use Rattle.spin_core.specs.contracts.cell.let_go as callee
 use Rattle.spin_core.proofs.cell.let_go.Met.{met}
@@ -13,6 +13,7 @@ use Rattle.spin_core.specs.contracts.cell.Cell.into_inner.{ended, clauses}
 use Rattle.spin_core.specs.contracts.cell.Cell.into_inner.Key.{name as #self}
 use Rattle.spin_core.proofs.cell.Cell.into_inner.Statement.{statement}
 use Rattle.spin_core.proofs.cell.Cell.into_inner.Code as code
+use Rattle.spin_core.proofs.WalkSteps.{all_dropped, all_go}
 
 pub into_inner_spec : {M : Type 1} → statement M
 into_inner_spec 𝓤 𝓛 𝓜 𝓡 wired X U P K S L _ _ _ LS g d _ =
@@ -21,8 +22,10 @@ into_inner_spec 𝓤 𝓛 𝓜 𝓡 wired X U P K S L _ _ _ LS g d _ =
     let N : El = record { row = S; laws = LS } in
     let inst = bounded code.function.ty_params (X, (U, (P, (K, (S, tt))))) (dcons d dnil) in let fn = inst_fn inst code.function in
     let Row = cell.the_row R V Y Kr Sr g in
-    let self = plain (λ _. Row) in let hs : Stays En.signature.params En.kept = (stay_dropped self no, tt) in let fine : (v : Val) → Good E v → T (has_ty (layout X) v && true) = λ v h. both (has_ty (layout X) v) true h.0 tt in let fine_second : (v : Val) → Good N v → T (has_ty (layout S) v && true) = λ v h. both (has_ty (layout S) v) true h.0 tt in
-    proved_at 𝓛 En hs c 𝓜 𝓡 (Goes-dropped 𝓛 5 self no (λ κs x f. refl), tt)
+    let hs = all_dropped En.signature.params En.kept in
+    let fine : (v : Val) → Good E v → T (has_ty (layout X) v && true) = λ v h. both (has_ty (layout X) v) true h.0 tt in
+    let fine_second : (v : Val) → Good N v → T (has_ty (layout S) v && true) = λ v h. both (has_ty (layout S) v) true h.0 tt in
+    proved_at 𝓛 En hs c 𝓜 𝓡 (all_go 𝓛 En.signature.params En.kept (λ κs x f. refl, tt))
     (#self inst) fn (code.unfolded 𝓤 H 𝓜 𝓡 wired (X, (U, (P, (K, (S, tt))))) d) (λ z are.
     let Post = (walk_of 𝓛 En hs c).post z in let Run : List Val → SProp 𝓤 = λ ws. WpFn 𝓤 H 𝓣.C 𝓣.Λ fn ws Post in
     let κs = z.0.0 in let qs = z.0.1 in let α = flft κs.0 qs.0 in let β = flft κs.1.0 qs.1.0 in let π = flft κs.1.1.0 qs.1.1.0 in

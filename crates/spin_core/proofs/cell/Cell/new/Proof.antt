@@ -1,6 +1,6 @@
 -- `new` writes the words and the value into memory, one after another.
 use Rattle.spin_core.proofs.PermitFields.{both}
-use Rattle.spin_core.proofs.WalkNames.{◌≡◌, ℕ, ◌^◌, ◌&&◌, T, true, List, [], ◌∷◌, ◌++◌, sym, refl, subst, w64, dcons, dnil, Val, vint, vptr, vstruct, vcons, vnil, has_ty, WT, inst_fn, SProp, ent, id⊢, Fml, ftrue, fsep, fex, fact, tables, WpFn, ‵, raw, ◌⊛◌, ◌$◌, ◌∵◌, !, qed, by, move, keep, split, fsplit, fsplit3, fjoin, fpack, use0, rewrite, feq_i, flt_i, suffices, of_opd, no_more, and_then, returns, enter, alloc_all, pass_all, free_all, look_at, get, sets, agg, yes, no, RattleType, Valss, owns, types_at, plain, nothing, heard, Typed, param, layout, bounded, param_laws, RefOf, u64, within, alive, Stays, stay_dropped, walk_of, Goes-dropped, El, lawful, Good, one, proved_at, leaves, says}
+use Rattle.spin_core.proofs.WalkNames.{◌≡◌, ℕ, ◌^◌, ◌&&◌, T, true, List, [], ◌∷◌, ◌++◌, sym, refl, subst, w64, dcons, dnil, Val, vint, vptr, vstruct, vcons, vnil, has_ty, WT, inst_fn, SProp, ent, id⊢, Fml, ftrue, fsep, fex, fact, tables, WpFn, ‵, raw, ◌⊛◌, ◌$◌, ◌∵◌, !, qed, by, move, keep, split, fsplit, fsplit3, fjoin, fpack, use0, rewrite, feq_i, flt_i, suffices, of_opd, no_more, and_then, returns, enter, alloc_all, pass_all, free_all, look_at, get, sets, agg, RattleType, Valss, owns, types_at, nothing, heard, Typed, param, layout, bounded, param_laws, u64, within, alive, walk_of, El, lawful, Good, one, proved_at, leaves, says}
 use denote.Shadow.{makes_shadow}
 use denote.Struct.Tuple.{Tuple}
 use Rattle.core.specs.contracts.marker.PhantomData as marker
@@ -12,6 +12,7 @@ use Rattle.spin_core.specs.contracts.cell.Cell.new.{ended, clauses}
 use Rattle.spin_core.specs.contracts.cell.Cell.new.Key.{name as #self}
 use Rattle.spin_core.proofs.cell.Cell.new.Statement.{statement}
 use Rattle.spin_core.proofs.cell.Cell.new.Code as code
+use Rattle.spin_core.proofs.WalkSteps.{all_dropped, all_go}
 
 pub new_spec : {M : Type 1} → statement M
 new_spec 𝓤 𝓛 𝓜 𝓡 wired X U P K S L _ _ _ LS g d _ =
@@ -19,14 +20,11 @@ new_spec 𝓤 𝓛 𝓜 𝓡 wired X U P K S L _ _ _ LS g d _ =
     let Sr = param 4 S in let En = ended X U P K S g d in let c = clauses X U P K S g d 𝓛 𝓜.mem 𝓡.returns in let E : El = record { row = X; laws = L } in
     let N : El = record { row = S; laws = LS } in
     let inst = bounded code.function.ty_params (X, (U, (P, (K, (S, tt))))) (dcons d dnil) in let fn = inst_fn inst code.function in
-    let item = plain (λ _. R) in let number = plain (λ _. u64) in let second = plain (λ _. Sr) in let about = RefOf (0 ∷ []) tt (plain (λ _. Kr)) (λ _. tt) in
-    let hs : Stays En.signature.params En.kept = (stay_dropped item no, (stay_dropped number yes, (stay_dropped second no, (stay_dropped about yes, tt)))) in
+    let hs = all_dropped En.signature.params En.kept in
     let F = inside.the_row R V Y Kr Sr g in let D = denote.Struct.Declared.shape (inside.the_type R V Y Kr Sr g) in
     let Mk : RattleType = (marker.the_field (Tuple (V ∷ Y ∷ []))).row in
     let fine : (v : Val) → Good E v → T (has_ty (layout X) v && true) = λ v h. both (has_ty (layout X) v) true h.0 tt in let fine_second : (v : Val) → Good N v → T (has_ty (layout S) v && true) = λ v h. both (has_ty (layout S) v) true h.0 tt in
-    let went = Goes-dropped 𝓛 6 number yes (λ κs x f. refl) in let second_went = Goes-dropped 𝓛 6 second no (λ κs x f. refl) in
-    let about_went = Goes-dropped 𝓛 6 about yes (λ κs x f. refl) in
-    proved_at 𝓛 En hs c 𝓜 𝓡 (Goes-dropped 𝓛 6 item no (λ κs x f. refl), (went, (second_went, (about_went, tt))))
+    proved_at 𝓛 En hs c 𝓜 𝓡 (all_go 𝓛 En.signature.params En.kept (λ κs x f. refl, (λ κs x f. refl, (λ κs x f. refl, (λ κs x f. refl, tt)))))
     (#self inst) fn (code.unfolded 𝓤 H 𝓜 𝓡 wired (X, (U, (P, (K, (S, tt))))) d) (λ z are.
     let x = z.0.3.0 in let n = z.0.3.1.0 in let k = z.0.3.1.1.0 in let key = z.0.3.1.1.1.0.now in
     let at = vptr z.0.3.1.1.1.0.ref_ptr.0 z.0.3.1.1.1.0.ref_ptr.1 in let ways = g.ways key in let fits = are.1.0.1 in

@@ -1,11 +1,11 @@
 -- `show` gives up a part of the party's part of the value for the rest of the cell's borrow, and keeps the rest.
-use Rattle.spin_core.proofs.WalkNames.{Some, some, pick, heard, hidden_shr, param_laws, ◌≡◌, sym, ◌+◌, List, [], ◌∷◌, ◌++◌, refl, ap, dcons, dnil, Val, vptr, inst_fn, Fml, flft, ‵, raw, ◌⊛◌, given, later, at_ret, ◌$◌, ◌∵◌, !, qed, by, move, keep, split, join, fsplit, fjoin, learn, use0, use1, await, feq_i, stop, fld, addr, of_opd, no_more, and_then, agg, first, blocks, exec, returns, enter, alloc_all, pass_all, free_all, look_at, get, get_in, through, sets, sets_last, is, env, sub, whole, tables, fact, no, owns, types_at, plain, named_lft, Ptr, ptr_val, block_of, count_of, at_block, block_ptr, nothing, named, param, bounded, Stays, stay_dropped, walk_of, Goes-dropped, tail, proved, leaves, says, lies_at}
+use Rattle.spin_core.proofs.WalkNames.{Some, some, pick, heard, hidden_shr, param_laws, ◌≡◌, sym, ◌+◌, List, [], ◌∷◌, ◌++◌, refl, ap, dcons, dnil, Val, vptr, inst_fn, Fml, flft, ‵, raw, ◌⊛◌, given, later, at_ret, ◌$◌, ◌∵◌, !, qed, by, move, keep, split, join, fsplit, fjoin, learn, use0, use1, await, feq_i, stop, fld, addr, of_opd, no_more, and_then, agg, first, blocks, exec, returns, enter, alloc_all, pass_all, free_all, look_at, get, get_in, through, sets, sets_last, is, env, sub, whole, tables, fact, owns, types_at, named_lft, Ptr, ptr_val, block_of, count_of, at_block, block_ptr, nothing, named, param, bounded, walk_of, tail, proved, leaves, says, lies_at}
 use base.Fml.{fsep, feq}
 use mir.Val.{vstruct, vcons, vnil, of_list}
 use types.Kit.{fpack}
 use denote.RattleType.{Valss}
 use denote.Ref.{ShrRef}
-use Rattle.spin_core.proofs.CellStepWalks.{others}
+use Rattle.spin_core.proofs.WalkSteps.{others, all_dropped, all_go}
 use Rattle.spin_core.specs.CellMemory.{offset, permit_owns}
 use Rattle.spin_core.specs.Cell.{reads, use_of, Fixes, Seen}
 use Rattle.spin_core.specs.contracts.cell.Permit as hand
@@ -22,8 +22,8 @@ show_spec 𝓤 𝓛 𝓜 𝓡 wired T V P K S L _ _ _ LS g d _ =
     let Sr = param 4 S in let cw = W.coded in let LR = param_laws 0 T L in
     let En = ended T V P K S g d in let c = clauses T V P K S g d 𝓛 𝓜.mem 𝓡.returns in
     let inst = bounded code.function.ty_params (T, (V, (P, (K, (S, tt))))) (dcons d dnil) in let fn = inst_fn inst code.function in
-    let self = plain (λ κs. hand.the_row (named_lft 6 0 tt κs) R W Y Kr Sr g) in let hs : Stays En.signature.params En.kept = (stay_dropped self no, tt) in
-    proved 𝓛 En hs c 𝓜 𝓡 (Goes-dropped 𝓛 6 self no (λ κs x f. refl), tt) (#self inst) fn (code.unfolded 𝓤 H 𝓜 𝓡 wired (T, (V, (P, (K, (S, tt))))) d)
+    let hs = all_dropped En.signature.params En.kept in
+    proved 𝓛 En hs c 𝓜 𝓡 (all_go 𝓛 En.signature.params En.kept (λ κs x f. refl, tt)) (#self inst) fn (code.unfolded 𝓤 H 𝓜 𝓡 wired (T, (V, (P, (K, (S, tt))))) d)
     (λ κs. ((λ x. hand_of x.cell ∷ []), tt)) (λ κs. ((λ x vs so. told (named_lft 6 0 tt κs) R W Y Kr Sr g x.cell vs so.0), tt)) (λ κs qs bounds a gh are.
     let ℓ = named_lft 6 0 tt κs in let Hr = hand.the_row ℓ R W Y Kr Sr g in let h = a.0 in let p = h.cell in let b = block_of p in let o = count_of p in
     let e = o + offset R in let β = κs.0 in let q = qs.0 in let ways = g.ways h.key in

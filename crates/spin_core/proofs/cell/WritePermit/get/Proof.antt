@@ -1,7 +1,7 @@
 -- `get` shows the value for as long as the permit is borrowed.
-use Rattle.spin_core.proofs.WalkNames.{◌≡◌, ◌+◌, List, [], ◌∷◌, ◌++◌, refl, ap, dcons, dnil, named, Val, vptr, inst_fn, Fml, flft, Incl-refl, ‵, raw, ◌⊛◌, at_ret, ◌$◌, ◌∵◌, !, qed, by, move, keep, split, join, fsplit, fjoin, use1, rewrite, feq_i, stop, fld, addr, of_opd, first, blocks, exec, returns, enter, alloc_all, pass_all, free_all, look_at, get, through, sets, sets_last, env, sub, whole, tables, yes, owns, types_at, plain, named_lft, Ptr, block_ptr, block_of, count_of, at_block, nothing, param, bounded, param_laws, Stays, stay_dropped, walk_of, Goes-dropped, tail, proved, leaves, RefOf, shr_vals, shr_Tells, unhide, hop, look_in, lent_out, shortens, ⊑_meet, hidden_shr, cell_at, looks, peeks, shuts, Is, shows, ◌∙◌, sym, fhide, says, lies_at}
+use Rattle.spin_core.proofs.WalkNames.{◌≡◌, ◌+◌, List, [], ◌∷◌, ◌++◌, refl, ap, dcons, dnil, named, Val, vptr, inst_fn, Fml, flft, Incl-refl, ‵, raw, ◌⊛◌, at_ret, ◌$◌, ◌∵◌, !, qed, by, move, keep, split, join, fsplit, fjoin, use1, rewrite, feq_i, stop, fld, addr, of_opd, first, blocks, exec, returns, enter, alloc_all, pass_all, free_all, look_at, get, through, sets, sets_last, env, sub, whole, tables, owns, types_at, named_lft, Ptr, block_ptr, block_of, count_of, at_block, nothing, param, bounded, param_laws, walk_of, tail, proved, leaves, shr_vals, shr_Tells, unhide, hop, look_in, lent_out, shortens, ⊑_meet, hidden_shr, cell_at, looks, peeks, shuts, Is, shows, ◌∙◌, sym, fhide, says, lies_at}
 use Rattle.core.specs.contracts.marker.PhantomData as marker
-use Rattle.spin_core.proofs.CellStepWalks.{others}
+use Rattle.spin_core.proofs.WalkSteps.{others, all_dropped, all_go}
 use Rattle.spin_core.specs.CellMemory.{offset, writer_shares}
 use Rattle.spin_core.specs.contracts.cell.WritePermit as hand
 use Rattle.spin_core.proofs.PermitFields.{hand_of, Words, told, opened}
@@ -16,8 +16,8 @@ get_spec 𝓤 𝓛 𝓜 𝓡 wired T V P K S L _ _ _ LS g d _ =
     let Sr = param 4 S in let cw = W.coded in let LR = param_laws 0 T L in
     let En = ended T V P K S g d in let c = clauses T V P K S g d 𝓛 𝓜.mem 𝓡.returns in
     let inst = bounded code.function.ty_params (T, (V, (P, (K, (S, tt))))) (dcons d dnil) in let fn = inst_fn inst code.function in
-    let row = plain (λ κs. hand.the_row (named_lft 7 1 tt κs) R W Y Kr Sr g) in let self = RefOf (0 ∷ []) tt row (λ _. tt) in let hs : Stays En.signature.params En.kept = (stay_dropped self yes, tt) in
-    proved 𝓛 En hs c 𝓜 𝓡 (Goes-dropped 𝓛 7 self yes (λ κs x f. refl), tt) (#self inst) fn (code.unfolded 𝓤 H 𝓜 𝓡 wired (T, (V, (P, (K, (S, tt))))) d)
+    let hs = all_dropped En.signature.params En.kept in
+    proved 𝓛 En hs c 𝓜 𝓡 (all_go 𝓛 En.signature.params En.kept (λ κs x f. refl, tt)) (#self inst) fn (code.unfolded 𝓤 H 𝓜 𝓡 wired (T, (V, (P, (K, (S, tt))))) d)
     (λ κs. (shr_vals, tt)) (λ κs. (shr_Tells (named 0) κs.0 (hand.the_row (named_lft 7 1 tt κs) R W Y Kr Sr g), tt)) (λ κs qs bounds a gh are.
     let ℓ = named_lft 7 1 tt κs in let Hr = hand.the_row ℓ R W Y Kr Sr g in let D = Words ℓ R W Y Kr Sr g in let b = a.0.ref_ptr.0 in
     let o = a.0.ref_ptr.1 in let κ = κs.0 in let β = κs.1.0 in let h = a.0.now in let p = h.cell in let os = others 6 κs.1 qs.1 in

@@ -1,9 +1,9 @@
 -- `get_mut` lends the value, and the permit follows it. Assumes `Logic`.
-use Rattle.spin_core.proofs.WalkNames.{◌≡◌, ℕ, ◌+◌, List, [], ◌∷◌, refl, sym, ap, ◌∙◌, named, dcons, dnil, Val, vptr, inst_fn, full_share, SProp, ent, wand, apply∗, Lft, Share, Fml, fsep, flft, before, Logic, sem, split3, ‵, raw, ◌⊛◌, at_ret, ◌$◌, ◌∵◌, !, qed, by, move, keep, split, join, fsplit, fsplit3, fjoin, use1, use2, use3, later, some, await, pick, fpick, fpack, rewrite, stop, addr, of_opd, first, blocks, exec, returns, enter, fld, hop, alloc_all, pass_all, free_all, look_at, get, through, sets, sets_last, env, sub, whole, look_in, tables, no, RattleType, owns, Is, shows, types_at, plain, named_lft, RefMutOf, nothing, peeks, param, bounded, cell_at, part_at, Ptr, block_ptr, block_of, count_of, at_block, Stays, stay_dropped, walk_of, tail, proved, leaves, says, lies}
+use Rattle.spin_core.proofs.WalkNames.{◌≡◌, ℕ, ◌+◌, List, [], ◌∷◌, refl, sym, ap, ◌∙◌, named, dcons, dnil, Val, vptr, inst_fn, full_share, SProp, ent, wand, apply∗, Lft, Share, Fml, fsep, flft, before, Logic, sem, split3, ‵, raw, ◌⊛◌, at_ret, ◌$◌, ◌∵◌, !, qed, by, move, keep, split, join, fsplit, fsplit3, fjoin, use1, use2, use3, later, some, await, pick, fpick, fpack, rewrite, stop, addr, of_opd, first, blocks, exec, returns, enter, fld, hop, alloc_all, pass_all, free_all, look_at, get, through, sets, sets_last, env, sub, whole, look_in, tables, RattleType, owns, Is, shows, types_at, named_lft, nothing, peeks, param, bounded, cell_at, part_at, Ptr, block_ptr, block_of, count_of, at_block, walk_of, tail, proved, leaves, says, lies}
 use seplogic.Ra.Ura.{Ura}
 use base.Logic.{ex, all, all_e}
 use denote.Ref.{NamedLft, MutBor}
-use Rattle.spin_core.proofs.CellStepWalks.{others}
+use Rattle.spin_core.proofs.WalkSteps.{others, all_dropped, all_go}
 use Rattle.spin_core.specs.declared.cell.Rule.{Ghosts}
 use base.Fml.{Incl, GName}
 use types.Kit.{each, show, frame, assume}
@@ -12,7 +12,6 @@ use denote.Ref.{MutRef, mut_vals, mut_Tells}
 use denote.Memory.{part_of, mem as in_memory}
 use denote.Struct.OwningLaws.{part_out, part_in}
 use denote.Follow.{follows}
-use denote.Triple.Walked.{Goes-spent_ref}
 use Rattle.spin_core.specs.CellMemory.{Id, offset, tracked, writer_owns}
 use Rattle.spin_core.specs.Writer.{with_value}
 use Rattle.spin_core.specs.contracts.cell.WritePermit.{the_type, the_row}
@@ -65,8 +64,8 @@ get_mut_spec 𝓤 𝓛 𝓜 𝓡 wired T V P K S L _ _ _ LS g d _ =
     let H = 𝓛.H in let 𝓣 = tables 𝓤 H 𝓜 𝓡 𝓡.env in let R = param 0 T in let W = param 1 V in let Y = param 2 P in let Kr = param 3 K in
     let Sr = param 4 S in let cw = W.coded in let En = ended T V P K S g d in let c = clauses T V P K S g d 𝓛 𝓜.mem 𝓡.returns in
     let inst = bounded code.function.ty_params (T, (V, (P, (K, (S, tt))))) (dcons d dnil) in let fn = inst_fn inst code.function in
-    let row = plain (λ κs. the_row (named_lft 7 1 tt κs) R W Y Kr Sr g) in let self = RefMutOf (0 ∷ []) tt row (λ _. tt) in let hs : Stays En.signature.params En.kept = (stay_dropped self no, tt) in
-    proved 𝓛 En hs c 𝓜 𝓡 (Goes-spent_ref 𝓛 7 (0 ∷ []) tt row, tt) (#self inst) fn (code.unfolded 𝓤 H 𝓜 𝓡 wired (T, (V, (P, (K, (S, tt))))) d)
+    let hs = all_dropped En.signature.params En.kept in
+    proved 𝓛 En hs c 𝓜 𝓡 (all_go 𝓛 En.signature.params En.kept (λ κs x f. refl, tt)) (#self inst) fn (code.unfolded 𝓤 H 𝓜 𝓡 wired (T, (V, (P, (K, (S, tt))))) d)
     (λ κs. (mut_vals, tt)) (λ κs. (mut_Tells (named 0) κs.0 (the_row (named_lft 7 1 tt κs) R W Y Kr Sr g), tt)) (λ κs qs bounds a gh are.
     let ℓ = named_lft 7 1 tt κs in let G = the_row ℓ R W Y Kr Sr g in let D = Words ℓ R W Y Kr Sr g in let m = a.0 in let b = m.ref_ptr.0 in
     let o = m.ref_ptr.1 in let γ = m.ghost_name in let h = m.now in

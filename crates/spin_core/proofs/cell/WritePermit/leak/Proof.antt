@@ -1,7 +1,7 @@
 -- `leak` gives up the value's borrow for the rest of the cell's borrow.
-use Rattle.spin_core.proofs.WalkNames.{◌≡◌, ◌+◌, List, [], ◌∷◌, refl, ap, dcons, dnil, named, Val, vptr, inst_fn, Fml, flft, fbor, ‵, raw, ◌⊛◌, later, at_ret, ◌$◌, ◌∵◌, !, qed, by, move, keep, split, join, fsplit, fjoin, fjoin3, fpick, use3, await, feq_i, stop, fld, addr, of_opd, first, blocks, exec, returns, enter, alloc_all, pass_all, free_all, look_at, get, get_in, through, sets, sets_last, is, env, sub, whole, tables, no, owns, types_at, plain, named_lft, Ptr, ptr_val, block_of, count_of, at_block, nothing, param, bounded, Stays, stay_dropped, walk_of, Goes-dropped, tail, proved, leaves, says, lies_at}
+use Rattle.spin_core.proofs.WalkNames.{◌≡◌, ◌+◌, List, [], ◌∷◌, refl, ap, dcons, dnil, named, Val, vptr, inst_fn, Fml, flft, fbor, ‵, raw, ◌⊛◌, later, at_ret, ◌$◌, ◌∵◌, !, qed, by, move, keep, split, join, fsplit, fjoin, fjoin3, fpick, use3, await, feq_i, stop, fld, addr, of_opd, first, blocks, exec, returns, enter, alloc_all, pass_all, free_all, look_at, get, get_in, through, sets, sets_last, is, env, sub, whole, tables, owns, types_at, named_lft, Ptr, ptr_val, block_of, count_of, at_block, nothing, param, bounded, walk_of, tail, proved, leaves, says, lies_at}
 use denote.Ref.{MutRef}
-use Rattle.spin_core.proofs.CellStepWalks.{others}
+use Rattle.spin_core.proofs.WalkSteps.{others, all_dropped, all_go}
 use Rattle.spin_core.specs.CellMemory.{offset, named as body, writer_owns}
 use Rattle.spin_core.specs.contracts.cell.WritePermit as pen
 use Rattle.spin_core.proofs.PermitFields.{hand_of, told, typed}
@@ -16,8 +16,8 @@ leak_spec 𝓤 𝓛 𝓜 𝓡 wired T V P K S L _ _ _ LS g d _ =
     let H = 𝓛.H in let 𝓣 = tables 𝓤 H 𝓜 𝓡 𝓡.env in let R = param 0 T in let W = param 1 V in let Y = param 2 P in let Kr = param 3 K in
     let Sr = param 4 S in let cw = W.coded in let En = ended T V P K S g d in let c = clauses T V P K S g d 𝓛 𝓜.mem 𝓡.returns in
     let inst = bounded code.function.ty_params (T, (V, (P, (K, (S, tt))))) (dcons d dnil) in let fn = inst_fn inst code.function in
-    let self = plain (λ κs. pen.the_row (named_lft 6 0 tt κs) R W Y Kr Sr g) in let hs : Stays En.signature.params En.kept = (stay_dropped self no, tt) in
-    proved 𝓛 En hs c 𝓜 𝓡 (Goes-dropped 𝓛 6 self no (λ κs x f. refl), tt) (#self inst) fn (code.unfolded 𝓤 H 𝓜 𝓡 wired (T, (V, (P, (K, (S, tt))))) d)
+    let hs = all_dropped En.signature.params En.kept in
+    proved 𝓛 En hs c 𝓜 𝓡 (all_go 𝓛 En.signature.params En.kept (λ κs x f. refl, tt)) (#self inst) fn (code.unfolded 𝓤 H 𝓜 𝓡 wired (T, (V, (P, (K, (S, tt))))) d)
     (λ κs. ((λ x. hand_of x.cell ∷ []), tt)) (λ κs. ((λ x vs so. told (named_lft 6 0 tt κs) R W Y Kr Sr g x.cell vs so.0), tt)) (λ κs qs bounds a gh are.
     let ℓ = named_lft 6 0 tt κs in let Pr = pen.the_row ℓ R W Y Kr Sr g in let h = a.0 in let p = h.cell in let b = block_of p in let o = count_of p in
     let e = o + offset R in let β = κs.0 in let q = qs.0 in let x = h.value in

@@ -1,5 +1,5 @@
 -- `deref_mut` lends the guard's permit to `get_mut`, and the guard follows what the permit follows. Assumes `Logic`.
-use Rattle.spin_core.proofs.WalkNames.{◌≡◌, ℕ, ◌+◌, List, [], ◌∷◌, refl, ap, dcons, dnil, a_type, named, Val, vptr, vunit, inst_fn, SProp, id⊢, Lft, Share, Fml, ftrue, fsep, flft, fbor, Logic, ‵, raw, ◌⊛◌, ◌$◌, ◌∵◌, !, qed, by, move, keep, drop, split, split3, join, fsplit, fsplit3, fjoin, fjoin3, feq_i, feq_l, use1, use2, use3, later, some, await, pick, stop, addr, no_more, and_then, returns, enter, fld, alloc_all, pass_all, free_all, look_at, get, through, sets, tables, fact, yes, no, RattleType, owns, types_at, plain, named_lft, RefMutOf, nothing, param, layout, bounded, param_laws, Stays, stay_dropped, walk_of, proved, leaves}
+use Rattle.spin_core.proofs.WalkNames.{◌≡◌, ℕ, ◌+◌, List, [], ◌∷◌, refl, ap, dcons, dnil, a_type, named, Val, vptr, vunit, inst_fn, SProp, id⊢, Lft, Share, Fml, ftrue, fsep, flft, fbor, Logic, ‵, raw, ◌⊛◌, ◌$◌, ◌∵◌, !, qed, by, move, keep, drop, split, split3, join, fsplit, fsplit3, fjoin, fjoin3, feq_i, feq_l, use1, use2, use3, later, some, await, pick, stop, addr, no_more, and_then, returns, enter, fld, alloc_all, pass_all, free_all, look_at, get, through, sets, tables, fact, yes, RattleType, owns, types_at, named_lft, nothing, param, layout, bounded, param_laws, walk_of, proved, leaves}
 use seplogic.Ra.Ura.{Ura}
 use base.Fml.{GName, Incl, fobs}
 use types.SemTy.{Body}
@@ -13,7 +13,6 @@ use denote.Memory.{mem as in_memory}
 use denote.Follow.{follows, follows_then}
 use denote.Triple.Spec.{triple_of}
 use denote.Triple.Call.{calls_at}
-use denote.Triple.Walked.{Goes-spent_ref}
 use borrow.Follows.Field.{HandsTo, hands_on}
 use borrow.Struct.Lend.{kept_record, record_fill, record_apart}
 use Rattle.core.proofs.atomic.Steps.{fm}
@@ -29,6 +28,7 @@ use Rattle.spin_core.specs.contracts.guard.GuardDerefMut.deref_mut.{ended, claus
 use Rattle.spin_core.specs.contracts.guard.GuardDerefMut.deref_mut.Key.{name as #self}
 use Rattle.spin_core.proofs.guard.GuardDerefMut.deref_mut.Statement.{statement}
 use Rattle.spin_core.proofs.guard.GuardDerefMut.deref_mut.Code as code
+use Rattle.spin_core.proofs.WalkSteps.{all_dropped, all_go}
 
 module _ (ℓ : NamedLft) (T V P S K N : RattleType) (LT : Laws T) (LV : Laws V) (LP : Laws P) (LS : Laws S) (LK : Laws K) (LN : Laws N) (g : Ghosts P.Denot T.Denot V.Denot K.Denot N.Denot) where
   abbrev G : RattleType
@@ -56,12 +56,12 @@ deref_mut_spec 𝓤 𝓛 𝓜 𝓡 wired T V P S K N LT LV LP LS LK LN release r
     let En = ended T V P S K N release release_dict g d uses uses_dict in let c = clauses T V P S K N release release_dict g d uses uses_dict 𝓛 𝓜.mem 𝓡.returns in
     let inst = bounded (a_type ∷ a_type ∷ a_type ∷ a_type ∷ a_type ∷ a_type ∷ []) (T, (V, (P, (S, (K, (N, tt)))))) (dcons release_dict (dcons d (dcons uses_dict dnil))) in
     let fn = inst_fn inst code.function in let closed = code.unfolded 𝓤 H 𝓜 𝓡 wired (T, (V, (P, (S, (K, (N, tt)))))) release_dict d uses_dict in
-    let row = plain (λ κs. the_row (named_lft 8 1 tt κs) R (param 1 V) (param 2 P) (param 3 S) (param 4 K) (param 5 N) g) in let self = RefMutOf (0 ∷ []) tt row (λ _. tt) in let hs : Stays En.signature.params En.kept = (stay_dropped self no, tt) in
+    let hs = all_dropped En.signature.params En.kept in
     let X : RattleType = arg (layout T) yes R in let W : RattleType = arg (layout V) yes (param 1 V) in let Y : RattleType = arg (layout P) yes (param 2 P) in let U : RattleType = arg (layout K) yes (param 4 K) in let Z : RattleType = arg (layout N) yes (param 5 N) in
     let called = met 𝓤 𝓛 𝓜 𝓡 (code.calls-spin_core::cell::WritePermit::get_mut 𝓡.env wired) X W Y U Z (arg_laws (layout T) yes R (param_laws 0 T LT) refl)
     (arg_laws (layout V) yes (param 1 V) (param_laws 1 V LV) refl) (arg_laws (layout P) yes (param 2 P) (param_laws 2 P LP) refl)
     (arg_laws (layout K) yes (param 4 K) (param_laws 4 K LK) refl) (arg_laws (layout N) yes (param 5 N) (param_laws 5 N LN) refl) g d (record { Self-Key-lives = rule_met.Self-Key-lives; Self-Second-lives = rule_met.Self-Second-lives }) in
-    proved 𝓛 En hs c 𝓜 𝓡 (Goes-spent_ref 𝓛 8 (0 ∷ []) tt row, tt) (#self inst) fn closed
+    proved 𝓛 En hs c 𝓜 𝓡 (all_go 𝓛 En.signature.params En.kept (λ κs x f. refl, tt)) (#self inst) fn closed
     (λ κs. (mut_vals, tt)) (λ κs. (mut_Tells (named 0) κs.0 (the_row (named_lft 8 1 tt κs) R (param 1 V) (param 2 P) (param 3 S) (param 4 K) (param 5 N) g), tt)) (λ κs qs bounds a gh are.
     let ℓ = named_lft 8 1 tt κs in let G : RattleType = the_row ℓ R (param 1 V) (param 2 P) (param 3 S) (param 4 K) (param 5 N) g in let P' : RattleType = Pen ℓ T V P S K N LT LV LP LS LK LN g in
     let m = a.0 in let b : ℕ = m.ref_ptr.0 in let o : ℕ = m.ref_ptr.1 in let γ : GName = m.ghost_name in let h : G.Denot = m.now in

@@ -1,6 +1,6 @@
 -- `new` begins a log under a name of its own.
 use Rattle.spin_core.proofs.PermitFields.{both}
-use Rattle.spin_core.proofs.WalkNames.{ℕ, ◌&&◌, T, true, List, [], ◌∷◌, ◌++◌, sym, refl, subst, a_type, Val, vstruct, vcons, vnil, has_ty, WT, inst_fn, SProp, ent, id⊢, emp, ‵, raw, ◌⊛◌, some, later, ◌$◌, ◌∵◌, !, qed, by, keep, move, split, fsplit, fjoin, fpack, pick, use0, await, rewrite, feq_i, suffices, of_opd, no_more, and_then, returns, enter, alloc_all, pass_all, free_all, look_at, get, sets, agg, fact_i, tables, WpFn, no, RattleType, Valss, owns, types_at, plain, nothing, param, layout, param_laws, within, alive, Stays, stay_dropped, walk_of, Goes-dropped, El, one, proved_at}
+use Rattle.spin_core.proofs.WalkNames.{ℕ, ◌&&◌, T, true, List, [], ◌∷◌, ◌++◌, sym, refl, subst, a_type, Val, vstruct, vcons, vnil, has_ty, WT, inst_fn, SProp, ent, id⊢, emp, ‵, raw, ◌⊛◌, some, later, ◌$◌, ◌∵◌, !, qed, by, keep, move, split, fsplit, fjoin, fpack, pick, use0, await, rewrite, feq_i, suffices, of_opd, no_more, and_then, returns, enter, alloc_all, pass_all, free_all, look_at, get, sets, agg, fact_i, tables, WpFn, RattleType, Valss, owns, types_at, nothing, param, layout, param_laws, within, alive, walk_of, El, one, proved_at}
 use denote.Param.{layouts}
 use denote.Shadow.{makes_shadow}
 use Rattle.core.specs.contracts.marker.PhantomData as marker
@@ -11,14 +11,15 @@ use Rattle.spin_core.specs.contracts.trace.Trace.new.{ended, clauses}
 use Rattle.spin_core.specs.contracts.trace.Trace.new.Key.{name as #self}
 use Rattle.spin_core.proofs.trace.Trace.new.Statement.{statement}
 use Rattle.spin_core.proofs.trace.Trace.new.Code as code
+use Rattle.spin_core.proofs.WalkSteps.{all_dropped, all_go}
 
 pub new_spec : {M : Type 1} → statement M
 new_spec 𝓤 𝓛 𝓜 𝓡 wired Ty S L N =
     let H = 𝓛.H in let 𝓣 = tables 𝓤 H 𝓜 𝓡 𝓡.env in let T' : RattleType = param 0 Ty in let S' : RattleType = param 1 S in let En = ended Ty S in
     let inst = layouts (a_type ∷ a_type ∷ []) (Ty, (S, tt)) in let fn = inst_fn inst code.function in let c = clauses Ty S 𝓛 𝓜.mem 𝓡.returns in
-    let cv = T'.coded in let E : El = record { row = S; laws = N } in let item = plain (λ _. S') in let Mk : RattleType = marker.the_row T' in
-    let hs : Stays En.signature.params En.kept = (stay_dropped item no, tt) in
-    proved_at 𝓛 En hs c 𝓜 𝓡 (Goes-dropped 𝓛 2 item no (λ κs x f. refl), tt) (#self inst) fn (code.unfolded 𝓤 H 𝓜 𝓡 wired (Ty, (S, tt))) (λ z are.
+    let cv = T'.coded in let E : El = record { row = S; laws = N } in let Mk : RattleType = marker.the_row T' in
+    let hs = all_dropped En.signature.params En.kept in
+    proved_at 𝓛 En hs c 𝓜 𝓡 (all_go 𝓛 En.signature.params En.kept (λ κs x f. refl, tt)) (#self inst) fn (code.unfolded 𝓤 H 𝓜 𝓡 wired (Ty, (S, tt))) (λ z are.
     let x = z.0.3.0 in let got = one E z.0.4.0 (((param_laws 1 S N).lawful 𝓛).typed x z.0.4.0 are.0) in let vy = got.0 in let fy = got.2 in
     let v = vstruct (vcons vy (vcons (vstruct vnil) vnil)) in let Post : Val → SProp 𝓤 = (walk_of 𝓛 En hs c).post z in let Run : List Val → SProp 𝓤 = λ ws. WpFn 𝓤 H 𝓣.C 𝓣.Λ fn ws Post in
     let typed : T (has_ty (layout S) vy && true) × WT v = (both (has_ty (layout S) vy) true fy.0 tt, (fy.1, (tt, tt))) in

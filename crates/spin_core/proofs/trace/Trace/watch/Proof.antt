@@ -1,4 +1,4 @@
-use Rattle.spin_core.proofs.TraceWalk.{[], ◌∷◌, refl, a_type, named, Val, vptr, inst_fn, SProp, emp, Fml, ftrue, fsep, flft, fhide, ‵, raw, ◌⊛◌, ◌$◌, ◌∵◌, !, qed, by, move, keep, drop, split, fsplit, fjoin, use0, use1, no_more, and_then, returns, enter, alloc_all, pass_all, free_all, look_at, get, sets, obor_close, shr_bor-open, agg, fact_i, tables, yes, RattleType, owns, types_at, plain, RefOf, shr_vals, shr_Tells, hidden_shr, unhide, nothing, param, layouts, lent_out, Stays, stay_dropped, walk_of, Goes-dropped, proved, token, Token, Beside, token_made, ends}
+use Rattle.spin_core.proofs.TraceWalk.{[], ◌∷◌, refl, a_type, named, Val, vptr, inst_fn, SProp, emp, Fml, ftrue, fsep, flft, fhide, ‵, raw, ◌⊛◌, ◌$◌, ◌∵◌, !, qed, by, move, keep, drop, split, fsplit, fjoin, use0, use1, no_more, and_then, returns, enter, alloc_all, pass_all, free_all, look_at, get, sets, obor_close, shr_bor-open, agg, fact_i, tables, RattleType, owns, types_at, shr_vals, shr_Tells, hidden_shr, unhide, nothing, param, layouts, lent_out, walk_of, proved, token, Token, Beside, token_made, ends}
 use Rattle.core.specs.contracts.marker.PhantomData as marker
 use Rattle.spin_core.specs.Logs.{log_part, log_shares, known_owns}
 use Rattle.spin_core.proofs.TraceSteps as steps
@@ -7,14 +7,15 @@ use Rattle.spin_core.specs.contracts.trace.Trace.watch.{ended, clauses}
 use Rattle.spin_core.specs.contracts.trace.Trace.watch.Key.{name as #self}
 use Rattle.spin_core.proofs.trace.Trace.watch.Statement.{statement}
 use Rattle.spin_core.proofs.trace.Trace.watch.Code as code
+use Rattle.spin_core.proofs.WalkSteps.{all_dropped, all_go}
 
 pub watch_spec : {M : Type 1} → statement M
 watch_spec 𝓤 𝓛 𝓜 𝓡 wired T S L N =
     let H = 𝓛.H in let 𝓣 = tables 𝓤 H 𝓜 𝓡 𝓡.env in let T' : RattleType = param 0 T in let S' : RattleType = param 1 S in let En = ended T S in
     let inst = layouts (a_type ∷ a_type ∷ []) (T, (S, tt)) in let fn = inst_fn inst code.function in let c = clauses T S 𝓛 𝓜.mem 𝓡.returns in
     let cv = T'.coded in let All : RattleType = T' in let Lr : RattleType = Trace.the_row T' S' in
-    let hs : Stays En.signature.params En.kept = (stay_dropped (RefOf (0 ∷ []) tt (plain (λ _. Lr)) (λ _. tt)) yes, tt) in
-    proved 𝓛 En hs c 𝓜 𝓡 (Goes-dropped 𝓛 3 (RefOf (0 ∷ []) tt (plain (λ _. Lr)) (λ _. tt)) yes (λ κs x f. refl), tt) (#self inst) fn (code.unfolded 𝓤 H 𝓜 𝓡 wired (T, (S, tt)))
+    let hs = all_dropped En.signature.params En.kept in
+    proved 𝓛 En hs c 𝓜 𝓡 (all_go 𝓛 En.signature.params En.kept (λ κs x f. refl, tt)) (#self inst) fn (code.unfolded 𝓤 H 𝓜 𝓡 wired (T, (S, tt)))
     (λ κs. (shr_vals, tt)) (λ κs. (shr_Tells (named 0) κs.0 Lr, tt)) (λ κs qs bounds a gh are.
     let me = a.0.now in let u : Val = vptr a.0.ref_ptr.0 a.0.ref_ptr.1 in
     let y : (walk_of 𝓛 En hs c).Ghost = ((κs, qs, bounds, a, (u ∷ [], tt)), gh) in let Post : Val → SProp 𝓤 = (walk_of 𝓛 En hs c).post y in let toks : Fml = fsep (flft κs.0 qs.0) (fsep (flft κs.1.0 qs.1.0) (fsep (flft κs.1.1.0 qs.1.1.0) ftrue)) in

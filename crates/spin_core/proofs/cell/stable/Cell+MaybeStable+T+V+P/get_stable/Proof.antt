@@ -1,5 +1,5 @@
 -- `get_stable` reads the first word, and lends the value where that is the number asked for. Assumes `Logic`.
-use Rattle.spin_core.proofs.WalkNames.{◌≡◌, ℕ, ◌+◌, [], ◌∷◌, sym, refl, subst, lit<, w64, dcons, dnil, named, vint, vptr, vcons, vnil, inst_fn, full_share, SProp, ent, sep, Fml, flft, sem, ‵, raw, ◌⊛◌, some, later, at_ret, ◌$◌, ◌∵◌, !, qed, by, move, keep, drop, use0, use1, use2, split, split3, join, pick, await, rewrite, fsplit, fsplit3, fjoin, fpick, stop, fld, addr, load, lit, of_opd, and_then, no_more, first, blocks, exec, returns, enter, agg, alloc_all, pass_all, free_all, look_at, get, through, sets, sets_last, env, tables, fact, yes, no, RattleType, owns, types_at, plain, RefMutOf, u64, uint_vals, uint_Tells, part_at, param, layout, bounded, param_laws, nothing, heard, Stays, stay_dropped, walk_of, Goes-dropped, proved, leaves}
+use Rattle.spin_core.proofs.WalkNames.{◌≡◌, ℕ, ◌+◌, [], ◌∷◌, sym, refl, subst, lit<, w64, dcons, dnil, named, vint, vptr, vcons, vnil, inst_fn, full_share, SProp, ent, sep, Fml, flft, sem, ‵, raw, ◌⊛◌, some, later, at_ret, ◌$◌, ◌∵◌, !, qed, by, move, keep, drop, use0, use1, use2, split, split3, join, pick, await, rewrite, fsplit, fsplit3, fjoin, fpick, stop, fld, addr, load, lit, of_opd, and_then, no_more, first, blocks, exec, returns, enter, agg, alloc_all, pass_all, free_all, look_at, get, through, sets, sets_last, env, tables, fact, RattleType, owns, types_at, uint_vals, uint_Tells, part_at, param, layout, bounded, param_laws, nothing, heard, walk_of, proved, leaves}
 use Rattle.std.proofs.Common.{eqb→eq, w8}
 use mir.Syntax.{Body, seq, assign, place, rv_opd, copy, aggregate, int}
 use base.Fml.{GName}
@@ -12,13 +12,12 @@ use denote.Ref.{MutRef, MutBor, mut_vals, mut_Tells}
 use denote.Follow.{follows, lends_Part}
 use denote.Memory.{part_of, lone, mem as in_memory}
 use denote.Struct.Members.{Member}
-use denote.Triple.Walked.{Goes-spent_ref}
 use Rattle.core.specs.contracts.option.Option as option
 use Rattle.core.specs.declared.option.Option.TheVariants.{None, Some}
 use Rattle.core.proofs.option.Made.{Some-of, none_of}
 use Rattle.core.proofs.alloc.Shapes.{after}
 use Rattle.atomic_table.specs.Seated.{fact as said}
-use Rattle.spin_core.proofs.CellStepWalks.{others}
+use Rattle.spin_core.proofs.WalkSteps.{others, all_dropped, all_go}
 use Rattle.spin_core.specs.Cell.{Starts, Lends}
 use Rattle.spin_core.specs.Stable.{StableAt}
 use Rattle.spin_core.specs.CellMemory.{offset}
@@ -49,9 +48,9 @@ get_stable_spec 𝓤 𝓛 𝓜 𝓡 wired X U P K N L _ _ _ LN s d' g d _ _ =
     let En = ended X U P K N s d' g d in let c = clauses X U P K N s d' g d 𝓛 𝓜.mem 𝓡.returns in
     let inst = bounded code.function.ty_params (X, (U, (P, (K, (N, tt))))) (dcons d' (dcons d dnil)) in let fn = inst_fn inst code.function in
     let Ty = cell.the_row R V Y Kr Nr g in let m : Member = record { row = R; ty = lone R.mir } in let ms : Member = record { row = Nr; ty = layout N } in
-    let Ls = (param_laws 4 N LN).lawful 𝓛 in let Lw = (maybe_stable_laws.the_row_laws X₀ (param_laws 0 X L)).lawful 𝓛 in let number = plain (λ _. u64) in
-    let hs : Stays En.signature.params En.kept = (stay_dropped (RefMutOf (0 ∷ []) tt (plain (λ _. Ty)) (λ _. tt)) no, (stay_dropped number yes, tt)) in
-    proved 𝓛 En hs c 𝓜 𝓡 (Goes-spent_ref 𝓛 6 (0 ∷ []) tt (plain (λ _. Ty)), (Goes-dropped 𝓛 6 number yes (λ κs x f. refl), tt))
+    let Ls = (param_laws 4 N LN).lawful 𝓛 in let Lw = (maybe_stable_laws.the_row_laws X₀ (param_laws 0 X L)).lawful 𝓛 in
+    let hs = all_dropped En.signature.params En.kept in
+    proved 𝓛 En hs c 𝓜 𝓡 (all_go 𝓛 En.signature.params En.kept (λ κs x f. refl, (λ κs x f. refl, tt)))
     (#self inst) fn (code.unfolded 𝓤 H 𝓜 𝓡 wired (X, (U, (P, (K, (N, tt))))) d' d)
     (λ κs. (mut_vals, (uint_vals w64, tt))) (λ κs. (mut_Tells (named 0) κs.0 Ty, (uint_Tells w64, tt))) (λ κs qs bounds a gh are.
     let b = a.0.ref_ptr.0 in let o = a.0.ref_ptr.1 in let old = a.0.now in let key = g.lent old in let γ = a.0.ghost_name in let wanted = a.1.0 in let κ = κs.0 in let q = qs.0 in
