@@ -24,7 +24,7 @@ mod waiting;
 
 pub use self::pass::Pass;
 pub use self::rule::{Entry, FlagRule, Party, View};
-pub use crate::laws::a_guard_reads_the_last_value_written;
+pub use spin_core::laws::{a_guard_reads_the_last_value_written, two_guards_read_one_value};
 
 /// A mutual exclusion lock with one flag as its state, on which a waiting thread spins.
 ///
