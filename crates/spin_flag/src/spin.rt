@@ -5,8 +5,9 @@ ghost use Rattle.spin_core.specs.Guard.{IsHolder};
 ghost use Rattle.spin_core.specs.Texts.{lock_text};
 ghost use Rattle.spin_flag.specs.Flag.{use_of_party};
 
+use self::pass::try_with;
 use self::rule::word;
-use self::waiting::{Grant, Waiting, try_with};
+use self::waiting::{Grant, Waiting};
 use spin_core::cell::Cell;
 use spin_core::guard::{self, Guard};
 use spin_core::lock::{Lock, with_guard};
