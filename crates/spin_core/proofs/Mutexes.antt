@@ -155,7 +155,7 @@ module _ {K W V C L X S : Type 0} (lock : K → Mutex W V C L X S) (c : C) (a : 
   released is_named same knew shown shown' x held here known moved =
       let left = as_new idle (use_of uses) plain.is_idle.1 (what q.1) (ends_out q.1 moved) in let is = leaves (lock p.0) p.1 q.1 shown shown' q.2 x known held left here in
       let told = passes.learnt model seat_of words_of (leaves_by (IsIt x) c a idle) (λ n. idle) (λ n. WritesSome (IsIt x) (IsStep false c (Answered a None))) (λ own outs n u said. said) named is_named p.1 q.1 p.2 q.2 n knew (exactly is q.1 moved) in
-      (((passes.whole_behind model p.1 q.1 p.2.entries q.2.entries (IsIt x) c a told.made, told.named), same), is)
+      ((passes.whole_behind model p.1 q.1 p.2.entries q.2.entries (IsIt x) c a told.made, told.named, same), is)
     where
       exactly : IsLast opening q.2.entries x → (w : Option (Numbered X)) → Step (λ y. Unit {0}) w → Step (IsIt x) w
       exactly is None made = absurd made

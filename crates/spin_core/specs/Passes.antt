@@ -8,8 +8,7 @@ use Rattle.spin_model.specs.declared.schedule.Outcome.TheVariants.{Begun, GoingO
 use Rattle.spin_model.specs.Machines.{Machine}
 use Rattle.spin_model.specs.Schedules.{State, Entry, after, at_first, happens}
 use Rattle.spin_core.specs.Run.{IsPlayed}
-use Rattle.spin_core.specs.Own.{Numbered, what, by_party, entries_by}
-use Rattle.spin_core.specs.declared.trace.Watch.{Watch}
+use Rattle.spin_core.specs.Own.{Numbered, by_party, entries_by}
 
 -- how long the trace was after the party's last step
 abbrev pub mark_of : {X : Type 0} → Option (Numbered X) → ℕ
@@ -111,22 +110,3 @@ module _ {W V C L A : Type 0} (m : Machine W V C L A) where
   -- exactly the moves of this course
   abbrev pub Made : {X : Type 0} → Option (Numbered X) → List (Entry C V) → Option (Numbered X) → List (Entry C V) → Course V C A → Type 0
   Made view old view' new P = (p : ℕ) × MayBe p view × IsNumber p view' × (own : List (Move C V)) × (outs : List (Outcome A V)) × Did p old new own outs × P own outs
-
--- For a party that keeps a watch of the trace with its permit. `before` and `now` are its view and what it knew,
--- earlier and now.
-module _ {W V C L A X : Type 0} (m : Machine W V C L A) where
-  -- since then it has made exactly the moves of this course, in the same lock
-  abbrev pub Since : Course V C A → Option (Numbered X) × Watch (Entry C V) → Option (Numbered X) × Watch (Entry C V) → Type 0
-  Since course before now = Made m before.0 before.1.entries now.0 now.1.entries course × (now.1.name ≡ before.1.name)
-
-  -- it has made one step of this call, with this outcome, and now has this view
-  abbrev pub Stepped : Bool → C → Outcome A V → X → Option (Numbered X) × Watch (Entry C V) → Option (Numbered X) × Watch (Entry C V) → Type 0
-  Stepped goes_on call end view before now = Since (IsStep goes_on call end) before now × (what now.0 ≡ Some view)
-
-  -- it is in this call, which it has begun since
-  abbrev pub IsIn : C → Option (Numbered X) × Watch (Entry C V) → Option (Numbered X) × Watch (Entry C V) → Type 0
-  IsIn call = Since (Begins call Waits)
-
-  -- it has made exactly this call, with this answer
-  abbrev pub HasCalled : C → A → Option (Numbered X) × Watch (Entry C V) → Option (Numbered X) × Watch (Entry C V) → Type 0
-  HasCalled call answer = Since (IsCall call answer)

@@ -4,8 +4,7 @@ use Rattle.spin_model.specs.declared.schedule.Outcome.{Outcome}
 use Rattle.spin_model.specs.Machines.{Machine}
 use Rattle.spin_model.specs.Schedules.{Entry}
 use Rattle.spin_core.specs.Own.{Numbered, what}
-use Rattle.spin_core.specs.Passes as passes
-use Rattle.spin_core.specs.Passes.{Course, IsCall, IsStep, Begins, Waits, WritesSome}
+use Rattle.spin_core.specs.Passes.{Course, Made, IsCall, IsStep, Begins, Waits, WritesSome}
 use Rattle.spin_core.specs.Values.{IsLast}
 use Rattle.spin_core.specs.declared.cell.Permit.{Permit}
 use Rattle.spin_core.specs.declared.tie.Opening.{Opening}
@@ -22,7 +21,7 @@ spot permit seen = (permit.key, permit.view, seen)
 module _ {K W V C L A X : Type 0} (model : K → Machine W V C L A) where
   -- between the two spots the party has made exactly the moves of this course, in one lock
   abbrev pub Since : Course V C A → Spot K X (Entry C V) → Spot K X (Entry C V) → Type 0
-  Since course p q = passes.Since (model p.0) course (p.1, p.2) (q.1, q.2) × (q.0 ≡ p.0)
+  Since course p q = Made (model p.0) p.1 p.2.entries q.1 q.2.entries course × (q.2.name ≡ p.2.name) × (q.0 ≡ p.0)
 
   -- it has made one step of this call, with this outcome, and now has this view
   abbrev pub Stepped : Bool → C → Outcome A V → X → Spot K X (Entry C V) → Spot K X (Entry C V) → Type 0

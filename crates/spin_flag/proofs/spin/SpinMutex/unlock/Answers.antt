@@ -38,8 +38,8 @@ returns g c =
     let of_view = subst (λ o. Releases w.value (w.key, o, seen) r) it.ensures.same.0 of_key in
     let done = subst (λ w. Releases w.value (w.key, Some w.view, seen) r) c.into_writer.ensures of_view in
     record {
-      made = (wrote_any model_at Release (left.key, Some left.view, seen) r (λ y. left.key.told ≡ true → y ≡ left.value) Done done.0).0.0;
-      wrote = done.0.0.0;
+      made = (wrote_any model_at Release (left.key, Some left.view, seen) r (λ y. left.key.told ≡ true → y ≡ left.value) Done done.0).0;
+      wrote = done.0.0;
       left = done.1;
-      same = (done.0.0.1, done.0.1);
+      same = (done.0.1, done.0.2);
     }

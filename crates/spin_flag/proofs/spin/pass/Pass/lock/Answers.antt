@@ -32,7 +32,7 @@ returns g c =
     record {
       holder = ap (λ p. use_of_view p.view.0) is ∙ grant.holds;
       holds = (ap (λ p. p.key.name) is ∙ grant.named, ap (λ p. p.view.2) is ∙ grant.knows);
-      same = (so.0.1, ap (λ p. p.key) is ∙ so.1);
-      found = subst (λ k. IsLast k grant.seen.entries (guard_value c.new.result)) so.1 (subst (λ p. IsLast grant.writer.key grant.seen.entries p.value) (sym is) grant.finds);
-      made = subst (λ p. Called me.permit.key.value Lock Granted me.permit.view me.seen.entries (Some p.view) grant.seen.entries) (sym is) so.0.0;
+      same = (so.1, ap (λ p. p.key) is ∙ so.2);
+      found = subst (λ k. IsLast k grant.seen.entries (guard_value c.new.result)) so.2 (subst (λ p. IsLast grant.writer.key grant.seen.entries p.value) (sym is) grant.finds);
+      made = subst (λ p. Called me.permit.key.value Lock Granted me.permit.view me.seen.entries (Some p.view) grant.seen.entries) (sym is) so.0;
     }

@@ -22,13 +22,13 @@ pub returns-then-is_set-clause-refused : goal.returns-then-is_set-clause-refused
 returns-then-is_set-clause-refused g c =
     let me = c.args.self in let f = c.exchange-found in let p = spot me.permit me.seen in let q = spot f.result.1 f.result.2 in let busy = is_not_clear f.result.0 c.if-is_set.ensures in
     let step = by_clear p q f.ensures.key me.named me.knows f.result.0 false busy false TryLock (Answered Granted None) (Answered Refused None) Holding Idle f.ensures.moved in
-    let made = in_one model_at TryLock p q Refused step.0 in (made.0.0, made.0.1, made.1)
+    in_one model_at TryLock p q Refused step.0
 
 pub returns-else-is_set-clause-granted : goal.returns-else-is_set-clause-granted
 returns-else-is_set-clause-granted g c =
     let me = c.args.self in let f = c.exchange-found in let p = spot me.permit me.seen in let q = spot f.result.1 f.result.2 in let free = is_clear f.result.0 c.if-is_set.ensures in
     let step = by_clear p q f.ensures.key me.named me.knows f.result.0 true free false TryLock (Answered Granted None) (Answered Refused None) Holding Idle f.ensures.moved in
-    subst (λ o. Called p.0.value TryLock Granted p.1 p.2.entries o q.2.entries) (sym (ap (λ w. Some w.view) c.new.ensures ∙ c.into_writer.ensures.same.0)) (in_one model_at TryLock p q Granted step.0).0.0
+    subst (λ o. Called p.0.value TryLock Granted p.1 p.2.entries o q.2.entries) (sym (ap (λ w. Some w.view) c.new.ensures ∙ c.into_writer.ensures.same.0)) (in_one model_at TryLock p q Granted step.0).0
 
 pub returns-else-is_set-clause-found : goal.returns-else-is_set-clause-found
 returns-else-is_set-clause-found g c =
