@@ -71,7 +71,7 @@ module _ {W V C L X S : Type 0} (lock : Mutex W V C L X S) where
   out_off = as_new idle (use_of uses) plain.is_idle.1
 
   -- it makes the moves of a new one
-  out_moves : (view : Option X) → IsOut idle view → (g : ℕ → ℕ) (to : ℕ → X → Type 0) (says : Says V C (Answer V) X) → Moves None g to says → Moves view g to says
+  pub out_moves : (view : Option X) → IsOut idle view → (g : ℕ → ℕ) (to : ℕ → X → Type 0) (says : Says V C (Answer V) X) → Moves None g to says → Moves view g to says
   out_moves view out g to says moves w value u so = let is = as_new idle (sits model seat_of words_of) lock.idle_sits view out in rw is (moves w value u so)
 
   pub is_named : (seen : Watch (Entry C V)) → opening.name ≡ seen.name → Named Rule own_ways seen.name
@@ -109,7 +109,7 @@ module _ {W V C L X S : Type 0} (lock : Mutex W V C L X S) where
 
   -- The holder writes the value that it leaves, and is out
 
-  leaving : (view : Option X) (shown : Option V) (x : V) (c : C) (a : Answer V) → use_of uses view ≡ writes → shown ≡ Some x → Leaving view shown (leaves_by (λ y. y ≡ x) c a idle)
+  pub leaving : (view : Option X) (shown : Option V) (x : V) (c : C) (a : Answer V) → use_of uses view ≡ writes → shown ≡ Some x → Leaving view shown (leaves_by (λ y. y ≡ x) c a idle)
   leaving view shown x c a held here own outs n u (stays, (y, is, by)) =
       subst (λ (z : Use × Use × Option V). Leaves z.0 z.1 z.2 own) (λ i. (sym held i, sym (ap uses stays ∙ plain.is_idle.1) i, sym here i)) (λ v. write_leaves y false c (Answered a None) own outs by v ∙ is)
 

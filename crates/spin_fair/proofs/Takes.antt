@@ -5,8 +5,8 @@ use mathlib.Core.Logic.{dite}
 use native.Mathlib.Decide.{ℕ_discrete}
 use Rattle.spin_step_more.specs.Starvers.{most_starvers, is_set, starve}
 use Rattle.spin_core.specs.Guard.{guard_key, guard_view}
-use Rattle.spin_core.specs.Passes.{Course, IsCall, IsStep, WritesSome}
-use Rattle.spin_core.specs.Cell.{Moved, writes, off, use_of}
+use Rattle.spin_core.specs.Passes.{Course, Ending, IsOut}
+use Rattle.spin_core.specs.Cell.{Moved, off, use_of}
 use Rattle.spin_core.specs.Own.{Numbered, what}
 use Rattle.spin_core.specs.Passes.{mark_of}
 use Rattle.spin_core.specs.Traced.{Watches, Named, Found}
@@ -14,29 +14,29 @@ use Rattle.spin_core.specs.Values.{IsLast}
 use Rattle.spin_core.specs.declared.tie.Opening.{Opening}
 use Rattle.spin_core.specs.declared.trace.Watch.{Watch}
 use Rattle.spin_core.proofs.Passes as passes
-use Rattle.spin_core.proofs.Passes.{Learnt, and_waits, and_ends, call_waits, call_ends, whole_behind}
-use Rattle.spin_core.proofs.Ties.{same_use}
-use Rattle.spin_core.proofs.Values.{found, gave, wrote, write_leaves}
+use Rattle.spin_core.proofs.Mutexes.{finds}
+use Rattle.spin_core.proofs.Passes.{Learnt, and_waits, and_ends, call_waits, call_ends}
 use Rattle.spin_model.specs.declared.answer.Answer.{Answer}
+use Rattle.spin_model.specs.declared.schedule.Move.{Move}
 use Rattle.spin_model.specs.declared.schedule.Move.TheVariants.{Step}
 use Rattle.spin_model.specs.declared.schedule.Outcome.TheVariants.{GoingOn}
-use Rattle.spin_model.specs.declared.answer.Answer.TheVariants.{Granted, Done as IsDone}
+use Rattle.spin_model.specs.declared.answer.Answer.TheVariants.{Granted}
 use Rattle.spin_step_more.specs.declared.fair.LockRejectReason.TheVariants.{Locked, Starved}
 use Rattle.spin_step_more.specs.declared.fair_calls.FairCall.{FairCall}
-use Rattle.spin_step_more.specs.declared.fair_calls.FairCall.TheVariants.{Lock, TryLockStarver, Starve, StarverTryLock, StarverLock, Release}
-use Rattle.spin_fair.specs.Fair.{model, seat_of, words_of, use_of_view, use_of_party, Done, OneMove, Ending, Says, IsFair, fair_ways, Told, steps_by, frees_with, frees_by, stands, Left, AreSteps, answered, in_call, call_of, IsOut, Comes, Moves, refusal, answer_of, tries_by, alone_by, alone_to, not_alone, missed_alone, looked, looks_of, patience, registered_end, no_room_end, loads, register_ends, registered_so, no_room_so, flag_set_end, flag_set_so, finds_no_room, finds_flag_set, Registers, awaits, awaited_by, MaySet, MayAwait}
+use Rattle.spin_step_more.specs.declared.fair_calls.FairCall.TheVariants.{Lock, TryLockStarver, Starve, StarverTryLock, StarverLock}
+use Rattle.spin_fair.specs.Fair.{model, seat_of, words_of, use_of_view, Done, Says, IsFair, fair_ways, Told, steps_by, AreSteps, answered, in_call, call_of, Comes, Moves, refusal, answer_of, tries_by, alone_by, alone_to, not_alone, missed_alone, looked, looks_of, patience, registered_end, no_room_end, loads, register_ends, registered_so, no_room_so, flag_set_end, flag_set_so, finds_no_room, finds_flag_set, Registers, awaits, awaited_by, MaySet, MayAwait}
 use Rattle.spin_fair.specs.Waits.{view_of, Comes_by, Held}
 use Rattle.spin_fair.specs.declared.fair.account.Account.{Account}
 use Rattle.spin_fair.specs.declared.fair.rule.View.{View}
 use Rattle.spin_fair.specs.declared.fair.rule.View.TheVariants.{Idle, Holding, Served, Trying, Looking, Loading, Registering, Setting, Awaiting}
-use Rattle.spin_fair.proofs.Steps.{freed}
+use Rattle.spin_fair.proofs.Steps.{mutex}
 
 -- after these outcomes the call continues, or is answered
 abbrev pub Comes_to : {T : Type 0} → List (Ending T) → Option (Answer T) → Type 0
 Comes_to ends None = (n : ℕ) × (ends ≡ replicate n GoingOn)
 Comes_to ends (Some a) = (n : ℕ) × (ends ≡ replicate n GoingOn ++ answered a ∷ [])
 
-abbrev steps : {T : Type 0} → List (Ending T) → List (OneMove T)
+abbrev steps : {T : Type 0} → List (Ending T) → List (Move FairCall T)
 steps ends = map (λ _. Step) ends
 
 as_many : {T : Type 0} (n : ℕ) → steps {T = T} (replicate n GoingOn) ≡ replicate n Step
@@ -47,7 +47,7 @@ and_one : {T : Type 0} (n : ℕ) (end : Ending T) → steps (replicate n GoingOn
 and_one zero end = refl
 and_one (suc n) end = ap (λ l. Step ∷ l) (and_one n end)
 
-comes : {T : Type 0} (goes_on : Bool) (c : FairCall) (ends : List (Ending T)) (o : Option (Answer T)) → Comes_to ends o → (own : List (OneMove T)) (outs : List (Ending T)) → AreSteps goes_on c ends own outs → Comes goes_on c o own outs
+comes : {T : Type 0} (goes_on : Bool) (c : FairCall) (ends : List (Ending T)) (o : Option (Answer T)) → Comes_to ends o → (own : List (Move FairCall T)) (outs : List (Ending T)) → AreSteps goes_on c ends own outs → Comes goes_on c o own outs
 comes true c ends None (n, is) own outs are = (n, are.0 ∙ ap steps is ∙ as_many n, are.1 ∙ is)
 comes true c ends (Some a) (n, is) own outs are = (n, are.0 ∙ ap steps is ∙ and_one n (answered a), are.1 ∙ is)
 comes false c ends None (n, is) own outs are = (steps ends, ends, are.0, are.1, (n, ap steps is ∙ as_many n, is))
@@ -61,10 +61,6 @@ module _ {T : Type 0} (opening : Opening T) where
   abbrev Steps : Says T → Watch (Done T) → Watch (Done T) → Option (Numbered View) → Option (Numbered View) → ℕ → Type 0
   Steps says before now view view' n = Moved (Watches (Named (IsFair opening) (fair_ways opening) before.name) before now (Told opening.value says view) n) view'
 
-  -- what a party finds that comes to hold
-  pub holder_finds : (view view' : Option (Numbered View)) (before after : Option T) (seen : Watch (Done T)) → use_of use_of_view (what view) ≡ off → Found (fair_ways opening) view view' before after seen → (x : T) → after ≡ Some x → IsLast opening seen.entries x
-  holder_finds view view' before after seen unused known x is = found opening (use_of use_of_party view) (use_of use_of_party view') before after seen.entries x known (sym (same_use use_of_view view) ∙ unused) is
-
   -- after any step a party that knew all knows all again, by a watch of the same trace; and where it comes to use the value, that is the one written last
   pub still_knows : (says : Says T) (view view' : Option (Numbered View)) (before now : Watch (Done T)) (key' : Opening T) (shown shown' : Option T) (n : ℕ) → mark_of view ≡ length before.entries → opening.name ≡ before.name → key' ≡ opening
       → use_of use_of_view (what view) ≡ off → Steps says before now view view' n → Found (fair_ways opening) view view' shown shown' now
@@ -73,7 +69,7 @@ module _ {T : Type 0} (opening : Opening T) where
   still_knows says view (Some v) before now key' shown shown' n knew named same unused moved known = (
     ap (λ k. k.name) same ∙ named ∙ sym (moved.0 (may_know before named)),
     (passes.learns (model opening.value) seat_of words_of says (Named (IsFair opening) (fair_ways opening) before.name) view before now n v knew moved).1,
-    λ x is. subst (λ k. IsLast k now.entries x) (sym same) (holder_finds view (Some v) shown shown' now unused known x is),
+    λ x is. subst (λ k. IsLast k now.entries x) (sym same) (finds (mutex opening) view (Some v) shown shown' now x known unused is),
   )
 
   -- of a party that knew all up to its last step: the moves of its call, and where it led
@@ -89,33 +85,6 @@ module _ {T : Type 0} (opening : Opening T) where
     took_from o view view' before now key' n knew same key moved end =
         let so = learnt view view' before now n knew same moved in
         (((so.named, key), passes.weaker (model opening.value) view view' before.entries now.entries (AreSteps goes_on c (ends n)) (Comes goes_on c o) (comes goes_on c (ends n) o end) so.made), so.is)
-
-  -- The release: the value that is left is the one that the moves write
-
-  module _ (view view' : Option (Numbered View)) (shown shown' : Option T) (before now : Watch (Done T)) (v : Numbered View) (x : T) (n : ℕ) (is : view ≡ Some v) (held : use_of_view v.0 ≡ writes) (here : shown ≡ Some x) (moved : Steps frees_by before now view view' n) where
-    pub leaves : Found (fair_ways opening) view view' shown shown' now → IsLast opening now.entries x
-    leaves known = gave opening (use_of use_of_party view) (use_of use_of_party view') shown shown' now.entries x known (ap (use_of use_of_party) is ∙ held) (gone view' (freed opening (Named (IsFair opening) (fair_ways opening) before.name) before now view view' n moved)) here where
-      gone : (w : Option (Numbered View)) → stands w ≡ Idle → use_of use_of_party w ≡ off
-      gone None e = refl
-      gone (Some w) e = ap use_of_view e
-
-    abbrev Told_left : T → Type 0
-    Told_left y = opening.told ≡ true → y ≡ x
-
-    exactly : (w : Option (Numbered View)) → IsLast opening now.entries x → Steps frees_by before now view w n → Steps (frees_with Told_left) before now view w n
-    exactly None so made = absurd made
-    exactly (Some w) so (named, (log, es, known, grew, (own, outs, mine, mark, none, alike, (stays, (y, any, by))))) =
-        (named, (log, es, known, grew, (own, outs, mine, mark, none, alike, (stays, (y, wrote opening log es now.entries w.1 own x y grew mine (write_leaves y false Release (answered IsDone) own outs by) so, by)))))
-
-    pub released : mark_of view ≡ length before.entries → opening.name ≡ before.name → IsLast opening now.entries x → (now.name ≡ before.name) × Left opening.value Told_left view before.entries view' now.entries × (mark_of view' ≡ length now.entries)
-    released knew same so =
-        let told = passes.learnt (model opening.value) seat_of words_of (frees_with Told_left) (λ n. Idle) (λ n. WritesSome Told_left (IsStep false Release (answered IsDone))) (λ own outs n u said. said) (Named (IsFair opening) (fair_ways opening) before.name) (may_know before same) view view' before now n knew
-        (exactly view' so moved) in
-        (told.named, whole_behind (model opening.value) view view' before.entries now.entries Told_left Release IsDone told.made, told.knows)
-
--- what was written, whatever it was
-pub left_weaker : {T : Type 0} (v₀ : T) (Q : T → Type 0) (view view' : Option (Numbered View)) (old new : List (Done T)) → Left v₀ Q view old view' new → Left v₀ (λ x. Unit {0}) view old view' new
-left_weaker v₀ Q view view' old new = passes.weaker (model v₀) view view' old new (WritesSome Q (IsCall Release IsDone)) (WritesSome (λ x. Unit {0}) (IsCall Release IsDone)) (λ own outs (x, so, by). (x, tt, by))
 
 -- of a party with all that it knew
 module _ {T : Type 0} (me : Account T) (view : Option (Numbered View)) (now : Watch (Done T)) (lock : Opening T) (n : ℕ) (same : lock ≡ me.permit.key) where
@@ -136,11 +105,6 @@ and_then v₀ true c None u v w old seen new = and_waits (model v₀) u v w old 
 and_then v₀ true c (Some a) u v w old seen new = and_ends (model v₀) u v w old seen new a
 and_then v₀ false c None u v w old seen new = call_waits (model v₀) u v w old seen new c
 and_then v₀ false c (Some a) u v w old seen new = call_ends (model v₀) u v w old seen new c a
-
-pub out_begins : (view : Option View) → IsOut view → in_call view ≡ false
-out_begins None out = refl
-out_begins (Some Idle) out = refl
-out_begins (Some _) out = absurd out
 
 -- the outcome of a step, by what the code found
 pub granted_at : {T : Type 0} (n expected : ℕ) (won lost : Answer T) → n ≡ expected → Comes_to (answered (if n == expected then won else lost) ∷ []) (Some won)
@@ -190,11 +154,10 @@ reason_so {T} n = at (n == 1)
     at false = refl
 
 -- a new party makes its whole `starve`
-pub comes_whole : {T : Type 0} (v₀ : T) (view : Option View) (o : FairCall → Option (Answer T)) (u w : Option (Numbered View)) (old new : List (Done T)) → IsOut view → Moves v₀ (Comes (in_call view) (call_of view) (o (call_of view))) u old w new
+pub comes_whole : {T : Type 0} (v₀ : T) (view : Option View) (o : FairCall → Option (Answer T)) (u w : Option (Numbered View)) (old new : List (Done T)) → IsOut Idle view → Moves v₀ (Comes (in_call view) (call_of view) (o (call_of view))) u old w new
     → Moves v₀ (Comes false Starve (o Starve)) u old w new
 comes_whole v₀ None o u w old new out made = made
-comes_whole v₀ (Some Idle) o u w old new out made = made
-comes_whole v₀ (Some _) o u w old new out made = absurd out
+comes_whole v₀ (Some v) o u w old new out made = subst (λ v. Moves v₀ (Comes (in_call (Some v)) (call_of (Some v)) (o (call_of (Some v)))) u old w new) out made
 
 -- A party that looks
 

@@ -5,12 +5,12 @@ use Rattle.spin_step_more.specs.Starvers.{is_set}
 use Rattle.spin_step_more.specs.declared.fair_calls.FairCall.TheVariants.{IsLocked}
 use Rattle.spin_fair.specs.Fair.{answered, Called}
 use Rattle.spin_fair.specs.declared.fair.rule.View.TheVariants.{Idle}
-use Rattle.spin_fair.proofs.Steps.{looks, is_out}
+use Rattle.spin_fair.proofs.Steps.{looks}
 use Rattle.spin_fair.proofs.Takes.{may_know, took}
 use Rattle.spin_fair.proofs.fair.pass.Pass.is_locked.Goals as goal
 
 pub load-found-requires : goal.load-found-requires
-load-found-requires g c = let me = c.args.self.account in (inr (may_know me.permit.key me.seen me.named), looks me.permit.key me.permit.view me.permit.value (is_out me.permit.view c.args.self.rests))
+load-found-requires g c = let me = c.args.self.account in (inr (may_know me.permit.key me.seen me.named), looks me.permit.key me.permit.view me.permit.value c.args.self.rests)
 
 pub returns-clause-made : goal.returns-clause-made
 returns-clause-made g c =

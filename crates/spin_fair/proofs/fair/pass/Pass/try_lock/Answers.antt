@@ -4,7 +4,7 @@ use Rattle.spin_core.specs.Own.{what}
 use Rattle.spin_core.specs.Passes.{IsCall}
 use Rattle.spin_model.specs.declared.answer.Answer.TheVariants.{Granted}
 use Rattle.spin_step_more.specs.declared.fair_calls.FairCall.TheVariants.{TryLock}
-use Rattle.spin_fair.proofs.Steps.{attempts, is_out, out_off}
+use Rattle.spin_fair.proofs.Steps.{attempts, out_off}
 use Rattle.spin_fair.specs.Fair.{tries_by}
 use Rattle.spin_fair.proofs.Takes.{may_know, knows_again, has_tried, is_refused, as_held}
 use Rattle.spin_fair.proofs.fair.pass.Pass.try_lock.Goals as goal
@@ -13,7 +13,7 @@ pub exchange-found-requires : goal.exchange-found-requires
 exchange-found-requires g c =
     let me = c.args.self.account in let exact = c.lock.ensures.exact in let got = c.unwrap-taken.ensures in let taken : ℕ = 1 in
     let same : c.unwrap-taken.result ≡ taken = cc in
-    (inr (may_know me.permit.key me.seen me.named), rw same (attempts me.permit.key me.permit.view me.permit.value (is_out me.permit.view c.args.self.rests) 1 refl (rw exact at c.lock.ensures.plain)))
+    (inr (may_know me.permit.key me.seen me.named), rw same (attempts me.permit.key me.permit.view me.permit.value c.args.self.rests 1 refl (rw exact at c.lock.ensures.plain)))
 
 pub returns-then-found-free-clause-newcomer : goal.returns-then-found-free-clause-newcomer
 returns-then-found-free-clause-newcomer g c =
@@ -41,8 +41,8 @@ returns-else-found-free-clause-refused g c =
 
 pub invariant_of-account : goal.invariant_of-account
 invariant_of-account g c = let me = c.args.self.account in let f = c.exchange-found in
-    let all = knows_again me f.result.1.view f.result.2 f.result.1.key f.result.0 f.ensures.key (tries_by TryLock) f.result.1.value (out_off (what me.permit.view) (is_out me.permit.view c.args.self.rests)) f.ensures.moved f.ensures.found in record { named = all.0; knows = all.1; finds = all.2 }
+    let all = knows_again me f.result.1.view f.result.2 f.result.1.key f.result.0 f.ensures.key (tries_by TryLock) f.result.1.value (out_off (what me.permit.view) c.args.self.rests) f.ensures.moved f.ensures.found in record { named = all.0; knows = all.1; finds = all.2 }
 
 pub invariant_of-account-else-found-free : goal.invariant_of-account-else-found-free
 invariant_of-account-else-found-free g c = let me = c.args.self.account in let f = c.exchange-found in
-    let all = knows_again me f.result.1.view f.result.2 f.result.1.key f.result.0 f.ensures.key (tries_by TryLock) f.result.1.value (out_off (what me.permit.view) (is_out me.permit.view c.args.self.rests)) f.ensures.moved f.ensures.found in record { named = all.0; knows = all.1; finds = all.2 }
+    let all = knows_again me f.result.1.view f.result.2 f.result.1.key f.result.0 f.ensures.key (tries_by TryLock) f.result.1.value (out_off (what me.permit.view) c.args.self.rests) f.ensures.moved f.ensures.found in record { named = all.0; knows = all.1; finds = all.2 }
