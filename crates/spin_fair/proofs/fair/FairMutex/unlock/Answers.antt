@@ -10,9 +10,8 @@ use Rattle.spin_core.proofs.Mutexes.{released}
 use Rattle.spin_core.proofs.Spots.{wrote_any}
 use Rattle.spin_model.specs.declared.answer.Answer.TheVariants.{Done}
 use Rattle.spin_step_more.specs.declared.fair_calls.FairCall.TheVariants.{Release}
-use Rattle.spin_fair.specs.Fair as fairs
 use Rattle.spin_fair.specs.Fair.{model_at, use_of_view}
-use Rattle.spin_fair.specs.declared.fair.rule.View.{View}
+use Rattle.spin_fair.specs.Waits.{Spot}
 use Rattle.spin_fair.proofs.Steps.{mutex, frees}
 use Rattle.spin_fair.proofs.Takes.{may_know}
 use Rattle.spin_fair.proofs.fair.FairMutex.unlock.Goals as goal
@@ -23,9 +22,6 @@ subtract-permit-requires g c =
       inr (may_know it.result.key c.args.seen (ap (λ k. k.name) it.ensures.key ∙ ap (λ p. p.key.name) c.into_writer.ensures ∙ c.requires.0)),
       rw (it.ensures.same.0, it.ensures.same.1) (frees it.result.key w.view w.value it.ensures.use_of_view),
     )
-
-abbrev Spot : Type 0 → Type 0
-Spot T = spots.Spot (Opening T) View (fairs.Done T)
 
 abbrev Releases : {T : Type 0} → T → Spot T → Spot T → Type 0
 Releases {T} = spots.Releases model_at (λ (opening : Opening T). opening) Release Done
