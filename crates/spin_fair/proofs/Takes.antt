@@ -64,19 +64,22 @@ module _ {T : Type 0} (p q : Spot T) (same : q.0 ≡ p.0) (named : p.0.name ≡ 
   abbrev pub Steps : Says T → Type 0
   Steps says = Moved (Watches (Named (IsFair p.0) (fair_ways p.0) p.2.name) p.2 q.2 (Told p.0.value says p.1) n) q.1
 
+  abbrev pub Knows : Option (Numbered View) → Option T → Type 0
+  Knows view shown = record { named : q.0.name ≡ q.2.name; knows : mark_of view ≡ length q.2.entries; finds : (x : T) → shown ≡ Some x → IsLast q.0 q.2.entries x }
+
   -- it knows all again, by a watch of the same trace; and if it comes to use the value, that is the one written last
   pub knows_again : (says : Says T) (shown shown' : Option T) → use_of use_of_view (what p.1) ≡ off → Steps says → Found (fair_ways p.0) p.1 q.1 shown shown' q.2
-      → (q.0.name ≡ q.2.name) × (mark_of q.1 ≡ length q.2.entries) × ((x : T) → shown' ≡ Some x → IsLast q.0 q.2.entries x)
+      → Knows q.1 shown'
   knows_again says shown shown' unused moved known = at q.1 moved known
     where
       at : (view : Option (Numbered View)) → Moved (Watches (Named (IsFair p.0) (fair_ways p.0) p.2.name) p.2 q.2 (Told p.0.value says p.1) n) view → Found (fair_ways p.0) p.1 view shown shown' q.2
-          → (q.0.name ≡ q.2.name) × (mark_of view ≡ length q.2.entries) × ((x : T) → shown' ≡ Some x → IsLast q.0 q.2.entries x)
+          → Knows view shown'
       at None moved known = absurd moved
-      at (Some v) moved known = (
-        ap (λ k. k.name) same ∙ named ∙ sym (moved.0 (may_know p.0 p.2 named)),
-        (passes.learns (model_at p.0) seat_of words_of says (Named (IsFair p.0) (fair_ways p.0) p.2.name) p.1 p.2 q.2 n v knew moved).1,
-        λ x is. subst (λ k. IsLast k q.2.entries x) (sym same) (finds (mutex p.0) p.1 (Some v) shown shown' q.2 x known unused is),
-      )
+      at (Some v) moved known = record {
+        named = ap (λ k. k.name) same ∙ named ∙ sym (moved.0 (may_know p.0 p.2 named));
+        knows = (passes.learns (model_at p.0) seat_of words_of says (Named (IsFair p.0) (fair_ways p.0) p.2.name) p.1 p.2 q.2 n v knew moved).1;
+        finds = λ x is. subst (λ k. IsLast k q.2.entries x) (sym same) (finds (mutex p.0) p.1 (Some v) shown shown' q.2 x known unused is);
+      }
 
   -- the moves of its call, and where it led
   pub took : (goes_on : Bool) (c : FairCall) (ends : ℕ → List (Ending T)) (to : ℕ → View) (o : Option (Answer T)) → Steps (steps_by goes_on c ends to) → Comes_to (ends n) o → Since model_at (Comes goes_on c o) p q × (what q.1 ≡ Some (to n))

@@ -28,11 +28,9 @@ returns-else-is_locked-clause-served g c =
 pub invariant_of-account : goal.invariant_of-account
 invariant_of-account g c =
     let me = c.args.account in let f = c.set_bits-found in let unused = set_off (view_of me) c.requires in
-    let all = knows_again (here me) (spot f.result.1 f.result.2) f.ensures.key me.named me.knows f.result.0 (sets_by (call_of (view_of me))) me.permit.value f.result.1.value unused f.ensures.moved f.ensures.found in
-    record { named = all.0; knows = all.1; finds = all.2 }
+    knows_again (here me) (spot f.result.1 f.result.2) f.ensures.key me.named me.knows f.result.0 (sets_by (call_of (view_of me))) me.permit.value f.result.1.value unused f.ensures.moved f.ensures.found
 
 pub invariant_of-account-else-is_locked : goal.invariant_of-account-else-is_locked
 invariant_of-account-else-is_locked g c =
     let me = c.args.account in let f = c.set_bits-found in let unused = set_off (view_of me) c.requires in
-    let all = knows_again (here me) (spot f.result.1 f.result.2) f.ensures.key me.named me.knows f.result.0 (sets_by (call_of (view_of me))) me.permit.value f.result.1.value unused f.ensures.moved f.ensures.found in
-    record { named = all.0; knows = all.1; finds = all.2 }
+    knows_again (here me) (spot f.result.1 f.result.2) f.ensures.key me.named me.knows f.result.0 (sets_by (call_of (view_of me))) me.permit.value f.result.1.value unused f.ensures.moved f.ensures.found

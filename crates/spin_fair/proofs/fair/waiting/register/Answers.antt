@@ -35,9 +35,9 @@ loop-preserved g c =
     let is = stays_in first word p some.more some.ensures.exact l.invariant.5 in (
       tt,
       tt,
-      all.0,
-      all.1,
-      all.2,
+      all.named,
+      all.knows,
+      all.finds,
       inr (
         so.1 ∙ ap (λ b. Some (if b then registered (call_of v) else goes_for (call_of v) f.result.0)) (ne_eqb f.result.0 word c.if-found-word.false) ∙ ap (λ c. Some (goes_for c f.result.0)) is,
         goes_further first word p some.more some.ensures.exact (λ c. room_so g.row.T.Denot c f.result.0) q l.invariant.5 so.0,

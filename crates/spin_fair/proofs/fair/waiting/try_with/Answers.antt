@@ -33,11 +33,9 @@ returns-else-found-free g c =
 pub invariant_of-account : goal.invariant_of-account
 invariant_of-account g c =
     let me = c.args.account in let f = c.exchange-found in let unused = try_off c.args.spins (view_of me) c.requires in
-    let all = knows_again (here me) (spot f.result.1 f.result.2) f.ensures.key me.named me.knows f.result.0 (tried_by (view_of me)) me.permit.value f.result.1.value unused f.ensures.moved f.ensures.found in
-    record { named = all.0; knows = all.1; finds = all.2 }
+    knows_again (here me) (spot f.result.1 f.result.2) f.ensures.key me.named me.knows f.result.0 (tried_by (view_of me)) me.permit.value f.result.1.value unused f.ensures.moved f.ensures.found
 
 pub invariant_of-account-else-found-free : goal.invariant_of-account-else-found-free
 invariant_of-account-else-found-free g c =
     let me = c.args.account in let f = c.exchange-found in let unused = try_off c.args.spins (view_of me) c.requires in
-    let all = knows_again (here me) (spot f.result.1 f.result.2) f.ensures.key me.named me.knows f.result.0 (tried_by (view_of me)) me.permit.value f.result.1.value unused f.ensures.moved f.ensures.found in
-    record { named = all.0; knows = all.1; finds = all.2 }
+    knows_again (here me) (spot f.result.1 f.result.2) f.ensures.key me.named me.knows f.result.0 (tried_by (view_of me)) me.permit.value f.result.1.value unused f.ensures.moved f.ensures.found

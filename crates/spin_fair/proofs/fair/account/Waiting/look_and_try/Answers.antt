@@ -48,17 +48,14 @@ returns-in-Err g c =
 pub invariant_of-account : goal.invariant_of-account
 invariant_of-account g c =
     let me = c.args.self.account in let f = c.load-found in let unused = ap (use_of use_of_view) c.args.self.looks in
-    let all = knows_again (here me) (spot f.result.1 f.result.2) f.ensures.key me.named me.knows f.result.0 (looked_by (view_of me)) me.permit.value f.result.1.value unused f.ensures.moved f.ensures.found in
-    record { named = all.0; knows = all.1; finds = all.2 }
+    knows_again (here me) (spot f.result.1 f.result.2) f.ensures.key me.named me.knows f.result.0 (looked_by (view_of me)) me.permit.value f.result.1.value unused f.ensures.moved f.ensures.found
 
 pub invariant_of-account-then-spins-le-STARVATION_SPINS : goal.invariant_of-account-then-spins-le-STARVATION_SPINS
 invariant_of-account-then-spins-le-STARVATION_SPINS g c =
     let me = c.args.self.account in let f = c.load-found in let unused = ap (use_of use_of_view) c.args.self.looks in
-    let all = knows_again (here me) (spot f.result.1 f.result.2) f.ensures.key me.named me.knows f.result.0 (looked_by (view_of me)) me.permit.value f.result.1.value unused f.ensures.moved f.ensures.found in
-    record { named = all.0; knows = all.1; finds = all.2 }
+    knows_again (here me) (spot f.result.1 f.result.2) f.ensures.key me.named me.knows f.result.0 (looked_by (view_of me)) me.permit.value f.result.1.value unused f.ensures.moved f.ensures.found
 
 pub invariant_of-account-2 : goal.invariant_of-account-2
 invariant_of-account-2 g c =
     let me = c.args.self.account in let f = c.load-found in let unused = ap (use_of use_of_view) c.args.self.looks in
-    let all = knows_again (here me) (spot f.result.1 f.result.2) f.ensures.key me.named me.knows f.result.0 (looked_by (view_of me)) me.permit.value f.result.1.value unused f.ensures.moved f.ensures.found in
-    record { named = all.0; knows = all.1; finds = all.2 }
+    knows_again (here me) (spot f.result.1 f.result.2) f.ensures.key me.named me.knows f.result.0 (looked_by (view_of me)) me.permit.value f.result.1.value unused f.ensures.moved f.ensures.found

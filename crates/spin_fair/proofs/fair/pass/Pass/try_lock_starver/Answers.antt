@@ -33,11 +33,9 @@ returns-else-found-free-clause-refused g c =
 pub invariant_of-account : goal.invariant_of-account
 invariant_of-account g c =
     let me = c.args.self.account in let f = c.exchange-found in let unused = out_off (what me.permit.view) c.args.self.rests in
-    let all = knows_again (here me) (spot f.result.1 f.result.2) f.ensures.key me.named me.knows f.result.0 (tries_by TryLockStarver) me.permit.value f.result.1.value unused f.ensures.moved f.ensures.found in
-    record { named = all.0; knows = all.1; finds = all.2 }
+    knows_again (here me) (spot f.result.1 f.result.2) f.ensures.key me.named me.knows f.result.0 (tries_by TryLockStarver) me.permit.value f.result.1.value unused f.ensures.moved f.ensures.found
 
 pub invariant_of-account-else-found-free : goal.invariant_of-account-else-found-free
 invariant_of-account-else-found-free g c =
     let me = c.args.self.account in let f = c.exchange-found in let unused = out_off (what me.permit.view) c.args.self.rests in
-    let all = knows_again (here me) (spot f.result.1 f.result.2) f.ensures.key me.named me.knows f.result.0 (tries_by TryLockStarver) me.permit.value f.result.1.value unused f.ensures.moved f.ensures.found in
-    record { named = all.0; knows = all.1; finds = all.2 }
+    knows_again (here me) (spot f.result.1 f.result.2) f.ensures.key me.named me.knows f.result.0 (tries_by TryLockStarver) me.permit.value f.result.1.value unused f.ensures.moved f.ensures.found

@@ -45,11 +45,9 @@ returns-in-Err-clause-refused g c =
 pub invariant_of-account : goal.invariant_of-account
 invariant_of-account g c =
     let me = c.args.self.account in let f = c.exchange-found in let unused = ap (use_of use_of_view) c.args.self.starving in
-    let all = knows_again (here me) (spot f.result.1 f.result.2) f.ensures.key me.named me.knows f.result.0 (alone_by StarverTryLock) me.permit.value f.result.1.value unused f.ensures.moved f.ensures.found in
-    record { named = all.0; knows = all.1; finds = all.2 }
+    knows_again (here me) (spot f.result.1 f.result.2) f.ensures.key me.named me.knows f.result.0 (alone_by StarverTryLock) me.permit.value f.result.1.value unused f.ensures.moved f.ensures.found
 
 pub invariant_of-account-2 : goal.invariant_of-account-2
 invariant_of-account-2 g c =
     let me = c.args.self.account in let f = c.exchange-found in let unused = ap (use_of use_of_view) c.args.self.starving in
-    let all = knows_again (here me) (spot f.result.1 f.result.2) f.ensures.key me.named me.knows f.result.0 (alone_by StarverTryLock) me.permit.value f.result.1.value unused f.ensures.moved f.ensures.found in
-    record { named = all.0; knows = all.1; finds = all.2 }
+    knows_again (here me) (spot f.result.1 f.result.2) f.ensures.key me.named me.knows f.result.0 (alone_by StarverTryLock) me.permit.value f.result.1.value unused f.ensures.moved f.ensures.found
