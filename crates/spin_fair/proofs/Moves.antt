@@ -53,7 +53,8 @@ module _ {T : Type 0} (v₀ : T) where
   -- A newcomer
 
   pub load_moves : MovesTo None (λ n. n) (λ n. Idle) looks_by
-  load_moves w value v is = rw is (Begin IsLocked ∷ Step ∷ [], Begun ∷ Answered (Is (is_set w)) None ∷ [], (refl, (refl, refl)), refl, refl, w, value, refl, refl, refl)
+  load_moves w value v is =
+      rw is (Begin IsLocked ∷ Step ∷ [], Begun ∷ Answered (Is (is_set w)) None ∷ [], (refl, (refl, refl)), refl, refl, w, value, refl, refl, refl)
 
   abbrev pub Attempts : FairCall → Type 0
   Attempts c = MovesTo None (λ n. either (n == 0) 1 n) (λ n. if n == 0 then Holding else Idle) (tries_by c)
@@ -166,7 +167,8 @@ module _ {T : Type 0} (v₀ : T) where
   give_up_moves w value v is = rw is.0 (Begin StarverDrop ∷ Step ∷ [], Begun ∷ Answered Done None ∷ [], (refl, (refl, refl)), refl, refl, w - 2, value, refl, refl, ap words_of (sym is.1))
 
   -- the holder writes the value x
-  pub release_moves : (x : T) (u : View) → seat_of u ≡ seat.Holding Write → Moves (Some u) (λ n. (n + (2 ^ 64 - 1)) % 2 ^ 64) (λ n v. (v ≡ Idle) × Takes 1 n) (leaves_by (λ y. y ≡ x) Release Done Idle)
+  pub release_moves : (x : T) (u : View) → seat_of u ≡ seat.Holding Write
+      → Moves (Some u) (λ n. (n + (2 ^ 64 - 1)) % 2 ^ 64) (λ n v. (v ≡ Idle) × Takes 1 n) (leaves_by (λ y. y ≡ x) Release Done Idle)
   release_moves x u holds w value v is = rw (is.0, holds) (
     move.Write x ∷ Begin Release ∷ Step ∷ [],
     Written ∷ Begun ∷ Answered Done None ∷ [],

@@ -370,7 +370,8 @@ steps_leave : {T : Type 0} (ends : List (Ending T)) (v : T) → left {C = FairCa
 steps_leave [] v = refl
 steps_leave (e ∷ ends) v = steps_leave ends v
 
-are_steps_leave : {T : Type 0} (goes_on : Bool) (c : FairCall) (ends : List (Ending T)) (own : List (Move FairCall T)) (outs : List (Ending T)) → AreSteps goes_on c ends own outs → (v : T) → left own v ≡ v
+are_steps_leave : {T : Type 0} (goes_on : Bool) (c : FairCall) (ends : List (Ending T)) (own : List (Move FairCall T)) (outs : List (Ending T))
+    → AreSteps goes_on c ends own outs → (v : T) → left own v ≡ v
 are_steps_leave true c ends own outs are v = ap (λ o. left o v) are.0 ∙ steps_leave ends v
 are_steps_leave false c ends own outs are v = ap (λ o. left o v) are.0 ∙ steps_leave ends v
 
@@ -408,17 +409,23 @@ module _ {T : Type 0} (opening : Opening T) where
 
   pub looks : (view : Option (Numbered View)) (shown : Option T) → IsOut Idle (what view) → Keeps view shown (λ n. n) looks_by
   looks view shown out = let now = what view in
-      keeps view shown (λ n. n) (λ n v. v ≡ Idle) looks_by (frees_none false IsLocked _ (λ n. Idle) (λ n. refl)) (unused now shown (out_off now out) false IsLocked _ (λ n. Idle))
-      (out_moves (mutex opening) now out (λ n. n) (λ n v. v ≡ Idle) looks_by (load_moves v₀)) (stays_at fair now (λ n. Idle) (λ n. nothing now out) (λ s n. tt))
+      keeps view shown (λ n. n) (λ n v. v ≡ Idle) looks_by (frees_none false IsLocked _ (λ n. Idle) (λ n. refl))
+      (unused now shown (out_off now out) false IsLocked _ (λ n. Idle))
+      (out_moves (mutex opening) now out (λ n. n) (λ n v. v ≡ Idle) looks_by (load_moves v₀))
+      (stays_at fair now (λ n. Idle) (λ n. nothing now out) (λ s n. tt))
 
   -- the lemma of the step function says that the lock is free if it grants
   abbrev Attempts : FairCall → Type 0
-  Attempts c = (view : Option (Numbered View)) (shown : Option T) → IsOut Idle (what view) → (taken : ℕ) → taken ≡ 1 → ((s : Plain) (p : ℕ) → fair_word s ≡ 0 → Decides s (gets p to_lock_unregistered) fair_word (Some taken)) → Keeps view shown (λ n. either (n == 0) taken n) (tries_by c)
+  Attempts c =
+      (view : Option (Numbered View)) (shown : Option T) → IsOut Idle (what view) → (taken : ℕ) → taken ≡ 1
+      → ((s : Plain) (p : ℕ) → fair_word s ≡ 0 → Decides s (gets p to_lock_unregistered) fair_word (Some taken))
+      → Keeps view shown (λ n. either (n == 0) taken n) (tries_by c)
 
   attempts_by : (c : FairCall) → moves.Attempts v₀ c → Attempts c
   attempts_by c new view shown out taken one plain = let now = what view in let to : ℕ → View → Type 0 = λ n v. v ≡ (if n == 0 then Holding else Idle) in
       keeps view shown (λ n. either (n == 0) taken n) (λ n v. v ≡ (if n == 0 then Holding else Idle)) (tries_by c) (frees_by_try false c _ Idle refl)
-      (unused now shown (out_off now out) false c _ (λ n. if n == 0 then Holding else Idle)) (rw one (out_moves (mutex opening) now out (λ n. either (n == 0) 1 n) to (tries_by c) new)) (attempts_plain now Idle (nothing now out) refl taken plain)
+      (unused now shown (out_off now out) false c _ (λ n. if n == 0 then Holding else Idle))
+      (rw one (out_moves (mutex opening) now out (λ n. either (n == 0) 1 n) to (tries_by c) new)) (attempts_plain now Idle (nothing now out) refl taken plain)
 
   pub attempts : Attempts TryLock
   attempts = attempts_by TryLock (attempt_moves v₀)
@@ -429,7 +436,9 @@ module _ {T : Type 0} (opening : Opening T) where
   pub tries : (n : ℕ) (view : Option (Numbered View)) (shown : Option T) → MayTry n (what view) → (taken : ℕ) → taken ≡ 1 → ((s : Plain) (p : ℕ) → fair_word s ≡ 0 → Decides s (gets p to_lock_unregistered) fair_word (Some taken))
       → Keeps view shown (λ n. either (n == 0) taken n) (tried_by (what view))
   tries n view shown may taken one plain = let now = what view in let lost : View = Looking (looks_of now) in
-      keeps view shown (λ n. either (n == 0) taken n) (λ n v. v ≡ tried now n) (tried_by now) (frees_by_try (in_call now) Lock _ lost refl) (unused now shown (try_off n now may) (in_call now) Lock _ (tried now)) (rw one (moves_of now may)) (attempts_plain now lost (may_try n now may) refl taken plain)
+      keeps view shown (λ n. either (n == 0) taken n) (λ n v. v ≡ tried now n) (tried_by now) (frees_by_try (in_call now) Lock _ lost refl)
+      (unused now shown (try_off n now may) (in_call now) Lock _ (tried now)) (rw one (moves_of now may))
+      (attempts_plain now lost (may_try n now may) refl taken plain)
     where
       moves_of : (now : Option View) → MayTry n now → moves.Tries v₀ now
       moves_of None may = first_moves v₀
@@ -520,11 +529,15 @@ module _ {T : Type 0} (opening : Opening T) where
 
   -- the holder writes the value that it leaves
   pub frees : (v : Numbered View) (x : T) → use_of_view v.0 ≡ writes → Keeps (Some v) (Some x) (λ n. (n + (2 ^ 64 - 1)) % 2 ^ 64) frees_by
-  frees v x held = let ready = ready_of v.0 held in let exact : Says T = leaves_by (λ y. y ≡ x) Release Done Idle in let to : ℕ → ℕ = λ n. (n + (2 ^ 64 - 1)) % 2 ^ 64 in
+  frees v x held =
+      let ready = ready_of v.0 held in let exact : Says T = leaves_by (λ y. y ≡ x) Release Done Idle in let to : ℕ → ℕ = λ n. (n + (2 ^ 64 - 1)) % 2 ^ 64 in
       tie.tells_less (model v₀) seat_of words_of (Some v) exact frees_by (λ own outs n u (stays, (y, is, by)). (stays, (y, tt, by))) (IsFair opening) (fair_ways opening) (Some x) to
-      (keeps (Some v) (Some x) to (λ n v. (v ≡ Idle) × Takes 1 n) exact (λ own outs n u said got. never n u Idle said.0 refl got) (leaving (mutex opening) (Some v.0) (Some x) x Release Done held refl) ready.0 ready.1)
+      (keeps (Some v) (Some x) to (λ n v. (v ≡ Idle) × Takes 1 n) exact (λ own outs n u said got. never n u Idle said.0 refl got)
+      (leaving (mutex opening) (Some v.0) (Some x) x Release Done held refl) ready.0 ready.1)
     where
-      ready_of : (v : View) → use_of_view v ≡ writes → Moves v₀ (Some v) (λ n. (n + (2 ^ 64 - 1)) % 2 ^ 64) (λ n v. (v ≡ Idle) × Takes 1 n) (leaves_by (λ y. y ≡ x) Release Done Idle) × Leads (Some v) (λ n. (n + (2 ^ 64 - 1)) % 2 ^ 64) (λ n v. (v ≡ Idle) × Takes 1 n)
+      ready_of : (v : View) → use_of_view v ≡ writes
+          → Moves v₀ (Some v) (λ n. (n + (2 ^ 64 - 1)) % 2 ^ 64) (λ n v. (v ≡ Idle) × Takes 1 n) (leaves_by (λ y. y ≡ x) Release Done Idle)
+          × Leads (Some v) (λ n. (n + (2 ^ 64 - 1)) % 2 ^ 64) (λ n v. (v ≡ Idle) × Takes 1 n)
       ready_of Holding e = (release_moves v₀ x Holding refl, frees_plain Holding refl)
       ready_of Served e = (release_moves v₀ x Served refl, frees_plain Served refl)
       ready_of _ e = absurd cc

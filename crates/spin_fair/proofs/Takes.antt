@@ -50,13 +50,15 @@ and_one : {T : Type 0} (n : ℕ) (end : Ending T) → steps (replicate n GoingOn
 and_one zero end = refl
 and_one (suc n) end = ap (λ l. Step ∷ l) (and_one n end)
 
-comes : {T : Type 0} (goes_on : Bool) (c : FairCall) (ends : List (Ending T)) (o : Option (Answer T)) → Comes_to ends o → (own : List (Move FairCall T)) (outs : List (Ending T)) → AreSteps goes_on c ends own outs → Comes goes_on c o own outs
+comes : {T : Type 0} (goes_on : Bool) (c : FairCall) (ends : List (Ending T)) (o : Option (Answer T)) → Comes_to ends o
+    → (own : List (Move FairCall T)) (outs : List (Ending T)) → AreSteps goes_on c ends own outs → Comes goes_on c o own outs
 comes true c ends None (n, is) own outs are = (n, are.0 ∙ ap steps is ∙ as_many n, are.1 ∙ is)
 comes true c ends (Some a) (n, is) own outs are = (n, are.0 ∙ ap steps is ∙ and_one n (answered a), are.1 ∙ is)
 comes false c ends None (n, is) own outs are = (steps ends, ends, are.0, are.1, (n, ap steps is ∙ as_many n, is))
 comes false c ends (Some a) (n, is) own outs are = (steps ends, ends, are.0, are.1, (n, ap steps is ∙ and_one n (answered a), is))
 
-pub may_know : {T : Type 0} (opening : Opening T) (before : Watch (Done T)) → opening.name ≡ before.name → Named (IsFair opening) (fair_ways opening) before.name
+pub may_know : {T : Type 0} (opening : Opening T) (before : Watch (Done T)) → opening.name ≡ before.name
+    → Named (IsFair opening) (fair_ways opening) before.name
 may_know opening before = passes.may_know (IsFair opening) (fair_ways opening) opening.name (λ n t vs is. is.0) before.name
 
 -- What a step tells a party that knew all up to its last step
@@ -65,14 +67,17 @@ module _ {T : Type 0} (p q : Spot T) (same : q.0 ≡ p.0) (named : p.0.name ≡ 
   Steps says = Moved (Watches (Named (IsFair p.0) (fair_ways p.0) p.2.name) p.2 q.2 (Told p.0.value says p.1) n) q.1
 
   abbrev pub Knows : Option (Numbered View) → Option T → Type 0
-  Knows view shown = record { named : q.0.name ≡ q.2.name; knows : mark_of view ≡ length q.2.entries; finds : (x : T) → shown ≡ Some x → IsLast q.0 q.2.entries x }
+  Knows view shown =
+      record { named : q.0.name ≡ q.2.name; knows : mark_of view ≡ length q.2.entries; finds : (x : T) → shown ≡ Some x → IsLast q.0 q.2.entries x }
 
   -- it knows all again, by a watch of the same trace; and if it comes to use the value, that is the one written last
-  pub knows_again : (says : Says T) (shown shown' : Option T) → use_of use_of_view (what p.1) ≡ off → Steps says → Found (fair_ways p.0) p.1 q.1 shown shown' q.2
+  pub knows_again : (says : Says T) (shown shown' : Option T) → use_of use_of_view (what p.1) ≡ off → Steps says
+      → Found (fair_ways p.0) p.1 q.1 shown shown' q.2
       → Knows q.1 shown'
   knows_again says shown shown' unused moved known = at q.1 moved known
     where
-      at : (view : Option (Numbered View)) → Moved (Watches (Named (IsFair p.0) (fair_ways p.0) p.2.name) p.2 q.2 (Told p.0.value says p.1) n) view → Found (fair_ways p.0) p.1 view shown shown' q.2
+      at : (view : Option (Numbered View)) → Moved (Watches (Named (IsFair p.0) (fair_ways p.0) p.2.name) p.2 q.2 (Told p.0.value says p.1) n) view
+          → Found (fair_ways p.0) p.1 view shown shown' q.2
           → Knows view shown'
       at None moved known = absurd moved
       at (Some v) moved known = record {
@@ -82,10 +87,19 @@ module _ {T : Type 0} (p q : Spot T) (same : q.0 ≡ p.0) (named : p.0.name ≡ 
       }
 
   -- the moves of its call, and where it led
-  pub took : (goes_on : Bool) (c : FairCall) (ends : ℕ → List (Ending T)) (to : ℕ → View) (o : Option (Answer T)) → Steps (steps_by goes_on c ends to) → Comes_to (ends n) o → Since model_at (Comes goes_on c o) p q × (what q.1 ≡ Some (to n))
+  pub took : (goes_on : Bool) (c : FairCall) (ends : ℕ → List (Ending T)) (to : ℕ → View) (o : Option (Answer T)) → Steps (steps_by goes_on c ends to)
+      → Comes_to (ends n) o → Since model_at (Comes goes_on c o) p q × (what q.1 ≡ Some (to n))
   took goes_on c ends to o moved end =
-      let so = spots.took model_at seat_of words_of p q same knew (may_know p.0 p.2 named) n (steps_by goes_on c ends to) to (λ n. AreSteps goes_on c (ends n)) (λ own outs n v said. said) moved in
-      ((passes.weaker (model_at p.0) p.1 q.1 p.2.entries q.2.entries (AreSteps goes_on c (ends n)) (Comes goes_on c o) (comes goes_on c (ends n) o end) so.0.0, so.0.1, so.0.2), so.1)
+      let so = spots.took model_at seat_of words_of p q same knew (may_know p.0 p.2 named) n (steps_by goes_on c ends to) to
+      (λ n. AreSteps goes_on c (ends n)) (λ own outs n v said. said) moved in (
+        (
+          passes.weaker (model_at p.0) p.1 q.1 p.2.entries q.2.entries (AreSteps goes_on c (ends n)) (Comes goes_on c o)
+              (comes goes_on c (ends n) o end) so.0.0,
+          so.0.1,
+          so.0.2,
+        ),
+        so.1,
+      )
 
 -- moves of a call, and then further ones of it
 pub and_then : {T : Type 0} (v₀ : T) (goes_on : Bool) (c : FairCall) (o : Option (Answer T)) (u v w : Option (Numbered View)) (old seen new : List (Done T))
@@ -96,22 +110,27 @@ and_then v₀ false c None u v w old seen new = call_waits (model v₀) u v w ol
 and_then v₀ false c (Some a) u v w old seen new = call_ends (model v₀) u v w old seen new c a
 
 module _ {T : Type 0} (p q : Spot T) where
-  pub and_on : (goes_on : Bool) (c : FairCall) (o : Option (Answer T)) (r : Spot T) → Since model_at (Comes goes_on c None) p q → Since model_at (Comes true c o) q r → Since model_at (Comes goes_on c o) p r
+  pub and_on : (goes_on : Bool) (c : FairCall) (o : Option (Answer T)) (r : Spot T) → Since model_at (Comes goes_on c None) p q
+      → Since model_at (Comes true c o) q r → Since model_at (Comes goes_on c o) p r
   and_on goes_on c o r one two = (
-    and_then p.0.value goes_on c o p.1 q.1 r.1 p.2.entries q.2.entries r.2.entries one.0 (subst (λ k. Moves k.value (Comes true c o) q.1 q.2.entries r.1 r.2.entries) one.2 two.0),
+    and_then p.0.value goes_on c o p.1 q.1 r.1 p.2.entries q.2.entries r.2.entries one.0
+        (subst (λ k. Moves k.value (Comes true c o) q.1 q.2.entries r.1 r.2.entries) one.2 two.0),
     two.1 ∙ one.1,
     two.2 ∙ one.2,
   )
 
   -- the party of a guard, and what it knows
-  pub as_held : {P R S : Type 0} (course : Course T FairCall (Answer T)) (held : Held T P R S) → (Some (guard_view held.0) ≡ q.1) × (guard_key held.0 ≡ q.0) × (held.1 ≡ q.2) → Since model_at course p q → Since model_at course p (held_at held)
+  pub as_held : {P R S : Type 0} (course : Course T FairCall (Answer T)) (held : Held T P R S)
+      → (Some (guard_view held.0) ≡ q.1) × (guard_key held.0 ≡ q.0) × (held.1 ≡ q.2) → Since model_at course p q → Since model_at course p (held_at held)
   as_held course held (at, lock, is) so = subst (λ (z : Spot T). Since model_at course p z) (λ i. (sym lock i, sym at i, sym is i)) so
 
 -- what a call promises of a guard that it returns
 pub got : {T P R S : Type 0} (course : Course T FairCall (Answer T)) (was : Account T) (held : Held T P R S) → Gets course was held
-    → (IsHolder use_of_party held.0 × Holds held.0 held.1) × ((held.1.name ≡ was.seen.name) × (guard_key held.0 ≡ was.permit.key)) × IsLast was.permit.key held.1.entries (guard_value held.0)
+    → (IsHolder use_of_party held.0 × Holds held.0 held.1) × ((held.1.name ≡ was.seen.name) × (guard_key held.0 ≡ was.permit.key))
+    × IsLast was.permit.key held.1.entries (guard_value held.0)
     × Moves was.permit.key.value course was.permit.view was.seen.entries (Some (guard_view held.0)) held.1.entries
-got course was held ((holder, holds, last), (made, named, same)) = ((holder, holds), (named, same), subst (λ k. IsLast k held.1.entries (guard_value held.0)) same last, made)
+got course was held ((holder, holds, last), (made, named, same)) =
+    ((holder, holds), (named, same), subst (λ k. IsLast k held.1.entries (guard_value held.0)) same last, made)
 
 -- the outcome of a step, by what the code found
 pub granted_at : {T : Type 0} (n expected : ℕ) (won lost : Answer T) → n ≡ expected → Comes_to (answered (if n == expected then won else lost) ∷ []) (Some won)
@@ -132,8 +151,10 @@ module _ {T : Type 0} (p q : Spot T) (same : q.0 ≡ p.0) (named : p.0.name ≡ 
   Comes_so o = Since model_at (Comes false c o) p q
 
   module _ (moved : Steps p q same named knew n (tries_by c)) where
-    tried_so : (o : Option (Answer T)) → Comes_to (answered (if n == 0 then Granted else refusal c n) ∷ []) o → Comes_so o × (what q.1 ≡ Some (if n == 0 then Holding else Idle))
-    tried_so o = took p q same named knew n false c (λ n. answered (if n == 0 then Granted else refusal c n) ∷ []) (λ n. if n == 0 then Holding else Idle) o moved
+    tried_so : (o : Option (Answer T)) → Comes_to (answered (if n == 0 then Granted else refusal c n) ∷ []) o
+        → Comes_so o × (what q.1 ≡ Some (if n == 0 then Holding else Idle))
+    tried_so o =
+        took p q same named knew n false c (λ n. answered (if n == 0 then Granted else refusal c n) ∷ []) (λ n. if n == 0 then Holding else Idle) o moved
 
     pub has_tried : n ≡ 0 → Comes_so (Some Granted) × (what q.1 ≡ Some Holding)
     has_tried e = let so = tried_so (Some Granted) (granted_at n 0 Granted (refusal c n) e) in (so.0, so.1 ∙ ap (λ b. Some (if b then Holding else Idle)) (eq-eqb n 0 e))
@@ -142,7 +163,8 @@ module _ {T : Type 0} (p q : Spot T) (same : q.0 ≡ p.0) (named : p.0.name ≡ 
     is_refused ne = (tried_so (Some (refusal c n)) (refused_at n 0 Granted (refusal c n) ne)).0
 
   module _ (moved : Steps p q same named knew n (alone_by c)) where
-    alone_so : (o : Option (Answer T)) → Comes_to (if n == 2 then GoingOn ∷ answered Granted ∷ [] else missed_alone c) o → Comes_so o × (what q.1 ≡ Some (alone_to c n))
+    alone_so : (o : Option (Answer T)) → Comes_to (if n == 2 then GoingOn ∷ answered Granted ∷ [] else missed_alone c) o
+        → Comes_so o × (what q.1 ≡ Some (alone_to c n))
     alone_so o = took p q same named knew n false c (λ n. if n == 2 then GoingOn ∷ answered Granted ∷ [] else missed_alone c) (alone_to c) o moved
 
     pub was_alone : n ≡ 2 → Comes_so (Some Granted)
@@ -161,7 +183,8 @@ reason_so {T} n = at (n == 1)
     at false = refl
 
 -- a new party makes its whole `starve`
-pub comes_whole : {T : Type 0} (p q : Spot T) (view : Option View) (o : FairCall → Option (Answer T)) → IsOut Idle view → Since model_at (Comes (in_call view) (call_of view) (o (call_of view))) p q → Since model_at (Comes false Starve (o Starve)) p q
+pub comes_whole : {T : Type 0} (p q : Spot T) (view : Option View) (o : FairCall → Option (Answer T)) → IsOut Idle view
+    → Since model_at (Comes (in_call view) (call_of view) (o (call_of view))) p q → Since model_at (Comes false Starve (o Starve)) p q
 comes_whole p q None o out so = so
 comes_whole p q (Some v) o out so = subst (λ v. Since model_at (Comes (in_call (Some v)) (call_of (Some v)) (o (call_of (Some v)))) p q) out so
 
@@ -180,8 +203,10 @@ loading view spins n is set enough =
     ap (λ v. Some (looked v n)) is ∙ ap (λ b. Some (if b then (if nat_lt spins patience then Looking (spins + 1) else Loading) else Trying spins)) (sym set) ∙ ap (λ b. Some (if b then Looking (spins + 1) else Loading)) enough
 
 -- a `lock` that has begun to register continues
-pub turns : {T : Type 0} (p q : Spot T) (view : Option View) (o : FairCall → Option (Answer T)) → view ≡ Some Loading → o Lock ≡ None → Since model_at (Comes (in_call view) (call_of view) (o (call_of view))) p q → Since model_at (Comes true Lock None) p q
-turns p q view o is none so = subst (λ z. Since model_at (Comes true Lock z) p q) none (subst (λ v. Since model_at (Comes (in_call v) (call_of v) (o (call_of v))) p q) is so)
+pub turns : {T : Type 0} (p q : Spot T) (view : Option View) (o : FairCall → Option (Answer T)) → view ≡ Some Loading → o Lock ≡ None
+    → Since model_at (Comes (in_call view) (call_of view) (o (call_of view))) p q → Since model_at (Comes true Lock None) p q
+turns p q view o is none so =
+    subst (λ z. Since model_at (Comes true Lock z) p q) none (subst (λ v. Since model_at (Comes (in_call v) (call_of v) (o (call_of v))) p q) is so)
 
 -- A party that registers
 
@@ -232,18 +257,22 @@ module _ {T : Type 0} (first : Account T) where
   -- a party that registers found a word, with room or without
   abbrev Has_found : ℕ → Option ℕ → Spot T → Type 0
   Has_found word room q =
-      (what q.1 ≡ Some (if is_some room then Registering call word else finds_no_room call)) × Since model_at (Comes (in_call (view_of first)) call (if is_some room then None else no_room_so call)) (here first) q
+      (what q.1 ≡ Some (if is_some room then Registering call word else finds_no_room call))
+      × Since model_at (Comes (in_call (view_of first)) call (if is_some room then None else no_room_so call)) (here first) q
 
   -- it stands where it stood, or goes for the word that it found
   abbrev pub HasReached : ℕ → Spot T → Type 0
-  HasReached word q = ((word ≡ 0) × (q.1 ≡ first.permit.view) × (q.2.name ≡ first.seen.name) × (q.2.entries ≡ first.seen.entries) × (q.0 ≡ first.permit.key)) ⊎ Has_found word (starve most_starvers word) q
+  HasReached word q =
+      ((word ≡ 0) × (q.1 ≡ first.permit.view) × (q.2.name ≡ first.seen.name) × (q.2.entries ≡ first.seen.entries) × (q.0 ≡ first.permit.key))
+      ⊎ Has_found word (starve most_starvers word) q
 
   module _ (word : ℕ) (q : Spot T) where
     pub reaches : HasReached word q → Registers (view_of first) word (what q.1)
     reaches (inl at) = inl (ap what at.1, at.0)
     reaches (inr at) = inr at.0
 
-    pub no_room : HasReached word q → None ≡ starve most_starvers word → (what q.1 ≡ Some (finds_no_room call)) × Since model_at (Comes (in_call (view_of first)) call (no_room_so call)) (here first) q
+    pub no_room : HasReached word q → None ≡ starve most_starvers word
+        → (what q.1 ≡ Some (finds_no_room call)) × Since model_at (Comes (in_call (view_of first)) call (no_room_so call)) (here first) q
     no_room (inl at) none = absurd (let e : None ≡ starve most_starvers 0 = none ∙ ap (starve most_starvers) at.0 in cc (e))
     no_room (inr at) none = subst (λ o. Has_found word o q) (sym none) at
 
@@ -253,16 +282,19 @@ module _ {T : Type 0} (first : Account T) where
       stays_in (inr at) = ap call_of (subst (λ o. Has_found word o q) (sym room) at).0
 
       -- a step of its call, after those before
-      pub goes_further : (o : FairCall → Option (Answer T)) (r : Spot T) → HasReached word q → Since model_at (Comes (in_call (what q.1)) (call_of (what q.1)) (o (call_of (what q.1)))) q r
+      pub goes_further : (o : FairCall → Option (Answer T)) (r : Spot T) → HasReached word q
+          → Since model_at (Comes (in_call (what q.1)) (call_of (what q.1)) (o (call_of (what q.1)))) q r
           → Since model_at (Comes (in_call (view_of first)) call (o call)) (here first) r
       goes_further o r (inl at) so = (
-        subst (λ (z : Opening T × Option (Numbered View) × List (Done T)). Moves z.0.value (Comes (in_call (what z.1)) (call_of (what z.1)) (o (call_of (what z.1)))) z.1 z.2 r.1 r.2.entries) (λ i. (at.4 i, at.1 i, at.3 i)) so.0,
+        subst (λ (z : Opening T × Option (Numbered View) × List (Done T)). Moves z.0.value
+            (Comes (in_call (what z.1)) (call_of (what z.1)) (o (call_of (what z.1)))) z.1 z.2 r.1 r.2.entries) (λ i. (at.4 i, at.1 i, at.3 i)) so.0,
         so.1 ∙ at.2,
         so.2 ∙ at.4,
       )
       goes_further o r (inr at) so =
           let went = subst (λ o. Has_found word o q) (sym room) at in
-          and_on (here first) q (in_call (view_of first)) call (o call) r went.1 (subst (λ v. Since model_at (Comes (in_call v) (call_of v) (o (call_of v))) q r) went.0 so)
+          and_on (here first) q (in_call (view_of first)) call (o call) r went.1
+          (subst (λ v. Since model_at (Comes (in_call v) (call_of v) (o (call_of v))) q r) went.0 so)
 
 -- A starver
 

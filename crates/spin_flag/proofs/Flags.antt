@@ -67,7 +67,8 @@ taken_is taken is = let same : taken ≡ true = cc (is) in ap bit same
 abbrev Grants : ℕ → Type 0
 Grants taken = (s : Plain) (p : ℕ) → flag_word s ≡ 0 → Decides s (gets p to_write) flag_word (Some taken)
 
-exchanges_flag : (view : Option View) (lost : View) → part_before part view ≡ idle → part lost ≡ idle → (taken : ℕ) → Grants taken → AllowsAt (Holds flag) (ways flag) view None (λ n. either (n == 0) taken n) (exchanges (λ _. Holding) lost 0 taken view)
+exchanges_flag : (view : Option View) (lost : View) → part_before part view ≡ idle → part lost ≡ idle → (taken : ℕ) → Grants taken
+    → AllowsAt (Holds flag) (ways flag) view None (λ n. either (n == 0) taken n) (exchanges (λ _. Holding) lost 0 taken view)
 exchanges_flag view lost nothing still taken plain =
     exchanges_at flag view to_write Holding (λ n. lost) 0 taken nothing (λ n. still) (λ s p. refl) (λ s. tt) (λ s p order room e. plain s p e)
 
@@ -81,15 +82,20 @@ module _ {T : Type 0} (opening : Opening T) where
   MovesTo view f to = mutexes.Moves (mutex opening) view f (λ n v. v ≡ to n)
 
   load_moves : MovesTo None (λ n. n) (λ n. Idle) looks_by
-  load_moves false value v is = rw is (Begin IsLocked ∷ Step ∷ [], Begun ∷ Answered (Is false) None ∷ [], (refl, (refl, refl)), refl, refl, false, value, refl, refl, refl)
-  load_moves true value v is = rw is (Begin IsLocked ∷ Step ∷ [], Begun ∷ Answered (Is true) None ∷ [], (refl, (refl, refl)), refl, refl, true, value, refl, refl, refl)
+  load_moves false value v is =
+      rw is (Begin IsLocked ∷ Step ∷ [], Begun ∷ Answered (Is false) None ∷ [], (refl, (refl, refl)), refl, refl, false, value, refl, refl, refl)
+  load_moves true value v is =
+      rw is (Begin IsLocked ∷ Step ∷ [], Begun ∷ Answered (Is true) None ∷ [], (refl, (refl, refl)), refl, refl, true, value, refl, refl, refl)
 
   attempt_moves : MovesTo None (λ n. either (n == 0) 1 n) (λ n. if n == 0 then Holding else Idle) tries_by
-  attempt_moves false value v is = rw is (Begin TryLock ∷ Step ∷ [], Begun ∷ Answered Granted None ∷ [], (refl, (refl, refl)), refl, refl, true, value, refl, refl, refl)
-  attempt_moves true value v is = rw is (Begin TryLock ∷ Step ∷ [], Begun ∷ Answered Refused None ∷ [], (refl, (refl, refl)), refl, refl, true, value, refl, refl, refl)
+  attempt_moves false value v is =
+      rw is (Begin TryLock ∷ Step ∷ [], Begun ∷ Answered Granted None ∷ [], (refl, (refl, refl)), refl, refl, true, value, refl, refl, refl)
+  attempt_moves true value v is =
+      rw is (Begin TryLock ∷ Step ∷ [], Begun ∷ Answered Refused None ∷ [], (refl, (refl, refl)), refl, refl, true, value, refl, refl, refl)
 
   first_moves : MovesTo None (λ n. either (n == 0) 1 n) (λ n. if n == 0 then Holding else Looking) (tried_by false)
-  first_moves false value v is = rw is (Begin Lock ∷ Step ∷ [], Begun ∷ Answered Granted None ∷ [], (refl, (refl, refl)), refl, refl, true, value, refl, refl, refl)
+  first_moves false value v is =
+      rw is (Begin Lock ∷ Step ∷ [], Begun ∷ Answered Granted None ∷ [], (refl, (refl, refl)), refl, refl, true, value, refl, refl, refl)
   first_moves true value v is = rw is (Begin Lock ∷ Step ∷ [], Begun ∷ GoingOn ∷ [], (refl, (refl, refl)), refl, refl, true, value, refl, refl, refl)
 
   try_moves : MovesTo (Some Trying) (λ n. either (n == 0) 1 n) (λ n. if n == 0 then Holding else Looking) (tried_by true)
@@ -116,26 +122,32 @@ module _ {T : Type 0} (opening : Opening T) where
 
     pub looks : IsOut Idle (what view) → Keeps view shown (λ n. n) looks_by
     looks out =
-        mutexes.begins (mutex opening) view shown out (λ n. n) IsLocked (λ n. Answered (Is (flags.set n)) None) (λ n. Idle) load_moves (looks_at flag (what view) (λ n. Idle) (nothing out) (λ n. refl))
+        mutexes.begins (mutex opening) view shown out (λ n. n) IsLocked (λ n. Answered (Is (flags.set n)) None) (λ n. Idle) load_moves
+        (looks_at flag (what view) (λ n. Idle) (nothing out) (λ n. refl))
 
     pub attempts : IsOut Idle (what view) → (taken : ℕ) → taken ≡ 1 → Grants taken → Keeps view shown (λ n. either (n == 0) taken n) tries_by
     attempts out taken one plain =
-        mutexes.begins (mutex opening) view shown out (λ n. either (n == 0) taken n) TryLock (λ n. if n == 0 then Answered Granted None else Answered Refused None) (λ n. if n == 0 then Holding else Idle)
+        mutexes.begins (mutex opening) view shown out (λ n. either (n == 0) taken n) TryLock
+        (λ n. if n == 0 then Answered Granted None else Answered Refused None) (λ n. if n == 0 then Holding else Idle)
         (rw one attempt_moves) (exchanges_flag (what view) Idle (nothing out) refl taken plain)
 
-    pub tries : MayTry (what view) → (taken : ℕ) → taken ≡ 1 → Grants taken → Keeps view shown (λ n. either (n == 0) taken n) (tried_by (has_begun (what view)))
+    pub tries : MayTry (what view) → (taken : ℕ) → taken ≡ 1 → Grants taken
+        → Keeps view shown (λ n. either (n == 0) taken n) (tried_by (has_begun (what view)))
     tries may taken one plain = by_begun may where
       by_begun : MayTry (what view) → Keeps view shown (λ n. either (n == 0) taken n) (tried_by (has_begun (what view)))
       by_begun (inl out) = rw (as_new Idle has_begun refl (what view) out)
-          (mutexes.begins (mutex opening) view shown out (λ n. either (n == 0) taken n) Lock (λ n. if n == 0 then Answered Granted None else GoingOn) (λ n. if n == 0 then Holding else Looking)
+          (mutexes.begins (mutex opening) view shown out (λ n. either (n == 0) taken n) Lock (λ n. if n == 0 then Answered Granted None else GoingOn)
+          (λ n. if n == 0 then Holding else Looking)
           (rw one first_moves) (exchanges_flag (what view) Looking (nothing out) refl taken plain))
       by_begun (inr is) = rw (ap has_begun is)
-          (mutexes.in_call (mutex opening) view shown (ap (use_of use_of_view) is) (λ n. either (n == 0) taken n) true Lock (λ n. if n == 0 then Answered Granted None else GoingOn) (λ n. if n == 0 then Holding else Looking)
+          (mutexes.in_call (mutex opening) view shown (ap (use_of use_of_view) is) (λ n. either (n == 0) taken n) true Lock
+          (λ n. if n == 0 then Answered Granted None else GoingOn) (λ n. if n == 0 then Holding else Looking)
           (rw (one, is) try_moves) (exchanges_flag (what view) Looking (ap (part_before part) is) refl taken plain))
 
     pub looks_on : what view ≡ Some Looking → Keeps view shown (λ n. n) looked_by
     looks_on is =
-        mutexes.in_call (mutex opening) view shown (ap (use_of use_of_view) is) (λ n. n) true Lock (λ n. GoingOn) (λ n. if n == 0 then Trying else Looking) (rw is look_moves)
+        mutexes.in_call (mutex opening) view shown (ap (use_of use_of_view) is) (λ n. n) true Lock (λ n. GoingOn) (λ n. if n == 0 then Trying else Looking)
+        (rw is look_moves)
         (rw is (looks_at flag (Some Looking) (λ n. if n == 0 then Trying else Looking) refl (λ n. none_looked (n == 0)))) where
           none_looked : (free : Bool) → part (if free then Trying else Looking) ≡ idle
           none_looked true = refl
@@ -143,24 +155,32 @@ module _ {T : Type 0} (opening : Opening T) where
 
   pub releases_flag : (freed : ℕ) → freed ≡ 0 → ((s : Plain) (p : ℕ) (k : Kind) → flag_word s ≡ 1 → Gives s (releases p k) flag_word freed) → (v : Numbered View) (x : T) → v.0 ≡ Holding → Keeps (Some v) (Some x) (λ _. freed) frees_by
   releases_flag freed none plain v x held =
-      mutexes.releases (mutex opening) (Some v) (Some x) x Release Done (ap use_of_view held) refl (λ _. freed) (λ n u. u ≡ Idle) (rw (none, held) (release_moves x))
+      mutexes.releases (mutex opening) (Some v) (Some x) x Release Done (ap use_of_view held) refl (λ _. freed) (λ n u. u ≡ Idle)
+      (rw (none, held) (release_moves x))
       (rw held (allows flag (Some Holding) (λ _. freed) (λ n u. u ≡ Idle) (λ s p room order has.
-      let holds = is_holder-from_entries p writing s.holders (ap (λ e. e.holders) has.0) in
-      (Idle, by_step flag (Some Holding) Idle s (releases p writing) freed tt holds (release-own s p writing) tt (plain s p writing (writes_alone s p order.exclusive holds) holds) refl, refl))))
+      let holds = is_holder-from_entries p writing s.holders (ap (λ e. e.holders) has.0) in (
+        Idle,
+        by_step flag (Some Holding) Idle s (releases p writing) freed tt holds (release-own s p writing) tt
+            (plain s p writing (writes_alone s p order.exclusive holds) holds) refl,
+        refl,
+      ))))
 
 -- What a step tells its party
 module _ {T : Type 0} (p q : Spot T) (same : q.0 ≡ p.0) (named : p.0.name ≡ p.2.name) (knew : mark_of p.1 ≡ length p.2.entries) (found : ℕ) where
   abbrev Steps : Says T → Type 0
   Steps says = Moved (Watches (Named (IsFlag p.0) (flag_ways p.0) p.2.name) p.2 q.2 (Told p.0.value says p.1) found) q.1
 
-  pub stepped : (goes_on : Bool) (c : FlagCall) (end : ℕ → Ending T) (to : ℕ → View) → Steps (step_by goes_on c end to) → Stepped model_at goes_on c (end found) (to found) p q
+  pub stepped : (goes_on : Bool) (c : FlagCall) (end : ℕ → Ending T) (to : ℕ → View) → Steps (step_by goes_on c end to)
+      → Stepped model_at goes_on c (end found) (to found) p q
   stepped = spots.stepped model_at seat_of words_of p q same knew (is_named (mutex p.0) p.2 named) found
 
   -- an exchange, by whether it found the flag clear
-  pub by_clear : (b : Bool) → (found == 0) ≡ b → (goes_on : Bool) (c : FlagCall) (won lost : Ending T) (taken away : View) → Steps (step_by goes_on c (λ n. if n == 0 then won else lost) (λ n. if n == 0 then taken else away))
+  pub by_clear : (b : Bool) → (found == 0) ≡ b → (goes_on : Bool) (c : FlagCall) (won lost : Ending T) (taken away : View)
+      → Steps (step_by goes_on c (λ n. if n == 0 then won else lost) (λ n. if n == 0 then taken else away))
       → Stepped model_at goes_on c (if b then won else lost) (if b then taken else away) p q
   by_clear b is goes_on c won lost taken away moved =
-      subst (λ x. Stepped model_at goes_on c (if x then won else lost) (if x then taken else away) p q) is (stepped goes_on c (λ n. if n == 0 then won else lost) (λ n. if n == 0 then taken else away) moved)
+      subst (λ x. Stepped model_at goes_on c (if x then won else lost) (if x then taken else away) p q) is
+      (stepped goes_on c (λ n. if n == 0 then won else lost) (λ n. if n == 0 then taken else away) moved)
 
 -- the flag is clear, as the code tests it
 pub is_clear : (n : ℕ) → false ≡ flags.set n → (n == 0) ≡ true

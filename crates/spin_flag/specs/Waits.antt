@@ -25,8 +25,11 @@ module _ {T : Type 0} where
   -- an exchange is granted, or the call waits
   abbrev pub Exchanges : Bool → Spot T → Result (Grant T) (Waiting T) → Type 0
   Exchanges goes_on p r =
-      IfOk r (λ grant. Since model_at (IsStep goes_on Lock (Answered Granted None)) p (granted grant)) × IfErr r (λ next. Since model_at (IsStep goes_on Lock GoingOn) p (here next))
+      IfOk r (λ grant. Since model_at (IsStep goes_on Lock (Answered Granted None)) p (granted grant)) × IfErr r
+      (λ next. Since model_at (IsStep goes_on Lock GoingOn) p (here next))
 
   -- a call that waits is granted, or continues to wait
   abbrev pub GoesOn : Waiting T → Result (Grant T) (Waiting T) → Type 0
-  GoesOn was r = (p : Spot T) → IsIn model_at Lock p (here was) → IfOk r (λ grant. HasCalled model_at Lock Granted p (granted grant)) × IfErr r (λ next. IsIn model_at Lock p (here next))
+  GoesOn was r =
+      (p : Spot T) → IsIn model_at Lock p (here was)
+      → IfOk r (λ grant. HasCalled model_at Lock Granted p (granted grant)) × IfErr r (λ next. IsIn model_at Lock p (here next))

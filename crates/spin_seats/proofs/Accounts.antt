@@ -50,7 +50,8 @@ module _ (n name : ℕ) (seen : Watch rule.Done) (same : name ≡ seen.name) whe
 
     -- a play that says this, and perhaps more
     means : (says : Says) (goes_on : Bool) (c : SeatsCall) (end : ℕ → Ending) (to : ℕ → View) → ((own : List OneMove) (outs : List Ending) (i : ℕ) (v : View) → says own outs i v → step_by goes_on c end to own outs i v) → Tells says → Steps goes_on c (end found) (to found)
-    means says goes_on c end to so = spots.took model seat_of words_of (n, view, seen) (n, now.0, now.1) refl knew named found says to (λ w. IsStep goes_on c (end w)) so
+    means says goes_on c end to so =
+        spots.took model seat_of words_of (n, view, seen) (n, now.0, now.1) refl knew named found says to (λ w. IsStep goes_on c (end w)) so
 
     pub stepped : (goes_on : Bool) (c : SeatsCall) (end : ℕ → Ending) (to : ℕ → View) → Tells (step_by goes_on c end to) → Steps goes_on c (end found) (to found)
     stepped goes_on c end to = means (step_by goes_on c end to) goes_on c end to (λ own outs i v said. said)
@@ -101,7 +102,8 @@ module _ (n word : ℕ) where
 
     pub first_of_enter : stands u.permit.view ≡ Idle → Stepped n (has_begun (what u.permit.view)) call.Enter GoingOn (at_word n true word) u v → IsIn n call.Enter u v
     first_of_enter out step =
-        spots.comes_in model call.Enter (known n u) (known n v) (subst (λ b. Stepped n b call.Enter GoingOn (at_word n true word) u v) (out_begins (what u.permit.view) (is_out u.permit.view out)) step).0
+        spots.comes_in model call.Enter (known n u) (known n v) (subst (λ b. Stepped n b call.Enter GoingOn (at_word n true word) u v)
+        (out_begins (what u.permit.view) (is_out u.permit.view out)) step).0
 
     module _ (w : Account n) (first : IsIn n call.TryEnter u v) where
       on_by : (b : Bool) (to : View) → Stepped n true call.TryEnter (if b then GoingOn else Answered Refused None) to v w → GoesFor n b u w

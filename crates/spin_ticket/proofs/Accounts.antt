@@ -104,9 +104,13 @@ module _ {T : Type 0} (p q r : Spot T) (next served : ℕ) (first : Stepped mode
         let step = so.1 in (tt, (is_answered model TryLock p r (here now) tries Refused step.0, ap (stands Idle) step.1))
 
 -- the store of a holder that leaves this value
-pub releases : {T : Type 0} (me : Account T) (it : Party T) (now : Watch (Made T)) → it.key ≡ me.permit.key → (x : T) (number : ℕ) → what me.permit.view ≡ Some (Entered number) → me.permit.value ≡ Some x
-    → Found (queue_ways me.permit.key) me.permit.view it.view me.permit.value it.value now → Moved (Watches (IsNamed me) me.seen now (Told me.permit.key serves_by me.permit.view) 0) it.view → Releases x (here me) (spot it now)
-releases me it now same x number is shown = released mutex Release Done (here me) (spot it now) (IsNamed me) 0 (is_named me) same me.knows me.permit.value it.value x (ap (use_of use_of_view) is) shown
+pub releases : {T : Type 0} (me : Account T) (it : Party T) (now : Watch (Made T)) → it.key ≡ me.permit.key → (x : T) (number : ℕ)
+    → what me.permit.view ≡ Some (Entered number) → me.permit.value ≡ Some x
+    → Found (queue_ways me.permit.key) me.permit.view it.view me.permit.value it.value now
+    → Moved (Watches (IsNamed me) me.seen now (Told me.permit.key serves_by me.permit.view) 0) it.view → Releases x (here me) (spot it now)
+releases me it now same x number is shown =
+    released mutex Release Done (here me) (spot it now) (IsNamed me) 0 (is_named me) same me.knows me.permit.value it.value x
+    (ap (use_of use_of_view) is) shown
 
 -- behind the load that finds the holder's own number
 pub released_behind : {T : Type 0} (x : T) (p q r : Spot T) → Since model Nothing p q → Releases x q r → Releases x p r

@@ -160,7 +160,8 @@ module _ {T : Type 0} (key : Key T) where
 
   pub starts : (t : Trace (Made T) ℕ) → t.name ≡ key.0.name → t.entries ≡ [] → t.word ≡ key.1 → key.1 ≤ ticket_limit → Meets (IsQueue key) (queue_ways key) key.1 t []
   starts t named empty word small =
-      mutexes.starts (mutex key) key.1 t named empty (ap (λ k. (key.1, k)) word) (rw word (plays.begins queue 0 key.1 key.1 key.1 (omega (arith, small)) refl (omega arith)))
+      mutexes.starts (mutex key) key.1 t named empty (ap (λ k. (key.1, k)) word)
+      (rw word (plays.begins queue 0 key.1 key.1 key.1 (omega (arith, small)) refl (omega arith)))
 
   -- `lock`
 
@@ -190,7 +191,8 @@ module _ {T : Type 0} (key : Key T) where
       → KeepsSecond view shown (λ k. k) (awaits_by (what view))
   awaits view shown number is =
       subst (λ k. KeepsSecond view shown (λ m. m) (step_by true Lock (answers_turn k) (entered k))) (sym (ap number_of is))
-      (mutexes.in_call_second (mutex key) view shown (ap (use_of use_of_view) is) (λ k. k) true Lock (answers_turn number) (entered number) (rw is (await_moves key number))
+      (mutexes.in_call_second (mutex key) view shown (ap (use_of use_of_view) is) (λ k. k) true Lock (answers_turn number) (entered number)
+      (rw is (await_moves key number))
       (rw is (allows_second queue (Some (Waiting number)) (λ k. k) (Comes (entered number)) (λ s p room order has.
       let turn = enters_in_turn s p (serving_word s) number order.numbered refl (ap (λ e. e.tickets) has.0) in
       (entered number (serving_word s), enters_if number s p (serving_word s == number) turn, refl)))))
@@ -209,7 +211,8 @@ module _ {T : Type 0} (key : Key T) where
       → KeepsSecond view shown (λ k. k) (tries_by (what view))
   tries_on view shown next is =
       subst (λ k. KeepsSecond view shown (λ m. m) (step_by true TryLock (answers_free k) (freed k))) (sym (ap number_of is))
-      (mutexes.in_call_second (mutex key) view shown (ap (use_of use_of_view) is) (λ k. k) true TryLock (answers_free next) (freed next) (rw is (try_look_moves key next))
+      (mutexes.in_call_second (mutex key) view shown (ap (use_of use_of_view) is) (λ k. k) true TryLock (answers_free next) (freed next)
+      (rw is (try_look_moves key next))
       (rw is (allows_second queue (Some (LoadedNext next)) (λ k. k) (Comes (freed next)) (λ s p room order has.
       (freed next (serving_word s), frees_if next s p (is_free next (serving_word s)) refl, refl)))))
 
@@ -218,7 +221,8 @@ module _ {T : Type 0} (key : Key T) where
       → Keeps view shown (λ n. either (n == next) after n) (step_by true TryLock (answers_attempt next) (attempted next))
   attempts view shown next after is exact =
       let from : Option View = Some (Trying next) in let (left, more) = left_of next after exact in let f : ℕ → ℕ = λ n. either (n == next) after n in
-      mutexes.in_call (mutex key) view shown (ap (use_of use_of_view) is) f true TryLock (answers_attempt next) (attempted next) (rw (is, more) (try_take_moves key next left))
+      mutexes.in_call (mutex key) view shown (ap (use_of use_of_view) is) f true TryLock (answers_attempt next) (attempted next)
+      (rw (is, more) (try_take_moves key next left))
       (rw is (plays.exchanged queue from Entered Idle next after (λ s p. (refl, tt)) (λ s p vs room order among has small e.
       let alone = ticket_take-grants_alone s p next order.numbered.0 e (omega (arith, has.1, e, order.numbered.0)) in
       let grants = subst (λ o. Decides s (gets p to_take_and_enter) next_word o) (sym exact) alone in
@@ -239,8 +243,10 @@ module _ {T : Type 0} (key : Key T) where
       → Keeps view shown (λ n. n) (compares_by (what view))
   compares view shown served is =
       let unused = ap (use_of use_of_view) is in
-      subst (λ k. Keeps view shown (λ m. m) (compares_with k)) (sym (ap number_of is)) (mutexes.keeps (mutex key) view shown (λ n. n) (Compares served) (compares_with served)
-      (λ own outs n u said. steps (mutex key) (what view) shown unused true IsLocked (answers_look served) gone own outs n u said.1) (rw is (look_next_moves key served))
+      subst (λ k. Keeps view shown (λ m. m) (compares_with k)) (sym (ap number_of is))
+      (mutexes.keeps (mutex key) view shown (λ n. n) (Compares served) (compares_with served)
+      (λ own outs n u said. steps (mutex key) (what view) shown unused true IsLocked (answers_look served) gone own outs n u said.1)
+      (rw is (look_next_moves key served))
       (rw is (allows queue (Some (LoadedServing served)) (λ n. n) (Compares served) (λ s p room order has.
       (Idle, by_none queue (Some (LoadedServing served)) Idle s p refl tt, (omega (arith, has.1, order.numbered.0), refl))))))
 
@@ -248,7 +254,10 @@ module _ {T : Type 0} (key : Key T) where
 
   pub finds_own : (view : Option (Numbered View)) (shown : Option T) (number : ℕ) → what view ≡ Some (Entered number) → KeepsSecond view shown (λ k. k) (finds_by (what view))
   finds_own view shown number is =
-      subst (λ k. KeepsSecond view shown (λ m. m) (finds k)) (sym (ap number_of is)) (mutexes.keeps_second (mutex key) view shown (λ k. k) (Finds number) (finds number) (λ own outs n u said. subst (λ (z : Use × Use). Leaves z.0 z.1 shown own) (λ i. (sym (ap (use_of use_of_view) is) i, sym (ap use_of_view said.0.2) i)) tt) (rw is (find_moves key number))
+      subst (λ k. KeepsSecond view shown (λ m. m) (finds k)) (sym (ap number_of is))
+      (mutexes.keeps_second (mutex key) view shown (λ k. k) (Finds number) (finds number)
+      (λ own outs n u said. subst (λ (z : Use × Use). Leaves z.0 z.1 shown own)
+      (λ i. (sym (ap (use_of use_of_view) is) i, sym (ap use_of_view said.0.2) i)) tt) (rw is (find_moves key number))
       (rw is (allows_second queue (Some (Entered number)) (λ k. k) (Finds number) (λ s p room order has.
       let served = entered_is_served s p number order.numbered order.exclusive.one_entered (ap (λ e. e.tickets) has.0) in
       (Entered number, by_none queue (Some (Entered number)) (Entered number) s p refl tt, (served.1, omega (arith, order.within_limit, order.numbered.0, first-length p true s.tickets served.0, served.1), refl))))))
@@ -258,7 +267,8 @@ module _ {T : Type 0} (key : Key T) where
       → shown ≡ Some x → next ≡ served number → KeepsSecond view shown (λ _. next) serves_by
   serves_next view shown x number next is here more =
       let from : Option View = Some (Entered number) in
-      mutexes.releases_second (mutex key) view shown x Release Done (ap (use_of use_of_view) is) here (λ _. next) (Comes gone) (rw (is, more) (serve_moves key x number))
+      mutexes.releases_second (mutex key) view shown x Release Done (ap (use_of use_of_view) is) here (λ _. next) (Comes gone)
+      (rw (is, more) (serve_moves key x number))
       (rw is (allows_second queue from (λ _. next) (Comes gone) (λ s p room order has.
       let first = entered_is_served s p number order.numbered order.exclusive.one_entered (ap (λ e. e.tickets) has.0) in
       let gives = subst (λ n. Gives s (serves p) serving_word n) (sym more) (ticket_serve-gives s p number order.numbered.0 first.1) in

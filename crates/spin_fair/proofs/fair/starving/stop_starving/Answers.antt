@@ -16,5 +16,6 @@ subtract-permit-requires g c = let me = c.args.account in (inr (may_know me.perm
 pub returns : goal.returns
 returns g c =
     let me = c.args.account in let s = c.subtract-permit in let q = spot s.result.1 s.result.2 in let held = c.into_guard in
-    let so = took (here me) q s.ensures.key me.named me.knows s.result.0 true (call_of (view_of me)) (λ n. answered Granted ∷ []) (λ n. Served) (Some Granted) s.ensures.moved (0, refl) in
+    let so = took (here me) q s.ensures.key me.named me.knows s.result.0 true (call_of (view_of me)) (λ n. answered Granted ∷ []) (λ n. Served)
+    (Some Granted) s.ensures.moved (0, refl) in
     (held.ensures.granted, as_held (here me) q (Ends Granted) held.result held.ensures.same so.0)

@@ -18,24 +18,29 @@ exchange-found-requires g c =
 
 pub returns-then-found-free : goal.returns-then-found-free
 returns-then-found-free g c =
-    let me = c.args.account in let v = view_of me in let f = c.exchange-found in let q = spot f.result.1 f.result.2 in let n = f.result.0 in let held = c.into_guard in
-    let so = took (here me) q f.ensures.key me.named me.knows n (in_call v) Lock (λ n. (if n == 0 then answered Granted else GoingOn) ∷ []) (tried v) (Some Granted) f.ensures.moved
+    let me = c.args.account in let v = view_of me in let f = c.exchange-found in let q = spot f.result.1 f.result.2 in let n = f.result.0 in
+    let held = c.into_guard in
+    let so = took (here me) q f.ensures.key me.named me.knows n (in_call v) Lock (λ n. (if n == 0 then answered Granted else GoingOn) ∷ []) (tried v)
+    (Some Granted) f.ensures.moved
     (0, ap (λ b. (if b then answered Granted else GoingOn) ∷ []) (eq-eqb n 0 c.if-found-free.true)) in
     ((held.ensures.granted, as_held (here me) q (Comes (in_call v) Lock (Some Granted)) held.result held.ensures.same so.0), tt)
 
 pub returns-else-found-free : goal.returns-else-found-free
 returns-else-found-free g c =
     let me = c.args.account in let v = view_of me in let f = c.exchange-found in let n = f.result.0 in
-    let so = took (here me) (spot f.result.1 f.result.2) f.ensures.key me.named me.knows n (in_call v) Lock (λ n. (if n == 0 then answered Granted else GoingOn) ∷ []) (tried v) None f.ensures.moved
+    let so = took (here me) (spot f.result.1 f.result.2) f.ensures.key me.named me.knows n (in_call v) Lock
+    (λ n. (if n == 0 then answered Granted else GoingOn) ∷ []) (tried v) None f.ensures.moved
     (1, ap (λ b. (if b then answered Granted else GoingOn) ∷ []) (ne_eqb n 0 c.if-found-free.false)) in
     (tt, so.0)
 
 pub invariant_of-account : goal.invariant_of-account
 invariant_of-account g c =
     let me = c.args.account in let f = c.exchange-found in let unused = try_off c.args.spins (view_of me) c.requires in
-    knows_again (here me) (spot f.result.1 f.result.2) f.ensures.key me.named me.knows f.result.0 (tried_by (view_of me)) me.permit.value f.result.1.value unused f.ensures.moved f.ensures.found
+    knows_again (here me) (spot f.result.1 f.result.2) f.ensures.key me.named me.knows f.result.0
+    (tried_by (view_of me)) me.permit.value f.result.1.value unused f.ensures.moved f.ensures.found
 
 pub invariant_of-account-else-found-free : goal.invariant_of-account-else-found-free
 invariant_of-account-else-found-free g c =
     let me = c.args.account in let f = c.exchange-found in let unused = try_off c.args.spins (view_of me) c.requires in
-    knows_again (here me) (spot f.result.1 f.result.2) f.ensures.key me.named me.knows f.result.0 (tried_by (view_of me)) me.permit.value f.result.1.value unused f.ensures.moved f.ensures.found
+    knows_again (here me) (spot f.result.1 f.result.2) f.ensures.key me.named me.knows f.result.0
+    (tried_by (view_of me)) me.permit.value f.result.1.value unused f.ensures.moved f.ensures.found

@@ -20,7 +20,8 @@ store-permit-requires g c =
     let it = c.into_permit-permit in let w = c.into_writer.result in let free = c.unlock-free in
     let named = ap (λ k. k.name) it.ensures.key ∙ ap (λ p. p.key.name) c.into_writer.ensures ∙ c.requires.0 in (
       may_know (mutex it.result.key) c.args.seen named,
-      rw (it.ensures.same.0, it.ensures.same.1, c.word.ensures) (releases_flag it.result.key (bit free.result) (ap bit free.ensures.exact) free.ensures.plain w.view w.value (holding_of w.view.0 it.ensures.use_of_view)),
+      rw (it.ensures.same.0, it.ensures.same.1, c.word.ensures) (releases_flag it.result.key (bit free.result)
+          (ap bit free.ensures.exact) free.ensures.plain w.view w.value (holding_of w.view.0 it.ensures.use_of_view)),
     )
 
 abbrev Releases : {T : Type 0} → T → Spot T → Spot T → Type 0

@@ -22,7 +22,8 @@ await_flag-requires g c =
 pub returns-else-is_locked : goal.returns-else-is_locked
 returns-else-is_locked g c =
     let me = c.args.self.account in let f = c.load-found in let q = spot f.result.1 f.result.2 in let v = view_of me in let t = c.await_flag in
-    let so = took (here me) q f.ensures.key me.named me.knows f.result.0 true (call_of v) (λ n. GoingOn ∷ []) (awaited_by v) None f.ensures.moved (1, refl) in (
+    let so = took (here me) q f.ensures.key me.named me.knows f.result.0 true (call_of v) (λ n. GoingOn ∷ []) (awaited_by v) None f.ensures.moved
+    (1, refl) in (
       IfOk-weaker t.result _ _ (λ held got. (got.0, and_on (here me) q true (call_of v) (Some Granted) (held_at held) so.0 got.1)) t.ensures.0,
       IfErr-weaker t.result _ _ (λ next on. and_on (here me) q true (call_of v) None (here next.account) so.0 on) t.ensures.1,
     )
@@ -35,9 +36,11 @@ returns-then-is_locked g c =
 pub invariant_of-account : goal.invariant_of-account
 invariant_of-account g c =
     let me = c.args.self.account in let f = c.load-found in let unused = await_off (view_of me) c.args.self.awaits in
-    knows_again (here me) (spot f.result.1 f.result.2) f.ensures.key me.named me.knows f.result.0 (awaits_by (view_of me)) me.permit.value f.result.1.value unused f.ensures.moved f.ensures.found
+    knows_again (here me) (spot f.result.1 f.result.2) f.ensures.key me.named me.knows f.result.0
+    (awaits_by (view_of me)) me.permit.value f.result.1.value unused f.ensures.moved f.ensures.found
 
 pub invariant_of-account-else-is_locked : goal.invariant_of-account-else-is_locked
 invariant_of-account-else-is_locked g c =
     let me = c.args.self.account in let f = c.load-found in let unused = await_off (view_of me) c.args.self.awaits in
-    knows_again (here me) (spot f.result.1 f.result.2) f.ensures.key me.named me.knows f.result.0 (awaits_by (view_of me)) me.permit.value f.result.1.value unused f.ensures.moved f.ensures.found
+    knows_again (here me) (spot f.result.1 f.result.2) f.ensures.key me.named me.knows f.result.0
+    (awaits_by (view_of me)) me.permit.value f.result.1.value unused f.ensures.moved f.ensures.found

@@ -6,7 +6,12 @@ use Rattle.spin_fair.proofs.Takes.{and_on}
 use Rattle.spin_fair.proofs.fair.account.Awaiting.wait.Goals as goal
 
 pub loop-preserved : goal.loop-preserved
-loop-preserved g c = (tt, tt, λ was on. and_on (here was) (here c.loop.awaiting.account) true StarverLock None (here c.in-Err.next.account) (c.loop.invariant.2 was on) c.in-Err.ensures.1)
+loop-preserved g c = (
+  tt,
+  tt,
+  λ was on. and_on (here was) (here c.loop.awaiting.account) true StarverLock None (here c.in-Err.next.account)
+      (c.loop.invariant.2 was on) c.in-Err.ensures.1,
+)
 
 pub returns-in-Ok : goal.returns-in-Ok
 returns-in-Ok g c was on = let got = c.in-Ok.ensures.0 in

@@ -21,8 +21,13 @@ returns-then-not-is_locked g c =
     let me = c.args.self.account in let f = c.load-found in let q = spot f.result.1 f.result.2 in let t = c.try_with in
     let so = took (here me) q f.ensures.key me.named me.knows f.result.0 true Lock (λ n. GoingOn ∷ []) (looked (view_of me)) None f.ensures.moved (1, refl) in
     let is = ap in_call so.1 ∙ looks_in (view_of me) f.result.0 in (
-      IfOk-weaker t.result _ _ (λ held got. (got.0, and_on (here me) q true Lock (Some Granted) (held_at held) so.0 (subst (λ b. Since model_at (Comes b Lock (Some Granted)) q (held_at held)) is got.1))) t.ensures.0,
-      IfErr-weaker t.result _ _ (λ next on. and_on (here me) q true Lock None (here next.account) so.0 (subst (λ b. Since model_at (Comes b Lock None) q (here next.account)) is on)) t.ensures.1,
+      IfOk-weaker t.result _ _ (λ held got. (
+        got.0,
+        and_on (here me) q true Lock (Some Granted) (held_at held) so.0
+            (subst (λ b. Since model_at (Comes b Lock (Some Granted)) q (held_at held)) is got.1),
+      )) t.ensures.0,
+      IfErr-weaker t.result _ _ (λ next on. and_on (here me) q true Lock None (here next.account) so.0
+          (subst (λ b. Since model_at (Comes b Lock None) q (here next.account)) is on)) t.ensures.1,
     )
 
 pub returns-then-spins-le-STARVATION_SPINS : goal.returns-then-spins-le-STARVATION_SPINS
@@ -32,7 +37,8 @@ returns-then-spins-le-STARVATION_SPINS g c =
 
 pub returns-in-Ok : goal.returns-in-Ok
 returns-in-Ok g c =
-    let me = c.args.self.account in let f = c.load-found in let q = spot f.result.1 f.result.2 in let v = view_of me in let r = here c.in-Ok.account in let held = c.wait_as_starver in
+    let me = c.args.self.account in let f = c.load-found in let q = spot f.result.1 f.result.2 in let v = view_of me in let r = here c.in-Ok.account in
+    let held = c.wait_as_starver in
     let so = took (here me) q f.ensures.key me.named me.knows f.result.0 true Lock (λ n. GoingOn ∷ []) (looked v) None f.ensures.moved (1, refl) in
     let is = so.1 ∙ loading v c.args.self.spins f.result.0 c.args.self.looks c.if-not-is_locked.ensures.exact (grind (arith, c.if-spins-le-STARVATION_SPINS.false)) in
     let turned = and_on (here me) q true Lock None r so.0 (turns q r (what q.1) registered_so is refl c.in-Ok.ensures.registers.1) in
@@ -48,14 +54,17 @@ returns-in-Err g c =
 pub invariant_of-account : goal.invariant_of-account
 invariant_of-account g c =
     let me = c.args.self.account in let f = c.load-found in let unused = ap (use_of use_of_view) c.args.self.looks in
-    knows_again (here me) (spot f.result.1 f.result.2) f.ensures.key me.named me.knows f.result.0 (looked_by (view_of me)) me.permit.value f.result.1.value unused f.ensures.moved f.ensures.found
+    knows_again (here me) (spot f.result.1 f.result.2) f.ensures.key me.named me.knows f.result.0
+    (looked_by (view_of me)) me.permit.value f.result.1.value unused f.ensures.moved f.ensures.found
 
 pub invariant_of-account-then-spins-le-STARVATION_SPINS : goal.invariant_of-account-then-spins-le-STARVATION_SPINS
 invariant_of-account-then-spins-le-STARVATION_SPINS g c =
     let me = c.args.self.account in let f = c.load-found in let unused = ap (use_of use_of_view) c.args.self.looks in
-    knows_again (here me) (spot f.result.1 f.result.2) f.ensures.key me.named me.knows f.result.0 (looked_by (view_of me)) me.permit.value f.result.1.value unused f.ensures.moved f.ensures.found
+    knows_again (here me) (spot f.result.1 f.result.2) f.ensures.key me.named me.knows f.result.0
+    (looked_by (view_of me)) me.permit.value f.result.1.value unused f.ensures.moved f.ensures.found
 
 pub invariant_of-account-2 : goal.invariant_of-account-2
 invariant_of-account-2 g c =
     let me = c.args.self.account in let f = c.load-found in let unused = ap (use_of use_of_view) c.args.self.looks in
-    knows_again (here me) (spot f.result.1 f.result.2) f.ensures.key me.named me.knows f.result.0 (looked_by (view_of me)) me.permit.value f.result.1.value unused f.ensures.moved f.ensures.found
+    knows_again (here me) (spot f.result.1 f.result.2) f.ensures.key me.named me.knows f.result.0
+    (looked_by (view_of me)) me.permit.value f.result.1.value unused f.ensures.moved f.ensures.found

@@ -23,5 +23,6 @@ returns-then-found-eq-STARVER-clause-got g c =
 pub returns-else-found-eq-STARVER-clause-begun : goal.returns-else-found-eq-STARVER-clause-begun
 returns-else-found-eq-STARVER-clause-begun g c =
     let me = c.args.self.account in let f = c.exchange-found in
-    let so = was_not_alone (here me) (spot f.result.1 f.result.2) f.ensures.key me.named me.knows f.result.0 StarverLock f.ensures.moved None (0, refl) c.if-found-eq-STARVER.false in
+    let so = was_not_alone (here me) (spot f.result.1 f.result.2) f.ensures.key me.named me.knows f.result.0 StarverLock f.ensures.moved None
+    (0, refl) c.if-found-eq-STARVER.false in
     (subst MayAwait (sym so.1) refl, so.0)

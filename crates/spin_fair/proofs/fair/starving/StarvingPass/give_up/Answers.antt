@@ -16,4 +16,5 @@ subtract-permit-requires g c = let me = c.args.self.account in (inr (may_know me
 pub returns-clause-made : goal.returns-clause-made
 returns-clause-made g c =
     let me = c.args.self.account in let s = c.subtract-permit in
-    (took (here me) (spot s.result.1 s.result.2) s.ensures.key me.named me.knows s.result.0 false StarverDrop (λ n. answered Done ∷ []) (λ n. Idle) (Some Done) s.ensures.moved (0, refl)).0.0
+    (took (here me) (spot s.result.1 s.result.2) s.ensures.key me.named me.knows s.result.0 false StarverDrop (λ n. answered Done ∷ []) (λ n. Idle)
+    (Some Done) s.ensures.moved (0, refl)).0.0

@@ -15,7 +15,8 @@ exchange-found-requires g c =
 
 pub returns-then-found-eq-STARVER : goal.returns-then-found-eq-STARVER
 returns-then-found-eq-STARVER g c =
-    let me = c.args.self.account in let f = c.exchange-found in let q = spot f.result.1 f.result.2 in let held = c.into_guard in let call = IsCall StarverTryLockFair Granted in
+    let me = c.args.self.account in let f = c.exchange-found in let q = spot f.result.1 f.result.2 in let held = c.into_guard in
+    let call = IsCall StarverTryLockFair Granted in
     let made = was_alone (here me) q f.ensures.key me.named me.knows f.result.0 StarverTryLockFair f.ensures.moved c.if-found-eq-STARVER.true in
     let so = got call me held.result (held.ensures.granted, as_held (here me) q call held.result held.ensures.same made) in
     record { holder = so.0; same = so.1; found = so.2; granted = so.3; refused = tt }
@@ -23,5 +24,6 @@ returns-then-found-eq-STARVER g c =
 pub returns-else-found-eq-STARVER-clause-refused : goal.returns-else-found-eq-STARVER-clause-refused
 returns-else-found-eq-STARVER-clause-refused g c =
     let me = c.args.self.account in let f = c.exchange-found in
-    let so = was_not_alone (here me) (spot f.result.1 f.result.2) f.ensures.key me.named me.knows f.result.0 StarverTryLockFair f.ensures.moved (Some Refused) (0, refl) c.if-found-eq-STARVER.false in
+    let so = was_not_alone (here me) (spot f.result.1 f.result.2) f.ensures.key me.named me.knows f.result.0 StarverTryLockFair f.ensures.moved
+    (Some Refused) (0, refl) c.if-found-eq-STARVER.false in
     (so.0.0, (so.0.1, so.0.2))

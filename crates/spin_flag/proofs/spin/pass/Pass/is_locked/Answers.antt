@@ -11,10 +11,12 @@ use Rattle.spin_flag.proofs.Flags.{mutex, looks, stepped}
 use Rattle.spin_flag.proofs.spin.pass.Pass.is_locked.Goals as goal
 
 pub load-found-requires : goal.load-found-requires
-load-found-requires g c = let me = c.args.self in (may_know (mutex me.permit.key) me.seen me.named, looks me.permit.key me.permit.view me.permit.value me.rests)
+load-found-requires g c =
+    let me = c.args.self in (may_know (mutex me.permit.key) me.seen me.named, looks me.permit.key me.permit.view me.permit.value me.rests)
 
 pub returns-clause-made : goal.returns-clause-made
 returns-clause-made g c =
     let me = c.args.self in let f = c.load-found in let p = spot me.permit me.seen in let q = spot f.result.1 f.result.2 in
     let step = stepped p q f.ensures.key me.named me.knows f.result.0 false IsLocked (λ n. Answered (Is (set n)) None) (λ n. Idle) f.ensures.moved in
-    subst (λ b. Called p.0.value IsLocked (Is b) p.1 p.2.entries q.1 q.2.entries) (sym c.is_set.ensures) (in_one model_at IsLocked p q (Is (set f.result.0)) step.0).0
+    subst (λ b. Called p.0.value IsLocked (Is b) p.1 p.2.entries q.1 q.2.entries) (sym c.is_set.ensures)
+    (in_one model_at IsLocked p q (Is (set f.result.0)) step.0).0

@@ -23,7 +23,8 @@ returns g c =
     let Gets : Grant g.row.T.Denot → Type 0 = λ grant. HasCalled model_at Lock Granted p (granted grant) in
     let new = as_new Idle has_begun refl (what me.permit.view) me.rests in
     let so : Gets grant = elim c.match-try_with.branch [
-      | in-Ok w ↦ subst Gets (sym w.writer-is) (in_one model_at Lock p (granted w.in-Ok.grant) Granted (subst (λ b. Exchanges b p (Ok w.in-Ok.grant)) new w.in-Ok.ensures).0)
+      | in-Ok w ↦ subst Gets (sym w.writer-is) (in_one model_at Lock p (granted w.in-Ok.grant) Granted
+          (subst (λ b. Exchanges b p (Ok w.in-Ok.grant)) new w.in-Ok.ensures).0)
       | in-Err w ↦
           let on = comes_in model_at Lock p (here w.in-Err.waiting) (subst (λ b. Exchanges b p (Err w.in-Err.waiting)) new w.in-Err.ensures).1 in
           subst Gets (sym w.writer-is) (tried GoesOn Goes Gets (λ x r went. went p) w.in-Err.waiting w.back_off.result w.back_off.ensures on)
@@ -33,6 +34,7 @@ returns g c =
       holder = ap (λ p. use_of_view p.view.0) is ∙ grant.holds;
       holds = (ap (λ p. p.key.name) is ∙ grant.named, ap (λ p. p.view.2) is ∙ grant.knows);
       same = (so.1, ap (λ p. p.key) is ∙ so.2);
-      found = subst (λ k. IsLast k grant.seen.entries (guard_value c.new.result)) so.2 (subst (λ p. IsLast grant.writer.key grant.seen.entries p.value) (sym is) grant.finds);
+      found = subst (λ k. IsLast k grant.seen.entries (guard_value c.new.result)) so.2
+          (subst (λ p. IsLast grant.writer.key grant.seen.entries p.value) (sym is) grant.finds);
       made = subst (λ p. Called me.permit.key.value Lock Granted me.permit.view me.seen.entries (Some p.view) grant.seen.entries) (sym is) so.0;
     }

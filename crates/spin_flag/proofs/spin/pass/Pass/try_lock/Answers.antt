@@ -15,23 +15,32 @@ use Rattle.spin_flag.proofs.spin.pass.Pass.try_lock.Goals as goal
 
 pub exchange-found-requires : goal.exchange-found-requires
 exchange-found-requires g c =
-    let me = c.args.self in let taken = c.in-Some.taken in
-    (may_know (mutex me.permit.key) me.seen me.named, rw (c.word.ensures, c.word-2.ensures) (attempts me.permit.key me.permit.view me.permit.value me.rests (bit taken) (taken_is taken c.in-Some.ensures.exact) c.in-Some.ensures.plain))
+    let me = c.args.self in let taken = c.in-Some.taken in (
+      may_know (mutex me.permit.key) me.seen me.named,
+      rw (c.word.ensures, c.word-2.ensures)
+          (attempts me.permit.key me.permit.view me.permit.value me.rests (bit taken) (taken_is taken c.in-Some.ensures.exact) c.in-Some.ensures.plain),
+    )
 
 pub returns-then-is_set-clause-refused : goal.returns-then-is_set-clause-refused
 returns-then-is_set-clause-refused g c =
-    let me = c.args.self in let f = c.exchange-found in let p = spot me.permit me.seen in let q = spot f.result.1 f.result.2 in let busy = is_not_clear f.result.0 c.if-is_set.ensures in
-    let step = by_clear p q f.ensures.key me.named me.knows f.result.0 false busy false TryLock (Answered Granted None) (Answered Refused None) Holding Idle f.ensures.moved in
+    let me = c.args.self in let f = c.exchange-found in let p = spot me.permit me.seen in let q = spot f.result.1 f.result.2 in
+    let busy = is_not_clear f.result.0 c.if-is_set.ensures in
+    let step = by_clear p q f.ensures.key me.named me.knows f.result.0 false busy false TryLock (Answered Granted None)
+    (Answered Refused None) Holding Idle f.ensures.moved in
     in_one model_at TryLock p q Refused step.0
 
 pub returns-else-is_set-clause-granted : goal.returns-else-is_set-clause-granted
 returns-else-is_set-clause-granted g c =
-    let me = c.args.self in let f = c.exchange-found in let p = spot me.permit me.seen in let q = spot f.result.1 f.result.2 in let free = is_clear f.result.0 c.if-is_set.ensures in
-    let step = by_clear p q f.ensures.key me.named me.knows f.result.0 true free false TryLock (Answered Granted None) (Answered Refused None) Holding Idle f.ensures.moved in
-    subst (λ o. Called p.0.value TryLock Granted p.1 p.2.entries o q.2.entries) (sym (ap (λ w. Some w.view) c.new.ensures ∙ c.into_writer.ensures.same.0)) (in_one model_at TryLock p q Granted step.0).0
+    let me = c.args.self in let f = c.exchange-found in let p = spot me.permit me.seen in let q = spot f.result.1 f.result.2 in
+    let free = is_clear f.result.0 c.if-is_set.ensures in
+    let step = by_clear p q f.ensures.key me.named me.knows f.result.0 true free false TryLock (Answered Granted None)
+    (Answered Refused None) Holding Idle f.ensures.moved in
+    subst (λ o. Called p.0.value TryLock Granted p.1 p.2.entries o q.2.entries) (sym (ap (λ w. Some w.view) c.new.ensures ∙ c.into_writer.ensures.same.0))
+    (in_one model_at TryLock p q Granted step.0).0
 
 pub returns-else-is_set-clause-found : goal.returns-else-is_set-clause-found
 returns-else-is_set-clause-found g c =
     let me = c.args.self in let f = c.exchange-found in let permit = f.result.1 in let lock = mutex me.permit.key in let w = c.into_writer.ensures.same in
     let unused = out_off lock (what me.permit.view) me.rests in
-    subst (λ x. IsLast me.permit.key f.result.2.entries x) (sym (ap (λ p. p.value) c.new.ensures)) (finds lock me.permit.view permit.view me.permit.value permit.value f.result.2 c.into_writer.result.value f.ensures.found unused (sym w.1))
+    subst (λ x. IsLast me.permit.key f.result.2.entries x) (sym (ap (λ p. p.value) c.new.ensures))
+    (finds lock me.permit.view permit.view me.permit.value permit.value f.result.2 c.into_writer.result.value f.ensures.found unused (sym w.1))

@@ -24,4 +24,5 @@ store_second-permit-requires g c =
 pub leave-requires : goal.leave-requires
 leave-requires g c =
     let s = c.store_second-permit in let q = c.load_second-number.result.1 in
-    rests (mutex s.result.0.key) s.result.0.view (ends_out mutex Release Done (spot q c.nothing-2.result) (spot s.result.0 s.result.1) _ 0 s.result.0.view s.ensures.moved)
+    rests (mutex s.result.0.key) s.result.0.view (ends_out mutex Release Done (spot q c.nothing-2.result)
+    (spot s.result.0 s.result.1) _ 0 s.result.0.view s.ensures.moved)

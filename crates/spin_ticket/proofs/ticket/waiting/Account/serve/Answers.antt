@@ -18,4 +18,5 @@ returns-clause-out g c =
 
 pub returns-clause-releases : goal.returns-clause-releases
 returns-clause-releases g c x here =
-    let s = c.store_second-permit in releases c.args.self s.result.0 s.result.1 s.ensures.key x c.args.number c.requires.1.1 here s.ensures.found s.ensures.moved
+    let s = c.store_second-permit in
+    releases c.args.self s.result.0 s.result.1 s.ensures.key x c.args.number c.requires.1.1 here s.ensures.found s.ensures.moved
