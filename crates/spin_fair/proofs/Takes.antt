@@ -9,10 +9,12 @@ use Rattle.spin_core.specs.Passes.{Course, Ending, IsOut}
 use Rattle.spin_core.specs.Cell.{Moved, off, use_of}
 use Rattle.spin_core.specs.Own.{Numbered, what}
 use Rattle.spin_core.specs.Passes.{mark_of}
-use Rattle.spin_core.specs.Spots.{Since}
-use Rattle.spin_core.specs.Traced.{Watches, Named, Found}
+use Rattle.spin_core.specs.Spots.{Since, spot}
+use Rattle.spin_core.specs.Traced.{Watches, Named, MayKnow, Found}
 use Rattle.spin_core.specs.Values.{IsLast}
+use Rattle.spin_core.specs.declared.cell.Permit.{Permit}
 use Rattle.spin_core.specs.declared.tie.Opening.{Opening}
+use Rattle.spin_core.specs.declared.trace.Trace.{Trace}
 use Rattle.spin_core.specs.declared.trace.Watch.{Watch}
 use Rattle.spin_core.proofs.Passes as passes
 use Rattle.spin_core.proofs.Mutexes.{finds}
@@ -30,6 +32,7 @@ use Rattle.spin_fair.specs.Fair.{model, model_at, seat_of, words_of, use_of_view
 use Rattle.spin_fair.specs.Guards.{Holds}
 use Rattle.spin_fair.specs.Waits.{Spot, view_of, here, Held, held_at, Gets}
 use Rattle.spin_fair.specs.declared.fair.account.Account.{Account}
+use Rattle.spin_fair.specs.declared.fair.rule.FairRule.{FairRule}
 use Rattle.spin_fair.specs.declared.fair.rule.View.{View}
 use Rattle.spin_fair.specs.declared.fair.rule.View.TheVariants.{Idle, Holding, Served, Trying, Looking, Loading, Registering, Setting, Awaiting}
 use Rattle.spin_fair.proofs.Steps.{mutex}
@@ -101,6 +104,27 @@ module _ {T : Type 0} (p q : Spot T) (same : q.0 ≡ p.0) (named : p.0.name ≡ 
         so.1,
       )
 
+abbrev Party : Type 0 → Type 0
+Party T = Permit T (Numbered View) FairRule (Opening T) (Trace (Done T) (Unit {0}))
+
+-- the watch of an account is of its lock's trace
+pub watches : {T : Type 0} (me : Account T) → MayKnow (IsFair me.permit.key) (fair_ways me.permit.key) me.seen
+watches me = inr (may_know me.permit.key me.seen me.named)
+
+-- the same of a step from this account
+module _ {T : Type 0} (me : Account T) (it : Party T) (now : Watch (Done T)) (n : ℕ) (same : it.key ≡ me.permit.key) where
+  abbrev pub Step_by : Says T → Type 0
+  Step_by = Steps (here me) (spot it now) same me.named me.knows n
+
+  pub again : (says : Says T) → use_of use_of_view (view_of me) ≡ off → Step_by says
+      → Found (fair_ways me.permit.key) me.permit.view it.view me.permit.value it.value now
+      → Knows (here me) (spot it now) same me.named me.knows n it.view it.value
+  again says = knows_again (here me) (spot it now) same me.named me.knows n says me.permit.value it.value
+
+  pub made : (goes_on : Bool) (c : FairCall) (ends : ℕ → List (Ending T)) (to : ℕ → View) (o : Option (Answer T)) → Step_by (steps_by goes_on c ends to)
+      → Comes_to (ends n) o → Since model_at (Comes goes_on c o) (here me) (spot it now) × (what it.view ≡ Some (to n))
+  made = took (here me) (spot it now) same me.named me.knows n
+
 -- moves of a call, and then further ones of it
 pub and_then : {T : Type 0} (v₀ : T) (goes_on : Bool) (c : FairCall) (o : Option (Answer T)) (u v w : Option (Numbered View)) (old seen new : List (Done T))
     → Moves v₀ (Comes goes_on c None) u old v seen → Moves v₀ (Comes true c o) v seen w new → Moves v₀ (Comes goes_on c o) u old w new
@@ -146,31 +170,31 @@ pub is_odd : (n : ℕ) → true ≡ is_set n → (n % 2 == 0) ≡ false
 is_odd n is = dite (ℕ_discrete (n % 2) 0) (λ e. absurd (let clear : is_set n ≡ false = ne_eqb (n % 2) 1 (λ one. absurd (omega (arith, e, one))) in cc (is, clear))) (λ ne. ne_eqb (n % 2) 0 ne)
 
 -- the outcomes of a newcomer's tries, and of the exchange with which a starver begins a call
-module _ {T : Type 0} (p q : Spot T) (same : q.0 ≡ p.0) (named : p.0.name ≡ p.2.name) (knew : mark_of p.1 ≡ length p.2.entries) (n : ℕ) (c : FairCall) where
+module _ {T : Type 0} (me : Account T) (it : Party T) (now : Watch (Done T)) (n : ℕ) (same : it.key ≡ me.permit.key) (c : FairCall) where
   abbrev Comes_so : Option (Answer T) → Type 0
-  Comes_so o = Since model_at (Comes false c o) p q
+  Comes_so o = Since model_at (Comes false c o) (here me) (spot it now)
 
-  module _ (moved : Steps p q same named knew n (tries_by c)) where
+  module _ (moved : Step_by me it now n same (tries_by c)) where
     tried_so : (o : Option (Answer T)) → Comes_to (answered (if n == 0 then Granted else refusal c n) ∷ []) o
-        → Comes_so o × (what q.1 ≡ Some (if n == 0 then Holding else Idle))
+        → Comes_so o × (what it.view ≡ Some (if n == 0 then Holding else Idle))
     tried_so o =
-        took p q same named knew n false c (λ n. answered (if n == 0 then Granted else refusal c n) ∷ []) (λ n. if n == 0 then Holding else Idle) o moved
+        made me it now n same false c (λ n. answered (if n == 0 then Granted else refusal c n) ∷ []) (λ n. if n == 0 then Holding else Idle) o moved
 
-    pub has_tried : n ≡ 0 → Comes_so (Some Granted) × (what q.1 ≡ Some Holding)
+    pub has_tried : n ≡ 0 → Comes_so (Some Granted) × (what it.view ≡ Some Holding)
     has_tried e = let so = tried_so (Some Granted) (granted_at n 0 Granted (refusal c n) e) in (so.0, so.1 ∙ ap (λ b. Some (if b then Holding else Idle)) (eq-eqb n 0 e))
 
     pub is_refused : n ≢ 0 → Comes_so (Some (refusal c n))
     is_refused ne = (tried_so (Some (refusal c n)) (refused_at n 0 Granted (refusal c n) ne)).0
 
-  module _ (moved : Steps p q same named knew n (alone_by c)) where
+  module _ (moved : Step_by me it now n same (alone_by c)) where
     alone_so : (o : Option (Answer T)) → Comes_to (if n == 2 then GoingOn ∷ answered Granted ∷ [] else missed_alone c) o
-        → Comes_so o × (what q.1 ≡ Some (alone_to c n))
-    alone_so o = took p q same named knew n false c (λ n. if n == 2 then GoingOn ∷ answered Granted ∷ [] else missed_alone c) (alone_to c) o moved
+        → Comes_so o × (what it.view ≡ Some (alone_to c n))
+    alone_so o = made me it now n same false c (λ n. if n == 2 then GoingOn ∷ answered Granted ∷ [] else missed_alone c) (alone_to c) o moved
 
     pub was_alone : n ≡ 2 → Comes_so (Some Granted)
     was_alone e = (alone_so (Some Granted) (1, ap (λ b. if b then GoingOn ∷ answered Granted ∷ [] else missed_alone c) (eq-eqb n 2 e))).0
 
-    pub was_not_alone : (o : Option (Answer T)) → Comes_to (missed_alone c) o → n ≢ 2 → Comes_so o × (what q.1 ≡ Some (not_alone c))
+    pub was_not_alone : (o : Option (Answer T)) → Comes_to (missed_alone c) o → n ≢ 2 → Comes_so o × (what it.view ≡ Some (not_alone c))
     was_not_alone o end ne =
         let so = alone_so o (subst (λ b. Comes_to (if b then GoingOn ∷ answered Granted ∷ [] else missed_alone c) o) (sym (ne_eqb n 2 ne)) end) in
         (so.0, so.1 ∙ ap (λ b. Some (if b then Served else not_alone c)) (ne_eqb n 2 ne))

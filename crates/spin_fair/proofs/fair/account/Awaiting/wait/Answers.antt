@@ -9,8 +9,7 @@ pub loop-preserved : goal.loop-preserved
 loop-preserved g c = (
   tt,
   tt,
-  λ was on. and_on (here was) (here c.loop.awaiting.account) true StarverLock None (here c.in-Err.next.account)
-      (c.loop.invariant.2 was on) c.in-Err.ensures.1,
+  λ was on. and_on (here was) (here c.loop.awaiting.account) true StarverLock None (here c.in-Err.next.account) (c.loop.invariant.2 was on) c.in-Err.ensures.1,
 )
 
 pub returns-in-Ok : goal.returns-in-Ok
