@@ -9,7 +9,7 @@ pub use mutex::MutexGuard;
 pub use relax::{RelaxStrategy, Spin, Yield};
 pub use rwlock::RwLockReadGuard;
 pub use spin_barrier::barrier;
-pub use spin_core::{lock, relax};
+pub use spin_core::{laws, lock, relax};
 pub use spin_once::{lazylock, once};
 pub use spin_rwlock::rwlock;
 

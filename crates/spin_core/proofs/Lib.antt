@@ -34,5 +34,7 @@ pub mod Sends
 pub mod Ties
 pub mod Values
 pub mod Passes
+pub mod Spots
+pub mod Mutexes
 pub mod Retries
 pub mod TieLaws

@@ -14,7 +14,7 @@ use Rattle.std.specs.List.{list_all}
 use Rattle.spin_model.specs.declared.place.Seat.{Seat}
 use Rattle.spin_core.specs.Run.{IsPlayed, outcomes, is_played}
 use Rattle.spin_core.specs.Own.{Numbered, what, by_party, entries_by, MadeNone, Tells}
-use Rattle.spin_core.specs.Passes.{mark_of, MayBe, IsNumber, Course, Nothing, Waits, Ends, Begins, WritesSome, IsCall, IsStep, step_by, outcomes_by, Did, Made, Since, Stepped, IsIn, HasCalled}
+use Rattle.spin_core.specs.Passes.{mark_of, MayBe, IsNumber, Course, Nothing, Waits, Ends, Begins, WritesSome, IsCall, IsStep, outcomes_by, Did, Made}
 use Rattle.spin_core.specs.Cell.{Ways, Moved}
 use Rattle.spin_core.specs.Traced.{Watches, Named}
 use Rattle.spin_core.specs.declared.trace.Trace.{Trace}
@@ -215,29 +215,3 @@ module _ {W V C L A X : Type 0} (m : Machine W V C L A) where
 
     pub call_ends : (call : C) (answer : A) → Made m u a v b (Begins call Waits) → Made m v b w c (Ends answer) → Made m u a w c (IsCall call answer)
     call_ends call answer = made_both m u v w a b c (Begins call Waits) (Ends answer) (IsCall call answer) (begun call Waits (Ends answer) (Ends answer) (waits_out answer))
-
--- For a party that keeps a watch of the trace with its permit: what it learns by a step
-module _ {W V C L A X S : Type 0} (m : Machine W V C L A) (seat_of : X → Seat C L) (words_of : W → ℕ × S) (known now : Option (Numbered X) × Watch (Entry C V)) where
-  pub stepped : (named : Type 0) → named → (found : ℕ) → mark_of known.0 ≡ length known.1.entries → (says : List (Move C V) → List (Outcome A V) → ℕ → X → Type 0) (goes_on : Bool) (c : C) (end : ℕ → Outcome A V) (to : ℕ → X)
-      → ((own : List (Move C V)) (outs : List (Outcome A V)) (n : ℕ) (v : X) → says own outs n v → step_by goes_on c end to own outs n v)
-      → Moved (Watches named known.1 now.1 (Tells m seat_of words_of says known.0) found) now.0 → Stepped m goes_on c (end found) (to found) known now
-  stepped named is_named found knew says goes_on c end to means moved =
-      let told = learnt m seat_of words_of says to (λ n. IsStep goes_on c (end n)) means named is_named known.0 now.0 known.1 now.1 found knew moved in
-      ((told.made, told.named), told.is)
-
--- and by the steps of one call
-module _ {W V C L A X : Type 0} (m : Machine W V C L A) (c : C) (u v : Option (Numbered X) × Watch (Entry C V)) where
-  -- a step that begins the call and answers it, or does not
-  pub in_one : (a : A) → Since m (IsStep false c (Answered a None)) u v → HasCalled m c a u v
-  in_one a (made, same) = (whole m u.0 v.0 u.1.entries v.1.entries c a made, same)
-
-  pub comes_in : Since m (IsStep false c GoingOn) u v → IsIn m c u v
-  comes_in (made, same) = (begins m u.0 v.0 u.1.entries v.1.entries c made, same)
-
-  module _ (w : Option (Numbered X) × Watch (Entry C V)) (first : IsIn m c u v) where
-    -- a further step of the call
-    pub goes_on : Since m (IsStep true c GoingOn) v w → IsIn m c u w
-    goes_on (made, same) = (call_waits m u.0 v.0 w.0 u.1.entries v.1.entries w.1.entries c first.0 (goes m v.0 w.0 v.1.entries w.1.entries c made), same ∙ first.1)
-
-    pub is_answered : (a : A) → Since m (IsStep true c (Answered a None)) v w → HasCalled m c a u w
-    is_answered a (made, same) = (call_ends m u.0 v.0 w.0 u.1.entries v.1.entries w.1.entries c a first.0 (ends m v.0 w.0 v.1.entries w.1.entries c a made), same ∙ first.1)

@@ -12,5 +12,6 @@ pub mod Texts
 pub mod Run
 pub mod Own
 pub mod Passes
+pub mod Spots
 pub mod Values
 pub mod Logs

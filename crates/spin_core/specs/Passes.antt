@@ -1,5 +1,6 @@
 -- What a party with a number knows of its own calls, and of the trace, from one call to the next.
 use Rattle.std.specs.Prelude.{◌≡◌, ℕ, ◌+◌, Bool, true, false, Option, Some, None, List, [], ◌∷◌, ◌++◌, replicate, ◌==◌, if◌then◌else◌}
+use Rattle.spin_model.specs.declared.answer.Answer.{Answer}
 use Rattle.spin_model.specs.declared.schedule.Move.{Move}
 use Rattle.spin_model.specs.declared.schedule.Move.TheVariants.{Begin, Step, Write}
 use Rattle.spin_model.specs.declared.schedule.Outcome.{Outcome}
@@ -7,8 +8,7 @@ use Rattle.spin_model.specs.declared.schedule.Outcome.TheVariants.{Begun, GoingO
 use Rattle.spin_model.specs.Machines.{Machine}
 use Rattle.spin_model.specs.Schedules.{State, Entry, after, at_first, happens}
 use Rattle.spin_core.specs.Run.{IsPlayed}
-use Rattle.spin_core.specs.Own.{Numbered, what, by_party, entries_by}
-use Rattle.spin_core.specs.declared.trace.Watch.{Watch}
+use Rattle.spin_core.specs.Own.{Numbered, by_party, entries_by}
 
 -- how long the trace was after the party's last step
 abbrev pub mark_of : {X : Type 0} → Option (Numbered X) → ℕ
@@ -24,6 +24,27 @@ MayBe p (Some u) = p ≡ u.1
 abbrev pub IsNumber : {X : Type 0} → ℕ → Option (Numbered X) → Type 0
 IsNumber p None = ⊥
 IsNumber p (Some u) = p ≡ u.1
+
+-- the party's view; a party that is new is idle
+abbrev pub stands : {X : Type 0} → X → Option X → X
+stands idle None = idle
+stands idle (Some v) = v
+
+-- the party is in no call, and holds nothing
+abbrev pub IsOut : {X : Type 0} → X → Option X → Type 0
+IsOut idle view = stands idle view ≡ idle
+
+-- the outcome of a move in a lock of values of type V
+abbrev pub Ending : Type 0 → Type 0
+Ending V = Outcome (Answer V) V
+
+-- what a step says of its moves, their outcomes, the number found and the party's next view
+abbrev pub Says : (V C A X : Type 0) → Type 1
+Says V C A X = List (Move C V) → List (Outcome A V) → ℕ → X → Type 0
+
+-- a relation of what a party was and knew, earlier and now
+abbrev pub Between : (V C X : Type 0) → Type 1
+Between V C X = Option (Numbered X) → List (Entry C V) → Option (Numbered X) → List (Entry C V) → Type 0
 
 -- which moves a party makes, and their outcomes
 abbrev pub Course : (V C A : Type 0) → Type 1
@@ -65,8 +86,12 @@ module _ {V C A : Type 0} where
   IsStep false c end own outs = (own ≡ Begin c ∷ Step ∷ []) × (outs ≡ Begun ∷ end ∷ [])
 
   -- what a play says of its step: its outcome and the next view, by the number found
-  abbrev pub step_by : {X : Type 0} → Bool → C → (ℕ → Outcome A V) → (ℕ → X) → List (Move C V) → List (Outcome A V) → ℕ → X → Type 0
+  abbrev pub step_by : {X : Type 0} → Bool → C → (ℕ → Outcome A V) → (ℕ → X) → Says V C A X
   step_by goes_on c end to own outs n v = (v ≡ to n) × IsStep goes_on c (end n) own outs
+
+  -- the party writes the value that it leaves, which satisfies Q, makes this call, and then has this view
+  abbrev pub leaves_by : {X : Type 0} → (V → Type 0) → C → A → X → Says V C A X
+  leaves_by Q c a to own outs n v = (v ≡ to) × WritesSome Q (IsStep false c (Answered a None)) own outs
 
 module _ {W V C L A : Type 0} (m : Machine W V C L A) where
   -- the outcomes of one party's entries, among those of others
@@ -85,22 +110,3 @@ module _ {W V C L A : Type 0} (m : Machine W V C L A) where
   -- exactly the moves of this course
   abbrev pub Made : {X : Type 0} → Option (Numbered X) → List (Entry C V) → Option (Numbered X) → List (Entry C V) → Course V C A → Type 0
   Made view old view' new P = (p : ℕ) × MayBe p view × IsNumber p view' × (own : List (Move C V)) × (outs : List (Outcome A V)) × Did p old new own outs × P own outs
-
--- For a party that keeps a watch of the trace with its permit. `before` and `now` are its view and what it knew,
--- earlier and now.
-module _ {W V C L A X : Type 0} (m : Machine W V C L A) where
-  -- since then it has made exactly the moves of this course, in the same lock
-  abbrev pub Since : Course V C A → Option (Numbered X) × Watch (Entry C V) → Option (Numbered X) × Watch (Entry C V) → Type 0
-  Since course before now = Made m before.0 before.1.entries now.0 now.1.entries course × (now.1.name ≡ before.1.name)
-
-  -- it has made one step of this call, with this outcome, and now has this view
-  abbrev pub Stepped : Bool → C → Outcome A V → X → Option (Numbered X) × Watch (Entry C V) → Option (Numbered X) × Watch (Entry C V) → Type 0
-  Stepped goes_on call end view before now = Since (IsStep goes_on call end) before now × (what now.0 ≡ Some view)
-
-  -- it is in this call, which it has begun since
-  abbrev pub IsIn : C → Option (Numbered X) × Watch (Entry C V) → Option (Numbered X) × Watch (Entry C V) → Type 0
-  IsIn call = Since (Begins call Waits)
-
-  -- it has made exactly this call, with this answer
-  abbrev pub HasCalled : C → A → Option (Numbered X) × Watch (Entry C V) → Option (Numbered X) × Watch (Entry C V) → Type 0
-  HasCalled call answer = Since (IsCall call answer)

@@ -1,6 +1,6 @@
 -- The values in a trace that is a schedule of a model: which one was written last, and what follows for the value in
 -- the cell.
-use Rattle.std.specs.Prelude.{◌≡◌, ℕ, true, false, Option, Some, None, List, [], ◌∷◌}
+use Rattle.std.specs.Prelude.{◌≡◌, true, false, Option, Some, None, List, [], ◌∷◌}
 use Rattle.spin_model.specs.declared.schedule.Move.{Move}
 use Rattle.spin_model.specs.declared.schedule.Move.TheVariants.{Write}
 use Rattle.spin_model.specs.Schedules.{Entry}

@@ -6,6 +6,7 @@ use mathlib.Core.Logic.{dite}
 use native.Mathlib.Decide.{ℕ_discrete}
 use prog.Atomic.{either}
 use Rattle.spin_step_more.specs.Starvers.{most_starvers, is_set, starve}
+use Rattle.spin_core.specs.Passes.{Ending, leaves_by}
 use Rattle.spin_core.specs.Run.{AreMoves, on_first, first}
 use Rattle.spin_model.specs.declared.answer.Answer.TheVariants.{Granted, Refused, Is, Done}
 use Rattle.spin_model.specs.declared.place.Hold.TheVariants.{Write}
@@ -15,7 +16,7 @@ use Rattle.spin_model.specs.declared.schedule.Move.TheVariants as move
 use Rattle.spin_model.specs.declared.schedule.Outcome.TheVariants.{Begun, Answered, GoingOn, Written}
 use Rattle.spin_step_more.specs.declared.fair_calls.FairCall.{FairCall}
 use Rattle.spin_step_more.specs.declared.fair_calls.FairCall.TheVariants.{Lock, TryLock, TryLockStarver, IsLocked, Starve, StarverTryLockFair, StarverTryLock, StarverLock, StarverDrop, Release}
-use Rattle.spin_fair.specs.Fair.{seat_of, model, words_of, Ending, Says, refusal, IsOut, looks_by, tries_by, alone_by, alone_to, gives_up_by, frees_with, tried_by, tried, looked_by, looked, registers_by, registered_by, no_room_end, sets_by, set_by, awaits_by, awaited_by, served_by, MayTry}
+use Rattle.spin_fair.specs.Fair.{seat_of, model, words_of, Says, refusal, looks_by, tries_by, alone_by, alone_to, gives_up_by, tried_by, tried, looked_by, looked, registers_by, registered_by, no_room_end, sets_by, set_by, awaits_by, awaited_by, served_by}
 use Rattle.spin_fair.specs.declared.fair.rule.View.{View}
 use Rattle.spin_fair.specs.declared.fair.rule.View.TheVariants.{Idle, Starving, Holding, Served, Trying, Looking, Loading, Registering, Setting, Awaiting, HoldingStarving}
 
@@ -51,36 +52,31 @@ module _ {T : Type 0} (v₀ : T) where
 
   -- A newcomer
 
-  pub load_moves : (view : Option View) → IsOut view → MovesTo view (λ n. n) (λ n. Idle) looks_by
-  load_moves None out w value v is = rw is (Begin IsLocked ∷ Step ∷ [], Begun ∷ Answered (Is (is_set w)) None ∷ [], (refl, (refl, refl)), refl, refl, w, value, refl, refl, refl)
-  load_moves (Some Idle) out w value v is = rw is (Begin IsLocked ∷ Step ∷ [], Begun ∷ Answered (Is (is_set w)) None ∷ [], (refl, (refl, refl)), refl, refl, w, value, refl, refl, refl)
-  load_moves (Some _) out w value v is = absurd out
+  pub load_moves : MovesTo None (λ n. n) (λ n. Idle) looks_by
+  load_moves w value v is =
+      rw is (Begin IsLocked ∷ Step ∷ [], Begun ∷ Answered (Is (is_set w)) None ∷ [], (refl, (refl, refl)), refl, refl, w, value, refl, refl, refl)
 
-  abbrev Attempts : FairCall → Option View → Type 0
-  Attempts c view = MovesTo view (λ n. either (n == 0) 1 n) (λ n. if n == 0 then Holding else Idle) (tries_by c)
+  abbrev pub Attempts : FairCall → Type 0
+  Attempts c = MovesTo None (λ n. either (n == 0) 1 n) (λ n. if n == 0 then Holding else Idle) (tries_by c)
 
-  pub attempt_moves : (view : Option View) → IsOut view → Attempts TryLock view
-  attempt_moves None out w value v is =
+  pub attempt_moves : Attempts TryLock
+  attempt_moves w value v is =
       rw is (Begin TryLock ∷ Step ∷ [], Begun ∷ Answered (if w == 0 then Granted else Refused) None ∷ [], (refl, (refl, refl)), refl, refl, either (w == 0) 1 w, value, grind arith, grind arith, refl)
-  attempt_moves (Some Idle) out w value v is =
-      rw is (Begin TryLock ∷ Step ∷ [], Begun ∷ Answered (if w == 0 then Granted else Refused) None ∷ [], (refl, (refl, refl)), refl, refl, either (w == 0) 1 w, value, grind arith, grind arith, refl)
-  attempt_moves (Some _) out w value v is = absurd out
 
-  pub attempt_to_know_moves : (view : Option View) → IsOut view → Attempts TryLockStarver view
-  attempt_to_know_moves None out w value v is =
+  pub attempt_to_know_moves : Attempts TryLockStarver
+  attempt_to_know_moves w value v is =
       rw is (Begin TryLockStarver ∷ Step ∷ [], Begun ∷ Answered (if w == 0 then Granted else refusal TryLockStarver w) None ∷ [], (refl, (refl, refl)), refl, refl, either (w == 0) 1 w, value, grind arith, grind arith, refl)
-  attempt_to_know_moves (Some Idle) out w value v is =
-      rw is (Begin TryLockStarver ∷ Step ∷ [], Begun ∷ Answered (if w == 0 then Granted else refusal TryLockStarver w) None ∷ [], (refl, (refl, refl)), refl, refl, either (w == 0) 1 w, value, grind arith, grind arith, refl)
-  attempt_to_know_moves (Some _) out w value v is = absurd out
 
-  pub try_moves : (n : ℕ) (view : Option View) → MayTry n view → MovesTo view (λ n. either (n == 0) 1 n) (tried view) (tried_by view)
-  try_moves n None may w value v is =
+  abbrev pub Tries : Option View → Type 0
+  Tries view = MovesTo view (λ n. either (n == 0) 1 n) (tried view) (tried_by view)
+
+  pub first_moves : Tries None
+  first_moves w value v is =
       rw is (Begin Lock ∷ Step ∷ [], Begun ∷ (if w == 0 then Answered Granted None else GoingOn) ∷ [], (refl, (refl, refl)), refl, grind arith, either (w == 0) 1 w, value, grind arith, grind arith, refl)
-  try_moves n (Some Idle) may w value v is =
-      rw is (Begin Lock ∷ Step ∷ [], Begun ∷ (if w == 0 then Answered Granted None else GoingOn) ∷ [], (refl, (refl, refl)), refl, grind arith, either (w == 0) 1 w, value, grind arith, grind arith, refl)
-  try_moves n (Some (Trying m)) may w value v is =
+
+  pub try_moves : (n : ℕ) → Tries (Some (Trying n))
+  try_moves n w value v is =
       rw is (Step ∷ [], (if w == 0 then Answered Granted None else GoingOn) ∷ [], (refl, (refl, refl)), refl, grind arith, either (w == 0) 1 w, value, grind arith, grind arith, refl)
-  try_moves n (Some _) may w value v is = absurd may
 
   pub look_moves : (n : ℕ) → MovesTo (Some (Looking n)) (λ n. n) (looked (Some (Looking n))) (looked_by (Some (Looking n)))
   look_moves n w value v is = rw is (Step ∷ [], GoingOn ∷ [], (refl, (refl, refl)), refl, refl, w, value, grind arith, grind arith, refl)
@@ -97,14 +93,10 @@ module _ {T : Type 0} (v₀ : T) where
   abbrev First : Option View → Type 0
   First view = Registers view 0 2
 
-  pub starve_moves : (view : Option View) → IsOut view → First view
-  starve_moves None out w value v is = dite (ℕ_discrete w 0)
+  pub starve_moves : First None
+  starve_moves w value v is = dite (ℕ_discrete w 0)
       (λ e. rw (is, e) (Begin Starve ∷ Step ∷ Step ∷ [], Begun ∷ GoingOn ∷ Answered Granted None ∷ [], (refl, (refl, refl)), refl, refl, 2, value, refl, refl, refl))
       (λ ne. rw (is, ne_eqb w 0 ne) (Begin Starve ∷ Step ∷ [], Begun ∷ missed Starve w ∷ [], (refl, (refl, refl)), refl, grind arith, w, value, grind (arith, ne_eqb w 0 ne), grind arith, refl))
-  starve_moves (Some Idle) out w value v is = dite (ℕ_discrete w 0)
-      (λ e. rw (is, e) (Begin Starve ∷ Step ∷ Step ∷ [], Begun ∷ GoingOn ∷ Answered Granted None ∷ [], (refl, (refl, refl)), refl, refl, 2, value, refl, refl, refl))
-      (λ ne. rw (is, ne_eqb w 0 ne) (Begin Starve ∷ Step ∷ [], Begun ∷ missed Starve w ∷ [], (refl, (refl, refl)), refl, grind arith, w, value, grind (arith, ne_eqb w 0 ne), grind arith, refl))
-  starve_moves (Some _) out w value v is = absurd out
 
   pub turn_moves : First (Some Loading)
   turn_moves w value v is = dite (ℕ_discrete w 0)
@@ -175,7 +167,8 @@ module _ {T : Type 0} (v₀ : T) where
   give_up_moves w value v is = rw is.0 (Begin StarverDrop ∷ Step ∷ [], Begun ∷ Answered Done None ∷ [], (refl, (refl, refl)), refl, refl, w - 2, value, refl, refl, ap words_of (sym is.1))
 
   -- the holder writes the value x
-  pub release_moves : (x : T) (u : View) → seat_of u ≡ seat.Holding Write → Moves (Some u) (λ n. (n + (2 ^ 64 - 1)) % 2 ^ 64) (λ n v. (v ≡ Idle) × Takes 1 n) (frees_with (λ y. y ≡ x))
+  pub release_moves : (x : T) (u : View) → seat_of u ≡ seat.Holding Write
+      → Moves (Some u) (λ n. (n + (2 ^ 64 - 1)) % 2 ^ 64) (λ n v. (v ≡ Idle) × Takes 1 n) (leaves_by (λ y. y ≡ x) Release Done Idle)
   release_moves x u holds w value v is = rw (is.0, holds) (
     move.Write x ∷ Begin Release ∷ Step ∷ [],
     Written ∷ Begun ∷ Answered Done None ∷ [],

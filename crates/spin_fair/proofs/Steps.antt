@@ -14,34 +14,38 @@ use Rattle.spin_step.specs.Steps.{Decides}
 use Rattle.spin_step.proofs.Holders.{is_holder-from_entries, is_empty-none, length-without_holder}
 use Rattle.spin_step.proofs.Starvers.{is_starver-from_entries, length-without_starver}
 use Rattle.spin_step_more.specs.Starvers.{most_starvers, is_set, starve, lock_starved}
-use Rattle.spin_core.specs.Cell.{Use, writes, reads, off, alone, use_of, reading, writing as writer, readers_of, writers_of, Limits, Meets, Allows, Rests, Moved, words}
+use Rattle.spin_core.specs.Cell.{writes, reads, off, alone, use_of, reading, writing as writer, readers_of, writers_of, Limits, Meets, Allows, Rests, words}
 use Rattle.spin_core.specs.Own.{Numbered, what}
-use Rattle.spin_core.specs.Traced.{Traces, Watches}
-use Rattle.spin_core.specs.Values.{left, Leaves, last}
+use Rattle.spin_core.specs.Passes.{Ending, IsOut, leaves_by}
+use Rattle.spin_core.specs.Traced.{Traces}
+use Rattle.spin_core.specs.Values.{left, Leaves}
 use Rattle.spin_core.specs.declared.tie.Opening.{Opening}
 use Rattle.spin_core.specs.Views.{Knows, HasPart, idle, holds, starves, holds_starving, entries_of, IsLockOf, used_by, no_word}
 use Rattle.spin_core.specs.declared.trace.Trace.{Trace}
-use Rattle.spin_core.specs.declared.trace.Watch.{Watch}
 use Rattle.spin_core.proofs.CellCounts.{none}
 use Rattle.spin_core.proofs.CellViews.{stands_after}
 use Rattle.spin_core.proofs.Knowing.{Writes, one_holds}
 use Rattle.spin_core.proofs.Leaving.{fair_word-up, no_word-up}
+use Rattle.spin_core.proofs.Mutexes as mutexes
+use Rattle.spin_core.proofs.Mutexes.{Mutex, as_new, out_moves, leaving}
 use Rattle.spin_core.proofs.Owners.{OfHolders, one_holder}
-use Rattle.spin_core.proofs.Plays.{Lock as CellLock, ways, EachOf, Reaches, allows_among, by_step, stays_at, begins}
+use Rattle.spin_core.proofs.Plays.{Lock as CellLock, ways, EachOf, Reaches, allows_among, by_step, stays_at}
 use Rattle.spin_core.proofs.Plays as plays
 use Rattle.spin_core.proofs.Ties as tie
-use Rattle.spin_core.proofs.Values.{owed, write_leaves}
 use Rattle.spin_core.proofs.Views.{part_before, part-there, release-own, stop-own, stop_holding-own}
 use Rattle.spin_model.specs.declared.answer.Answer.TheVariants.{Done}
+use Rattle.spin_model.specs.declared.schedule.Move.{Move}
 use Rattle.spin_model.specs.declared.schedule.Move.TheVariants.{Step}
 use Rattle.spin_step_more.specs.declared.fair_calls.FairCall.{FairCall}
+use Rattle.spin_step_more.specs.declared.fair_calls.FairPoint.{FairPoint}
 use Rattle.spin_step_more.specs.declared.fair_calls.FairCall.TheVariants.{Lock, TryLock, TryLockStarver, IsLocked, StarverTryLockFair, StarverTryLock, StarverLock, StarverDrop, Release}
 use Rattle.spin_fair.specs.declared.fair.rule.View.{View}
 use Rattle.spin_fair.specs.declared.fair.rule.View.TheVariants.{Idle, Starving, Holding, Served, Trying, Looking, Loading, Registering, Setting, Awaiting, HoldingStarving}
 use Rattle.spin_fair.specs.Fair as fairs
-use Rattle.spin_fair.specs.Fair.{part, use_of_view, use_of_party, seat_of, model, words_of, OneMove, Says, Ending, Word, IsFair, fair_ways, Told, AreSteps, steps_by, answered, in_call, call_of, IsOut, stands, looks_by, tries_by, alone_by, alone_to, not_alone, gives_up_by, frees_with, frees_by, looks_of, tried, tried_by, looked, looked_by, registered, finds_no_room, goes_for, registered_by, registers_by, Registers, MayRegister, MayTry, finds_flag_set, set_by, sets_by, MaySet, waits, awaits, HoldsStarving, awaited_by, awaits_by, served_by, views_of, newcomer, starver, HoldsAt, StarvesAt}
+use Rattle.spin_fair.specs.Fair.{part, use_of_view, use_of_party, seat_of, model, words_of, Says, Word, IsFair, fair_ways, Told, AreSteps, steps_by, answered, in_call, call_of, looks_by, tries_by, alone_by, alone_to, not_alone, gives_up_by, frees_by, looks_of, tried, tried_by, looked, looked_by, registered, finds_no_room, goes_for, registered_by, registers_by, Registers, MayRegister, MayTry, finds_flag_set, set_by, sets_by, MaySet, waits, awaits, HoldsStarving, awaited_by, awaits_by, served_by, views_of, newcomer, starver, HoldsAt, StarvesAt}
 use Rattle.spin_fair.proofs.First.{first_after, first_without, marks_within, viewed}
-use Rattle.spin_fair.proofs.Moves.{Moves, Takes, load_moves, attempt_moves, attempt_to_know_moves, try_moves, look_moves, starve_moves, turn_moves, again_moves, turn_again_moves, alone_moves, try_alone_moves, lock_alone_moves, set_is, try_set_moves, lock_set_moves, starver_set_moves, await_moves, unregister_moves, give_up_moves, release_moves}
+use Rattle.spin_fair.proofs.Moves as moves
+use Rattle.spin_fair.proofs.Moves.{Moves, Takes, load_moves, attempt_moves, attempt_to_know_moves, first_moves, try_moves, look_moves, starve_moves, turn_moves, again_moves, turn_again_moves, alone_moves, try_alone_moves, lock_alone_moves, set_is, try_set_moves, lock_set_moves, starver_set_moves, await_moves, unregister_moves, give_up_moves, release_moves}
 
 -- There is at most one holder. A holder writes, nobody reads, and each party that uses the value holds.
 facts : (v : View) → OfHolders part v × Writes part (part v) × (reading (use_of_view v) ≡ 0) × (writer (use_of_view v) ≤ writer (used_by part v))
@@ -236,7 +240,7 @@ nobody_starves word second vs rule free j u at some =
 
 -- a step makes no party a newcomer that holds, unless it finds the word 0
 abbrev Frees : {T : Type 0} → Says T → Type 0
-Frees {T} says = (own : List (OneMove T)) (outs : List (Ending T)) (n : ℕ) (v : View) → says own outs n v → v ≡ Holding → n ≡ 0
+Frees {T} says = (own : List (Move FairCall T)) (outs : List (Ending T)) (n : ℕ) (v : View) → says own outs n v → v ≡ Holding → n ≡ 0
 
 never : (n : ℕ) (v w : View) → v ≡ w → newcomer w ≡ 0 → v ≡ Holding → n ≡ 0
 never n v w is other got = absurd (omega (arith, other, ap newcomer (sym is ∙ got)))
@@ -296,39 +300,32 @@ none_alone c n = at c (n == 2)
 
 -- Each step keeps the rule, and appends its moves
 
-out_has_none : (view : Option View) → IsOut view → part_before part view ≡ idle
-out_has_none None out = refl
-out_has_none (Some Idle) out = refl
-out_has_none (Some _) out = absurd out
+abbrev pub mutex : {T : Type 0} → Opening T → Mutex ℕ T FairCall FairPoint View (Unit {0})
+mutex opening = record { plain = fair; model = model opening.value; seat_of = seat_of; words_of = words_of; opening = opening; idle_sits = refl }
 
--- the party is new, or its last call has ended
-pub is_out : (view : Option (Numbered View)) → stands view ≡ Idle → IsOut (what view)
-is_out None is = tt
-is_out (Some v) is = subst (λ w. IsOut (Some w)) (sym is) tt
+-- a party that is out has nothing, and does not use the value
+nothing : (view : Option View) → IsOut Idle view → part_before part view ≡ idle
+nothing = as_new Idle (part_before part) refl
 
--- a party that may try has nothing, and its looks were counted
-may_try : (n : ℕ) (view : Option View) → MayTry n view → (part_before part view ≡ idle) × (n ≡ looks_of view)
-may_try n None may = (refl, may)
-may_try n (Some Idle) may = (refl, may)
-may_try n (Some (Trying m)) may = (refl, may)
+pub out_off : (view : Option View) → IsOut Idle view → use_of use_of_view view ≡ off
+out_off = as_new Idle (use_of use_of_view) refl
+
+may_try : (n : ℕ) (view : Option View) → MayTry n view → part_before part view ≡ idle
+may_try n None may = refl
+may_try n (Some Idle) may = refl
+may_try n (Some (Trying m)) may = refl
 may_try n (Some _) may = absurd may
 
-pub out_may_try : (view : Option View) → IsOut view → MayTry 0 view
+pub out_may_try : (view : Option View) → IsOut Idle view → MayTry 0 view
 out_may_try None out = refl
-out_may_try (Some Idle) out = refl
-out_may_try (Some _) out = absurd out
+out_may_try (Some v) out = subst (λ w. MayTry 0 (Some w)) (sym out) refl
 
-pub out_may_register : (view : Option View) → IsOut view → MayRegister view
-out_may_register None out = tt
-out_may_register (Some Idle) out = tt
-out_may_register (Some _) out = absurd out
+pub out_may_register : (view : Option View) → IsOut Idle view → MayRegister view
+out_may_register None out = out
+out_may_register (Some Loading) out = tt
+out_may_register (Some _) out = out
 
 -- such parties do not use the value, nor does a starver before it is served
-
-pub out_off : (view : Option View) → IsOut view → use_of use_of_view view ≡ off
-out_off None out = refl
-out_off (Some Idle) out = refl
-out_off (Some _) out = absurd out
 
 pub try_off : (n : ℕ) (view : Option View) → MayTry n view → use_of use_of_view view ≡ off
 try_off n None may = refl
@@ -361,9 +358,8 @@ goes_off c n = at c (is_some (starve most_starvers n))
 
 register_off : (first : Option View) → MayRegister first → use_of use_of_view first ≡ off
 register_off None may = refl
-register_off (Some Idle) may = refl
 register_off (Some Loading) may = refl
-register_off (Some _) may = absurd may
+register_off (Some v) may = out_off (Some v) may
 
 pub registers_off : (first now : Option View) (word : ℕ) → MayRegister first → Registers first word now → use_of use_of_view now ≡ off
 registers_off first now word may (inl at) = ap (use_of use_of_view) at.0 ∙ register_off first may
@@ -374,7 +370,8 @@ steps_leave : {T : Type 0} (ends : List (Ending T)) (v : T) → left {C = FairCa
 steps_leave [] v = refl
 steps_leave (e ∷ ends) v = steps_leave ends v
 
-are_steps_leave : {T : Type 0} (goes_on : Bool) (c : FairCall) (ends : List (Ending T)) (own : List (OneMove T)) (outs : List (Ending T)) → AreSteps goes_on c ends own outs → (v : T) → left own v ≡ v
+are_steps_leave : {T : Type 0} (goes_on : Bool) (c : FairCall) (ends : List (Ending T)) (own : List (Move FairCall T)) (outs : List (Ending T))
+    → AreSteps goes_on c ends own outs → (v : T) → left own v ≡ v
 are_steps_leave true c ends own outs are v = ap (λ o. left o v) are.0 ∙ steps_leave ends v
 are_steps_leave false c ends own outs are v = ap (λ o. left o v) are.0 ∙ steps_leave ends v
 
@@ -389,9 +386,8 @@ module _ {T : Type 0} (opening : Opening T) where
   abbrev Keeps : Option (Numbered View) → Option T → (ℕ → ℕ) → Says T → Type 0
   Keeps view shown f says = Traces (IsFair opening) (fair_ways opening) view shown f (Told v₀ says view)
 
-  -- moves that keep what is known of the value, or leave it
   abbrev Leaving : Option View → Option T → Says T → Type 0
-  Leaving view shown says = (own : List (OneMove T)) (outs : List (Ending T)) (n : ℕ) (u : View) → says own outs n u → Leaves (use_of use_of_view view) (use_of_view u) shown own
+  Leaving = mutexes.Leaving (mutex opening)
 
   -- steps of a party that does not use the value
   unused : (view : Option View) (shown : Option T) → use_of use_of_view view ≡ off → (goes_on : Bool) (c : FairCall) (ends : ℕ → List (Ending T)) (to : ℕ → View) → Leaving view shown (steps_by goes_on c ends to)
@@ -400,8 +396,7 @@ module _ {T : Type 0} (opening : Opening T) where
   keeps : (view : Option (Numbered View)) (shown : Option T) (f : ℕ → ℕ) (leads : ℕ → View → Type 0) (says : Says T) → Frees says → Leaving (what view) shown says → Moves v₀ (what view) f leads says → Leads (what view) f leads
       → Keeps view shown f says
   keeps view shown f leads says frees leaves moves allows id n t vs meets at small =
-      let made = tie.traces (model v₀) seat_of words_of Word opening.name T alone use_of_view (last opening) view shown f leads says moves
-      (λ own outs n u said t word p. owed opening own t word p (use_of use_of_view (what view)) (use_of_view u) shown (leaves own outs n u said)) allows id n t vs ((meets.0.0, meets.0.1.0, meets.0.2), meets.1) at small in
+      let made = mutexes.keeps (mutex opening) view shown f leads says leaves moves allows id n t vs ((meets.0.0, meets.0.1.0, meets.0.2), meets.1) at small in
       let w : Numbered View = made.0 in let told : Told v₀ says view t.entries made.1 n w = made.3 in let kept = made.2.1 in
       let order = first_after id view vs w (length t.entries) (marks_within v₀ t.entries (n, t.word) vs meets.0.2) (omega (arith, told.3, length-append t.entries made.1))
       (λ got. nobody_starves n t.word vs meets.0.1.0 (frees told.0 told.1 n w.0 told.6 got)) meets.0.1.1 in
@@ -409,21 +404,28 @@ module _ {T : Type 0} (opening : Opening T) where
 
   pub starts : (t : Trace (fairs.Done T) (Unit {0})) → t.name ≡ opening.name → t.entries ≡ [] → Meets (IsFair opening) (fair_ways opening) 0 t []
   starts t named empty =
-      let meets = tie.opens (model v₀) seat_of words_of Word opening.name T alone use_of_view (last opening) 0 t named empty refl (begins fair 0 0 0 tt (omega arith) refl refl) in
+      let meets = mutexes.starts (mutex opening) 0 t named empty refl (plays.begins fair 0 0 0 tt (omega arith) refl refl) in
       ((meets.0.0, (meets.0.1, λ i j v w at. absurd (cc (at))), meets.0.2), meets.1)
 
-  pub looks : (view : Option (Numbered View)) (shown : Option T) → IsOut (what view) → Keeps view shown (λ n. n) looks_by
+  pub looks : (view : Option (Numbered View)) (shown : Option T) → IsOut Idle (what view) → Keeps view shown (λ n. n) looks_by
   looks view shown out = let now = what view in
-      keeps view shown (λ n. n) (λ n v. v ≡ Idle) looks_by (frees_none false IsLocked _ (λ n. Idle) (λ n. refl)) (unused now shown (out_off now out) false IsLocked _ (λ n. Idle)) (load_moves v₀ now out) (stays_at fair now (λ n. Idle) (λ n. out_has_none now out) (λ s n. tt))
+      keeps view shown (λ n. n) (λ n v. v ≡ Idle) looks_by (frees_none false IsLocked _ (λ n. Idle) (λ n. refl))
+      (unused now shown (out_off now out) false IsLocked _ (λ n. Idle))
+      (out_moves (mutex opening) now out (λ n. n) (λ n v. v ≡ Idle) looks_by (load_moves v₀))
+      (stays_at fair now (λ n. Idle) (λ n. nothing now out) (λ s n. tt))
 
   -- the lemma of the step function says that the lock is free if it grants
   abbrev Attempts : FairCall → Type 0
-  Attempts c = (view : Option (Numbered View)) (shown : Option T) → IsOut (what view) → (taken : ℕ) → taken ≡ 1 → ((s : Plain) (p : ℕ) → fair_word s ≡ 0 → Decides s (gets p to_lock_unregistered) fair_word (Some taken)) → Keeps view shown (λ n. either (n == 0) taken n) (tries_by c)
+  Attempts c =
+      (view : Option (Numbered View)) (shown : Option T) → IsOut Idle (what view) → (taken : ℕ) → taken ≡ 1
+      → ((s : Plain) (p : ℕ) → fair_word s ≡ 0 → Decides s (gets p to_lock_unregistered) fair_word (Some taken))
+      → Keeps view shown (λ n. either (n == 0) taken n) (tries_by c)
 
-  attempts_by : (c : FairCall) → ((view : Option View) → IsOut view → Moves v₀ view (λ n. either (n == 0) 1 n) (λ n v. v ≡ (if n == 0 then Holding else Idle)) (tries_by c)) → Attempts c
-  attempts_by c moves view shown out taken one plain = let now = what view in
+  attempts_by : (c : FairCall) → moves.Attempts v₀ c → Attempts c
+  attempts_by c new view shown out taken one plain = let now = what view in let to : ℕ → View → Type 0 = λ n v. v ≡ (if n == 0 then Holding else Idle) in
       keeps view shown (λ n. either (n == 0) taken n) (λ n v. v ≡ (if n == 0 then Holding else Idle)) (tries_by c) (frees_by_try false c _ Idle refl)
-      (unused now shown (out_off now out) false c _ (λ n. if n == 0 then Holding else Idle)) (rw one (moves now out)) (attempts_plain now Idle (out_has_none now out) refl taken plain)
+      (unused now shown (out_off now out) false c _ (λ n. if n == 0 then Holding else Idle))
+      (rw one (out_moves (mutex opening) now out (λ n. either (n == 0) 1 n) to (tries_by c) new)) (attempts_plain now Idle (nothing now out) refl taken plain)
 
   pub attempts : Attempts TryLock
   attempts = attempts_by TryLock (attempt_moves v₀)
@@ -434,7 +436,15 @@ module _ {T : Type 0} (opening : Opening T) where
   pub tries : (n : ℕ) (view : Option (Numbered View)) (shown : Option T) → MayTry n (what view) → (taken : ℕ) → taken ≡ 1 → ((s : Plain) (p : ℕ) → fair_word s ≡ 0 → Decides s (gets p to_lock_unregistered) fair_word (Some taken))
       → Keeps view shown (λ n. either (n == 0) taken n) (tried_by (what view))
   tries n view shown may taken one plain = let now = what view in let lost : View = Looking (looks_of now) in
-      keeps view shown (λ n. either (n == 0) taken n) (λ n v. v ≡ tried now n) (tried_by now) (frees_by_try (in_call now) Lock _ lost refl) (unused now shown (try_off n now may) (in_call now) Lock _ (tried now)) (rw one (try_moves v₀ n now may)) (attempts_plain now lost (may_try n now may).0 refl taken plain)
+      keeps view shown (λ n. either (n == 0) taken n) (λ n v. v ≡ tried now n) (tried_by now) (frees_by_try (in_call now) Lock _ lost refl)
+      (unused now shown (try_off n now may) (in_call now) Lock _ (tried now)) (rw one (moves_of now may))
+      (attempts_plain now lost (may_try n now may) refl taken plain)
+    where
+      moves_of : (now : Option View) → MayTry n now → moves.Tries v₀ now
+      moves_of None may = first_moves v₀
+      moves_of (Some Idle) may = first_moves v₀
+      moves_of (Some (Trying m)) may = try_moves v₀ m
+      moves_of (Some _) may = absurd may
 
   pub looks_on : (n : ℕ) (view : Option (Numbered View)) (shown : Option T) → what view ≡ Some (Looking n) → Keeps view shown (λ n. n) (looked_by (what view))
   looks_on n view shown is = let now = what view in
@@ -453,13 +463,13 @@ module _ {T : Type 0} (opening : Opening T) where
       (unused now shown (registers_off first now word may from) (in_call now) (call_of now) _ (registered_by now word)) ready.1 (registers_plain now ready.0 word more plain)
     where
       ready_of : (first now : Option View) (word more : ℕ) → MayRegister first → Registers first word now → Some more ≡ starve most_starvers word → Ready v₀ now word more
-      ready_of None now word more may (inl at) room = rw (at.0, at.1) (refl, (let two : more ≡ 2 = cc (room, at.1) in rw two (starve_moves v₀ None tt)))
-      ready_of (Some Idle) now word more may (inl at) room = rw (at.0, at.1) (refl, (let two : more ≡ 2 = cc (room, at.1) in rw two (starve_moves v₀ (Some Idle) tt)))
+      ready_of None now word more may (inl at) room = rw (at.0, at.1) (refl, (let two : more ≡ 2 = cc (room, at.1) in rw two (starve_moves v₀)))
+      ready_of (Some Idle) now word more may (inl at) room = rw (at.0, at.1) (refl, (let two : more ≡ 2 = cc (room, at.1) in rw two (starve_moves v₀)))
       ready_of (Some Loading) now word more may (inl at) room = rw (at.0, at.1) (refl, (let two : more ≡ 2 = cc (room, at.1) in rw two (turn_moves v₀)))
       ready_of None now word more may (inr at) room = rw (at, sym room) (refl, again_moves v₀ word more (sym room))
       ready_of (Some Idle) now word more may (inr at) room = rw (at, sym room) (refl, again_moves v₀ word more (sym room))
       ready_of (Some Loading) now word more may (inr at) room = rw (at, sym room) (refl, turn_again_moves v₀ word more (sym room))
-      ready_of (Some _) now word more may at room = absurd may
+      ready_of (Some _) now word more may at room = absurd cc
 
   -- the exchange of the only starver
   abbrev Alone : FairCall → Type 0
@@ -518,16 +528,16 @@ module _ {T : Type 0} (opening : Opening T) where
       (rw is (give_up_moves v₀)) (rw is gives_up_plain)
 
   -- the holder writes the value that it leaves
-  freeing : (x : T) (v : View) → use_of_view v ≡ writes → Leaving (Some v) (Some x) (frees_with (λ y. y ≡ x))
-  freeing x v held own outs n u (stays, (y, is, by)) =
-      subst (λ (z : Use × View). Leaves z.0 (use_of_view z.1) (Some x) own) (λ i. (sym held i, sym stays i)) (λ w. write_leaves y false Release (answered Done) own outs by w ∙ is)
-
   pub frees : (v : Numbered View) (x : T) → use_of_view v.0 ≡ writes → Keeps (Some v) (Some x) (λ n. (n + (2 ^ 64 - 1)) % 2 ^ 64) frees_by
-  frees v x held = let ready = ready_of v.0 held in let exact : Says T = frees_with (λ y. y ≡ x) in let to : ℕ → ℕ = λ n. (n + (2 ^ 64 - 1)) % 2 ^ 64 in
+  frees v x held =
+      let ready = ready_of v.0 held in let exact : Says T = leaves_by (λ y. y ≡ x) Release Done Idle in let to : ℕ → ℕ = λ n. (n + (2 ^ 64 - 1)) % 2 ^ 64 in
       tie.tells_less (model v₀) seat_of words_of (Some v) exact frees_by (λ own outs n u (stays, (y, is, by)). (stays, (y, tt, by))) (IsFair opening) (fair_ways opening) (Some x) to
-      (keeps (Some v) (Some x) to (λ n v. (v ≡ Idle) × Takes 1 n) exact (λ own outs n u said got. never n u Idle said.0 refl got) (freeing x v.0 held) ready.0 ready.1)
+      (keeps (Some v) (Some x) to (λ n v. (v ≡ Idle) × Takes 1 n) exact (λ own outs n u said got. never n u Idle said.0 refl got)
+      (leaving (mutex opening) (Some v.0) (Some x) x Release Done held refl) ready.0 ready.1)
     where
-      ready_of : (v : View) → use_of_view v ≡ writes → Moves v₀ (Some v) (λ n. (n + (2 ^ 64 - 1)) % 2 ^ 64) (λ n v. (v ≡ Idle) × Takes 1 n) (frees_with (λ y. y ≡ x)) × Leads (Some v) (λ n. (n + (2 ^ 64 - 1)) % 2 ^ 64) (λ n v. (v ≡ Idle) × Takes 1 n)
+      ready_of : (v : View) → use_of_view v ≡ writes
+          → Moves v₀ (Some v) (λ n. (n + (2 ^ 64 - 1)) % 2 ^ 64) (λ n v. (v ≡ Idle) × Takes 1 n) (leaves_by (λ y. y ≡ x) Release Done Idle)
+          × Leads (Some v) (λ n. (n + (2 ^ 64 - 1)) % 2 ^ 64) (λ n v. (v ≡ Idle) × Takes 1 n)
       ready_of Holding e = (release_moves v₀ x Holding refl, frees_plain Holding refl)
       ready_of Served e = (release_moves v₀ x Served refl, frees_plain Served refl)
       ready_of _ e = absurd cc
@@ -535,18 +545,11 @@ module _ {T : Type 0} (opening : Opening T) where
 -- Who may leave
 
 module _ {T : Type 0} (opening : Opening T) where
-  pub idle_rests : (v : Numbered View) → v.0 ≡ Idle → Rests (IsFair opening) use_of_party (Some v)
-  idle_rests v is =
-      let rest = tie.rests (model opening.value) seat_of words_of Word opening.name T alone use_of_view (last opening) v (ap seat_of is) (plays.idle_rests fair v.0 is) in
+  pub rests : (view : Option (Numbered View)) → IsOut Idle (what view) → Rests (IsFair opening) use_of_party view
+  rests None out = tt
+  rests (Some v) out =
+      let rest = mutexes.rests (mutex opening) (Some v) out in
       (rest.0, λ n t before behind kept. let without = rest.1 n t before behind (kept.0, kept.1.0, kept.2) in (without.0, (without.1, first_without before behind v kept.1.1), without.2))
-
-  pub rests : (view : Option (Numbered View)) → stands view ≡ Idle → Rests (IsFair opening) use_of_party view
-  rests None is = tt
-  rests (Some v) is = idle_rests v is
-
-  pub freed : (named : Type 0) (known now : Watch (fairs.Done T)) (before view : Option (Numbered View)) (found : ℕ) → Moved (Watches named known now (Told opening.value frees_by before) found) view → stands view ≡ Idle
-  freed named known now before None found moved = absurd moved
-  freed named known now before (Some v) found moved = moved.1.4.6.0
 
 -- a party that registers stays in its call
 

@@ -4,39 +4,45 @@ use Rattle.std.specs.Prelude.{◌⊎◌}
 use mathlib.Core.Logic.{dite}
 use native.Mathlib.Decide.{ℕ_discrete}
 use Rattle.spin_step_more.specs.Starvers.{most_starvers, is_set, starve}
-use Rattle.spin_core.specs.Guard.{guard_key, guard_view}
-use Rattle.spin_core.specs.Passes.{Course, IsCall, IsStep, WritesSome}
-use Rattle.spin_core.specs.Cell.{Moved, writes, off, use_of}
+use Rattle.spin_core.specs.Guard.{IsHolder, guard_key, guard_view, guard_value}
+use Rattle.spin_core.specs.Passes.{Course, Ending, IsOut}
+use Rattle.spin_core.specs.Cell.{Moved, off, use_of}
 use Rattle.spin_core.specs.Own.{Numbered, what}
 use Rattle.spin_core.specs.Passes.{mark_of}
-use Rattle.spin_core.specs.Traced.{Watches, Named, Found}
+use Rattle.spin_core.specs.Spots.{Since, spot}
+use Rattle.spin_core.specs.Traced.{Watches, Named, MayKnow, Found}
 use Rattle.spin_core.specs.Values.{IsLast}
+use Rattle.spin_core.specs.declared.cell.Permit.{Permit}
 use Rattle.spin_core.specs.declared.tie.Opening.{Opening}
+use Rattle.spin_core.specs.declared.trace.Trace.{Trace}
 use Rattle.spin_core.specs.declared.trace.Watch.{Watch}
 use Rattle.spin_core.proofs.Passes as passes
-use Rattle.spin_core.proofs.Passes.{Learnt, and_waits, and_ends, call_waits, call_ends, whole_behind}
-use Rattle.spin_core.proofs.Ties.{same_use}
-use Rattle.spin_core.proofs.Values.{found, gave, wrote, write_leaves}
+use Rattle.spin_core.proofs.Mutexes.{finds}
+use Rattle.spin_core.proofs.Spots as spots
+use Rattle.spin_core.proofs.Passes.{and_waits, and_ends, call_waits, call_ends}
 use Rattle.spin_model.specs.declared.answer.Answer.{Answer}
+use Rattle.spin_model.specs.declared.schedule.Move.{Move}
 use Rattle.spin_model.specs.declared.schedule.Move.TheVariants.{Step}
 use Rattle.spin_model.specs.declared.schedule.Outcome.TheVariants.{GoingOn}
-use Rattle.spin_model.specs.declared.answer.Answer.TheVariants.{Granted, Done as IsDone}
+use Rattle.spin_model.specs.declared.answer.Answer.TheVariants.{Granted}
 use Rattle.spin_step_more.specs.declared.fair.LockRejectReason.TheVariants.{Locked, Starved}
 use Rattle.spin_step_more.specs.declared.fair_calls.FairCall.{FairCall}
-use Rattle.spin_step_more.specs.declared.fair_calls.FairCall.TheVariants.{Lock, TryLockStarver, Starve, StarverTryLock, StarverLock, Release}
-use Rattle.spin_fair.specs.Fair.{model, seat_of, words_of, use_of_view, use_of_party, Done, OneMove, Ending, Says, IsFair, fair_ways, Told, steps_by, frees_with, frees_by, stands, Left, AreSteps, answered, in_call, call_of, IsOut, Comes, Moves, refusal, answer_of, tries_by, alone_by, alone_to, not_alone, missed_alone, looked, looks_of, patience, registered_end, no_room_end, loads, register_ends, registered_so, no_room_so, flag_set_end, flag_set_so, finds_no_room, finds_flag_set, Registers, awaits, awaited_by, MaySet, MayAwait}
-use Rattle.spin_fair.specs.Waits.{view_of, Comes_by, Held}
+use Rattle.spin_step_more.specs.declared.fair_calls.FairCall.TheVariants.{Lock, TryLockStarver, Starve, StarverTryLock, StarverLock}
+use Rattle.spin_fair.specs.Fair.{model, model_at, seat_of, words_of, use_of_view, use_of_party, Done, Says, IsFair, fair_ways, Told, steps_by, AreSteps, answered, in_call, call_of, Comes, Moves, refusal, answer_of, tries_by, alone_by, alone_to, not_alone, missed_alone, looked, looks_of, patience, registered_end, no_room_end, loads, register_ends, registered_so, no_room_so, flag_set_end, flag_set_so, finds_no_room, finds_flag_set, Registers, awaits, awaited_by, MaySet, MayAwait}
+use Rattle.spin_fair.specs.Guards.{Holds}
+use Rattle.spin_fair.specs.Waits.{Spot, view_of, here, Held, held_at, Gets}
 use Rattle.spin_fair.specs.declared.fair.account.Account.{Account}
+use Rattle.spin_fair.specs.declared.fair.rule.FairRule.{FairRule}
 use Rattle.spin_fair.specs.declared.fair.rule.View.{View}
 use Rattle.spin_fair.specs.declared.fair.rule.View.TheVariants.{Idle, Holding, Served, Trying, Looking, Loading, Registering, Setting, Awaiting}
-use Rattle.spin_fair.proofs.Steps.{freed}
+use Rattle.spin_fair.proofs.Steps.{mutex}
 
 -- after these outcomes the call continues, or is answered
 abbrev pub Comes_to : {T : Type 0} → List (Ending T) → Option (Answer T) → Type 0
 Comes_to ends None = (n : ℕ) × (ends ≡ replicate n GoingOn)
 Comes_to ends (Some a) = (n : ℕ) × (ends ≡ replicate n GoingOn ++ answered a ∷ [])
 
-abbrev steps : {T : Type 0} → List (Ending T) → List (OneMove T)
+abbrev steps : {T : Type 0} → List (Ending T) → List (Move FairCall T)
 steps ends = map (λ _. Step) ends
 
 as_many : {T : Type 0} (n : ℕ) → steps {T = T} (replicate n GoingOn) ≡ replicate n Step
@@ -47,87 +53,77 @@ and_one : {T : Type 0} (n : ℕ) (end : Ending T) → steps (replicate n GoingOn
 and_one zero end = refl
 and_one (suc n) end = ap (λ l. Step ∷ l) (and_one n end)
 
-comes : {T : Type 0} (goes_on : Bool) (c : FairCall) (ends : List (Ending T)) (o : Option (Answer T)) → Comes_to ends o → (own : List (OneMove T)) (outs : List (Ending T)) → AreSteps goes_on c ends own outs → Comes goes_on c o own outs
+comes : {T : Type 0} (goes_on : Bool) (c : FairCall) (ends : List (Ending T)) (o : Option (Answer T)) → Comes_to ends o
+    → (own : List (Move FairCall T)) (outs : List (Ending T)) → AreSteps goes_on c ends own outs → Comes goes_on c o own outs
 comes true c ends None (n, is) own outs are = (n, are.0 ∙ ap steps is ∙ as_many n, are.1 ∙ is)
 comes true c ends (Some a) (n, is) own outs are = (n, are.0 ∙ ap steps is ∙ and_one n (answered a), are.1 ∙ is)
 comes false c ends None (n, is) own outs are = (steps ends, ends, are.0, are.1, (n, ap steps is ∙ as_many n, is))
 comes false c ends (Some a) (n, is) own outs are = (steps ends, ends, are.0, are.1, (n, ap steps is ∙ and_one n (answered a), is))
 
--- What a step tells a party, of a lock that opened so
-module _ {T : Type 0} (opening : Opening T) where
-  pub may_know : (before : Watch (Done T)) → opening.name ≡ before.name → Named (IsFair opening) (fair_ways opening) before.name
-  may_know before = passes.may_know (IsFair opening) (fair_ways opening) opening.name (λ n t vs is. is.0) before.name
+pub may_know : {T : Type 0} (opening : Opening T) (before : Watch (Done T)) → opening.name ≡ before.name
+    → Named (IsFair opening) (fair_ways opening) before.name
+may_know opening before = passes.may_know (IsFair opening) (fair_ways opening) opening.name (λ n t vs is. is.0) before.name
 
-  abbrev Steps : Says T → Watch (Done T) → Watch (Done T) → Option (Numbered View) → Option (Numbered View) → ℕ → Type 0
-  Steps says before now view view' n = Moved (Watches (Named (IsFair opening) (fair_ways opening) before.name) before now (Told opening.value says view) n) view'
+-- What a step tells a party that knew all up to its last step
+module _ {T : Type 0} (p q : Spot T) (same : q.0 ≡ p.0) (named : p.0.name ≡ p.2.name) (knew : mark_of p.1 ≡ length p.2.entries) (n : ℕ) where
+  abbrev pub Steps : Says T → Type 0
+  Steps says = Moved (Watches (Named (IsFair p.0) (fair_ways p.0) p.2.name) p.2 q.2 (Told p.0.value says p.1) n) q.1
 
-  -- what a party finds that comes to hold
-  pub holder_finds : (view view' : Option (Numbered View)) (before after : Option T) (seen : Watch (Done T)) → use_of use_of_view (what view) ≡ off → Found (fair_ways opening) view view' before after seen → (x : T) → after ≡ Some x → IsLast opening seen.entries x
-  holder_finds view view' before after seen unused known x is = found opening (use_of use_of_party view) (use_of use_of_party view') before after seen.entries x known (sym (same_use use_of_view view) ∙ unused) is
+  abbrev pub Knows : Option (Numbered View) → Option T → Type 0
+  Knows view shown =
+      record { named : q.0.name ≡ q.2.name; knows : mark_of view ≡ length q.2.entries; finds : (x : T) → shown ≡ Some x → IsLast q.0 q.2.entries x }
 
-  -- after any step a party that knew all knows all again, by a watch of the same trace; and where it comes to use the value, that is the one written last
-  pub still_knows : (says : Says T) (view view' : Option (Numbered View)) (before now : Watch (Done T)) (key' : Opening T) (shown shown' : Option T) (n : ℕ) → mark_of view ≡ length before.entries → opening.name ≡ before.name → key' ≡ opening
-      → use_of use_of_view (what view) ≡ off → Steps says before now view view' n → Found (fair_ways opening) view view' shown shown' now
-      → (key'.name ≡ now.name) × (mark_of view' ≡ length now.entries) × ((x : T) → shown' ≡ Some x → IsLast key' now.entries x)
-  still_knows says view None before now key' shown shown' n knew named same unused moved known = absurd moved
-  still_knows says view (Some v) before now key' shown shown' n knew named same unused moved known = (
-    ap (λ k. k.name) same ∙ named ∙ sym (moved.0 (may_know before named)),
-    (passes.learns (model opening.value) seat_of words_of says (Named (IsFair opening) (fair_ways opening) before.name) view before now n v knew moved).1,
-    λ x is. subst (λ k. IsLast k now.entries x) (sym same) (holder_finds view (Some v) shown shown' now unused known x is),
-  )
+  -- it knows all again, by a watch of the same trace; and if it comes to use the value, that is the one written last
+  pub knows_again : (says : Says T) (shown shown' : Option T) → use_of use_of_view (what p.1) ≡ off → Steps says
+      → Found (fair_ways p.0) p.1 q.1 shown shown' q.2
+      → Knows q.1 shown'
+  knows_again says shown shown' unused moved known = at q.1 moved known
+    where
+      at : (view : Option (Numbered View)) → Moved (Watches (Named (IsFair p.0) (fair_ways p.0) p.2.name) p.2 q.2 (Told p.0.value says p.1) n) view
+          → Found (fair_ways p.0) p.1 view shown shown' q.2
+          → Knows view shown'
+      at None moved known = absurd moved
+      at (Some v) moved known = record {
+        named = ap (λ k. k.name) same ∙ named ∙ sym (moved.0 (may_know p.0 p.2 named));
+        knows = (passes.learns (model_at p.0) seat_of words_of says (Named (IsFair p.0) (fair_ways p.0) p.2.name) p.1 p.2 q.2 n v knew moved).1;
+        finds = λ x is. subst (λ k. IsLast k q.2.entries x) (sym same) (finds (mutex p.0) p.1 (Some v) shown shown' q.2 x known unused is);
+      }
 
-  -- of a party that knew all up to its last step: the moves of its call, and where it led
-  module _ (goes_on : Bool) (c : FairCall) (ends : ℕ → List (Ending T)) (to : ℕ → View) where
-    learnt : (view view' : Option (Numbered View)) (before now : Watch (Done T)) (n : ℕ) → mark_of view ≡ length before.entries → opening.name ≡ before.name
-        → Steps (steps_by goes_on c ends to) before now view view' n → Learnt (model opening.value) view view' before now (to n) (AreSteps goes_on c (ends n))
-    learnt view view' before now n knew same =
-        passes.learnt (model opening.value) seat_of words_of (steps_by goes_on c ends to) to (λ n. AreSteps goes_on c (ends n)) (λ own outs n v said. said) (Named (IsFair opening) (fair_ways opening) before.name) (may_know before same) view view' before now n knew
+  -- the moves of its call, and where it led
+  pub took : (goes_on : Bool) (c : FairCall) (ends : ℕ → List (Ending T)) (to : ℕ → View) (o : Option (Answer T)) → Steps (steps_by goes_on c ends to)
+      → Comes_to (ends n) o → Since model_at (Comes goes_on c o) p q × (what q.1 ≡ Some (to n))
+  took goes_on c ends to o moved end =
+      let so = spots.took model_at seat_of words_of p q same knew (may_know p.0 p.2 named) n (steps_by goes_on c ends to) to
+      (λ n. AreSteps goes_on c (ends n)) (λ own outs n v said. said) moved in (
+        (
+          passes.weaker (model_at p.0) p.1 q.1 p.2.entries q.2.entries (AreSteps goes_on c (ends n)) (Comes goes_on c o)
+              (comes goes_on c (ends n) o end) so.0.0,
+          so.0.1,
+          so.0.2,
+        ),
+        so.1,
+      )
 
-    pub took_from : (o : Option (Answer T)) (view view' : Option (Numbered View)) (before now : Watch (Done T)) (key' : Opening T) (n : ℕ) → mark_of view ≡ length before.entries → opening.name ≡ before.name → key' ≡ opening
-        → Steps (steps_by goes_on c ends to) before now view view' n → Comes_to (ends n) o
-        → (((now.name ≡ before.name) × (key' ≡ opening)) × Moves opening.value (Comes goes_on c o) view before.entries view' now.entries) × (what view' ≡ Some (to n))
-    took_from o view view' before now key' n knew same key moved end =
-        let so = learnt view view' before now n knew same moved in
-        (((so.named, key), passes.weaker (model opening.value) view view' before.entries now.entries (AreSteps goes_on c (ends n)) (Comes goes_on c o) (comes goes_on c (ends n) o end) so.made), so.is)
+abbrev Party : Type 0 → Type 0
+Party T = Permit T (Numbered View) FairRule (Opening T) (Trace (Done T) (Unit {0}))
 
-  -- The release: the value that is left is the one that the moves write
+-- the watch of an account is of its lock's trace
+pub watches : {T : Type 0} (me : Account T) → MayKnow (IsFair me.permit.key) (fair_ways me.permit.key) me.seen
+watches me = inr (may_know me.permit.key me.seen me.named)
 
-  module _ (view view' : Option (Numbered View)) (shown shown' : Option T) (before now : Watch (Done T)) (v : Numbered View) (x : T) (n : ℕ) (is : view ≡ Some v) (held : use_of_view v.0 ≡ writes) (here : shown ≡ Some x) (moved : Steps frees_by before now view view' n) where
-    pub leaves : Found (fair_ways opening) view view' shown shown' now → IsLast opening now.entries x
-    leaves known = gave opening (use_of use_of_party view) (use_of use_of_party view') shown shown' now.entries x known (ap (use_of use_of_party) is ∙ held) (gone view' (freed opening (Named (IsFair opening) (fair_ways opening) before.name) before now view view' n moved)) here where
-      gone : (w : Option (Numbered View)) → stands w ≡ Idle → use_of use_of_party w ≡ off
-      gone None e = refl
-      gone (Some w) e = ap use_of_view e
+-- the same of a step from this account
+module _ {T : Type 0} (me : Account T) (it : Party T) (now : Watch (Done T)) (n : ℕ) (same : it.key ≡ me.permit.key) where
+  abbrev pub Step_by : Says T → Type 0
+  Step_by = Steps (here me) (spot it now) same me.named me.knows n
 
-    abbrev Told_left : T → Type 0
-    Told_left y = opening.told ≡ true → y ≡ x
+  pub again : (says : Says T) → use_of use_of_view (view_of me) ≡ off → Step_by says
+      → Found (fair_ways me.permit.key) me.permit.view it.view me.permit.value it.value now
+      → Knows (here me) (spot it now) same me.named me.knows n it.view it.value
+  again says = knows_again (here me) (spot it now) same me.named me.knows n says me.permit.value it.value
 
-    exactly : (w : Option (Numbered View)) → IsLast opening now.entries x → Steps frees_by before now view w n → Steps (frees_with Told_left) before now view w n
-    exactly None so made = absurd made
-    exactly (Some w) so (named, (log, es, known, grew, (own, outs, mine, mark, none, alike, (stays, (y, any, by))))) =
-        (named, (log, es, known, grew, (own, outs, mine, mark, none, alike, (stays, (y, wrote opening log es now.entries w.1 own x y grew mine (write_leaves y false Release (answered IsDone) own outs by) so, by)))))
-
-    pub released : mark_of view ≡ length before.entries → opening.name ≡ before.name → IsLast opening now.entries x → (now.name ≡ before.name) × Left opening.value Told_left view before.entries view' now.entries × (mark_of view' ≡ length now.entries)
-    released knew same so =
-        let told = passes.learnt (model opening.value) seat_of words_of (frees_with Told_left) (λ n. Idle) (λ n. WritesSome Told_left (IsStep false Release (answered IsDone))) (λ own outs n u said. said) (Named (IsFair opening) (fair_ways opening) before.name) (may_know before same) view view' before now n knew
-        (exactly view' so moved) in
-        (told.named, whole_behind (model opening.value) view view' before.entries now.entries Told_left Release IsDone told.made, told.knows)
-
--- what was written, whatever it was
-pub left_weaker : {T : Type 0} (v₀ : T) (Q : T → Type 0) (view view' : Option (Numbered View)) (old new : List (Done T)) → Left v₀ Q view old view' new → Left v₀ (λ x. Unit {0}) view old view' new
-left_weaker v₀ Q view view' old new = passes.weaker (model v₀) view view' old new (WritesSome Q (IsCall Release IsDone)) (WritesSome (λ x. Unit {0}) (IsCall Release IsDone)) (λ own outs (x, so, by). (x, tt, by))
-
--- of a party with all that it knew
-module _ {T : Type 0} (me : Account T) (view : Option (Numbered View)) (now : Watch (Done T)) (lock : Opening T) (n : ℕ) (same : lock ≡ me.permit.key) where
-  abbrev Step_by : Says T → Type 0
-  Step_by says = Steps me.permit.key says me.seen now me.permit.view view n
-
-  pub knows_again : (says : Says T) (shown : Option T) → use_of use_of_view (view_of me) ≡ off → Step_by says → Found (fair_ways me.permit.key) me.permit.view view me.permit.value shown now
-      → (lock.name ≡ now.name) × (mark_of view ≡ length now.entries) × ((x : T) → shown ≡ Some x → IsLast lock now.entries x)
-  knows_again says shown = still_knows me.permit.key says me.permit.view view me.seen now lock me.permit.value shown n me.knows me.named same
-
-  pub took : (goes_on : Bool) (c : FairCall) (ends : ℕ → List (Ending T)) (to : ℕ → View) (o : Option (Answer T)) → Step_by (steps_by goes_on c ends to) → Comes_to (ends n) o → Comes_by (Comes goes_on c o) me lock view now × (what view ≡ Some (to n))
-  took goes_on c ends to o = took_from me.permit.key goes_on c ends to o me.permit.view view me.seen now lock n me.knows me.named same
+  pub made : (goes_on : Bool) (c : FairCall) (ends : ℕ → List (Ending T)) (to : ℕ → View) (o : Option (Answer T)) → Step_by (steps_by goes_on c ends to)
+      → Comes_to (ends n) o → Since model_at (Comes goes_on c o) (here me) (spot it now) × (what it.view ≡ Some (to n))
+  made = took (here me) (spot it now) same me.named me.knows n
 
 -- moves of a call, and then further ones of it
 pub and_then : {T : Type 0} (v₀ : T) (goes_on : Bool) (c : FairCall) (o : Option (Answer T)) (u v w : Option (Numbered View)) (old seen new : List (Done T))
@@ -137,10 +133,28 @@ and_then v₀ true c (Some a) u v w old seen new = and_ends (model v₀) u v w o
 and_then v₀ false c None u v w old seen new = call_waits (model v₀) u v w old seen new c
 and_then v₀ false c (Some a) u v w old seen new = call_ends (model v₀) u v w old seen new c a
 
-pub out_begins : (view : Option View) → IsOut view → in_call view ≡ false
-out_begins None out = refl
-out_begins (Some Idle) out = refl
-out_begins (Some _) out = absurd out
+module _ {T : Type 0} (p q : Spot T) where
+  pub and_on : (goes_on : Bool) (c : FairCall) (o : Option (Answer T)) (r : Spot T) → Since model_at (Comes goes_on c None) p q
+      → Since model_at (Comes true c o) q r → Since model_at (Comes goes_on c o) p r
+  and_on goes_on c o r one two = (
+    and_then p.0.value goes_on c o p.1 q.1 r.1 p.2.entries q.2.entries r.2.entries one.0
+        (subst (λ k. Moves k.value (Comes true c o) q.1 q.2.entries r.1 r.2.entries) one.2 two.0),
+    two.1 ∙ one.1,
+    two.2 ∙ one.2,
+  )
+
+  -- the party of a guard, and what it knows
+  pub as_held : {P R S : Type 0} (course : Course T FairCall (Answer T)) (held : Held T P R S)
+      → (Some (guard_view held.0) ≡ q.1) × (guard_key held.0 ≡ q.0) × (held.1 ≡ q.2) → Since model_at course p q → Since model_at course p (held_at held)
+  as_held course held (at, lock, is) so = subst (λ (z : Spot T). Since model_at course p z) (λ i. (sym lock i, sym at i, sym is i)) so
+
+-- what a call promises of a guard that it returns
+pub got : {T P R S : Type 0} (course : Course T FairCall (Answer T)) (was : Account T) (held : Held T P R S) → Gets course was held
+    → (IsHolder use_of_party held.0 × Holds held.0 held.1) × ((held.1.name ≡ was.seen.name) × (guard_key held.0 ≡ was.permit.key))
+    × IsLast was.permit.key held.1.entries (guard_value held.0)
+    × Moves was.permit.key.value course was.permit.view was.seen.entries (Some (guard_view held.0)) held.1.entries
+got course was held ((holder, holds, last), (made, named, same)) =
+    ((holder, holds), (named, same), subst (λ k. IsLast k held.1.entries (guard_value held.0)) same last, made)
 
 -- the outcome of a step, by what the code found
 pub granted_at : {T : Type 0} (n expected : ℕ) (won lost : Answer T) → n ≡ expected → Comes_to (answered (if n == expected then won else lost) ∷ []) (Some won)
@@ -156,28 +170,31 @@ pub is_odd : (n : ℕ) → true ≡ is_set n → (n % 2 == 0) ≡ false
 is_odd n is = dite (ℕ_discrete (n % 2) 0) (λ e. absurd (let clear : is_set n ≡ false = ne_eqb (n % 2) 1 (λ one. absurd (omega (arith, e, one))) in cc (is, clear))) (λ ne. ne_eqb (n % 2) 0 ne)
 
 -- the outcomes of a newcomer's tries, and of the exchange with which a starver begins a call
-module _ {T : Type 0} (me : Account T) (view : Option (Numbered View)) (now : Watch (Done T)) (lock : Opening T) (n : ℕ) (same : lock ≡ me.permit.key) (c : FairCall) where
+module _ {T : Type 0} (me : Account T) (it : Party T) (now : Watch (Done T)) (n : ℕ) (same : it.key ≡ me.permit.key) (c : FairCall) where
   abbrev Comes_so : Option (Answer T) → Type 0
-  Comes_so o = Comes_by (Comes false c o) me lock view now
+  Comes_so o = Since model_at (Comes false c o) (here me) (spot it now)
 
-  module _ (moved : Step_by me view now lock n same (tries_by c)) where
-    tried_so : (o : Option (Answer T)) → Comes_to (answered (if n == 0 then Granted else refusal c n) ∷ []) o → Comes_so o × (what view ≡ Some (if n == 0 then Holding else Idle))
-    tried_so o = took me view now lock n same false c (λ n. answered (if n == 0 then Granted else refusal c n) ∷ []) (λ n. if n == 0 then Holding else Idle) o moved
+  module _ (moved : Step_by me it now n same (tries_by c)) where
+    tried_so : (o : Option (Answer T)) → Comes_to (answered (if n == 0 then Granted else refusal c n) ∷ []) o
+        → Comes_so o × (what it.view ≡ Some (if n == 0 then Holding else Idle))
+    tried_so o =
+        made me it now n same false c (λ n. answered (if n == 0 then Granted else refusal c n) ∷ []) (λ n. if n == 0 then Holding else Idle) o moved
 
-    pub has_tried : n ≡ 0 → Comes_so (Some Granted) × (what view ≡ Some Holding)
+    pub has_tried : n ≡ 0 → Comes_so (Some Granted) × (what it.view ≡ Some Holding)
     has_tried e = let so = tried_so (Some Granted) (granted_at n 0 Granted (refusal c n) e) in (so.0, so.1 ∙ ap (λ b. Some (if b then Holding else Idle)) (eq-eqb n 0 e))
 
     pub is_refused : n ≢ 0 → Comes_so (Some (refusal c n))
     is_refused ne = (tried_so (Some (refusal c n)) (refused_at n 0 Granted (refusal c n) ne)).0
 
-  module _ (moved : Step_by me view now lock n same (alone_by c)) where
-    alone_so : (o : Option (Answer T)) → Comes_to (if n == 2 then GoingOn ∷ answered Granted ∷ [] else missed_alone c) o → Comes_so o × (what view ≡ Some (alone_to c n))
-    alone_so o = took me view now lock n same false c (λ n. if n == 2 then GoingOn ∷ answered Granted ∷ [] else missed_alone c) (alone_to c) o moved
+  module _ (moved : Step_by me it now n same (alone_by c)) where
+    alone_so : (o : Option (Answer T)) → Comes_to (if n == 2 then GoingOn ∷ answered Granted ∷ [] else missed_alone c) o
+        → Comes_so o × (what it.view ≡ Some (alone_to c n))
+    alone_so o = made me it now n same false c (λ n. if n == 2 then GoingOn ∷ answered Granted ∷ [] else missed_alone c) (alone_to c) o moved
 
     pub was_alone : n ≡ 2 → Comes_so (Some Granted)
     was_alone e = (alone_so (Some Granted) (1, ap (λ b. if b then GoingOn ∷ answered Granted ∷ [] else missed_alone c) (eq-eqb n 2 e))).0
 
-    pub was_not_alone : (o : Option (Answer T)) → Comes_to (missed_alone c) o → n ≢ 2 → Comes_so o × (what view ≡ Some (not_alone c))
+    pub was_not_alone : (o : Option (Answer T)) → Comes_to (missed_alone c) o → n ≢ 2 → Comes_so o × (what it.view ≡ Some (not_alone c))
     was_not_alone o end ne =
         let so = alone_so o (subst (λ b. Comes_to (if b then GoingOn ∷ answered Granted ∷ [] else missed_alone c) o) (sym (ne_eqb n 2 ne)) end) in
         (so.0, so.1 ∙ ap (λ b. Some (if b then Served else not_alone c)) (ne_eqb n 2 ne))
@@ -190,11 +207,10 @@ reason_so {T} n = at (n == 1)
     at false = refl
 
 -- a new party makes its whole `starve`
-pub comes_whole : {T : Type 0} (v₀ : T) (view : Option View) (o : FairCall → Option (Answer T)) (u w : Option (Numbered View)) (old new : List (Done T)) → IsOut view → Moves v₀ (Comes (in_call view) (call_of view) (o (call_of view))) u old w new
-    → Moves v₀ (Comes false Starve (o Starve)) u old w new
-comes_whole v₀ None o u w old new out made = made
-comes_whole v₀ (Some Idle) o u w old new out made = made
-comes_whole v₀ (Some _) o u w old new out made = absurd out
+pub comes_whole : {T : Type 0} (p q : Spot T) (view : Option View) (o : FairCall → Option (Answer T)) → IsOut Idle view
+    → Since model_at (Comes (in_call view) (call_of view) (o (call_of view))) p q → Since model_at (Comes false Starve (o Starve)) p q
+comes_whole p q None o out so = so
+comes_whole p q (Some v) o out so = subst (λ v. Since model_at (Comes (in_call (Some v)) (call_of (Some v)) (o (call_of (Some v)))) p q) out so
 
 -- A party that looks
 
@@ -211,9 +227,10 @@ loading view spins n is set enough =
     ap (λ v. Some (looked v n)) is ∙ ap (λ b. Some (if b then (if nat_lt spins patience then Looking (spins + 1) else Loading) else Trying spins)) (sym set) ∙ ap (λ b. Some (if b then Looking (spins + 1) else Loading)) enough
 
 -- a `lock` that has begun to register continues
-pub turns : {T : Type 0} (v₀ : T) (view : Option View) (o : FairCall → Option (Answer T)) (u w : Option (Numbered View)) (old new : List (Done T)) → view ≡ Some Loading → o Lock ≡ None
-    → Moves v₀ (Comes (in_call view) (call_of view) (o (call_of view))) u old w new → Moves v₀ (Comes true Lock None) u old w new
-turns v₀ view o u w old new is none made = subst (λ z. Moves v₀ (Comes true Lock z) u old w new) none (subst (λ v. Moves v₀ (Comes (in_call v) (call_of v) (o (call_of v))) u old w new) is made)
+pub turns : {T : Type 0} (p q : Spot T) (view : Option View) (o : FairCall → Option (Answer T)) → view ≡ Some Loading → o Lock ≡ None
+    → Since model_at (Comes (in_call view) (call_of view) (o (call_of view))) p q → Since model_at (Comes true Lock None) p q
+turns p q view o is none so =
+    subst (λ z. Since model_at (Comes true Lock z) p q) none (subst (λ v. Since model_at (Comes (in_call v) (call_of v) (o (call_of v))) p q) is so)
 
 -- A party that registers
 
@@ -257,60 +274,51 @@ module _ (T : Type 0) where
   pub set_at : (c : FairCall) (n : ℕ) → (n % 2 == 0) ≡ false → Comes_to {T = T} ((if n % 2 == 0 then GoingOn else flag_set_end c) ∷ []) (flag_set_so c)
   set_at c n odd = subst (λ b. Comes_to {T = T} ((if b then GoingOn else flag_set_end c) ∷ []) (flag_set_so c)) (sym odd) (flag_was_set c)
 
-module _ {T : Type 0} (was : Account T) (k : Opening T) (v : Option (Numbered View)) (s : Watch (Done T)) where
-  -- moves of a call, and then further ones of it
-  pub and_on : (goes_on : Bool) (c : FairCall) (o : Option (Answer T)) (lock : Opening T) (view : Option (Numbered View)) (seen : Watch (Done T)) → Comes_by (Comes goes_on c None) was k v s
-      → ((seen.name ≡ s.name) × (lock ≡ k)) × Moves k.value (Comes true c o) v s.entries view seen.entries → Comes_by (Comes goes_on c o) was lock view seen
-  and_on goes_on c o lock view seen one two = (
-    (two.0.0 ∙ one.0.0, two.0.1 ∙ one.0.1),
-    and_then was.permit.key.value goes_on c o was.permit.view v view was.seen.entries s.entries seen.entries one.1 (subst (λ q. Moves q.value (Comes true c o) v s.entries view seen.entries) one.0.1 two.1),
-  )
-
-  -- the party of a guard, and what it knows
-  pub as_held : {P R S : Type 0} (course : Course T FairCall (Answer T)) (held : Held T P R S) → (Some (guard_view held.0) ≡ v) × (guard_key held.0 ≡ k) × (held.1 ≡ s) → Comes_by course was k v s
-      → Comes_by course was (guard_key held.0) (Some (guard_view held.0)) held.1
-  as_held course held (at, lock, is) so =
-      subst (λ (z : Opening T × Option (Numbered View) × Watch (Done T)). Comes_by course was z.0 z.1 z.2) (λ i. (sym lock i, sym at i, sym is i)) so
-
 module _ {T : Type 0} (first : Account T) where
   abbrev call : FairCall
   call = call_of (view_of first)
 
   -- a party that registers found a word, with room or without
-  abbrev Has_found : ℕ → Option ℕ → Opening T → Option (Numbered View) → Watch (Done T) → Type 0
-  Has_found word room lock view seen =
-      (what view ≡ Some (if is_some room then Registering call word else finds_no_room call)) × Comes_by (Comes (in_call (view_of first)) call (if is_some room then None else no_room_so call)) first lock view seen
+  abbrev Has_found : ℕ → Option ℕ → Spot T → Type 0
+  Has_found word room q =
+      (what q.1 ≡ Some (if is_some room then Registering call word else finds_no_room call))
+      × Since model_at (Comes (in_call (view_of first)) call (if is_some room then None else no_room_so call)) (here first) q
 
   -- it stands where it stood, or goes for the word that it found
-  abbrev pub HasReached : ℕ → Opening T → Option (Numbered View) → Watch (Done T) → Type 0
-  HasReached word lock view seen =
-      ((view ≡ first.permit.view) × (seen.name ≡ first.seen.name) × (seen.entries ≡ first.seen.entries) × (word ≡ 0) × (lock ≡ first.permit.key)) ⊎ Has_found word (starve most_starvers word) lock view seen
+  abbrev pub HasReached : ℕ → Spot T → Type 0
+  HasReached word q =
+      ((word ≡ 0) × (q.1 ≡ first.permit.view) × (q.2.name ≡ first.seen.name) × (q.2.entries ≡ first.seen.entries) × (q.0 ≡ first.permit.key))
+      ⊎ Has_found word (starve most_starvers word) q
 
-  module _ (word : ℕ) (lock : Opening T) (view : Option (Numbered View)) (seen : Watch (Done T)) where
-    pub reaches : HasReached word lock view seen → Registers (view_of first) word (what view)
-    reaches (inl at) = inl (ap what at.0, at.3)
+  module _ (word : ℕ) (q : Spot T) where
+    pub reaches : HasReached word q → Registers (view_of first) word (what q.1)
+    reaches (inl at) = inl (ap what at.1, at.0)
     reaches (inr at) = inr at.0
 
-    pub no_room : HasReached word lock view seen → None ≡ starve most_starvers word → (what view ≡ Some (finds_no_room call)) × Comes_by (Comes (in_call (view_of first)) call (no_room_so call)) first lock view seen
-    no_room (inl at) none = absurd (let e : None ≡ starve most_starvers 0 = none ∙ ap (starve most_starvers) at.3 in cc (e))
-    no_room (inr at) none = subst (λ o. Has_found word o lock view seen) (sym none) at
+    pub no_room : HasReached word q → None ≡ starve most_starvers word
+        → (what q.1 ≡ Some (finds_no_room call)) × Since model_at (Comes (in_call (view_of first)) call (no_room_so call)) (here first) q
+    no_room (inl at) none = absurd (let e : None ≡ starve most_starvers 0 = none ∙ ap (starve most_starvers) at.0 in cc (e))
+    no_room (inr at) none = subst (λ o. Has_found word o q) (sym none) at
 
     module _ (more : ℕ) (room : Some more ≡ starve most_starvers word) where
-      pub stays_in : HasReached word lock view seen → call_of (what view) ≡ call
-      stays_in (inl at) = ap (λ v. call_of (what v)) at.0
-      stays_in (inr at) = ap call_of (subst (λ o. Has_found word o lock view seen) (sym room) at).0
+      pub stays_in : HasReached word q → call_of (what q.1) ≡ call
+      stays_in (inl at) = ap (λ v. call_of (what v)) at.1
+      stays_in (inr at) = ap call_of (subst (λ o. Has_found word o q) (sym room) at).0
 
       -- a step of its call, after those before
-      pub goes_further : (o : FairCall → Option (Answer T)) (lock' : Opening T) (view' : Option (Numbered View)) (seen' : Watch (Done T)) → HasReached word lock view seen
-          → ((seen'.name ≡ seen.name) × (lock' ≡ lock)) × Moves lock.value (Comes (in_call (what view)) (call_of (what view)) (o (call_of (what view)))) view seen.entries view' seen'.entries → Comes_by (Comes (in_call (view_of first)) call (o call)) first lock' view' seen'
-      goes_further o lock' view' seen' (inl at) so = (
-        (so.0.0 ∙ at.1, so.0.1 ∙ at.4),
-        subst (λ (z : Opening T × Option (Numbered View) × List (Done T)). Moves z.0.value (Comes (in_call (what z.1)) (call_of (what z.1)) (o (call_of (what z.1)))) z.1 z.2 view' seen'.entries) (λ i. (at.4 i, at.0 i, at.2 i)) so.1,
+      pub goes_further : (o : FairCall → Option (Answer T)) (r : Spot T) → HasReached word q
+          → Since model_at (Comes (in_call (what q.1)) (call_of (what q.1)) (o (call_of (what q.1)))) q r
+          → Since model_at (Comes (in_call (view_of first)) call (o call)) (here first) r
+      goes_further o r (inl at) so = (
+        subst (λ (z : Opening T × Option (Numbered View) × List (Done T)). Moves z.0.value
+            (Comes (in_call (what z.1)) (call_of (what z.1)) (o (call_of (what z.1)))) z.1 z.2 r.1 r.2.entries) (λ i. (at.4 i, at.1 i, at.3 i)) so.0,
+        so.1 ∙ at.2,
+        so.2 ∙ at.4,
       )
-      goes_further o lock' view' seen' (inr at) so =
-          let went = subst (λ o. Has_found word o lock view seen) (sym room) at in
-          let step = subst (λ v. Moves lock.value (Comes (in_call v) (call_of v) (o (call_of v))) view seen.entries view' seen'.entries) went.0 so.1 in
-          and_on first lock view seen (in_call (view_of first)) call (o call) lock' view' seen' went.1 (so.0, step)
+      goes_further o r (inr at) so =
+          let went = subst (λ o. Has_found word o q) (sym room) at in
+          and_on (here first) q (in_call (view_of first)) call (o call) r went.1
+          (subst (λ v. Since model_at (Comes (in_call v) (call_of v) (o (call_of v))) q r) went.0 so)
 
 -- A starver
 

@@ -6,7 +6,8 @@ use Rattle.spin_step_more.specs.Starvers.{most_starvers, is_set, starve}
 use Rattle.spin_core.specs.Cell.{Use, off, writes, alone, Ways}
 use Rattle.spin_core.specs.Views.{Part, idle, holds, starves, holds_starving, part_at, Encodes, no_word}
 use Rattle.spin_core.specs.Own.{Numbered, Runs, Tells}
-use Rattle.spin_core.specs.Passes.{Course, Waits, Ends, Begins, IsCall, IsStep, WritesSome, Made}
+use Rattle.spin_core.specs.Passes as passes
+use Rattle.spin_core.specs.Passes.{Course, Ending, IsOut, Waits, Ends, Begins, IsCall, WritesSome, leaves_by, Made, Between}
 use Rattle.spin_core.specs.Values.{last}
 use Rattle.spin_core.specs.declared.tie.Opening.{Opening}
 use Rattle.spin_core.specs.declared.trace.Trace.{Trace}
@@ -18,9 +19,7 @@ use Rattle.spin_model.specs.declared.place.Seat.{Seat}
 use Rattle.spin_model.specs.declared.place.Seat.TheVariants as seat
 use Rattle.spin_model.specs.declared.answer.Answer.{Answer}
 use Rattle.spin_model.specs.declared.answer.Answer.TheVariants as answer
-use Rattle.spin_model.specs.declared.schedule.Move.{Move}
 use Rattle.spin_model.specs.declared.schedule.Move.TheVariants.{Begin, Step}
-use Rattle.spin_model.specs.declared.schedule.Outcome.{Outcome}
 use Rattle.spin_model.specs.declared.schedule.Outcome.TheVariants.{Begun, GoingOn, Answered}
 use Rattle.spin_model.specs.Machines.{Machine}
 use Rattle.spin_model.specs.Schedules.{Entry}
@@ -78,23 +77,20 @@ patience = 1025
 abbrev pub model : {T : Type 0} → T → Machine ℕ T FairCall FairPoint (Answer T)
 model v = fair_machine v most_starvers patience
 
+abbrev pub model_at : {T : Type 0} → Opening T → Machine ℕ T FairCall FairPoint (Answer T)
+model_at opening = model opening.value
+
 -- the words of the lock, from those of the model
 abbrev pub words_of : ℕ → ℕ × Unit {0}
 words_of w = (w, tt)
 
 -- Of a lock of values of type T
 
-abbrev pub OneMove : Type 0 → Type 0
-OneMove T = Move FairCall T
-
-abbrev pub Ending : Type 0 → Type 0
-Ending T = Outcome (Answer T) T
-
 abbrev pub Done : Type 0 → Type 0
 Done T = Entry FairCall T
 
 abbrev pub Says : Type 0 → Type 1
-Says T = List (OneMove T) → List (Ending T) → ℕ → View → Type 0
+Says T = passes.Says T FairCall (Answer T) View
 
 abbrev pub Word : ℕ → Unit {0} → List View → Type 0
 Word = Encodes part most_starvers fair_word no_word
@@ -131,7 +127,7 @@ Told v = Tells (model v) seat_of words_of
 -- The steps: the outcomes and the next view of each, by the number found
 
 -- as many steps as there are outcomes, in a call under way (true), or after the beginning of this call
-abbrev pub AreSteps : {T : Type 0} → Bool → FairCall → List (Ending T) → List (OneMove T) → List (Ending T) → Type 0
+abbrev pub AreSteps : {T : Type 0} → Bool → FairCall → List (Ending T) → Course T FairCall (Answer T)
 AreSteps true c ends own outs = (own ≡ map (λ _. Step) ends) × (outs ≡ ends)
 AreSteps false c ends own outs = (own ≡ Begin c ∷ map (λ _. Step) ends) × (outs ≡ Begun ∷ ends)
 
@@ -162,17 +158,6 @@ call_of (Some (Setting c)) = c
 call_of (Some (Awaiting c)) = c
 call_of (Some (HoldingStarving c)) = c
 call_of _ = Starve
-
--- the party is in no call, and holds nothing
-abbrev pub IsOut : Option View → Type 0
-IsOut None = Unit {0}
-IsOut (Some Idle) = Unit {0}
-IsOut _ = ⊥
-
--- the party's view; a party that is new is idle
-abbrev pub stands : Option (Numbered View) → View
-stands None = Idle
-stands (Some v) = v.0
 
 abbrev pub looks_by : {T : Type 0} → Says T
 looks_by = steps_by false IsLocked (λ n. answered (answer.Is (is_set n)) ∷ []) (λ n. Idle)
@@ -211,12 +196,9 @@ alone_by c = steps_by false c (λ n. if n == 2 then GoingOn ∷ answered answer.
 abbrev pub gives_up_by : {T : Type 0} → Says T
 gives_up_by = steps_by false StarverDrop (λ n. answered answer.Done ∷ []) (λ n. Idle)
 
--- the release: the holder writes the value that it leaves, one of which this holds, and gives the lock back
-abbrev pub frees_with : {T : Type 0} → (T → Type 0) → Says T
-frees_with Q own outs n v = (v ≡ Idle) × WritesSome Q (IsStep false Release (answered answer.Done)) own outs
-
+-- the release: the holder writes the value that it leaves
 abbrev pub frees_by : {T : Type 0} → Says T
-frees_by = frees_with (λ x. Unit {0})
+frees_by = leaves_by (λ x. Unit {0}) Release answer.Done Idle
 
 -- how many looks have found the lock held so far
 abbrev pub looks_of : Option View → ℕ
@@ -282,7 +264,7 @@ Registers first word view = ((view ≡ first) × (word ≡ 0)) ⊎ (view ≡ Som
 -- the call has just begun, or has looked often enough
 abbrev pub MayRegister : Option View → Type 0
 MayRegister (Some Loading) = Unit {0}
-MayRegister view = IsOut view
+MayRegister view = IsOut Idle view
 
 -- the call has just begun, or continues with its exchange, after n looks
 abbrev pub MayTry : ℕ → Option View → Type 0
@@ -366,15 +348,15 @@ Comes false c None = Begins c Waits
 Comes false c (Some a) = IsCall c a
 
 -- of a lock that opened with this value: since it knew `old` it has made moves of this course, and no others
-abbrev pub Moves : {T : Type 0} → T → Course T FairCall (Answer T) → Option (Numbered View) → List (Done T) → Option (Numbered View) → List (Done T) → Type 0
+abbrev pub Moves : {T : Type 0} → T → Course T FairCall (Answer T) → Between T FairCall View
 Moves v course view old view' new = Made (model v) view old view' new course
 
 -- it has made exactly this call, with this answer
-abbrev pub Called : {T : Type 0} → T → FairCall → Answer T → Option (Numbered View) → List (Done T) → Option (Numbered View) → List (Done T) → Type 0
+abbrev pub Called : {T : Type 0} → T → FairCall → Answer T → Between T FairCall View
 Called v c a = Moves v (IsCall c a)
 
 -- it has written a value of which this holds, and then made the release
-abbrev pub Left : {T : Type 0} → T → (T → Type 0) → Option (Numbered View) → List (Done T) → Option (Numbered View) → List (Done T) → Type 0
+abbrev pub Left : {T : Type 0} → T → (T → Type 0) → Between T FairCall View
 Left v Q = Moves v (WritesSome Q (IsCall Release answer.Done))
 
 -- the answer of `lock` and `starve`, if any, when they register; below, when they find no room

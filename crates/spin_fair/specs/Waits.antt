@@ -6,27 +6,32 @@ use Rattle.spin_core.specs.declared.guard.Guard.{Guard}
 use Rattle.spin_core.specs.declared.tie.Opening.{Opening}
 use Rattle.spin_core.specs.declared.trace.Watch.{Watch}
 use Rattle.spin_core.specs.Passes.{Course, Waits, Ends}
+use Rattle.spin_core.specs.Spots as spots
+use Rattle.spin_core.specs.Spots.{spot, Since}
 use Rattle.spin_model.specs.declared.answer.Answer.{Answer}
 use Rattle.spin_model.specs.declared.answer.Answer.TheVariants.{Granted}
 use Rattle.spin_step_more.specs.declared.fair_calls.FairCall.{FairCall}
 use Rattle.spin_step_more.specs.declared.fair_calls.FairCall.TheVariants.{Lock}
-use Rattle.spin_fair.specs.Fair.{Done, Comes, Moves, in_call, call_of, registered, registered_so, finds_no_room, no_room_so, finds_flag_set, flag_set_so}
+use Rattle.spin_fair.specs.Fair.{Done, model_at, Comes, in_call, call_of, registered, registered_so, finds_no_room, no_room_so, finds_flag_set, flag_set_so}
 use Rattle.spin_fair.specs.declared.fair.account.Account.{Account}
 use Rattle.spin_fair.specs.declared.fair.account.Awaiting.{Awaiting}
 use Rattle.spin_fair.specs.Guards.{IsGranted}
 use Rattle.spin_fair.specs.declared.fair.rule.View.{View}
 use Rattle.spin_fair.specs.declared.fair.account.Waiting.{Waiting}
 
+abbrev pub Spot : Type 0 → Type 0
+Spot T = spots.Spot (Opening T) View (Done T)
+
 module _ {T : Type 0} where
   abbrev pub view_of : Account T → Option View
   view_of it = what it.permit.view
 
-  -- it is of this view and knows this, of the same lock, and has made moves of this course since, and no others
-  abbrev pub Comes_by : Course T FairCall (Answer T) → Account T → Opening T → Option (Numbered View) → Watch (Done T) → Type 0
-  Comes_by course was lock view seen = ((seen.name ≡ was.seen.name) × (lock ≡ was.permit.key)) × Moves was.permit.key.value course was.permit.view was.seen.entries view seen.entries
+  abbrev pub here : Account T → Spot T
+  here it = spot it.permit it.seen
 
+  -- since it was so, it has made exactly the moves of this course
   abbrev pub Goes : Course T FairCall (Answer T) → Account T → Account T → Type 0
-  Goes course was now = Comes_by course was now.permit.key now.permit.view now.seen
+  Goes course was now = Since model_at course (here was) (here now)
 
   -- moves of a call, from its beginning or from where it was; then it waits, or has this answer
   abbrev pub GoesOn : FairCall → Option (Answer T) → Account T → Account T → Type 0
@@ -49,9 +54,12 @@ abbrev pub Held : (T P R S : Type 0) → Type 0
 Held T P R S = Guard T (Numbered View) P R (Opening T) S × Watch (Done T)
 
 module _ {T P R S : Type 0} where
+  abbrev pub held_at : Held T P R S → Spot T
+  held_at (guard, seen) = (guard_key guard, Some (guard_view guard), seen)
+
   -- since then it has made exactly the moves of this course, and holds the lock by this guard
   abbrev pub Gets : Course T FairCall (Answer T) → Account T → Held T P R S → Type 0
-  Gets course was held = IsGranted held.0 held.1 × Comes_by course was (guard_key held.0) (Some (guard_view held.0)) held.1
+  Gets course was held = IsGranted held.0 held.1 × Since model_at course (here was) (held_at held)
 
   -- an attempt of `lock`: it is granted the lock, or continues with a look
   abbrev pub LocksOrWaits : Bool → Account T → Result (Held T P R S) (Waiting T) → Type 0

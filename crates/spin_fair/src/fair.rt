@@ -27,7 +27,7 @@ pub use self::pass::Pass;
 pub use self::rule::{Entry, FairRule, Party, View};
 pub use self::starvation::Starvation;
 pub use self::starving::StarvingPass;
-pub use crate::laws::a_guard_reads_the_last_value_written;
+pub use spin_core::laws::{a_guard_reads_the_last_value_written, two_guards_read_one_value};
 pub use spin_step_more::fair::LockRejectReason;
 
 /// The patience of [`FairMutex::lock`]. After more looks than this that found the lock held, it starves.

@@ -1,8 +1,7 @@
 //! What follows from the rule of a `FairMutex`. Each law is the contract of a function that does nothing; begin at
 //! [`every_run_of_a_fair_mutex_is_a_schedule`].
-ghost use Rattle.std.specs.Prelude.{◌≡◌, ◌++◌, ◌<◌, ◌≤◌, ◌+◌, ◌-◌, ◌%◌, ◌^◌, ℕ, List, Some, true, bit_or, slice_get, unwrap_or};
+ghost use Rattle.std.specs.Prelude.{◌≡◌, ◌<◌, ◌≤◌, ◌+◌, ◌-◌, ◌%◌, ◌^◌, ℕ, List, Some, true, bit_or, slice_get, unwrap_or};
 ghost use Rattle.spin_core.specs.Own.{Numbered, IsRun};
-ghost use Rattle.spin_core.specs.Values.{IsLast, latest};
 ghost use Rattle.spin_core.specs.declared.tie.Opening.{Opening};
 ghost use Rattle.spin_core.specs.declared.trace.Trace.{Trace};
 ghost use Rattle.spin_step.specs.Plain.{holder_weight, starver_weight};
@@ -21,18 +20,6 @@ ghost use Rattle.spin_fair.specs.Fair.{Done, IsFair, model, seat_of, words_of, s
 /// list the model has the lock's word, and each party is where the lock has it.
 pub fn every_run_of_a_fair_mutex_is_a_schedule<T>()
     ensures { (opening : Opening T) (word : ℕ) (trace : Trace (Done T) (Unit {0})) (parties : List (Numbered View)) → IsFair opening word trace parties → IsRun (model opening.value) seat_of words_of trace.entries (word, trace.word) parties }
-{}
-
-/// A guard reads the value that was written last in the lock's history, by whichever thread.
-///
-/// The calls of a [`Pass`](crate::fair::Pass) and of a [`StarvingPass`](crate::fair::StarvingPass) say which value was
-/// last in the history that the pass knows: `found` of a guard, and `left` of its release.
-///
-/// # Contract
-/// Let `x` be the last value of a history `old`, and `y` that of a longer history of the lock (`IsLast`). Then `y` is what
-/// the further moves write last, or `x` where they write nothing (`latest`).
-pub fn a_guard_reads_the_last_value_written<T>()
-    ensures { (opening : Opening T) (old new more : List (Done T)) (x y : T) → opening.told ≡ true → new ≡ old ++ more → IsLast opening old x → IsLast opening new y → latest x more ≡ y }
 {}
 
 /// States that a newcomer that holds a `FairMutex` acquired it before each registered starver made its last move.

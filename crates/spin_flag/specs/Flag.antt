@@ -1,12 +1,13 @@
 -- The rule of a lock of one flag. Its word is that of a plain lock whose holders are the holding parties. Its trace
 -- is a schedule of the lock's model, which leads there.
-use Rattle.std.specs.Prelude.{◌≡◌, ℕ, List, Bool, true, false, Option, Some, None, ◌==◌, if◌then◌else◌}
+use Rattle.std.specs.Prelude.{◌≡◌, ℕ, List, Bool, true, false, Option, Some, None, ◌==◌, if◌then◌else◌, ◌⊎◌}
 use Rattle.spin_step.specs.Plain.{writing, flag_word}
 use Rattle.spin_step.specs.Steps.{bit}
 use Rattle.spin_core.specs.Cell.{Use, alone, Ways}
 use Rattle.spin_core.specs.Views.{Part, idle, holds, Encodes, used_by, no_word}
 use Rattle.spin_core.specs.Own.{Numbered, Runs, Tells}
-use Rattle.spin_core.specs.Passes.{Course, IsCall, IsStep, WritesSome, Writes, step_by, Made}
+use Rattle.spin_core.specs.Passes as passes
+use Rattle.spin_core.specs.Passes.{Course, IsOut, IsCall, WritesSome, step_by, leaves_by, Made, Between}
 use Rattle.spin_core.specs.Values.{last}
 use Rattle.spin_core.specs.declared.tie.Opening.{Opening}
 use Rattle.spin_core.specs.declared.trace.Trace.{Trace}
@@ -22,8 +23,6 @@ use Rattle.spin_model.specs.declared.flag.FlagCall.{FlagCall}
 use Rattle.spin_model.specs.declared.flag.FlagCall.TheVariants.{Lock, TryLock, IsLocked, Release}
 use Rattle.spin_model.specs.declared.flag.FlagPoint.{FlagPoint}
 use Rattle.spin_model.specs.declared.flag.FlagPoint.TheVariants.{First, Second}
-use Rattle.spin_model.specs.declared.schedule.Move.{Move}
-use Rattle.spin_model.specs.declared.schedule.Outcome.{Outcome}
 use Rattle.spin_model.specs.declared.schedule.Outcome.TheVariants.{Answered, GoingOn}
 use Rattle.spin_model.specs.Flag.{flag_machine}
 use Rattle.spin_model.specs.Machines.{Machine}
@@ -63,40 +62,25 @@ abbrev pub has_begun : Option View → Bool
 has_begun (Some Trying) = true
 has_begun _ = false
 
--- the party is in no call, and holds nothing
-abbrev pub IsOut : Option View → Type 0
-IsOut None = Unit {0}
-IsOut (Some Idle) = Unit {0}
-IsOut _ = ⊥
-
 -- the party has just begun its call, or continues with its exchange
 abbrev pub MayTry : Option View → Type 0
-MayTry (Some Trying) = Unit {0}
-MayTry view = IsOut view
-
--- the party's view; a party that is new is idle
-abbrev pub stands : Option (Numbered View) → View
-stands None = Idle
-stands (Some v) = v.0
+MayTry view = IsOut Idle view ⊎ (view ≡ Some Trying)
 
 -- For a lock of values of type T
-
-abbrev pub OneMove : Type 0 → Type 0
-OneMove T = Move FlagCall T
-
-abbrev pub Ending : Type 0 → Type 0
-Ending T = Outcome (Answer T) T
 
 abbrev pub Done : Type 0 → Type 0
 Done T = Entry FlagCall T
 
 abbrev pub Says : Type 0 → Type 1
-Says T = List (OneMove T) → List (Ending T) → ℕ → View → Type 0
+Says T = passes.Says T FlagCall (Answer T) View
 
 module _ {T : Type 0} where
   -- the model, with this value at the opening
   abbrev pub model : T → Machine Bool T FlagCall FlagPoint (Answer T)
   model = flag_machine
+
+  abbrev pub model_at : Opening T → Machine Bool T FlagCall FlagPoint (Answer T)
+  model_at opening = model opening.value
 
   -- what holds of the first word, the trace and the parties of a lock with this opening
   abbrev pub IsFlag : Opening T → ℕ → Trace (Done T) (Unit {0}) → List (Numbered View) → Type 0
@@ -118,29 +102,26 @@ module _ {T : Type 0} where
   abbrev pub tries_by : Says T
   tries_by = step_by false TryLock (λ n. if n == 0 then Answered Granted None else Answered Refused None) (λ n. if n == 0 then Holding else Idle)
 
-  -- the exchange of `lock`, and its look
-  abbrev pub tried_by : Option View → Says T
-  tried_by view = step_by (has_begun view) Lock (λ n. if n == 0 then Answered Granted None else GoingOn) (λ n. if n == 0 then Holding else Looking)
+  -- the exchange of `lock`, in a call under way (true) or in a new one, and its look
+  abbrev pub tried_by : Bool → Says T
+  tried_by goes_on = step_by goes_on Lock (λ n. if n == 0 then Answered Granted None else GoingOn) (λ n. if n == 0 then Holding else Looking)
 
   abbrev pub looked_by : Says T
   looked_by = step_by true Lock (λ n. GoingOn) (λ n. if n == 0 then Trying else Looking)
 
-  -- the release: the holder writes the value that it leaves, which satisfies Q, and releases the lock
-  abbrev pub frees_with : (T → Type 0) → Says T
-  frees_with Q own outs n v = (v ≡ Idle) × WritesSome Q (IsStep false Release (Answered answer.Done None)) own outs
-
+  -- the release: the holder writes the value that it leaves
   abbrev pub frees_by : Says T
-  frees_by = frees_with (λ x. Unit {0})
+  frees_by = leaves_by (λ x. Unit {0}) Release answer.Done Idle
 
   -- For a pass of a lock that opened with the value v: since it knew `old` it has made exactly the moves of this
   -- course
-  abbrev pub Moves : T → Course T FlagCall (Answer T) → Option (Numbered View) → List (Done T) → Option (Numbered View) → List (Done T) → Type 0
+  abbrev pub Moves : T → Course T FlagCall (Answer T) → Between T FlagCall View
   Moves v course view old view' new = Made (model v) view old view' new course
 
   -- it has made exactly this call, with this answer
-  abbrev pub Called : T → FlagCall → Answer T → Option (Numbered View) → List (Done T) → Option (Numbered View) → List (Done T) → Type 0
+  abbrev pub Called : T → FlagCall → Answer T → Between T FlagCall View
   Called v c a = Moves v (IsCall c a)
 
   -- it has written a value that satisfies Q, and then released the lock
-  abbrev pub Left : T → (T → Type 0) → Option (Numbered View) → List (Done T) → Option (Numbered View) → List (Done T) → Type 0
+  abbrev pub Left : T → (T → Type 0) → Between T FlagCall View
   Left v Q = Moves v (WritesSome Q (IsCall Release answer.Done))

@@ -6,4 +6,5 @@
 mod laws;
 pub mod spin;
 
-pub use laws::{a_guard_reads_the_last_value_written, every_run_of_a_spin_mutex_is_a_schedule};
+pub use laws::every_run_of_a_spin_mutex_is_a_schedule;
+pub use spin_core::laws::a_guard_reads_the_last_value_written;

@@ -5,8 +5,9 @@ ghost use Rattle.spin_core.specs.Guard.{IsHolder};
 ghost use Rattle.spin_core.specs.Texts.{lock_text};
 ghost use Rattle.spin_flag.specs.Flag.{use_of_party};
 
+use self::pass::try_with;
 use self::rule::word;
-use self::waiting::{Grant, Waiting, try_with};
+use self::waiting::{Grant, Waiting};
 use spin_core::cell::Cell;
 use spin_core::guard::{self, Guard};
 use spin_core::lock::{Lock, with_guard};
@@ -24,7 +25,7 @@ mod waiting;
 
 pub use self::pass::Pass;
 pub use self::rule::{Entry, FlagRule, Party, View};
-pub use crate::laws::a_guard_reads_the_last_value_written;
+pub use spin_core::laws::{a_guard_reads_the_last_value_written, two_guards_read_one_value};
 
 /// A mutual exclusion lock with one flag as its state, on which a waiting thread spins.
 ///

@@ -1,11 +1,10 @@
 //! What follows from the rule of an `RwLock`. Each law is the contract of a function that does nothing; begin at
 //! [`the_parties_of_a_rwlock_read_or_one_writes`].
-ghost use Rattle.std.specs.Prelude.{◌≡◌, ◌++◌, ◌+◌, ◌-◌, ◌*◌, ◌%◌, ◌^◌, ℕ, List, true};
+ghost use Rattle.std.specs.Prelude.{◌≡◌, ◌+◌, ◌-◌, ◌*◌, ◌%◌, ◌^◌, ℕ, List, true};
 ghost use Rattle.spin_step.specs.Plain.{Kind, reading, upgradable, asking, writing, weight, may_turn};
 ghost use Rattle.spin_step_more.specs.Readers.{tells, released, turned};
 ghost use Rattle.spin_rwlock.specs.declared.rwlock.rule.View.{View};
 ghost use Rattle.spin_core.specs.Own.{Numbered, IsRun};
-ghost use Rattle.spin_core.specs.Values.{IsLast, latest};
 ghost use Rattle.spin_core.specs.declared.tie.Opening.{Opening};
 ghost use Rattle.spin_core.specs.declared.trace.Trace.{Trace};
 ghost use Rattle.spin_rwlock.specs.Rw.{Done, IsRw, views, model, seat_of, words_of};
@@ -57,25 +56,4 @@ pub fn the_word_of_a_rwlock_is_zero_when_nobody_holds<T>()
 pub fn an_addition_is_its_step_function<T>()
     ensures release { (opening : Opening T) (word : ℕ) (trace : Trace (Done T) (Unit {0})) (parties : List (Numbered View)) (p : ℕ) (k : Kind) → IsRw opening word trace parties → HoldsAt (views parties) p k → (tells k word ≡ true) × ((word + (2 ^ 64 - weight k)) % 2 ^ 64 ≡ released k word) }
     ensures downgrade { (opening : Opening T) (word : ℕ) (trace : Trace (Done T) (Unit {0})) (parties : List (Numbered View)) (p : ℕ) (j k : Kind) → IsRw opening word trace parties → HoldsAt (views parties) p j → may_turn j k ≡ true → (tells j word ≡ true) × ((word + (weight k - weight j)) % 2 ^ 64 ≡ turned j k word) }
-{}
-
-/// A guard reads the value that was written last in the lock's history, by whichever thread.
-///
-/// The calls of a [`Pass`](crate::rwlock::Pass) say which value was last in the history that the pass knows: `found` of
-/// a guard, and `left` of a writer's release and of its downgrade.
-///
-/// # Contract
-/// Let `x` be the last value of a history `old`, and `y` that of a longer history of the lock (`IsLast`). Then `y` is
-/// what the further moves write last, or `x` where they write nothing (`latest`).
-pub fn a_guard_reads_the_last_value_written<T>()
-    ensures { (opening : Opening T) (old new more : List (Done T)) (x y : T) → opening.told ≡ true → new ≡ old ++ more → IsLast opening old x → IsLast opening new y → latest x more ≡ y }
-{}
-
-/// Two guards read one value, if nothing was written between.
-///
-/// # Contract
-/// Let `x` be the last value of a history `old`, and `y` that of a longer history of the lock (`IsLast`). Where the
-/// further moves write nothing (`latest`), `x` and `y` are the same.
-pub fn two_guards_read_one_value<T>()
-    ensures { (opening : Opening T) (old new more : List (Done T)) (x y : T) → opening.told ≡ true → new ≡ old ++ more → ((z : T) → latest z more ≡ z) → IsLast opening old x → IsLast opening new y → x ≡ y }
 {}

@@ -23,7 +23,7 @@ pub use self::reader::{ReadHeld, RwLockReadGuard, SharedGuard};
 pub use self::rule::{Entry, Party, RwRule, View};
 pub use self::upgradable::RwLockUpgradableGuard;
 pub use self::writer::{RwLockWriteGuard, WriteHeld};
-pub use crate::laws::{a_guard_reads_the_last_value_written, two_guards_read_one_value};
+pub use spin_core::laws::{a_guard_reads_the_last_value_written, two_guards_read_one_value};
 
 /// A reader-writer lock: many readers share the value, or one writer has it alone. A waiting thread spins.
 ///

@@ -3,12 +3,13 @@ use Rattle.std.proofs.Common.{◌≡◌, ℕ, Bool, true, false, Option, Some, N
 use mathlib.Core.Logic.{inr}
 use Rattle.spin_core.specs.Cell.{Ways, Moved}
 use Rattle.spin_core.specs.Own.{Numbered, what}
-use Rattle.spin_core.specs.Passes.{mark_of, step_by}
-use Rattle.spin_core.specs.Passes as core
+use Rattle.spin_core.specs.Passes.{mark_of, IsStep, step_by}
+use Rattle.spin_core.specs.Spots as core
 use Rattle.spin_core.specs.Traced.{Watches, Named, MayKnow}
 use Rattle.spin_core.specs.declared.trace.Trace.{Trace}
 use Rattle.spin_core.specs.declared.trace.Watch.{Watch}
 use Rattle.spin_core.proofs.Passes as passes
+use Rattle.spin_core.proofs.Spots as spots
 use Rattle.spin_model.specs.declared.answer.Answer.{Answer}
 use Rattle.spin_model.specs.declared.answer.Answer.TheVariants.{Count, Granted, Refused}
 use Rattle.spin_model.specs.declared.schedule.Outcome.TheVariants.{GoingOn, Answered}
@@ -45,11 +46,12 @@ module _ (n name : ℕ) (seen : Watch rule.Done) (same : name ≡ seen.name) whe
     Tells says = Moved (Watches (Named (IsSeats n name) ways seen.name) seen now.1 (Told n says view) found) now.0
 
     abbrev Steps : Bool → SeatsCall → Ending → View → Type 0
-    Steps goes_on c end to = core.Stepped (model n) goes_on c end to (view, seen) now
+    Steps goes_on c end to = core.Stepped model goes_on c end to (n, view, seen) (n, now.0, now.1)
 
     -- a play that says this, and perhaps more
     means : (says : Says) (goes_on : Bool) (c : SeatsCall) (end : ℕ → Ending) (to : ℕ → View) → ((own : List OneMove) (outs : List Ending) (i : ℕ) (v : View) → says own outs i v → step_by goes_on c end to own outs i v) → Tells says → Steps goes_on c (end found) (to found)
-    means = passes.stepped (model n) seat_of words_of (view, seen) now (Named (IsSeats n name) ways seen.name) named found knew
+    means says goes_on c end to so =
+        spots.took model seat_of words_of (n, view, seen) (n, now.0, now.1) refl knew named found says to (λ w. IsStep goes_on c (end w)) so
 
     pub stepped : (goes_on : Bool) (c : SeatsCall) (end : ℕ → Ending) (to : ℕ → View) → Tells (step_by goes_on c end to) → Steps goes_on c (end found) (to found)
     stepped goes_on c end to = means (step_by goes_on c end to) goes_on c end to (λ own outs i v said. said)
@@ -72,15 +74,15 @@ module _ (n name : ℕ) (seen : Watch rule.Done) (same : name ≡ seen.name) whe
 module _ (n : ℕ) (c : SeatsCall) (to : View) (u v : Account n) where
   -- a step that begins the call and answers it
   pub in_one : (a : Answer (Unit {0})) → Stepped n false c (Answered a None) to u v → Called n c a u v
-  in_one a step = passes.in_one (model n) c (known n u) (known n v) a step.0
+  in_one a step = spots.in_one model c (known n u) (known n v) a step.0
 
   -- a further step of a call
   module _ (w : Account n) (first : IsIn n c u v) where
     pub goes_on : Stepped n true c GoingOn to v w → IsIn n c u w
-    goes_on step = passes.goes_on (model n) c (known n u) (known n v) (known n w) first step.0
+    goes_on step = spots.stays_in model c (known n u) (known n v) (known n w) first step.0
 
     pub is_answered : (a : Answer (Unit {0})) → Stepped n true c (Answered a None) to v w → Called n c a u w
-    is_answered a step = passes.is_answered (model n) c (known n u) (known n v) (known n w) first a step.0
+    is_answered a step = spots.is_answered model c (known n u) (known n v) (known n w) first a step.0
 
 -- a call that takes a seat, by whether its word has a free one
 module _ (n word : ℕ) where
@@ -92,7 +94,7 @@ module _ (n word : ℕ) where
 
   module _ (u v : Account n) where
     first_by : (b : Bool) (to : View) → Stepped n false call.TryEnter (if b then GoingOn else Answered Refused None) to u v → GoesFor n b u v
-    first_by true to step = passes.comes_in (model n) call.TryEnter (known n u) (known n v) step.0
+    first_by true to step = spots.comes_in model call.TryEnter (known n u) (known n v) step.0
     first_by false to step = in_one n call.TryEnter to u v Refused step
 
     pub first_look : Stepped n false call.TryEnter (met n false word) (at_word n false word) u v → IsTrying n word u v
@@ -100,7 +102,8 @@ module _ (n word : ℕ) where
 
     pub first_of_enter : stands u.permit.view ≡ Idle → Stepped n (has_begun (what u.permit.view)) call.Enter GoingOn (at_word n true word) u v → IsIn n call.Enter u v
     first_of_enter out step =
-        passes.comes_in (model n) call.Enter (known n u) (known n v) (subst (λ b. Stepped n b call.Enter GoingOn (at_word n true word) u v) (out_begins (what u.permit.view) (is_out u.permit.view out)) step).0
+        spots.comes_in model call.Enter (known n u) (known n v) (subst (λ b. Stepped n b call.Enter GoingOn (at_word n true word) u v)
+        (out_begins (what u.permit.view) (is_out u.permit.view out)) step).0
 
     module _ (w : Account n) (first : IsIn n call.TryEnter u v) where
       on_by : (b : Bool) (to : View) → Stepped n true call.TryEnter (if b then GoingOn else Answered Refused None) to v w → GoesFor n b u w

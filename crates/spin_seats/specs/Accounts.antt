@@ -1,8 +1,6 @@
 -- What a party knows of its own moves, from one of its steps or calls to a later one.
-use Rattle.std.specs.Prelude.{Bool, ℕ, true, false, Option, nat_lt}
-use Rattle.spin_core.specs.Own.{Numbered}
-use Rattle.spin_core.specs.Passes as passes
-use Rattle.spin_core.specs.declared.trace.Watch.{Watch}
+use Rattle.std.specs.Prelude.{Bool, ℕ, true, false, nat_lt}
+use Rattle.spin_core.specs.Spots as spots
 use Rattle.spin_model.specs.declared.answer.Answer.{Answer}
 use Rattle.spin_model.specs.declared.answer.Answer.TheVariants.{Refused}
 use Rattle.spin_seats.specs.Rule.{Done, Ending, model}
@@ -13,21 +11,21 @@ use Rattle.spin_seats.specs.declared.seats.rule.Account.{Account}
 use Rattle.spin_seats.specs.declared.seats.rule.View.{View}
 
 module _ (n : ℕ) where
-  -- the party's view, and what it knows
-  abbrev pub known : Account n → Option (Numbered View) × Watch Done
-  known account = (account.permit.view, account.seen)
+  -- how many seats the lock has, the party's view, and what it knows
+  abbrev pub known : Account n → spots.Spot ℕ View Done
+  known account = (n, account.permit.view, account.seen)
 
   -- since then it has made one step of this call, with this outcome, and now has this view
   abbrev pub Stepped : Bool → SeatsCall → Ending → View → Account n → Account n → Type 0
-  Stepped goes_on call end view before now = passes.Stepped (model n) goes_on call end view (known before) (known now)
+  Stepped goes_on call end view before now = spots.Stepped model goes_on call end view (known before) (known now)
 
   -- it is in this call, which it has begun since
   abbrev pub IsIn : SeatsCall → Account n → Account n → Type 0
-  IsIn call before now = passes.IsIn (model n) call (known before) (known now)
+  IsIn call before now = spots.IsIn model call (known before) (known now)
 
   -- it has made exactly this call, with this answer
   abbrev pub Called : SeatsCall → Answer (Unit {0}) → Account n → Account n → Type 0
-  Called call answer before now = passes.HasCalled (model n) call answer (known before) (known now)
+  Called call answer before now = spots.HasCalled model call answer (known before) (known now)
 
   -- its `try_enter` found this word: it continues if a seat is free, and is refused if none is
   abbrev pub GoesFor : Bool → Account n → Account n → Type 0

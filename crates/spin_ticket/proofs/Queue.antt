@@ -1,6 +1,6 @@
 -- The steps of a lock of tickets keep its rule. Each is the plain step that its step function makes, and moves of the
 -- lock's model.
-use Rattle.std.proofs.Common.{◌≡◌, ℕ, ◌+◌, ◌<◌, ◌≤◌, ◌&&◌, Bool, true, false, if◌then◌else◌, ◌==◌, List, [], ◌∷◌, Option, Some, None, refl, sym, ap, ◌∙◌, subst, arith}
+use Rattle.std.proofs.Common.{◌≡◌, ℕ, ◌+◌, ◌<◌, ◌≤◌, ◌&&◌, Bool, true, false, if◌then◌else◌, ◌==◌, [], ◌∷◌, Option, Some, None, refl, sym, ap, ◌∙◌, subst, arith}
 use Rattle.std.proofs.lemmas.Bool.{eqb-true, eq-eqb, and_parts}
 use prog.Atomic.{either}
 use Rattle.spin_step.specs.Plain.{Plain, ticket_limit, gets, serves, to_take_ticket, to_take_and_enter, to_enter, is_open, next_word, serving_word}
@@ -8,33 +8,33 @@ use Rattle.spin_step.specs.Steps.{Decides, Gives}
 use Rattle.spin_step.specs.Tickets.{take, served}
 use Rattle.spin_step.proofs.TicketSteps.{ticket_take-grants, ticket_take-grants_alone, ticket_serve-gives}
 use Rattle.spin_step.proofs.Tickets.{serving-taken, serving-entered, entered_is_served, first-length, enters_in_turn}
-use Rattle.spin_core.specs.Cell.{Use, off, alone, reads, writes, use_of, Meets, Allows, AllowsSecond, Rests, Moved, Preserves, Keeps as Keeps_value}
+use Rattle.spin_core.specs.Cell.{Use, alone, reads, writes, use_of, Meets, Moved, Preserves, Keeps as Keeps_value}
 use Rattle.spin_core.specs.Own.{Numbered, what}
-use Rattle.spin_core.specs.Passes.{IsCall, WritesSome, step_by}
-use Rattle.spin_core.proofs.Passes as passes
-use Rattle.spin_core.proofs.Passes.{Learnt}
-use Rattle.spin_core.specs.Run.{AreMoves, on_first, on_second, first as first_word, second as second_word}
-use Rattle.spin_core.specs.Traced.{Traces, TracesSecond, Watches}
+use Rattle.spin_core.specs.Passes.{IsOut, step_by, leaves_by}
+use Rattle.spin_core.specs.Traced.{Watches}
 use Rattle.spin_core.specs.Views.{idle, entries_of, queues}
 use Rattle.spin_core.proofs.Views.{part_before}
 use Rattle.spin_core.specs.declared.trace.Trace.{Trace}
 use Rattle.spin_core.specs.declared.trace.Watch.{Watch}
 use Rattle.spin_core.proofs.Leaving.{next_word-up, serving_word-up}
+use Rattle.spin_core.proofs.Mutexes as mutexes
+use Rattle.spin_core.proofs.Mutexes.{Mutex, as_new, steps}
 use Rattle.spin_core.proofs.Owners.{OfTickets, one_ticket}
 use Rattle.spin_core.proofs.Plays as plays
-use Rattle.spin_core.proofs.Plays.{Lock as CellLock, ways, Reaches, allows, allows_second, by_step, by_grant, by_none, by_exchange, allows_among, begins}
+use Rattle.spin_core.proofs.Plays.{Lock as CellLock, ways, Reaches, allows, allows_second, by_step, by_grant, by_none, by_exchange, allows_among}
 use Rattle.spin_core.proofs.Ties as tie
-use Rattle.spin_core.proofs.Values.{steps_leave, write_leaves, owed, found}
-use Rattle.spin_core.specs.Values.{Leaves, last}
+use Rattle.spin_core.specs.Values.{Leaves}
 use Rattle.spin_model.specs.declared.answer.Answer.TheVariants.{Done}
 use Rattle.spin_model.specs.declared.schedule.Move.TheVariants.{Begin, Step, Write}
 use Rattle.spin_model.specs.declared.schedule.Outcome.TheVariants.{Begun, GoingOn, Answered, Written}
 use Rattle.spin_model.specs.declared.ticket.TicketCall.{TicketCall}
 use Rattle.spin_model.specs.declared.ticket.TicketCall.TheVariants.{Lock, TryLock, IsLocked, Release}
+use Rattle.spin_model.specs.declared.ticket.TicketPoint.{TicketPoint}
+use Rattle.spin_model.specs.declared.ticket.TicketWords.{TicketWords}
 use Rattle.spin_model.specs.Ticket.{is_left, is_free}
 use Rattle.spin_ticket.specs.declared.ticket.rule.View.{View}
 use Rattle.spin_ticket.specs.declared.ticket.rule.View.TheVariants.{Idle, Coming, Going, Waiting, Entered, LoadedNext, Trying, LoadedServing}
-use Rattle.spin_ticket.specs.Queue.{Key, part, Word, IsQueue, queue_ways, Told, Left, serves_with, serves_by, use_of_view, use_of_party, seat_of, model, words_of, OneMove, Ending, Made, Says, IsOut, stands, goes_on, going, taken, entered, answers_turn, freed, answers_free, attempted, answers_attempt, gone, answers_look, compares_with, compares_by, finds, finds_by, awaits_by, tries_by, number_of, answers_release}
+use Rattle.spin_ticket.specs.Queue.{Key, part, IsQueue, queue_ways, Told, serves_by, use_of_view, use_of_party, seat_of, model, words_of, Made, Says, goes_on, going, taken, entered, answers_turn, freed, answers_free, attempted, answers_attempt, gone, answers_look, compares_with, compares_by, finds, finds_by, awaits_by, tries_by, number_of}
 
 pub kind : (v : View) → OfTickets part v
 kind (Waiting n) = (refl, λ p. refl)
@@ -87,19 +87,20 @@ none_left n is = none_if (is_left n) is
 pub goes_for : (n : ℕ) → is_left n ≡ true → going n ≡ Going n
 goes_for n left = ap (λ b. if b then Going n else Coming) left
 
+abbrev pub mutex : {T : Type 0} → Key T → Mutex TicketWords T TicketCall TicketPoint View ℕ
+mutex key = record { plain = queue; model = model key; seat_of = seat_of; words_of = words_of; opening = key.0; idle_sits = refl }
+
 -- The moves of each step: a call of the model and its first step, or the next step of a call under way
 
 module _ {T : Type 0} (key : Key T) where
   abbrev Moves : Option View → (ℕ → ℕ) → (ℕ → View → Type 0) → Says T → Type 0
-  Moves view f = AreMoves (model key) seat_of words_of view (on_first f) first_word
+  Moves = mutexes.Moves (mutex key)
 
   abbrev MovesSecond : Option View → (ℕ → ℕ) → (ℕ → View → Type 0) → Says T → Type 0
-  MovesSecond view f = AreMoves (model key) seat_of words_of view (on_second f) second_word
+  MovesSecond = mutexes.MovesSecond (mutex key)
 
-  load_moves : (view : Option View) → IsOut view → Moves view (λ n. n) (Comes going) (step_by false Lock goes_on going)
-  load_moves None out w value v is = rw is (Begin Lock ∷ Step ∷ [], Begun ∷ GoingOn ∷ [], (refl, (refl, refl)), refl, refl, w, value, grind arith, grind arith, refl)
-  load_moves (Some Idle) out w value v is = rw is (Begin Lock ∷ Step ∷ [], Begun ∷ GoingOn ∷ [], (refl, (refl, refl)), refl, refl, w, value, grind arith, grind arith, refl)
-  load_moves (Some _) out w value v is = absurd out
+  load_moves : Moves None (λ n. n) (Comes going) (step_by false Lock goes_on going)
+  load_moves w value v is = rw is (Begin Lock ∷ Step ∷ [], Begun ∷ GoingOn ∷ [], (refl, (refl, refl)), refl, refl, w, value, grind arith, grind arith, refl)
 
   take_moves : (next : ℕ) → is_left next ≡ true → Moves (Some (Going next)) (λ n. either (n == next) (next + 1) n) (Comes (taken next)) (step_by true Lock goes_on (taken next))
   take_moves next left w value v is = rw is (Step ∷ [], GoingOn ∷ [], (refl, (refl, refl)), refl, refl, record w { next = either (w.next == next) (next + 1) w.next }, value, grind (arith, left), grind (arith, left), refl)
@@ -107,10 +108,8 @@ module _ {T : Type 0} (key : Key T) where
   await_moves : (n : ℕ) → MovesSecond (Some (Waiting n)) (λ k. k) (Comes (entered n)) (step_by true Lock (answers_turn n) (entered n))
   await_moves n w value v is = rw is (Step ∷ [], answers_turn n w.serving ∷ [], (refl, (refl, refl)), refl, grind arith, w, value, grind arith, grind arith, refl)
 
-  try_moves : (view : Option View) → IsOut view → Moves view (λ n. n) (Comes LoadedNext) (step_by false TryLock goes_on LoadedNext)
-  try_moves None out w value v is = rw is (Begin TryLock ∷ Step ∷ [], Begun ∷ GoingOn ∷ [], (refl, (refl, refl)), refl, refl, w, value, refl, refl, refl)
-  try_moves (Some Idle) out w value v is = rw is (Begin TryLock ∷ Step ∷ [], Begun ∷ GoingOn ∷ [], (refl, (refl, refl)), refl, refl, w, value, refl, refl, refl)
-  try_moves (Some _) out w value v is = absurd out
+  try_moves : Moves None (λ n. n) (Comes LoadedNext) (step_by false TryLock goes_on LoadedNext)
+  try_moves w value v is = rw is (Begin TryLock ∷ Step ∷ [], Begun ∷ GoingOn ∷ [], (refl, (refl, refl)), refl, refl, w, value, refl, refl, refl)
 
   try_look_moves : (n : ℕ) → MovesSecond (Some (LoadedNext n)) (λ k. k) (Comes (freed n)) (step_by true TryLock (answers_free n) (freed n))
   try_look_moves n w value v is = rw is (Step ∷ [], answers_free n w.serving ∷ [], (refl, (refl, refl)), refl, grind arith, w, value, grind arith, grind arith, refl)
@@ -119,10 +118,8 @@ module _ {T : Type 0} (key : Key T) where
   try_take_moves next left w value v is =
       rw is (Step ∷ [], answers_attempt next w.next ∷ [], (refl, (refl, refl)), refl, grind arith, record w { next = either (w.next == next) (next + 1) w.next }, value, grind (arith, left), grind (arith, left), refl)
 
-  look_moves : (view : Option View) → IsOut view → MovesSecond view (λ k. k) (Comes LoadedServing) (step_by false IsLocked goes_on LoadedServing)
-  look_moves None out w value v is = rw is (Begin IsLocked ∷ Step ∷ [], Begun ∷ GoingOn ∷ [], (refl, (refl, refl)), refl, refl, w, value, refl, refl, refl)
-  look_moves (Some Idle) out w value v is = rw is (Begin IsLocked ∷ Step ∷ [], Begun ∷ GoingOn ∷ [], (refl, (refl, refl)), refl, refl, w, value, refl, refl, refl)
-  look_moves (Some _) out w value v is = absurd out
+  look_moves : MovesSecond None (λ k. k) (Comes LoadedServing) (step_by false IsLocked goes_on LoadedServing)
+  look_moves w value v is = rw is (Begin IsLocked ∷ Step ∷ [], Begun ∷ GoingOn ∷ [], (refl, (refl, refl)), refl, refl, w, value, refl, refl, refl)
 
   look_next_moves : (n : ℕ) → Moves (Some (LoadedServing n)) (λ m. m) (Compares n) (compares_with n)
   look_next_moves n w value v is = rw is.1 (Step ∷ [], answers_look n w.next ∷ [], (is.0, (refl, (refl, refl))), refl, refl, w, value, refl, refl, refl)
@@ -131,7 +128,7 @@ module _ {T : Type 0} (key : Key T) where
   find_moves n w value v is = rw is.2 ([], [], ((is.0, is.1, refl), refl, refl), refl, refl, w, value, refl, refl, refl)
 
   -- the holder writes the value x
-  serve_moves : (x : T) (n : ℕ) → MovesSecond (Some (Entered n)) (λ _. n + 1) (Comes gone) (serves_with (λ y. y ≡ x))
+  serve_moves : (x : T) (n : ℕ) → MovesSecond (Some (Entered n)) (λ _. n + 1) (Comes gone) (leaves_by (λ y. y ≡ x) Release Done Idle)
   serve_moves x n w value v is =
       rw is (Write x ∷ Begin Release ∷ Step ∷ [], Written ∷ Begun ∷ Answered Done None ∷ [], (refl, (x, refl, (Begin Release ∷ Step ∷ [], Begun ∷ Answered Done None ∷ [], refl, refl, (refl, refl)))), refl, refl, record w { serving = n + 1 }, Some x, grind (arith, eq-eqb n n refl), grind (arith, eq-eqb n n refl), refl)
 
@@ -151,72 +148,28 @@ frees_if n s p true is =
     by_none queue (Some (LoadedNext n)) (Trying n) s p refl (omega (arith, same))
 frees_if n s p false is = by_none queue (Some (LoadedNext n)) Idle s p refl tt
 
-out_has_none : (view : Option View) → IsOut view → part_before part view ≡ idle
-out_has_none None out = refl
-out_has_none (Some Idle) out = refl
-out_has_none (Some _) out = absurd out
-
--- the party is new, or its last call has ended
-pub is_out : (view : Option (Numbered View)) → stands view ≡ Idle → IsOut (what view)
-is_out None is = tt
-is_out (Some v) is = subst (λ w. IsOut (Some w)) (sym is) tt
-
-pub out_off : (view : Option View) → IsOut view → use_of use_of_view view ≡ off
-out_off None out = refl
-out_off (Some Idle) out = refl
-out_off (Some _) out = absurd out
-
 module _ {T : Type 0} (key : Key T) where
   abbrev Keeps : Option (Numbered View) → Option T → (ℕ → ℕ) → Says T → Type 0
-  Keeps view shown f says = Traces (IsQueue key) (queue_ways key) view shown f (Told key says view)
+  Keeps = mutexes.Keeps (mutex key)
 
   abbrev KeepsSecond : Option (Numbered View) → Option T → (ℕ → ℕ) → Says T → Type 0
-  KeepsSecond view shown f says = TracesSecond (IsQueue key) (queue_ways key) view shown f (Told key says view)
+  KeepsSecond = mutexes.KeepsSecond (mutex key)
 
-  -- moves that keep what is known of the value, or leave it
-  abbrev Leaving : Option View → Option T → Says T → Type 0
-  Leaving view shown says = (own : List (OneMove T)) (outs : List (Ending T)) (n : ℕ) (u : View) → says own outs n u → Leaves (use_of use_of_view view) (use_of_view u) shown own
-
-  -- a step by which a party that does not use the value begins a call, or continues it
-  steps : (view : Option View) (shown : Option T) (goes_on : Bool) (c : TicketCall) (end : ℕ → Ending T) (to : ℕ → View) → use_of use_of_view view ≡ off → Leaving view shown (step_by goes_on c end to)
-  steps view shown goes_on c end to unused own outs n u said = steps_leave (use_of use_of_view view) (use_of_view u) shown unused goes_on c (end n) own outs said.1
-
-  -- what the plain lock allows, and what the model does
-  keeps : (view : Option (Numbered View)) (shown : Option T) (f : ℕ → ℕ) (tells : ℕ → View → Type 0) (says : Says T) → Leaving (what view) shown says → Moves key (what view) f tells says → Allows Word (ways queue) (what view) f tells → Keeps view shown f says
-  keeps view shown f tells says leaves moves allowed =
-      tie.traces (model key) seat_of words_of Word key.0.name T alone use_of_view (last key.0) view shown f tells says moves
-      (λ own outs n u said t word p. owed key.0 own t word p (use_of use_of_view (what view)) (use_of_view u) shown (leaves own outs n u said)) allowed
-
-  keeps_second : (view : Option (Numbered View)) (shown : Option T) (f : ℕ → ℕ) (tells : ℕ → View → Type 0) (says : Says T) → Leaving (what view) shown says → MovesSecond key (what view) f tells says → AllowsSecond Word (ways queue) (what view) f tells
-      → KeepsSecond view shown f says
-  keeps_second view shown f tells says leaves moves allowed =
-      tie.traces_second (model key) seat_of words_of Word key.0.name T alone use_of_view (last key.0) view shown f tells says moves
-      (λ own outs n u said t word p. owed key.0 own t word p (use_of use_of_view (what view)) (use_of_view u) shown (leaves own outs n u said)) allowed
-
-  -- a step of a call, by a party that does not use the value
-  in_call : (view : Option (Numbered View)) (shown : Option T) (f : ℕ → ℕ) (goes_on : Bool) (c : TicketCall) (end : ℕ → Ending T) (to : ℕ → View)
-      → use_of use_of_view (what view) ≡ off → Moves key (what view) f (Comes to) (step_by goes_on c end to)
-      → Allows Word (ways queue) (what view) f (Comes to) → Keeps view shown f (step_by goes_on c end to)
-  in_call view shown f goes_on c end to unused =
-      keeps view shown f (Comes to) (step_by goes_on c end to) (steps (what view) shown goes_on c end to unused)
-
-  in_call_second : (view : Option (Numbered View)) (shown : Option T) (f : ℕ → ℕ) (goes_on : Bool) (c : TicketCall) (end : ℕ → Ending T) (to : ℕ → View)
-      → use_of use_of_view (what view) ≡ off → MovesSecond key (what view) f (Comes to) (step_by goes_on c end to)
-      → AllowsSecond Word (ways queue) (what view) f (Comes to) → KeepsSecond view shown f (step_by goes_on c end to)
-  in_call_second view shown f goes_on c end to unused =
-      keeps_second view shown f (Comes to) (step_by goes_on c end to) (steps (what view) shown goes_on c end to unused)
+  nothing : (view : Option View) → IsOut Idle view → (p : ℕ) → entries_of p (part_before part view) ≡ entries_of p idle
+  nothing view out p = ap (entries_of p) (as_new Idle (part_before part) refl view out)
 
   pub starts : (t : Trace (Made T) ℕ) → t.name ≡ key.0.name → t.entries ≡ [] → t.word ≡ key.1 → key.1 ≤ ticket_limit → Meets (IsQueue key) (queue_ways key) key.1 t []
   starts t named empty word small =
-      tie.opens (model key) seat_of words_of Word key.0.name T alone use_of_view (last key.0) key.1 t named empty (ap (λ k. (key.1, k)) word) (rw word (begins queue 0 key.1 key.1 key.1 (omega (arith, small)) refl (omega arith)))
+      mutexes.starts (mutex key) key.1 t named empty (ap (λ k. (key.1, k)) word)
+      (rw word (plays.begins queue 0 key.1 key.1 key.1 (omega (arith, small)) refl (omega arith)))
 
   -- `lock`
 
-  pub loads : (view : Option (Numbered View)) (shown : Option T) → IsOut (what view) → Keeps view shown (λ n. n) (step_by false Lock goes_on going)
+  pub loads : (view : Option (Numbered View)) (shown : Option T) → IsOut Idle (what view) → Keeps view shown (λ n. n) (step_by false Lock goes_on going)
   loads view shown out =
       let v : Option View = what view in
-      let none : (p : ℕ) → entries_of p (part_before part v) ≡ entries_of p idle = λ p. ap (entries_of p) (out_has_none v out) in
-      in_call view shown (λ n. n) false Lock goes_on going (out_off v out) (load_moves key v out)
+      let none : (p : ℕ) → entries_of p (part_before part v) ≡ entries_of p idle = nothing v out in
+      mutexes.begins (mutex key) view shown out (λ n. n) Lock goes_on going (load_moves key)
       (allows queue v (λ n. n) (Comes going) (λ s p room order has.
       (going s.next, goes_if v s p (by_none queue v (Going s.next) s p (none p) tt) (by_none queue v Coming s p (none p) tt) (is_left s.next), refl)))
 
@@ -225,7 +178,7 @@ module _ {T : Type 0} (key : Key T) where
   takes view shown next after at exact =
       let from : Option View = Some (Going next) in let (left, more) = left_of next after exact in
       let is : what view ≡ from = at ∙ ap Some (goes_for next left) in let f : ℕ → ℕ = λ n. either (n == next) after n in
-      in_call view shown f true Lock goes_on (taken next) (ap (use_of use_of_view) is) (rw (is, more) (take_moves key next left))
+      mutexes.in_call (mutex key) view shown (ap (use_of use_of_view) is) f true Lock goes_on (taken next) (rw (is, more) (take_moves key next left))
       (rw is (allows_among queue from f (Comes (taken next)) (λ s p vs room order among has small.
       by_exchange queue from (Waiting next) (going s.next) s p s.next (serving_word s) next after
       (λ e. let grants = subst (λ o. Decides s (gets p to_take_ticket) next_word o) (sym exact) (ticket_take-grants s p next e) in
@@ -238,26 +191,28 @@ module _ {T : Type 0} (key : Key T) where
       → KeepsSecond view shown (λ k. k) (awaits_by (what view))
   awaits view shown number is =
       subst (λ k. KeepsSecond view shown (λ m. m) (step_by true Lock (answers_turn k) (entered k))) (sym (ap number_of is))
-      (in_call_second view shown (λ k. k) true Lock (answers_turn number) (entered number) (ap (use_of use_of_view) is) (rw is (await_moves key number))
+      (mutexes.in_call_second (mutex key) view shown (ap (use_of use_of_view) is) (λ k. k) true Lock (answers_turn number) (entered number)
+      (rw is (await_moves key number))
       (rw is (allows_second queue (Some (Waiting number)) (λ k. k) (Comes (entered number)) (λ s p room order has.
       let turn = enters_in_turn s p (serving_word s) number order.numbered refl (ap (λ e. e.tickets) has.0) in
       (entered number (serving_word s), enters_if number s p (serving_word s == number) turn, refl)))))
 
   -- `try_lock`
 
-  pub tries : (view : Option (Numbered View)) (shown : Option T) → IsOut (what view)
+  pub tries : (view : Option (Numbered View)) (shown : Option T) → IsOut Idle (what view)
       → Keeps view shown (λ n. n) (step_by false TryLock goes_on LoadedNext)
   tries view shown out =
       let v : Option View = what view in
-      in_call view shown (λ n. n) false TryLock goes_on LoadedNext (out_off v out) (try_moves key v out)
+      mutexes.begins (mutex key) view shown out (λ n. n) TryLock goes_on LoadedNext (try_moves key)
       (allows queue v (λ n. n) (Comes LoadedNext) (λ s p room order has.
-      (LoadedNext s.next, by_none queue v (LoadedNext s.next) s p (ap (entries_of p) (out_has_none v out)) tt, refl)))
+      (LoadedNext s.next, by_none queue v (LoadedNext s.next) s p (nothing v out p) tt, refl)))
 
   pub tries_on : (view : Option (Numbered View)) (shown : Option T) (next : ℕ) → what view ≡ Some (LoadedNext next)
       → KeepsSecond view shown (λ k. k) (tries_by (what view))
   tries_on view shown next is =
       subst (λ k. KeepsSecond view shown (λ m. m) (step_by true TryLock (answers_free k) (freed k))) (sym (ap number_of is))
-      (in_call_second view shown (λ k. k) true TryLock (answers_free next) (freed next) (ap (use_of use_of_view) is) (rw is (try_look_moves key next))
+      (mutexes.in_call_second (mutex key) view shown (ap (use_of use_of_view) is) (λ k. k) true TryLock (answers_free next) (freed next)
+      (rw is (try_look_moves key next))
       (rw is (allows_second queue (Some (LoadedNext next)) (λ k. k) (Comes (freed next)) (λ s p room order has.
       (freed next (serving_word s), frees_if next s p (is_free next (serving_word s)) refl, refl)))))
 
@@ -266,7 +221,8 @@ module _ {T : Type 0} (key : Key T) where
       → Keeps view shown (λ n. either (n == next) after n) (step_by true TryLock (answers_attempt next) (attempted next))
   attempts view shown next after is exact =
       let from : Option View = Some (Trying next) in let (left, more) = left_of next after exact in let f : ℕ → ℕ = λ n. either (n == next) after n in
-      in_call view shown f true TryLock (answers_attempt next) (attempted next) (ap (use_of use_of_view) is) (rw (is, more) (try_take_moves key next left))
+      mutexes.in_call (mutex key) view shown (ap (use_of use_of_view) is) f true TryLock (answers_attempt next) (attempted next)
+      (rw (is, more) (try_take_moves key next left))
       (rw is (plays.exchanged queue from Entered Idle next after (λ s p. (refl, tt)) (λ s p vs room order among has small e.
       let alone = ticket_take-grants_alone s p next order.numbered.0 e (omega (arith, has.1, e, order.numbered.0)) in
       let grants = subst (λ o. Decides s (gets p to_take_and_enter) next_word o) (sym exact) alone in
@@ -275,20 +231,22 @@ module _ {T : Type 0} (key : Key T) where
 
   -- `is_locked`: the served number only grows, and is at most the next one
 
-  pub looks : (view : Option (Numbered View)) (shown : Option T) → IsOut (what view)
+  pub looks : (view : Option (Numbered View)) (shown : Option T) → IsOut Idle (what view)
       → KeepsSecond view shown (λ k. k) (step_by false IsLocked goes_on LoadedServing)
   looks view shown out =
       let v : Option View = what view in
-      in_call_second view shown (λ k. k) false IsLocked goes_on LoadedServing (out_off v out) (look_moves key v out)
+      mutexes.begins_second (mutex key) view shown out (λ k. k) IsLocked goes_on LoadedServing (look_moves key)
       (allows_second queue v (λ k. k) (Comes LoadedServing) (λ s p room order has.
-      let k = serving_word s in (LoadedServing k, by_none queue v (LoadedServing k) s p (ap (entries_of p) (out_has_none v out)) (omega arith), refl)))
+      let k = serving_word s in (LoadedServing k, by_none queue v (LoadedServing k) s p (nothing v out p) (omega arith), refl)))
 
   pub compares : (view : Option (Numbered View)) (shown : Option T) (served : ℕ) → what view ≡ Some (LoadedServing served)
       → Keeps view shown (λ n. n) (compares_by (what view))
   compares view shown served is =
       let unused = ap (use_of use_of_view) is in
-      subst (λ k. Keeps view shown (λ m. m) (compares_with k)) (sym (ap number_of is)) (keeps view shown (λ n. n) (Compares served) (compares_with served)
-      (λ own outs n u said. steps (what view) shown true IsLocked (answers_look served) gone unused own outs n u said.1) (rw is (look_next_moves key served))
+      subst (λ k. Keeps view shown (λ m. m) (compares_with k)) (sym (ap number_of is))
+      (mutexes.keeps (mutex key) view shown (λ n. n) (Compares served) (compares_with served)
+      (λ own outs n u said. steps (mutex key) (what view) shown unused true IsLocked (answers_look served) gone own outs n u said.1)
+      (rw is (look_next_moves key served))
       (rw is (allows queue (Some (LoadedServing served)) (λ n. n) (Compares served) (λ s p room order has.
       (Idle, by_none queue (Some (LoadedServing served)) Idle s p refl tt, (omega (arith, has.1, order.numbered.0), refl))))))
 
@@ -296,35 +254,29 @@ module _ {T : Type 0} (key : Key T) where
 
   pub finds_own : (view : Option (Numbered View)) (shown : Option T) (number : ℕ) → what view ≡ Some (Entered number) → KeepsSecond view shown (λ k. k) (finds_by (what view))
   finds_own view shown number is =
-      subst (λ k. KeepsSecond view shown (λ m. m) (finds k)) (sym (ap number_of is)) (keeps_second view shown (λ k. k) (Finds number) (finds number) (λ own outs n u said. subst (λ (z : Use × Use). Leaves z.0 z.1 shown own) (λ i. (sym (ap (use_of use_of_view) is) i, sym (ap use_of_view said.0.2) i)) tt) (rw is (find_moves key number))
+      subst (λ k. KeepsSecond view shown (λ m. m) (finds k)) (sym (ap number_of is))
+      (mutexes.keeps_second (mutex key) view shown (λ k. k) (Finds number) (finds number)
+      (λ own outs n u said. subst (λ (z : Use × Use). Leaves z.0 z.1 shown own)
+      (λ i. (sym (ap (use_of use_of_view) is) i, sym (ap use_of_view said.0.2) i)) tt) (rw is (find_moves key number))
       (rw is (allows_second queue (Some (Entered number)) (λ k. k) (Finds number) (λ s p room order has.
       let served = entered_is_served s p number order.numbered order.exclusive.one_entered (ap (λ e. e.tickets) has.0) in
       (Entered number, by_none queue (Some (Entered number)) (Entered number) s p refl tt, (served.1, omega (arith, order.within_limit, order.numbered.0, first-length p true s.tickets served.0, served.1), refl))))))
 
   -- the holder writes the value that it leaves
-  leaving : (view : Option View) (shown : Option T) (x : T) (number : ℕ) → view ≡ Some (Entered number) → shown ≡ Some x → Leaving view shown (serves_with (λ y. y ≡ x))
-  leaving view shown x number is here own outs n u (stays, (y, same, by)) =
-      subst (λ (z : Use × Use × Option T). Leaves z.0 z.1 z.2 own) (λ i. (sym (ap (use_of use_of_view) is) i, sym (ap use_of_view stays) i, sym here i)) (λ v. write_leaves y false Release (answers_release n) own outs by v ∙ same)
-
   pub serves_next : (view : Option (Numbered View)) (shown : Option T) (x : T) (number next : ℕ) → what view ≡ Some (Entered number)
       → shown ≡ Some x → next ≡ served number → KeepsSecond view shown (λ _. next) serves_by
   serves_next view shown x number next is here more =
-      let from : Option View = Some (Entered number) in let exact : Says T = serves_with (λ y. y ≡ x) in
-      tie.tells_less_second (model key) seat_of words_of view exact serves_by (λ own outs n u (stays, (y, same, by)). (stays, (y, tt, by)))
-      (IsQueue key) (queue_ways key) shown (λ _. next)
-      (keeps_second view shown (λ _. next) (Comes gone) exact (leaving (what view) shown x number is here) (rw (is, more) (serve_moves key x number))
+      let from : Option View = Some (Entered number) in
+      mutexes.releases_second (mutex key) view shown x Release Done (ap (use_of use_of_view) is) here (λ _. next) (Comes gone)
+      (rw (is, more) (serve_moves key x number))
       (rw is (allows_second queue from (λ _. next) (Comes gone) (λ s p room order has.
       let first = entered_is_served s p number order.numbered order.exclusive.one_entered (ap (λ e. e.tickets) has.0) in
       let gives = subst (λ n. Gives s (serves p) serving_word n) (sym more) (ticket_serve-gives s p number order.numbered.0 first.1) in
-      (Idle, by_step queue from Idle s (serves p) s.next next first.0 refl tt refl (gives first.0), refl)))))
+      (Idle, by_step queue from Idle s (serves p) s.next next first.0 refl tt refl (gives first.0), refl))))
 
--- Who may leave, and what the steps of a release tell the holder
+-- What the load of a release tells the holder
 
 module _ {T : Type 0} (key : Key T) where
-  pub rests : (view : Option (Numbered View)) → stands view ≡ Idle → Rests (IsQueue key) use_of_party view
-  rests None is = tt
-  rests (Some v) is = tie.rests (model key) seat_of words_of Word key.0.name T alone use_of_view (last key.0) v (ap seat_of is) (plays.idle_rests queue v.0 is)
-
   -- the load of a party that releases is no move: it tells the party its own number
   pub found_own : (number : ℕ) (view view' : Option (Numbered View)) (before now : Watch (Made T)) (found : ℕ) (named : Type 0) → what view ≡ Some (Entered number)
       → Moved (Watches named before now (Told key (finds_by (what view)) view) found) view' → (found < ticket_limit) × (what view' ≡ Some (Entered found))
@@ -335,15 +287,6 @@ module _ {T : Type 0} (key : Key T) where
   pub same_shown : (view view' : Option (Numbered View)) (before after : Option T) (x : T) (n m : ℕ) → what view ≡ Some (Entered n) → what view' ≡ Some (Entered m) → before ≡ Some x → Keeps_value (queue_ways key) view view' before after → after ≡ Some x
   same_shown view view' before after x n m is is' here kept =
       (subst (λ (z : Use × Use × Option T). Preserves alone z.0 z.1 z.2 after) (λ i. ((sym (tie.same_use use_of_view view) ∙ ap (use_of use_of_view) is) i, (sym (tie.same_use use_of_view view') ∙ ap (use_of use_of_view) is') i, here i)) kept).0
-
-  -- the release: the value that is left is the one that the moves write
-  pub left_idle : (named : Type 0) (known now : Watch (Made T)) (before view : Option (Numbered View)) (found : ℕ) → Moved (Watches named known now (Told key serves_by before) found) view → stands view ≡ Idle
-  left_idle named known now before None found moved = absurd moved
-  left_idle named known now before (Some v) found moved = moved.1.4.6.0
-
--- the same without saying which value was written
-pub left_weaker : {T : Type 0} (key : Key T) (Q : T → Type 0) (view view' : Option (Numbered View)) (old new : List (Made T)) → Left key Q view old view' new → Left key (λ x. Unit {0}) view old view' new
-left_weaker key Q view view' old new = passes.weaker (model key) view view' old new (WritesSome Q (IsCall Release Done)) (WritesSome (λ x. Unit {0}) (IsCall Release Done)) (λ own outs (x, so, by). (x, tt, by))
 
 -- whether a `try_lock` may take the number that it found next
 
@@ -356,11 +299,6 @@ not_left next n e = grind (arith, e)
 pub served_and_left : (next n : ℕ) → true ≡ (n == next) → is_left next ≡ true → is_free next n ≡ true
 served_and_left next n e left = ap (λ b. b && is_left next) (sym e) ∙ left
 
--- the view of a party with this answer
-pub stands_by : (view : Option (Numbered View)) (v : View) → what view ≡ Some v → v ≡ Idle → stands view ≡ Idle
-stands_by None v is rests = absurd cc
-stands_by (Some u) v is rests = let same : u.0 ≡ v = cc (is) in same ∙ rests
-
 -- a party that writes has entered
 pub entered_of : (v : View) → use_of_view v ≡ writes → (n : ℕ) × (v ≡ Entered n)
 entered_of (Entered n) uses = (n, refl)
@@ -371,11 +309,5 @@ holder_of None uses = absurd cc
 holder_of (Some v) uses = let own = entered_of v.0 uses in (own.0, ap Some own.1)
 
 pub never_reads : (v : View) → use_of_view v ≡ reads → ⊥
-never_reads Idle e = absurd cc
-never_reads Coming e = absurd cc
-never_reads (Going n) e = absurd cc
-never_reads (Waiting n) e = absurd cc
 never_reads (Entered n) e = absurd cc
-never_reads (LoadedNext n) e = absurd cc
-never_reads (Trying n) e = absurd cc
-never_reads (LoadedServing n) e = absurd cc
+never_reads _ e = absurd cc

@@ -1,21 +1,20 @@
 -- What a party that knows the lock's history has done from one of its steps to a later one.
-use Rattle.std.specs.Prelude.{◌≡◌, ℕ, ◌<◌, Bool, true, Option, Some, None, Result, IfOk, IfErr}
+use Rattle.std.specs.Prelude.{◌≡◌, ℕ, ◌<◌, true, Some, None, Result, IfOk, IfErr}
 use Rattle.spin_core.specs.Guard.{IsHolder, guard_view, guard_key, guard_value}
 use Rattle.spin_core.specs.Own.{Numbered, what}
-use Rattle.spin_core.specs.Passes as passes
-use Rattle.spin_core.specs.Passes.{Course, Begins, Waits, WritesSome, IsCall, IsStep}
+use Rattle.spin_core.specs.Passes.{IsOut}
+use Rattle.spin_core.specs.Spots as spots
+use Rattle.spin_core.specs.Spots.{spot, Stepped, IsIn, HasCalled}
 use Rattle.spin_core.specs.Values.{IsLast}
-use Rattle.spin_core.specs.declared.cell.Permit.{Permit}
 use Rattle.spin_core.specs.declared.guard.Guard.{Guard}
 use Rattle.spin_core.specs.declared.trace.Watch.{Watch}
-use Rattle.spin_model.specs.declared.answer.Answer.{Answer}
 use Rattle.spin_model.specs.declared.answer.Answer.TheVariants.{Granted, Refused, Done}
 use Rattle.spin_model.specs.declared.schedule.Outcome.TheVariants.{Answered}
 use Rattle.spin_model.specs.declared.ticket.TicketCall.{TicketCall}
 use Rattle.spin_model.specs.declared.ticket.TicketCall.TheVariants.{Lock, TryLock, Release}
 use Rattle.spin_step.specs.Plain.{ticket_limit}
 use Rattle.spin_ticket.specs.Guards.{Holds}
-use Rattle.spin_ticket.specs.Queue.{Key, Made, Ending, Called, model, stands, use_of_party}
+use Rattle.spin_ticket.specs.Queue.{Key, Made, Called, model, use_of_party}
 use Rattle.spin_ticket.specs.declared.ticket.rule.View.{View}
 use Rattle.spin_ticket.specs.declared.ticket.rule.View.TheVariants.{Idle, Entered}
 use Rattle.spin_ticket.specs.declared.ticket.waiting.Account.{Account}
@@ -23,56 +22,36 @@ use Rattle.spin_ticket.specs.declared.ticket.waiting.Going.{Going}
 use Rattle.spin_ticket.specs.declared.ticket.waiting.Grant.{Grant}
 use Rattle.spin_ticket.specs.declared.ticket.waiting.Place.{Place}
 
--- where a party is: the key of its lock, its view, and what it knows of the history
 abbrev pub Spot : Type 0 → Type 0
-Spot T = Key T × Option (Numbered View) × Watch (Made T)
-
-abbrev pub spot : {T P S : Type 0} → Permit T (Numbered View) P (Key T) S → Watch (Made T) → Spot T
-spot permit seen = (permit.key, permit.view, seen)
+Spot T = spots.Spot (Key T) View (Made T)
 
 module _ {T : Type 0} where
   abbrev pub here : Account T → Spot T
   here it = spot it.permit it.seen
 
-  -- between the two spots it has made moves of this course in one lock, and no others
-  abbrev pub Since : Course T TicketCall (Answer T) → Spot T → Spot T → Type 0
-  Since course p q = passes.Since (model p.0) course (p.1, p.2) (q.1, q.2) × (q.0 ≡ p.0)
-
-  -- it has made one step of this call, with this outcome, and has this view now
-  abbrev pub Stepped : Bool → TicketCall → Ending T → View → Spot T → Spot T → Type 0
-  Stepped goes_on call end view p q = Since (IsStep goes_on call end) p q × (what q.1 ≡ Some view)
-
-  -- it is in this call, which it began there
-  abbrev pub IsIn : TicketCall → Spot T → Spot T → Type 0
-  IsIn call = Since (Begins call Waits)
-
-  -- it has made exactly this call, with this answer
-  abbrev pub HasCalled : TicketCall → Answer T → Spot T → Spot T → Type 0
-  HasCalled call answer = Since (IsCall call answer)
-
   -- an attempt of `lock` to take its ticket: it has one, or tries again
   abbrev pub GoesFor : Going T → Result (Place T) (Going T) → Type 0
   GoesFor was r =
-      (p : Spot T) → IsIn Lock p (here was.account)
-      → IfOk r (λ place. IsIn Lock p (here place.account)) × IfErr r (λ next. IsIn Lock p (here next.account))
+      (p : Spot T) → IsIn model Lock p (here was.account)
+      → IfOk r (λ place. IsIn model Lock p (here place.account)) × IfErr r (λ next. IsIn model Lock p (here next.account))
 
   -- an attempt of `lock` to enter: it is granted, or waits
   abbrev pub Enters : Place T → Result (Grant T) (Place T) → Type 0
   Enters was r =
-      (p : Spot T) → IsIn Lock p (here was.account)
-      → IfOk r (λ grant. HasCalled Lock Granted p (here grant.account)) × IfErr r (λ next. IsIn Lock p (here next.account))
+      (p : Spot T) → IsIn model Lock p (here was.account)
+      → IfOk r (λ grant. HasCalled model Lock Granted p (here grant.account)) × IfErr r (λ next. IsIn model Lock p (here next.account))
 
   -- a whole `try_lock`
   abbrev pub Tries : Spot T → Result (Grant T) (Account T) → Type 0
   Tries p r =
-      IfOk r (λ grant. HasCalled TryLock Granted p (here grant.account))
-      × IfErr r (λ now. HasCalled TryLock Refused p (here now) × (stands now.permit.view ≡ Idle))
+      IfOk r (λ grant. HasCalled model TryLock Granted p (here grant.account))
+      × IfErr r (λ now. HasCalled model TryLock Refused p (here now) × IsOut Idle (what now.permit.view))
 
   -- the exchange of a `try_lock` that found this number next and served
   abbrev pub Attempts : ℕ → Spot T → Result (Grant T) (Account T) → Type 0
   Attempts next p r =
-      IfOk r (λ grant. Stepped true TryLock (Answered Granted None) (Entered next) p (here grant.account))
-      × IfErr r (λ now. Stepped true TryLock (Answered Refused None) Idle p (here now))
+      IfOk r (λ grant. Stepped model true TryLock (Answered Granted None) (Entered next) p (here grant.account))
+      × IfErr r (λ now. Stepped model true TryLock (Answered Refused None) Idle p (here now))
 
   -- it holds the lock with this ticket, and may write this value
   abbrev pub HasTicket : ℕ → T → Account T → Type 0
@@ -80,7 +59,7 @@ module _ {T : Type 0} where
 
   -- it has written this value, which is now the one written last, and released the lock
   abbrev pub Releases : T → Spot T → Spot T → Type 0
-  Releases x p q = Since (WritesSome (λ y. p.0.0.told ≡ true → y ≡ x) (IsCall Release Done)) p q × IsLast p.0.0 q.2.entries x
+  Releases = spots.Releases model (λ (key : Key T). key.0) Release Done
 
 module _ {T P R S : Type 0} where
   -- it holds the lock by this guard, has made exactly this call since, and has the value that was written last

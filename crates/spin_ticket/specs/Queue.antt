@@ -6,7 +6,7 @@ use Rattle.spin_core.specs.Cell.{Use, alone, Ways}
 use Rattle.spin_core.specs.Views.{Part, idle, queues, knows_served, Encodes, used_by}
 use Rattle.spin_core.specs.Own.{Numbered, Runs, Tells}
 use Rattle.spin_core.specs.Passes as passes
-use Rattle.spin_core.specs.Passes.{Course, IsCall, IsStep, WritesSome, Writes, step_by}
+use Rattle.spin_core.specs.Passes.{Course, Ending, IsCall, WritesSome, step_by, leaves_by, Between}
 use Rattle.spin_core.specs.Values.{last, untold}
 use Rattle.spin_core.specs.declared.tie.Opening.{Opening}
 use Rattle.spin_core.specs.declared.trace.Trace.{Trace}
@@ -15,8 +15,6 @@ use Rattle.spin_model.specs.declared.answer.Answer.TheVariants.{Granted, Refused
 use Rattle.spin_model.specs.declared.place.Hold.TheVariants.{Ticket}
 use Rattle.spin_model.specs.declared.place.Seat.{Seat}
 use Rattle.spin_model.specs.declared.place.Seat.TheVariants as seat
-use Rattle.spin_model.specs.declared.schedule.Move.{Move}
-use Rattle.spin_model.specs.declared.schedule.Outcome.{Outcome}
 use Rattle.spin_model.specs.declared.schedule.Outcome.TheVariants.{GoingOn, Answered}
 use Rattle.spin_model.specs.declared.ticket.TicketCall.{TicketCall}
 use Rattle.spin_model.specs.declared.ticket.TicketCall.TheVariants.{Lock, TryLock, IsLocked, Release}
@@ -63,12 +61,6 @@ words_of w = (w.next, w.serving)
 abbrev pub Key : Type 0 → Type 0
 Key T = Opening T × ℕ
 
-abbrev pub OneMove : Type 0 → Type 0
-OneMove T = Move TicketCall T
-
-abbrev pub Ending : Type 0 → Type 0
-Ending T = Outcome (Answer T) T
-
 -- an entry of the lock's trace
 abbrev pub Made : Type 0 → Type 0
 Made T = Entry TicketCall T
@@ -81,7 +73,7 @@ abbrev pub views : List (Numbered View) → List View
 views vs = map (λ v. v.0) vs
 
 abbrev pub Says : Type 0 → Type 1
-Says T = List (OneMove T) → List (Ending T) → ℕ → View → Type 0
+Says T = passes.Says T TicketCall (Answer T) View
 
 module _ {T : Type 0} where
   -- the model of the lock
@@ -175,36 +167,19 @@ finds number own outs n v = ((n ≡ number) × (number < ticket_limit) × (v ≡
 abbrev pub finds_by : {T : Type 0} → Option View → Says T
 finds_by view = finds (number_of view)
 
-abbrev pub answers_release : {T : Type 0} → ℕ → Ending T
-answers_release n = Answered Done None
-
--- the party is in no call, and holds nothing
-abbrev pub IsOut : Option View → Type 0
-IsOut None = Unit {0}
-IsOut (Some Idle) = Unit {0}
-IsOut _ = ⊥
-
--- the party's view; a party that is new is idle
-abbrev pub stands : Option (Numbered View) → View
-stands None = Idle
-stands (Some v) = v.0
-
--- the store that releases the lock: the holder writes the value that it leaves, which satisfies Q
-abbrev pub serves_with : {T : Type 0} → (T → Type 0) → Says T
-serves_with Q own outs n v = (v ≡ Idle) × WritesSome Q (IsStep false Release (answers_release n)) own outs
-
+-- the store that releases the lock: the holder writes the value that it leaves
 abbrev pub serves_by : {T : Type 0} → Says T
-serves_by = serves_with (λ x. Unit {0})
+serves_by = leaves_by (λ x. Unit {0}) Release Done Idle
 
 module _ {T : Type 0} where
   -- For a pass: since it knew `old` it has made exactly the moves of this course
-  abbrev pub Moves : Key T → Course T TicketCall (Answer T) → Option (Numbered View) → List (Made T) → Option (Numbered View) → List (Made T) → Type 0
+  abbrev pub Moves : Key T → Course T TicketCall (Answer T) → Between T TicketCall View
   Moves key course view old view' new = passes.Made (model key) view old view' new course
 
   -- it has made exactly this call, with this answer
-  abbrev pub Called : Key T → TicketCall → Answer T → Option (Numbered View) → List (Made T) → Option (Numbered View) → List (Made T) → Type 0
+  abbrev pub Called : Key T → TicketCall → Answer T → Between T TicketCall View
   Called key c a = Moves key (IsCall c a)
 
   -- it has written a value that satisfies Q, and then released the lock
-  abbrev pub Left : Key T → (T → Type 0) → Option (Numbered View) → List (Made T) → Option (Numbered View) → List (Made T) → Type 0
+  abbrev pub Left : Key T → (T → Type 0) → Between T TicketCall View
   Left key Q = Moves key (WritesSome Q (IsCall Release Done))

@@ -22,6 +22,7 @@ mod waiting;
 
 pub use self::pass::Pass;
 pub use self::rule::{Entry, Party, TicketRule, View};
+pub use spin_core::laws::{a_guard_reads_the_last_value_written, two_guards_read_one_value};
 
 /// A mutual exclusion lock that serves its threads in the order of their tickets, and on which a waiting thread spins.
 ///

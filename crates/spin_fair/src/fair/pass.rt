@@ -2,8 +2,10 @@
 ghost use Rattle.std.specs.Prelude.{◌≡◌, ◌⊎◌, Some, None, [], true, IfOk, IfErr};
 ghost use mathlib.Core.List.{IsPrefix};
 ghost use Rattle.spin_core.specs.Guard.{IsHolder, guard_view, guard_key, guard_value};
+ghost use Rattle.spin_core.specs.Own.{what};
+ghost use Rattle.spin_core.specs.Passes.{IsOut};
 ghost use Rattle.spin_core.specs.Values.{IsLast};
-ghost use Rattle.spin_fair.specs.Fair.{use_of_party, stands, answer_of, Called, Left};
+ghost use Rattle.spin_fair.specs.Fair.{use_of_party, answer_of, Called, Left};
 ghost use Rattle.spin_fair.specs.Guards.{Holds};
 ghost use Rattle.spin_fair.specs.declared.fair.rule.View.TheVariants.{Idle, Holding};
 ghost use Rattle.spin_model.specs.declared.answer.Answer.TheVariants.{Granted, Refused, Is};
@@ -35,7 +37,7 @@ use std::sync::Wait;
 pub struct Pass<'a, T, R> {
     pub(super) account: Account<'a, T>,
     pub(super) strategy: PhantomData<R>,
-    ghost rests: { stands account.permit.view ≡ Idle },
+    ghost rests: { IsOut Idle (what account.permit.view) },
 }
 
 impl<T, R> FairMutex<T, R> {
@@ -117,7 +119,7 @@ impl<'a, T, R: RelaxStrategy> Pass<'a, T, R> {
 
 impl<'a, T, R> Pass<'a, T, R> {
     pub(super) fn new(account: Account<'a, T>) -> Self
-        requires { stands account.permit.view ≡ Idle }
+        requires { IsOut Idle (what account.permit.view) }
         ensures { result.account ≡ account.entry }
     {
         Pass {

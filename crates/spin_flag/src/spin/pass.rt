@@ -2,17 +2,19 @@
 ghost use Rattle.std.specs.Prelude.{◌≡◌, ◌⊎◌, true, Some, None, [], length, IfOk, IfErr};
 ghost use mathlib.Core.List.{IsPrefix};
 ghost use Rattle.spin_core.specs.Guard.{IsHolder, guard_view, guard_key, guard_value};
-ghost use Rattle.spin_core.specs.Passes.{mark_of};
+ghost use Rattle.spin_core.specs.Own.{what};
+ghost use Rattle.spin_core.specs.Passes.{mark_of, IsOut};
+ghost use Rattle.spin_core.specs.Spots.{spot};
 ghost use Rattle.spin_core.specs.Values.{IsLast};
-ghost use Rattle.spin_flag.specs.Flag.{use_of_party, stands, Called, Left};
+ghost use Rattle.spin_flag.specs.Flag.{use_of_party, has_begun, MayTry, Called, Left};
 ghost use Rattle.spin_flag.specs.Guards.{Holds};
-ghost use Rattle.spin_flag.specs.Waits.{GoesOn};
+ghost use Rattle.spin_flag.specs.Waits.{Exchanges, GoesOn};
 ghost use Rattle.spin_flag.specs.declared.spin.rule.View.TheVariants.{Idle};
 ghost use Rattle.spin_model.specs.declared.answer.Answer.TheVariants.{Granted, Refused, Is};
 ghost use Rattle.spin_model.specs.declared.flag.FlagCall.TheVariants.{Lock, TryLock, IsLocked};
 
-use super::rule::{Attempt, Entry, FlagRule, Frees, Load, Looks, Party, is_set, word};
-use super::waiting::{Grant, Waiting, try_with};
+use super::rule::{Attempt, Entry, FlagRule, Frees, Load, Looks, Party, Tries, is_set, word};
+use super::waiting::{Grant, Waiting};
 use super::{SpinMutex, SpinMutexGuard};
 use spin_core::cell::Permit;
 use spin_core::guard::Guard;
@@ -51,7 +53,7 @@ pub struct Pass<'a, T, R> {
     seen: Watch<Entry<T>>,
     strategy: PhantomData<R>,
     ghost named: { permit.key.name ≡ seen.name },
-    ghost rests: { stands permit.view ≡ Idle },
+    ghost rests: { IsOut Idle (what permit.view) },
     ghost knows: { mark_of permit.view ≡ length seen.entries },
 }
 
@@ -218,6 +220,29 @@ impl<'a, T> Waiting<'a, T> {
         } else {
             try_with(permit, seen)
         }
+    }
+}
+
+// The exchange of `lock`, for a call that begins or that found the flag clear.
+pub(super) fn try_with<'a, T>(
+    permit: Permit<'a, T, Party, FlagRule>,
+    seen: Watch<Entry<T>>,
+) -> Result<Grant<'a, T>, Waiting<'a, T>>
+    requires { MayTry (what permit.view) × (permit.key.name ≡ seen.name) × (mark_of permit.view ≡ length seen.entries) }
+    ensures { Exchanges (has_begun (what permit.entry.view)) (spot permit.entry seen) result }
+{
+    let free = false;
+    let Some(taken) = flag::lock(free) else {
+        unreachable!()
+    };
+    let (found, permit, seen) = permit.exchange::<Tries>(word(free), word(taken), seen);
+    if is_set(found) {
+        Err(Waiting { permit, seen })
+    } else {
+        Ok(Grant {
+            writer: permit.into_writer(),
+            seen,
+        })
     }
 }
 

@@ -4,7 +4,7 @@ ghost use Rattle.spin_step.specs.Steps.{bit};
 ghost use Rattle.spin_core.specs.Cell.{use_of};
 ghost use Rattle.spin_core.specs.Own.{what};
 ghost use Rattle.spin_core.specs.Values.{untold};
-ghost use Rattle.spin_flag.specs.Flag.{IsFlag, Told, flag_ways, use_of_party, set, looks_by, tries_by, frees_by, tried_by, looked_by};
+ghost use Rattle.spin_flag.specs.Flag.{IsFlag, Told, flag_ways, use_of_party, has_begun, set, looks_by, tries_by, frees_by, tried_by, looked_by};
 
 use spin_core::cell::{Play, Rule, WritePermit};
 use spin_core::guard::{self, Uses};
@@ -70,7 +70,7 @@ impl<T> Play<Opening<T>, Party, Entry<T>> for Attempt {
 pub(super) struct Tries;
 
 impl<T> Play<Opening<T>, Party, Entry<T>> for Tries {
-    ghost told = { λ key old new before. Told key.value (tried_by (what before)) before };
+    ghost told = { λ key old new before. Told key.value (tried_by (has_begun (what before))) before };
 }
 
 /// The load of `lock`.

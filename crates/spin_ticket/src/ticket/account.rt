@@ -2,10 +2,11 @@
 ghost use Rattle.std.specs.Prelude.{◌≡◌, ◌≤◌, Some, None, true, false};
 ghost use Rattle.spin_core.specs.Cell.{use_of, writes};
 ghost use Rattle.spin_core.specs.Own.{what};
-ghost use Rattle.spin_core.specs.Passes.{Nothing};
+ghost use Rattle.spin_core.specs.Passes.{IsOut, Nothing};
+ghost use Rattle.spin_core.specs.Spots.{Since, Stepped};
 ghost use Rattle.spin_step.specs.Tickets.{take};
-ghost use Rattle.spin_ticket.specs.Queue.{use_of_party, stands, IsOut, freed, answers_free, answers_look};
-ghost use Rattle.spin_ticket.specs.Accounts.{here, Since, Stepped, Attempts, HasTicket, Releases};
+ghost use Rattle.spin_ticket.specs.Queue.{use_of_party, model, freed, answers_free, answers_look};
+ghost use Rattle.spin_ticket.specs.Accounts.{here, Attempts, HasTicket, Releases};
 ghost use Rattle.spin_ticket.specs.declared.ticket.rule.View.TheVariants.{Idle, LoadedNext, Trying, LoadedServing};
 ghost use Rattle.spin_model.specs.declared.schedule.Outcome.TheVariants.{GoingOn};
 ghost use Rattle.spin_model.specs.declared.ticket.TicketCall.TheVariants.{TryLock, IsLocked};
@@ -17,8 +18,8 @@ use spin_step::ticket;
 impl<'a, T> Account<'a, T> {
     // Begins a call of `try_lock`. Returns the next number.
     pub(super) fn find_next(self) -> (u64, Account<'a, T>)
-        requires { IsOut (what self.permit.view) }
-        ensures { Stepped false TryLock GoingOn (LoadedNext result.0) (here self.entry) (here result.1) }
+        requires { IsOut Idle (what self.permit.view) }
+        ensures { Stepped model false TryLock GoingOn (LoadedNext result.0) (here self.entry) (here result.1) }
     {
         let Self { permit, seen } = self;
         let (next, permit, seen) = permit.load::<TryLoadNext>(seen);
@@ -28,7 +29,7 @@ impl<'a, T> Account<'a, T> {
     // Continues a call of `try_lock` that found this number next. Returns the number that is served.
     pub(super) fn find_served(self, next: u64) -> (u64, Account<'a, T>)
         requires { what self.permit.view ≡ Some (LoadedNext next) }
-        ensures { Stepped true TryLock (answers_free next result.0) (freed next result.0) (here self.entry) (here result.1) }
+        ensures { Stepped model true TryLock (answers_free next result.0) (freed next result.0) (here self.entry) (here result.1) }
     {
         let Self { permit, seen } = self;
         let (serving, permit, seen) = permit.load_second::<TryLoadServing>(seen);
@@ -57,8 +58,8 @@ impl<'a, T> Account<'a, T> {
 
     // Begins a call of `is_locked`. Returns the number that is served.
     pub(super) fn look_served(self) -> (u64, Account<'a, T>)
-        requires { IsOut (what self.permit.view) }
-        ensures { Stepped false IsLocked GoingOn (LoadedServing result.0) (here self.entry) (here result.1) }
+        requires { IsOut Idle (what self.permit.view) }
+        ensures { Stepped model false IsLocked GoingOn (LoadedServing result.0) (here self.entry) (here result.1) }
     {
         let Self { permit, seen } = self;
         let (serving, permit, seen) = permit.load_second::<LookServing>(seen);
@@ -69,7 +70,7 @@ impl<'a, T> Account<'a, T> {
     pub(super) fn look_next(self, served: u64) -> (u64, Account<'a, T>)
         requires { what self.permit.view ≡ Some (LoadedServing served) }
         ensures order { served ≤ result.0 }
-        ensures step { Stepped true IsLocked (answers_look served result.0) Idle (here self.entry) (here result.1) }
+        ensures step { Stepped model true IsLocked (answers_look served result.0) Idle (here self.entry) (here result.1) }
     {
         let Self { permit, seen } = self;
         let (next, permit, seen) = permit.load::<LookNext>(seen);
@@ -80,7 +81,7 @@ impl<'a, T> Account<'a, T> {
     pub(super) fn find_own(self) -> (u64, Account<'a, T>)
         requires { use_of use_of_party self.permit.view ≡ writes }
         ensures holds { (x : T) → self.entry.permit.value ≡ Some x → HasTicket result.0 x result.1 }
-        ensures since { Since Nothing (here self.entry) (here result.1) }
+        ensures since { Since model Nothing (here self.entry) (here result.1) }
     {
         let Self { permit, seen } = self;
         let (number, permit, seen) = permit.load_second::<FindOwn>(seen);
@@ -90,7 +91,7 @@ impl<'a, T> Account<'a, T> {
     // Releases the lock.
     pub(super) fn serve(self, number: u64) -> Account<'a, T>
         requires { (x : T) × HasTicket number x self }
-        ensures out { stands result.permit.view ≡ Idle }
+        ensures out { IsOut Idle (what result.permit.view) }
         ensures releases { (x : T) → self.entry.permit.value ≡ Some x → Releases x (here self.entry) (here result) }
     {
         let Self { permit, seen } = self;

@@ -3,11 +3,12 @@ ghost use Rattle.std.specs.Prelude.{◌≡◌, ◌⊎◌, ◌≤◌, not, true, 
 ghost use mathlib.Core.List.{IsPrefix};
 ghost use Rattle.spin_core.specs.Guard.{IsHolder, guard_view, guard_key, guard_value};
 ghost use Rattle.spin_core.specs.Own.{what};
-ghost use Rattle.spin_core.specs.Passes.{mark_of};
+ghost use Rattle.spin_core.specs.Passes.{mark_of, IsOut};
+ghost use Rattle.spin_core.specs.Spots.{IsIn, HasCalled};
 ghost use Rattle.spin_core.specs.Values.{IsLast};
-ghost use Rattle.spin_ticket.specs.Queue.{use_of_party, stands, IsOut, Called, Left};
+ghost use Rattle.spin_ticket.specs.Queue.{use_of_party, model, Called, Left};
 ghost use Rattle.spin_ticket.specs.Guards.{Holds};
-ghost use Rattle.spin_ticket.specs.Accounts.{Spot, here, IsIn, HasCalled, GoesFor, Enters, Tries, Gets};
+ghost use Rattle.spin_ticket.specs.Accounts.{Spot, here, GoesFor, Enters, Tries, Gets};
 ghost use Rattle.spin_ticket.specs.declared.ticket.rule.View.TheVariants.{Idle};
 ghost use Rattle.spin_model.specs.declared.answer.Answer.TheVariants.{Granted, Refused, Is};
 ghost use Rattle.spin_model.specs.declared.ticket.TicketCall.{TicketCall};
@@ -51,7 +52,7 @@ pub struct Pass<'a, T, R> {
     seen: Watch<Entry<T>>,
     strategy: PhantomData<R>,
     ghost named: { permit.key.0.name ≡ seen.name },
-    ghost rests: { stands permit.view ≡ Idle },
+    ghost rests: { IsOut Idle (what permit.view) },
     ghost knows: { mark_of permit.view ≡ length seen.entries },
 }
 
@@ -212,8 +213,8 @@ impl<'a, T, R> Pass<'a, T, R> {
 
 // Begins a call of `lock`.
 pub(super) fn go<'a, T>(account: Account<'a, T>) -> Going<'a, T>
-    requires { IsOut (what account.permit.view) }
-    ensures { IsIn Lock (here account.entry) (here result.account) }
+    requires { IsOut Idle (what account.permit.view) }
+    ensures { IsIn model Lock (here account.entry) (here result.account) }
 {
     let Account { permit, seen } = account;
     let (number, permit, seen) = permit.load::<LoadNext>(seen);
@@ -225,7 +226,7 @@ pub(super) fn go<'a, T>(account: Account<'a, T>) -> Going<'a, T>
 
 // Makes a call of `try_lock`.
 fn try_once<'a, T>(account: Account<'a, T>) -> Result<Grant<'a, T>, Account<'a, T>>
-    requires { IsOut (what account.permit.view) }
+    requires { IsOut Idle (what account.permit.view) }
     ensures { Tries (here account.entry) result }
 {
     let (next, account) = account.find_next();
@@ -241,7 +242,7 @@ fn try_once<'a, T>(account: Account<'a, T>) -> Result<Grant<'a, T>, Account<'a, 
 
 impl<'a, T> Grant<'a, T> {
     fn into_guard<R>(self) -> (TicketMutexGuard<'a, T, R>, Watch<Entry<T>>)
-        ensures { (call : TicketCall) (p : Spot T) → HasCalled call Granted p (here self.entry.account) → Gets call p result }
+        ensures { (call : TicketCall) (p : Spot T) → HasCalled model call Granted p (here self.entry.account) → Gets call p result }
     {
         let Self { account } = self;
         let Account { permit, seen } = account;

@@ -1,10 +1,19 @@
-use Rattle.std.proofs.Common.{◌≡◌, Some, true, ap, ◌∙◌, subst}
+use Rattle.std.proofs.Common.{◌≡◌, true, Some, ap, ◌∙◌, subst}
 use mathlib.Core.Logic.{inr}
+use Rattle.spin_core.specs.Cell.{use_of}
+use Rattle.spin_core.specs.Own.{what}
 use Rattle.spin_core.specs.Passes.{mark_of}
-use Rattle.spin_core.specs.Values.{IsLast}
-use Rattle.spin_fair.specs.Fair.{Left}
-use Rattle.spin_fair.proofs.Steps.{frees}
-use Rattle.spin_fair.proofs.Takes.{may_know, leaves, released, left_weaker}
+use Rattle.spin_core.specs.Spots as spots
+use Rattle.spin_core.specs.Spots.{spot}
+use Rattle.spin_core.specs.declared.tie.Opening.{Opening}
+use Rattle.spin_core.proofs.Mutexes.{released}
+use Rattle.spin_core.proofs.Spots.{wrote_any}
+use Rattle.spin_model.specs.declared.answer.Answer.TheVariants.{Done}
+use Rattle.spin_step_more.specs.declared.fair_calls.FairCall.TheVariants.{Release}
+use Rattle.spin_fair.specs.Fair.{model_at, use_of_view}
+use Rattle.spin_fair.specs.Waits.{Spot}
+use Rattle.spin_fair.proofs.Steps.{mutex, frees}
+use Rattle.spin_fair.proofs.Takes.{may_know}
 use Rattle.spin_fair.proofs.fair.FairMutex.unlock.Goals as goal
 
 pub subtract-permit-requires : goal.subtract-permit-requires
@@ -14,23 +23,23 @@ subtract-permit-requires g c =
       rw (it.ensures.same.0, it.ensures.same.1) (frees it.result.key w.view w.value it.ensures.use_of_view),
     )
 
-pub returns-clause-left : goal.returns-clause-left
-returns-clause-left g c =
-    let it = c.into_permit-permit in let w = c.into_writer.result in let s = c.subtract-permit in let held = it.ensures.use_of_view in
-    let last = leaves it.result.key it.result.view s.result.1.view it.result.value s.result.1.value c.args.seen s.result.2 w.view w.value s.result.0 it.ensures.same.0 held it.ensures.same.1 s.ensures.moved s.ensures.found in
-    subst (λ p. IsLast p.key s.result.2.entries p.value) c.into_writer.ensures (subst (λ k. IsLast k s.result.2.entries w.value) it.ensures.key last)
+abbrev Releases : {T : Type 0} → T → Spot T → Spot T → Type 0
+Releases {T} = spots.Releases model_at (λ (opening : Opening T). opening) Release Done
 
-pub returns-clause-wrote : goal.returns-clause-wrote
-returns-clause-wrote g c =
-    let it = c.into_permit-permit in let w = c.into_writer.result in let s = c.subtract-permit in let seen = c.args.seen in let view = it.result.view in let key = it.result.key in
-    let was = it.ensures.same.0 ∙ ap (λ p. Some p.view) c.into_writer.ensures in let held = it.ensures.use_of_view in
+pub returns : goal.returns
+returns g c =
+    let it = c.into_permit-permit in let w = c.into_writer.result in let s = c.subtract-permit in let seen = c.args.seen in let left = c.args.guard.writer in
     let named = ap (λ k. k.name) it.ensures.key ∙ ap (λ p. p.key.name) c.into_writer.ensures ∙ c.requires.0 in
-    let last = leaves key view s.result.1.view it.result.value s.result.1.value seen s.result.2 w.view w.value s.result.0 it.ensures.same.0 held it.ensures.same.1 s.ensures.moved s.ensures.found in
-    let told = released key view s.result.1.view it.result.value s.result.1.value seen s.result.2 w.view w.value s.result.0 it.ensures.same.0 held it.ensures.same.1 s.ensures.moved (ap mark_of was ∙ c.requires.1) named last in
-    subst (λ p. Left p.key.value (λ y. p.key.told ≡ true → y ≡ p.value) (Some p.view) seen.entries s.result.1.view s.result.2.entries) c.into_writer.ensures
-    (subst (λ k. Left k.value (λ y. k.told ≡ true → y ≡ w.value) (Some w.view) seen.entries s.result.1.view s.result.2.entries) it.ensures.key
-    (subst (λ o. Left key.value (λ y. key.told ≡ true → y ≡ w.value) o seen.entries s.result.1.view s.result.2.entries) it.ensures.same.0 told.1))
-
-pub returns-clause-made : goal.returns-clause-made
-returns-clause-made g c = let key = c.args.guard.writer.key in let s = c.subtract-permit.result in
-    left_weaker key.value (λ y. key.told ≡ true → y ≡ c.args.guard.writer.value) (Some c.args.guard.writer.view) s.1.view c.args.seen.entries s.2.entries (returns-clause-wrote g c)
+    let knew = ap mark_of (it.ensures.same.0 ∙ ap (λ p. Some p.view) c.into_writer.ensures) ∙ c.requires.1 in
+    let p = spot it.result seen in let r = spot s.result.1 s.result.2 in
+    let so = released mutex Release Done p r _ s.result.0 (may_know it.result.key seen named) s.ensures.key knew it.result.value s.result.1.value w.value
+    (ap (λ o. use_of use_of_view (what o)) it.ensures.same.0 ∙ it.ensures.use_of_view) it.ensures.same.1 s.ensures.found s.ensures.moved in
+    let of_key = subst (λ k. Releases w.value (k, p.1, seen) r) it.ensures.key so in
+    let of_view = subst (λ o. Releases w.value (w.key, o, seen) r) it.ensures.same.0 of_key in
+    let done = subst (λ w. Releases w.value (w.key, Some w.view, seen) r) c.into_writer.ensures of_view in
+    record {
+      made = (wrote_any model_at Release (left.key, Some left.view, seen) r (λ y. left.key.told ≡ true → y ≡ left.value) Done done.0).0;
+      wrote = done.0.0;
+      left = done.1;
+      same = (done.0.1, done.0.2);
+    }

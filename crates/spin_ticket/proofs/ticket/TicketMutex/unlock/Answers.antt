@@ -1,6 +1,10 @@
 use Rattle.std.proofs.Common.{Some, ◌≡◌, true, subst}
-use Rattle.spin_ticket.specs.Accounts.{here, spot, Releases}
-use Rattle.spin_ticket.proofs.Queue.{left_weaker}
+use Rattle.spin_core.specs.Spots.{spot}
+use Rattle.spin_ticket.specs.Accounts.{here, Releases}
+use Rattle.spin_core.proofs.Spots.{wrote_any}
+use Rattle.spin_model.specs.declared.answer.Answer.TheVariants.{Done}
+use Rattle.spin_model.specs.declared.ticket.TicketCall.TheVariants.{Release}
+use Rattle.spin_ticket.specs.Queue.{model}
 use Rattle.spin_ticket.proofs.Accounts.{released_behind}
 use Rattle.spin_ticket.proofs.ticket.TicketMutex.unlock.Goals as goal
 
@@ -15,8 +19,8 @@ returns g c =
     let done = subst (λ w. Releases w.value (w.key, Some w.view, seen) r) c.into_writer.ensures of_view in
     let left = c.args.guard.writer in
     record {
-      made = left_weaker left.key (λ y. left.key.0.told ≡ true → y ≡ left.value) (Some left.view) r.1 seen.entries r.2.entries done.0.0.0;
-      wrote = done.0.0.0;
+      made = (wrote_any model Release (left.key, Some left.view, seen) r (λ y. left.key.0.told ≡ true → y ≡ left.value) Done done.0).0;
+      wrote = done.0.0;
       left = done.1;
-      same = (done.0.0.1, done.0.1);
+      same = (done.0.1, done.0.2);
     }

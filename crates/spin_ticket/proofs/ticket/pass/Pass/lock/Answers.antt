@@ -1,20 +1,22 @@
 use Rattle.std.proofs.Common.{sym, subst}
 use Rattle.spin_model.specs.declared.answer.Answer.TheVariants.{Granted}
 use Rattle.spin_model.specs.declared.ticket.TicketCall.TheVariants.{Lock}
-use Rattle.spin_ticket.specs.Accounts.{spot, here, IsIn, HasCalled, GoesFor, Enters}
+use Rattle.spin_core.specs.Spots.{spot, IsIn, HasCalled}
+use Rattle.spin_ticket.specs.Accounts.{here, GoesFor, Enters}
 use Rattle.spin_ticket.specs.declared.ticket.waiting.Going.{Going}
 use Rattle.spin_ticket.specs.declared.ticket.waiting.Place.{Place}
 use Rattle.spin_ticket.specs.declared.ticket.waiting.Grant.{Grant}
-use Rattle.spin_ticket.proofs.Accounts.{tried}
+use Rattle.spin_core.proofs.Spots.{tried}
+use Rattle.spin_ticket.specs.Queue.{model}
 use Rattle.spin_ticket.proofs.ticket.pass.Pass.lock.Goals as goal
 use Rattle.spin_ticket.proofs.ticket.pass.Pass.lock.Goals.{in-Ok, in-Err, in-Ok-enter, in-Err-enter}
 
 pub returns : goal.returns
 returns g c =
     let me = c.args.self in let p = spot me.permit me.seen in
-    let Goes : Going g.row.T.Denot → Type 0 = λ going. IsIn Lock p (here going.account) in
-    let Waits : Place g.row.T.Denot → Type 0 = λ place. IsIn Lock p (here place.account) in
-    let Gets : Grant g.row.T.Denot → Type 0 = λ grant. HasCalled Lock Granted p (here grant.account) in
+    let Goes : Going g.row.T.Denot → Type 0 = λ going. IsIn model Lock p (here going.account) in
+    let Waits : Place g.row.T.Denot → Type 0 = λ place. IsIn model Lock p (here place.account) in
+    let Gets : Grant g.row.T.Denot → Type 0 = λ grant. HasCalled model Lock Granted p (here grant.account) in
     let placed : Waits c.match-take.place = elim c.match-take.branch [
       | in-Ok w ↦ subst Waits (sym w.place-is) (w.in-Ok.ensures p c.go.ensures).0
       | in-Err w ↦

@@ -1,7 +1,11 @@
 use Rattle.std.proofs.Common.{Some, ap, ◌∙◌}
 use mathlib.Core.Logic.{inl}
 use Rattle.spin_core.specs.Own.{what}
-use Rattle.spin_ticket.proofs.Queue.{entered_of, found_own, finds_own, serves_next, left_idle, rests, same_shown}
+use Rattle.spin_core.specs.Spots.{spot}
+use Rattle.spin_core.proofs.Mutexes.{rests, ends_out}
+use Rattle.spin_model.specs.declared.answer.Answer.TheVariants.{Done}
+use Rattle.spin_model.specs.declared.ticket.TicketCall.TheVariants.{Release}
+use Rattle.spin_ticket.proofs.Queue.{mutex, entered_of, found_own, finds_own, serves_next, same_shown}
 use Rattle.spin_ticket.proofs.ticket.rule.TicketRuleReleaseParty.release.Goals as goal
 
 pub load_second-number-requires : goal.load_second-number-requires
@@ -20,4 +24,5 @@ store_second-permit-requires g c =
 pub leave-requires : goal.leave-requires
 leave-requires g c =
     let s = c.store_second-permit in let q = c.load_second-number.result.1 in
-    rests s.result.0.key s.result.0.view (left_idle q.key _ c.nothing-2.result s.result.1 q.view s.result.0.view 0 s.ensures.moved)
+    rests (mutex s.result.0.key) s.result.0.view (ends_out mutex Release Done (spot q c.nothing-2.result)
+    (spot s.result.0 s.result.1) _ 0 s.result.0.view s.ensures.moved)

@@ -1,5 +1,10 @@
-use Rattle.spin_ticket.proofs.Queue.{serves_next}
-use Rattle.spin_ticket.proofs.Accounts.{may_know, is_out, releases}
+use Rattle.spin_core.specs.Spots.{spot}
+use Rattle.spin_core.proofs.Mutexes.{ends_out}
+use Rattle.spin_model.specs.declared.answer.Answer.TheVariants.{Done}
+use Rattle.spin_model.specs.declared.ticket.TicketCall.TheVariants.{Release}
+use Rattle.spin_ticket.specs.Accounts.{here}
+use Rattle.spin_ticket.proofs.Queue.{mutex, serves_next}
+use Rattle.spin_ticket.proofs.Accounts.{may_know, releases}
 use Rattle.spin_ticket.proofs.ticket.waiting.Account.serve.Goals as goal
 
 pub store_second-permit-requires : goal.store_second-permit-requires
@@ -9,9 +14,9 @@ store_second-permit-requires g c =
 
 pub returns-clause-out : goal.returns-clause-out
 returns-clause-out g c =
-    let s = c.store_second-permit in is_out c.args.self s.result.0 s.result.1 s.ensures.key c.requires.0 s.ensures.moved
+    let s = c.store_second-permit in ends_out mutex Release Done (here c.args.self) (spot s.result.0 s.result.1) _ 0 s.result.0.view s.ensures.moved
 
 pub returns-clause-releases : goal.returns-clause-releases
 returns-clause-releases g c x here =
-    let s = c.store_second-permit in let own = c.requires.1.1 in
-    releases c.args.self s.result.0 s.result.1 s.ensures.key x s.ensures.moved c.args.number own here s.ensures.found
+    let s = c.store_second-permit in
+    releases c.args.self s.result.0 s.result.1 s.ensures.key x c.args.number c.requires.1.1 here s.ensures.found s.ensures.moved

@@ -1,9 +1,11 @@
 use Rattle.std.proofs.Common.{true}
 use Rattle.spin_model.specs.declared.ticket.TicketCall.TheVariants.{Lock}
-use Rattle.spin_ticket.specs.Accounts.{spot, here}
-use Rattle.spin_ticket.specs.Queue.{goes_on, taken}
+use Rattle.spin_core.specs.Spots.{spot}
+use Rattle.spin_ticket.specs.Accounts.{here}
+use Rattle.spin_ticket.specs.Queue.{model, goes_on, taken}
 use Rattle.spin_ticket.proofs.Queue.{takes}
-use Rattle.spin_ticket.proofs.Accounts.{may_know, stepped, stays_in}
+use Rattle.spin_core.proofs.Spots.{stays_in}
+use Rattle.spin_ticket.proofs.Accounts.{may_know, stepped}
 use Rattle.spin_ticket.proofs.ticket.waiting.Going.take.Goals as goal
 
 pub returns-in_default : goal.returns-in_default
@@ -18,10 +20,10 @@ pub returns-then-found-number : goal.returns-then-found-number
 returns-then-found-number g c p is_in =
     let me = c.args.self.account in let f = c.exchange-found in let to = taken c.args.self.number in
     let step = stepped me f.result.0 f.result.1 f.result.2 f.ensures.key true Lock goes_on to f.ensures.moved in
-    (stays_in Lock p (here me) (spot f.result.1 f.result.2) is_in step.0, tt)
+    (stays_in model Lock p (here me) (spot f.result.1 f.result.2) is_in step.0, tt)
 
 pub returns-else-found-number : goal.returns-else-found-number
 returns-else-found-number g c p is_in =
     let me = c.args.self.account in let f = c.exchange-found in let to = taken c.args.self.number in
     let step = stepped me f.result.0 f.result.1 f.result.2 f.ensures.key true Lock goes_on to f.ensures.moved in
-    (tt, stays_in Lock p (here me) (spot f.result.1 f.result.2) is_in step.0)
+    (tt, stays_in model Lock p (here me) (spot f.result.1 f.result.2) is_in step.0)

@@ -1,5 +1,5 @@
 use Rattle.spin_core.proofs.Values.{read_on}
-use Rattle.spin_flag.proofs.laws.a_guard_reads_the_last_value_written.Goals as goal
+use Rattle.spin_core.proofs.laws.a_guard_reads_the_last_value_written.Goals as goal
 
 pub returns : goal.returns
 returns g c = λ opening old new more x y. read_on opening old new more x y

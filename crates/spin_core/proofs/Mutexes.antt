@@ -1,0 +1,231 @@
+-- A mutex whose trace is a schedule of its model: how the steps of its parties keep the rule, and what they tell.
+use Rattle.std.proofs.Common.{◌≡◌, ℕ, Bool, true, false, List, [], Option, Some, None, length, refl, sym, ap, ◌∙◌, subst}
+use mathlib.Core.Logic.{inr}
+use Rattle.spin_core.specs.Cell.{Use, off, writes, alone, Ways, no_fact, use_of, AllowsAt, AllowsSecondAt, Meets, Moved, Rests}
+use Rattle.spin_core.specs.Own.{Numbered, Runs, Tells, what}
+use Rattle.spin_core.specs.Passes.{IsOut, Ending, Says, IsStep, WritesSome, step_by, leaves_by, mark_of}
+use Rattle.spin_core.specs.Spots.{Spot, Releases}
+use Rattle.spin_core.specs.Run.{AreMoves, sits, on_first, on_second, first, second}
+use Rattle.spin_core.specs.Traced.{Traces, TracesSecond, Watches, Named, MayKnow, Found}
+use Rattle.spin_core.specs.Values.{Leaves, IsLast, last}
+use Rattle.spin_core.specs.declared.tie.Opening.{Opening}
+use Rattle.spin_core.specs.declared.trace.Trace.{Trace}
+use Rattle.spin_core.specs.declared.trace.Watch.{Watch}
+use Rattle.spin_core.proofs.Passes as passes
+use Rattle.spin_core.proofs.Passes.{Learnt}
+use Rattle.spin_core.proofs.Plays.{Lock, Holds, idle_rests}
+use Rattle.spin_core.proofs.Ties as tie
+use Rattle.spin_core.proofs.Values.{steps_leave, write_leaves, owed, found, gave, wrote}
+use Rattle.spin_model.specs.declared.answer.Answer.{Answer}
+use Rattle.spin_model.specs.declared.place.Seat.{Seat}
+use Rattle.spin_model.specs.declared.place.Seat.TheVariants.{Idle}
+use Rattle.spin_model.specs.declared.schedule.Move.{Move}
+use Rattle.spin_model.specs.declared.schedule.Outcome.TheVariants.{Answered}
+use Rattle.spin_model.specs.Machines.{Machine}
+use Rattle.spin_model.specs.Schedules.{Entry}
+
+-- what holds of a new party holds of each one that is out
+pub as_new : {X Y : Type 0} (idle : X) (f : Option X → Y) → f (Some idle) ≡ f None → (view : Option X) → IsOut idle view → f view ≡ f None
+as_new idle f same None out = refl
+as_new idle f same (Some v) out = ap (λ w. f (Some w)) out ∙ same
+
+-- A mutex with its model, as it opened: where each party sits in the model, and which words those of the model are
+pub record Mutex (W V C L X S : Type 0) : Type 1 where
+  pub plain : Lock X S
+  pub model : Machine W V C L (Answer V)
+  pub seat_of : X → Seat C L
+  pub words_of : W → ℕ × S
+  pub opening : Opening V
+  pub idle_sits : seat_of plain.idle ≡ Idle
+
+module _ {W V C L X S : Type 0} (lock : Mutex W V C L X S) where
+  open lock use {plain, model, seat_of, words_of, opening}
+  open plain use {uses, idle}
+
+  -- the rule, and how parties use the value
+  abbrev pub Rule : ℕ → Trace (Entry C V) S → List (Numbered X) → Type 0
+  Rule = Runs model seat_of words_of (Holds plain) opening.name
+
+  abbrev plain_ways : Ways V X S
+  plain_ways = (alone, uses, no_fact)
+
+  abbrev pub own_ways : Ways V (Numbered X) (Trace (Entry C V) S)
+  own_ways = (alone, λ v. uses v.0, last opening)
+
+  abbrev pub Told : Says V C (Answer V) X → Option (Numbered X) → List (Entry C V) → List (Entry C V) → ℕ → Numbered X → Type 0
+  Told = Tells model seat_of words_of
+
+  abbrev pub Keeps : Option (Numbered X) → Option V → (ℕ → ℕ) → Says V C (Answer V) X → Type 0
+  Keeps view shown g says = Traces Rule own_ways view shown g (Told says view)
+
+  -- these moves write nothing, or what a writer leaves
+  abbrev pub Leaving : Option X → Option V → Says V C (Answer V) X → Type 0
+  Leaving view shown says = (own : List (Move C V)) (outs : List (Ending V)) (n : ℕ) (u : X) → says own outs n u → Leaves (use_of uses view) (uses u) shown own
+
+  abbrev pub Moves : Option X → (ℕ → ℕ) → (ℕ → X → Type 0) → Says V C (Answer V) X → Type 0
+  Moves view g = AreMoves model seat_of words_of view (on_first g) first
+
+  -- A party that is out
+
+  pub out_off : (view : Option X) → IsOut idle view → use_of uses view ≡ off
+  out_off = as_new idle (use_of uses) plain.is_idle.1
+
+  -- it makes the moves of a new one
+  pub out_moves : (view : Option X) → IsOut idle view → (g : ℕ → ℕ) (to : ℕ → X → Type 0) (says : Says V C (Answer V) X) → Moves None g to says
+      → Moves view g to says
+  out_moves view out g to says moves w value u so = let is = as_new idle (sits model seat_of words_of) lock.idle_sits view out in rw is (moves w value u so)
+
+  pub is_named : (seen : Watch (Entry C V)) → opening.name ≡ seen.name → Named Rule own_ways seen.name
+  is_named seen = passes.may_know Rule own_ways opening.name (λ n t vs is. is.0) seen.name
+
+  pub may_know : (seen : Watch (Entry C V)) → opening.name ≡ seen.name → MayKnow Rule own_ways seen
+  may_know seen same = inr (is_named seen same)
+
+  pub starts : (n : ℕ) (t : Trace (Entry C V) S) → t.name ≡ opening.name → t.entries ≡ [] → (n, t.word) ≡ words_of model.words
+      → Meets (Holds plain) plain_ways n t.word [] → Meets Rule own_ways n t []
+  starts = tie.opens model seat_of words_of (Holds plain) opening.name V alone uses (last opening)
+
+  pub rests : (view : Option (Numbered X)) → IsOut idle (what view) → Rests Rule (λ v. uses v.0) view
+  rests None out = tt
+  rests (Some v) out =
+      tie.rests model seat_of words_of (Holds plain) opening.name V alone uses (last opening) v (ap seat_of out ∙ lock.idle_sits) (idle_rests plain v.0 out)
+
+  -- A step keeps the rule, if the plain lock allows it, and the model has moves for it
+
+  pub keeps : (view : Option (Numbered X)) (shown : Option V) (g : ℕ → ℕ) (then : ℕ → X → Type 0) (says : Says V C (Answer V) X)
+      → Leaving (what view) shown says → Moves (what view) g then says
+      → AllowsAt (Holds plain) plain_ways (what view) None g then → Keeps view shown g says
+  keeps view shown g then says leaves moves allowed =
+      tie.traces model seat_of words_of (Holds plain) opening.name V alone uses (last opening) view shown g then says moves
+      (λ own outs n u said t word p. owed opening own t word p (use_of uses (what view)) (uses u) shown (leaves own outs n u said)) allowed
+
+  -- a step of a call, by a party that does not use the value
+  pub steps : (view : Option X) (shown : Option V) → use_of uses view ≡ off → (goes_on : Bool) (c : C) (end : ℕ → Ending V) (to : ℕ → X)
+      → Leaving view shown (step_by goes_on c end to)
+  steps view shown unused goes_on c end to own outs n u said = steps_leave (use_of uses view) (uses u) shown unused goes_on c (end n) own outs said.1
+
+  pub in_call : (view : Option (Numbered X)) (shown : Option V) → use_of uses (what view) ≡ off
+      → (g : ℕ → ℕ) (goes_on : Bool) (c : C) (end : ℕ → Ending V) (to : ℕ → X)
+      → Moves (what view) g (λ n v. v ≡ to n) (step_by goes_on c end to) → AllowsAt (Holds plain) plain_ways (what view) None g (λ n v. v ≡ to n)
+      → Keeps view shown g (step_by goes_on c end to)
+  in_call view shown unused g goes_on c end to =
+      keeps view shown g (λ n v. v ≡ to n) (step_by goes_on c end to) (steps (what view) shown unused goes_on c end to)
+
+  pub begins : (view : Option (Numbered X)) (shown : Option V) → IsOut idle (what view) → (g : ℕ → ℕ) (c : C) (end : ℕ → Ending V) (to : ℕ → X)
+      → Moves None g (λ n v. v ≡ to n) (step_by false c end to) → AllowsAt (Holds plain) plain_ways (what view) None g (λ n v. v ≡ to n)
+      → Keeps view shown g (step_by false c end to)
+  begins view shown out g c end to moves =
+      in_call view shown (out_off (what view) out) g false c end to (out_moves (what view) out g (λ n v. v ≡ to n) (step_by false c end to) moves)
+
+  -- The holder writes the value that it leaves, and is out
+
+  pub leaving : (view : Option X) (shown : Option V) (x : V) (c : C) (a : Answer V) → use_of uses view ≡ writes → shown ≡ Some x
+      → Leaving view shown (leaves_by (λ y. y ≡ x) c a idle)
+  leaving view shown x c a held here own outs n u (stays, (y, is, by)) =
+      subst (λ (z : Use × Use × Option V). Leaves z.0 z.1 z.2 own) (λ i. (sym held i, sym (ap uses stays ∙ plain.is_idle.1) i, sym here i))
+      (λ v. write_leaves y false c (Answered a None) own outs by v ∙ is)
+
+  pub releases : (view : Option (Numbered X)) (shown : Option V) (x : V) (c : C) (a : Answer V) → use_of uses (what view) ≡ writes → shown ≡ Some x
+      → (g : ℕ → ℕ) (then : ℕ → X → Type 0)
+      → Moves (what view) g then (leaves_by (λ y. y ≡ x) c a idle) → AllowsAt (Holds plain) plain_ways (what view) None g then
+      → Keeps view shown g (leaves_by (λ y. Unit {0}) c a idle)
+  releases view shown x c a held here g then moves allowed =
+      tie.tells_less model seat_of words_of view (leaves_by (λ y. y ≡ x) c a idle) (leaves_by (λ y. Unit {0}) c a idle)
+      (λ own outs n u (stays, (y, is, by)). (stays, (y, tt, by))) Rule own_ways shown g
+      (keeps view shown g then (leaves_by (λ y. y ≡ x) c a idle) (leaving (what view) shown x c a held here) moves allowed)
+
+-- What a party learns of the value by a step
+module _ {W V C L X S : Type 0} (lock : Mutex W V C L X S) (view view' : Option (Numbered X)) (before after : Option V) (seen : Watch (Entry C V)) (x : V)
+    (known : Found (own_ways lock) view view' before after seen) where
+  open lock use {plain, opening}
+  open plain use {uses}
+
+  abbrev uses_of : Option (Numbered X) → Use
+  uses_of = use_of (λ v. uses v.0)
+
+  pub finds : use_of uses (what view) ≡ off → after ≡ Some x → IsLast opening seen.entries x
+  finds unused = found opening (uses_of view) (uses_of view') before after seen.entries x known (sym (tie.same_use uses view) ∙ unused)
+
+  leaves : use_of uses (what view) ≡ writes → use_of uses (what view') ≡ off → before ≡ Some x → IsLast opening seen.entries x
+  leaves held left =
+      gave opening (uses_of view) (uses_of view') before after seen.entries x known (sym (tie.same_use uses view) ∙ held)
+      (sym (tie.same_use uses view') ∙ left)
+
+-- A holder that releases its lock by one step wrote the value that it left. The model is by the key of the lock.
+module _ {K W V C L X S : Type 0} (lock : K → Mutex W V C L X S) (c : C) (a : Answer V) (p q : Spot K X (Entry C V)) (named : Type 0) (n : ℕ) where
+  open lock p.0 use {plain, model, seat_of, words_of, opening}
+  open plain use {uses, idle}
+
+  abbrev Step : (V → Type 0) → Option (Numbered X) → Type 0
+  Step Q w = Moved (Watches named p.2 q.2 (Told (lock p.0) (leaves_by Q c a idle) p.1) n) w
+
+  -- if the trace tells values, this one
+  abbrev IsIt : V → V → Type 0
+  IsIt x y = opening.told ≡ true → y ≡ x
+
+  -- it is out
+  pub ends_out : (w : Option (Numbered X)) → Step (λ y. Unit {0}) w → IsOut idle (what w)
+  ends_out None moved = absurd moved
+  ends_out (Some v) moved = moved.1.4.6.0
+
+  pub released : named → q.0 ≡ p.0 → mark_of p.1 ≡ length p.2.entries → (shown shown' : Option V) (x : V) → use_of uses (what p.1) ≡ writes
+      → shown ≡ Some x → Found (own_ways (lock p.0)) p.1 q.1 shown shown' q.2 → Step (λ y. Unit {0}) q.1
+      → Releases (λ k. (lock k).model) (λ k. (lock k).opening) c a x p q
+  released is_named same knew shown shown' x held here known moved =
+      let left = as_new idle (use_of uses) plain.is_idle.1 (what q.1) (ends_out q.1 moved) in
+      let is = leaves (lock p.0) p.1 q.1 shown shown' q.2 x known held left here in
+      let told = passes.learnt model seat_of words_of (leaves_by (IsIt x) c a idle) (λ n. idle) (λ n. WritesSome (IsIt x) (IsStep false c (Answered a None)))
+      (λ own outs n u said. said) named is_named p.1 q.1 p.2 q.2 n knew (exactly is q.1 moved) in
+      ((passes.whole_behind model p.1 q.1 p.2.entries q.2.entries (IsIt x) c a told.made, told.named, same), is)
+    where
+      exactly : IsLast opening q.2.entries x → (w : Option (Numbered X)) → Step (λ y. Unit {0}) w → Step (IsIt x) w
+      exactly is None made = absurd made
+      exactly is (Some w) (named, (log, es, known, grew, (own, outs, mine, mark, none, alike, (stays, (y, any, by))))) =
+          let so = wrote opening log es q.2.entries w.1 own x y grew mine (write_leaves y false c (Answered a None) own outs by) is in
+          (named, (log, es, known, grew, (own, outs, mine, mark, none, alike, (stays, (y, so, by)))))
+
+-- the same for steps on a second word
+module _ {W V C L X : Type 0} (lock : Mutex W V C L X ℕ) where
+  open lock use {plain, model, seat_of, words_of, opening}
+  open plain use {uses, idle}
+
+  abbrev pub KeepsSecond : Option (Numbered X) → Option V → (ℕ → ℕ) → Says V C (Answer V) X → Type 0
+  KeepsSecond view shown g says = TracesSecond (Rule lock) (own_ways lock) view shown g (Told lock says view)
+
+  abbrev pub MovesSecond : Option X → (ℕ → ℕ) → (ℕ → X → Type 0) → Says V C (Answer V) X → Type 0
+  MovesSecond view g = AreMoves model seat_of words_of view (on_second g) second
+
+  out_moves_second : (view : Option X) → IsOut idle view → (g : ℕ → ℕ) (to : ℕ → X → Type 0) (says : Says V C (Answer V) X) → MovesSecond None g to says
+      → MovesSecond view g to says
+  out_moves_second view out g to says moves w value u so =
+      let is = as_new idle (sits model seat_of words_of) lock.idle_sits view out in rw is (moves w value u so)
+
+  pub keeps_second : (view : Option (Numbered X)) (shown : Option V) (g : ℕ → ℕ) (then : ℕ → X → Type 0) (says : Says V C (Answer V) X)
+      → Leaving lock (what view) shown says → MovesSecond (what view) g then says
+      → AllowsSecondAt (Holds plain) (plain_ways lock) (what view) None g then → KeepsSecond view shown g says
+  keeps_second view shown g then says leaves moves allowed =
+      tie.traces_second model seat_of words_of (Holds plain) opening.name V alone uses (last opening) view shown g then says moves
+      (λ own outs n u said t word p. owed opening own t word p (use_of uses (what view)) (uses u) shown (leaves own outs n u said)) allowed
+
+  pub in_call_second : (view : Option (Numbered X)) (shown : Option V) → use_of uses (what view) ≡ off
+      → (g : ℕ → ℕ) (goes_on : Bool) (c : C) (end : ℕ → Ending V) (to : ℕ → X)
+      → MovesSecond (what view) g (λ n v. v ≡ to n) (step_by goes_on c end to)
+      → AllowsSecondAt (Holds plain) (plain_ways lock) (what view) None g (λ n v. v ≡ to n) → KeepsSecond view shown g (step_by goes_on c end to)
+  in_call_second view shown unused g goes_on c end to =
+      keeps_second view shown g (λ n v. v ≡ to n) (step_by goes_on c end to) (steps lock (what view) shown unused goes_on c end to)
+
+  pub begins_second : (view : Option (Numbered X)) (shown : Option V) → IsOut idle (what view) → (g : ℕ → ℕ) (c : C) (end : ℕ → Ending V) (to : ℕ → X)
+      → MovesSecond None g (λ n v. v ≡ to n) (step_by false c end to) → AllowsSecondAt (Holds plain) (plain_ways lock) (what view) None g (λ n v. v ≡ to n)
+      → KeepsSecond view shown g (step_by false c end to)
+  begins_second view shown out g c end to moves =
+      in_call_second view shown (out_off lock (what view) out) g false c end to
+      (out_moves_second (what view) out g (λ n v. v ≡ to n) (step_by false c end to) moves)
+
+  pub releases_second : (view : Option (Numbered X)) (shown : Option V) (x : V) (c : C) (a : Answer V) → use_of uses (what view) ≡ writes → shown ≡ Some x
+      → (g : ℕ → ℕ) (then : ℕ → X → Type 0)
+      → MovesSecond (what view) g then (leaves_by (λ y. y ≡ x) c a idle) → AllowsSecondAt (Holds plain) (plain_ways lock) (what view) None g then
+      → KeepsSecond view shown g (leaves_by (λ y. Unit {0}) c a idle)
+  releases_second view shown x c a held here g then moves allowed =
+      tie.tells_less_second model seat_of words_of view (leaves_by (λ y. y ≡ x) c a idle) (leaves_by (λ y. Unit {0}) c a idle)
+      (λ own outs n u (stays, (y, is, by)). (stays, (y, tt, by))) (Rule lock) (own_ways lock) shown g
+      (keeps_second view shown g then (leaves_by (λ y. y ≡ x) c a idle) (leaving lock (what view) shown x c a held here) moves allowed)

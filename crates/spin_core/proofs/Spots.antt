@@ -1,0 +1,78 @@
+-- What a step tells a party that knows the lock's history, and what the steps of a call make together.
+use Rattle.std.proofs.Common.{◌≡◌, ℕ, Bool, true, false, Some, None, List, length, ◌∙◌, subst}
+use Rattle.std.specs.Prelude.{Result, Ok, Err, IfOk, IfErr}
+use Rattle.spin_core.specs.Cell.{Moved}
+use Rattle.spin_core.specs.Own.{Tells, what}
+use Rattle.spin_core.specs.Passes.{Course, Says, IsStep, IsCall, WritesSome, Made, step_by, mark_of}
+use Rattle.spin_core.specs.Retries.{Succeeds}
+use Rattle.spin_core.specs.Spots.{Spot, Since, Stepped, IsIn, HasCalled}
+use Rattle.spin_core.specs.Traced.{Watches}
+use Rattle.spin_core.proofs.Passes as passes
+use Rattle.spin_core.proofs.Retries.{handed}
+use Rattle.spin_model.specs.declared.place.Seat.{Seat}
+use Rattle.spin_model.specs.declared.schedule.Move.{Move}
+use Rattle.spin_model.specs.declared.schedule.Outcome.{Outcome}
+use Rattle.spin_model.specs.declared.schedule.Outcome.TheVariants.{Answered, GoingOn}
+use Rattle.spin_model.specs.Machines.{Machine}
+use Rattle.spin_model.specs.Schedules.{Entry}
+
+module _ {K W V C L A X S : Type 0} (model : K → Machine W V C L A) (seat_of : X → Seat C L) (words_of : W → ℕ × S) (p q : Spot K X (Entry C V))
+    (same : q.0 ≡ p.0) (knew : mark_of p.1 ≡ length p.2.entries) where
+  -- the play of the step says this of its moves
+  pub took : {named : Type 0} → named → (found : ℕ) (says : Says V C A X) (to : ℕ → X) (course : ℕ → Course V C A)
+      → ((own : List (Move C V)) (outs : List (Outcome A V)) (n : ℕ) (v : X) → says own outs n v → (v ≡ to n) × course n own outs)
+      → Moved (Watches named p.2 q.2 (Tells (model p.0) seat_of words_of says p.1) found) q.1 → Since model (course found) p q × (what q.1 ≡ Some (to found))
+  took {named = named} is_named found says to course means moved =
+      let told = passes.learnt (model p.0) seat_of words_of says to course means named is_named p.1 q.1 p.2 q.2 found knew moved in
+      ((told.made, told.named, same), told.is)
+
+  pub stepped : {named : Type 0} → named → (found : ℕ) (goes_on : Bool) (c : C) (end : ℕ → Outcome A V) (to : ℕ → X)
+      → Moved (Watches named p.2 q.2 (Tells (model p.0) seat_of words_of (step_by goes_on c end to) p.1) found) q.1
+      → Stepped model goes_on c (end found) (to found) p q
+  stepped is_named found goes_on c end to = took is_named found (step_by goes_on c end to) to (λ n. IsStep goes_on c (end n)) (λ own outs n v said. said)
+
+-- One step of a call after another
+module _ {K W V C L A X : Type 0} (model : K → Machine W V C L A) (c : C) (p q : Spot K X (Entry C V)) where
+  -- a step that begins the call and answers it, or does not
+  pub in_one : (a : A) → Since model (IsStep false c (Answered a None)) p q → HasCalled model c a p q
+  in_one a (made, named, same) = (passes.whole (model p.0) p.1 q.1 p.2.entries q.2.entries c a made, named, same)
+
+  pub comes_in : Since model (IsStep false c GoingOn) p q → IsIn model c p q
+  comes_in (made, named, same) = (passes.begins (model p.0) p.1 q.1 p.2.entries q.2.entries c made, named, same)
+
+  -- whatever it wrote before
+  pub wrote_any : (Q : V → Type 0) (a : A) → Since model (WritesSome Q (IsCall c a)) p q → Since model (WritesSome (λ y. Unit {0}) (IsCall c a)) p q
+  wrote_any Q a (made, named, same) = (
+    passes.weaker (model p.0) p.1 q.1 p.2.entries q.2.entries (WritesSome Q (IsCall c a)) (WritesSome (λ y. Unit {0}) (IsCall c a))
+        (λ own outs (y, so, by). (y, tt, by)) made,
+    named,
+    same,
+  )
+
+  module _ (r : Spot K X (Entry C V)) (first : IsIn model c p q) where
+    -- a step of the same lock
+    in_lock : (course : Course V C A) → Since model course q r → Made (model p.0) q.1 q.2.entries r.1 r.2.entries course
+    in_lock course step = subst (λ k. Made (model k) q.1 q.2.entries r.1 r.2.entries course) first.2 step.0
+
+    pub stays_in : Since model (IsStep true c GoingOn) q r → IsIn model c p r
+    stays_in step = (
+      passes.call_waits (model p.0) p.1 q.1 r.1 p.2.entries q.2.entries r.2.entries c first.0
+          (passes.goes (model p.0) q.1 r.1 q.2.entries r.2.entries c (in_lock (IsStep true c GoingOn) step)),
+      step.1 ∙ first.1,
+      step.2 ∙ first.2,
+    )
+
+    pub is_answered : (a : A) → Since model (IsStep true c (Answered a None)) q r → HasCalled model c a p r
+    is_answered a step = (
+      passes.call_ends (model p.0) p.1 q.1 r.1 p.2.entries q.2.entries r.2.entries c a first.0
+          (passes.ends (model p.0) q.1 r.1 q.2.entries r.2.entries c a (in_lock (IsStep true c (Answered a None)) step)),
+      step.1 ∙ first.1,
+      step.2 ∙ first.2,
+    )
+
+-- what an attempt makes of what holds before it, the last one has made
+pub tried : {S A : Type 0} (attempts : S → Result A S → Type 0) (P : S → Type 0) (Q : A → Type 0)
+    → ((s : S) (r : Result A S) → attempts s r → P s → IfOk r Q × IfErr r P)
+    → (first : S) (answer : A) → Succeeds attempts first answer → P first → Q answer
+tried attempts P Q so first answer (n, last, fails, wins) before =
+    (so last (Ok answer) wins (handed attempts P (λ x y failed now. (so x (Err y) failed now).1) n first last fails before)).0

@@ -1,0 +1,42 @@
+-- What a party has done from one of its steps to a later one, in one lock.
+use Rattle.std.specs.Prelude.{◌≡◌, Bool, true, Option, Some}
+use Rattle.spin_model.specs.declared.schedule.Outcome.{Outcome}
+use Rattle.spin_model.specs.Machines.{Machine}
+use Rattle.spin_model.specs.Schedules.{Entry}
+use Rattle.spin_core.specs.Own.{Numbered, what}
+use Rattle.spin_core.specs.Passes.{Course, Made, IsCall, IsStep, Begins, Waits, WritesSome}
+use Rattle.spin_core.specs.Values.{IsLast}
+use Rattle.spin_core.specs.declared.cell.Permit.{Permit}
+use Rattle.spin_core.specs.declared.tie.Opening.{Opening}
+use Rattle.spin_core.specs.declared.trace.Watch.{Watch}
+
+-- where a party is: the key of its lock, its view, and what it knows of the trace
+abbrev pub Spot : (K X E : Type 0) → Type 0
+Spot K X E = K × Option (Numbered X) × Watch E
+
+abbrev pub spot : {T P K X E S : Type 0} → Permit T (Numbered X) P K S → Watch E → Spot K X E
+spot permit seen = (permit.key, permit.view, seen)
+
+-- Of locks that run this model, by their key
+module _ {K W V C L A X : Type 0} (model : K → Machine W V C L A) where
+  -- between the two spots the party has made exactly the moves of this course, in one lock
+  abbrev pub Since : Course V C A → Spot K X (Entry C V) → Spot K X (Entry C V) → Type 0
+  Since course p q = Made (model p.0) p.1 p.2.entries q.1 q.2.entries course × (q.2.name ≡ p.2.name) × (q.0 ≡ p.0)
+
+  -- it has made one step of this call, with this outcome, and now has this view
+  abbrev pub Stepped : Bool → C → Outcome A V → X → Spot K X (Entry C V) → Spot K X (Entry C V) → Type 0
+  Stepped goes_on call end view p q = Since (IsStep goes_on call end) p q × (what q.1 ≡ Some view)
+
+  -- it is in this call, which it began there
+  abbrev pub IsIn : C → Spot K X (Entry C V) → Spot K X (Entry C V) → Type 0
+  IsIn call = Since (Begins call Waits)
+
+  -- it has made exactly this call, with this answer
+  abbrev pub HasCalled : C → A → Spot K X (Entry C V) → Spot K X (Entry C V) → Type 0
+  HasCalled call answer = Since (IsCall call answer)
+
+-- and that open so, by their key
+module _ {K W V C L A X : Type 0} (model : K → Machine W V C L A) (opening : K → Opening V) where
+  -- the holder has written this value, which is now the one written last, and made this call
+  abbrev pub Releases : C → A → V → Spot K X (Entry C V) → Spot K X (Entry C V) → Type 0
+  Releases call answer x p q = Since model (WritesSome (λ y. (opening p.0).told ≡ true → y ≡ x) (IsCall call answer)) p q × IsLast (opening p.0) q.2.entries x
