@@ -107,16 +107,19 @@ module _ {T : Type 0} (opening : Opening T) where
     still_last read gone = read_last opening (use_of use_of_party view) (use_of use_of_party view') before after seen.entries known (sym (tie.same_use use_of_view view) ∙ read) (sym (tie.same_use use_of_view view') ∙ gone)
 
     -- to a writer that reads on, and to one that has gone
-    module _ (x : T) (here : before ≡ Some x) (key : Opening T) (same : opening ≡ key) where
-      pub left_reading : use_of use_of_view (what view') ≡ reads → IsLast key seen.entries x
-      left_reading on =
-          let reads_on = sym (tie.same_use use_of_view view') ∙ on in
-          let still = subst (λ (z : Use × Option T). Shows z.0 z.1 after) (λ i. (reads_on i, here i)) kept.0 in
-          subst (λ k. IsLast k seen.entries x) same (is_there (λ y. IsLast opening seen.entries y) after x (sym still) (shown_last (λ e. reads_on)))
+    module _ (x : T) (here : before ≡ Some x) where
+      pub still_shown : use_of use_of_view (what view') ≡ reads → after ≡ Some x
+      still_shown on = subst (λ (z : Use × Option T). Shows z.0 z.1 after) (λ i. ((sym (tie.same_use use_of_view view') ∙ on) i, here i)) kept.0
 
-      pub left_gone : use_of use_of_party view ≡ writes → use_of use_of_view (what view') ≡ off → IsLast key seen.entries x
-      left_gone held gone =
-          subst (λ k. IsLast k seen.entries x) same (gave opening (use_of use_of_party view) (use_of use_of_party view') before after seen.entries x known held (sym (tie.same_use use_of_view view') ∙ gone) here)
+      module _ (key : Opening T) (same : opening ≡ key) where
+        pub left_reading : use_of use_of_view (what view') ≡ reads → IsLast key seen.entries x
+        left_reading on =
+            let last = shown_last (λ e. sym (tie.same_use use_of_view view') ∙ on) in
+            subst (λ k. IsLast k seen.entries x) same (is_there (λ y. IsLast opening seen.entries y) after x (sym (still_shown on)) last)
+
+        pub left_gone : use_of use_of_party view ≡ writes → use_of use_of_view (what view') ≡ off → IsLast key seen.entries x
+        left_gone held gone =
+            subst (λ k. IsLast k seen.entries x) same (gave opening (use_of use_of_party view) (use_of use_of_party view') before after seen.entries x known held (sym (tie.same_use use_of_view view') ∙ gone) here)
 
 -- what was written, whatever it was
 pub wrote_some : {T : Type 0} (v₀ : T) (Q : T → Type 0) (call : RwCall) (view view' : Option (Numbered View)) (old new : List (Done T)) → Wrote v₀ Q call view old view' new → Wrote v₀ (λ x. Unit {0}) call view old view' new

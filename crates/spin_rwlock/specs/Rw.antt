@@ -1,11 +1,11 @@
 -- The rule of a read-write lock. Its word is that of a plain lock whose holders are its parties. Its trace is a
 -- schedule of the lock's model, which leads there.
 use Rattle.std.specs.Prelude.{◌≡◌, ◌≢◌, ◌⊎◌, ℕ, List, [], ◌∷◌, Bool, true, false, Option, Some, None, is_some, ◌==◌, if◌then◌else◌, map}
-use Rattle.spin_step.specs.Plain.{Plain, reading, upgradable, asking, writing, Ask, to_read, to_read_upgradable, rw_word}
+use Rattle.spin_step.specs.Plain.{Plain, reading, upgradable, asking, writing, weight, Ask, to_read, to_read_upgradable, rw_word}
 use Rattle.spin_step.specs.Orders.{IsInOrder}
 use Rattle.spin_step_more.specs.Readers.{reader_limit, readers_in, read, read_upgradable}
 use Rattle.spin_step_more.specs.declared.rw_calls.RwCall.{RwCall}
-use Rattle.spin_step_more.specs.declared.rw_calls.RwCall.TheVariants.{TryRead, Read, TryUpgradeableRead, UpgradeableRead, Write, ReaderCount, Upgrade}
+use Rattle.spin_step_more.specs.declared.rw_calls.RwCall.TheVariants.{TryRead, Read, TryUpgradeableRead, UpgradeableRead, Write, ReaderCount, Upgrade, Downgrade, DowngradeToUpgradeable}
 use Rattle.spin_step_more.specs.declared.rw_calls.RwPoint.{RwPoint}
 use Rattle.spin_step_more.specs.declared.rw_calls.RwPoint.TheVariants as point
 use Rattle.spin_step_more.specs.RwCalls.{rw_machine}
@@ -245,6 +245,16 @@ call_of Upgradable true = UpgradeableRead
 call_of Upgradable false = TryUpgradeableRead
 call_of _ true = Read
 call_of _ false = TryRead
+
+-- the weight of a reader of this view in the word
+abbrev pub weight_of : View → ℕ
+weight_of Upgradable = weight upgradable
+weight_of _ = weight reading
+
+-- the call by which a writer becomes a reader of this view
+abbrev pub downgrade_to : View → RwCall
+downgrade_to Upgradable = DowngradeToUpgradeable
+downgrade_to _ = Downgrade
 
 -- what the call asks of the plain lock
 abbrev pub asks : View → Ask

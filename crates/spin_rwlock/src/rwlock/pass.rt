@@ -15,7 +15,6 @@ use super::coming::{Coming, Lent, Waits, try_to_lend};
 use super::reader::{RwLockReadGuard, SharedGuard};
 use super::rule::{
     self, CountsReaders, CountsWriters, Entry, Kind, Reader, RwPermit, TriesToWrite, Upgrader,
-    Waiting,
 };
 use super::upgradable::RwLockUpgradableGuard;
 use super::writer::RwLockWriteGuard;
@@ -88,7 +87,7 @@ impl<T, R> RwLock<T, R> {
         ensures made { Called (shared_opening guard.entry).value Release Done (shared_party guard.entry) seen.entries result.permit.view result.seen.entries }
         ensures same { (result.seen.name ≡ seen.name) × (result.permit.key ≡ shared_opening guard.entry) }
     {
-        let (permit, seen) = K::release(guard.into_permit(), seen);
+        let (permit, seen) = rule::release::<T, K>(guard.into_permit(), seen);
         Pass::new(permit, seen)
     }
 
@@ -178,7 +177,7 @@ impl<'a, T, R: RelaxStrategy> Pass<'a, T, R> {
         } = self;
         let (writer, seen) = match rule::write(permit, seen) {
             Ok(held) => held,
-            Err(waiting) => R::back_off(rt, waiting, Waiting::write),
+            Err(waiting) => waiting.wait::<R, W>(rt),
         };
         (RwLockWriteGuard::new(writer), seen)
     }

@@ -4,7 +4,7 @@ ghost use Rattle.spin_core.specs.Own.{what};
 ghost use Rattle.spin_rwlock.specs.Rw.{IsLent};
 ghost use Rattle.spin_rwlock.specs.declared.rwlock.rule.View.TheVariants.{Reading};
 
-use super::rule::{Kind, Party, Reader, RwPermit, RwRule};
+use super::rule::{Kind, Party, Reader, RwPermit, RwRule, release};
 use spin_core::cell::Permit;
 use spin_core::relax::Spin;
 use spin_core::trace::Watch;
@@ -165,7 +165,9 @@ impl<T, K: Kind, R> Deref for SharedGuard<'_, T, K, R> {
 
 impl<T, K: Kind, R> Drop for SharedGuard<'_, T, K, R> {
     fn drop(self) {
-        K::release(self.into_permit(), Watch::nothing()).0.leave();
+        release::<T, K>(self.into_permit(), Watch::nothing())
+            .0
+            .leave();
     }
 }
 

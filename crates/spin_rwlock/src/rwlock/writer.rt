@@ -7,7 +7,7 @@ ghost use Rattle.spin_rwlock.specs.Rw.{use_of_party, Wrote};
 
 use super::reader::{RwLockReadGuard, SharedGuard};
 use super::rule::{
-    Entry, Party, RwPermit, RwRule, Writer, release_write, write_to_read, write_to_upgradable,
+    Entry, Party, Reader, RwPermit, RwRule, Upgrader, Writer, release_write, write_to_lent,
 };
 use super::upgradable::RwLockUpgradableGuard;
 use spin_core::cell::{Permit, WritePermit};
@@ -75,7 +75,7 @@ impl<'a, T, R> RwLockWriteGuard<'a, T, R> {
     pub fn downgrade(self) -> RwLockReadGuard<'a, T, R>
         ensures { shared_value result ≡ Some (write_value self.entry) }
     {
-        let (permit, _) = write_to_read(self.into_writer(), Watch::nothing());
+        let (permit, _) = write_to_lent::<T, Reader>(self.into_writer(), Watch::nothing());
         SharedGuard::new(permit)
     }
 
@@ -97,7 +97,7 @@ impl<'a, T, R> RwLockWriteGuard<'a, T, R> {
         ensures wrote { Wrote (write_opening self.entry).value (λ x. (write_opening self.entry).told ≡ true → x ≡ write_value self.entry) Downgrade (write_party self.entry) seen.entries (shared_party result.0) result.1.entries }
         ensures left { IsLast (write_opening self.entry) result.1.entries (write_value self.entry) }
     {
-        let (permit, seen) = write_to_read(self.into_writer(), seen);
+        let (permit, seen) = write_to_lent::<T, Reader>(self.into_writer(), seen);
         (SharedGuard::new(permit), seen)
     }
 
@@ -120,7 +120,7 @@ impl<'a, T, R> RwLockWriteGuard<'a, T, R> {
     pub fn downgrade_to_upgradeable(self) -> RwLockUpgradableGuard<'a, T, R>
         ensures { shared_value result ≡ Some (write_value self.entry) }
     {
-        let (permit, _) = write_to_upgradable(self.into_writer(), Watch::nothing());
+        let (permit, _) = write_to_lent::<T, Upgrader>(self.into_writer(), Watch::nothing());
         SharedGuard::new(permit)
     }
 
@@ -143,7 +143,7 @@ impl<'a, T, R> RwLockWriteGuard<'a, T, R> {
         ensures wrote { Wrote (write_opening self.entry).value (λ x. (write_opening self.entry).told ≡ true → x ≡ write_value self.entry) DowngradeToUpgradeable (write_party self.entry) seen.entries (shared_party result.0) result.1.entries }
         ensures left { IsLast (write_opening self.entry) result.1.entries (write_value self.entry) }
     {
-        let (permit, seen) = write_to_upgradable(self.into_writer(), seen);
+        let (permit, seen) = write_to_lent::<T, Upgrader>(self.into_writer(), seen);
         (SharedGuard::new(permit), seen)
     }
 
