@@ -193,16 +193,21 @@ impl<'a, T, K: Kind, R> Coming<'a, T, K, Tries, R> {
         ensures refused { IfOk result (IsRefused (call_of K.view false) self.entry) }
         ensures missed { IfErr result (SeeksOn (call_of K.view false) self.entry) }
     {
-        if !self.is_kept_out() {
-            return Err(self);
-        }
         let Self {
             permit,
             seen,
-            word: _,
+            word,
             marker: _,
         } = self;
-        Ok(Pass::new(permit, seen))
+        match K::next(word) {
+            Some(_) => Err(Coming {
+                permit,
+                seen,
+                word,
+                marker: PhantomData,
+            }),
+            None => Ok(Pass::new(permit, seen)),
+        }
     }
 }
 
@@ -290,10 +295,11 @@ pub(super) fn try_to_lend<'a, T, K: Kind, R, W: Wait>(
 pub(super) fn peek<T, R>(cell: &Cell<T, Party, RwRule<T>>) -> Option<RwLockReadGuard<'_, T, R>> {
     let word = cell.enter().look::<CountsReaders>(Watch::nothing()).0 as usize;
     let next = rw::read(word, rw::MAX_READERS)?;
-    let permit = cell
+    let (tried, _) = cell
         .enter()
-        .attempt::<Peeks>(word as u64, next as u64, Watch::nothing())
-        .0
-        .ok()?;
-    Some(SharedGuard::new(permit))
+        .attempt::<Peeks>(word as u64, next as u64, Watch::nothing());
+    match tried {
+        Ok(permit) => Some(SharedGuard::new(permit)),
+        Err(_) => None,
+    }
 }

@@ -134,18 +134,11 @@ impl<'a, T, R> ReadHeld<'a, T, R> {
         ensures value { shared_value result ≡ read_held_value self.entry }
         ensures party { (shared_party result ≡ read_held_party self.entry) × (result.permit.key ≡ self.entry.permit.key) }
     {
-        SharedGuard::new(self.into_permit())
-    }
-
-    fn into_permit(self) -> RwPermit<'a, T>
-        ensures reads { what result.view ≡ Some Reading }
-        ensures same { result ≡ self.entry.permit }
-    {
         let Self {
             permit,
             strategy: _,
         } = self;
-        permit
+        SharedGuard::new(permit)
     }
 }
 
@@ -173,7 +166,11 @@ impl<T, K: Kind, R> Drop for SharedGuard<'_, T, K, R> {
 
 impl<T, R> Drop for ReadHeld<'_, T, R> {
     fn drop(self) {
-        self.into_permit().leak();
+        let Self {
+            permit,
+            strategy: _,
+        } = self;
+        permit.leak();
     }
 }
 

@@ -1,9 +1,9 @@
-use Rattle.std.proofs.Common.{refl, ap, ◌∙◌}
+use Rattle.std.proofs.Common.{ap, ◌∙◌}
+use mathlib.Core.Logic.{inl}
 use Rattle.spin_core.specs.Cell.{use_of}
-use Rattle.spin_core.specs.Passes.{mark_of}
-use Rattle.spin_rwlock.specs.Rw.{leaves_by, downgrade_to, use_of_view}
+use Rattle.spin_rwlock.specs.Rw.{downgrade_to, use_of_view}
 use Rattle.spin_rwlock.proofs.Steps.{writer_reads}
-use Rattle.spin_rwlock.proofs.Passes.{may, may_as, stood, still_shown, left_reading, ended}
+use Rattle.spin_rwlock.proofs.Passes.{may, may_as, still_shown, becomes, leaves_last, ends_writing}
 use Rattle.spin_rwlock.proofs.rwlock.rule.write_to_lent.Goals as goal
 
 pub add-party-requires : goal.add-party-requires
@@ -14,14 +14,11 @@ add-party-requires g c =
 
 pub returns : goal.returns
 returns g c =
-    let it = c.into_permit-permit in let f = c.add-party in let w = c.args.writer in let seen = c.args.seen in let p = it.result in let view = f.result.1.view in let won = g.K.Kind.view in
-    let call = downgrade_to won in let same = it.ensures.same in let key = it.ensures.key in
-    let at = stood p.key p.view view seen f.result.2 f.result.0 (leaves_by call won) (λ n. won) (λ own outs n v said. said.0) view f.ensures.moved in
-    let reads_on = ap (use_of use_of_view) at ∙ g.met.K.Kind.lends in
-    let last = left_reading p.key p.view view p.value f.result.1.value f.result.2 f.ensures.found f.ensures.kept w.value same.1 in
+    let w = c.args.writer in let it = c.into_permit-permit.result in let was = c.into_permit-permit.ensures in let seen = c.args.seen in
+    let r = c.add-party.result in let e = c.add-party.ensures in let won = g.K.Kind.view in let call = downgrade_to won in let lends = g.met.K.Kind.lends in
+    let at = becomes w it seen r was.key was.same call won e.moved in
     record {
-      reads = (at, still_shown p.key p.view view p.value f.result.1.value f.result.2 f.ensures.found f.ensures.kept w.value same.1 reads_on, f.ensures.key ∙ key);
-      left = last w.key key reads_on;
-      wrote = λ knew.
-          ended p.key p.view view seen f.result.2 f.result.0 f.result.1.key f.ensures.key (ap (λ k. k.name) key ∙ knew.0, ap mark_of same.0 ∙ knew.1) w.value (last p.key refl reads_on) call won w.key key w.view same.0 f.ensures.moved;
+      reads = (at, still_shown it.key it.view r.1.view it.value r.1.value r.2 e.found e.kept w.value was.same.1 (ap (use_of use_of_view) at ∙ lends), e.key ∙ was.key);
+      left = leaves_last w it seen r was.key was.same call won e.moved was.use_of_view e.found e.kept (inl lends);
+      wrote = ends_writing w it seen r was.key was.same call won e.moved was.use_of_view e.found e.kept (inl lends) e.key;
     }
