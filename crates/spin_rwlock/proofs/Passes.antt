@@ -1,6 +1,6 @@
 -- What the steps of a read-write lock tell a pass, and how the steps of a call that wants to read follow one another.
 use Rattle.std.proofs.Common.{◌≡◌, ◌≢◌, ℕ, eq-eqb, ne_eqb, Bool, true, false, List, [], ◌∷◌, ◌++◌, length, Option, Some, None, if◌then◌else◌, refl, sym, ap, ◌∙◌, subst}
-use Rattle.std.specs.Prelude.{◌⊎◌, Result, Ok, Err, IfOk, IfErr, IfSome}
+use Rattle.std.specs.Prelude.{◌⊎◌, Result, Ok, Err, IfOk, IfSome}
 use mathlib.Core.Logic.{inl, inr}
 use Rattle.spin_core.specs.Cell.{Use, off, reads, writes, use_of, Shows, Moved, Keeps as Kept}
 use Rattle.spin_core.specs.Own.{Numbered, what}
@@ -127,18 +127,10 @@ won_by old found won lost is = ap (λ b. if b then won else lost) (eq-eqb found 
 pub lost_by : {X : Type 0} (old found : ℕ) (won lost : X) → found ≢ old → either_at old won lost found ≡ lost
 lost_by old found won lost other = ap (λ b. if b then won else lost) (ne_eqb found old other)
 
--- two facts of what a result has, and three
-pub all_ok : {X Y : Type 0} (r : Result X Y) (P Q S R : X → Type 0) → ((x : X) → P x → Q x → S x → R x) → IfOk r P → IfOk r Q → IfOk r S → IfOk r R
-all_ok (Ok x) P Q S R so p q s = so x p q s
-all_ok (Err y) P Q S R so p q s = tt
-
+-- two facts of what a result has
 pub both_ok : {X Y : Type 0} (r : Result X Y) (P Q R : X → Type 0) → ((x : X) → P x → Q x → R x) → IfOk r P → IfOk r Q → IfOk r R
 both_ok (Ok x) P Q R so p q = so x p q
 both_ok (Err y) P Q R so p q = tt
-
-pub both_err : {X Y : Type 0} (r : Result X Y) (P Q R : Y → Type 0) → ((y : Y) → P y → Q y → R y) → IfErr r P → IfErr r Q → IfErr r R
-both_err (Ok x) P Q R so p q = tt
-both_err (Err y) P Q R so p q = so y p q
 
 -- A call that wants to read
 

@@ -1,11 +1,10 @@
 -- The steps of a read-write lock keep its rule. Each is the plain step that its step function makes, and moves of the
 -- lock's model.
 use Rattle.std.proofs.Common.{◌≡◌, ◌≢◌, ℕ, ◌+◌, ◌-◌, ◌%◌, ◌^◌, ◌<◌, ◌≤◌, Bool, true, false, List, [], ◌∷◌, length, ◌==◌, Option, Some, None, if◌then◌else◌, refl, sym, ap, ◌∙◌, subst, arith, eq-eqb, ne_eqb}
-use Rattle.std.proofs.lemmas.List.Sums.{count_by-le-length}
 use Rattle.std.specs.List.{list_all}
 use mathlib.Core.Logic.{inl, inr}
 use prog.Atomic.{either}
-use Rattle.spin_step.specs.Plain.{Plain, Kind, reading, upgradable, asking, writing, Holder, is_holder, may_turn, with_kind, weight, is_reader, reader_count, apply, gets, turns, to_read, to_read_upgradable, to_write, to_upgrade, to_upgrade_asked, rw_word}
+use Rattle.spin_step.specs.Plain.{Plain, Kind, reading, upgradable, asking, writing, Holder, is_holder, may_turn, with_kind, weight, apply, gets, turns, to_read, to_read_upgradable, to_write, to_upgrade, to_upgrade_asked, rw_word}
 use Rattle.spin_step.specs.Parties.{entries_after}
 use Rattle.spin_step.specs.Steps.{Decides}
 use Rattle.spin_step_more.specs.Readers.{reader_limit, OneOfEach, readers_in, writers_in}
@@ -75,17 +74,9 @@ bounded hs within = omega (arith, by_kinds weight hs, all_kinds hs, within)
 pub fits_cap : (s : Plain) → s.cap ≡ reader_limit → IsInOrder s → length s.holders ≤ reader_limit
 fits_cap s room order = omega (arith, order.holders_fit, room)
 
--- if the holders are within the cap, so are the readers
-pub readers_fit : (word count : ℕ) → IsRwWord word → ((s : Plain) → OneOfEach s → rw_word s ≡ word → count ≡ reader_count s.holders) → count ≤ reader_limit
-readers_fit word count (s, room, order, e) plain = omega (arith, plain s (one_of_each s order.exclusive) (sym e), count_by-le-length (λ (h : Holder). is_reader h.kind) s.holders, fits_cap s room order)
-
 -- The party gets a view by the number found, and this holds of the number
 abbrev To : (ℕ → Type 0) → (ℕ → View) → ℕ → View → Type 0
 To P to n v = P n × (v ≡ to n)
-
--- the word of a lock
-abbrev Any : ℕ → Type 0
-Any n = Unit {0}
 
 -- no sum of the word and a weight wraps
 fits_in : (n k : ℕ) → n < 2 ^ 63 → k < 2 ^ 63 → (n + k) % 2 ^ 64 ≡ n + k
