@@ -56,7 +56,8 @@ grants TryUpgradeableRead n = read_upgradable reader_limit n
 grants UpgradeableRead n = read_upgradable reader_limit n
 grants _ n = None
 
--- where such a call sits in the model after a word that does not admit it: at its first step again, or it has failed
+-- Where such a call sits in the model after a word that does not admit it. If it waits, it is at its first step again.
+-- If it tries, it has failed, and its party is in no call.
 abbrev pub kept_out : RwCall → Seat RwCall RwPoint
 kept_out Read = seat.Calling Read point.First None
 kept_out UpgradeableRead = seat.Calling UpgradeableRead point.First None
@@ -96,7 +97,7 @@ module _ {T : Type 0} where
   abbrev pub model : T → Machine ℕ T RwCall RwPoint (Answer T)
   model v = rw_machine v reader_limit
 
-  -- of the word, the trace and the parties, of a lock that opened so
+  -- the rule of a lock with this opening: what its word, its trace and its parties say of one another
   abbrev pub IsRw : Opening T → ℕ → Trace (Done T) (Unit {0}) → List (Numbered View) → Type 0
   IsRw opening = Runs (model opening.value) seat_of words_of Word opening.name
 

@@ -16,7 +16,8 @@ use Rattle.spin_rwlock.specs.declared.rwlock.reader.SharedGuard.{SharedGuard}
 use Rattle.spin_rwlock.specs.declared.rwlock.rule.Kind as kind
 use Rattle.spin_rwlock.specs.declared.rwlock.rule.View.{View}
 
--- Of a party of this lock: if its moves so far are those of the course P, they are then those of the course Q
+-- A party of this lock, with this view, knows this history. If its moves until now are those of the course P, then with
+-- its next steps they are those of the course Q.
 abbrev pub Leads : {T : Type 0} → Opening T → OneCourse T → Option (Numbered View) → Watch (Done T) → OneCourse T → Option (Numbered View) → Watch (Done T) → Type 0
 Leads key P view seen Q view' seen' =
     (lock : Opening _) → lock ≡ key → (first : Option (Numbered View)) (old : List (Done _)) → Moves lock.value P first old view seen.entries → Moves lock.value Q first old view' seen'.entries

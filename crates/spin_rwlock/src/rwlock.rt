@@ -195,7 +195,7 @@ impl<T, R> RwLock<T, R> {
 
     /// Releases the shared access that the hold keeps.
     ///
-    /// The call consumes the hold, so no reader is released twice.
+    /// A hold releases its access at most once, since the call consumes it.
     ///
     /// # Contract
     /// No clause. The call returns.
@@ -205,7 +205,7 @@ impl<T, R> RwLock<T, R> {
 
     /// Releases the exclusive access that the hold keeps.
     ///
-    /// The call consumes the hold, so no writer is released twice.
+    /// A hold releases its access at most once, since the call consumes it.
     ///
     /// # Contract
     /// No clause. The call returns.

@@ -33,9 +33,10 @@ use std::sync::Wait;
 /// of others. A pass is as large as a reference to the lock. It can be sent, and a lock can have any number of passes.
 ///
 /// # Contract
-/// Each call takes the pass, or a guard and what the pass knew with it, and returns it. It ensures `Called`: among the
-/// new moves of the history, those of this pass are exactly one call with the returned answer. In the lock's model that
-/// call gets this answer, at its place among the moves of all threads. No move of the history is skipped.
+/// Each call takes the pass, or a guard and what the pass knew when it got the guard, and returns them. It ensures
+/// `Called`: among the new moves of the history, those of this pass are exactly one call with the returned answer. In
+/// the lock's model that call gets this answer, at its place among the moves of all threads. No move of the history is
+/// skipped.
 ///
 /// A writer that releases or downgrades writes the value that it leaves into the history first (`Wrote`). So the value
 /// of a guard is the one written last there, until the owner borrows it by `get_mut` (`found`).
@@ -76,8 +77,8 @@ impl<T, R> RwLock<T, R> {
     /// A guard that is dropped releases the lock too, and ends its pass.
     ///
     /// # Contract
-    /// `seen` has to be what the pass knew with the guard (`ReadsWith`). The call is in the history, as the pass's
-    /// next one (`made`). The guard's value is still the one written last there (`still`).
+    /// `seen` has to be what the pass knew when it got the guard (`ReadsWith`). The pass makes one call, `Release`
+    /// (`made`). The guard's value is still the one written last in the history (`still`).
     pub fn unlock_shared<'a, K: Kind>(
         guard: SharedGuard<'a, T, K, R>,
         seen: Watch<Entry<T>>,
@@ -96,9 +97,9 @@ impl<T, R> RwLock<T, R> {
     /// A guard that is dropped releases the lock too, and ends its pass.
     ///
     /// # Contract
-    /// `seen` has to be what the pass knew with the guard (`WritesWith`). The pass makes the call, as its next one,
-    /// behind a write (`made`): it writes the guard's value into the history (`wrote`). So that value is the one
-    /// written last (`left`).
+    /// `seen` has to be what the pass knew when it got the guard (`WritesWith`). The pass writes the guard's value into
+    /// the history, and then makes one call, `Release` (`made`, `wrote`). So that value is the one written last
+    /// (`left`).
     pub fn unlock<'a>(guard: RwLockWriteGuard<'a, T, R>, seen: Watch<Entry<T>>) -> Pass<'a, T, R>
         requires { WritesWith guard seen }
         ensures made { Wrote (write_opening guard.entry).value (λ x. Unit {0}) Release (write_party guard.entry) seen.entries result.permit.view result.seen.entries }

@@ -247,7 +247,7 @@ impl<'a, T> Waiting<'a, T> {
     ghost use Rattle.spin_rwlock.specs.Waits.{IsGranted};
 
     /// Backs off and tries again, until no thread holds the lock.
-    // A loop of its own: `write` passed to the strategy's `back_off` would take ten times as long to prove.
+    // It repeats the loop of `back_off`. If `write` were passed there, the caller would take much longer to prove.
     #[cold]
     #[inline(never)]
     pub(super) fn wait<R: RelaxStrategy, W: Wait>(self, rt: &W) -> (Writer<'a, T>, Watch<Entry<T>>)

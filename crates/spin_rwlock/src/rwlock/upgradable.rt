@@ -57,12 +57,14 @@ impl<'a, T, R> SharedGuard<'a, T, Upgrader, R> {
         }
     }
 
-    /// Tries to become the writer, as [`try_upgrade`](Self::try_upgrade) does, in the call of a pass.
+    /// Like [`try_upgrade`](Self::try_upgrade), for a guard that a [`Pass`](super::Pass) acquired.
+    ///
+    /// The call takes what the pass knows of the lock's history, and returns it with its own steps added.
     ///
     /// # Contract
-    /// `seen` has to be what the pass knew with the guard (`ReadsWith`). The call is one `TryUpgrade`, with the answer
-    /// `Granted` and a writer's guard, or else `Refused`. The guard has the value that this one had: the one written
-    /// last in the history (`found`, `shown`).
+    /// `seen` has to be what the pass knew when it got this guard (`ReadsWith`). The pass makes one call, `TryUpgrade`.
+    /// It is granted with a writer's guard, or refused with a reader's. That guard has the value that this one had,
+    /// which is the one written last in the history (`found`, `shown`).
     pub fn try_upgrade_seen(
         self,
         seen: Watch<Entry<T>>,
@@ -118,11 +120,14 @@ impl<'a, T, R> SharedGuard<'a, T, Upgrader, R> {
         SharedGuard::new(permit)
     }
 
-    /// Becomes a plain reader, as [`downgrade`](Self::downgrade) does, in the call of a pass.
+    /// Like [`downgrade`](Self::downgrade), for a guard that a [`Pass`](super::Pass) acquired.
+    ///
+    /// The call takes what the pass knows of the lock's history, and returns it with its own steps added.
     ///
     /// # Contract
-    /// `seen` has to be what the pass knew with the guard (`ReadsWith`). The call is one `Downgrade` (`made`). The
-    /// guard has the value that this one had: the one written last in the history (`found`).
+    /// `seen` has to be what the pass knew when it got this guard (`ReadsWith`). The pass makes one call, `Downgrade`
+    /// (`made`). The reader's guard has the value that this one had, which is the one written last in the history
+    /// (`found`).
     pub fn downgrade_seen(
         self,
         seen: Watch<Entry<T>>,
@@ -173,12 +178,14 @@ impl<'a, T, R: RelaxStrategy> SharedGuard<'a, T, Upgrader, R> {
         }
     }
 
-    /// Becomes the writer, as [`upgrade`](Self::upgrade) does, in the call of a pass.
+    /// Like [`upgrade`](Self::upgrade), for a guard that a [`Pass`](super::Pass) acquired.
+    ///
+    /// The call takes what the pass knows of the lock's history, and returns it with its own steps added.
     ///
     /// # Contract
-    /// `seen` has to be what the pass knew with the guard (`ReadsWith`). The call is one `Upgrade` with the answer
-    /// `Granted`, which asked by its first step (`made`). The guard has the value that this one had: the one written
-    /// last in the history (`found`).
+    /// `seen` has to be what the pass knew when it got this guard (`ReadsWith`). The pass makes one call, `Upgrade`. It
+    /// asks by its first step, and is granted (`made`). The writer's guard has the value that this one had, which is
+    /// the one written last in the history (`found`).
     ///
     /// # Examples
     /// ```
@@ -235,7 +242,7 @@ fn wait_to_upgrade<'a, T, R: RelaxStrategy, W: Wait>(
     unreachable!()
 }
 
-// The same for a call of a pass.
+// The same, for a guard that a pass acquired.
 #[cold]
 #[inline(never)]
 fn wait_to_upgrade_seen<'a, T, R: RelaxStrategy, W: Wait>(

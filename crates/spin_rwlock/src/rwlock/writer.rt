@@ -79,12 +79,14 @@ impl<'a, T, R> RwLockWriteGuard<'a, T, R> {
         SharedGuard::new(permit)
     }
 
-    /// Becomes a reader, as [`downgrade`](Self::downgrade) does, in the call of a pass.
+    /// Like [`downgrade`](Self::downgrade), for a guard that a [`Pass`](super::Pass) acquired.
+    ///
+    /// The call takes what the pass knows of the lock's history, and returns it with its own steps added.
     ///
     /// # Contract
-    /// `seen` has to be what the pass knew with the guard (`WritesWith`). The call is one `Downgrade`, behind a write
-    /// (`made`): it writes the guard's value into the history (`wrote`). The reader's guard has the value that this one
-    /// had, which is the one written last (`left`).
+    /// `seen` has to be what the pass knew when it got this guard (`WritesWith`). The pass writes the guard's value
+    /// into the history, and then makes one call, `Downgrade` (`made`, `wrote`). The reader's guard has that value,
+    /// which is the one written last (`left`).
     pub fn downgrade_seen(
         self,
         seen: Watch<Entry<T>>,
@@ -123,13 +125,15 @@ impl<'a, T, R> RwLockWriteGuard<'a, T, R> {
         SharedGuard::new(permit)
     }
 
-    /// Becomes the upgradable reader, as [`downgrade_to_upgradeable`](Self::downgrade_to_upgradeable) does, in the call
-    /// of a pass.
+    /// Like [`downgrade_to_upgradeable`](Self::downgrade_to_upgradeable), for a guard that a [`Pass`](super::Pass)
+    /// acquired.
+    ///
+    /// The call takes what the pass knows of the lock's history, and returns it with its own steps added.
     ///
     /// # Contract
-    /// `seen` has to be what the pass knew with the guard (`WritesWith`). The call is one `DowngradeToUpgradeable`,
-    /// behind a write (`made`): it writes the guard's value into the history (`wrote`). The upgradable reader's guard
-    /// has the value that this one had, which is the one written last (`left`).
+    /// `seen` has to be what the pass knew when it got this guard (`WritesWith`). The pass writes the guard's value
+    /// into the history, and then makes one call, `DowngradeToUpgradeable` (`made`, `wrote`). The upgradable reader's
+    /// guard has that value, which is the one written last (`left`).
     pub fn downgrade_to_upgradeable_seen(
         self,
         seen: Watch<Entry<T>>,
@@ -145,7 +149,7 @@ impl<'a, T, R> RwLockWriteGuard<'a, T, R> {
         self.lend(seen)
     }
 
-    // Becomes a reader of kind `K`, in the call of a pass.
+    // Becomes a reader of kind `K`, for a guard that a pass acquired.
     fn lend<K: Kind>(self, seen: Watch<Entry<T>>) -> (SharedGuard<'a, T, K, R>, Watch<Entry<T>>)
         requires { WritesWith self seen }
         ensures value { shared_value result.0 ≡ Some (write_value self.entry) }
