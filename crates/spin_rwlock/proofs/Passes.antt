@@ -1,10 +1,10 @@
 -- What the steps of a read-write lock tell a pass, and how the steps of a call that wants to read follow one another.
 use Rattle.std.proofs.Common.{◌≡◌, ◌≢◌, ℕ, eq-eqb, ne_eqb, Bool, true, false, List, [], ◌∷◌, ◌++◌, length, Option, Some, None, if◌then◌else◌, refl, sym, ap, ◌∙◌, subst}
-use Rattle.std.specs.Prelude.{◌⊎◌, Result, Ok, Err, IfOk, IfErr, IfSome}
+use Rattle.std.specs.Prelude.{◌⊎◌, Result, Ok, Err, IfOk, IfSome}
 use mathlib.Core.Logic.{inl, inr}
 use Rattle.spin_core.specs.Cell.{Use, off, reads, writes, use_of, Shows, Moved, Keeps as Kept}
 use Rattle.spin_core.specs.Own.{Numbered, what}
-use Rattle.spin_core.specs.Passes.{mark_of, Waits, Begins, IsCall, IsStep, WritesSome}
+use Rattle.spin_core.specs.Passes.{mark_of, Waits, Begins, IsCall, IsStep, WritesSome, step_by}
 use Rattle.spin_core.specs.Traced.{Watches, Named, Found}
 use Rattle.spin_core.specs.Values.{IsLast}
 use Rattle.spin_core.specs.declared.tie.Opening.{Opening}
@@ -21,7 +21,8 @@ use Rattle.spin_step_more.specs.declared.rw_calls.RwCall.{RwCall}
 use Rattle.spin_step_more.specs.declared.rw_calls.RwCall.TheVariants.{TryRead, TryUpgradeableRead}
 use Rattle.spin_rwlock.specs.declared.rwlock.rule.View.{View}
 use Rattle.spin_rwlock.specs.declared.rwlock.rule.View.TheVariants.{Idle, Reading, Upgradable}
-use Rattle.spin_rwlock.specs.Rw.{Done, IsRw, rw_ways, Told, Says, ends_by, leaves_with, leaves_by, counts_by, either_at, OneMove, Ending, OneCourse, seat_of, use_of_view, use_of_party, model, words_of, grants, call_of, Comes, still, missed, IsGrant, Left, Seeks, Moves, Called, Wrote}
+use Rattle.spin_rwlock.specs.Steps.{Party, Writer, Makes, MakesWriter, EndsWriting}
+use Rattle.spin_rwlock.specs.Rw.{Done, IsRw, rw_ways, Told, Says, leaves_with, leaves_by, counts_by, either_at, OneMove, Ending, OneCourse, seat_of, use_of_view, use_of_party, model, words_of, grants, call_of, Comes, still, missed, IsGrant, Left, Seeks, Moves, Called, Wrote}
 
 -- the value that is there
 is_there : {T : Type 0} (P : T → Type 0) (shown : Option T) (x : T) → Some x ≡ shown → IfSome shown P → P x
@@ -59,12 +60,6 @@ module _ {T : Type 0} (opening : Opening T) where
       told says to course means moved =
           let t = passes.learnt (model opening.value) seat_of words_of says to course means (Named (IsRw opening) (rw_ways opening) before.name) (named_so before knew.0) view view' before now found knew.1 moved in
           ((ap (λ o. o.name) same ∙ knew.0 ∙ sym t.named, t.knows), t.named, t.made)
-
-      -- a whole call in one step
-      pub answered : (call : RwCall) (answer : ℕ → Answer T) (to : ℕ → View) → Steps (ends_by call answer to) before now view view' found → Learnt (IsCall call (answer found))
-      answered call answer to moved =
-          let t = told (ends_by call answer to) to (λ n. IsStep false call (Answered (answer n) None)) (λ own outs n v said. said) moved in
-          (t.0, t.1, whole (model opening.value) view view' before.entries now.entries call (answer found) t.2)
 
       -- a count by the word
       pub counted : (call : RwCall) (count : ℕ → ℕ) → Steps (counts_by call count) before now view view' found → Learnt (IsCall call (Count (count found)))
@@ -107,16 +102,19 @@ module _ {T : Type 0} (opening : Opening T) where
     still_last read gone = read_last opening (use_of use_of_party view) (use_of use_of_party view') before after seen.entries known (sym (tie.same_use use_of_view view) ∙ read) (sym (tie.same_use use_of_view view') ∙ gone)
 
     -- to a writer that reads on, and to one that has gone
-    module _ (x : T) (here : before ≡ Some x) (key : Opening T) (same : opening ≡ key) where
-      pub left_reading : use_of use_of_view (what view') ≡ reads → IsLast key seen.entries x
-      left_reading on =
-          let reads_on = sym (tie.same_use use_of_view view') ∙ on in
-          let still = subst (λ (z : Use × Option T). Shows z.0 z.1 after) (λ i. (reads_on i, here i)) kept.0 in
-          subst (λ k. IsLast k seen.entries x) same (is_there (λ y. IsLast opening seen.entries y) after x (sym still) (shown_last (λ e. reads_on)))
+    module _ (x : T) (here : before ≡ Some x) where
+      pub still_shown : use_of use_of_view (what view') ≡ reads → after ≡ Some x
+      still_shown on = subst (λ (z : Use × Option T). Shows z.0 z.1 after) (λ i. ((sym (tie.same_use use_of_view view') ∙ on) i, here i)) kept.0
 
-      pub left_gone : use_of use_of_party view ≡ writes → use_of use_of_view (what view') ≡ off → IsLast key seen.entries x
-      left_gone held gone =
-          subst (λ k. IsLast k seen.entries x) same (gave opening (use_of use_of_party view) (use_of use_of_party view') before after seen.entries x known held (sym (tie.same_use use_of_view view') ∙ gone) here)
+      module _ (key : Opening T) (same : opening ≡ key) where
+        pub left_reading : use_of use_of_view (what view') ≡ reads → IsLast key seen.entries x
+        left_reading on =
+            let last = shown_last (λ e. sym (tie.same_use use_of_view view') ∙ on) in
+            subst (λ k. IsLast k seen.entries x) same (is_there (λ y. IsLast opening seen.entries y) after x (sym (still_shown on)) last)
+
+        pub left_gone : use_of use_of_party view ≡ writes → use_of use_of_view (what view') ≡ off → IsLast key seen.entries x
+        left_gone held gone =
+            subst (λ k. IsLast k seen.entries x) same (gave opening (use_of use_of_party view) (use_of use_of_party view') before after seen.entries x known held (sym (tie.same_use use_of_view view') ∙ gone) here)
 
 -- what was written, whatever it was
 pub wrote_some : {T : Type 0} (v₀ : T) (Q : T → Type 0) (call : RwCall) (view view' : Option (Numbered View)) (old new : List (Done T)) → Wrote v₀ Q call view old view' new → Wrote v₀ (λ x. Unit {0}) call view old view' new
@@ -129,23 +127,10 @@ won_by old found won lost is = ap (λ b. if b then won else lost) (eq-eqb found 
 pub lost_by : {X : Type 0} (old found : ℕ) (won lost : X) → found ≢ old → either_at old won lost found ≡ lost
 lost_by old found won lost other = ap (λ b. if b then won else lost) (ne_eqb found old other)
 
--- what is known of a party is known of it as a writer, and vice versa
-module _ {T A : Type 0} (R : Option (Numbered View) → Type 0) (now : Watch (Done T)) (it other : Opening T) (v : Numbered View) (view : Option (Numbered View)) where
-  pub to_writer : it ≡ other → Some v ≡ view → ((other.name ≡ now.name) × (mark_of view ≡ length now.entries)) × A × R view → ((it.name ≡ now.name) × (v.2 ≡ length now.entries)) × A × R (Some v)
-  to_writer same is (knows, a, r) = ((ap (λ o. o.name) same ∙ knows.0, ap mark_of is ∙ knows.1), a, subst R (sym is) r)
-
--- two facts of what a result has, and three
-pub all_ok : {X Y : Type 0} (r : Result X Y) (P Q S R : X → Type 0) → ((x : X) → P x → Q x → S x → R x) → IfOk r P → IfOk r Q → IfOk r S → IfOk r R
-all_ok (Ok x) P Q S R so p q s = so x p q s
-all_ok (Err y) P Q S R so p q s = tt
-
+-- two facts of what a result has
 pub both_ok : {X Y : Type 0} (r : Result X Y) (P Q R : X → Type 0) → ((x : X) → P x → Q x → R x) → IfOk r P → IfOk r Q → IfOk r R
 both_ok (Ok x) P Q R so p q = so x p q
 both_ok (Err y) P Q R so p q = tt
-
-pub both_err : {X Y : Type 0} (r : Result X Y) (P Q R : Y → Type 0) → ((y : Y) → P y → Q y → R y) → IfErr r P → IfErr r Q → IfErr r R
-both_err (Ok x) P Q R so p q = tt
-both_err (Err y) P Q R so p q = so y p q
 
 -- A call that wants to read
 
@@ -210,3 +195,72 @@ pub then_looked : {T : Type 0} (v₀ : T) (won : View) → Comes won → (u v w 
 then_looked v₀ won cm u v w a b c n m so_far made =
     let call = call_of won true in
     subst (λ x. Moves v₀ (Begins call (Left x)) u a w c) (sym (waiting won cm m)) (call_waits (model v₀) u v w a b c call (begun v₀ call u v w a b c n (waiting won cm n) so_far) (passes.goes (model v₀) v w b c call made))
+
+-- What a party that uses the value is shown
+same_as : {X : Type 0} (u : Use) (before after : Option X) → u ≢ off → Shows u before after → before ≢ None → after ≡ before
+same_as off before after uses shows some = absurd (uses refl)
+same_as u None after uses shows some = absurd (some refl)
+same_as reads (Some x) after uses shows some = shows
+same_as writes (Some x) after uses shows some = shows
+
+some_as : {X : Type 0} (u : Use) (before after : Option X) → u ≢ off → Shows u before after → after ≢ None
+some_as off before after uses shows e = absurd (uses refl)
+some_as reads None after uses (x, is) e = let no : Some x ≡ None = sym is ∙ e in cc
+some_as reads (Some x) after uses is e = let no : Some x ≡ None = sym is ∙ e in cc
+some_as writes None after uses (x, is) e = let no : Some x ≡ None = sym is ∙ e in cc
+some_as writes (Some x) after uses is e = let no : Some x ≡ None = sym is ∙ e in cc
+
+-- A step of a party. `r` has the number that it found, the party then, and what it knows then.
+module _ {T P S : Type 0} (it : Party T P S) (seen : Watch (Done T)) (r : ℕ × Party T P S × Watch (Done T)) where
+  -- one that its play tells by the number found
+  module _ (on : Bool) (call : RwCall) (end : ℕ → Ending T) (to : ℕ → View) (moved : Steps it.key (step_by on call end to) seen r.2 it.view r.1.view r.0) where
+    pub stands : (v : View) → to r.0 ≡ v → what r.1.view ≡ Some v
+    stands v is = stood it.key it.view r.1.view seen r.2 r.0 (step_by on call end to) to (λ own outs n w said. said.0) r.1.view moved ∙ ap Some is
+
+    pub makes : r.1.key ≡ it.key → (o : Ending T) → end r.0 ≡ o → Makes (IsStep on call o) it seen r.1 r.2
+    makes same o is = subst (λ o. Makes (IsStep on call o) it seen r.1 r.2) is
+        (λ knew. told it.key it.view r.1.view seen r.2 r.0 r.1.key same knew (step_by on call end to) to (λ n. IsStep on call (end n)) (λ own outs n w said. said) moved)
+
+  -- a whole call
+  pub calls : (call : RwCall) (a : Answer T) → Makes (IsStep false call (Answered a None)) it seen r.1 r.2 → Makes (IsCall call a) it seen r.1 r.2
+  calls call a made knew = let t = made knew in (t.0, t.1, whole (model it.key.value) it.view r.1.view seen.entries r.2.entries call a t.2)
+
+  module _ (to : View) (at : what r.1.view ≡ Some to) where
+    pub uses_as : use_of use_of_party r.1.view ≡ use_of_view to
+    uses_as = sym (tie.same_use use_of_view r.1.view) ∙ ap (use_of use_of_view) at
+
+    module _ (kept : Kept (rw_ways it.key) it.view r.1.view it.value r.1.value) (uses : use_of_view to ≢ off) where
+      pub keeps_value : it.value ≢ None → r.1.value ≡ it.value
+      keeps_value = same_as (use_of use_of_party r.1.view) it.value r.1.value (λ e. uses (sym uses_as ∙ e)) kept.0
+
+      pub is_shown : r.1.value ≢ None
+      is_shown = some_as (use_of use_of_party r.1.view) it.value r.1.value (λ e. uses (sym uses_as ∙ e)) kept.0
+
+    -- as a writer
+    module _ (w : Writer T P S) (same : w.key ≡ r.1.key) (is : Some w.view ≡ r.1.view) where
+      pub view_is : w.view.0 ≡ to
+      view_is = let e : Some w.view.0 ≡ Some to = ap what is ∙ at in cc
+
+      pub writer_makes : (course : OneCourse T) → Makes course it seen r.1 r.2 → MakesWriter course it seen w r.2
+      writer_makes course made knew =
+          let t = made knew in
+          ((ap (λ k. k.name) same ∙ t.0.0, ap mark_of is ∙ t.0.1), t.1, subst (λ o. Moves it.key.value course it.view seen.entries o r.2.entries) (sym is) t.2)
+
+-- A step by which a writer ends, once it is a party again
+module _ {T P S : Type 0} (w : Writer T P S) (it : Party T P S) (seen : Watch (Done T)) (r : ℕ × Party T P S × Watch (Done T)) (key : it.key ≡ w.key) (same : (it.view ≡ Some w.view) × (it.value ≡ Some w.value))
+    (call : RwCall) (to : View) (moved : Steps it.key (leaves_by call to) seen r.2 it.view r.1.view r.0) where
+  pub becomes : what r.1.view ≡ Some to
+  becomes = stood it.key it.view r.1.view seen r.2 r.0 (leaves_by call to) (λ n. to) (λ own outs n v said. said.0) r.1.view moved
+
+  module _ (held : use_of_view w.view.0 ≡ writes) (found : Found (rw_ways it.key) it.view r.1.view it.value r.1.value r.2) (kept : Kept (rw_ways it.key) it.view r.1.view it.value r.1.value) (ends : (use_of_view to ≡ reads) ⊎ (use_of_view to ≡ off)) where
+    last_of : (other : Opening T) → it.key ≡ other → (use_of_view to ≡ reads) ⊎ (use_of_view to ≡ off) → IsLast other r.2.entries w.value
+    last_of other is (inl on) = left_reading it.key it.view r.1.view it.value r.1.value r.2 found kept w.value same.1 other is (ap (use_of use_of_view) becomes ∙ on)
+    last_of other is (inr gone) = left_gone it.key it.view r.1.view it.value r.1.value r.2 found kept w.value same.1 other is (ap (use_of use_of_party) same.0 ∙ held) (ap (use_of use_of_view) becomes ∙ gone)
+
+    -- what it leaves is the value written last
+    pub leaves_last : IsLast w.key r.2.entries w.value
+    leaves_last = last_of w.key key ends
+
+    pub ends_writing : r.1.key ≡ it.key → EndsWriting call w seen r.1 r.2
+    ends_writing as_it knew =
+        ended it.key it.view r.1.view seen r.2 r.0 r.1.key as_it (ap (λ k. k.name) key ∙ knew.0, ap mark_of same.0 ∙ knew.1) w.value (last_of it.key refl ends) call to w.key key w.view same.0 moved

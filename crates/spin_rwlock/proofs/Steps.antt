@@ -1,11 +1,10 @@
 -- The steps of a read-write lock keep its rule. Each is the plain step that its step function makes, and moves of the
 -- lock's model.
 use Rattle.std.proofs.Common.{◌≡◌, ◌≢◌, ℕ, ◌+◌, ◌-◌, ◌%◌, ◌^◌, ◌<◌, ◌≤◌, Bool, true, false, List, [], ◌∷◌, length, ◌==◌, Option, Some, None, if◌then◌else◌, refl, sym, ap, ◌∙◌, subst, arith, eq-eqb, ne_eqb}
-use Rattle.std.proofs.lemmas.List.Sums.{count_by-le-length}
 use Rattle.std.specs.List.{list_all}
 use mathlib.Core.Logic.{inl, inr}
 use prog.Atomic.{either}
-use Rattle.spin_step.specs.Plain.{Plain, Kind, reading, upgradable, asking, writing, Holder, is_holder, may_turn, with_kind, weight, is_reader, reader_count, apply, gets, turns, to_read, to_read_upgradable, to_write, to_upgrade, to_upgrade_asked, rw_word}
+use Rattle.spin_step.specs.Plain.{Plain, Kind, reading, upgradable, asking, writing, Holder, is_holder, may_turn, with_kind, weight, apply, gets, turns, to_read, to_read_upgradable, to_write, to_upgrade, to_upgrade_asked, rw_word}
 use Rattle.spin_step.specs.Parties.{entries_after}
 use Rattle.spin_step.specs.Steps.{Decides}
 use Rattle.spin_step_more.specs.Readers.{reader_limit, OneOfEach, readers_in, writers_in}
@@ -41,7 +40,7 @@ use Rattle.spin_core.proofs.Views.{part_before, turn-own}
 use Rattle.spin_rwlock.specs.declared.rwlock.rule.View.{View}
 use Rattle.spin_rwlock.specs.declared.rwlock.rule.View.TheVariants.{Idle, Reading, Upgradable, Asking, Writing, WritingAsked, Coming, WaitingToWrite}
 use Rattle.spin_rwlock.specs.Rw as rws
-use Rattle.spin_rwlock.specs.Rw.{part, Word, IsRw, rw_ways, IsRwWord, Told, Says, OneMove, Ending, use_of_view, use_of_party, seat_of, model, words_of, in_call, IsOut, grants, missed, call_of, asks, came, Comes, MayCome, MayWrite, IsGrant, IsArrival, IsPeek, ends_by, leaves_with, leaves_by, counts_by, writes_by, asks_by, upgrades_by, looks_by, comes_by, peeks_by, either_at, given, granted_or_on}
+use Rattle.spin_rwlock.specs.Rw.{part, Word, IsRw, rw_ways, IsRwWord, Told, Says, OneMove, Ending, use_of_view, use_of_party, seat_of, model, words_of, in_call, IsOut, grants, missed, call_of, asks, weight_of, downgrade_to, came, Comes, MayCome, MayWrite, IsGrant, IsArrival, IsPeek, ends_by, leaves_with, leaves_by, counts_by, writes_by, asks_by, upgrades_by, looks_by, comes_by, peeks_by, either_at, given, granted_or_on}
 
 pub kind : (v : View) → OfReaders part v
 kind Reading = (λ p. refl, λ p. refl)
@@ -75,17 +74,9 @@ bounded hs within = omega (arith, by_kinds weight hs, all_kinds hs, within)
 pub fits_cap : (s : Plain) → s.cap ≡ reader_limit → IsInOrder s → length s.holders ≤ reader_limit
 fits_cap s room order = omega (arith, order.holders_fit, room)
 
--- if the holders are within the cap, so are the readers
-pub readers_fit : (word count : ℕ) → IsRwWord word → ((s : Plain) → OneOfEach s → rw_word s ≡ word → count ≡ reader_count s.holders) → count ≤ reader_limit
-readers_fit word count (s, room, order, e) plain = omega (arith, plain s (one_of_each s order.exclusive) (sym e), count_by-le-length (λ (h : Holder). is_reader h.kind) s.holders, fits_cap s room order)
-
 -- The party gets a view by the number found, and this holds of the number
 abbrev To : (ℕ → Type 0) → (ℕ → View) → ℕ → View → Type 0
 To P to n v = P n × (v ≡ to n)
-
--- the word of a lock
-abbrev Any : ℕ → Type 0
-Any n = Unit {0}
 
 -- no sum of the word and a weight wraps
 fits_in : (n k : ℕ) → n < 2 ^ 63 → k < 2 ^ 63 → (n + k) % 2 ^ 64 ≡ n + k
@@ -174,12 +165,6 @@ not_in_call (Some v) out = ap rws.is_calling (seat_idle (seat_of v) out)
 abbrev swaps : ℕ → ℕ → ℕ → ℕ
 swaps old new n = either (n == old) new n
 
--- a reader leaves, of this weight
-abbrev Holds : View → ℕ → Type 0
-Holds Reading k = k ≡ 8
-Holds Upgradable k = k ≡ 2
-Holds _ k = ⊥
-
 -- a party in a call under way
 pub in_its_call : (won : View) (waits : Bool) → Comes won → (old new : ℕ) → grants (call_of won waits) old ≡ Some new → in_call (Some (Coming (call_of won waits) old)) ≡ true
 in_its_call Reading false cm old new grant = rw grant refl
@@ -249,61 +234,35 @@ module _ {T : Type 0} (v₀ : T) where
   writer_moves x WritingAsked e f so c to goes w value v is = let g = goes w v is in rw g.0 (g.1 value)
   writer_moves x _ e f so c to goes w value v is = absurd cc
 
-  writer_reads_moves : (x : T) (u : View) → use_of_view u ≡ writes → Moves (Some u) (λ n. (n + 7) % 2 ^ 64) (To (Weighs 0) (λ n. Reading)) (leaves_with (λ y. y ≡ x) call.Downgrade Reading)
-  writer_reads_moves x u e = writer_moves x u e (λ n. (n + 7) % 2 ^ 64) (To (Weighs 0) (λ n. Reading)) call.Downgrade Reading (λ w v (small, is). (
-    is,
-    λ value. (
-      Write x ∷ Begin call.Downgrade ∷ Step ∷ [],
-      Written ∷ Begun ∷ Answered Done None ∷ [],
-      (refl, (x, refl, (Begin call.Downgrade ∷ Step ∷ [], Begun ∷ Answered Done None ∷ [], refl, refl, (refl, refl)))),
-      refl,
-      refl,
-      w + 7,
-      Some x,
-      refl,
-      refl,
-      rw (fits_in w 7 small.1 (omega arith)) refl,
-    ),
-  ))
+  abbrev ended : List (Ending T)
+  ended = Written ∷ Begun ∷ Answered Done None ∷ []
 
-  writer_upgradable_moves : (x : T) (u : View) → use_of_view u ≡ writes → Moves (Some u) (λ n. (n + 1) % 2 ^ 64) (To (Weighs 0) (λ n. Upgradable)) (leaves_with (λ y. y ≡ x) call.DowngradeToUpgradeable Upgradable)
-  writer_upgradable_moves x u e = writer_moves x u e (λ n. (n + 1) % 2 ^ 64) (To (Weighs 0) (λ n. Upgradable)) call.DowngradeToUpgradeable Upgradable (λ w v (small, is). (
-    is,
-    λ value. (
-      Write x ∷ Begin call.DowngradeToUpgradeable ∷ Step ∷ [],
-      Written ∷ Begun ∷ Answered Done None ∷ [],
-      (refl, (x, refl, (Begin call.DowngradeToUpgradeable ∷ Step ∷ [], Begun ∷ Answered Done None ∷ [], refl, refl, (refl, refl)))),
-      refl,
-      refl,
-      w + 1,
-      Some x,
-      refl,
-      refl,
-      rw (fits_in w 1 small.1 (omega arith)) refl,
-    ),
-  ))
+  -- a writer that ends by a call writes its value, and then makes the call
+  abbrev ending : T → RwCall → List (OneMove T)
+  ending x c = Write x ∷ Begin c ∷ Step ∷ []
+
+  writes_and : (x : T) (c : RwCall) (to : View) (w : ℕ) → leaves_with (λ y. y ≡ x) c to (ending x c) ended w to
+  writes_and x c to w = (refl, (x, refl, (Begin c ∷ Step ∷ [], Begun ∷ Answered Done None ∷ [], refl, refl, (refl, refl))))
+
+  writer_reads_moves : (x : T) (u : View) → use_of_view u ≡ writes → (won : View) → Comes won
+      → Moves (Some u) (λ n. (n + (weight_of won - 1)) % 2 ^ 64) (To (Weighs 0) (λ n. won)) (leaves_with (λ y. y ≡ x) (downgrade_to won) won)
+  writer_reads_moves x u e Reading cm = writer_moves x u e (λ n. (n + 7) % 2 ^ 64) (To (Weighs 0) (λ n. Reading)) call.Downgrade Reading (λ w v (small, is).
+      (is, λ value. (ending x call.Downgrade, ended, writes_and x call.Downgrade Reading w, refl, refl, w + 7, Some x, refl, refl, rw (fits_in w 7 small.1 (omega arith)) refl)))
+  writer_reads_moves x u e Upgradable cm = writer_moves x u e (λ n. (n + 1) % 2 ^ 64) (To (Weighs 0) (λ n. Upgradable)) call.DowngradeToUpgradeable Upgradable (λ w v (small, is).
+      (is, λ value. (ending x call.DowngradeToUpgradeable, ended, writes_and x call.DowngradeToUpgradeable Upgradable w, refl, refl, w + 1, Some x, refl, refl, rw (fits_in w 1 small.1 (omega arith)) refl)))
+  writer_reads_moves x u e _ cm = absurd cm
 
   writer_leaves_moves : (x : T) (u : View) → use_of_view u ≡ writes → Moves (Some u) (λ n. (n + (2 ^ 64 - 1)) % 2 ^ 64) (To (Weighs 1) (λ n. Idle)) (leaves_with (λ y. y ≡ x) call.Release Idle)
-  writer_leaves_moves x u e = writer_moves x u e (λ n. (n + (2 ^ 64 - 1)) % 2 ^ 64) (To (Weighs 1) (λ n. Idle)) call.Release Idle (λ w v (some, is). (
-    is,
-    λ value. (
-      Write x ∷ Begin call.Release ∷ Step ∷ [],
-      Written ∷ Begun ∷ Answered Done None ∷ [],
-      (refl, (x, refl, (Begin call.Release ∷ Step ∷ [], Begun ∷ Answered Done None ∷ [], refl, refl, (refl, refl)))),
-      refl,
-      refl,
-      w - 1,
-      Some x,
-      refl,
-      refl,
-      rw (less_by w 1 some) refl,
-    ),
-  ))
+  writer_leaves_moves x u e = writer_moves x u e (λ n. (n + (2 ^ 64 - 1)) % 2 ^ 64) (To (Weighs 1) (λ n. Idle)) call.Release Idle (λ w v (some, is).
+      (is, λ value. (ending x call.Release, ended, writes_and x call.Release Idle w, refl, refl, w - 1, Some x, refl, refl, rw (less_by w 1 some) refl)))
 
-  release_moves : (u : View) (k : ℕ) → Holds u k → Moves (Some u) (λ n. (n + (2 ^ 64 - k)) % 2 ^ 64) (To (Weighs k) (λ n. Idle)) (ends_by call.Release (λ n. Done) (λ n. Idle))
-  release_moves Reading k e w value v (some, is) = rw (is, e) (Begin call.Release ∷ Step ∷ [], Begun ∷ Answered Done None ∷ [], (refl, (refl, refl)), refl, refl, w - 8, value, refl, refl, rw (less_by w 8 (rw e at some)) refl)
-  release_moves Upgradable k e w value v (some, is) = rw (is, e) (Begin call.Release ∷ Step ∷ [], Begun ∷ Answered Done None ∷ [], (refl, (refl, refl)), refl, refl, w - 2, value, refl, refl, rw (less_by w 2 (rw e at some)) refl)
-  release_moves _ k e w value v so = absurd e
+  abbrev released : List (OneMove T)
+  released = Begin call.Release ∷ Step ∷ []
+
+  release_moves : (won : View) → Comes won → Moves (Some won) (λ n. (n + (2 ^ 64 - weight_of won)) % 2 ^ 64) (To (Weighs (weight_of won)) (λ n. Idle)) (ends_by call.Release (λ n. Done) (λ n. Idle))
+  release_moves Reading cm w value v (some, is) = rw is (released, Begun ∷ Answered Done None ∷ [], (refl, (refl, refl)), refl, refl, w - 8, value, refl, refl, rw (less_by w 8 some) refl)
+  release_moves Upgradable cm w value v (some, is) = rw is (released, Begun ∷ Answered Done None ∷ [], (refl, (refl, refl)), refl, refl, w - 2, value, refl, refl, rw (less_by w 2 some) refl)
+  release_moves _ cm w value v so = absurd cm
 
   -- The moves of a reader that comes
 
@@ -313,62 +272,52 @@ module _ {T : Type 0} (v₀ : T) where
   by_found : (view : Option View) (old new : ℕ) (to : ℕ → View) (says : Says T) → Leads view old new to says → Moves view (swaps old new) (λ n v. v ≡ to n) says
   by_found view old new to says goes w value v is = goes w value v is (w == old) refl
 
+  abbrev granted : List (Ending T)
+  granted = Answered Granted None ∷ []
+
   -- the exchange of 0, by which it comes: two steps of the model where it wins, and one where it loses
-  try_read_first : (new : ℕ) → grants call.TryRead 0 ≡ Some new → Leads None 0 new (came Reading call.TryRead 0) (comes_by false Reading call.TryRead 0)
-  try_read_first new grant w value v is true e = (Begin call.TryRead ∷ Step ∷ Step ∷ [], Begun ∷ GoingOn ∷ Answered Granted None ∷ [], (is, rw e (refl, refl)), refl, refl, new, value, grind (arith, is, e, grant), grind (arith, is, e, grant), grind (arith, e))
-  try_read_first new grant w value v is false e = (Begin call.TryRead ∷ Step ∷ [], Begun ∷ missed call.TryRead w ∷ [], (is, rw e (refl, refl)), refl, grind arith, w, value, grind (arith, is, e, grant), grind (arith, e), grind (arith, e))
-
-  read_first : (new : ℕ) → grants call.Read 0 ≡ Some new → Leads None 0 new (came Reading call.Read 0) (comes_by false Reading call.Read 0)
-  read_first new grant w value v is true e = (Begin call.Read ∷ Step ∷ Step ∷ [], Begun ∷ GoingOn ∷ Answered Granted None ∷ [], (is, rw e (refl, refl)), refl, refl, new, value, grind (arith, is, e, grant), grind (arith, is, e, grant), grind (arith, e))
-  read_first new grant w value v is false e = (Begin call.Read ∷ Step ∷ [], Begun ∷ missed call.Read w ∷ [], (is, rw e (refl, refl)), refl, grind arith, w, value, grind (arith, is, e, grant), grind (arith, e), grind (arith, e))
-
-  try_upgradable_first : (new : ℕ) → grants call.TryUpgradeableRead 0 ≡ Some new → Leads None 0 new (came Upgradable call.TryUpgradeableRead 0) (comes_by false Upgradable call.TryUpgradeableRead 0)
-  try_upgradable_first new grant w value v is true e = (Begin call.TryUpgradeableRead ∷ Step ∷ Step ∷ [], Begun ∷ GoingOn ∷ Answered Granted None ∷ [], (is, rw e (refl, refl)), refl, refl, new, value, grind (arith, is, e, grant), grind (arith, is, e, grant), grind (arith, e))
-  try_upgradable_first new grant w value v is false e = (Begin call.TryUpgradeableRead ∷ Step ∷ [], Begun ∷ missed call.TryUpgradeableRead w ∷ [], (is, rw e (refl, refl)), refl, grind arith, w, value, grind (arith, is, e, grant), grind (arith, e), grind (arith, e))
-
-  upgradable_first : (new : ℕ) → grants call.UpgradeableRead 0 ≡ Some new → Leads None 0 new (came Upgradable call.UpgradeableRead 0) (comes_by false Upgradable call.UpgradeableRead 0)
-  upgradable_first new grant w value v is true e = (Begin call.UpgradeableRead ∷ Step ∷ Step ∷ [], Begun ∷ GoingOn ∷ Answered Granted None ∷ [], (is, rw e (refl, refl)), refl, refl, new, value, grind (arith, is, e, grant), grind (arith, is, e, grant), grind (arith, e))
-  upgradable_first new grant w value v is false e = (Begin call.UpgradeableRead ∷ Step ∷ [], Begun ∷ missed call.UpgradeableRead w ∷ [], (is, rw e (refl, refl)), refl, grind arith, w, value, grind (arith, is, e, grant), grind (arith, e), grind (arith, e))
+  first_leads : (won : View) (waits : Bool) → Comes won → (new : ℕ) → grants (call_of won waits) 0 ≡ Some new
+      → Leads None 0 new (came won (call_of won waits) 0) (comes_by false won (call_of won waits) 0)
+  first_leads Reading false cm new grant w value v is true e =
+      (Begin call.TryRead ∷ Step ∷ Step ∷ [], Begun ∷ GoingOn ∷ granted, (is, rw e (refl, refl)), refl, refl, new, value, grind (arith, is, e, grant), grind (arith, is, e, grant), grind (arith, e))
+  first_leads Reading false cm new grant w value v is false e =
+      (Begin call.TryRead ∷ Step ∷ [], Begun ∷ missed call.TryRead w ∷ [], (is, rw e (refl, refl)), refl, grind arith, w, value, grind (arith, is, e, grant), grind (arith, e), grind (arith, e))
+  first_leads Reading true cm new grant w value v is true e =
+      (Begin call.Read ∷ Step ∷ Step ∷ [], Begun ∷ GoingOn ∷ granted, (is, rw e (refl, refl)), refl, refl, new, value, grind (arith, is, e, grant), grind (arith, is, e, grant), grind (arith, e))
+  first_leads Reading true cm new grant w value v is false e =
+      (Begin call.Read ∷ Step ∷ [], Begun ∷ missed call.Read w ∷ [], (is, rw e (refl, refl)), refl, grind arith, w, value, grind (arith, is, e, grant), grind (arith, e), grind (arith, e))
+  first_leads Upgradable false cm new grant w value v is true e =
+      (Begin call.TryUpgradeableRead ∷ Step ∷ Step ∷ [], Begun ∷ GoingOn ∷ granted, (is, rw e (refl, refl)), refl, refl, new, value, grind (arith, is, e, grant), grind (arith, is, e, grant), grind (arith, e))
+  first_leads Upgradable false cm new grant w value v is false e =
+      (Begin call.TryUpgradeableRead ∷ Step ∷ [], Begun ∷ missed call.TryUpgradeableRead w ∷ [], (is, rw e (refl, refl)), refl, grind arith, w, value, grind (arith, is, e, grant), grind (arith, e), grind (arith, e))
+  first_leads Upgradable true cm new grant w value v is true e =
+      (Begin call.UpgradeableRead ∷ Step ∷ Step ∷ [], Begun ∷ GoingOn ∷ granted, (is, rw e (refl, refl)), refl, refl, new, value, grind (arith, is, e, grant), grind (arith, is, e, grant), grind (arith, e))
+  first_leads Upgradable true cm new grant w value v is false e =
+      (Begin call.UpgradeableRead ∷ Step ∷ [], Begun ∷ missed call.UpgradeableRead w ∷ [], (is, rw e (refl, refl)), refl, grind arith, w, value, grind (arith, is, e, grant), grind (arith, e), grind (arith, e))
+  first_leads _ waits cm new grant w value v is b e = absurd cm
 
   -- a further exchange, of the word that it found
-  try_read_again : (old new : ℕ) → grants call.TryRead old ≡ Some new → Leads (Some (Coming call.TryRead old)) old new (came Reading call.TryRead old) (comes_by true Reading call.TryRead old)
-  try_read_again old new grant w value v is true e = (Step ∷ [], Answered Granted None ∷ [], (is, rw e (refl, refl)), refl, refl, new, value, grind (arith, is, e, grant), grind (arith, is, e, grant), grind (arith, e))
-  try_read_again old new grant w value v is false e = (Step ∷ [], missed call.TryRead w ∷ [], (is, rw e (refl, refl)), refl, grind arith, w, value, grind (arith, is, e, grant), grind (arith, e, grant), grind (arith, e))
-
-  read_again : (old new : ℕ) → grants call.Read old ≡ Some new → Leads (Some (Coming call.Read old)) old new (came Reading call.Read old) (comes_by true Reading call.Read old)
-  read_again old new grant w value v is true e = (Step ∷ [], Answered Granted None ∷ [], (is, rw e (refl, refl)), refl, refl, new, value, grind (arith, is, e, grant), grind (arith, is, e, grant), grind (arith, e))
-  read_again old new grant w value v is false e = (Step ∷ [], missed call.Read w ∷ [], (is, rw e (refl, refl)), refl, grind arith, w, value, grind (arith, is, e, grant), grind (arith, e, grant), grind (arith, e))
-
-  try_upgradable_again : (old new : ℕ) → grants call.TryUpgradeableRead old ≡ Some new → Leads (Some (Coming call.TryUpgradeableRead old)) old new (came Upgradable call.TryUpgradeableRead old) (comes_by true Upgradable call.TryUpgradeableRead old)
-  try_upgradable_again old new grant w value v is true e = (Step ∷ [], Answered Granted None ∷ [], (is, rw e (refl, refl)), refl, refl, new, value, grind (arith, is, e, grant), grind (arith, is, e, grant), grind (arith, e))
-  try_upgradable_again old new grant w value v is false e = (Step ∷ [], missed call.TryUpgradeableRead w ∷ [], (is, rw e (refl, refl)), refl, grind arith, w, value, grind (arith, is, e, grant), grind (arith, e, grant), grind (arith, e))
-
-  upgradable_again : (old new : ℕ) → grants call.UpgradeableRead old ≡ Some new → Leads (Some (Coming call.UpgradeableRead old)) old new (came Upgradable call.UpgradeableRead old) (comes_by true Upgradable call.UpgradeableRead old)
-  upgradable_again old new grant w value v is true e = (Step ∷ [], Answered Granted None ∷ [], (is, rw e (refl, refl)), refl, refl, new, value, grind (arith, is, e, grant), grind (arith, is, e, grant), grind (arith, e))
-  upgradable_again old new grant w value v is false e = (Step ∷ [], missed call.UpgradeableRead w ∷ [], (is, rw e (refl, refl)), refl, grind arith, w, value, grind (arith, is, e, grant), grind (arith, e, grant), grind (arith, e))
-
-  -- where the call begins it may be any party that is out
-  first_moves : (won : View) (waits : Bool) → Comes won → (new : ℕ) → grants (call_of won waits) 0 ≡ Some new → Moves None (swaps 0 new) (λ n v. v ≡ came won (call_of won waits) 0 n) (comes_by false won (call_of won waits) 0)
-  first_moves Reading false cm new grant = by_found None 0 new (came Reading call.TryRead 0) (comes_by false Reading call.TryRead 0) (try_read_first new grant)
-  first_moves Reading true cm new grant = by_found None 0 new (came Reading call.Read 0) (comes_by false Reading call.Read 0) (read_first new grant)
-  first_moves Upgradable false cm new grant = by_found None 0 new (came Upgradable call.TryUpgradeableRead 0) (comes_by false Upgradable call.TryUpgradeableRead 0) (try_upgradable_first new grant)
-  first_moves Upgradable true cm new grant = by_found None 0 new (came Upgradable call.UpgradeableRead 0) (comes_by false Upgradable call.UpgradeableRead 0) (upgradable_first new grant)
-  first_moves _ waits cm new grant = absurd cm
-
-  again_moves : (won : View) (waits : Bool) → Comes won → (old new : ℕ) → grants (call_of won waits) old ≡ Some new
-      → Moves (Some (Coming (call_of won waits) old)) (swaps old new) (λ n v. v ≡ came won (call_of won waits) old n) (comes_by true won (call_of won waits) old)
-  again_moves Reading false cm old new grant = by_found (Some (Coming call.TryRead old)) old new (came Reading call.TryRead old) (comes_by true Reading call.TryRead old) (try_read_again old new grant)
-  again_moves Reading true cm old new grant = by_found (Some (Coming call.Read old)) old new (came Reading call.Read old) (comes_by true Reading call.Read old) (read_again old new grant)
-  again_moves Upgradable false cm old new grant = by_found (Some (Coming call.TryUpgradeableRead old)) old new (came Upgradable call.TryUpgradeableRead old) (comes_by true Upgradable call.TryUpgradeableRead old) (try_upgradable_again old new grant)
-  again_moves Upgradable true cm old new grant = by_found (Some (Coming call.UpgradeableRead old)) old new (came Upgradable call.UpgradeableRead old) (comes_by true Upgradable call.UpgradeableRead old) (upgradable_again old new grant)
-  again_moves _ waits cm old new grant = absurd cm
+  again_leads : (won : View) (waits : Bool) → Comes won → (old new : ℕ) → grants (call_of won waits) old ≡ Some new
+      → Leads (Some (Coming (call_of won waits) old)) old new (came won (call_of won waits) old) (comes_by true won (call_of won waits) old)
+  again_leads Reading false cm old new grant w value v is true e = (Step ∷ [], granted, (is, rw e (refl, refl)), refl, refl, new, value, grind (arith, is, e, grant), grind (arith, is, e, grant), grind (arith, e))
+  again_leads Reading false cm old new grant w value v is false e = (Step ∷ [], missed call.TryRead w ∷ [], (is, rw e (refl, refl)), refl, grind arith, w, value, grind (arith, is, e, grant), grind (arith, e, grant), grind (arith, e))
+  again_leads Reading true cm old new grant w value v is true e = (Step ∷ [], granted, (is, rw e (refl, refl)), refl, refl, new, value, grind (arith, is, e, grant), grind (arith, is, e, grant), grind (arith, e))
+  again_leads Reading true cm old new grant w value v is false e = (Step ∷ [], missed call.Read w ∷ [], (is, rw e (refl, refl)), refl, grind arith, w, value, grind (arith, is, e, grant), grind (arith, e, grant), grind (arith, e))
+  again_leads Upgradable false cm old new grant w value v is true e = (Step ∷ [], granted, (is, rw e (refl, refl)), refl, refl, new, value, grind (arith, is, e, grant), grind (arith, is, e, grant), grind (arith, e))
+  again_leads Upgradable false cm old new grant w value v is false e = (Step ∷ [], missed call.TryUpgradeableRead w ∷ [], (is, rw e (refl, refl)), refl, grind arith, w, value, grind (arith, is, e, grant), grind (arith, e, grant), grind (arith, e))
+  again_leads Upgradable true cm old new grant w value v is true e = (Step ∷ [], granted, (is, rw e (refl, refl)), refl, refl, new, value, grind (arith, is, e, grant), grind (arith, is, e, grant), grind (arith, e))
+  again_leads Upgradable true cm old new grant w value v is false e = (Step ∷ [], missed call.UpgradeableRead w ∷ [], (is, rw e (refl, refl)), refl, grind arith, w, value, grind (arith, is, e, grant), grind (arith, e, grant), grind (arith, e))
+  again_leads _ waits cm old new grant w value v is b e = absurd cm
 
   come_moves : (won : View) (waits : Bool) → Comes won → (view : Option View) (old new : ℕ) → MayCome (call_of won waits) old view → grants (call_of won waits) old ≡ Some new
       → Moves view (swaps old new) (λ n v. v ≡ came won (call_of won waits) old n) (comes_by (in_call view) won (call_of won waits) old)
   come_moves won waits cm view old new (inl (out, free)) grant =
       let c = call_of won waits in
-      rw (not_in_call view out, free) (as_new (swaps 0 new) (λ n v. v ≡ came won c 0 n) (comes_by false won c 0) view out (first_moves won waits cm new (rw free at grant)))
-  come_moves won waits cm view old new (inr is) grant = rw (is, in_its_call won waits cm old new grant) (again_moves won waits cm old new grant)
+      let says : Says T = comes_by false won c 0 in
+      rw (not_in_call view out, free) (as_new (swaps 0 new) (λ n v. v ≡ came won c 0 n) says view out (by_found None 0 new (came won c 0) says (first_leads won waits cm new (rw free at grant))))
+  come_moves won waits cm view old new (inr is) grant =
+      let c = call_of won waits in
+      rw (is, in_its_call won waits cm old new grant) (by_found (Some (Coming c old)) old new (came won c old) (comes_by true won c old) (again_leads won waits cm old new grant))
 
   -- the load of a call that waits, after a word that keeps it out
   look_moves : (won : View) → Comes won → (old : ℕ) → grants (call_of won true) old ≡ None → Moves (Some (Coming (call_of won true) old)) (λ n. n) (λ n v. v ≡ Coming (call_of won true) n) (looks_by (call_of won true))
@@ -524,16 +473,18 @@ module _ {T : Type 0} (opening : Opening T) where
         turns_on is (λ n. (n + 6) % 2 ^ 64) (To (Weighs 0) (λ n. Reading)) call.Downgrade (λ n. Answered Done None) (λ n. Reading) (downgrade_moves opening.value)
         (turns_by Upgradable Reading upgradable reading 6 (λ p. refl) (λ p. refl) (λ s. tt) refl refl)
 
-    leaves : (k : Kind) (u : View) → what view ≡ Some u → use_of_view u ≢ writes → Holds u (weight k) → ((p : ℕ) → entries_of p (part u) ≡ entries_of p (holds k)) → Keeps view shown (λ n. (n + (2 ^ 64 - weight k)) % 2 ^ 64) (ends_by call.Release (λ n. Done) (λ n. Idle))
-    leaves k u is not held was =
-        keeps_still view shown (is_not_writing u not (what view) is) (λ n. (n + (2 ^ 64 - weight k)) % 2 ^ 64) (To (Weighs (weight k)) (λ n. Idle)) (ends_by call.Release (λ n. Done) (λ n. Idle)) (nothing_by false call.Release (λ n. Answered Done None) (λ n. Idle))
-        (rw is (release_moves opening.value u (weight k) held)) (rw is (goes u k was))
+    leaves_as : (k : Kind) (won : View) → Comes won → weight_of won ≡ weight k → what view ≡ Some won → use_of_view won ≢ writes → ((p : ℕ) → entries_of p (part won) ≡ entries_of p (holds k))
+        → Keeps view shown (λ n. (n + (2 ^ 64 - weight k)) % 2 ^ 64) (ends_by call.Release (λ n. Done) (λ n. Idle))
+    leaves_as k won cm e is not was =
+        let so : ℕ → View → Type 0 = To (Weighs (weight k)) (λ n. Idle) in let says : Says T = ends_by call.Release (λ n. Done) (λ n. Idle) in
+        keeps_still view shown (is_not_writing won not (what view) is) (λ n. (n + (2 ^ 64 - weight k)) % 2 ^ 64) so says (nothing_by false call.Release (λ n. Answered Done None) (λ n. Idle))
+        (rw (is, sym e) (release_moves opening.value won cm)) (rw is (goes won k was))
 
-    pub reader_leaves : what view ≡ Some Reading → Keeps view shown (λ n. (n + (2 ^ 64 - 8)) % 2 ^ 64) (ends_by call.Release (λ n. Done) (λ n. Idle))
-    reader_leaves is = leaves reading Reading is (λ e. absurd cc) refl (λ p. refl)
-
-    pub upgradable_leaves : what view ≡ Some Upgradable → Keeps view shown (λ n. (n + (2 ^ 64 - 2)) % 2 ^ 64) (ends_by call.Release (λ n. Done) (λ n. Idle))
-    upgradable_leaves is = leaves upgradable Upgradable is (λ e. absurd cc) refl (λ p. refl)
+    -- a reader leaves, which subtracts its weight
+    pub reader_leaves : (won : View) → Comes won → (k : ℕ) → k ≡ weight_of won → what view ≡ Some won → Keeps view shown (λ n. (n + (2 ^ 64 - k)) % 2 ^ 64) (ends_by call.Release (λ n. Done) (λ n. Idle))
+    reader_leaves Reading cm k e is = rw e (leaves_as reading Reading cm refl is (λ e. absurd cc) (λ p. refl))
+    reader_leaves Upgradable cm k e is = rw e (leaves_as upgradable Upgradable cm refl is (λ e. absurd cc) (λ p. refl))
+    reader_leaves _ cm k e is = absurd cm
 
   pub peeks : (shown : Option T) (old new : ℕ) → grants call.TryRead old ≡ Some new → Admits Reading old new → Keeps None shown (swaps old new) (peeks_by old)
   peeks shown old new grant plain =
@@ -542,15 +493,16 @@ module _ {T : Type 0} (opening : Opening T) where
       (exchanges_at rw-lock None to_read Reading (λ n. Idle) old new refl (λ n. refl) (λ s p. refl) (λ s. tt) (λ s p order room e. plain s p (one_of_each s order.exclusive) room e))
 
   module _ (v : Numbered View) (x : T) (e : use_of_view v.0 ≡ writes) where
-    pub writer_reads : Keeps (Some v) (Some x) (λ n. (n + 7) % 2 ^ 64) (leaves_by call.Downgrade Reading)
-    writer_reads =
-        keeps_written v x e (λ n. (n + 7) % 2 ^ 64) (To (Weighs 0) (λ n. Reading)) call.Downgrade Reading (writer_reads_moves opening.value x v.0 e)
-        (turns_by v.0 Reading writing reading 7 (writes_as v.0 e) (λ p. refl) (λ s. tt) refl refl)
+    reads_as : (l : Kind) (won : View) → Comes won → may_turn writing l ≡ true → weight writing + (weight_of won - 1) ≡ weight l → ((p : ℕ) → entries_of p (part won) ≡ entries_of p (holds l)) → ((s : Plain) → Knows s (part won))
+        → Keeps (Some v) (Some x) (λ n. (n + (weight_of won - 1)) % 2 ^ 64) (leaves_by (downgrade_to won) won)
+    reads_as l won cm down less now knows =
+        keeps_written v x e (λ n. (n + (weight_of won - 1)) % 2 ^ 64) (To (Weighs 0) (λ n. won)) (downgrade_to won) won (writer_reads_moves opening.value x v.0 e won cm)
+        (turns_by v.0 won writing l (weight_of won - 1) (writes_as v.0 e) now knows down less)
 
-    pub writer_reads_upgradable : Keeps (Some v) (Some x) (λ n. (n + 1) % 2 ^ 64) (leaves_by call.DowngradeToUpgradeable Upgradable)
-    writer_reads_upgradable =
-        keeps_written v x e (λ n. (n + 1) % 2 ^ 64) (To (Weighs 0) (λ n. Upgradable)) call.DowngradeToUpgradeable Upgradable (writer_upgradable_moves opening.value x v.0 e)
-        (turns_by v.0 Upgradable writing upgradable 1 (writes_as v.0 e) (λ p. refl) (λ s. tt) refl refl)
+    pub writer_reads : (won : View) → Comes won → (k : ℕ) → k ≡ weight_of won → Keeps (Some v) (Some x) (λ n. (n + (k - 1)) % 2 ^ 64) (leaves_by (downgrade_to won) won)
+    writer_reads Reading cm k e = rw e (reads_as reading Reading cm refl refl (λ p. refl) (λ s. tt))
+    writer_reads Upgradable cm k e = rw e (reads_as upgradable Upgradable cm refl refl (λ p. refl) (λ s. tt))
+    writer_reads _ cm k e = absurd cm
 
     pub writer_leaves : Keeps (Some v) (Some x) (λ n. (n + (2 ^ 64 - 1)) % 2 ^ 64) (leaves_by call.Release Idle)
     writer_leaves =

@@ -1,11 +1,11 @@
 -- The rule of a read-write lock. Its word is that of a plain lock whose holders are its parties. Its trace is a
 -- schedule of the lock's model, which leads there.
 use Rattle.std.specs.Prelude.{◌≡◌, ◌≢◌, ◌⊎◌, ℕ, List, [], ◌∷◌, Bool, true, false, Option, Some, None, is_some, ◌==◌, if◌then◌else◌, map}
-use Rattle.spin_step.specs.Plain.{Plain, reading, upgradable, asking, writing, Ask, to_read, to_read_upgradable, rw_word}
+use Rattle.spin_step.specs.Plain.{Plain, reading, upgradable, asking, writing, weight, Ask, to_read, to_read_upgradable, rw_word}
 use Rattle.spin_step.specs.Orders.{IsInOrder}
 use Rattle.spin_step_more.specs.Readers.{reader_limit, readers_in, read, read_upgradable}
 use Rattle.spin_step_more.specs.declared.rw_calls.RwCall.{RwCall}
-use Rattle.spin_step_more.specs.declared.rw_calls.RwCall.TheVariants.{TryRead, Read, TryUpgradeableRead, UpgradeableRead, Write, ReaderCount, Upgrade}
+use Rattle.spin_step_more.specs.declared.rw_calls.RwCall.TheVariants.{TryRead, Read, TryUpgradeableRead, UpgradeableRead, Write, ReaderCount, Upgrade, Downgrade, DowngradeToUpgradeable}
 use Rattle.spin_step_more.specs.declared.rw_calls.RwPoint.{RwPoint}
 use Rattle.spin_step_more.specs.declared.rw_calls.RwPoint.TheVariants as point
 use Rattle.spin_step_more.specs.RwCalls.{rw_machine}
@@ -56,7 +56,8 @@ grants TryUpgradeableRead n = read_upgradable reader_limit n
 grants UpgradeableRead n = read_upgradable reader_limit n
 grants _ n = None
 
--- where such a call sits in the model after a word that does not admit it: at its first step again, or it has failed
+-- Where such a call sits in the model after a word that does not admit it. If it waits, it is at its first step again.
+-- If it tries, it has failed, and its party is in no call.
 abbrev pub kept_out : RwCall → Seat RwCall RwPoint
 kept_out Read = seat.Calling Read point.First None
 kept_out UpgradeableRead = seat.Calling UpgradeableRead point.First None
@@ -96,7 +97,7 @@ module _ {T : Type 0} where
   abbrev pub model : T → Machine ℕ T RwCall RwPoint (Answer T)
   model v = rw_machine v reader_limit
 
-  -- of the word, the trace and the parties, of a lock that opened so
+  -- the rule of a lock with this opening: what its word, its trace and its parties say of one another
   abbrev pub IsRw : Opening T → ℕ → Trace (Done T) (Unit {0}) → List (Numbered View) → Type 0
   IsRw opening = Runs (model opening.value) seat_of words_of Word opening.name
 
@@ -245,6 +246,16 @@ call_of Upgradable true = UpgradeableRead
 call_of Upgradable false = TryUpgradeableRead
 call_of _ true = Read
 call_of _ false = TryRead
+
+-- the weight of a reader of this view in the word
+abbrev pub weight_of : View → ℕ
+weight_of Upgradable = weight upgradable
+weight_of _ = weight reading
+
+-- the call by which a writer becomes a reader of this view
+abbrev pub downgrade_to : View → RwCall
+downgrade_to Upgradable = DowngradeToUpgradeable
+downgrade_to _ = Downgrade
 
 -- what the call asks of the plain lock
 abbrev pub asks : View → Ask

@@ -89,8 +89,10 @@ impl<T, R> RwLock<T, R> {
     /// A guard is that of a reader. `None` promises nothing. Whether and when the call returns is not promised.
     #[must_use = "dropping the guard at once releases the lock: bind the answer, or write `drop(..)`"]
     pub fn try_read<W: Wait>(&self, rt: &W) -> Option<RwLockReadGuard<'_, T, R>> {
-        let (guard, _) = self.pass().try_read(rt).ok()?;
-        Some(guard)
+        match self.pass().try_read(rt) {
+            Ok((guard, _)) => Some(guard),
+            Err(_) => None,
+        }
     }
 
     /// Tries to acquire upgradable shared access. Returns `None` if a writer or an upgradable reader holds the lock.
@@ -103,8 +105,10 @@ impl<T, R> RwLock<T, R> {
     /// promised.
     #[must_use = "dropping the guard at once releases the lock: bind the answer, or write `drop(..)`"]
     pub fn try_upgradeable_read<W: Wait>(&self, rt: &W) -> Option<RwLockUpgradableGuard<'_, T, R>> {
-        let (guard, _) = self.pass().try_upgradeable_read(rt).ok()?;
-        Some(guard)
+        match self.pass().try_upgradeable_read(rt) {
+            Ok((guard, _)) => Some(guard),
+            Err(_) => None,
+        }
     }
 
     /// Tries to acquire exclusive access. Returns `None` at once if any thread holds the lock.
@@ -126,8 +130,10 @@ impl<T, R> RwLock<T, R> {
     /// ```
     #[must_use = "dropping the guard at once releases the lock: bind the answer, or write `drop(..)`"]
     pub fn try_write<'a>(&'a self) -> Option<RwLockWriteGuard<'a, T, R>> {
-        let (guard, _) = self.pass().try_write().ok()?;
-        Some(guard)
+        match self.pass().try_write() {
+            Ok((guard, _)) => Some(guard),
+            Err(_) => None,
+        }
     }
 
     /// Like [`try_write`](Self::try_write), but may fail spuriously, so call it in a loop. (This implementation never
@@ -189,7 +195,7 @@ impl<T, R> RwLock<T, R> {
 
     /// Releases the shared access that the hold keeps.
     ///
-    /// The call consumes the hold, so no reader is released twice.
+    /// A hold releases its access at most once, since the call consumes it.
     ///
     /// # Contract
     /// No clause. The call returns.
@@ -199,7 +205,7 @@ impl<T, R> RwLock<T, R> {
 
     /// Releases the exclusive access that the hold keeps.
     ///
-    /// The call consumes the hold, so no writer is released twice.
+    /// A hold releases its access at most once, since the call consumes it.
     ///
     /// # Contract
     /// No clause. The call returns.

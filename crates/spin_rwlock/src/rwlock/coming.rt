@@ -15,7 +15,7 @@ use super::pass::Pass;
 use super::reader::{RwLockReadGuard, SharedGuard};
 use super::rule::{CountsReaders, Entry, Kind, Party, RwPermit, RwRule};
 use spin_core::cell::{Cell, Play};
-use spin_core::relax::{Loop, RelaxStrategy, Spin};
+use spin_core::relax::{RelaxStrategy, Spin};
 use spin_core::tie::Opening;
 use spin_core::trace::Watch;
 use spin_step_more::rw;
@@ -165,19 +165,27 @@ impl<'a, T, K: Kind, M: Mode, R> Coming<'a, T, K, M, R> {
 }
 
 impl<'a, T, K: Kind, R> Coming<'a, T, K, Tries, R> {
-    ghost use Rattle.spin_rwlock.specs.Waits.{SeeksOn, IsRefused, TriesOn};
+    ghost use Rattle.spin_rwlock.specs.Waits.{SeeksOn, IsLetIn, IsRefused};
 
-    // Tries again, at the word that it found.
-    fn try_again(self) -> Result<Result<Lent<'a, T, K, R>, Pass<'a, T, R>>, Self>
-        ensures { TriesOn (call_of K.view false) self.entry result }
+    // Tries again until it is let in or kept out.
+    // It is not inlined, since that would lengthen the path of every caller that loses no race.
+    #[cold]
+    #[inline(never)]
+    fn keep_trying<W: Wait>(self, rt: &W) -> Result<Lent<'a, T, K, R>, Pass<'a, T, R>>
+        ensures lent { IfOk result (IsLetIn (call_of K.view false) self.entry) }
+        ensures refused { IfErr result (IsRefused (call_of K.view false) self.entry) }
     {
-        match self.try_at() {
-            Ok(lent) => Ok(Ok(lent)),
-            Err(coming) => match coming.settle() {
-                Ok(pass) => Ok(Err(pass)),
-                Err(coming) => Err(coming),
-            },
+        let mut coming = self;
+        for _ in rt.forever() {
+            match coming.try_at() {
+                Ok(lent) => return Ok(lent),
+                Err(missed) => match missed.settle() {
+                    Ok(pass) => return Err(pass),
+                    Err(next) => coming = next,
+                },
+            }
         }
+        unreachable!()
     }
 
     // Ends the call if it is kept out.
@@ -185,16 +193,21 @@ impl<'a, T, K: Kind, R> Coming<'a, T, K, Tries, R> {
         ensures refused { IfOk result (IsRefused (call_of K.view false) self.entry) }
         ensures missed { IfErr result (SeeksOn (call_of K.view false) self.entry) }
     {
-        if !self.is_kept_out() {
-            return Err(self);
-        }
         let Self {
             permit,
             seen,
-            word: _,
+            word,
             marker: _,
         } = self;
-        Ok(Pass::new(permit, seen))
+        match K::next(word) {
+            Some(_) => Err(Coming {
+                permit,
+                seen,
+                word,
+                marker: PhantomData,
+            }),
+            None => Ok(Pass::new(permit, seen)),
+        }
     }
 }
 
@@ -274,7 +287,7 @@ pub(super) fn try_to_lend<'a, T, K: Kind, R, W: Wait>(
     };
     match coming.settle() {
         Ok(pass) => Err(pass),
-        Err(coming) => Loop::retry(rt, coming, Coming::try_again),
+        Err(coming) => coming.keep_trying(rt),
     }
 }
 
@@ -282,10 +295,11 @@ pub(super) fn try_to_lend<'a, T, K: Kind, R, W: Wait>(
 pub(super) fn peek<T, R>(cell: &Cell<T, Party, RwRule<T>>) -> Option<RwLockReadGuard<'_, T, R>> {
     let word = cell.enter().look::<CountsReaders>(Watch::nothing()).0 as usize;
     let next = rw::read(word, rw::MAX_READERS)?;
-    let permit = cell
+    let (tried, _) = cell
         .enter()
-        .attempt::<Peeks>(word as u64, next as u64, Watch::nothing())
-        .0
-        .ok()?;
-    Some(SharedGuard::new(permit))
+        .attempt::<Peeks>(word as u64, next as u64, Watch::nothing());
+    match tried {
+        Ok(permit) => Some(SharedGuard::new(permit)),
+        Err(_) => None,
+    }
 }

@@ -15,7 +15,6 @@ use super::coming::{Coming, Lent, Waits, try_to_lend};
 use super::reader::{RwLockReadGuard, SharedGuard};
 use super::rule::{
     self, CountsReaders, CountsWriters, Entry, Kind, Reader, RwPermit, TriesToWrite, Upgrader,
-    Waiting,
 };
 use super::upgradable::RwLockUpgradableGuard;
 use super::writer::RwLockWriteGuard;
@@ -34,9 +33,10 @@ use std::sync::Wait;
 /// of others. A pass is as large as a reference to the lock. It can be sent, and a lock can have any number of passes.
 ///
 /// # Contract
-/// Each call takes the pass, or a guard and what the pass knew with it, and returns it. It ensures `Called`: among the
-/// new moves of the history, those of this pass are exactly one call with the returned answer. In the lock's model that
-/// call gets this answer, at its place among the moves of all threads. No move of the history is skipped.
+/// Each call takes the pass, or a guard and what the pass knew when it got the guard, and returns them. It ensures
+/// `Called`: among the new moves of the history, those of this pass are exactly one call with the returned answer. In
+/// the lock's model that call gets this answer, at its place among the moves of all threads. No move of the history is
+/// skipped.
 ///
 /// A writer that releases or downgrades writes the value that it leaves into the history first (`Wrote`). So the value
 /// of a guard is the one written last there, until the owner borrows it by `get_mut` (`found`).
@@ -77,8 +77,8 @@ impl<T, R> RwLock<T, R> {
     /// A guard that is dropped releases the lock too, and ends its pass.
     ///
     /// # Contract
-    /// `seen` has to be what the pass knew with the guard (`ReadsWith`). The call is in the history, as the pass's
-    /// next one (`made`). The guard's value is still the one written last there (`still`).
+    /// `seen` has to be what the pass knew when it got the guard (`ReadsWith`). The pass makes one call, `Release`
+    /// (`made`). The guard's value is still the one written last in the history (`still`).
     pub fn unlock_shared<'a, K: Kind>(
         guard: SharedGuard<'a, T, K, R>,
         seen: Watch<Entry<T>>,
@@ -88,7 +88,7 @@ impl<T, R> RwLock<T, R> {
         ensures made { Called (shared_opening guard.entry).value Release Done (shared_party guard.entry) seen.entries result.permit.view result.seen.entries }
         ensures same { (result.seen.name ≡ seen.name) × (result.permit.key ≡ shared_opening guard.entry) }
     {
-        let (permit, seen) = K::release(guard.into_permit(), seen);
+        let (permit, seen) = rule::release::<T, K>(guard.into_permit(), seen);
         Pass::new(permit, seen)
     }
 
@@ -97,9 +97,9 @@ impl<T, R> RwLock<T, R> {
     /// A guard that is dropped releases the lock too, and ends its pass.
     ///
     /// # Contract
-    /// `seen` has to be what the pass knew with the guard (`WritesWith`). The pass makes the call, as its next one,
-    /// behind a write (`made`): it writes the guard's value into the history (`wrote`). So that value is the one
-    /// written last (`left`).
+    /// `seen` has to be what the pass knew when it got the guard (`WritesWith`). The pass writes the guard's value into
+    /// the history, and then makes one call, `Release` (`made`, `wrote`). So that value is the one written last
+    /// (`left`).
     pub fn unlock<'a>(guard: RwLockWriteGuard<'a, T, R>, seen: Watch<Entry<T>>) -> Pass<'a, T, R>
         requires { WritesWith guard seen }
         ensures made { Wrote (write_opening guard.entry).value (λ x. Unit {0}) Release (write_party guard.entry) seen.entries result.permit.view result.seen.entries }
@@ -178,7 +178,7 @@ impl<'a, T, R: RelaxStrategy> Pass<'a, T, R> {
         } = self;
         let (writer, seen) = match rule::write(permit, seen) {
             Ok(held) => held,
-            Err(waiting) => R::back_off(rt, waiting, Waiting::write),
+            Err(waiting) => waiting.wait::<R, W>(rt),
         };
         (RwLockWriteGuard::new(writer), seen)
     }

@@ -4,7 +4,7 @@ ghost use Rattle.spin_core.specs.Own.{what};
 ghost use Rattle.spin_rwlock.specs.Rw.{IsLent};
 ghost use Rattle.spin_rwlock.specs.declared.rwlock.rule.View.TheVariants.{Reading};
 
-use super::rule::{Kind, Party, Reader, RwPermit, RwRule};
+use super::rule::{Kind, Party, Reader, RwPermit, RwRule, release};
 use spin_core::cell::Permit;
 use spin_core::relax::Spin;
 use spin_core::trace::Watch;
@@ -134,18 +134,11 @@ impl<'a, T, R> ReadHeld<'a, T, R> {
         ensures value { shared_value result ≡ read_held_value self.entry }
         ensures party { (shared_party result ≡ read_held_party self.entry) × (result.permit.key ≡ self.entry.permit.key) }
     {
-        SharedGuard::new(self.into_permit())
-    }
-
-    fn into_permit(self) -> RwPermit<'a, T>
-        ensures reads { what result.view ≡ Some Reading }
-        ensures same { result ≡ self.entry.permit }
-    {
         let Self {
             permit,
             strategy: _,
         } = self;
-        permit
+        SharedGuard::new(permit)
     }
 }
 
@@ -165,13 +158,19 @@ impl<T, K: Kind, R> Deref for SharedGuard<'_, T, K, R> {
 
 impl<T, K: Kind, R> Drop for SharedGuard<'_, T, K, R> {
     fn drop(self) {
-        K::release(self.into_permit(), Watch::nothing()).0.leave();
+        release::<T, K>(self.into_permit(), Watch::nothing())
+            .0
+            .leave();
     }
 }
 
 impl<T, R> Drop for ReadHeld<'_, T, R> {
     fn drop(self) {
-        self.into_permit().leak();
+        let Self {
+            permit,
+            strategy: _,
+        } = self;
+        permit.leak();
     }
 }
 

@@ -1,6 +1,6 @@
 //! What a party is to an `RwLock`, what the word of the lock says of its parties, and each kind of step. Begin at
 //! [`RwRule`].
-ghost use Rattle.std.specs.Prelude.{◌≡◌, ℕ, Bool, false, refl, Some, None, IfOk, IfErr};
+ghost use Rattle.std.specs.Prelude.{◌≡◌, ℕ, Bool, true, false, refl, Some, None, IfOk, IfErr};
 ghost use Rattle.spin_step.specs.Plain.{Plain, gets, rw_word};
 ghost use Rattle.spin_step.specs.Steps.{Decides};
 ghost use Rattle.spin_step_more.specs.Readers.{OneOfEach, reader_limit, readers_in, writers_in};
@@ -9,18 +9,21 @@ ghost use Rattle.spin_model.specs.declared.answer.Answer.TheVariants as answer;
 ghost use Rattle.spin_model.specs.declared.schedule.Outcome.TheVariants.{Answered, GoingOn};
 ghost use Rattle.spin_core.specs.Cell.{reads};
 ghost use Rattle.spin_core.specs.Own.{what};
-ghost use Rattle.spin_core.specs.Passes.{Waits, Ends, IsCall, IsStep};
+ghost use Rattle.spin_core.specs.Passes.{IsCall, IsStep};
 ghost use Rattle.spin_core.specs.Values.{IsLast, untold};
-ghost use Rattle.spin_rwlock.specs.Rw.{IsRw, IsRwWord, Told, ends_by, leaves_by, counts_by, writes_by, asks_by, upgrades_by, either_at, given, rw_ways, use_of_view, IsLent, Comes, MayWrite, in_call, grants, call_of, asks, Moves};
+ghost use Rattle.spin_rwlock.specs.Rw.{IsRw, IsRwWord, Told, ends_by, leaves_by, counts_by, writes_by, asks_by, upgrades_by, either_at, given, rw_ways, use_of_view, IsLent, Comes, MayWrite, in_call, grants, call_of, asks, weight_of, downgrade_to, Moves};
 ghost use Rattle.spin_rwlock.specs.Steps.{Knows, KnowsWriter, MayKnow, MayKnowWriter, ShowsLast, WritesLast, Makes, MakesWriter, EndsWriting};
 ghost use Rattle.spin_rwlock.specs.declared.rwlock.rule.View.{View};
 ghost use Rattle.spin_rwlock.specs.declared.rwlock.rule.View.TheVariants.{Idle, Reading, Upgradable, Asking, Writing, WritingAsked, WaitingToWrite};
 
 use spin_core::cell::{Cell, Permit, Play, Rule, WritePermit};
+use spin_core::relax::{MAX_HINTS, RelaxStrategy};
 use spin_core::tie::{self, Opening};
 use spin_core::trace::{Trace, Watch};
 use spin_step_more::rw;
 use spin_step_more::rw_calls::RwCall;
+use std::marker::PhantomData;
+use std::sync::Wait;
 
 // The weight of a holder of each kind in the word.
 const READER: u64 = rw::READER as u64;
@@ -132,11 +135,13 @@ impl<T> Play<Opening<T>, Party, Entry<T>> for Upgrades {
     ghost told = { λ key old new before. Told key.value (upgrades_by old) before };
 }
 
-// The addition by which the writer becomes a reader.
-struct Downgrades;
+// The addition by which the writer becomes a reader of kind `K`.
+struct Downgrades<K> {
+    marker: PhantomData<K>,
+}
 
-impl<T> Play<Opening<T>, Party, Entry<T>> for Downgrades {
-    ghost told = { λ key old new before. Told key.value (leaves_by Downgrade Reading) before };
+impl<T, K: Kind> Play<Opening<T>, Party, Entry<T>> for Downgrades<K> {
+    ghost told = { λ key old new before. Told key.value (leaves_by (downgrade_to K.view) K.view) before };
 }
 
 // The addition by which the upgradable reader becomes a plain one.
@@ -144,13 +149,6 @@ struct ReadsOn;
 
 impl<T> Play<Opening<T>, Party, Entry<T>> for ReadsOn {
     ghost told = { λ key old new before. Told key.value (ends_by Downgrade (λ n. answer.Done) (λ n. Reading)) before };
-}
-
-// The addition by which the writer becomes the upgradable reader.
-struct DowngradesToUpgradable;
-
-impl<T> Play<Opening<T>, Party, Entry<T>> for DowngradesToUpgradable {
-    ghost told = { λ key old new before. Told key.value (leaves_by DowngradeToUpgradeable Upgradable) before };
 }
 
 // The subtraction by which the writer leaves.
@@ -175,6 +173,11 @@ pub trait Kind {
     // The view of its party.
     ghost view: { View };
 
+    ghost WEIGHT: { ℕ };
+
+    /// The weight of such a reader in the word.
+    const WEIGHT: u64;
+
     /// Returns the word after such a reader is let in at this word, or `None` if the word lets none in.
     ///
     /// # Contract
@@ -183,23 +186,11 @@ pub trait Kind {
         ensures exact { (waits : Bool) → result ≡ grants (call_of Self.view waits) word }
         ensures plain { (s : Plain) (party : ℕ) → OneOfEach s → s.cap ≡ reader_limit → rw_word s ≡ word → Decides s (gets party (asks Self.view)) rw_word result };
 
-    /// Releases the shared access of such a reader, whose party is out then.
-    ///
-    /// # Contract
-    /// The caller hands over a party with the view of the kind. The release is one call (`made`). The value that it
-    /// read is still the one written last (`still`).
-    fn release<'a, T>(
-        party: RwPermit<'a, T>,
-        seen: Watch<Entry<T>>,
-    ) -> (RwPermit<'a, T>, Watch<Entry<T>>)
-        requires { (what party.view ≡ Some Self.view) × MayKnow party seen }
-        ensures idle { (what result.0.view ≡ Some Idle) × (result.0.key ≡ party.entry.key) }
-        ensures still { ShowsLast party.entry result.1 }
-        ensures made { Makes (IsCall Release answer.Done) party.entry seen result.0 result.1 };
-
     ghost lends: { use_of_view Self.view ≡ reads };
 
     ghost comes: { Comes Self.view };
+
+    ghost weighs: { WEIGHT ≡ weight_of view };
 }
 
 /// The kind of a plain reader.
@@ -211,51 +202,37 @@ pub struct Upgrader;
 impl Kind for Reader {
     ghost view = { Reading };
 
+    ghost WEIGHT = { weight_of Reading };
+
+    const WEIGHT: u64 = READER;
+
     fn next(word: usize) -> Option<usize> {
         rw::read(word, rw::MAX_READERS)
-    }
-
-    fn release<'a, T>(
-        party: RwPermit<'a, T>,
-        seen: Watch<Entry<T>>,
-    ) -> (RwPermit<'a, T>, Watch<Entry<T>>)
-        requires { (what party.view ≡ Some Reading) × MayKnow party seen }
-        ensures idle { (what result.0.view ≡ Some Idle) × (result.0.key ≡ party.entry.key) }
-        ensures still { ShowsLast party.entry result.1 }
-        ensures made { Makes (IsCall Release answer.Done) party.entry seen result.0 result.1 }
-    {
-        let (_, party, seen) = party.subtract::<Releases>(READER, seen);
-        (party, seen)
     }
 
     ghost lends = { refl };
 
     ghost comes = { tt };
+
+    ghost weighs = { refl };
 }
 
 impl Kind for Upgrader {
     ghost view = { Upgradable };
 
+    ghost WEIGHT = { weight_of Upgradable };
+
+    const WEIGHT: u64 = UPGRADABLE;
+
     fn next(word: usize) -> Option<usize> {
         rw::upgradable(word, rw::MAX_READERS)
-    }
-
-    fn release<'a, T>(
-        party: RwPermit<'a, T>,
-        seen: Watch<Entry<T>>,
-    ) -> (RwPermit<'a, T>, Watch<Entry<T>>)
-        requires { (what party.view ≡ Some Upgradable) × MayKnow party seen }
-        ensures idle { (what result.0.view ≡ Some Idle) × (result.0.key ≡ party.entry.key) }
-        ensures still { ShowsLast party.entry result.1 }
-        ensures made { Makes (IsCall Release answer.Done) party.entry seen result.0 result.1 }
-    {
-        let (_, party, seen) = party.subtract::<Releases>(UPGRADABLE, seen);
-        (party, seen)
     }
 
     ghost lends = { refl };
 
     ghost comes = { tt };
+
+    ghost weighs = { refl };
 }
 
 /// A party in `write` whose next step is the exchange.
@@ -267,14 +244,27 @@ pub(super) struct Waiting<'a, T> {
 }
 
 impl<'a, T> Waiting<'a, T> {
-    ghost use Rattle.spin_rwlock.specs.Waits.{WritesOn};
+    ghost use Rattle.spin_rwlock.specs.Waits.{IsGranted};
 
-    /// Tries again.
-    pub(super) fn write(self) -> Result<(Writer<'a, T>, Watch<Entry<T>>), Self>
-        ensures { WritesOn self.entry result }
+    /// Backs off and tries again, until no thread holds the lock.
+    // It repeats the loop of `back_off`. If `write` were passed there, the caller would take much longer to prove.
+    #[cold]
+    #[inline(never)]
+    pub(super) fn wait<R: RelaxStrategy, W: Wait>(self, rt: &W) -> (Writer<'a, T>, Watch<Entry<T>>)
+        ensures { IsGranted Write self.entry.permit self.entry.seen result }
     {
-        let Self { permit, seen } = self;
-        write(permit, seen)
+        let mut hints = 1;
+        let mut waiting = self;
+        for _ in rt.forever() {
+            R::pause(rt, hints);
+            let Self { permit, seen } = waiting;
+            match write(permit, seen) {
+                Ok(held) => return held,
+                Err(next) => waiting = next,
+            }
+            hints = hints.saturating_mul(2).min(MAX_HINTS);
+        }
+        unreachable!()
     }
 }
 
@@ -343,8 +333,8 @@ pub(super) fn upgrade_asked<'a, T>(
     ensures writes { IfOk result (λ held. (held.0.view.0 ≡ WritingAsked) × (party.entry.value ≡ Some held.0.value) × (held.0.key ≡ party.entry.key)) }
     ensures asks { IfErr result (λ still. IsLent still.0 Asking × (still.0.value ≡ party.entry.value) × (still.0.key ≡ party.entry.key)) }
     ensures found { IfOk result (λ held. WritesLast held.0 held.1) }
-    ensures granted { IfOk result (λ held. MakesWriter (Ends answer.Granted) party.entry seen held.0 held.1) }
-    ensures missed { IfErr result (λ still. Makes Waits party.entry seen still.0 still.1) }
+    ensures granted { IfOk result (λ held. MakesWriter (IsStep true Upgrade (Answered answer.Granted None)) party.entry seen held.0 held.1) }
+    ensures missed { IfErr result (λ still. Makes (IsStep true Upgrade GoingOn) party.entry seen still.0 still.1) }
 {
     let expected = UPGRADABLE + ASKING;
     let next = rw::upgrade_asked(rw::UPGRADABLE + rw::ASKING).unwrap();
@@ -356,33 +346,19 @@ pub(super) fn upgrade_asked<'a, T>(
     }
 }
 
-/// Makes the writer a reader, as `rw::write_to_read` says. It writes its value into the history.
-pub(super) fn write_to_read<'a, T>(
+/// Makes the writer a reader of kind `K`, as `rw::write_to_read` and `rw::write_to_upgradable` say. It writes its value
+/// into the history.
+pub(super) fn write_to_lent<'a, T, K: Kind>(
     writer: Writer<'a, T>,
     seen: Watch<Entry<T>>,
 ) -> (RwPermit<'a, T>, Watch<Entry<T>>)
     requires { MayKnowWriter writer seen }
-    ensures reads { (what result.0.view ≡ Some Reading) × (result.0.value ≡ Some writer.entry.value) × (result.0.key ≡ writer.entry.key) }
+    ensures reads { (what result.0.view ≡ Some K.view) × (result.0.value ≡ Some writer.entry.value) × (result.0.key ≡ writer.entry.key) }
     ensures left { IsLast writer.entry.key result.1.entries writer.entry.value }
-    ensures wrote { EndsWriting Downgrade writer.entry seen result.0 result.1 }
+    ensures wrote { EndsWriting (downgrade_to K.view) writer.entry seen result.0 result.1 }
 {
     let permit = writer.into_permit();
-    let (_, party, seen) = permit.add::<Downgrades>(READER - WRITER, seen);
-    (party, seen)
-}
-
-/// Makes the writer the upgradable reader, as `rw::write_to_upgradable` says. It writes its value into the history.
-pub(super) fn write_to_upgradable<'a, T>(
-    writer: Writer<'a, T>,
-    seen: Watch<Entry<T>>,
-) -> (RwPermit<'a, T>, Watch<Entry<T>>)
-    requires { MayKnowWriter writer seen }
-    ensures reads { (what result.0.view ≡ Some Upgradable) × (result.0.value ≡ Some writer.entry.value) × (result.0.key ≡ writer.entry.key) }
-    ensures left { IsLast writer.entry.key result.1.entries writer.entry.value }
-    ensures wrote { EndsWriting DowngradeToUpgradeable writer.entry seen result.0 result.1 }
-{
-    let permit = writer.into_permit();
-    let (_, party, seen) = permit.add::<DowngradesToUpgradable>(UPGRADABLE - WRITER, seen);
+    let (_, party, seen) = permit.add::<Downgrades<K>>(K::WEIGHT - WRITER, seen);
     (party, seen)
 }
 
@@ -412,5 +388,19 @@ pub(super) fn release_write<'a, T>(
 {
     let permit = writer.into_permit();
     let (_, party, seen) = permit.subtract::<Frees>(WRITER, seen);
+    (party, seen)
+}
+
+/// Releases the shared access of a reader of kind `K`, whose party is out then.
+pub(super) fn release<'a, T, K: Kind>(
+    party: RwPermit<'a, T>,
+    seen: Watch<Entry<T>>,
+) -> (RwPermit<'a, T>, Watch<Entry<T>>)
+    requires { (what party.view ≡ Some K.view) × MayKnow party seen }
+    ensures idle { (what result.0.view ≡ Some Idle) × (result.0.key ≡ party.entry.key) }
+    ensures still { ShowsLast party.entry result.1 }
+    ensures made { Makes (IsCall Release answer.Done) party.entry seen result.0 result.1 }
+{
+    let (_, party, seen) = party.subtract::<Releases>(K::WEIGHT, seen);
     (party, seen)
 }

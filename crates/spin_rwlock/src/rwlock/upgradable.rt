@@ -5,6 +5,7 @@ ghost use Rattle.spin_step_more.specs.declared.rw_calls.RwCall.TheVariants.{TryU
 ghost use Rattle.spin_rwlock.specs.Guards.{write_value, shared_party, write_party, shared_opening, write_opening, ReadsWith, WritesWith, ReadsLast, FindsLast};
 ghost use Rattle.spin_rwlock.specs.Rw.{IsLent, Called};
 ghost use Rattle.spin_rwlock.specs.Steps.{Knows};
+ghost use Rattle.spin_rwlock.specs.Waits.{IsGranted};
 ghost use Rattle.spin_rwlock.specs.declared.rwlock.rule.View.TheVariants.{Asking, WritingAsked};
 
 use super::reader::{RwLockReadGuard, SharedGuard};
@@ -56,12 +57,14 @@ impl<'a, T, R> SharedGuard<'a, T, Upgrader, R> {
         }
     }
 
-    /// Tries to become the writer, as [`try_upgrade`](Self::try_upgrade) does, in the call of a pass.
+    /// Like [`try_upgrade`](Self::try_upgrade), for a guard that a [`Pass`](super::Pass) acquired.
+    ///
+    /// The call takes what the pass knows of the lock's history, and returns it with its own steps added.
     ///
     /// # Contract
-    /// `seen` has to be what the pass knew with the guard (`ReadsWith`). The call is one `TryUpgrade`, with the answer
-    /// `Granted` and a writer's guard, or else `Refused`. The guard has the value that this one had: the one written
-    /// last in the history (`found`, `shown`).
+    /// `seen` has to be what the pass knew when it got this guard (`ReadsWith`). The pass makes one call, `TryUpgrade`.
+    /// It is granted with a writer's guard, or refused with a reader's. That guard has the value that this one had,
+    /// which is the one written last in the history (`found`, `shown`).
     pub fn try_upgrade_seen(
         self,
         seen: Watch<Entry<T>>,
@@ -117,11 +120,14 @@ impl<'a, T, R> SharedGuard<'a, T, Upgrader, R> {
         SharedGuard::new(permit)
     }
 
-    /// Becomes a plain reader, as [`downgrade`](Self::downgrade) does, in the call of a pass.
+    /// Like [`downgrade`](Self::downgrade), for a guard that a [`Pass`](super::Pass) acquired.
+    ///
+    /// The call takes what the pass knows of the lock's history, and returns it with its own steps added.
     ///
     /// # Contract
-    /// `seen` has to be what the pass knew with the guard (`ReadsWith`). The call is one `Downgrade` (`made`). The
-    /// guard has the value that this one had: the one written last in the history (`found`).
+    /// `seen` has to be what the pass knew when it got this guard (`ReadsWith`). The pass makes one call, `Downgrade`
+    /// (`made`). The reader's guard has the value that this one had, which is the one written last in the history
+    /// (`found`).
     pub fn downgrade_seen(
         self,
         seen: Watch<Entry<T>>,
@@ -172,12 +178,14 @@ impl<'a, T, R: RelaxStrategy> SharedGuard<'a, T, Upgrader, R> {
         }
     }
 
-    /// Becomes the writer, as [`upgrade`](Self::upgrade) does, in the call of a pass.
+    /// Like [`upgrade`](Self::upgrade), for a guard that a [`Pass`](super::Pass) acquired.
+    ///
+    /// The call takes what the pass knows of the lock's history, and returns it with its own steps added.
     ///
     /// # Contract
-    /// `seen` has to be what the pass knew with the guard (`ReadsWith`). The call is one `Upgrade` with the answer
-    /// `Granted`, which asked by its first step (`made`). The guard has the value that this one had: the one written
-    /// last in the history (`found`).
+    /// `seen` has to be what the pass knew when it got this guard (`ReadsWith`). The pass makes one call, `Upgrade`. It
+    /// asks by its first step, and is granted (`made`). The writer's guard has the value that this one had, which is
+    /// the one written last in the history (`found`).
     ///
     /// # Examples
     /// ```
@@ -204,40 +212,11 @@ impl<'a, T, R: RelaxStrategy> SharedGuard<'a, T, Upgrader, R> {
         ensures made { Called (shared_opening self.entry).value Upgrade Granted (shared_party self.entry) seen.entries (write_party result.0) result.1.entries }
     {
         let (permit, seen) = ask(self.into_permit(), seen);
-        let (writer, seen) = (AsksOn { permit, seen }).wait::<R, W>(rt);
-        (RwLockWriteGuard::new(writer), seen)
-    }
-}
-
-/// A party in `upgrade` that has asked, and whose next step is the exchange.
-pub(super) struct AsksOn<'a, T> {
-    permit: RwPermit<'a, T>,
-    seen: Watch<Entry<T>>,
-    ghost asks: { IsLent permit Asking },
-    ghost knows: { Knows permit seen },
-}
-
-impl<'a, T> AsksOn<'a, T> {
-    ghost use Rattle.spin_rwlock.specs.Waits.{IsUpgraded, UpgradesOn};
-
-    // Tries until it is the writer.
-    fn wait<R: RelaxStrategy, W: Wait>(self, rt: &W) -> (Writer<'a, T>, Watch<Entry<T>>)
-        ensures { IsUpgraded self.entry result }
-    {
-        match self.upgrade() {
+        let (writer, seen) = match upgrade_asked(permit, seen) {
             Ok(held) => held,
-            Err(asking) => R::retry(rt, asking, AsksOn::upgrade),
-        }
-    }
-
-    fn upgrade(self) -> Result<(Writer<'a, T>, Watch<Entry<T>>), Self>
-        ensures { UpgradesOn self.entry result }
-    {
-        let Self { permit, seen } = self;
-        match upgrade_asked(permit, seen) {
-            Ok(held) => Ok(held),
-            Err((permit, seen)) => Err(AsksOn { permit, seen }),
-        }
+            Err((permit, seen)) => wait_to_upgrade_seen::<T, R, W>(rt, permit, seen),
+        };
+        (RwLockWriteGuard::new(writer), seen)
     }
 }
 
@@ -258,6 +237,33 @@ fn wait_to_upgrade<'a, T, R: RelaxStrategy, W: Wait>(
         match upgrade_asked(asking, Watch::nothing()) {
             Ok((writer, _)) => return RwLockWriteGuard::new(writer),
             Err((still, _)) => asking = still,
+        }
+    }
+    unreachable!()
+}
+
+// The same, for a guard that a pass acquired.
+#[cold]
+#[inline(never)]
+fn wait_to_upgrade_seen<'a, T, R: RelaxStrategy, W: Wait>(
+    rt: &W,
+    asking: RwPermit<'a, T>,
+    seen: Watch<Entry<T>>,
+) -> (Writer<'a, T>, Watch<Entry<T>>)
+    requires { IsLent asking Asking × Knows asking seen }
+    ensures asked { (result.0.view.0 ≡ WritingAsked) × (asking.entry.value ≡ Some result.0.value) }
+    ensures granted { IsGranted Upgrade asking.entry seen result }
+{
+    let mut asking = asking;
+    let mut known = seen;
+    for _ in rt.forever() {
+        R::relax(rt);
+        match upgrade_asked(asking, known) {
+            Ok(held) => return held,
+            Err((still, more)) => {
+                asking = still;
+                known = more;
+            }
         }
     }
     unreachable!()

@@ -3,11 +3,11 @@ ghost use Rattle.std.specs.Prelude.{◌≡◌, true, Some};
 ghost use Rattle.spin_core.specs.Cell.{use_of, writes};
 ghost use Rattle.spin_core.specs.Values.{IsLast};
 ghost use Rattle.spin_step_more.specs.declared.rw_calls.RwCall.TheVariants.{Downgrade, DowngradeToUpgradeable};
-ghost use Rattle.spin_rwlock.specs.Rw.{use_of_party, Wrote};
+ghost use Rattle.spin_rwlock.specs.Rw.{use_of_party, downgrade_to, Wrote};
 
 use super::reader::{RwLockReadGuard, SharedGuard};
 use super::rule::{
-    Entry, Party, RwPermit, RwRule, Writer, release_write, write_to_read, write_to_upgradable,
+    Entry, Kind, Party, Reader, RwRule, Upgrader, Writer, release_write, write_to_lent,
 };
 use super::upgradable::RwLockUpgradableGuard;
 use spin_core::cell::{Permit, WritePermit};
@@ -75,16 +75,18 @@ impl<'a, T, R> RwLockWriteGuard<'a, T, R> {
     pub fn downgrade(self) -> RwLockReadGuard<'a, T, R>
         ensures { shared_value result ≡ Some (write_value self.entry) }
     {
-        let (permit, _) = write_to_read(self.into_writer(), Watch::nothing());
+        let (permit, _) = write_to_lent::<T, Reader>(self.into_writer(), Watch::nothing());
         SharedGuard::new(permit)
     }
 
-    /// Becomes a reader, as [`downgrade`](Self::downgrade) does, in the call of a pass.
+    /// Like [`downgrade`](Self::downgrade), for a guard that a [`Pass`](super::Pass) acquired.
+    ///
+    /// The call takes what the pass knows of the lock's history, and returns it with its own steps added.
     ///
     /// # Contract
-    /// `seen` has to be what the pass knew with the guard (`WritesWith`). The call is one `Downgrade`, behind a write
-    /// (`made`): it writes the guard's value into the history (`wrote`). The reader's guard has the value that this one
-    /// had, which is the one written last (`left`).
+    /// `seen` has to be what the pass knew when it got this guard (`WritesWith`). The pass writes the guard's value
+    /// into the history, and then makes one call, `Downgrade` (`made`, `wrote`). The reader's guard has that value,
+    /// which is the one written last (`left`).
     pub fn downgrade_seen(
         self,
         seen: Watch<Entry<T>>,
@@ -97,8 +99,7 @@ impl<'a, T, R> RwLockWriteGuard<'a, T, R> {
         ensures wrote { Wrote (write_opening self.entry).value (λ x. (write_opening self.entry).told ≡ true → x ≡ write_value self.entry) Downgrade (write_party self.entry) seen.entries (shared_party result.0) result.1.entries }
         ensures left { IsLast (write_opening self.entry) result.1.entries (write_value self.entry) }
     {
-        let (permit, seen) = write_to_read(self.into_writer(), seen);
-        (SharedGuard::new(permit), seen)
+        self.lend(seen)
     }
 
     /// Becomes the upgradable reader. It never fails.
@@ -120,17 +121,19 @@ impl<'a, T, R> RwLockWriteGuard<'a, T, R> {
     pub fn downgrade_to_upgradeable(self) -> RwLockUpgradableGuard<'a, T, R>
         ensures { shared_value result ≡ Some (write_value self.entry) }
     {
-        let (permit, _) = write_to_upgradable(self.into_writer(), Watch::nothing());
+        let (permit, _) = write_to_lent::<T, Upgrader>(self.into_writer(), Watch::nothing());
         SharedGuard::new(permit)
     }
 
-    /// Becomes the upgradable reader, as [`downgrade_to_upgradeable`](Self::downgrade_to_upgradeable) does, in the call
-    /// of a pass.
+    /// Like [`downgrade_to_upgradeable`](Self::downgrade_to_upgradeable), for a guard that a [`Pass`](super::Pass)
+    /// acquired.
+    ///
+    /// The call takes what the pass knows of the lock's history, and returns it with its own steps added.
     ///
     /// # Contract
-    /// `seen` has to be what the pass knew with the guard (`WritesWith`). The call is one `DowngradeToUpgradeable`,
-    /// behind a write (`made`): it writes the guard's value into the history (`wrote`). The upgradable reader's guard
-    /// has the value that this one had, which is the one written last (`left`).
+    /// `seen` has to be what the pass knew when it got this guard (`WritesWith`). The pass writes the guard's value
+    /// into the history, and then makes one call, `DowngradeToUpgradeable` (`made`, `wrote`). The upgradable reader's
+    /// guard has that value, which is the one written last (`left`).
     pub fn downgrade_to_upgradeable_seen(
         self,
         seen: Watch<Entry<T>>,
@@ -143,7 +146,20 @@ impl<'a, T, R> RwLockWriteGuard<'a, T, R> {
         ensures wrote { Wrote (write_opening self.entry).value (λ x. (write_opening self.entry).told ≡ true → x ≡ write_value self.entry) DowngradeToUpgradeable (write_party self.entry) seen.entries (shared_party result.0) result.1.entries }
         ensures left { IsLast (write_opening self.entry) result.1.entries (write_value self.entry) }
     {
-        let (permit, seen) = write_to_upgradable(self.into_writer(), seen);
+        self.lend(seen)
+    }
+
+    // Becomes a reader of kind `K`, for a guard that a pass acquired.
+    fn lend<K: Kind>(self, seen: Watch<Entry<T>>) -> (SharedGuard<'a, T, K, R>, Watch<Entry<T>>)
+        requires { WritesWith self seen }
+        ensures value { shared_value result.0 ≡ Some (write_value self.entry) }
+        ensures reads { ReadsWith result.0 result.1 × (result.1.name ≡ seen.name) }
+        ensures lock { shared_opening result.0 ≡ write_opening self.entry }
+        ensures made { Wrote (write_opening self.entry).value (λ x. Unit {0}) (downgrade_to K.view) (write_party self.entry) seen.entries (shared_party result.0) result.1.entries }
+        ensures wrote { Wrote (write_opening self.entry).value (λ x. (write_opening self.entry).told ≡ true → x ≡ write_value self.entry) (downgrade_to K.view) (write_party self.entry) seen.entries (shared_party result.0) result.1.entries }
+        ensures left { IsLast (write_opening self.entry) result.1.entries (write_value self.entry) }
+    {
+        let (permit, seen) = write_to_lent::<T, K>(self.into_writer(), seen);
         (SharedGuard::new(permit), seen)
     }
 
@@ -209,18 +225,11 @@ impl<'a, T, R> WriteHeld<'a, T, R> {
         ensures value { Some (write_value result) ≡ write_held_value self.entry }
         ensures party { (write_party result ≡ write_held_party self.entry) × (result.writer.key ≡ self.entry.permit.key) }
     {
-        RwLockWriteGuard::new(self.into_permit().into_writer())
-    }
-
-    fn into_permit(self) -> RwPermit<'a, T>
-        ensures writes { use_of use_of_party result.view ≡ writes }
-        ensures same { result ≡ self.entry.permit }
-    {
         let Self {
             permit,
             strategy: _,
         } = self;
-        permit
+        RwLockWriteGuard::new(permit.into_writer())
     }
 }
 
@@ -266,7 +275,11 @@ impl<T, R> Drop for RwLockWriteGuard<'_, T, R> {
 
 impl<T, R> Drop for WriteHeld<'_, T, R> {
     fn drop(self) {
-        self.into_permit().leak();
+        let Self {
+            permit,
+            strategy: _,
+        } = self;
+        permit.leak();
     }
 }
 

@@ -10,8 +10,8 @@ look-word-requires-clause-step g c = let it = c.enter.result in (inl c.nothing.e
 pub look-word-requires-clause-rests : goal.look-word-requires-clause-rests
 look-word-requires-clause-rests g c log es found after told = idle_rests c.enter.result.key after told.6.1.0
 
-pub attempt-requires-clause-step : goal.attempt-requires-clause-step
-attempt-requires-clause-step g c = let it = c.enter-2.result in (inl c.nothing-2.ensures, rw c.enter-2.ensures.fresh.0 (peeks it.key it.value c.look-word.result.0 c.in_ok-next.next (sym c.in_ok-next.ensures.exact) c.in_ok-next.ensures.plain))
+pub attempt-tried-requires-clause-step : goal.attempt-tried-requires-clause-step
+attempt-tried-requires-clause-step g c = let it = c.enter-2.result in (inl c.nothing-2.ensures, rw c.enter-2.ensures.fresh.0 (peeks it.key it.value c.look-word.result.0 c.in_ok-next.next (sym c.in_ok-next.ensures.exact) c.in_ok-next.ensures.plain))
 
-pub attempt-requires-clause-rests : goal.attempt-requires-clause-rests
-attempt-requires-clause-rests g c log es found after other told = missed_rests c.enter-2.result.key Reading _ found other after told.6.0
+pub attempt-tried-requires-clause-rests : goal.attempt-tried-requires-clause-rests
+attempt-tried-requires-clause-rests g c log es found after other told = missed_rests c.enter-2.result.key Reading _ found other after told.6.0

@@ -1,17 +1,19 @@
-use Rattle.std.proofs.Common.{false}
-use Rattle.spin_core.specs.Passes.{IsStep}
+use Rattle.std.proofs.Common.{false, refl}
 use Rattle.spin_model.specs.declared.schedule.Outcome.TheVariants.{GoingOn}
 use Rattle.spin_step_more.specs.declared.rw_calls.RwCall.TheVariants.{Upgrade}
-use Rattle.spin_rwlock.specs.Rw.{asks_by}
 use Rattle.spin_rwlock.specs.declared.rwlock.rule.View.TheVariants.{Asking}
 use Rattle.spin_rwlock.proofs.Steps.{asks_on}
-use Rattle.spin_rwlock.proofs.Passes.{may, told}
+use Rattle.spin_rwlock.proofs.Passes.{may, stands, makes, keeps_value, is_shown}
 use Rattle.spin_rwlock.proofs.rwlock.rule.ask.Goals as goal
 
 pub add-party-requires : goal.add-party-requires
 add-party-requires g c = let it = c.args.party in (may it.key c.args.seen c.requires.1, asks_on it.key it.view it.value c.requires.0.0)
 
-pub returns-clause-made : goal.returns-clause-made
-returns-clause-made g c knew =
-    let it = c.args.party in let f = c.add-party in
-    told it.key it.view f.result.1.view c.args.seen f.result.2 f.result.0 f.result.1.key f.ensures.key knew asks_by (λ n. Asking) (λ n. IsStep false Upgrade GoingOn) (λ own outs n v said. said) f.ensures.moved
+pub returns : goal.returns
+returns g c =
+    let it = c.args.party in let seen = c.args.seen in let r = c.add-party.result in let e = c.add-party.ensures in
+    let at = stands it seen r false Upgrade (λ n. GoingOn) (λ n. Asking) e.moved Asking refl in
+    record {
+      lent = ((at, is_shown it seen r Asking at e.kept (λ e. absurd cc)), keeps_value it seen r Asking at e.kept (λ e. absurd cc) c.requires.0.1, e.key);
+      made = makes it seen r false Upgrade (λ n. GoingOn) (λ n. Asking) e.moved e.key GoingOn refl;
+    }

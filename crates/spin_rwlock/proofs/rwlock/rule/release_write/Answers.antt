@@ -1,11 +1,9 @@
-use Rattle.std.proofs.Common.{refl, ap, ◌∙◌}
-use Rattle.spin_core.specs.Cell.{use_of}
-use Rattle.spin_core.specs.Passes.{mark_of}
+use Rattle.std.proofs.Common.{refl, ◌∙◌}
+use mathlib.Core.Logic.{inr}
 use Rattle.spin_step_more.specs.declared.rw_calls.RwCall.TheVariants.{Release}
-use Rattle.spin_rwlock.specs.Rw.{leaves_by, use_of_view, use_of_party}
 use Rattle.spin_rwlock.specs.declared.rwlock.rule.View.TheVariants.{Idle}
 use Rattle.spin_rwlock.proofs.Steps.{writer_leaves}
-use Rattle.spin_rwlock.proofs.Passes.{may, may_as, stood, left_gone, ended}
+use Rattle.spin_rwlock.proofs.Passes.{may, may_as, becomes, leaves_last, ends_writing}
 use Rattle.spin_rwlock.proofs.rwlock.rule.release_write.Goals as goal
 
 pub subtract-party-requires : goal.subtract-party-requires
@@ -13,16 +11,12 @@ subtract-party-requires g c =
     let it = c.into_permit-permit in let w = c.args.writer in
     (may it.result.key c.args.seen (may_as it.result.key w.key c.args.seen it.ensures.key c.requires), rw (it.ensures.same.0, it.ensures.same.1) (writer_leaves it.result.key w.view w.value it.ensures.use_of_view))
 
-pub returns-clause-left : goal.returns-clause-left
-returns-clause-left g c =
-    let it = c.into_permit-permit in let f = c.subtract-party in let w = c.args.writer in let seen = c.args.seen in
-    let at = stood it.result.key it.result.view f.result.1.view seen f.result.2 f.result.0 (leaves_by Release Idle) (λ n. Idle) (λ own outs n v said. said.0) f.result.1.view f.ensures.moved in
-    let last = left_gone it.result.key it.result.view f.result.1.view it.result.value f.result.1.value f.result.2 f.ensures.found f.ensures.kept w.value it.ensures.same.1 w.key it.ensures.key (ap (use_of use_of_party) it.ensures.same.0 ∙ it.ensures.use_of_view) (ap (use_of use_of_view) at) in
-    last
-
-pub returns-clause-wrote : goal.returns-clause-wrote
-returns-clause-wrote g c knew =
-    let it = c.into_permit-permit in let f = c.subtract-party in let w = c.args.writer in let seen = c.args.seen in
-    let at = stood it.result.key it.result.view f.result.1.view seen f.result.2 f.result.0 (leaves_by Release Idle) (λ n. Idle) (λ own outs n v said. said.0) f.result.1.view f.ensures.moved in
-    let last = left_gone it.result.key it.result.view f.result.1.view it.result.value f.result.1.value f.result.2 f.ensures.found f.ensures.kept w.value it.ensures.same.1 it.result.key refl (ap (use_of use_of_party) it.ensures.same.0 ∙ it.ensures.use_of_view) (ap (use_of use_of_view) at) in
-    ended it.result.key it.result.view f.result.1.view seen f.result.2 f.result.0 f.result.1.key f.ensures.key (ap (λ k. k.name) it.ensures.key ∙ knew.0, ap mark_of it.ensures.same.0 ∙ knew.1) w.value last Release Idle w.key it.ensures.key w.view it.ensures.same.0 f.ensures.moved
+pub returns : goal.returns
+returns g c =
+    let w = c.args.writer in let it = c.into_permit-permit.result in let was = c.into_permit-permit.ensures in let seen = c.args.seen in
+    let r = c.subtract-party.result in let e = c.subtract-party.ensures in
+    record {
+      idle = (becomes w it seen r was.key was.same Release Idle e.moved, e.key ∙ was.key);
+      left = leaves_last w it seen r was.key was.same Release Idle e.moved was.use_of_view e.found e.kept (inr refl);
+      wrote = ends_writing w it seen r was.key was.same Release Idle e.moved was.use_of_view e.found e.kept (inr refl) e.key;
+    }

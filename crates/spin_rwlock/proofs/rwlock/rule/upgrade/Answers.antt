@@ -1,12 +1,21 @@
-use Rattle.std.proofs.Common.{◌≡◌, ℕ, ◌∙◌, subst}
+use Rattle.std.proofs.Common.{◌≡◌, ℕ, false, None, ap, sym, ◌∙◌}
 use Rattle.spin_core.specs.Own.{what}
+use Rattle.spin_core.specs.Passes.{IsCall}
 use Rattle.spin_model.specs.declared.answer.Answer.TheVariants.{Granted, Refused}
+use Rattle.spin_model.specs.declared.schedule.Outcome.TheVariants.{Answered}
 use Rattle.spin_step_more.specs.declared.rw_calls.RwCall.TheVariants.{TryUpgrade}
-use Rattle.spin_rwlock.specs.Rw.{Called, given, either_at}
+use Rattle.spin_rwlock.specs.Rw.{Ending, given, either_at}
+use Rattle.spin_rwlock.specs.declared.rwlock.rule.View.{View}
 use Rattle.spin_rwlock.specs.declared.rwlock.rule.View.TheVariants.{Writing, Upgradable}
 use Rattle.spin_rwlock.proofs.Steps.{tries_to_upgrade, is_not_writing}
-use Rattle.spin_rwlock.proofs.Passes.{may, answered, won_by, lost_by, to_writer, reads_found, writes_found}
+use Rattle.spin_rwlock.proofs.Passes.{may, won_by, lost_by, reads_found, writes_found, stands, makes, calls, uses_as, keeps_value, view_is, writer_makes}
 use Rattle.spin_rwlock.proofs.rwlock.rule.upgrade.Goals as goal
+
+abbrev to : ℕ → View
+to = either_at 2 Writing Upgradable
+
+abbrev end : {T : Type 0} → ℕ → Ending T
+end n = Answered (given 2 n) None
 
 pub exchange-found-requires : goal.exchange-found-requires
 exchange-found-requires g c =
@@ -15,25 +24,36 @@ exchange-found-requires g c =
     let it = c.args.party in
     (may it.key c.args.seen c.requires.1, rw same (tries_to_upgrade it.key it.view it.value c.requires.0.0 (rw exact at c.upgrade.ensures.plain)))
 
-pub returns-then-found-eq-UPGRADABLE-clause-found : goal.returns-then-found-eq-UPGRADABLE-clause-found
-returns-then-found-eq-UPGRADABLE-clause-found g c =
-    let it = c.args.party in let f = c.exchange-found in let w = c.into_writer in
-    writes_found it.key it.view f.result.1.view it.value f.result.1.value f.result.2 f.ensures.found f.ensures.kept (is_not_writing Upgradable (λ e. absurd cc) (what it.view) c.requires.0.0) w.result.key (w.ensures.key ∙ f.ensures.key) w.result.value w.ensures.same.1
+pub into_writer-requires : goal.into_writer-requires
+into_writer-requires g c =
+    let it = c.args.party in let seen = c.args.seen in let r = c.exchange-found.result in
+    uses_as it seen r Writing (stands it seen r false TryUpgrade end to c.exchange-found.ensures.moved Writing (won_by 2 r.0 Writing Upgradable c.if-found-eq-UPGRADABLE.true))
 
-pub returns-then-found-eq-UPGRADABLE-clause-granted : goal.returns-then-found-eq-UPGRADABLE-clause-granted
-returns-then-found-eq-UPGRADABLE-clause-granted g c knew =
-    let it = c.args.party in let f = c.exchange-found in let seen = c.args.seen in let n = f.result.0 in let w = c.into_writer in let view = f.result.1.view in
-    let t = answered it.key it.view view seen f.result.2 n f.result.1.key f.ensures.key knew TryUpgrade (given 2) (either_at 2 Writing Upgradable) f.ensures.moved in
-    to_writer (λ o. Called it.key.value TryUpgrade Granted it.view seen.entries o f.result.2.entries) f.result.2 w.result.key f.result.1.key w.result.view view w.ensures.key w.ensures.same.0
-    (t.0, t.1, subst (λ a. Called it.key.value TryUpgrade a it.view seen.entries view f.result.2.entries) (won_by 2 n Granted Refused c.if-found-eq-UPGRADABLE.true) t.2)
+pub returns-then-found-eq-UPGRADABLE : goal.returns-then-found-eq-UPGRADABLE
+returns-then-found-eq-UPGRADABLE g c =
+    let it = c.args.party in let seen = c.args.seen in let r = c.exchange-found.result in let e = c.exchange-found.ensures in let is = c.if-found-eq-UPGRADABLE.true in
+    let w = c.into_writer.result in let gives = c.into_writer.ensures in
+    let at = stands it seen r false TryUpgrade end to e.moved Writing (won_by 2 r.0 Writing Upgradable is) in
+    let made = calls it seen r TryUpgrade Granted (makes it seen r false TryUpgrade end to e.moved e.key (Answered Granted None) (ap (λ a. Answered a None) (won_by 2 r.0 Granted Refused is))) in
+    record {
+      writes = (view_is it seen r Writing at w gives.key gives.same.0, sym (gives.same.1 ∙ keeps_value it seen r Writing at e.kept (λ e. absurd cc) c.requires.0.1), gives.key ∙ e.key);
+      reads = tt;
+      found = writes_found it.key it.view r.1.view it.value r.1.value r.2 e.found e.kept (is_not_writing Upgradable (λ e. absurd cc) (what it.view) c.requires.0.0) w.key (gives.key ∙ e.key) w.value gives.same.1;
+      shown = tt;
+      granted = writer_makes it seen r Writing at w gives.key gives.same.0 (IsCall TryUpgrade Granted) made;
+      refused = tt;
+    }
 
-pub returns-else-found-eq-UPGRADABLE-clause-shown : goal.returns-else-found-eq-UPGRADABLE-clause-shown
-returns-else-found-eq-UPGRADABLE-clause-shown g c =
-    let it = c.args.party in let f = c.exchange-found in
-    reads_found it.key it.view f.result.1.view it.value f.result.1.value f.result.2 f.ensures.found f.ensures.kept (is_not_writing Upgradable (λ e. absurd cc) (what it.view) c.requires.0.0) f.result.1.key f.ensures.key
-
-pub returns-else-found-eq-UPGRADABLE-clause-refused : goal.returns-else-found-eq-UPGRADABLE-clause-refused
-returns-else-found-eq-UPGRADABLE-clause-refused g c knew =
-    let it = c.args.party in let f = c.exchange-found in let seen = c.args.seen in let n = f.result.0 in let view = f.result.1.view in
-    let t = answered it.key it.view view seen f.result.2 n f.result.1.key f.ensures.key knew TryUpgrade (given 2) (either_at 2 Writing Upgradable) f.ensures.moved in
-    (t.0, t.1, subst (λ a. Called it.key.value TryUpgrade a it.view seen.entries view f.result.2.entries) (lost_by 2 n Granted Refused c.if-found-eq-UPGRADABLE.false) t.2)
+pub returns-else-found-eq-UPGRADABLE : goal.returns-else-found-eq-UPGRADABLE
+returns-else-found-eq-UPGRADABLE g c =
+    let it = c.args.party in let seen = c.args.seen in let r = c.exchange-found.result in let e = c.exchange-found.ensures in let other = c.if-found-eq-UPGRADABLE.false in
+    let at = stands it seen r false TryUpgrade end to e.moved Upgradable (lost_by 2 r.0 Writing Upgradable other) in
+    record {
+      writes = tt;
+      reads = (at, keeps_value it seen r Upgradable at e.kept (λ e. absurd cc) c.requires.0.1, e.key);
+      found = tt;
+      shown = reads_found it.key it.view r.1.view it.value r.1.value r.2 e.found e.kept (is_not_writing Upgradable (λ e. absurd cc) (what it.view) c.requires.0.0) r.1.key e.key;
+      granted = tt;
+      refused = calls it seen r TryUpgrade Refused
+          (makes it seen r false TryUpgrade end to e.moved e.key (Answered Refused None) (ap (λ a. Answered a None) (lost_by 2 r.0 Granted Refused other)));
+    }

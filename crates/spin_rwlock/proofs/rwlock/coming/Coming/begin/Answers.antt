@@ -14,20 +14,16 @@ unreachable-requires g c =
     let none : grants (call_of g.K.Kind.view g.M.Mode.waits) 0 ≡ None = cc in
     opens_free g.K.Kind.view g.met.K.Kind.comes g.M.Mode.waits none
 
-pub returns-in-Err-clause-lent : goal.returns-in-Err-clause-lent
-returns-in-Err-clause-lent g c = let e = c.in-Err.ensures.missed in IfOk-weaker c.try_at.result _ _ (λ lent is. (is.0.0, is.0.1, is.1 ∙ e.0, is.2 ∙ e.1)) c.try_at.ensures.lent
-
-pub returns-in-Err-clause-granted : goal.returns-in-Err-clause-granted
-returns-in-Err-clause-granted g c =
+pub returns-in-Err : goal.returns-in-Err
+returns-in-Err g c =
     let call = call_of g.K.Kind.view g.M.Mode.waits in let p = c.args.permit in let old = c.args.seen.entries in let now = c.in-Err.coming in let e = c.in-Err.ensures.missed in let v = p.key.value in
-    let begun = begins_missed v call p.view now.permit.view old now.seen.entries now.word (subst (λ b. Moves v (IsStep b call (missed call now.word)) p.view old now.permit.view now.seen.entries) (not_in_call (what p.view) c.requires.0) e.2) in
-    IfOk-weaker c.try_at.result _ _ (λ lent is. is.3 p.key (sym e.0) p.view old begun) c.try_at.ensures.lent
-
-pub returns-in-Err-clause-missed : goal.returns-in-Err-clause-missed
-returns-in-Err-clause-missed g c =
-    let call = call_of g.K.Kind.view g.M.Mode.waits in let p = c.args.permit in let old = c.args.seen.entries in let now = c.in-Err.coming in let e = c.in-Err.ensures.missed in let v = p.key.value in
-    let begun = begins_missed v call p.view now.permit.view old now.seen.entries now.word (subst (λ b. Moves v (IsStep b call (missed call now.word)) p.view old now.permit.view now.seen.entries) (not_in_call (what p.view) c.requires.0) e.2) in
-    IfErr-weaker c.try_at.result _ _ (λ next is. (is.0 ∙ e.0, is.1 ∙ e.1, is.2 p.key (sym e.0) p.view old begun)) c.try_at.ensures.missed
+    let step = subst (λ b. Moves v (IsStep b call (missed call now.word)) p.view old now.permit.view now.seen.entries) (not_in_call (what p.view) c.requires.0) e.2 in
+    let begun = begins_missed v call p.view now.permit.view old now.seen.entries now.word step in let r = c.try_at.result in let tried = c.try_at.ensures in
+    record {
+      lent = IfOk-weaker r _ _ (λ lent is. (is.0.0, is.0.1, is.1 ∙ e.0, is.2 ∙ e.1)) tried.lent;
+      granted = IfOk-weaker r _ _ (λ lent is. is.3 p.key (sym e.0) p.view old begun) tried.lent;
+      missed = IfErr-weaker r _ _ (λ next is. (is.0 ∙ e.0, is.1 ∙ e.1, is.2 p.key (sym e.0) p.view old begun)) tried.missed;
+    }
 
 pub returns-in_default-come-clause-granted : goal.returns-in_default-come-clause-granted
 returns-in_default-come-clause-granted g c =

@@ -1,22 +1,19 @@
 use Rattle.std.proofs.Common.{◌≡◌, Some, None, ap, ◌∙◌, sym, subst}
 use Rattle.spin_core.specs.Own.{Numbered, what}
-use Rattle.spin_core.specs.Passes.{Waits, Ends, Begins, IsStep}
+use Rattle.spin_core.specs.Passes.{IsStep}
 use Rattle.spin_core.specs.Values.{IsLast}
 use Rattle.spin_core.specs.declared.cell.WritePermit.{WritePermit}
 use Rattle.spin_core.specs.declared.tie.Opening.{Opening}
 use Rattle.spin_core.specs.declared.trace.Trace.{Trace}
 use Rattle.spin_core.specs.declared.trace.Watch.{Watch}
-use Rattle.spin_core.proofs.Passes.{whole, begins, call_waits, call_ends}
-use Rattle.spin_core.proofs.Retries.{handed}
+use Rattle.spin_core.proofs.Passes.{whole, begins}
 use Rattle.spin_model.specs.declared.answer.Answer.TheVariants.{Granted}
 use Rattle.spin_model.specs.declared.schedule.Outcome.TheVariants.{Answered, GoingOn}
 use Rattle.spin_step_more.specs.declared.rw_calls.RwCall.TheVariants.{Write}
 use Rattle.spin_rwlock.specs.Rw.{Done, model, Moves, Called}
 use Rattle.spin_rwlock.specs.Steps.{KnowsWriter, WritesLast}
-use Rattle.spin_rwlock.specs.Waits.{WritesOn}
 use Rattle.spin_rwlock.specs.declared.rwlock.rule.RwRule.{RwRule}
 use Rattle.spin_rwlock.specs.declared.rwlock.rule.View.{View}
-use Rattle.spin_rwlock.specs.declared.rwlock.rule.Waiting.{Waiting}
 use Rattle.spin_rwlock.proofs.Steps.{not_in_call}
 use Rattle.spin_rwlock.proofs.rwlock.pass.Pass.write.Goals as goal
 use Rattle.spin_rwlock.proofs.rwlock.pass.Pass.write.Goals.{in-Ok, in-Err}
@@ -30,14 +27,9 @@ returns g c =
       | in-Ok w ↦ let got = w.in-Ok.held in let e = w.in-Ok.ensures in
           subst Is (sym w.writer-is) (((e.writes.1, e.found), e.writes.2, e.writes.3), whole m view (Some got.0.view) old got.1.entries Write Granted (subst (λ b. Moves v (IsStep b Write (Answered Granted None)) view old (Some got.0.view) got.1.entries) (not_in_call (what view) me.knows.0) e.granted))
       | in-Err w ↦
-          let s = w.back_off.ensures in let first = w.in-Err.waiting in let e = w.in-Err.ensures in
+          let s = w.wait.ensures in let first = w.in-Err.waiting in let e = w.in-Err.ensures in
           let begun = begins m view first.permit.view old first.seen.entries Write (subst (λ b. Moves v (IsStep b Write GoingOn) view old first.permit.view first.seen.entries) (not_in_call (what view) me.knows.0) e.missed) in
-          let Goes : Waiting g.row.T.Denot → Type 0 = λ x. ((x.permit.key ≡ key) × (x.seen.name ≡ me.seen.name)) × Moves v (Begins Write Waits) view old x.permit.view x.seen.entries in
-          let last = handed (WritesOn {P = RwRule g.row.T.Denot} {S = Trace (Done g.row.T.Denot) (Unit {0})}) Goes
-          (λ x y failed now. ((failed.1.0 ∙ now.0.0, failed.1.1 ∙ now.0.1), call_waits m view x.permit.view y.permit.view old x.seen.entries y.seen.entries Write now.1 (subst (λ k. Moves k.value Waits x.permit.view x.seen.entries y.permit.view y.seen.entries) now.0.0 failed.1.2)))
-          s.0 first s.1 s.2 (e.waits, begun) in
-          let got = w.back_off.result in let is = s.3.0 in
-          subst Is (sym w.writer-is) (((is.1, is.2), is.3 ∙ last.0.0, is.4 ∙ last.0.1), call_ends m view s.1.permit.view (Some got.0.view) old s.1.seen.entries got.1.entries Write Granted last.1 (subst (λ k. Moves k.value (Ends Granted) s.1.permit.view s.1.seen.entries (Some got.0.view) got.1.entries) last.0.0 is.5))
+          subst Is (sym w.writer-is) (((s.0, s.1), s.2 ∙ e.waits.0, s.3 ∙ e.waits.1), s.4 key (sym e.waits.0) view old begun)
     ] in
     let e = c.new.ensures in let seen = c.match-write.writer.1 in
     record {
