@@ -12,7 +12,7 @@ use Rattle.spin_core.proofs.Passes as passes
 use Rattle.spin_core.proofs.Passes.{Learnt}
 use Rattle.spin_model.specs.declared.answer.Answer.{Answer}
 use Rattle.spin_model.specs.declared.once.OnceCall.{OnceCall}
-use Rattle.spin_model.specs.declared.once.OnceCall.TheVariants.{TryCallOnceOk}
+use Rattle.spin_model.specs.declared.once.OnceCall.TheVariants.{CallOnce, TryCallOnceOk}
 use Rattle.spin_model.specs.declared.once.OncePoint.{OncePoint}
 use Rattle.spin_model.specs.declared.once.OncePoint.TheVariants.{Look, Run}
 use Rattle.spin_model.specs.declared.schedule.Move.TheVariants.{Step, Weak}
@@ -47,6 +47,7 @@ module _ {T S : Type 0} (makes : S → T → Type 0) where
   Of key = Named (IsOnce key.opening) (once_ways makes key)
 
   pub may_know : (key : Key T S) (seen : Watch (Valued T)) → key.opening.name ≡ seen.name → Of key seen.name
+  unfolding IsOnce
   may_know key seen named = passes.may_know (IsOnce key.opening) (once_ways makes key) key.opening.name (λ n t vs is. is.0.0) seen.name named
 
   -- of a party at p that makes a step, and is then at q
@@ -86,6 +87,7 @@ module _ {T S : Type 0} (makes : S → T → Type 0) where
     -- where it is, and which moves it made, if a step says so
     pub made : (to : ℕ → View) (course : ℕ → Moving) → ((own : List OneMove) (outs : List Ending) (n : ℕ) (v : View) → says own outs n v → (v ≡ to n) × course n own outs)
         → Since p (course found) q × (what q.1 ≡ Some (to found))
+    unfolding Moves
     made to course means =
         let it : Learnt m p.1 q.1 before now (to found) (course found) =
         passes.learnt m seat_of words_of says to course means (Of p.0 p.2.name) (may_know p.0 p.2 named) p.1 q.1 before now found knew_all (bared makes p.0 says (Of p.0 p.2.name) p.1 p.2 q.2 found q.1 moved) in
@@ -101,18 +103,23 @@ module _ {T S : Type 0} (makes : S → T → Type 0) where
 -- ---- one after another
 module _ {T S : Type 0} (p q : Place T S) where
   pub weaker : (P Q : Moving) → ((own : List OneMove) (outs : List Ending) → P own outs → Q own outs) → Since p P q → Since p Q q
+  unfolding Moves
   weaker P Q so (same, named, made) = (same, named, passes.weaker (model (given_of p.0.opening.value)) p.1 q.1 (bare p.2.entries) (bare q.2.entries) P Q so made)
 
   pub whole : (c : OnceCall (Unit {0})) (a : Answer (Unit {0})) → Since p (IsStep false c (Answered a None)) q → Since p (IsCall c a) q
+  unfolding Moves
   whole c a (same, named, made) = (same, named, passes.whole (model (given_of p.0.opening.value)) p.1 q.1 (bare p.2.entries) (bare q.2.entries) c a made)
 
   pub begins : (c : OnceCall (Unit {0})) → Since p (IsStep false c GoingOn) q → Since p (Begins c Waits) q
+  unfolding Moves
   begins c (same, named, made) = (same, named, passes.begins (model (given_of p.0.opening.value)) p.1 q.1 (bare p.2.entries) (bare q.2.entries) c made)
 
   pub goes : (c : OnceCall (Unit {0})) → Since p (IsStep true c GoingOn) q → Since p Waits q
+  unfolding Moves
   goes c (same, named, made) = (same, named, passes.goes (model (given_of p.0.opening.value)) p.1 q.1 (bare p.2.entries) (bare q.2.entries) c made)
 
   pub ends : (c : OnceCall (Unit {0})) (a : Answer (Unit {0})) → Since p (IsStep true c (Answered a None)) q → Since p (Ends a) q
+  unfolding Moves
   ends c a (same, named, made) = (same, named, passes.ends (model (given_of p.0.opening.value)) p.1 q.1 (bare p.2.entries) (bare q.2.entries) c a made)
 
 one : {T S : Type 0} (p q : Place T S) → Same p q → q ≡ p
@@ -130,6 +137,7 @@ module _ {T S : Type 0} (p q r : Place T S) where
   shown P value made same is = let since = same_since P made same in (since, subst (λ k. IsValue k.opening r.2.entries value) since.0 is)
 
   both : (P Q R : Moving) → ((own own' : List OneMove) (outs outs' : List Ending) → P own outs → Q own' outs' → R (own ++ own') (outs ++ outs')) → Since p P q → Since q Q r → Since p R r
+  unfolding Moves
   both P Q R joins (same, named, made) (same', named', made') = (
     same' ∙ same,
     named' ∙ named,
@@ -224,24 +232,33 @@ module _ {T S : Type 0} (p q : Place T S) (c : OnceCall (Unit {0})) (n : ℕ) wh
     pub goes_by : (k : OncePoint) → next_at d l n ≡ Continue k → Since p Waits q × (what q.1 ≡ Some (InCall d k))
     goes_by k is = let it = subst (At (Some (InCall d l))) is next in (goes p q d it.0, it.1)
 
--- a party that ran its closure, and stored the value
-pub completes : {T S : Type 0} (first : OnceCall (Unit {0})) (p q : Place T S) (n : ℕ) (v : Numbered View) → p.1 ≡ Some v → is_running v.0 ≡ true → Turned first n p q → Since p (Ends (Value tt)) q × (what q.1 ≡ Some Reading)
-completes first p q n v at runs step =
-    let it = running_call v.0 runs in
-    ends_by p q first n (closure_call it.0) Run (ap what at ∙ ap Some it.1) step (Value tt) (ap (λ st. st.next) (as_sure it.0 Run n))
-
--- or stopped: it no longer writes
-pub stops : (view view' : Option (Numbered View)) (v : Numbered View) (u : View) → view ≡ Some v → is_running v.0 ≡ true → what view' ≡ Some u → use_of_view u ≢ writes → use_of use_of_party view ≡ use_of use_of_party view' → ⊥
-stops view view' v u at runs now not same =
-    not (ap (use_of use_of_view) (sym now) ∙ tie.same_use use_of_view view' ∙ sym same ∙ ap (use_of use_of_party) at ∙ ap use_of_view (running_call v.0 runs).1)
-
--- of a party with the right to run its closure, whose permit is taken apart
-module _ {T S : Type 0} (me : InitPermit T S) (p : Place T S) (same : Same (running me) p) where
+-- Of a party with the right to run its closure: at p its permit is taken apart, and by a store it comes to q.
+module _ {T S : Type 0} (makes : S → T → Type 0) (me : InitPermit T S) (p : Place T S) (same : Same (running me) p) where
   pub permit_named : p.0.opening.name ≡ p.2.name
   permit_named = subst (λ x. x.0.opening.name ≡ x.2.name) (sym (one (running me) p same)) me.named
 
-  pub permit_knows : mark_of p.1 ≡ length p.2.entries
-  permit_knows = subst (λ x. mark_of x.1 ≡ length x.2.entries) (sym (one (running me) p same)) me.knows
+  knows : mark_of p.1 ≡ length p.2.entries
+  knows = subst (λ x. mark_of x.1 ≡ length x.2.entries) (sym (one (running me) p same)) me.knows
+
+  module _ (q : Place T S) (key : q.0 ≡ p.0) where
+    module _ (says : Says) (moved : Moved (Watches (Of makes p.0 p.2.name) p.2 q.2 (Told p.0.opening says p.1) 0) q.1) where
+      pub stored : (to : ℕ → View) (course : ℕ → Moving) → ((own : List OneMove) (outs : List Ending) (n : ℕ) (v : View) → says own outs n v → (v ≡ to n) × course n own outs)
+          → Since (running me) (course 0) q × (what q.1 ≡ Some (to 0))
+      stored to course means = let it = made makes p q 0 knows permit_named key says moved to course means in (since_same (running me) p q (course 0) same it.0, it.1)
+
+      -- it no longer writes
+      pub keeps_end : (u : View) → what q.1 ≡ Some u → use_of_view u ≢ writes → (shown shown' : Option (MaybeStable (Stage T S))) → Keeps (once_ways makes p.0) p.1 q.1 shown shown' → Found (once_ways makes p.0) p.1 q.1 shown shown' q.2
+          → (q.0.opening.name ≡ q.2.name) × (mark_of q.1 ≡ length q.2.entries) × Sees q.0.opening q.2.entries (use_of use_of_party q.1) shown'
+      keeps_end u now not shown shown' = keeps makes p q 0 knows permit_named key says moved shown shown' (λ e. absurd (not (ap (use_of use_of_view) (sym now) ∙ tie.same_use use_of_view q.1 ∙ sym e ∙ wrote)))
+        where
+          wrote : use_of use_of_party p.1 ≡ writes
+          wrote = ap (use_of use_of_party) same.1 ∙ ap use_of_view (running_call me.writer.view.0 me.runs).1
+
+    pub completes : Moved (Watches (Of makes p.0 p.2.name) p.2 q.2 (Told p.0.opening (turn_by (CallOnce tt) (what p.1)) p.1) 0) q.1 → Since (running me) (Ends (Value tt)) q × (what q.1 ≡ Some Reading)
+    completes moved =
+        let call = running_call me.writer.view.0 me.runs in
+        let it = ends_by p q (CallOnce tt) 0 (closure_call call.0) Run (ap what same.1 ∙ ap Some call.1) (turned makes (CallOnce tt) p q 0 knows permit_named key moved) (Value tt) (ap (λ st. st.next) (as_sure call.0 Run 0)) in
+        (since_same (running me) p q (Ends (Value tt)) same it.0, it.1)
 
 -- ---- a party that is in no call
 -- its next step is a load

@@ -29,7 +29,7 @@ use Rattle.spin_once.specs.declared.once_core.rule.Stage.{Stage}
 use Rattle.spin_once.specs.declared.once_core.rule.Stage.TheVariants.{Seed, Taken, Done}
 use Rattle.spin_once.proofs.Steps as steps
 use Rattle.spin_once.proofs.Steps.{ComesTo, Any}
-use Rattle.spin_once.proofs.Moves.{Moves, Turns, finding, to_view, turn_moves, load_moves, load_leads, first_finds, as_sure, begin_words, begin_free, end_words, end_free, fail_moves}
+use Rattle.spin_once.proofs.Moves.{Moves, Turns, finding, to_view, turn_moves, load_moves, load_leads, load_finds, as_sure, begin_words, begin_free, end_words, end_free, fail_moves}
 use Rattle.spin_once.proofs.Valued.{valued, writes_none, plainly, bare_moves, Leaving}
 
 -- a party whose next step is a load writes nothing
@@ -48,8 +48,7 @@ at_one n = n ≡ 1
 none_yet : {T : Type 0} (n : ℕ) (vs : List T) → AtMostOne n vs → n ≡ 1 → vs ≡ []
 none_yet n vs few one = few.0 (λ two. absurd (let d : 1 ≡ 2 = sym one ∙ two in cc))
 
--- what a store says; it tells no number
-abbrev pub stored : Says → Says
+abbrev stored : Says → Says
 stored says own outs n v = says own outs 0 v
 
 -- which call it is whose closure runs
@@ -70,6 +69,10 @@ module _ {T S : Type 0} (makes : S → T → Type 0) (key : Key T S) where
 
   abbrev Keeps : Option (Numbered View) → Option Content → (ℕ → ℕ) → Says → Type 0
   Keeps view shown f says = Traces (IsOnce key.opening) (once_ways makes key) view shown f (Told key.opening says view)
+
+  -- a store says nothing of the number that it finds
+  abbrev Stores : Option (Numbered View) → Option Content → (ℕ → ℕ) → Says → Type 0
+  Stores view shown f says = Traces (IsOnce key.opening) (once_ways makes key) view shown f (λ log es n. Told key.opening says view log es 0)
 
   traces : (view : Option (Numbered View)) (shown : Option Content) (f : ℕ → ℕ) (leads : ℕ → View → Type 0) (says : Says)
       → Moves given (what view) f leads says → steps.Allowed makes key (what view) shown f leads
@@ -97,7 +100,7 @@ module _ {T S : Type 0} (makes : S → T → Type 0) (key : Key T S) where
     pub loads : is_load (point_of was) ≡ true → Keeps view shown (λ n. n) (turn_by c was)
     loads is =
         keeps (λ n. n) (load_reads was is) (λ n e. e) (load_moves c was is given)
-        (steps.loads makes key was is shown (to_view c was) (load_leads c was is) (λ reading. ap (λ v. to_view c v 2) reading ∙ first_finds c))
+        (steps.loads makes key was is shown (to_view c was) (load_leads c was is) (load_finds c was is))
 
   module _ (b : Bool) where
     abbrev c : OnceCall (Unit {0})
@@ -113,9 +116,10 @@ module _ {T S : Type 0} (makes : S → T → Type 0) (key : Key T S) where
         (steps.begins makes key at shown c (to_view c at) refl (sym (ap (λ st. view_of c st.next) (as_sure b TryBegin 0))) (ap (λ st. use_of_view (view_of c st.next)) (as_sure b TryBegin 1))
         (ap (λ st. use_of_view (view_of c st.next)) (as_sure b TryBegin 2)) new decides))
 
-    -- The last step of a call whose closure gave a value is a write of it. It is a store, which says nothing of the number that it finds.
+    -- the last step of a call whose closure gave a value is a write of it
     ends_at : (first : OnceCall (Unit {0})) (p mark : ℕ) (new : ℕ) (value : T) → new ≡ 2 → ((s : Plain) (p : ℕ) → once_word s ≡ 1 → Gives s (completes p) once_word new) → makes key.seed.value value
-        → Keeps (Some (in_closure b Run, p, mark)) (Some (maybe_stable (Done value))) (λ _. new) (stored (turn_by first (Some (in_closure b Run))))
+        → Stores (Some (in_closure b Run, p, mark)) (Some (maybe_stable (Done value))) (λ _. new) (turn_by first (Some (in_closure b Run)))
+    unfolding Told
     ends_at first p mark new value two gives is_made =
         valued makes key v shown (λ _. new) exact (stored says) (λ own. Write value ∷ []) less (λ own outs n u said. sym said.0.1.0) puts
         (traces v shown (λ _. new) (Turns first running at_one) exact (turn_moves given first running (λ _. new) at_one (λ n. end_words b n ∙ sym two) (end_free b))
@@ -148,13 +152,14 @@ module _ {T S : Type 0} (makes : S → T → Type 0) (key : Key T S) where
             rw (none, ap use_of_view u_is) ((λ other. absurd (other two), omega arith), λ told. refl)
 
   pub ends : (first : OnceCall (Unit {0})) (v : Numbered View) → is_running v.0 ≡ true → (new : ℕ) (value : T) → new ≡ 2 → ((s : Plain) (p : ℕ) → once_word s ≡ 1 → Gives s (completes p) once_word new) → makes key.seed.value value
-      → Keeps (Some v) (Some (maybe_stable (Done value))) (λ _. new) (stored (turn_by first (Some v.0)))
+      → Stores (Some v) (Some (maybe_stable (Done value))) (λ _. new) (turn_by first (Some v.0))
   ends first v runs new value two gives is_made =
       let at = running_call v.0 runs in
-      subst (λ x. Keeps (Some (x, v.1, v.2)) (Some (maybe_stable (Done value))) (λ _. new) (stored (turn_by first (Some x)))) (sym at.1) (ends_at at.0 first v.1 v.2 new value two gives is_made)
+      subst (λ x. Stores (Some (x, v.1, v.2)) (Some (maybe_stable (Done value))) (λ _. new) (turn_by first (Some x))) (sym at.1) (ends_at at.0 first v.1 v.2 new value two gives is_made)
 
   pub gives_up : (v : Numbered View) → v.0 ≡ in_closure true Run → (new : ℕ) (it : S) → new ≡ 0 → ((s : Plain) (p : ℕ) → once_word s ≡ 1 → Gives s (fails p) once_word new) → it ≡ key.seed.value
-      → Keeps (Some v) (Some (maybe_stable (Seed it))) (λ _. new) fails_by
+      → Stores (Some v) (Some (maybe_stable (Seed it))) (λ _. new) fails_by
+  unfolding Told
   gives_up v runs new it zero_is gives same =
       let shown : Option Content = Some (maybe_stable (Seed it)) in
       valued makes key (Some v) shown (λ _. new) (finding at_one fails_by) fails_by plainly
@@ -169,6 +174,7 @@ module _ {T S : Type 0} (makes : S → T → Type 0) (key : Key T S) where
   -- ---- a new cell
   pub starts : (t : Trace (Valued T) (Unit {0})) → t.name ≡ name → t.entries ≡ [] → (it : S) → key.opening.value ≡ Seed it → it ≡ key.seed.value
       → Opens (IsOnce key.opening) (once_ways makes key) 0 t (maybe_stable (Seed it))
+  unfolding IsOnce
   starts t named empty it is same =
       let met = tie.opens (model given) seat_of words_of Word name Content (steps.way makes key) use_of_view no_fact 0 (bare_trace t) named (ap bare empty) (rw is refl) (steps.meets makes key 0 tt [] (refl, refl) refl) in
       let few : AtMostOne 0 (made key.opening.value t.entries) = rw (is, empty) (λ other. refl, omega arith) in ([], tt, ((met.0, few), met.1), (tt, same))
@@ -181,6 +187,7 @@ module _ {T S : Type 0} (makes : S → T → Type 0) (key : Key T S) where
 
   pub starts_made : (t : Trace (Valued T) (Unit {0})) → t.name ≡ name → t.entries ≡ [] → (value : T) → key.opening.value ≡ Done value → makes key.seed.value value
       → Opens (IsOnce key.opening) (once_ways makes key) 2 t (maybe_stable (Done value))
+  unfolding IsOnce
   starts_made t named empty value is is_made =
       let reader : Numbered View = (Reading, 0, 0) in let met = steps.meets makes key 2 tt (Reading ∷ []) (omega arith, refl) refl in
       let runs : IsRun (model (Some tt)) seat_of words_of [] (2, tt) (reader ∷ []) = (Some (Reading, 0) ∷ [], 2, Some tt, refl, refl, (λ more. ap idle_state (one_more more)), (λ more. refl), (((omega arith), refl), λ q le. refl)) in
@@ -204,6 +211,7 @@ module _ {T S : Type 0} (makes : S → T → Type 0) (key : Key T S) where
 
   -- where one reads the value it was made, and any that was made may take its place, if the trace tells it no more
   pub stabilizes : key.opening.told ≡ false → ((it : S) (value : T) → makes it value) → StableAt (IsOnce key.opening) (once_ways makes key) is_done 2
+  unfolding IsOnce
   stabilizes untold any t x lies =
       let vs = lies.0 in let rs = readers_of use_of_party vs in let ws = writers_of use_of_party vs in let know = (once_ways makes key).2 in
       let few : 0 < rs = subst (λ r. 0 < r) (tie.as_many_read use_of_view vs) (steps.numbers 2 t.word (map (λ (v : Numbered View). v.0) vs) lies.1.0.0.1).0 in
@@ -231,6 +239,7 @@ module _ {T S : Type 0} (makes : S → T → Type 0) (key : Key T S) where
   less t (suc w) x A known = known
 
   pub lends : Lends (IsOnce key.opening) (once_ways makes key) (IsOnce (lent_key key).opening) (once_ways makes (lent_key key))
+  unfolding IsOnce
   lends = (
     (λ shared. shared),
     (λ v. refl),
@@ -241,6 +250,7 @@ module _ {T S : Type 0} (makes : S → T → Type 0) (key : Key T S) where
 -- ---- which parties may leave
 module _ {T S : Type 0} (opening : Opening (Stage T S)) where
   pub idle_rests : (v : Numbered View) → v.0 ≡ Idle → Rests (IsOnce opening) use_of_party (Some v)
+  unfolding IsOnce
   idle_rests v is =
       let rest = tie.rests (model (given_of opening.value)) seat_of words_of Word opening.name (Unit {0}) alone use_of_view no_fact v (ap seat_of is) (rw is steps.idle_rests) in
       (rest.0, λ n t before behind holds. (rest.1 n (bare_trace t) before behind holds.0, holds.1))

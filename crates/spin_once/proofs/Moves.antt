@@ -53,16 +53,16 @@ to_view c view n = let d = call_from c view in view_of d (next_at d (point_of vi
 abbrev pub Turns : Call → Option View → (ℕ → Type 0) → ℕ → View → Type 0
 Turns c view = ComesTo (to_view c view)
 
--- each call begins
-begins : (given : Option (Unit {0})) (c : Call) → (model given).begin c None ≡ Some (at Look)
-begins given (CallOnce v) = refl
-begins given (TryCallOnceOk v) = refl
-begins given TryCallOnceErr = refl
-begins given (InitFromRef v) = refl
-begins given Wait = refl
-begins given Poll = refl
-begins given Get = refl
-begins given IsCompleted = refl
+-- each call begins with a look, which may find the value
+begins : (c : Call) → ((model None).begin c None ≡ Some (at Look)) × (view_of c (next_at c Look 2) ≡ Reading)
+begins (CallOnce v) = (refl, refl)
+begins (TryCallOnceOk v) = (refl, refl)
+begins TryCallOnceErr = (refl, refl)
+begins (InitFromRef v) = (refl, refl)
+begins Wait = (refl, refl)
+begins Poll = (refl, refl)
+begins Get = (refl, refl)
+begins IsCompleted = (refl, refl)
 
 abbrev World : Type 0
 World = State ℕ (Unit {0}) Call Point
@@ -104,8 +104,8 @@ module _ (given : Option (Unit {0})) where
           led.begun_too,
           st.words,
           now,
-          ap (λ o. (happens m (begun {A = Answer (Unit {0})} idle 0 c None o).next 0 Step).next) (begins given c) ∙ led.is ∙ ap (λ x. let s : World = record { words = st.words; value = now; seats = seat_of x ∷ [] } in s) (sym is.0),
-          ap (λ o. let h = begun {A = Answer (Unit {0})} idle 0 c None o in h.outcome ∷ (happens m h.next 0 Step).outcome ∷ []) (begins given c) ∙ ap (λ o. Begun ∷ o ∷ []) led.outcome,
+          ap (λ o. (happens m (begun {A = Answer (Unit {0})} idle 0 c None o).next 0 Step).next) (begins c).0 ∙ led.is ∙ ap (λ x. let s : World = record { words = st.words; value = now; seats = seat_of x ∷ [] } in s) (sym is.0),
+          ap (λ o. let h = begun {A = Answer (Unit {0})} idle 0 c None o in h.outcome ∷ (happens m h.next 0 Step).outcome ∷ []) (begins c).0 ∙ ap (λ o. Begun ∷ o ∷ []) led.outcome,
           ap words_of (words n),
         )
 
@@ -152,28 +152,16 @@ Loads (Continue _) n = Unit {0}
 Loads (Answers a None) n = Quietly (answered a) n
 Loads (Answers a (Some h)) n = ⊥
 
--- whether there is the value
+-- whether there is the value, and whether another closure runs
 there : (n : ℕ) (other : Onward) → Loads (filled (Some tt) other) n → Loads (filled (Some tt) (either (n == 2) (Answers (Value tt) None) other)) n
-there n other other_loads = by (n == 2) refl
-  where
-    by : (b : Bool) → (n == 2) ≡ b → Loads (filled (Some tt) (either b (Answers (Value tt) None) other)) n
-    by true is = eqb-true n 2 is
-    by false is = other_loads
+there n other so =
+    (elim (n == 2) as (λ b. (n == 2) ≡ b → Loads (filled (Some tt) (either b (Answers (Value tt) None) other)) n) [ true ↦ eqb-true n 2 | false ↦ λ no. so ]) refl
 
--- whether another closure runs
 runs_not : (n : ℕ) (a b : Onward) → Loads (filled (Some tt) a) n → Loads (filled (Some tt) b) n → Loads (filled (Some tt) (either (n == 0) a b)) n
-runs_not n a b a_loads b_loads = by (n == 0)
-  where
-    by : (t : Bool) → Loads (filled (Some tt) (either t a b)) n
-    by true = a_loads
-    by false = b_loads
+runs_not n a b so also = elim (n == 0) as (λ t. Loads (filled (Some tt) (either t a b)) n) [ true ↦ so | false ↦ also ]
 
 completed : (n : ℕ) → Loads (Answers (Is (n == 2)) None) n
-completed n = by (n == 2) refl
-  where
-    by : (b : Bool) → (n == 2) ≡ b → Loads (Answers (Is b) None) n
-    by true is = eqb-true n 2 is
-    by false is = tt
+completed n = (elim (n == 2) as (λ b. (n == 2) ≡ b → Loads (Answers (Is b) None) n) [ true ↦ eqb-true n 2 | false ↦ λ no. tt ]) refl
 
 loads : (c : Call) (l : OncePoint) → is_load l ≡ true → (n : ℕ) → ((table c l n).words ≡ n) × Loads (next_at c l n) n
 loads (CallOnce v) Look is n = (refl, there n (Continue TryBegin) tt)
@@ -190,48 +178,30 @@ loads Get l is n = (refl, there n (Answers NoValue None) tt)
 loads IsCompleted l is n = (refl, completed n)
 loads _ _ is n = absurd (cc is)
 
-free_of : (next : Onward) (n : ℕ) → Loads next n → IsFree next
-free_of (Continue l) n so = tt
-free_of (Answers a None) n so = by (answered a) so
-  where
-    by : (v : View) → Quietly v n → seat_of v ≡ seat.Idle
-    by Idle so = refl
-    by Reading so = refl
-    by (InCall c l) so = absurd so
-free_of (Answers a (Some h)) n so = absurd so
+quiet : (v : View) (n : ℕ) → Quietly v n → (seat_of v ≡ seat.Idle) × ((use_of_view v ≡ off) ⊎ ((use_of_view v ≡ reads) × (n ≡ 2)))
+quiet Idle n so = (refl, inl refl)
+quiet Reading n so = (refl, inr (refl, so))
+quiet (InCall c l) n so = absurd so
 
-use_after : (c : Call) (next : Onward) (n : ℕ) → Loads next n → (use_of_view (view_of c next) ≡ off) ⊎ ((use_of_view (view_of c next) ≡ reads) × (n ≡ 2))
-use_after c (Continue Look) n so = inl refl
-use_after c (Continue TryBegin) n so = inl refl
-use_after c (Continue Await) n so = inl refl
-use_after c (Continue Run) n so = absurd so
-use_after c (Answers a None) n so = by (answered a) so
-  where
-    by : (v : View) → Quietly v n → (use_of_view v ≡ off) ⊎ ((use_of_view v ≡ reads) × (n ≡ 2))
-    by Idle so = inl refl
-    by Reading so = inr (refl, so)
-    by (InCall c l) so = absurd so
-use_after c (Answers a (Some h)) n so = absurd so
+after : (c : Call) (next : Onward) (n : ℕ) → Loads next n → IsFree next × ((use_of_view (view_of c next) ≡ off) ⊎ ((use_of_view (view_of c next) ≡ reads) × (n ≡ 2)))
+after c (Continue Run) n so = absurd so
+after c (Continue Look) n so = (tt, inl refl)
+after c (Continue _) n so = (tt, inl refl)
+after c (Answers a None) n so = quiet (answered a) n so
+after c (Answers a (Some h)) n so = absurd so
 
 module _ (c : Call) (view : Option View) (is : is_load (point_of view) ≡ true) where
   pub load_moves : (given : Option (Unit {0})) → Moves given view (λ n. n) (Turns c view Any) (finding Any (turn_by c view))
   load_moves given =
       let d = call_from c view in let l = point_of view in
-      turn_moves given c view (λ n. n) Any (λ n. (loads d l is n).0) (λ n. free_of (next_at d l n) n (loads d l is n).1)
+      turn_moves given c view (λ n. n) Any (λ n. (loads d l is n).0) (λ n. (after d (next_at d l n) n (loads d l is n).1).0)
 
   pub load_leads : Leads (to_view c view)
-  load_leads n = let d = call_from c view in let l = point_of view in use_after d (next_at d l n) n (loads d l is n).1
+  load_leads n = let d = call_from c view in let l = point_of view in (after d (next_at d l n) n (loads d l is n).1).1
 
--- where a call begins, the value is found
-pub first_finds : (c : Call) → view_of c (next_at c Look 2) ≡ Reading
-first_finds (CallOnce v) = refl
-first_finds (TryCallOnceOk v) = refl
-first_finds TryCallOnceErr = refl
-first_finds (InitFromRef v) = refl
-first_finds Wait = refl
-first_finds Poll = refl
-first_finds Get = refl
-first_finds IsCompleted = refl
+  -- a party that reads the value finds it again
+  pub load_finds : view ≡ Some Reading → to_view c view 2 ≡ Reading
+  load_finds reading = ap (λ v. to_view c v 2) reading ∙ (begins c).1
 
 -- ---- the other steps of a call with a closure, by the number found
 module _ (b : Bool) where
@@ -240,11 +210,7 @@ module _ (b : Bool) where
 
   -- the table has one line for both kinds of closures
   pub as_sure : (l : OncePoint) (n : ℕ) → table c l n ≡ table (CallOnce tt) l n
-  as_sure l n = by b
-    where
-      by : (b : Bool) → table (closure_call b) l n ≡ table (CallOnce tt) l n
-      by true = refl
-      by false = refl
+  as_sure l n = elim b as (λ t. table (closure_call t) l n ≡ table (CallOnce tt) l n) [ true ↦ refl | false ↦ refl ]
 
   -- the exchange
   pub begin_words : (n : ℕ) → (table c TryBegin n).words ≡ either (n == 0) 1 n

@@ -104,11 +104,11 @@ words_of w = (w, tt)
 
 module _ {T S : Type 0} where
   -- of the first word, the trace and the parties, of a lock that opened so
-  abbrev pub IsOnce : Opening (Stage T S) → ℕ → Trace (Valued T) (Unit {0}) → List (Numbered View) → Type 0
+  unfoldable pub IsOnce : Opening (Stage T S) → ℕ → Trace (Valued T) (Unit {0}) → List (Numbered View) → Type 0
   IsOnce opening n t vs = Runs (model (given_of opening.value)) seat_of words_of Word opening.name n (bare_trace t) vs × AtMostOne n (made opening.value t.entries)
 
   -- what a step tells of its moves, and that there is at most one value still
-  abbrev pub Told : Opening (Stage T S) → (List OneMove → List Ending → ℕ → View → Type 0) → Option (Numbered View) → List (Valued T) → List (Valued T) → ℕ → Numbered View → Type 0
+  unfoldable pub Told : Opening (Stage T S) → (List OneMove → List Ending → ℕ → View → Type 0) → Option (Numbered View) → List (Valued T) → List (Valued T) → ℕ → Numbered View → Type 0
   Told opening says view log es n v = Tells (model (given_of opening.value)) seat_of words_of says view (bare log) (bare es) n v × (length (made opening.value (log ++ es)) ≤ 1)
 
 -- The steps of a call: each is the next one by the model's table
@@ -194,7 +194,7 @@ abbrev pub Moving : Type 1
 Moving = Course (Unit {0}) (OnceCall (Unit {0})) (Answer (Unit {0}))
 
 -- since it knew `old` it has made exactly the moves of this course
-abbrev pub Moves : Option (Unit {0}) → Moving → Option (Numbered View) → List Made → Option (Numbered View) → List Made → Type 0
+unfoldable pub Moves : Option (Unit {0}) → Moving → Option (Numbered View) → List Made → Option (Numbered View) → List Made → Type 0
 Moves given course view old view' new = passes.Made (model given) view old view' new course
 
 -- steps after which the call still waits, and then the end of a closure that fails
