@@ -66,7 +66,8 @@ module _ {T S : Type 0} (makes : S → T → Type 0) where
     knew_all = knew ∙ sym (as_long p.2.entries)
 
     -- it knows all again, by a watch of the same trace, and the value where it uses it
-    pub keeps : (shown shown' : Option (MaybeStable (Stage T S))) → (use_of use_of_party p.1 ≡ use_of use_of_party q.1 → Sees p.0.opening p.2.entries (use_of use_of_party p.1) shown)
+    pub keeps : (shown shown' : Option (MaybeStable (Stage T S)))
+        → (use_of use_of_party p.1 ≡ use_of use_of_party q.1 → Sees p.0.opening p.2.entries (use_of use_of_party p.1) shown)
         → Keeps (once_ways makes p.0) p.1 q.1 shown shown' → Found (once_ways makes p.0) p.1 q.1 shown shown' q.2
         → (q.0.opening.name ≡ q.2.name) × (mark_of q.1 ≡ length q.2.entries) × Sees q.0.opening q.2.entries (use_of use_of_party q.1) shown'
     keeps shown shown' sees kept learnt =
@@ -74,10 +75,12 @@ module _ {T S : Type 0} (makes : S → T → Type 0) where
           ap (λ k. k.opening.name) same ∙ named ∙ sym told.0,
           told.1,
           subst (λ k. Sees k.opening q.2.entries (use_of use_of_party q.1) shown') (sym same)
-              (sees_on makes p.0 p.2.entries q.2.entries (stays makes p.0 says (Of p.0 p.2.name) p.1 p.2 q.2 found q.1 moved) (use_of use_of_party p.1) (use_of use_of_party q.1) shown shown' sees kept.0 learnt),
+              (sees_on makes p.0 p.2.entries q.2.entries (stays makes p.0 says (Of p.0 p.2.name) p.1 p.2 q.2 found q.1 moved) (use_of use_of_party p.1)
+                  (use_of use_of_party q.1) shown shown' sees kept.0 learnt),
         )
       where
-        marked : (v : Option (Numbered View)) → Bared makes p.0 says (Of p.0 p.2.name) p.1 p.2 q.2 found v → (q.2.name ≡ p.2.name) × (mark_of v ≡ length q.2.entries)
+        marked : (v : Option (Numbered View)) → Bared makes p.0 says (Of p.0 p.2.name) p.1 p.2 q.2 found v
+            → (q.2.name ≡ p.2.name) × (mark_of v ≡ length q.2.entries)
         marked None bare_moved = absurd bare_moved
         marked (Some v) bare_moved = (
           bare_moved.0 (may_know p.0 p.2 named),
@@ -85,12 +88,14 @@ module _ {T S : Type 0} (makes : S → T → Type 0) where
         )
 
     -- where it is, and which moves it made, if a step says so
-    pub made : (to : ℕ → View) (course : ℕ → Moving) → ((own : List OneMove) (outs : List Ending) (n : ℕ) (v : View) → says own outs n v → (v ≡ to n) × course n own outs)
+    pub made : (to : ℕ → View) (course : ℕ → Moving)
+        → ((own : List OneMove) (outs : List Ending) (n : ℕ) (v : View) → says own outs n v → (v ≡ to n) × course n own outs)
         → Since p (course found) q × (what q.1 ≡ Some (to found))
     unfolding Moves
     made to course means =
         let it : Learnt m p.1 q.1 before now (to found) (course found) =
-        passes.learnt m seat_of words_of says to course means (Of p.0 p.2.name) (may_know p.0 p.2 named) p.1 q.1 before now found knew_all (bared makes p.0 says (Of p.0 p.2.name) p.1 p.2 q.2 found q.1 moved) in
+        passes.learnt m seat_of words_of says to course means (Of p.0 p.2.name) (may_know p.0 p.2 named) p.1 q.1 before now found knew_all
+            (bared makes p.0 says (Of p.0 p.2.name) p.1 p.2 q.2 found q.1 moved) in
         ((same, it.named, it.made), it.is)
 
   -- the next step of its call
@@ -98,7 +103,8 @@ module _ {T S : Type 0} (makes : S → T → Type 0) where
       → Moved (Watches (Of p.0 p.2.name) p.2 q.2 (Told p.0.opening (turn_by c (what p.1)) p.1) found) q.1 → Turned c found p q
   turned c p q found knew named same moved =
       let view = what p.1 in let d = call_from c view in let l = point_of view in
-      made p q found knew named same (turn_by c view) moved (λ n. view_of d (next_at d l n)) (λ n. IsStep (has_begun view) d (outcome_of (next_at d l n))) (λ own outs n v said. said)
+      made p q found knew named same (turn_by c view) moved (λ n. view_of d (next_at d l n)) (λ n. IsStep (has_begun view) d (outcome_of (next_at d l n)))
+          (λ own outs n v said. said)
 
 -- ---- one after another
 module _ {T S : Type 0} (p q : Place T S) where
@@ -191,11 +197,13 @@ runs_closure b view is = rw is (by b)
     by true = refl
     by false = refl
 
-pub claims_run : {T S : Type 0} (b : Bool) (p : Place T S) (it : Account T S) (permit : InitPermit T S) → Since p Waits (here it) × (what it.party.view ≡ Some (in_closure b Run)) → FindsSeed it
+pub claims_run : {T S : Type 0} (b : Bool) (p : Place T S) (it : Account T S) (permit : InitPermit T S)
+    → Since p Waits (here it) × (what it.party.view ≡ Some (in_closure b Run)) → FindsSeed it
     → Same (here it) (running permit) → Some permit.writer.value ≡ it.party.value → Claims b p (claim.Init permit)
 claims_run b p it permit made finds same shown =
     let view = it.party.view in let writes_now : use_of use_of_party view ≡ writes = sym (tie.same_use use_of_view view) ∙ ap (use_of use_of_view) made.1 in
-    let there : Some permit.writer.value ≡ Some (maybe_stable (Seed permit.writer.key.seed.value)) = shown ∙ finds writes_now ∙ ap (λ k. Some (maybe_stable (Seed k.seed.value))) (sym same.0) in
+    let there : Some permit.writer.value ≡ Some (maybe_stable (Seed permit.writer.key.seed.value)) = shown ∙ finds writes_now
+        ∙ ap (λ k. Some (maybe_stable (Seed k.seed.value))) (sym same.0) in
     let at : Some permit.writer.view.0 ≡ Some (in_closure b Run) = ap what same.1 ∙ made.1 in
     (same_since p (here it) (running permit) Waits made.0 same, cc (there), cc (at))
 
@@ -242,22 +250,28 @@ module _ {T S : Type 0} (makes : S → T → Type 0) (me : InitPermit T S) (p : 
 
   module _ (q : Place T S) (key : q.0 ≡ p.0) where
     module _ (says : Says) (moved : Moved (Watches (Of makes p.0 p.2.name) p.2 q.2 (Told p.0.opening says p.1) 0) q.1) where
-      pub stored : (to : ℕ → View) (course : ℕ → Moving) → ((own : List OneMove) (outs : List Ending) (n : ℕ) (v : View) → says own outs n v → (v ≡ to n) × course n own outs)
+      pub stored : (to : ℕ → View) (course : ℕ → Moving)
+          → ((own : List OneMove) (outs : List Ending) (n : ℕ) (v : View) → says own outs n v → (v ≡ to n) × course n own outs)
           → Since (running me) (course 0) q × (what q.1 ≡ Some (to 0))
-      stored to course means = let it = made makes p q 0 knows permit_named key says moved to course means in (since_same (running me) p q (course 0) same it.0, it.1)
+      stored to course means = let it = made makes p q 0 knows permit_named key says moved to course means in
+          (since_same (running me) p q (course 0) same it.0, it.1)
 
       -- it no longer writes
-      pub keeps_end : (u : View) → what q.1 ≡ Some u → use_of_view u ≢ writes → (shown shown' : Option (MaybeStable (Stage T S))) → Keeps (once_ways makes p.0) p.1 q.1 shown shown' → Found (once_ways makes p.0) p.1 q.1 shown shown' q.2
+      pub keeps_end : (u : View) → what q.1 ≡ Some u → use_of_view u ≢ writes → (shown shown' : Option (MaybeStable (Stage T S)))
+          → Keeps (once_ways makes p.0) p.1 q.1 shown shown' → Found (once_ways makes p.0) p.1 q.1 shown shown' q.2
           → (q.0.opening.name ≡ q.2.name) × (mark_of q.1 ≡ length q.2.entries) × Sees q.0.opening q.2.entries (use_of use_of_party q.1) shown'
-      keeps_end u now not shown shown' = keeps makes p q 0 knows permit_named key says moved shown shown' (λ e. absurd (not (ap (use_of use_of_view) (sym now) ∙ tie.same_use use_of_view q.1 ∙ sym e ∙ wrote)))
+      keeps_end u now not shown shown' = keeps makes p q 0 knows permit_named key says moved shown shown'
+          (λ e. absurd (not (ap (use_of use_of_view) (sym now) ∙ tie.same_use use_of_view q.1 ∙ sym e ∙ wrote)))
         where
           wrote : use_of use_of_party p.1 ≡ writes
           wrote = ap (use_of use_of_party) same.1 ∙ ap use_of_view (running_call me.writer.view.0 me.runs).1
 
-    pub completes : Moved (Watches (Of makes p.0 p.2.name) p.2 q.2 (Told p.0.opening (turn_by (CallOnce tt) (what p.1)) p.1) 0) q.1 → Since (running me) (Ends (Value tt)) q × (what q.1 ≡ Some Reading)
+    pub completes : Moved (Watches (Of makes p.0 p.2.name) p.2 q.2 (Told p.0.opening (turn_by (CallOnce tt) (what p.1)) p.1) 0) q.1
+        → Since (running me) (Ends (Value tt)) q × (what q.1 ≡ Some Reading)
     completes moved =
         let call = running_call me.writer.view.0 me.runs in
-        let it = ends_by p q (CallOnce tt) 0 (closure_call call.0) Run (ap what same.1 ∙ ap Some call.1) (turned makes (CallOnce tt) p q 0 knows permit_named key moved) (Value tt) (ap (λ st. st.next) (as_sure call.0 Run 0)) in
+        let it = ends_by p q (CallOnce tt) 0 (closure_call call.0) Run (ap what same.1 ∙ ap Some call.1)
+            (turned makes (CallOnce tt) p q 0 knows permit_named key moved) (Value tt) (ap (λ st. st.next) (as_sure call.0 Run 0)) in
         (since_same (running me) p q (Ends (Value tt)) same it.0, it.1)
 
 -- ---- a party that is in no call
@@ -284,14 +298,17 @@ may_finish opening (Some v) out = at v.0 refl
 
 -- ---- a party that begins to run its closure finds the seed
 module _ {T S : Type 0} (makes : S → T → Type 0) (key : Key T S) where
-  pub finds_seed : (u u' : Use) (before after : Option (MaybeStable (Stage T S))) → u ≡ off → Preserves (once_ways makes key).0 u u' before after → u' ≡ writes → after ≡ Some (maybe_stable (Seed key.seed.value))
-  finds_seed u u' before after none kept runs = at before after (subst (λ (z : Use × Use). Preserves (once_ways makes key).0 z.0 z.1 before after) (λ i. (none i, runs i)) kept)
+  pub finds_seed : (u u' : Use) (before after : Option (MaybeStable (Stage T S))) → u ≡ off → Preserves (once_ways makes key).0 u u' before after
+      → u' ≡ writes → after ≡ Some (maybe_stable (Seed key.seed.value))
+  finds_seed u u' before after none kept runs = at before after
+      (subst (λ (z : Use × Use). Preserves (once_ways makes key).0 z.0 z.1 before after) (λ i. (none i, runs i)) kept)
     where
       is_seed : (stage : Stage T S) → IsMadeFrom makes key.seed false stage → Some (maybe_stable stage) ≡ Some (maybe_stable (Seed key.seed.value))
       is_seed (Seed it) is = ap (λ x. Some (maybe_stable (Seed x))) is
       is_seed _ is = absurd is
 
-      at : (before after : Option (MaybeStable (Stage T S))) → Preserves (once_ways makes key).0 off writes before after → after ≡ Some (maybe_stable (Seed key.seed.value))
+      at : (before after : Option (MaybeStable (Stage T S))) → Preserves (once_ways makes key).0 off writes before after
+          → after ≡ Some (maybe_stable (Seed key.seed.value))
       at before (Some x) is = is_seed x.value is.1
       at None None is = absurd (cc (is.0.1))
       at (Some x) None is = absurd (cc (is.0))

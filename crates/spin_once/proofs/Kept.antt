@@ -89,11 +89,13 @@ module _ {T S : Type 0} (makes : S → T → Type 0) (key : Key T S) where
         → steps.Allowed makes key was shown f (Turns c was Any) → Keeps view shown f (turn_by c was)
     keeps f ne two moves allows =
         let exact : Says = finding Any (turn_by c was) in
-        valued makes key view shown f exact (turn_by c was) plainly (λ own outs n u said. said.0) (λ own outs n u said. lifts (has_begun was) own outs (outcome_of (next_at (call_from c was) (point_of was) n)) said.0.1)
+        valued makes key view shown f exact (turn_by c was) plainly (λ own outs n u said. said.0)
+        (λ own outs n u said. lifts (has_begun was) own outs (outcome_of (next_at (call_from c was) (point_of was) n)) said.0.1)
         (writes_none makes key view shown f exact (λ e. ne (tie.same_use use_of_view view ∙ e)) two)
         (traces view shown f (Turns c was Any) exact moves allows)
       where
-        lifts : (on : Bool) (own : List OneMove) (outs : List Ending) (o : Ending) → IsStep on (call_from c was) o own outs → bare_moves (plainly {T = T} own) ≡ own
+        lifts : (on : Bool) (own : List OneMove) (outs : List Ending) (o : Ending) → IsStep on (call_from c was) o own outs
+            → bare_moves (plainly {T = T} own) ≡ own
         lifts true own outs o is = ap (λ l. bare_moves (plainly {T = T} l)) is.0 ∙ sym is.0
         lifts false own outs o is = ap (λ l. bare_moves (plainly {T = T} l)) is.0 ∙ sym is.0
 
@@ -106,24 +108,29 @@ module _ {T S : Type 0} (makes : S → T → Type 0) (key : Key T S) where
     abbrev c : OnceCall (Unit {0})
     c = closure_call b
 
-    pub begins : (view : Option (Numbered View)) (shown : Option Content) → what view ≡ Some (in_closure b TryBegin) → (new : ℕ) → new ≡ 1 → ((s : Plain) (p : ℕ) → once_word s ≡ 0 → Decides s (gets p to_begin) once_word (Some new))
+    pub begins : (view : Option (Numbered View)) (shown : Option Content) → what view ≡ Some (in_closure b TryBegin) → (new : ℕ) → new ≡ 1
+        → ((s : Plain) (p : ℕ) → once_word s ≡ 0 → Decides s (gets p to_begin) once_word (Some new))
         → Keeps view shown (λ n. either (n == 0) new n) (turn_by c (what view))
     begins view shown is new one decides =
         let f : ℕ → ℕ = λ n. either (n == 0) new n in let at : Option View = Some (in_closure b TryBegin) in
         keeps c view shown f (λ e. absurd (let d : off ≡ writes = sym (ap (use_of use_of_view) is) ∙ e in cc)) (λ n two. rw two refl)
         (rw is (turn_moves given c at f Any (λ n. rw one (begin_words b n)) (begin_free b)))
         (rw is
-        (steps.begins makes key at shown c (to_view c at) refl (sym (ap (λ st. view_of c st.next) (as_sure b TryBegin 0))) (ap (λ st. use_of_view (view_of c st.next)) (as_sure b TryBegin 1))
+        (steps.begins makes key at shown c (to_view c at) refl (sym (ap (λ st. view_of c st.next) (as_sure b TryBegin 0)))
+        (ap (λ st. use_of_view (view_of c st.next)) (as_sure b TryBegin 1))
         (ap (λ st. use_of_view (view_of c st.next)) (as_sure b TryBegin 2)) new decides))
 
     -- the last step of a call whose closure gave a value is a write of it
-    ends_at : (first : OnceCall (Unit {0})) (p mark : ℕ) (new : ℕ) (value : T) → new ≡ 2 → ((s : Plain) (p : ℕ) → once_word s ≡ 1 → Gives s (completes p) once_word new) → makes key.seed.value value
+    ends_at : (first : OnceCall (Unit {0})) (p mark : ℕ) (new : ℕ) (value : T) → new ≡ 2
+        → ((s : Plain) (p : ℕ) → once_word s ≡ 1 → Gives s (completes p) once_word new) → makes key.seed.value value
         → Stores (Some (in_closure b Run, p, mark)) (Some (maybe_stable (Done value))) (λ _. new) (turn_by first (Some (in_closure b Run)))
     unfolding Told
     ends_at first p mark new value two gives is_made =
         valued makes key v shown (λ _. new) exact (stored says) (λ own. Write value ∷ []) less (λ own outs n u said. sym said.0.1.0) puts
-        (traces v shown (λ _. new) (Turns first running at_one) exact (turn_moves given first running (λ _. new) at_one (λ n. end_words b n ∙ sym two) (end_free b))
-        (subst (λ to. steps.Allowed makes key running shown (λ _. new) (ComesTo to at_one)) (λ i n. sym (reads_at n) i) (steps.ends makes key c new value gives is_made)))
+        (traces v shown (λ _. new) (Turns first running at_one) exact
+        (turn_moves given first running (λ _. new) at_one (λ n. end_words b n ∙ sym two) (end_free b))
+        (subst (λ to. steps.Allowed makes key running shown (λ _. new) (ComesTo to at_one)) (λ i n. sym (reads_at n) i)
+        (steps.ends makes key c new value gives is_made)))
       where
         running : Option View
         running = Some (in_closure b Run)
@@ -144,27 +151,32 @@ module _ {T S : Type 0} (makes : S → T → Type 0) (key : Key T S) where
         reads_at n = ap (λ st. view_of c st.next) (as_sure b Run n)
 
         less : (own : List OneMove) (outs : List Ending) (n : ℕ) (u : View) → exact own outs n u → says own outs 0 u
-        less own outs n u said = subst (λ next. (u ≡ view_of c next) × IsStep true c (outcome_of next) own outs) (ap (λ st. st.next) (as_sure b Run n ∙ sym (as_sure b Run 0))) said.0
+        less own outs n u said = subst (λ next. (u ≡ view_of c next) × IsStep true c (outcome_of next) own outs)
+            (ap (λ st. st.next) (as_sure b Run n ∙ sym (as_sure b Run 0))) said.0
 
         puts : Leaving makes key v shown (λ _. new) exact (stored says) (λ own. Write value ∷ [])
         puts own outs n u said vs few =
             let none = none_yet n vs few said.1 in let u_is : u ≡ Reading = said.0.0 ∙ reads_at n in
             rw (none, ap use_of_view u_is) ((λ other. absurd (other two), omega arith), λ told. refl)
 
-  pub ends : (first : OnceCall (Unit {0})) (v : Numbered View) → is_running v.0 ≡ true → (new : ℕ) (value : T) → new ≡ 2 → ((s : Plain) (p : ℕ) → once_word s ≡ 1 → Gives s (completes p) once_word new) → makes key.seed.value value
+  pub ends : (first : OnceCall (Unit {0})) (v : Numbered View) → is_running v.0 ≡ true → (new : ℕ) (value : T) → new ≡ 2
+      → ((s : Plain) (p : ℕ) → once_word s ≡ 1 → Gives s (completes p) once_word new) → makes key.seed.value value
       → Stores (Some v) (Some (maybe_stable (Done value))) (λ _. new) (turn_by first (Some v.0))
   ends first v runs new value two gives is_made =
       let at = running_call v.0 runs in
-      subst (λ x. Stores (Some (x, v.1, v.2)) (Some (maybe_stable (Done value))) (λ _. new) (turn_by first (Some x))) (sym at.1) (ends_at at.0 first v.1 v.2 new value two gives is_made)
+      subst (λ x. Stores (Some (x, v.1, v.2)) (Some (maybe_stable (Done value))) (λ _. new) (turn_by first (Some x))) (sym at.1)
+      (ends_at at.0 first v.1 v.2 new value two gives is_made)
 
-  pub gives_up : (v : Numbered View) → v.0 ≡ in_closure true Run → (new : ℕ) (it : S) → new ≡ 0 → ((s : Plain) (p : ℕ) → once_word s ≡ 1 → Gives s (fails p) once_word new) → it ≡ key.seed.value
+  pub gives_up : (v : Numbered View) → v.0 ≡ in_closure true Run → (new : ℕ) (it : S) → new ≡ 0
+      → ((s : Plain) (p : ℕ) → once_word s ≡ 1 → Gives s (fails p) once_word new) → it ≡ key.seed.value
       → Stores (Some v) (Some (maybe_stable (Seed it))) (λ _. new) fails_by
   unfolding Told
   gives_up v runs new it zero_is gives same =
       let shown : Option Content = Some (maybe_stable (Seed it)) in
       valued makes key (Some v) shown (λ _. new) (finding at_one fails_by) fails_by plainly
       (λ own outs n u said. said.0) (λ own outs n u said. ap (λ l. bare_moves (plainly {T = T} l)) said.0.1.0 ∙ sym said.0.1.0) leaves
-      (traces (Some v) shown (λ _. new) (ComesTo (λ n. Idle) at_one) (finding at_one fails_by) (rw runs (fail_moves given (λ _. new) (λ n. zero_is))) (rw runs (steps.gives_up makes key (closure_call true) new it gives same)))
+      (traces (Some v) shown (λ _. new) (ComesTo (λ n. Idle) at_one) (finding at_one fails_by) (rw runs (fail_moves given (λ _. new) (λ n. zero_is)))
+      (rw runs (steps.gives_up makes key (closure_call true) new it gives same)))
     where
       leaves : Leaving makes key (Some v) (Some (maybe_stable (Seed it))) (λ _. new) (finding at_one fails_by) fails_by plainly
       leaves own outs n u said vs few =

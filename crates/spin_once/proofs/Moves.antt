@@ -104,8 +104,10 @@ module _ (given : Option (Unit {0})) where
           led.begun_too,
           st.words,
           now,
-          ap (λ o. (happens m (begun {A = Answer (Unit {0})} idle 0 c None o).next 0 Step).next) (begins c).0 ∙ led.is ∙ ap (λ x. let s : World = record { words = st.words; value = now; seats = seat_of x ∷ [] } in s) (sym is.0),
-          ap (λ o. let h = begun {A = Answer (Unit {0})} idle 0 c None o in h.outcome ∷ (happens m h.next 0 Step).outcome ∷ []) (begins c).0 ∙ ap (λ o. Begun ∷ o ∷ []) led.outcome,
+          ap (λ o. (happens m (begun {A = Answer (Unit {0})} idle 0 c None o).next 0 Step).next) (begins c).0 ∙ led.is
+              ∙ ap (λ x. let s : World = record { words = st.words; value = now; seats = seat_of x ∷ [] } in s) (sym is.0),
+          ap (λ o. let h = begun {A = Answer (Unit {0})} idle 0 c None o in
+              h.outcome ∷ (happens m h.next 0 Step).outcome ∷ []) (begins c).0 ∙ ap (λ o. Begun ∷ o ∷ []) led.outcome,
           ap words_of (words n),
         )
 
@@ -126,7 +128,8 @@ module _ (given : Option (Unit {0})) where
         )
 
   -- the next step of the party's call, or the first of this one
-  pub turn_moves : (c : Call) (view : Option View) (f : ℕ → ℕ) (Q : ℕ → Type 0) → ((n : ℕ) → (table (call_from c view) (point_of view) n).words ≡ f n) → ((n : ℕ) → IsFree (next_at (call_from c view) (point_of view) n))
+  pub turn_moves : (c : Call) (view : Option View) (f : ℕ → ℕ) (Q : ℕ → Type 0) → ((n : ℕ) → (table (call_from c view) (point_of view) n).words ≡ f n)
+      → ((n : ℕ) → IsFree (next_at (call_from c view) (point_of view) n))
       → Moves view f (Turns c view Q) (finding Q (turn_by c view))
   turn_moves c None f Q words free = first_moves c f Q words free
   turn_moves c (Some Idle) f Q words free = first_moves c f Q words free
@@ -155,7 +158,8 @@ Loads (Answers a (Some h)) n = ⊥
 -- whether there is the value, and whether another closure runs
 there : (n : ℕ) (other : Onward) → Loads (filled (Some tt) other) n → Loads (filled (Some tt) (either (n == 2) (Answers (Value tt) None) other)) n
 there n other so =
-    (elim (n == 2) as (λ b. (n == 2) ≡ b → Loads (filled (Some tt) (either b (Answers (Value tt) None) other)) n) [ true ↦ eqb-true n 2 | false ↦ λ no. so ]) refl
+    (elim (n == 2) as (λ b. (n == 2) ≡ b
+    → Loads (filled (Some tt) (either b (Answers (Value tt) None) other)) n) [ true ↦ eqb-true n 2 | false ↦ λ no. so ]) refl
 
 runs_not : (n : ℕ) (a b : Onward) → Loads (filled (Some tt) a) n → Loads (filled (Some tt) b) n → Loads (filled (Some tt) (either (n == 0) a b)) n
 runs_not n a b so also = elim (n == 0) as (λ t. Loads (filled (Some tt) (either t a b)) n) [ true ↦ so | false ↦ also ]
@@ -183,7 +187,8 @@ quiet Idle n so = (refl, inl refl)
 quiet Reading n so = (refl, inr (refl, so))
 quiet (InCall c l) n so = absurd so
 
-after : (c : Call) (next : Onward) (n : ℕ) → Loads next n → IsFree next × ((use_of_view (view_of c next) ≡ off) ⊎ ((use_of_view (view_of c next) ≡ reads) × (n ≡ 2)))
+after : (c : Call) (next : Onward) (n : ℕ) → Loads next n
+    → IsFree next × ((use_of_view (view_of c next) ≡ off) ⊎ ((use_of_view (view_of c next) ≡ reads) × (n ≡ 2)))
 after c (Continue Run) n so = absurd so
 after c (Continue Look) n so = (tt, inl refl)
 after c (Continue _) n so = (tt, inl refl)
@@ -257,7 +262,8 @@ module _ (n : ℕ) (not : n ≢ 2) where
     begin_on b = ap (λ st. st.next) (as_sure b TryBegin n) ∙ rw (ne_eqb n 0 nor, ne_eqb n 2 not) refl
 
 -- a call with a closure finds the value
-pub closure_finds : (b : Bool) (l : OncePoint) → next_at (CallOnce tt) l 2 ≡ Answers (Value tt) None → (n : ℕ) → n ≡ 2 → next_at (closure_call b) l n ≡ Answers (Value tt) None
+pub closure_finds : (b : Bool) (l : OncePoint) → next_at (CallOnce tt) l 2 ≡ Answers (Value tt) None → (n : ℕ) → n ≡ 2
+    → next_at (closure_call b) l n ≡ Answers (Value tt) None
 closure_finds b l is n two = ap (λ k. next_at (closure_call b) l k) two ∙ ap (λ st. st.next) (as_sure b l 2) ∙ is
 
 pub closure_at : (b : Bool) (l k : OncePoint) → next_at (CallOnce tt) l 0 ≡ Continue k → (n : ℕ) → n ≡ 0 → next_at (closure_call b) l n ≡ Continue k

@@ -108,9 +108,11 @@ module _ {T S : Type 0} (makes : S → T → Type 0) (key : Key T S) where
   by_use writes shown n m us r w has see run (inl other) e = absurd (let d : writes ≡ off = other in cc)
   by_use writes shown n m us r w has see run (inr other) e = absurd (let d : writes ≡ reads = other.0 in cc)
 
-  stays : (view : Option View) (shown : Option Content) (to : ℕ → View) → use_of use_of_view view ≡ off → (id n : ℕ) (m : Unit {0}) (vs : List View) → Meets Word plain_ways n m vs → Stands id view vs
+  stays : (view : Option View) (shown : Option Content) (to : ℕ → View) → use_of use_of_view view ≡ off → (id n : ℕ) (m : Unit {0}) (vs : List View)
+      → Meets Word plain_ways n m vs → Stands id view vs
       → (use_of_view (to n) ≡ off) ⊎ ((use_of_view (to n) ≡ reads) × (n ≡ 2))
-      → (w : View) × Going way (use_of use_of_view view) (use_of_view w) shown (readers vs) (Meets Word plain_ways n m (after id view vs w)) × ComesTo to Any n w
+      → (w : View) × Going way (use_of use_of_view view) (use_of_view w) shown (readers vs) (Meets Word plain_ways n m (after id view vs w))
+      × ComesTo to Any n w
   stays view shown to none id n m vs has at how =
       let known = numbers n m vs has.0 in let us = after id view vs (to n) in
       let see = sym (ap (λ u. readers us + reading u) none) ∙ see_after id view vs (to n) at in
@@ -121,7 +123,8 @@ module _ {T S : Type 0} (makes : S → T → Type 0) (key : Key T S) where
         (refl, tt),
       )
 
-  looks : (view : Option View) (shown : Option Content) (to : ℕ → View) → use_of use_of_view view ≡ off → Leads to → Allowed view shown (λ n. n) (ComesTo to Any)
+  looks : (view : Option View) (shown : Option Content) (to : ℕ → View) → use_of use_of_view view ≡ off → Leads to
+      → Allowed view shown (λ n. n) (ComesTo to Any)
   looks view shown to none leads id n m vs has at small = stays view shown to none id n m vs has at (leads n)
 
   -- a party that reads looks again
@@ -131,10 +134,14 @@ module _ {T S : Type 0} (makes : S → T → Type 0) (key : Key T S) where
       let gone = see_after id (Some Reading) vs Idle at in let few : 0 < readers vs = omega (arith, gone) in
       let two : n ≡ 2 = read_at n (readers vs) (runs vs) known few in
       let see = see_after id (Some Reading) vs Reading at in let run = run_after id (Some Reading) vs Reading at in
-      let same : readers us ≡ readers vs = omega (arith, see) in let alike : runs us ≡ runs vs = omega (arith, run) in
-      (Reading, (λ e. e, tt, meets n m us (subst (λ (z : ℕ × ℕ). Numbers n z.0 z.1) (λ i. (sym same i, sym alike i)) known) has.0.3), (sym (ap to two ∙ is), tt))
+      let same : readers us ≡ readers vs = omega (arith, see) in let alike : runs us ≡ runs vs = omega (arith, run) in (
+        Reading,
+        (λ e. e, tt, meets n m us (subst (λ (z : ℕ × ℕ). Numbers n z.0 z.1) (λ i. (sym same i, sym alike i)) known) has.0.3),
+        (sym (ap to two ∙ is), tt),
+      )
 
-  pub loads : (view : Option View) → is_load (point_of view) ≡ true → (shown : Option Content) (to : ℕ → View) → Leads to → (view ≡ Some Reading → to 2 ≡ Reading) → Allowed view shown (λ n. n) (ComesTo to Any)
+  pub loads : (view : Option View) → is_load (point_of view) ≡ true → (shown : Option Content) (to : ℕ → View) → Leads to
+      → (view ≡ Some Reading → to 2 ≡ Reading) → Allowed view shown (λ n. n) (ComesTo to Any)
   loads None is shown to leads finds = looks None shown to refl leads
   loads (Some Idle) is shown to leads finds = looks (Some Idle) shown to refl leads
   loads (Some Reading) is shown to leads finds = reads_on shown to (finds refl)
@@ -143,8 +150,10 @@ module _ {T S : Type 0} (makes : S → T → Type 0) (key : Key T S) where
   loads (Some _) is shown to leads finds = absurd (cc is)
 
   -- ---- the exchange by which a call begins to run its closure
-  pub begins : (view : Option View) (shown : Option Content) (c : OnceCall (Unit {0})) (to : ℕ → View) → use_of use_of_view view ≡ off → InCall c Run ≡ to 0 → use_of_view (to 1) ≡ off → use_of_view (to 2) ≡ reads
-      → (new : ℕ) → ((s : Plain) (p : ℕ) → once_word s ≡ 0 → Decides s (gets p to_begin) once_word (Some new)) → Allowed view shown (λ n. either (n == 0) new n) (ComesTo to Any)
+  pub begins : (view : Option View) (shown : Option Content) (c : OnceCall (Unit {0})) (to : ℕ → View) → use_of use_of_view view ≡ off → InCall c Run ≡ to 0
+      → use_of_view (to 1) ≡ off → use_of_view (to 2) ≡ reads
+      → (new : ℕ) → ((s : Plain) (p : ℕ) → once_word s ≡ 0 → Decides s (gets p to_begin) once_word (Some new))
+      → Allowed view shown (λ n. either (n == 0) new n) (ComesTo to Any)
   begins view shown c to none run_at off_at reads_at new decides id zero m vs has at small =
       let known = numbers 0 m vs has.0 in let us = after id view vs (InCall c Run) in
       let see = sym (ap (λ u. readers us + reading u) none) ∙ see_after id view vs (InCall c Run) at in
@@ -156,7 +165,8 @@ module _ {T S : Type 0} (makes : S → T → Type 0) (key : Key T S) where
         (run_at, tt),
       )
   begins view shown c to none run_at off_at reads_at new decides id (suc zero) m vs has at small = stays view shown to none id 1 m vs has at (inl off_at)
-  begins view shown c to none run_at off_at reads_at new decides id (suc (suc zero)) m vs has at small = stays view shown to none id 2 m vs has at (inr (reads_at, refl))
+  begins view shown c to none run_at off_at reads_at new decides id (suc (suc zero)) m vs has at small = stays view shown to none id 2 m vs has at
+      (inr (reads_at, refl))
   begins view shown c to none run_at off_at reads_at new decides id (suc (suc (suc n))) m vs has at small = absurd (numbers (suc (suc (suc n))) m vs has.0)
 
   -- ---- the party that runs its closure

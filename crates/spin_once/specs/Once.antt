@@ -108,7 +108,8 @@ module _ {T S : Type 0} where
   IsOnce opening n t vs = Runs (model (given_of opening.value)) seat_of words_of Word opening.name n (bare_trace t) vs × AtMostOne n (made opening.value t.entries)
 
   -- what a step tells of its moves, and that there is at most one value still
-  unfoldable pub Told : Opening (Stage T S) → (List OneMove → List Ending → ℕ → View → Type 0) → Option (Numbered View) → List (Valued T) → List (Valued T) → ℕ → Numbered View → Type 0
+  unfoldable pub Told : Opening (Stage T S) → (List OneMove → List Ending → ℕ → View → Type 0) → Option (Numbered View) → List (Valued T) → List (Valued T)
+      → ℕ → Numbered View → Type 0
   Told opening says view log es n v = Tells (model (given_of opening.value)) seat_of words_of says view (bare log) (bare es) n v × (length (made opening.value (log ++ es)) ≤ 1)
 
 -- The steps of a call: each is the next one by the model's table

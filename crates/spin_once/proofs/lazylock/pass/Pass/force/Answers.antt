@@ -8,5 +8,7 @@ use Rattle.spin_once.proofs.lazylock.pass.Pass.force.Goals as goal
 
 pub returns : goal.returns
 returns g c =
-    let it = c.read-account in let all = shown (here c.args.self.account) (here c.find_or_make.result.account) (here it.result.1) (IsCall (CallOnce tt) (Value tt)) it.result.0.now c.find_or_make.ensures it.ensures.same it.ensures.found in
+    let it = c.read-account in
+    let all = shown (here c.args.self.account) (here c.find_or_make.result.account) (here it.result.1)
+    (IsCall (CallOnce tt) (Value tt)) it.result.0.now c.find_or_make.ensures it.ensures.same it.ensures.found in
     record { keeps = subst (λ k. g.M.Promise.keeps k.seed.value.promise it.result.0.now) c.find_or_make.ensures.0 it.ensures.made; made = all.0; found = all.1 }

@@ -8,5 +8,6 @@ use Rattle.spin_once.proofs.once_core.account.Account.claim_later.Given as goal
 
 abbrev pub invariant-loop : goal.invariant-loop
 invariant-loop g l =
-    (goal.iterator-loop g).can_next l.iterator' × (goal.iterator-loop g).is_finite l.iterator' × (what l.account.party.view ≡ Some (in_closure g.C.Closure.may_fail Await))
+    (goal.iterator-loop g).can_next l.iterator' × (goal.iterator-loop g).is_finite l.iterator'
+    × (what l.account.party.view ≡ Some (in_closure g.C.Closure.may_fail Await))
     × ((p : Place g.row.T.Denot g.row.S.Denot) → Since p Waits (here l.fn.self) → Since p Waits (here l.account))

@@ -14,7 +14,8 @@ load-found-requires g c = looks_first (what c.args.self.party.view) c.requires
 pub returns-then-found-clause-found : goal.returns-then-found-clause-found
 returns-then-found-clause-found g c =
     let f = c.load-found in let b = g.C.Closure.may_fail in
-    (answers (here c.args.self) (here f.result.1) (closure_call b) f.result.0 c.requires f.ensures (Value tt) (closure_finds b Look refl f.result.0 c.if-found.true)).0
+    (answers (here c.args.self) (here f.result.1) (closure_call b) f.result.0 c.requires f.ensures (Value tt)
+    (closure_finds b Look refl f.result.0 c.if-found.true)).0
 
 pub returns-else-found-clause-wants : goal.returns-else-found-clause-wants
 returns-else-found-clause-wants g c =

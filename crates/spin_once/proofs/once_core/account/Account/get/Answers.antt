@@ -14,7 +14,8 @@ load-found-requires g c = looks_first (what c.args.self.party.view) c.requires
 
 pub returns-then-found-clause-found : goal.returns-then-found-clause-found
 returns-then-found-clause-found g c =
-    let f = c.load-found in (answers (here c.args.self) (here f.result.1) Get f.result.0 c.requires f.ensures (Value tt) (ap (next_at Get Look) c.if-found.true)).0
+    let f = c.load-found in
+    (answers (here c.args.self) (here f.result.1) Get f.result.0 c.requires f.ensures (Value tt) (ap (next_at Get Look) c.if-found.true)).0
 
 pub returns-else-found-clause-none : goal.returns-else-found-clause-none
 returns-else-found-clause-none g c =

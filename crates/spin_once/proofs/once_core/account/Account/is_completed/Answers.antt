@@ -12,5 +12,6 @@ load-found-requires g c = looks_first (what c.args.self.party.view) c.requires
 
 pub returns : goal.returns
 returns g c =
-    let f = c.load-found in let a = Is (f.result.0 == 2) in let it = answers (here c.args.self) (here f.result.1) IsCompleted f.result.0 c.requires f.ensures a refl in
+    let f = c.load-found in let a = Is (f.result.0 == 2) in
+    let it = answers (here c.args.self) (here f.result.1) IsCompleted f.result.0 c.requires f.ensures a refl in
     record { made = it.0; out = ap is_out it.1 ∙ out_after a }

@@ -19,5 +19,6 @@ returns g c =
 pub invariant_of-result : goal.invariant_of-result
 invariant_of-result g c =
     let me = c.args.self in let f = c.load-found in
-    let all = keeps g.S.Seed.makes (here me) (f.result.1.key, f.result.1.view, f.result.2) f.result.0 me.knows me.named f.ensures.key (turn_by g.C.Call.call (what me.party.view)) f.ensures.moved
+    let all = keeps g.S.Seed.makes (here me) (f.result.1.key, f.result.1.view, f.result.2) f.result.0 me.knows me.named f.ensures.key
+    (turn_by g.C.Call.call (what me.party.view)) f.ensures.moved
     me.party.value f.result.1.value (λ same. me.finds) f.ensures.kept f.ensures.found in record { named = all.0; knows = all.1; finds = all.2 }

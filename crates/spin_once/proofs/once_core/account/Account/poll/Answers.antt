@@ -14,11 +14,13 @@ load-found-requires g c = looks_first (what c.args.self.party.view) c.requires
 
 pub returns-then-found : goal.returns-then-found
 returns-then-found g c =
-    let f = c.load-found in (answers (here c.args.self) (here f.result.1) Poll f.result.0 c.requires f.ensures (Value tt) (ap (next_at Poll Look) c.if-found.true)).0
+    let f = c.load-found in
+    (answers (here c.args.self) (here f.result.1) Poll f.result.0 c.requires f.ensures (Value tt) (ap (next_at Poll Look) c.if-found.true)).0
 
 pub poll_on-requires : goal.poll_on-requires
 poll_on-requires g c =
-    let f = c.load-found in (comes_in (here c.args.self) (here f.result.1) Poll f.result.0 c.requires f.ensures Look (poll_on f.result.0 c.if-found.false c.if-found-2.true)).1
+    let f = c.load-found in
+    (comes_in (here c.args.self) (here f.result.1) Poll f.result.0 c.requires f.ensures Look (poll_on f.result.0 c.if-found.false c.if-found-2.true)).1
 
 pub returns-then-found-2 : goal.returns-then-found-2
 returns-then-found-2 g c =
@@ -27,4 +29,5 @@ returns-then-found-2 g c =
 
 pub returns : goal.returns
 returns g c =
-    let f = c.load-found in answers (here c.args.self) (here f.result.1) Poll f.result.0 c.requires f.ensures NoValue (ap (next_at Poll Look) c.if-found-2.false)
+    let f = c.load-found in
+    answers (here c.args.self) (here f.result.1) Poll f.result.0 c.requires f.ensures NoValue (ap (next_at Poll Look) c.if-found-2.false)

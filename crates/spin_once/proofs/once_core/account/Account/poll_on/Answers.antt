@@ -20,7 +20,8 @@ loop-preserved g c =
 pub returns-then-found : goal.returns-then-found
 returns-then-found g c p since =
     let now = c.loop.invariant in let f = c.load-found in let from = here c.loop.account in let to = here f.result.1 in
-    call_ends p from to Poll (Value tt) (now.3 p since) (ends_by from to Poll f.result.0 Poll Look now.2 f.ensures (Value tt) (ap (next_at Poll Look) c.if-found.true)).0
+    call_ends p from to Poll (Value tt) (now.3 p since)
+    (ends_by from to Poll f.result.0 Poll Look now.2 f.ensures (Value tt) (ap (next_at Poll Look) c.if-found.true)).0
 
 pub returns-then-found-2 : goal.returns-then-found-2
 returns-then-found-2 g c p since =

@@ -14,7 +14,8 @@ load-found-requires g c = looks_first (what c.args.self.party.view) c.requires
 
 pub returns-then-found : goal.returns-then-found
 returns-then-found g c =
-    let f = c.load-found in (answers (here c.args.self) (here f.result.1) Wait f.result.0 c.requires f.ensures (Value tt) (ap (next_at Wait Look) c.if-found.true)).0
+    let f = c.load-found in
+    (answers (here c.args.self) (here f.result.1) Wait f.result.0 c.requires f.ensures (Value tt) (ap (next_at Wait Look) c.if-found.true)).0
 
 pub wait_on-requires : goal.wait_on-requires
 wait_on-requires g c =

@@ -20,4 +20,5 @@ loop-preserved g c =
 pub returns-then-found : goal.returns-then-found
 returns-then-found g c p since =
     let now = c.loop.invariant in let f = c.load-found in let from = here c.loop.account in let to = here f.result.1 in
-    call_ends p from to Wait (Value tt) (now.3 p since) (ends_by from to Wait f.result.0 Wait Look now.2 f.ensures (Value tt) (ap (next_at Wait Look) c.if-found.true)).0
+    call_ends p from to Wait (Value tt) (now.3 p since)
+    (ends_by from to Wait f.result.0 Wait Look now.2 f.ensures (Value tt) (ap (next_at Wait Look) c.if-found.true)).0

@@ -12,7 +12,8 @@ use Rattle.spin_once.proofs.once_core.init_permit.InitPermit.complete.Goals as g
 pub store-party-requires : goal.store-party-requires
 store-party-requires g c =
     let me = c.args.self in let it = c.put-party.ensures in let put = c.put-party.result in let makes = g.S.Seed.makes in let done = c.complete in
-    let allowed = kept.ends makes put.0.key (CallOnce tt) me.writer.view me.runs done.result c.args.value done.ensures.exact done.ensures.plain (rw it.same.0 c.requires) in
+    let allowed = kept.ends makes put.0.key (CallOnce tt) me.writer.view me.runs done.result c.args.value done.ensures.exact done.ensures.plain
+    (rw it.same.0 c.requires) in
     (inr (may_know makes put.0.key put.1 (permit_named makes me (put.0.key, put.0.view, put.1) it.same)), rw (it.same.1, it.value) allowed)
 
 pub returns-clause-since : goal.returns-clause-since
@@ -29,6 +30,7 @@ pub invariant_of-result : goal.invariant_of-result
 invariant_of-result g c =
     let me = c.args.self in let put = c.put-party in let p = put.result in let s = c.store-party in let q = s.result in let makes = g.S.Seed.makes in
     let reading = (completes makes me (p.0.key, p.0.view, p.1) put.ensures.same (q.0.key, q.0.view, q.1) s.ensures.key s.ensures.moved).1 in
-    let all = keeps_end makes me (p.0.key, p.0.view, p.1) put.ensures.same (q.0.key, q.0.view, q.1) s.ensures.key (turn_by (CallOnce tt) (what p.0.view)) s.ensures.moved
+    let all = keeps_end makes me (p.0.key, p.0.view, p.1) put.ensures.same (q.0.key, q.0.view, q.1) s.ensures.key
+    (turn_by (CallOnce tt) (what p.0.view)) s.ensures.moved
     Reading reading (λ e. let d : reads ≡ writes = e in cc) p.0.value q.0.value s.ensures.kept s.ensures.found in
     record { named = all.0; knows = all.1; finds = all.2 }
