@@ -76,7 +76,7 @@ module _ {T S : Type 0} (makes : S → T → Type 0) where
           told.1,
           subst (λ k. Sees k.opening q.2.entries (use_of use_of_party q.1) shown') (sym same)
               (sees_on makes p.0 p.2.entries q.2.entries (stays makes p.0 says (Of p.0 p.2.name) p.1 p.2 q.2 found q.1 moved) (use_of use_of_party p.1)
-                  (use_of use_of_party q.1) shown shown' sees kept.0 learnt),
+              (use_of use_of_party q.1) shown shown' sees kept.0 learnt),
         )
       where
         marked : (v : Option (Numbered View)) → Bared makes p.0 says (Of p.0 p.2.name) p.1 p.2 q.2 found v
@@ -95,7 +95,7 @@ module _ {T S : Type 0} (makes : S → T → Type 0) where
     made to course means =
         let it : Learnt m p.1 q.1 before now (to found) (course found) =
         passes.learnt m seat_of words_of says to course means (Of p.0 p.2.name) (may_know p.0 p.2 named) p.1 q.1 before now found knew_all
-            (bared makes p.0 says (Of p.0 p.2.name) p.1 p.2 q.2 found q.1 moved) in
+        (bared makes p.0 says (Of p.0 p.2.name) p.1 p.2 q.2 found q.1 moved) in
         ((same, it.named, it.made), it.is)
 
   -- the next step of its call
@@ -104,7 +104,7 @@ module _ {T S : Type 0} (makes : S → T → Type 0) where
   turned c p q found knew named same moved =
       let view = what p.1 in let d = call_from c view in let l = point_of view in
       made p q found knew named same (turn_by c view) moved (λ n. view_of d (next_at d l n)) (λ n. IsStep (has_begun view) d (outcome_of (next_at d l n)))
-          (λ own outs n v said. said)
+      (λ own outs n v said. said)
 
 -- ---- one after another
 module _ {T S : Type 0} (p q : Place T S) where
@@ -203,7 +203,7 @@ pub claims_run : {T S : Type 0} (b : Bool) (p : Place T S) (it : Account T S) (p
 claims_run b p it permit made finds same shown =
     let view = it.party.view in let writes_now : use_of use_of_party view ≡ writes = sym (tie.same_use use_of_view view) ∙ ap (use_of use_of_view) made.1 in
     let there : Some permit.writer.value ≡ Some (maybe_stable (Seed permit.writer.key.seed.value)) = shown ∙ finds writes_now
-        ∙ ap (λ k. Some (maybe_stable (Seed k.seed.value))) (sym same.0) in
+    ∙ ap (λ k. Some (maybe_stable (Seed k.seed.value))) (sym same.0) in
     let at : Some permit.writer.view.0 ≡ Some (in_closure b Run) = ap what same.1 ∙ made.1 in
     (same_since p (here it) (running permit) Waits made.0 same, cc (there), cc (at))
 
@@ -271,7 +271,7 @@ module _ {T S : Type 0} (makes : S → T → Type 0) (me : InitPermit T S) (p : 
     completes moved =
         let call = running_call me.writer.view.0 me.runs in
         let it = ends_by p q (CallOnce tt) 0 (closure_call call.0) Run (ap what same.1 ∙ ap Some call.1)
-            (turned makes (CallOnce tt) p q 0 knows permit_named key moved) (Value tt) (ap (λ st. st.next) (as_sure call.0 Run 0)) in
+        (turned makes (CallOnce tt) p q 0 knows permit_named key moved) (Value tt) (ap (λ st. st.next) (as_sure call.0 Run 0)) in
         (since_same (running me) p q (Ends (Value tt)) same it.0, it.1)
 
 -- ---- a party that is in no call

@@ -1,6 +1,6 @@
 //! The rule of a [`OnceCore`](super::OnceCore): what each party is to the value (`View`), what the word says of all
 //! parties, and each kind of step.
-ghost use Rattle.std.specs.Prelude.{◌≡◌, Bool, Option, Some, None, true, false, IsSomeAnd};
+ghost use Rattle.std.specs.Prelude.{◌≡◌, Bool, Some, None, true, false};
 ghost use Rattle.spin_core.specs.Own.{what};
 ghost use Rattle.spin_core.specs.Stable.{maybe_stable};
 ghost use Rattle.spin_model.specs.declared.once.OnceCall.{OnceCall};
