@@ -13,8 +13,8 @@ use Rattle.spin_core.specs.Stable.{maybe_stable}
 use Rattle.spin_core.specs.declared.cell.stable.MaybeStable.{MaybeStable}
 use Rattle.spin_core.proofs.CellCounts.{moves, without}
 use Rattle.spin_model.specs.declared.once.OnceCall.{OnceCall}
-use Rattle.spin_model.specs.declared.once.OncePoint.TheVariants.{Run}
-use Rattle.spin_once.specs.Once.{use_of_view, readers, runs, IsPhaseOf, in_phase, Word, once_ways, finds, is_out, at_rest, begun, looked, polled}
+use Rattle.spin_model.specs.declared.once.OncePoint.TheVariants.{Look, Await, Run}
+use Rattle.spin_once.specs.Once.{use_of_view, readers, runs, IsPhaseOf, in_phase, Word, once_ways, point_of, is_load}
 use Rattle.spin_once.specs.declared.once_core.rule.Key.{Key}
 use Rattle.spin_once.specs.declared.once_core.rule.View.{View}
 use Rattle.spin_once.specs.declared.once_core.rule.View.TheVariants.{Idle, Reading, InCall}
@@ -56,48 +56,16 @@ is_word (suc zero) m vs has e = let at = stands_somewhere vs (omega (arith, has)
 is_word (suc (suc zero)) m vs has e = (complete, has, refl, e)
 is_word (suc (suc (suc n))) m vs has e = absurd has
 
-few_words : (n r w : ℕ) → Numbers n r w → n < 3
-few_words zero r w has = omega arith
-few_words (suc zero) r w has = omega arith
-few_words (suc (suc zero)) r w has = omega arith
-few_words (suc (suc (suc n))) r w has = absurd has
-
 -- for a step that does not change the word: its party gets a view that uses nothing, or one that reads if it found 2
-abbrev Leads : (ℕ → View) → Type 0
-Leads to = (n r w : ℕ) → Numbers n r w → (use_of_view (to n) ≡ off) ⊎ ((use_of_view (to n) ≡ reads) × (n ≡ 2))
+abbrev pub Leads : (ℕ → View) → Type 0
+Leads to = (n : ℕ) → (use_of_view (to n) ≡ off) ⊎ ((use_of_view (to n) ≡ reads) × (n ≡ 2))
 
-pub finds_leads : (other : View) → use_of_view other ≡ off → Leads (finds other)
-finds_leads other none zero r w has = inl none
-finds_leads other none (suc zero) r w has = inl none
-finds_leads other none (suc (suc zero)) r w has = inr (refl, refl)
-finds_leads other none (suc (suc (suc n))) r w has = absurd has
+-- the party gets this view, by the number found, of which Q holds
+abbrev pub ComesTo : (ℕ → View) → (ℕ → Type 0) → ℕ → View → Type 0
+ComesTo to Q n v = (v ≡ to n) × Q n
 
-pub looked_leads : (c : OnceCall (Unit {0})) → Leads (looked c)
-looked_leads c zero r w has = inl refl
-looked_leads c (suc zero) r w has = inl refl
-looked_leads c (suc (suc zero)) r w has = inr (refl, refl)
-looked_leads c (suc (suc (suc n))) r w has = absurd has
-
-pub polled_leads : Leads polled
-polled_leads zero r w has = inl refl
-polled_leads (suc zero) r w has = inl refl
-polled_leads (suc (suc zero)) r w has = inr (refl, refl)
-polled_leads (suc (suc (suc n))) r w has = absurd has
-
--- a party that reads finds the value; any other finds one of three numbers
-abbrev pub Finds : Option View → ℕ → Type 0
-Finds (Some Reading) n = n ≡ 2
-Finds _ n = n < 3
-
--- the party gets this view, by the number found
-abbrev pub ComesTo : Option View → (ℕ → View) → ℕ → View → Type 0
-ComesTo view to n v = (v ≡ to n) × Finds view n
-
-few_where_off : (view : Option View) → use_of use_of_view view ≡ off → (n : ℕ) → n < 3 → Finds view n
-few_where_off None none n few = few
-few_where_off (Some Idle) none n few = few
-few_where_off (Some Reading) none n few = absurd (let d : reads ≡ off = none in cc)
-few_where_off (Some (InCall c l)) none n few = few
+abbrev pub Any : ℕ → Type 0
+Any n = Unit {0}
 
 -- if somebody reads, there is the value
 read_at : (n r w : ℕ) → Numbers n r w → 0 < r → n ≡ 2
@@ -140,46 +108,53 @@ module _ {T S : Type 0} (makes : S → T → Type 0) (key : Key T S) where
   by_use writes shown n m us r w has see run (inl other) e = absurd (let d : writes ≡ off = other in cc)
   by_use writes shown n m us r w has see run (inr other) e = absurd (let d : writes ≡ reads = other.0 in cc)
 
-  stays : (view : Option View) (shown : Option Content) (to : ℕ → View) → use_of use_of_view view ≡ off → (id n : ℕ) (m : Unit {0}) (vs : List View) → Meets Word plain_ways n m vs → Stands id view vs → (use_of_view (to n) ≡ off) ⊎ ((use_of_view (to n) ≡ reads) × (n ≡ 2))
-      → (w : View) × Going way (use_of use_of_view view) (use_of_view w) shown (readers vs) (Meets Word plain_ways n m (after id view vs w)) × ComesTo view to n w
+  stays : (view : Option View) (shown : Option Content) (to : ℕ → View) → use_of use_of_view view ≡ off → (id n : ℕ) (m : Unit {0}) (vs : List View)
+      → Meets Word plain_ways n m vs → Stands id view vs
+      → (use_of_view (to n) ≡ off) ⊎ ((use_of_view (to n) ≡ reads) × (n ≡ 2))
+      → (w : View) × Going way (use_of use_of_view view) (use_of_view w) shown (readers vs) (Meets Word plain_ways n m (after id view vs w))
+      × ComesTo to Any n w
   stays view shown to none id n m vs has at how =
       let known = numbers n m vs has.0 in let us = after id view vs (to n) in
       let see = sym (ap (λ u. readers us + reading u) none) ∙ see_after id view vs (to n) at in
       let run = sym (ap (λ u. runs us + writing u) none) ∙ run_after id view vs (to n) at in (
         to n,
-        subst (λ u. Going way u (use_of_view (to n)) shown (readers vs) (Meets Word plain_ways n m us)) (sym none) (by_use (use_of_view (to n)) shown n m us (readers vs) (runs vs) known see run how has.0.3),
-        (refl, few_where_off view none n (few_words n (readers vs) (runs vs) known)),
+        subst (λ u. Going way u (use_of_view (to n)) shown (readers vs) (Meets Word plain_ways n m us)) (sym none)
+            (by_use (use_of_view (to n)) shown n m us (readers vs) (runs vs) known see run how has.0.3),
+        (refl, tt),
       )
 
-  pub looks : (view : Option View) (shown : Option Content) (to : ℕ → View) → use_of use_of_view view ≡ off → Leads to → Allowed view shown (λ n. n) (ComesTo view to)
-  looks view shown to none leads id n m vs has at small = stays view shown to none id n m vs has at (leads n (readers vs) (runs vs) (numbers n m vs has.0))
+  looks : (view : Option View) (shown : Option Content) (to : ℕ → View) → use_of use_of_view view ≡ off → Leads to
+      → Allowed view shown (λ n. n) (ComesTo to Any)
+  looks view shown to none leads id n m vs has at small = stays view shown to none id n m vs has at (leads n)
 
   -- a party that reads looks again
-  reads_on : (shown : Option Content) (to : ℕ → View) → to 2 ≡ Reading → Allowed (Some Reading) shown (λ n. n) (ComesTo (Some Reading) to)
+  reads_on : (shown : Option Content) (to : ℕ → View) → to 2 ≡ Reading → Allowed (Some Reading) shown (λ n. n) (ComesTo to Any)
   reads_on shown to is id n m vs has at small =
       let known = numbers n m vs has.0 in let us = after id (Some Reading) vs Reading in
-      let gone = see_after id (Some Reading) vs Idle at in let few : 0 < readers vs = omega (arith, gone) in let two : n ≡ 2 = read_at n (readers vs) (runs vs) known few in
+      let gone = see_after id (Some Reading) vs Idle at in let few : 0 < readers vs = omega (arith, gone) in
+      let two : n ≡ 2 = read_at n (readers vs) (runs vs) known few in
       let see = see_after id (Some Reading) vs Reading at in let run = run_after id (Some Reading) vs Reading at in
-      let same : readers us ≡ readers vs = omega (arith, see) in let alike : runs us ≡ runs vs = omega (arith, run) in
-      (Reading, (λ e. e, tt, meets n m us (subst (λ (z : ℕ × ℕ). Numbers n z.0 z.1) (λ i. (sym same i, sym alike i)) known) has.0.3), (sym (ap to two ∙ is), two))
+      let same : readers us ≡ readers vs = omega (arith, see) in let alike : runs us ≡ runs vs = omega (arith, run) in (
+        Reading,
+        (λ e. e, tt, meets n m us (subst (λ (z : ℕ × ℕ). Numbers n z.0 z.1) (λ i. (sym same i, sym alike i)) known) has.0.3),
+        (sym (ap to two ∙ is), tt),
+      )
 
-  -- a party in no call looks
-  pub looks_out : (view : Option View) → is_out view ≡ true → (shown : Option Content) (to : ℕ → View) → Leads to → to 2 ≡ Reading → Allowed view shown (λ n. n) (ComesTo view to)
-  looks_out None out shown to leads is = looks None shown to refl leads
-  looks_out (Some Idle) out shown to leads is = looks (Some Idle) shown to refl leads
-  looks_out (Some Reading) out shown to leads is = reads_on shown to is
-  looks_out (Some (InCall c l)) out shown to leads is = absurd (cc (out))
-
-  pub completes_out : (view : Option View) → is_out view ≡ true → (shown : Option Content) → Allowed view shown (λ n. n) (ComesTo view (λ n. at_rest view))
-  completes_out None out shown = looks None shown (λ n. Idle) refl (λ n r w has. inl refl)
-  completes_out (Some Idle) out shown = looks (Some Idle) shown (λ n. Idle) refl (λ n r w has. inl refl)
-  completes_out (Some Reading) out shown = reads_on shown (λ n. Reading) refl
-  completes_out (Some (InCall c l)) out shown = absurd (cc (out))
+  pub loads : (view : Option View) → is_load (point_of view) ≡ true → (shown : Option Content) (to : ℕ → View) → Leads to
+      → (view ≡ Some Reading → to 2 ≡ Reading) → Allowed view shown (λ n. n) (ComesTo to Any)
+  loads None is shown to leads finds = looks None shown to refl leads
+  loads (Some Idle) is shown to leads finds = looks (Some Idle) shown to refl leads
+  loads (Some Reading) is shown to leads finds = reads_on shown to (finds refl)
+  loads (Some (InCall c Look)) is shown to leads finds = looks (Some (InCall c Look)) shown to refl leads
+  loads (Some (InCall c Await)) is shown to leads finds = looks (Some (InCall c Await)) shown to refl leads
+  loads (Some _) is shown to leads finds = absurd (cc is)
 
   -- ---- the exchange by which a call begins to run its closure
-  pub begins : (view : Option View) (shown : Option Content) (c : OnceCall (Unit {0})) → use_of use_of_view view ≡ off → (new : ℕ) → ((s : Plain) (p : ℕ) → once_word s ≡ 0 → Decides s (gets p to_begin) once_word (Some new))
-      → Allowed view shown (λ n. either (n == 0) new n) (ComesTo view (begun c))
-  begins view shown c none new decides id zero m vs has at small =
+  pub begins : (view : Option View) (shown : Option Content) (c : OnceCall (Unit {0})) (to : ℕ → View) → use_of use_of_view view ≡ off → InCall c Run ≡ to 0
+      → use_of_view (to 1) ≡ off → use_of_view (to 2) ≡ reads
+      → (new : ℕ) → ((s : Plain) (p : ℕ) → once_word s ≡ 0 → Decides s (gets p to_begin) once_word (Some new))
+      → Allowed view shown (λ n. either (n == 0) new n) (ComesTo to Any)
+  begins view shown c to none run_at off_at reads_at new decides id zero m vs has at small =
       let known = numbers 0 m vs has.0 in let us = after id view vs (InCall c Run) in
       let see = sym (ap (λ u. readers us + reading u) none) ∙ see_after id view vs (InCall c Run) at in
       let run = sym (ap (λ u. runs us + writing u) none) ∙ run_after id view vs (InCall c Run) at in
@@ -187,11 +162,12 @@ module _ {T S : Type 0} (makes : S → T → Type 0) (key : Key T S) where
         InCall c Run,
         subst (λ u. Going way u writes shown (readers vs) (Meets Word plain_ways new m us)) (sym none)
             (λ e. absurd (let d : off ≡ reads = e in cc), tt, subst (λ k. Meets Word plain_ways k m us) (sym next) (meets 1 m us (omega (arith, see, known), omega (arith, run, known)) has.0.3)),
-        (refl, few_where_off view none 0 (omega arith)),
+        (run_at, tt),
       )
-  begins view shown c none new decides id (suc zero) m vs has at small = stays view shown (begun c) none id 1 m vs has at (inl refl)
-  begins view shown c none new decides id (suc (suc zero)) m vs has at small = stays view shown (begun c) none id 2 m vs has at (inr (refl, refl))
-  begins view shown c none new decides id (suc (suc (suc n))) m vs has at small = absurd (numbers (suc (suc (suc n))) m vs has.0)
+  begins view shown c to none run_at off_at reads_at new decides id (suc zero) m vs has at small = stays view shown to none id 1 m vs has at (inl off_at)
+  begins view shown c to none run_at off_at reads_at new decides id (suc (suc zero)) m vs has at small = stays view shown to none id 2 m vs has at
+      (inr (reads_at, refl))
+  begins view shown c to none run_at off_at reads_at new decides id (suc (suc (suc n))) m vs has at small = absurd (numbers (suc (suc (suc n))) m vs has.0)
 
   -- ---- the party that runs its closure
   alone : (c : OnceCall (Unit {0})) (n id : ℕ) (vs : List View) → Stands id (Some (InCall c Run)) vs → Numbers n (readers vs) (runs vs) → (n ≡ 1) × (readers vs ≡ 0) × (runs vs ≡ 1)
@@ -200,7 +176,7 @@ module _ {T S : Type 0} (makes : S → T → Type 0) (key : Key T S) where
   alone c _ id vs at has = absurd (let run = run_after id (Some (InCall c Run)) vs Idle at in omega (arith, has, run))
 
   pub ends : (c : OnceCall (Unit {0})) (new : ℕ) (value : T) → ((s : Plain) (p : ℕ) → once_word s ≡ 1 → Gives s (completes p) once_word new) → makes key.seed.value value
-      → Allowed (Some (InCall c Run)) (Some (maybe_stable (Done value))) (λ _. new) (λ n v. (v ≡ Reading) × (n ≡ 1))
+      → Allowed (Some (InCall c Run)) (Some (maybe_stable (Done value))) (λ _. new) (ComesTo (λ n. Reading) (λ n. n ≡ 1))
   ends c new value gives made id n m vs has at small =
       let one = alone c n id vs at (numbers n m vs has.0) in let us = after id (Some (InCall c Run)) vs Reading in
       let see = see_after id (Some (InCall c Run)) vs Reading at in let run = run_after id (Some (InCall c Run)) vs Reading at in
@@ -208,7 +184,7 @@ module _ {T S : Type 0} (makes : S → T → Type 0) (key : Key T S) where
       (Reading, (λ e. refl, made, subst (λ k. Meets Word plain_ways k m us) (sym next) (meets 2 m us (omega (arith, see, one), omega (arith, run, one)) has.0.3)), (refl, one.0))
 
   pub gives_up : (c : OnceCall (Unit {0})) (new : ℕ) (it : S) → ((s : Plain) (p : ℕ) → once_word s ≡ 1 → Gives s (fails p) once_word new) → it ≡ key.seed.value
-      → Allowed (Some (InCall c Run)) (Some (maybe_stable (Seed it))) (λ _. new) (λ n v. (v ≡ Idle) × (n ≡ 1))
+      → Allowed (Some (InCall c Run)) (Some (maybe_stable (Seed it))) (λ _. new) (ComesTo (λ n. Idle) (λ n. n ≡ 1))
   gives_up c new it gives same id n m vs has at small =
       let one = alone c n id vs at (numbers n m vs has.0) in let us = after id (Some (InCall c Run)) vs Idle in
       let see = see_after id (Some (InCall c Run)) vs Idle at in let run = run_after id (Some (InCall c Run)) vs Idle at in

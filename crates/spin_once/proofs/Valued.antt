@@ -125,6 +125,7 @@ module _ {T S : Type 0} (makes : S → T → Type 0) (key : Key T S) where
         → Each (λ own n u. bare_moves (put own) ≡ own) → Leaving
         → Traces Bare (way, use_of_party, no_fact) view shown f (Tells (model (given_of first)) seat_of words_of exact view)
         → Traces (IsOnce key.opening) (once_ways makes key) view shown f (Told key.opening says view)
+    unfolding IsOnce Told
     valued less lifts leaves traces id n t vs meets at small =
         let (w, es, going, (own, outs, is, mark, none, mine, said)) = traces id n (bare_trace t) vs (meets.0.0, meets.1) at small in
         let es' : List (Valued T) = by_party w.1 (put own) in let had : List T = made first t.entries in let m = model (given_of first) in
@@ -159,6 +160,7 @@ module _ {T S : Type 0} (makes : S → T → Type 0) (key : Key T S) where
     Bared view' = Moved (Watches named (bare_watch before) (bare_watch now) (Tells (model (given_of first)) seat_of words_of says view) n) view'
 
     pub bared : (view' : Option (Numbered View)) → Moved (Watches named before now (Told key.opening says view) n) view' → Bared view'
+    unfolding Told
     bared None moved = absurd moved
     bared (Some v) (same, (log, es, known, is, (tells, few))) =
         (same, (bare log, bare es, (bare known.0, sym (bare_append before.entries known.0) ∙ ap bare known.1), ap bare is ∙ bare_append log es, tells))
@@ -167,6 +169,7 @@ module _ {T S : Type 0} (makes : S → T → Type 0) (key : Key T S) where
     Grows = (more : List (Valued T)) × (now.entries ≡ before.entries ++ more) × (length (made first now.entries) ≤ 1)
 
     grows : (view' : Option (Numbered View)) → Moved (Watches named before now (Told key.opening says view) n) view' → Grows
+    unfolding Told
     grows None moved = absurd moved
     grows (Some v) (same, (log, es, known, is, (tells, few))) =
         (known.0 ++ es, is ∙ ap (λ l. l ++ es) (sym known.1) ∙ append_assoc before.entries known.0 es, subst (λ l. length (made first l) ≤ 1) (sym is) few)

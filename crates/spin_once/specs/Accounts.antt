@@ -1,29 +1,25 @@
 -- What a party's record of its calls says from one of its steps to a later one: which moves it has made in between.
-use Rattle.std.specs.Prelude.{◌≡◌, Bool, true, Option, Some, None, Result, Ok, Err, IfOk, IfErr}
+use Rattle.std.specs.Prelude.{◌≡◌, ℕ, Bool, Option, Some, Result, Ok, Err}
+use Rattle.spin_core.specs.Cell.{use_of, writes}
 use Rattle.spin_core.specs.Own.{Numbered, what}
 use Rattle.spin_core.specs.Passes.{Ends, Waits, IsCall, IsStep}
 use Rattle.spin_core.specs.Stable.{maybe_stable}
 use Rattle.spin_core.specs.declared.trace.Watch.{Watch}
 use Rattle.spin_model.specs.declared.answer.Answer.TheVariants.{Value, NoValue}
-use Rattle.spin_model.specs.declared.once.OnceCall.TheVariants.{Wait as ForValue, Poll}
-use Rattle.spin_model.specs.declared.schedule.Outcome.TheVariants.{Answered, GoingOn}
+use Rattle.spin_model.specs.declared.once.OnceCall.TheVariants.{Poll}
 use Rattle.spin_model.specs.declared.once.OnceCall.{OnceCall}
-use Rattle.spin_model.specs.declared.once.OncePoint.TheVariants.{Run}
+use Rattle.spin_model.specs.declared.once.OncePoint.TheVariants.{Await, Run}
 use Rattle.spin_once.specs.OnceValues.{Valued, bare, given_of}
-use Rattle.spin_once.specs.Once.{Moving, Moves, has_begun, trying}
+use Rattle.spin_once.specs.Once.{Moving, Moves, use_of_party, call_from, point_of, has_begun, next_at, outcome_of, view_of, in_closure}
 use Rattle.spin_once.specs.declared.once_core.account.Account.{Account}
-use Rattle.spin_once.specs.declared.once_core.account.Awaiting.{Awaiting}
 use Rattle.spin_once.specs.declared.once_core.account.Claim.{Claim}
 use Rattle.spin_once.specs.declared.once_core.account.Claim.TheVariants as claim
 use Rattle.spin_once.specs.declared.once_core.account.Found.{Found}
-use Rattle.spin_once.specs.declared.once_core.account.Polling.{Polling}
-use Rattle.spin_once.specs.declared.once_core.account.Waiting.{Waiting}
-use Rattle.spin_once.specs.declared.once_core.account.Wanting.{Wanting}
 use Rattle.spin_once.specs.declared.once_core.init_permit.InitPermit.{InitPermit}
 use Rattle.spin_once.specs.declared.once_core.rule.Key.{Key}
 use Rattle.spin_once.specs.declared.once_core.rule.Stage.TheVariants.{Seed}
 use Rattle.spin_once.specs.declared.once_core.rule.View.{View}
-use Rattle.spin_once.specs.declared.once_core.rule.View.TheVariants.{Idle, InCall}
+use Rattle.spin_once.specs.declared.once_core.rule.View.TheVariants.{Idle}
 
 -- a point of a record: the key of its cell, the party's view, and what it knows of the trace
 abbrev pub Place : Type 0 → Type 0 → Type 0
@@ -32,6 +28,13 @@ Place T S = Key T S × Option (Numbered View) × Watch (Valued T)
 -- from the first point to the second the party has made exactly the moves of this course, in one cell
 abbrev pub Since : {T S : Type 0} → Place T S → Moving → Place T S → Type 0
 Since p course q = (q.0 ≡ p.0) × (q.2.name ≡ p.2.name) × Moves (given_of p.0.opening.value) course p.1 (bare p.2.entries) q.1 (bare q.2.entries)
+
+-- from the first point to the second the party has made the next step of its call, which found n; if it was in no call,
+-- it began this one
+abbrev pub Turned : {T S : Type 0} → OnceCall (Unit {0}) → ℕ → Place T S → Place T S → Type 0
+Turned c n p q =
+    let view = what p.1 in let d = call_from c view in let next = next_at d (point_of view) n in
+    Since p (IsStep (has_begun view) d (outcome_of next)) q × (what q.1 ≡ Some (view_of d next))
 
 abbrev pub Same : {T S : Type 0} → Place T S → Place T S → Type 0
 Same p q = (q.0 ≡ p.0) × (q.1 ≡ p.1) × (q.2 ≡ p.2)
@@ -43,43 +46,29 @@ module _ {T S : Type 0} where
   abbrev pub running : InitPermit T S → Place T S
   running it = (it.writer.key, Some it.writer.view, it.seen)
 
-  -- it is a call with a closure that may fail (true), or with one that does not
-  abbrev pub Wants : Bool → Wanting T S → Type 0
-  Wants may_fail wanting = what wanting.account.party.view ≡ Some (trying may_fail)
-
   -- what its value is made from
   abbrev pub seed_of : Account T S → S
   seed_of it = it.party.key.seed.value
+
+  -- a party that has just begun to run its closure finds the seed
+  abbrev pub FindsSeed : Account T S → Type 0
+  FindsSeed it = use_of use_of_party it.party.view ≡ writes → it.party.value ≡ Some (maybe_stable (Seed (seed_of it)))
 
   -- the cell has the seed
   abbrev pub HasSeed : InitPermit T S → Type 0
   HasSeed permit = permit.writer.value ≡ maybe_stable (Seed permit.writer.key.seed.value)
 
-  -- the value, or this call's right to make it
-  abbrev pub IsClaimOf : OnceCall (Unit {0}) → Claim T S → Type 0
-  IsClaimOf call (claim.Found found) = Unit {0}
-  IsClaimOf call (claim.Init permit) = HasSeed permit × (permit.writer.view.0 ≡ InCall call Run)
+  -- a call with a closure is answered; or its party has the right to run its closure, and the seed is still there
+  abbrev pub Claims : Bool → Place T S → Claim T S → Type 0
+  Claims may_fail p (claim.Found found) = Since p (Ends (Value tt)) (here found.account)
+  Claims may_fail p (claim.Init permit) = Since p Waits (running permit) × HasSeed permit × (permit.writer.view.0 ≡ in_closure may_fail Run)
 
-  -- a call with a closure is answered, or continues to its closure
-  abbrev pub Claims : Place T S → Claim T S → Type 0
-  Claims p (claim.Found found) = Since p (Ends (Value tt)) (here found.account)
-  Claims p (claim.Init permit) = Since p Waits (running permit)
-
-  -- the result of the exchange of a call with a closure, and of a look before it
-  abbrev pub Attempts : Place T S → Result (Claim T S) (Awaiting T S) → Type 0
-  Attempts p (Ok claim) = Claims p claim
-  Attempts p (Err awaiting) = Since p Waits (here awaiting.account)
-
-  -- the result of a look of `wait`; below, of `poll`; the first look begins the call
-  abbrev pub WaitsOn : Waiting T S → Result (Found T S) (Waiting T S) → Type 0
-  WaitsOn was (Ok found) = Since (here was.account) (IsStep (has_begun (what was.account.party.view)) ForValue (Answered (Value tt) None)) (here found.account)
-  WaitsOn was (Err next) = Since (here was.account) (IsStep (has_begun (what was.account.party.view)) ForValue GoingOn) (here next.account) × (has_begun (what next.account.party.view) ≡ true)
-
-  abbrev pub PollsOn : Account T S → Result (Result (Found T S) (Account T S)) (Polling T S) → Type 0
-  PollsOn was (Ok (Ok found)) = Since (here was) (IsStep (has_begun (what was.party.view)) Poll (Answered (Value tt) None)) (here found.account)
-  PollsOn was (Ok (Err none)) = Since (here was) (IsStep (has_begun (what was.party.view)) Poll (Answered NoValue None)) (here none) × (what none.party.view ≡ Some Idle)
-  PollsOn was (Err next) = Since (here was) (IsStep (has_begun (what was.party.view)) Poll GoingOn) (here next.account) × (has_begun (what next.account.party.view) ≡ true)
+  -- or another closure runs
+  abbrev pub Attempts : Bool → Place T S → Result (Claim T S) (Account T S) → Type 0
+  Attempts may_fail p (Ok claim) = Claims may_fail p claim
+  Attempts may_fail p (Err account) = Since p Waits (here account) × (what account.party.view ≡ Some (in_closure may_fail Await))
 
   -- a whole call of `poll`
   abbrev pub IsPolled : Place T S → Result (Found T S) (Account T S) → Type 0
-  IsPolled p r = IfOk r (λ found. Since p (IsCall Poll (Value tt)) (here found.account)) × IfErr r (λ none. Since p (IsCall Poll NoValue) (here none) × (what none.party.view ≡ Some Idle))
+  IsPolled p (Ok found) = Since p (IsCall Poll (Value tt)) (here found.account)
+  IsPolled p (Err none) = Since p (IsCall Poll NoValue) (here none) × (what none.party.view ≡ Some Idle)

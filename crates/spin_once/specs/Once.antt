@@ -1,6 +1,6 @@
 -- The rule of a value that is made once, from a seed. Its word is that of a plain lock in the phase of its parties. Its
 -- trace is a schedule of the model, which leads there.
-use Rattle.std.specs.Prelude.{◌≡◌, ◌<◌, ◌≤◌, ℕ, Bool, true, false, Option, Some, None, List, [], ◌∷◌, ◌++◌, length, replicate, if◌then◌else◌, ◌==◌}
+use Rattle.std.specs.Prelude.{◌≡◌, ◌<◌, ◌≤◌, ℕ, Bool, true, false, Option, Some, None, List, [], ◌∷◌, ◌++◌, length, replicate, if◌then◌else◌}
 use mathlib.Core.Option.{some}
 use lib.ListN.{get_elem?}
 use Rattle.core.specs.declared.snapshot.Snapshot.{Snapshot}
@@ -15,17 +15,20 @@ use Rattle.spin_core.specs.declared.cell.stable.MaybeStable.{MaybeStable}
 use Rattle.spin_core.specs.declared.tie.Opening.{Opening}
 use Rattle.spin_core.specs.declared.trace.Trace.{Trace}
 use Rattle.spin_model.specs.declared.answer.Answer.{Answer}
-use Rattle.spin_model.specs.declared.answer.Answer.TheVariants.{Value, NoValue, Is, Failed}
+use Rattle.spin_model.specs.declared.answer.Answer.TheVariants.{Value, Is, Failed}
 use Rattle.spin_model.specs.declared.once.OnceCall.{OnceCall}
-use Rattle.spin_model.specs.declared.once.OnceCall.TheVariants.{CallOnce, TryCallOnceOk, Wait, Poll, Get, IsCompleted}
+use Rattle.spin_model.specs.declared.once.OnceCall.TheVariants.{CallOnce, TryCallOnceOk}
 use Rattle.spin_model.specs.declared.once.OncePoint.{OncePoint}
-use Rattle.spin_model.specs.declared.once.OncePoint.TheVariants.{Look, TryBegin, Await, Run}
+use Rattle.spin_model.specs.declared.once.OncePoint.TheVariants.{Look, Await, Run}
 use Rattle.spin_model.specs.declared.place.Seat.{Seat}
 use Rattle.spin_model.specs.declared.place.Seat.TheVariants as seat
 use Rattle.spin_model.specs.declared.schedule.Move.{Move}
 use Rattle.spin_model.specs.declared.schedule.Move.TheVariants.{Step, Weak}
 use Rattle.spin_model.specs.declared.schedule.Outcome.{Outcome}
 use Rattle.spin_model.specs.declared.schedule.Outcome.TheVariants.{GoingOn, Answered}
+use Rattle.spin_model.specs.declared.step.Next.{Next}
+use Rattle.spin_model.specs.declared.step.Next.TheVariants.{Continue, Answers}
+use Rattle.spin_model.specs.Once.{OnceMachine, once_machine}
 use Rattle.spin_once.specs.Model.{Point, at, model}
 use Rattle.spin_once.specs.OnceValues.{Valued, Made, bare, bare_trace, given_of, made, AtMostOne, IsMade}
 use Rattle.spin_once.specs.declared.once_core.rule.Key.{Key}
@@ -101,96 +104,83 @@ words_of w = (w, tt)
 
 module _ {T S : Type 0} where
   -- of the first word, the trace and the parties, of a lock that opened so
-  abbrev pub IsOnce : Opening (Stage T S) → ℕ → Trace (Valued T) (Unit {0}) → List (Numbered View) → Type 0
+  unfoldable pub IsOnce : Opening (Stage T S) → ℕ → Trace (Valued T) (Unit {0}) → List (Numbered View) → Type 0
   IsOnce opening n t vs = Runs (model (given_of opening.value)) seat_of words_of Word opening.name n (bare_trace t) vs × AtMostOne n (made opening.value t.entries)
 
   -- what a step tells of its moves, and that there is at most one value still
-  abbrev pub Told : Opening (Stage T S) → (List OneMove → List Ending → ℕ → View → Type 0) → Option (Numbered View) → List (Valued T) → List (Valued T) → ℕ → Numbered View → Type 0
+  unfoldable pub Told : Opening (Stage T S) → (List OneMove → List Ending → ℕ → View → Type 0) → Option (Numbered View) → List (Valued T) → List (Valued T)
+      → ℕ → Numbered View → Type 0
   Told opening says view log es n v = Tells (model (given_of opening.value)) seat_of words_of says view (bare log) (bare es) n v × (length (made opening.value (log ++ es)) ≤ 1)
 
--- The steps: the outcome and the next view of each, by the number found
+-- The steps of a call: each is the next one by the model's table
 
 abbrev pub Says : Type 1
 Says = List OneMove → List Ending → ℕ → View → Type 0
 
--- if there is a value the party reads it, otherwise its view is `other`
-abbrev pub finds : View → ℕ → View
-finds other n = if n == 2 then Reading else other
+-- the call that the party is in; if it is in none, the one that it begins
+abbrev pub call_from : OnceCall (Unit {0}) → Option View → OnceCall (Unit {0})
+call_from c (Some (InCall d l)) = d
+call_from c _ = c
 
--- if there is a value it is the answer, otherwise the outcome is `other`
-abbrev pub tells : Ending → ℕ → Ending
-tells other n = if n == 2 then Answered (Value tt) None else other
-
--- the party is in no call: it is new, or its last call has ended
-abbrev pub is_out : Option View → Bool
-is_out (Some (InCall c l)) = false
-is_out _ = true
+-- where that call continues; it begins with a look
+abbrev pub point_of : Option View → OncePoint
+point_of (Some (InCall c l)) = l
+point_of _ = Look
 
 -- the party has begun its call
 abbrev pub has_begun : Option View → Bool
 has_begun (Some (InCall c l)) = true
 has_begun _ = false
 
--- a party that reads the value reads it for ever
-abbrev pub at_rest : Option View → View
-at_rest (Some Reading) = Reading
-at_rest _ = Idle
+-- the party is in no call: it is new, or its last call has ended
+abbrev pub is_out : Option View → Bool
+is_out (Some (InCall c l)) = false
+is_out _ = true
 
-abbrev pub gets_by : Says
-gets_by = step_by false Get (tells (Answered NoValue None)) (finds Idle)
+-- how a call continues from this point, by the word that its step finds
+abbrev pub next_at : OnceCall (Unit {0}) → OncePoint → ℕ → Next OncePoint (Answer (Unit {0}))
+next_at c l n = (let m : OnceMachine (Unit {0}) = once_machine None in m.step n (Some tt) c l None).next
 
-abbrev pub completes_by : Option View → Says
-completes_by view = step_by false IsCompleted (λ n. Answered (Is (n == 2)) None) (λ n. at_rest view)
+abbrev pub outcome_of : Next OncePoint (Answer (Unit {0})) → Ending
+outcome_of (Continue l) = GoingOn
+outcome_of (Answers a h) = Answered a None
+
+-- a party that gets the value, or learns that there is one, reads it for ever
+abbrev pub answered : Answer (Unit {0}) → View
+answered (Value v) = Reading
+answered (Is true) = Reading
+answered _ = Idle
+
+abbrev pub view_of : OnceCall (Unit {0}) → Next OncePoint (Answer (Unit {0})) → View
+view_of c (Continue l) = InCall c l
+view_of c (Answers a h) = answered a
+
+-- what the next step of the party's call tells; a party that is in no call begins this one
+abbrev pub turn_by : OnceCall (Unit {0}) → Option View → Says
+turn_by c view =
+    let d = call_from c view in let next = next_at d (point_of view) in
+    step_by (has_begun view) d (λ n. outcome_of (next n)) (λ n. view_of d (next n))
+
+-- at these points the step is a load
+abbrev pub is_load : OncePoint → Bool
+is_load Look = true
+is_load Await = true
+is_load _ = false
 
 -- A call with a closure. If the closure may fail, the model names the call as one whose closure does not, until it has
 -- failed.
 abbrev pub closure_call : Bool → OnceCall (Unit {0})
 closure_call may_fail = if may_fail then TryCallOnceOk tt else CallOnce tt
 
-abbrev pub trying : Bool → View
-trying may_fail = InCall (closure_call may_fail) TryBegin
+-- the party is in such a call, at this point
+abbrev pub in_closure : Bool → OncePoint → View
+in_closure may_fail l = InCall (closure_call may_fail) l
 
-abbrev pub running : Bool → View
-running may_fail = InCall (closure_call may_fail) Run
-
-abbrev pub comes_by : Bool → Says
-comes_by may_fail = step_by false (closure_call may_fail) (tells GoingOn) (finds (trying may_fail))
-
--- the call that the party is in
-abbrev pub call_of : Option View → OnceCall (Unit {0})
-call_of (Some (InCall c l)) = c
-call_of _ = Get
-
--- The view after the exchange of a call with a closure; below, after its next look, and after the looks of `wait` and
--- `poll`.
-abbrev pub begun : OnceCall (Unit {0}) → ℕ → View
-begun c n = if n == 0 then InCall c Run else finds (InCall c Await) n
-
-abbrev pub looked : OnceCall (Unit {0}) → ℕ → View
-looked c n = if n == 0 then InCall c TryBegin else finds (InCall c Await) n
-
-abbrev pub waited : ℕ → View
-waited = finds (InCall Wait Look)
-
-abbrev pub polled : ℕ → View
-polled n = if n == 0 then Idle else finds (InCall Poll Look) n
-
--- the steps of a call with a closure, of `wait` and of `poll`
-abbrev pub begins_by : OnceCall (Unit {0}) → Says
-begins_by c = step_by true c (tells GoingOn) (begun c)
-
-abbrev pub looks_by : OnceCall (Unit {0}) → Says
-looks_by c = step_by true c (tells GoingOn) (looked c)
-
-abbrev pub waits_by : Option View → Says
-waits_by view = step_by (has_begun view) Wait (tells GoingOn) waited
-
-abbrev pub polls_by : Option View → Says
-polls_by view = step_by (has_begun view) Poll (λ n. if n == 0 then Answered NoValue None else tells GoingOn n) polled
-
--- its closure has given a value
-abbrev pub ends_by : OnceCall (Unit {0}) → Says
-ends_by c = step_by true c (λ n. Answered (Value tt) None) (λ n. Reading)
+-- the party runs its closure
+abbrev pub is_running : View → Bool
+is_running (InCall (CallOnce v) Run) = true
+is_running (InCall (TryCallOnceOk v) Run) = true
+is_running _ = false
 
 -- its closure has failed
 abbrev pub IsFailure : List OneMove → List Ending → Type 0
@@ -205,7 +195,7 @@ abbrev pub Moving : Type 1
 Moving = Course (Unit {0}) (OnceCall (Unit {0})) (Answer (Unit {0}))
 
 -- since it knew `old` it has made exactly the moves of this course
-abbrev pub Moves : Option (Unit {0}) → Moving → Option (Numbered View) → List Made → Option (Numbered View) → List Made → Type 0
+unfoldable pub Moves : Option (Unit {0}) → Moving → Option (Numbered View) → List Made → Option (Numbered View) → List Made → Type 0
 Moves given course view old view' new = passes.Made (model given) view old view' new course
 
 -- steps after which the call still waits, and then the end of a closure that fails
@@ -215,30 +205,3 @@ Fails own outs = (n : ℕ) × (own ≡ replicate n Step ++ Weak ∷ Step ∷ [])
 -- A whole call whose closure fails. Until the failure the model names it as one whose closure does not fail.
 abbrev pub IsFailedCall : Moving
 IsFailedCall = Begins (TryCallOnceOk tt) Fails
-
--- at which views these steps are made
-
-abbrev pub has_closure : OnceCall (Unit {0}) → Bool
-has_closure (CallOnce v) = true
-has_closure (TryCallOnceOk v) = true
-has_closure _ = false
-
-abbrev pub may_begin : Option View → Bool
-may_begin (Some (InCall c TryBegin)) = has_closure c
-may_begin _ = false
-
-abbrev pub may_look : Option View → Bool
-may_look (Some (InCall c Await)) = has_closure c
-may_look _ = false
-
-abbrev pub may_wait : Option View → Bool
-may_wait (Some (InCall Wait Look)) = true
-may_wait view = is_out view
-
-abbrev pub may_poll : Option View → Bool
-may_poll (Some (InCall Poll Look)) = true
-may_poll view = is_out view
-
-abbrev pub is_running : View → Bool
-is_running (InCall c Run) = has_closure c
-is_running _ = false

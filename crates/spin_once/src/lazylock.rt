@@ -1,6 +1,6 @@
 //! A value that its own initialiser makes when a thread first asks for it. Begin with [`LazyLock::new`] and
 //! [`LazyLock::force`]. [`LazyLock::promising`] tells callers more of the value than its type does.
-ghost use Rattle.std.specs.Prelude.{◌≡◌, true, []};
+ghost use Rattle.std.specs.Prelude.{◌≡◌, Some, true, false, []};
 ghost use Rattle.spin_core.specs.Own.{what};
 ghost use Rattle.spin_core.specs.Passes.{Ends, IsCall};
 ghost use Rattle.spin_model.specs.declared.answer.Answer.TheVariants.{Value};
@@ -8,11 +8,12 @@ ghost use Rattle.spin_model.specs.declared.once.OnceCall.TheVariants.{CallOnce};
 ghost use Rattle.spin_once.specs.Accounts.{here, seed_of, Since};
 ghost use Rattle.spin_once.specs.Lazy.{initialiser, promise};
 ghost use Rattle.spin_once.specs.LazyPasses.{opening};
-ghost use Rattle.spin_once.specs.Once.{is_out};
+ghost use Rattle.spin_model.specs.declared.once.OncePoint.TheVariants.{TryBegin};
+ghost use Rattle.spin_once.specs.Once.{is_out, in_closure};
 ghost use Rattle.spin_once.specs.OnceValues.{lies_in};
 
 use crate::exclusive::Exclusive;
-use crate::once_core::{Account, Claim, Found, OnceCore, Seed, Sure, Wanting};
+use crate::once_core::{Account, Claim, Found, OnceCore, Seed, Sure};
 use spin_core::relax::{RelaxStrategy, Spin};
 use std::marker::PhantomData;
 use std::sync::Wait;
@@ -177,7 +178,7 @@ impl<T, F: Makes<T, M>, R: RelaxStrategy, M: Promise<T>> LazyLock<T, F, R, M> {
     {
         match this.core.account().come::<Sure>() {
             Ok(found) => found.value(),
-            Err(wanting) => Self::make(rt, wanting).value(),
+            Err(account) => Self::make(rt, account).value(),
         }
     }
 
@@ -192,7 +193,7 @@ impl<T, F: Makes<T, M>, R: RelaxStrategy, M: Promise<T>> LazyLock<T, F, R, M> {
     {
         match account.come::<Sure>() {
             Ok(found) => found,
-            Err(wanting) => Self::make(rt, wanting),
+            Err(account) => Self::make(rt, account),
         }
     }
 
@@ -201,12 +202,13 @@ impl<T, F: Makes<T, M>, R: RelaxStrategy, M: Promise<T>> LazyLock<T, F, R, M> {
     #[inline(never)]
     fn make<'a, W: Wait>(
         rt: &W,
-        wanting: Wanting<'a, T, Initialiser<F, M>>,
+        account: Account<'a, T, Initialiser<F, M>>,
     ) -> Found<'a, T, Initialiser<F, M>>
-        requires { F.can (seed_of wanting.account).f.inner (seed_of wanting.account).promise }
-        ensures { Since (here wanting.entry.account) (Ends (Value tt)) (here result.account) }
+        requires wants { what account.party.view ≡ Some (in_closure false TryBegin) }
+        requires can { F.can (seed_of account).f.inner (seed_of account).promise }
+        ensures { Since (here account.entry) (Ends (Value tt)) (here result.account) }
     {
-        match wanting.claim::<R, W>(rt) {
+        match account.claim::<Sure, R, W>(rt) {
             Claim::Found(found) => found,
             Claim::Init(permit) => {
                 let (permit, Initialiser { f, promise }) = permit.take();

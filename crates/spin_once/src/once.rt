@@ -123,7 +123,7 @@ impl<T, R: RelaxStrategy> Once<T, R> {
     {
         match self.core.account().come::<Sure>() {
             Ok(found) => found.value(),
-            Err(wanting) => make::<T, R, F, W>(rt, wanting, f).value(),
+            Err(account) => make::<T, R, F, W>(rt, account, f).value(),
         }
     }
 

@@ -9,7 +9,7 @@ mod init_permit;
 mod known;
 mod rule;
 
-pub(crate) use self::account::{Account, Claim, Found, Wanting};
+pub(crate) use self::account::{Account, Claim, Found};
 pub(crate) use self::rule::{Seed, Sure, Unsure};
 
 /// A cell that holds a seed, and later the value made from it.
@@ -48,7 +48,10 @@ impl<T, S: Seed<T>> OnceCore<T, S> {
         ensures party { (result.party.key ≡ self.now.cell) × (result.party.view ≡ None) }
         ensures seen { (result.seen.name ≡ self.now.cell.opening.name) × (result.seen.entries ≡ []) }
     {
-        Account::new(self.cell.enter(), self.cell.watch())
+        Account {
+            party: self.cell.enter(),
+            seen: self.cell.watch(),
+        }
     }
 
     /// Returns the value that its one load finds.

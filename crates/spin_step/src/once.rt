@@ -26,10 +26,10 @@ pub fn begin(state: u8) -> Option<u8>
     if state == 0 { Some(1) } else { None }
 }
 
-/// Returns the state after the closure that runs gives a value.
+/// Returns the state after a closure has given its value.
 ///
 /// # Contract
-/// A closure has to run: the state is 1. The answer is exact, and gives the plain lock's next state (`Gives`).
+/// The state has to be 1, that of a closure that runs. The answer is exact, and gives the plain lock's next state (`Gives`).
 pub fn complete(state: u8) -> u8
     requires { state ≡ 1 }
     ensures exact { result ≡ completed state }
@@ -38,10 +38,10 @@ pub fn complete(state: u8) -> u8
     state + 1
 }
 
-/// Returns the state after the running closure ends without a value. Then the next closure may begin.
+/// Returns the state after a closure has failed. Then the next one may begin.
 ///
 /// # Contract
-/// A closure has to run: the state is 1. The answer is exact, and gives the plain lock's next state (`Gives`).
+/// The state has to be 1, that of a closure that runs. The answer is exact, and gives the plain lock's next state (`Gives`).
 pub fn fail(state: u8) -> u8
     requires { state ≡ 1 }
     ensures exact { result ≡ failed state }

@@ -1,13 +1,14 @@
 //! What a call with a closure does. Begin with [`find_or_make`].
-ghost use Rattle.std.specs.Prelude.{◌≡◌, Err, true, IfOk, IfErr};
+ghost use Rattle.std.specs.Prelude.{◌≡◌, Some, Err, true, false, IfOk, IfErr};
 ghost use Rattle.spin_core.specs.Own.{what};
 ghost use Rattle.spin_core.specs.Passes.{Ends, IsCall};
 ghost use Rattle.spin_model.specs.declared.answer.Answer.TheVariants.{Value};
 ghost use Rattle.spin_model.specs.declared.once.OnceCall.TheVariants.{CallOnce, TryCallOnceOk};
-ghost use Rattle.spin_once.specs.Accounts.{here, Since, Wants};
-ghost use Rattle.spin_once.specs.Once.{is_out, Fails, IsFailedCall};
+ghost use Rattle.spin_model.specs.declared.once.OncePoint.TheVariants.{TryBegin};
+ghost use Rattle.spin_once.specs.Accounts.{here, Since};
+ghost use Rattle.spin_once.specs.Once.{is_out, in_closure, Fails, IsFailedCall};
 
-use crate::once_core::{Account, Claim, Found, Sure, Unsure, Wanting};
+use crate::once_core::{Account, Claim, Found, Sure, Unsure};
 use spin_core::relax::RelaxStrategy;
 use std::sync::Wait;
 
@@ -23,7 +24,7 @@ pub(super) fn find_or_make<'a, T, R: RelaxStrategy, F: FnOnce() -> T, W: Wait>(
 {
     match account.come::<Sure>() {
         Ok(found) => found,
-        Err(wanting) => make::<T, R, F, W>(rt, wanting, f),
+        Err(account) => make::<T, R, F, W>(rt, account, f),
     }
 }
 
@@ -41,7 +42,7 @@ pub(super) fn find_or_try<'a, T, R: RelaxStrategy, F: FnOnce() -> Result<T, E>, 
 {
     match account.come::<Unsure>() {
         Ok(found) => Ok(found),
-        Err(wanting) => try_make::<T, R, F, E, W>(rt, wanting, f),
+        Err(account) => try_make::<T, R, F, E, W>(rt, account, f),
     }
 }
 
@@ -50,13 +51,14 @@ pub(super) fn find_or_try<'a, T, R: RelaxStrategy, F: FnOnce() -> Result<T, E>, 
 #[inline(never)]
 pub(super) fn make<'a, T, R: RelaxStrategy, F: FnOnce() -> T, W: Wait>(
     rt: &W,
-    wanting: Wanting<'a, T, ()>,
+    account: Account<'a, T, ()>,
     f: F,
 ) -> Found<'a, T, ()>
-    requires { F.pre f }
-    ensures { Since (here wanting.entry.account) (Ends (Value tt)) (here result.account) }
+    requires wants { what account.party.view ≡ Some (in_closure false TryBegin) }
+    requires calls { F.pre f }
+    ensures { Since (here account.entry) (Ends (Value tt)) (here result.account) }
 {
-    match wanting.claim::<R, W>(rt) {
+    match account.claim::<Sure, R, W>(rt) {
         Claim::Found(found) => found,
         Claim::Init(permit) => permit.complete(f()),
     }
@@ -66,16 +68,16 @@ pub(super) fn make<'a, T, R: RelaxStrategy, F: FnOnce() -> T, W: Wait>(
 #[inline(never)]
 fn try_make<'a, T, R: RelaxStrategy, F: FnOnce() -> Result<T, E>, E, W: Wait>(
     rt: &W,
-    wanting: Wanting<'a, T, ()>,
+    account: Account<'a, T, ()>,
     f: F,
 ) -> Result<Found<'a, T, ()>, (E, Account<'a, T, ()>)>
-    requires may { Wants true wanting }
+    requires wants { what account.party.view ≡ Some (in_closure true TryBegin) }
     requires calls { F.pre f }
-    ensures found { IfOk result (λ found. Since (here wanting.entry.account) (Ends (Value tt)) (here found.account)) }
-    ensures failed { IfErr result (λ failed. Since (here wanting.entry.account) Fails (here failed.1)) }
+    ensures found { IfOk result (λ found. Since (here account.entry) (Ends (Value tt)) (here found.account)) }
+    ensures failed { IfErr result (λ failed. Since (here account.entry) Fails (here failed.1)) }
     ensures err { IfErr result (λ failed. F.post f (Err failed.0) × (is_out (what failed.1.party.view) ≡ true)) }
 {
-    let permit = match wanting.claim::<R, W>(rt) {
+    let permit = match account.claim::<Unsure, R, W>(rt) {
         Claim::Found(found) => return Ok(found),
         Claim::Init(permit) => permit,
     };

@@ -1,4 +1,4 @@
-//! What a party does, and knows of the trace. Begin with [`Account::get`] and [`Account::come`]; [`Wanting::claim`]
+//! What a party does, and knows of the trace. Begin with [`Account::get`] and [`Account::come`]; [`Account::claim`]
 //! gives the value or the right to make it.
 ghost use Rattle.std.specs.Prelude.{◌≡◌, ◌⊎◌, Some, true, length, IfOk, IfErr};
 ghost use mathlib.Core.List.{IsPrefix};
@@ -8,14 +8,15 @@ ghost use Rattle.spin_core.specs.Passes.{mark_of, IsCall, Begins as BeginsWith, 
 ghost use Rattle.spin_core.specs.Stable.{maybe_stable};
 ghost use Rattle.spin_model.specs.declared.answer.Answer.TheVariants.{Value, NoValue, Is};
 ghost use Rattle.spin_model.specs.declared.once.OnceCall.TheVariants.{Get, IsCompleted, Wait as WaitCall, Poll};
-ghost use Rattle.spin_once.specs.Once.{use_of_party, call_of, closure_call, has_begun, is_out, may_begin, may_look, may_wait, may_poll};
+ghost use Rattle.spin_model.specs.declared.once.OncePoint.TheVariants.{Look, TryBegin, Await};
+ghost use Rattle.spin_once.specs.Once.{use_of_party, point_of, is_load, is_out, closure_call, in_closure};
 ghost use Rattle.spin_once.specs.OnceValues.{IsValue, Sees};
 ghost use Rattle.spin_once.specs.declared.once_core.rule.Stage.TheVariants.{Done};
-ghost use Rattle.spin_once.specs.declared.once_core.rule.View.TheVariants.{Idle, Reading};
+ghost use Rattle.spin_once.specs.declared.once_core.rule.View.TheVariants.{Idle, Reading, InCall};
 
 use super::init_permit::InitPermit;
 use super::rule::{
-    Begins, COMPLETE, Caller, Closure, Comes, Completes, Entry, Gets, Looks, NOTHING, Polls, Seed,
+    COMPLETE, Call, Caller, Closure, Completes, Entry, Gets, NOTHING, Polls, Runs, Seed, Turn,
     Waits, show_value,
 };
 use spin_core::relax::RelaxStrategy;
@@ -25,8 +26,8 @@ use std::sync::Wait;
 
 /// A party that knows which moves in the trace are its own, and the whole trace up to its own last move.
 pub(crate) struct Account<'a, T, S: Seed<T>> {
-    party: Caller<'a, T, S>,
-    seen: Watch<Entry<T>>,
+    pub(super) party: Caller<'a, T, S>,
+    pub(super) seen: Watch<Entry<T>>,
     ghost named: { party.key.opening.name ≡ seen.name },
     ghost knows: { mark_of party.view ≡ length seen.entries },
     ghost finds: { Sees party.key.opening seen.entries (use_of use_of_party party.view) party.value },
@@ -34,7 +35,7 @@ pub(crate) struct Account<'a, T, S: Seed<T>> {
 
 /// The account of a party that reads the value.
 pub(crate) struct Found<'a, T, S: Seed<T>> {
-    account: Account<'a, T, S>,
+    pub(super) account: Account<'a, T, S>,
     ghost reads: { what account.party.view ≡ Some Reading },
 }
 
@@ -47,13 +48,6 @@ pub(crate) enum Claim<'a, T, S: Seed<T>> {
 
 impl<'a, T, S: Seed<T>> Found<'a, T, S> {
     ghost use Rattle.spin_once.specs.Accounts.{here, Same};
-
-    pub(crate) fn new(account: Account<'a, T, S>) -> Self
-        requires { what account.party.view ≡ Some Reading }
-        ensures { result.account ≡ account.entry }
-    {
-        Found { account }
-    }
 
     /// Returns the value.
     pub(crate) fn read(self) -> (&'a T, Account<'a, T, S>)
@@ -80,14 +74,7 @@ impl<'a, T, S: Seed<T>> Found<'a, T, S> {
 }
 
 impl<'a, T, S: Seed<T>> Account<'a, T, S> {
-    ghost use Rattle.spin_once.specs.Accounts.{here, Since, Wants};
-
-    pub(crate) fn new(party: Caller<'a, T, S>, seen: Watch<Entry<T>>) -> Self
-        requires { (party.key.opening.name ≡ seen.name) × (mark_of party.view ≡ length seen.entries) × Sees party.key.opening seen.entries (use_of use_of_party party.view) party.value }
-        ensures { (result.party ≡ party.entry) × (result.seen ≡ seen) }
-    {
-        Account { party, seen }
-    }
+    ghost use Rattle.spin_once.specs.Accounts.{Place, here, Since, Turned, FindsSeed, Claims, Attempts, IsPolled};
 
     /// Ends the account of a party that is in no call.
     pub(crate) fn close(self)
@@ -105,15 +92,23 @@ impl<'a, T, S: Seed<T>> Account<'a, T, S> {
         self.seen.compare(&other.seen);
     }
 
+    // Makes the next step of its call, which is a load. A party that is in no call begins this one.
+    fn load<C: Call>(self) -> (u64, Account<'a, T, S>)
+        requires { is_load (point_of (what self.party.view)) ≡ true }
+        ensures { Turned C.call result.0 (here self.entry) (here result.1) }
+    {
+        let Self { party, seen } = self;
+        let (found, party, seen) = party.load::<Turn<C>>(seen);
+        (found, Account { party, seen })
+    }
+
     /// Loads the word once, and finds the value or none.
     pub(crate) fn get(self) -> Result<Found<'a, T, S>, Account<'a, T, S>>
         requires { is_out (what self.party.view) ≡ true }
         ensures found { IfOk result (λ found. Since (here self.entry) (IsCall Get (Value tt)) (here found.account)) }
         ensures none { IfErr result (λ account. Since (here self.entry) (IsCall Get NoValue) (here account) × (what account.party.view ≡ Some Idle)) }
     {
-        let Self { party, seen } = self;
-        let (found, party, seen) = party.load::<Gets>(seen);
-        let account = Account { party, seen };
+        let (found, account) = self.load::<Gets>();
         if found == COMPLETE as u64 {
             Ok(Found { account })
         } else {
@@ -127,25 +122,98 @@ impl<'a, T, S: Seed<T>> Account<'a, T, S> {
         ensures made { Since (here self.entry) (IsCall IsCompleted (Is result.0)) (here result.1) }
         ensures out { is_out (what result.1.party.view) ≡ true }
     {
-        let Self { party, seen } = self;
-        let (found, party, seen) = party.load::<Completes>(seen);
-        (found == COMPLETE as u64, Account { party, seen })
+        let (found, account) = self.load::<Completes>();
+        (found == COMPLETE as u64, account)
     }
 
-    /// Finds the value by its one load, or begins a call with a closure of this kind, which then continues.
-    pub(crate) fn come<C: Closure>(self) -> Result<Found<'a, T, S>, Wanting<'a, T, S>>
+    /// Finds the value by its one load, or begins a call with a closure of this kind. The call continues by
+    /// [`claim`](Account::claim).
+    pub(crate) fn come<C: Closure>(self) -> Result<Found<'a, T, S>, Account<'a, T, S>>
         requires { is_out (what self.party.view) ≡ true }
         ensures found { IfOk result (λ found. Since (here self.entry) (IsCall (closure_call C.may_fail) (Value tt)) (here found.account)) }
-        ensures wants { IfErr result (λ wanting. Since (here self.entry) (BeginsWith (closure_call C.may_fail) Goes) (here wanting.account) × Wants C.may_fail wanting) }
+        ensures wants { IfErr result (λ account. Since (here self.entry) (BeginsWith (closure_call C.may_fail) Goes) (here account) × (what account.party.view ≡ Some (in_closure C.may_fail TryBegin))) }
     {
-        let Self { party, seen } = self;
-        let (found, party, seen) = party.load::<Comes<C>>(seen);
-        let account = Account { party, seen };
+        let (found, account) = self.load::<Runs<C>>();
         if found == COMPLETE as u64 {
             Ok(Found { account })
         } else {
-            Err(Wanting { account })
+            Err(account)
         }
+    }
+
+    /// Finds the value, or gets the right to make it. Spins while another thread makes it.
+    pub(crate) fn claim<C: Closure, R: RelaxStrategy, W: Wait>(self, rt: &W) -> Claim<'a, T, S>
+        requires { what self.party.view ≡ Some (in_closure C.may_fail TryBegin) }
+        ensures { Claims C.may_fail (here self.entry) result }
+    {
+        match self.begin::<C>() {
+            Ok(claim) => claim,
+            Err(account) => account.claim_later::<C, R, W>(rt),
+        }
+    }
+
+    // Looks again until it finds the value, or gets the right to make it.
+    #[cold]
+    #[inline(never)]
+    fn claim_later<C: Closure, R: RelaxStrategy, W: Wait>(self, rt: &W) -> Claim<'a, T, S>
+        requires { what self.party.view ≡ Some (in_closure C.may_fail Await) }
+        ensures { (p : Place T S) → Since p Goes (here self.entry) → Claims C.may_fail p result }
+    {
+        let mut account = self;
+        for _ in rt.forever() {
+            R::pause(rt, 1);
+            match account.look_and_begin::<C>() {
+                Ok(claim) => return claim,
+                Err(next) => account = next,
+            }
+        }
+        unreachable!()
+    }
+
+    // Tries to begin if no other thread makes the value.
+    fn look_and_begin<C: Closure>(self) -> Result<Claim<'a, T, S>, Account<'a, T, S>>
+        requires { what self.party.view ≡ Some (in_closure C.may_fail Await) }
+        ensures { Attempts C.may_fail (here self.entry) result }
+    {
+        let (found, account) = self.load::<Runs<C>>();
+        if found == COMPLETE as u64 {
+            return Ok(Claim::Found(Found { account }));
+        }
+        if found != NOTHING as u64 {
+            return Err(account);
+        }
+        account.begin::<C>()
+    }
+
+    // Tries once to begin. Fails while another thread makes the value.
+    fn begin<C: Closure>(self) -> Result<Claim<'a, T, S>, Account<'a, T, S>>
+        requires { what self.party.view ≡ Some (in_closure C.may_fail TryBegin) }
+        ensures { Attempts C.may_fail (here self.entry) result }
+    {
+        let (found, account) = self.exchange::<C>();
+        if found == COMPLETE as u64 {
+            return Ok(Claim::Found(Found { account }));
+        }
+        if found != NOTHING as u64 {
+            return Err(account);
+        }
+        Ok(Claim::Init(InitPermit::new(account)))
+    }
+
+    // The exchange by which a call begins to run its closure. The seed is still there.
+    fn exchange<C: Closure>(self) -> (u64, Account<'a, T, S>)
+        requires { what self.party.view ≡ Some (in_closure C.may_fail TryBegin) }
+        ensures turned { Turned (closure_call C.may_fail) result.0 (here self.entry) (here result.1) }
+        ensures seed { FindsSeed result.1 }
+    {
+        let Self { party, seen } = self;
+        let running = once::begin(NOTHING).unwrap();
+        let (found, party, seen) = party.exchange::<Turn<Runs<C>>>(
+            NOTHING as u64,
+            running as u64,
+            seen,
+        );
+        (found, Account { party, seen })
     }
 
     /// Spins until there is a value.
@@ -153,11 +221,30 @@ impl<'a, T, S: Seed<T>> Account<'a, T, S> {
         requires { is_out (what self.party.view) ≡ true }
         ensures { Since (here self.entry) (IsCall WaitCall (Value tt)) (here result.account) }
     {
-        let waiting = Waiting { account: self };
-        match waiting.look() {
-            Ok(found) => found,
-            Err(waiting) => waiting.wait::<R, W>(rt),
+        let (found, account) = self.load::<Waits>();
+        if found == COMPLETE as u64 {
+            return Found { account };
         }
+        account.wait_on::<R, W>(rt)
+    }
+
+    // Looks again until there is a value.
+    #[cold]
+    #[inline(never)]
+    fn wait_on<R: RelaxStrategy, W: Wait>(self, rt: &W) -> Found<'a, T, S>
+        requires { what self.party.view ≡ Some (InCall WaitCall Look) }
+        ensures { (p : Place T S) → Since p (BeginsWith WaitCall Goes) (here self.entry) → Since p (IsCall WaitCall (Value tt)) (here result.account) }
+    {
+        let mut account = self;
+        for _ in rt.forever() {
+            R::pause(rt, 1);
+            let (found, next) = account.load::<Waits>();
+            if found == COMPLETE as u64 {
+                return Found { account: next };
+            }
+            account = next;
+        }
+        unreachable!()
     }
 
     /// Spins while a thread makes the value, and then finds it, or none.
@@ -166,188 +253,40 @@ impl<'a, T, S: Seed<T>> Account<'a, T, S> {
         rt: &W,
     ) -> Result<Found<'a, T, S>, Account<'a, T, S>>
         requires { is_out (what self.party.view) ≡ true }
-        ensures found { IfOk result (λ found. Since (here self.entry) (IsCall Poll (Value tt)) (here found.account)) }
-        ensures none { IfErr result (λ account. Since (here self.entry) (IsCall Poll NoValue) (here account) × (what account.party.view ≡ Some Idle)) }
+        ensures { IsPolled (here self.entry) result }
     {
-        let polling = Polling { account: self };
-        match polling.look() {
-            Ok(answer) => answer,
-            Err(polling) => polling.wait::<R, W>(rt),
-        }
-    }
-}
-
-/// A call with a closure, whose next step is its exchange.
-pub(crate) struct Wanting<'a, T, S: Seed<T>> {
-    account: Account<'a, T, S>,
-    ghost wants: { may_begin (what account.party.view) ≡ true },
-}
-
-// A call with a closure, whose next step is a look, since another closure runs.
-struct Awaiting<'a, T, S: Seed<T>> {
-    account: Account<'a, T, S>,
-    ghost awaits: { may_look (what account.party.view) ≡ true },
-}
-
-impl<'a, T, S: Seed<T>> Wanting<'a, T, S> {
-    ghost use Rattle.spin_once.specs.Accounts.{here, Claims, Attempts, IsClaimOf};
-
-    /// Finds the value, or gets the right to make it. Spins while another thread makes it.
-    pub(crate) fn claim<R: RelaxStrategy, W: Wait>(self, rt: &W) -> Claim<'a, T, S>
-        ensures claims { IsClaimOf (call_of (what self.entry.account.party.view)) result }
-        ensures since { Claims (here self.entry.account) result }
-    {
-        match self.begin() {
-            Ok(claim) => claim,
-            Err(awaiting) => awaiting.claim::<R, W>(rt),
-        }
-    }
-
-    // Tries once to begin. Fails while another thread makes the value.
-    fn begin(self) -> Result<Claim<'a, T, S>, Awaiting<'a, T, S>>
-        ensures claims { IfOk result (IsClaimOf (call_of (what self.entry.account.party.view))) }
-        ensures awaits { IfErr result (λ awaiting. call_of (what awaiting.account.party.view) ≡ call_of (what self.entry.account.party.view)) }
-        ensures since { Attempts (here self.entry.account) result }
-    {
-        let Self { account } = self;
-        let Account { party, seen } = account;
-        let running = once::begin(NOTHING).unwrap();
-        let (found, party, seen) = party.exchange::<Begins>(NOTHING as u64, running as u64, seen);
+        let (found, account) = self.load::<Polls>();
         if found == COMPLETE as u64 {
-            let account = Account { party, seen };
-            return Ok(Claim::Found(Found { account }));
+            return Ok(Found { account });
         }
         if found != NOTHING as u64 {
-            let account = Account { party, seen };
-            return Err(Awaiting { account });
+            return account.poll_on::<R, W>(rt);
         }
-        Ok(Claim::Init(InitPermit::new(party.into_writer(), seen)))
+        Err(account)
     }
-}
-
-impl<'a, T, S: Seed<T>> Awaiting<'a, T, S> {
-    ghost use Rattle.spin_once.specs.Accounts.{Place, here, Since, Claims, Attempts, IsClaimOf};
-
-    // Looks again until it finds the value, or gets the right to make it.
-    #[cold]
-    #[inline(never)]
-    fn claim<R: RelaxStrategy, W: Wait>(self, rt: &W) -> Claim<'a, T, S>
-        ensures claims { IsClaimOf (call_of (what self.entry.account.party.view)) result }
-        ensures since { (p : Place T S) → Since p Goes (here self.entry.account) → Claims p result }
-    {
-        let mut awaiting = self;
-        for _ in rt.forever() {
-            R::pause(rt, 1);
-            match awaiting.look_and_begin() {
-                Ok(claim) => return claim,
-                Err(next) => awaiting = next,
-            }
-        }
-        unreachable!()
-    }
-
-    // Tries to begin if no other thread makes the value.
-    fn look_and_begin(self) -> Result<Claim<'a, T, S>, Awaiting<'a, T, S>>
-        ensures claims { IfOk result (IsClaimOf (call_of (what self.entry.account.party.view))) }
-        ensures awaits { IfErr result (λ awaiting. call_of (what awaiting.account.party.view) ≡ call_of (what self.entry.account.party.view)) }
-        ensures since { Attempts (here self.entry.account) result }
-    {
-        let Self { account } = self;
-        let Account { party, seen } = account;
-        let (found, party, seen) = party.load::<Looks>(seen);
-        let account = Account { party, seen };
-        if found == COMPLETE as u64 {
-            return Ok(Claim::Found(Found { account }));
-        }
-        if found != NOTHING as u64 {
-            return Err(Awaiting { account });
-        }
-        Wanting { account }.begin()
-    }
-}
-
-// A call of `wait` that begins or continues.
-struct Waiting<'a, T, S: Seed<T>> {
-    account: Account<'a, T, S>,
-    ghost waits: { may_wait (what account.party.view) ≡ true },
-}
-
-impl<'a, T, S: Seed<T>> Waiting<'a, T, S> {
-    ghost use Rattle.spin_once.specs.Accounts.{Place, here, Since, WaitsOn};
-
-    // Looks again until there is a value.
-    #[cold]
-    #[inline(never)]
-    fn wait<R: RelaxStrategy, W: Wait>(self, rt: &W) -> Found<'a, T, S>
-        requires { has_begun (what self.account.party.view) ≡ true }
-        ensures { (p : Place T S) → Since p (BeginsWith WaitCall Goes) (here self.entry.account) → Since p (IsCall WaitCall (Value tt)) (here result.account) }
-    {
-        let mut waiting = self;
-        for _ in rt.forever() {
-            R::pause(rt, 1);
-            match waiting.look() {
-                Ok(found) => return found,
-                Err(next) => waiting = next,
-            }
-        }
-        unreachable!()
-    }
-
-    fn look(self) -> Result<Found<'a, T, S>, Waiting<'a, T, S>>
-        ensures { WaitsOn self.entry result }
-    {
-        let Self { account } = self;
-        let Account { party, seen } = account;
-        let (found, party, seen) = party.load::<Waits>(seen);
-        let account = Account { party, seen };
-        if found == COMPLETE as u64 {
-            Ok(Found { account })
-        } else {
-            Err(Waiting { account })
-        }
-    }
-}
-
-// A call of `poll` that begins or continues.
-struct Polling<'a, T, S: Seed<T>> {
-    account: Account<'a, T, S>,
-    ghost polls: { may_poll (what account.party.view) ≡ true },
-}
-
-impl<'a, T, S: Seed<T>> Polling<'a, T, S> {
-    ghost use Rattle.spin_once.specs.Accounts.{Place, here, Since, PollsOn, IsPolled};
 
     // Looks again while a thread makes the value.
     #[cold]
     #[inline(never)]
-    fn wait<R: RelaxStrategy, W: Wait>(self, rt: &W) -> Result<Found<'a, T, S>, Account<'a, T, S>>
-        requires { has_begun (what self.account.party.view) ≡ true }
-        ensures { (p : Place T S) → Since p (BeginsWith Poll Goes) (here self.entry.account) → IsPolled p result }
+    fn poll_on<R: RelaxStrategy, W: Wait>(
+        self,
+        rt: &W,
+    ) -> Result<Found<'a, T, S>, Account<'a, T, S>>
+        requires { what self.party.view ≡ Some (InCall Poll Look) }
+        ensures { (p : Place T S) → Since p (BeginsWith Poll Goes) (here self.entry) → IsPolled p result }
     {
-        let mut polling = self;
+        let mut account = self;
         for _ in rt.forever() {
             R::pause(rt, 1);
-            match polling.look() {
-                Ok(answer) => return answer,
-                Err(next) => polling = next,
+            let (found, next) = account.load::<Polls>();
+            if found == COMPLETE as u64 {
+                return Ok(Found { account: next });
             }
+            if found == NOTHING as u64 {
+                return Err(next);
+            }
+            account = next;
         }
         unreachable!()
-    }
-
-    fn look(self) -> Result<Result<Found<'a, T, S>, Account<'a, T, S>>, Polling<'a, T, S>>
-        ensures { PollsOn self.entry.account result }
-    {
-        let Self { account } = self;
-        let Account { party, seen } = account;
-        let (found, party, seen) = party.load::<Polls>(seen);
-        let account = Account { party, seen };
-        if found == COMPLETE as u64 {
-            return Ok(Ok(Found { account }));
-        }
-        if found != NOTHING as u64 {
-            return Err(Polling { account });
-        }
-        Ok(Err(account))
     }
 }

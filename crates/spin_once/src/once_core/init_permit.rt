@@ -1,16 +1,17 @@
 //! The right to make the value, without its party's account. It ends by [`InitPermit::complete`] or
 //! [`InitPermit::fail`].
-ghost use Rattle.std.specs.Prelude.{◌≡◌, Some, true, length};
+ghost use Rattle.std.specs.Prelude.{◌≡◌, Some, true, length, IsSomeAnd};
 ghost use Rattle.spin_core.specs.Own.{what};
 ghost use Rattle.spin_core.specs.Passes.{Ends};
 ghost use Rattle.spin_core.specs.Stable.{maybe_stable};
 ghost use Rattle.spin_model.specs.declared.answer.Answer.TheVariants.{Value};
-ghost use Rattle.spin_once.specs.Once.{is_running, running as will_run, IsFailure};
+ghost use Rattle.spin_model.specs.declared.once.OncePoint.TheVariants.{Run};
+ghost use Rattle.spin_once.specs.Once.{is_running, in_closure, IsFailure};
 ghost use Rattle.spin_once.specs.declared.once_core.rule.Stage.TheVariants.{Done};
 ghost use Rattle.spin_once.specs.declared.once_core.rule.View.TheVariants.{Idle};
 
 use super::account::{Account, Found};
-use super::rule::{Caller, Complete, Entry, Fail, RUNNING, Seed, Stage, Writer};
+use super::rule::{Caller, Entry, Fail, RUNNING, Runs, Seed, Stage, Sure, Turn, Writer};
 use spin_core::trace::Watch;
 use spin_step::once;
 use std::mem::{self, ManuallyDrop};
@@ -27,12 +28,16 @@ pub(crate) struct InitPermit<'a, T, S: Seed<T>> {
 impl<'a, T, S: Seed<T>> InitPermit<'a, T, S> {
     ghost use Rattle.spin_once.specs.Accounts.{here, running, HasSeed, Same, Since};
 
-    pub(super) fn new(writer: Writer<'a, T, S>, seen: Watch<Entry<T>>) -> Self
-        requires runs { is_running writer.view.0 ≡ true }
-        requires knows { (writer.key.opening.name ≡ seen.name) × (writer.view.2 ≡ length seen.entries) }
-        ensures { (result.writer ≡ writer.entry) × (result.seen ≡ seen) }
+    pub(super) fn new(account: Account<'a, T, S>) -> Self
+        requires { IsSomeAnd (what account.party.view) (λ view. is_running view ≡ true) }
+        ensures same { Same (here account.entry) (running result) }
+        ensures value { Some result.writer.value ≡ account.entry.party.value }
     {
-        InitPermit { writer, seen }
+        let Account { party, seen } = account;
+        InitPermit {
+            writer: party.into_writer(),
+            seen,
+        }
     }
 
     /// Takes the seed out.
@@ -55,28 +60,28 @@ impl<'a, T, S: Seed<T>> InitPermit<'a, T, S> {
         ensures since { Since (running self.entry) (Ends (Value tt)) (here result.account) }
     {
         let (party, seen) = self.put(Stage::Done(value));
-        let (party, seen) = party.store::<Complete>(once::complete(RUNNING) as u64, seen);
-        Found::new(Account::new(party, seen))
+        let (party, seen) = party.store::<Turn<Runs<Sure>>>(once::complete(RUNNING) as u64, seen);
+        Found {
+            account: Account { party, seen },
+        }
     }
 
     /// Leaves the seed in the cell, so that the next party may begin. The closure of the call is one that may fail.
     pub(crate) fn fail(self) -> Account<'a, T, S>
         requires seed { HasSeed self }
-        requires may { self.writer.view.0 ≡ will_run true }
+        requires may { self.writer.view.0 ≡ in_closure true Run }
         ensures since { Since (running self.entry) IsFailure (here result) }
         ensures idle { what result.party.view ≡ Some Idle }
     {
         let Self { writer, seen } = self;
         let party = writer.into_permit();
         let (party, seen) = party.store::<Fail>(once::fail(RUNNING) as u64, seen);
-        Account::new(party, seen)
+        Account { party, seen }
     }
 
     fn put(self, stage: Stage<T, S>) -> (Caller<'a, T, S>, Watch<Entry<T>>)
-        ensures runs { (result.0.view ≡ Some self.entry.writer.view) × (result.0.value ≡ Some (maybe_stable stage)) }
-        ensures running { is_running self.entry.writer.view.0 ≡ true }
-        ensures same { (result.0.key ≡ self.entry.writer.key) × (result.1 ≡ self.entry.seen) }
-        ensures knows { (self.entry.writer.key.opening.name ≡ self.entry.seen.name) × (self.entry.writer.view.2 ≡ length self.entry.seen.entries) }
+        ensures same { Same (running self.entry) (result.0.key, result.0.view, result.1) }
+        ensures value { result.0.value ≡ Some (maybe_stable stage) }
     {
         let Self { mut writer, seen } = self;
         spend(mem::replace(&mut writer.get_mut().value, stage));

@@ -1,9 +1,11 @@
 //! The rule of a [`OnceCore`](super::OnceCore): what each party is to the value (`View`), what the word says of all
 //! parties, and each kind of step.
-ghost use Rattle.std.specs.Prelude.{◌≡◌, Bool, Option, Some, None, true, false, IsSomeAnd};
+ghost use Rattle.std.specs.Prelude.{◌≡◌, Bool, Some, None, true, false};
 ghost use Rattle.spin_core.specs.Own.{what};
 ghost use Rattle.spin_core.specs.Stable.{maybe_stable};
-ghost use Rattle.spin_once.specs.Once.{Told, gets_by, completes_by, comes_by, begins_by, looks_by, waits_by, polls_by, ends_by, fails_by, call_of};
+ghost use Rattle.spin_model.specs.declared.once.OnceCall.{OnceCall};
+ghost use Rattle.spin_model.specs.declared.once.OnceCall.TheVariants.{Get, IsCompleted, Wait, Poll};
+ghost use Rattle.spin_once.specs.Once.{Told, turn_by, fails_by, closure_call};
 ghost use Rattle.spin_once.specs.declared.once_core.rule.View.TheVariants.{Reading};
 ghost use Rattle.spin_once.specs.declared.once_core.rule.Stage.TheVariants.{Done, Seed as InSeed};
 
@@ -111,6 +113,48 @@ pub(super) type Caller<'a, T, S> = Permit<'a, Slot<T, S>, Party, Stage<T, S>>;
 
 pub(super) type Writer<'a, T, S> = WritePermit<'a, Slot<T, S>, Party, Stage<T, S>>;
 
+/// A call that a party may begin.
+pub(super) trait Call {
+    ghost call: { OnceCall (Unit {0}) };
+}
+
+/// A call of `get`.
+pub(super) struct Gets;
+
+impl Call for Gets {
+    ghost call = { Get };
+}
+
+/// A call of `is_completed`.
+pub(super) struct Completes;
+
+impl Call for Completes {
+    ghost call = { IsCompleted };
+}
+
+/// A call of `wait`.
+pub(super) struct Waits;
+
+impl Call for Waits {
+    ghost call = { Wait };
+}
+
+/// A call of `poll`.
+pub(super) struct Polls;
+
+impl Call for Polls {
+    ghost call = { Poll };
+}
+
+/// A call with a closure of this kind.
+pub(super) struct Runs<C> {
+    closure: PhantomData<C>,
+}
+
+impl<C: Closure> Call for Runs<C> {
+    ghost call = { closure_call C.may_fail };
+}
+
 /// Whether the closure of a call may fail.
 pub(crate) trait Closure {
     ghost may_fail: { Bool };
@@ -130,62 +174,14 @@ impl Closure for Unsure {
     ghost may_fail = { true };
 }
 
-/// The load of `get`.
-pub(super) struct Gets;
-
-impl<T, S> Play<Key<T, S>, Party, Entry<T>> for Gets {
-    ghost told = { λ key old new before. Told key.opening gets_by before };
+/// The next step of the party's call. A party that is in no call begins this one. In the history the store after a
+/// closure that gave a value is a write of that value.
+pub(super) struct Turn<C> {
+    call: PhantomData<C>,
 }
 
-/// The load of `is_completed`.
-pub(super) struct Completes;
-
-impl<T, S> Play<Key<T, S>, Party, Entry<T>> for Completes {
-    ghost told = { λ key old new before. Told key.opening (completes_by (what before)) before };
-}
-
-/// The first load of a call with a closure.
-pub(super) struct Comes<C> {
-    closure: PhantomData<C>,
-}
-
-impl<C: Closure, T, S> Play<Key<T, S>, Party, Entry<T>> for Comes<C> {
-    ghost told = { λ key old new before. Told key.opening (comes_by C.may_fail) before };
-}
-
-/// The exchange by which a call begins to run its closure.
-pub(super) struct Begins;
-
-impl<T, S> Play<Key<T, S>, Party, Entry<T>> for Begins {
-    ghost told = { λ key old new before. Told key.opening (begins_by (call_of (what before))) before };
-}
-
-/// A load of a call with a closure, while another one runs.
-pub(super) struct Looks;
-
-impl<T, S> Play<Key<T, S>, Party, Entry<T>> for Looks {
-    ghost told = { λ key old new before. Told key.opening (looks_by (call_of (what before))) before };
-}
-
-/// A load of `wait`.
-pub(super) struct Waits;
-
-impl<T, S> Play<Key<T, S>, Party, Entry<T>> for Waits {
-    ghost told = { λ key old new before. Told key.opening (waits_by (what before)) before };
-}
-
-/// A load of `poll`.
-pub(super) struct Polls;
-
-impl<T, S> Play<Key<T, S>, Party, Entry<T>> for Polls {
-    ghost told = { λ key old new before. Told key.opening (polls_by (what before)) before };
-}
-
-/// The store after a closure that gave a value. In the history it is a write of that value.
-pub(super) struct Complete;
-
-impl<T, S> Play<Key<T, S>, Party, Entry<T>> for Complete {
-    ghost told = { λ key old new before. Told key.opening (ends_by (call_of (what before))) before };
+impl<C: Call, T, S> Play<Key<T, S>, Party, Entry<T>> for Turn<C> {
+    ghost told = { λ key old new before. Told key.opening (turn_by C.call (what before)) before };
 }
 
 /// The store after a closure that failed.

@@ -5,4 +5,5 @@ use Rattle.spin_once.proofs.Accounts.{call_ends}
 use Rattle.spin_once.proofs.lazylock.LazyLock.find_or_make.Goals as goal
 
 pub returns-in-Err : goal.returns-in-Err
-returns-in-Err g c = call_ends (here c.args.account) (here c.in-Err.wanting.account) (here c.make.result.account) (CallOnce tt) (Value tt) c.in-Err.ensures.wants.0 c.make.ensures
+returns-in-Err g c = call_ends (here c.args.account) (here c.in-Err.account) (here c.make.result.account) (CallOnce tt)
+    (Value tt) c.in-Err.ensures.wants.0 c.make.ensures

@@ -19,7 +19,7 @@ module _ {T E : Type 0} (p q : Place T (Unit {0})) (begun : Since p (Begins (Try
   failed_by (Err failed) later = call_fails p q (here failed.1) begun later
 
 pub returns-in-Err-clause-found : goal.returns-in-Err-clause-found
-returns-in-Err-clause-found g c = found_by (here c.args.account) (here c.in-Err.wanting.account) c.in-Err.ensures.wants.0 c.try_make.result c.try_make.ensures.found
+returns-in-Err-clause-found g c = found_by (here c.args.account) (here c.in-Err.account) c.in-Err.ensures.wants.0 c.try_make.result c.try_make.ensures.found
 
 pub returns-in-Err-clause-failed : goal.returns-in-Err-clause-failed
-returns-in-Err-clause-failed g c = failed_by (here c.args.account) (here c.in-Err.wanting.account) c.in-Err.ensures.wants.0 c.try_make.result c.try_make.ensures.failed
+returns-in-Err-clause-failed g c = failed_by (here c.args.account) (here c.in-Err.account) c.in-Err.ensures.wants.0 c.try_make.result c.try_make.ensures.failed

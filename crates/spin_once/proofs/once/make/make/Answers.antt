@@ -4,4 +4,5 @@ use Rattle.spin_once.proofs.Accounts.{and_ends}
 use Rattle.spin_once.proofs.once.make.make.Goals as goal
 
 pub returns-in-Init : goal.returns-in-Init
-returns-in-Init g c = and_ends (here c.args.wanting.account) (running c.in-Init.permit) (here c.complete.result.account) (Value tt) c.in-Init.ensures.since c.complete.ensures.since
+returns-in-Init g c = and_ends (here c.args.account) (running c.in-Init.permit) (here c.complete.result.account)
+    (Value tt) c.in-Init.ensures.0 c.complete.ensures.since

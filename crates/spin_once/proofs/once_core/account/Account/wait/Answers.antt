@@ -1,17 +1,27 @@
-use Rattle.std.proofs.Common.{None, subst}
+use Rattle.std.proofs.Common.{ap}
 use Rattle.spin_core.specs.Own.{what}
-use Rattle.spin_core.specs.Passes.{IsStep}
 use Rattle.spin_model.specs.declared.answer.Answer.TheVariants.{Value}
 use Rattle.spin_model.specs.declared.once.OnceCall.TheVariants.{Wait}
-use Rattle.spin_model.specs.declared.schedule.Outcome.TheVariants.{Answered, GoingOn}
-use Rattle.spin_once.specs.Accounts.{here, Since}
-use Rattle.spin_once.proofs.Accounts.{whole, begins, out_begins}
+use Rattle.spin_model.specs.declared.once.OncePoint.TheVariants.{Look}
+use Rattle.spin_once.specs.Accounts.{here}
+use Rattle.spin_once.specs.Once.{next_at}
+use Rattle.spin_once.proofs.Moves.{wait_on}
+use Rattle.spin_once.proofs.Accounts.{looks_first, answers, comes_in}
 use Rattle.spin_once.proofs.once_core.account.Account.wait.Goals as goal
 
-pub returns-in-Ok : goal.returns-in-Ok
-returns-in-Ok g c = let me = c.args.self in let p = here me in let q = here c.in-Ok.found.account in
-    whole p q Wait (Value tt) (subst (λ b. Since p (IsStep b Wait (Answered (Value tt) None)) q) (out_begins (what me.party.view) c.requires) c.in-Ok.ensures)
+pub load-found-requires : goal.load-found-requires
+load-found-requires g c = looks_first (what c.args.self.party.view) c.requires
 
-pub returns-in-Err : goal.returns-in-Err
-returns-in-Err g c = let me = c.args.self in let p = here me in let q = here c.in-Err.waiting.account in
-    c.wait.ensures p (begins p q Wait (subst (λ b. Since p (IsStep b Wait GoingOn) q) (out_begins (what me.party.view) c.requires) c.in-Err.ensures.0))
+pub returns-then-found : goal.returns-then-found
+returns-then-found g c =
+    let f = c.load-found in
+    (answers (here c.args.self) (here f.result.1) Wait f.result.0 c.requires f.ensures (Value tt) (ap (next_at Wait Look) c.if-found.true)).0
+
+pub wait_on-requires : goal.wait_on-requires
+wait_on-requires g c =
+    let f = c.load-found in (comes_in (here c.args.self) (here f.result.1) Wait f.result.0 c.requires f.ensures Look (wait_on f.result.0 c.if-found.false)).1
+
+pub returns : goal.returns
+returns g c =
+    let me = here c.args.self in let f = c.load-found in
+    c.wait_on.ensures me (comes_in me (here f.result.1) Wait f.result.0 c.requires f.ensures Look (wait_on f.result.0 c.if-found.false)).0
