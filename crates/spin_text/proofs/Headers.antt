@@ -7,28 +7,12 @@ use Rattle.spin_step_more.specs.Starvers.{most_starvers}
 use Rattle.spin_text.specs.declared.header.Header.{Header}
 use Rattle.spin_text.specs.declared.header.Header.TheVariants.{Flag, Ticket, Rw, Fair, Barrier, Once}
 use Rattle.spin_text.specs.Objects.{CallOf, calls_of, header_words, HeaderFits, IsWithin, PartiesFit}
-use Rattle.spin_text.specs.Reading.{◌>>=◌, number_at, number_within, last_number, last_parties, read_flag_header, read_ticket_header, read_rw_header, read_fair_header, read_barrier_header, read_once_header, read_header, read_flag_call, read_ticket_call, read_rw_call, read_fair_call, read_barrier_call, read_once_call}
+use Rattle.spin_text.specs.Reading.{◌>>=◌, number_at, number_within, last, last_parties, read_flag_header, read_ticket_header, read_rw_header, read_fair_header, read_barrier_header, read_once_header, read_header, read_flag_call, read_ticket_call, read_rw_call, read_fair_call, read_barrier_call, read_once_call}
 use Rattle.spin_text.specs.Readable.{ReadsCalls}
-use Rattle.spin_text.proofs.Options.{chosen, bound, some_is, and_true}
+use Rattle.spin_text.proofs.Options.{chosen, bound, some_is, and_true, last_takes}
 use Rattle.spin_text.proofs.Moves.{front}
-use Rattle.spin_text.proofs.Numerals.{last_number_takes, last_number_again, number_at_takes, number_at_again}
+use Rattle.spin_text.proofs.Numerals.{number_at_takes, number_at_again}
 use Rattle.spin_text.proofs.Calls.{flag_reads, ticket_reads, rw_reads, fair_reads, barrier_reads, once_reads}
-
-parties_take : (ws : List (List ℕ)) (n : ℕ) → last_parties ws ≡ Some n → PartiesFit n × (ws ≡ decimal n ∷ [])
-unfolding last_parties
-parties_take ws n =
-    let P : ℕ → Type 0 = λ m. PartiesFit m × (ws ≡ decimal m ∷ []) in
-    bound (last_number ws) _ n (P n) (λ m found.
-    chosen (nat_le 1 m && nat_le m 1000) (Some m) None n (P n) (λ within is.
-    let both = and_true _ _ within in
-    subst P (some_is is) ((leb-true _ _ both.0, leb-true _ _ both.1), (last_number_takes ws m found).1)) (λ _ is. absurd (cc)))
-
-parties_again : (n : ℕ) → PartiesFit n → last_parties (decimal n ∷ []) ≡ Some n
-unfolding last_parties
-parties_again n fits =
-    ap (λ o. o >>= λ m. cond (nat_le 1 m && nat_le m 1000) (Some m) None) (last_number_again n (omega (arith, fits.1)))
-    ∙ ap (λ b. cond (b && nat_le n 1000) (Some n) None) (le-leb 1 n fits.0)
-    ∙ ap (λ b. cond b (Some n) None) (le-leb n 1000 fits.1)
 
 within_takes : (least most : ℕ) (ws : List (List ℕ)) (x : ℕ × List (List ℕ)) → number_within least most ws ≡ Some x → IsWithin least most x.0 × (ws ≡ decimal x.0 ∷ x.1)
 unfolding number_within
@@ -45,6 +29,14 @@ within_again least most n ws small fits =
     ap (λ o. o >>= λ m. cond (nat_le least m.0 && nat_le m.0 most) (Some m) None) (number_at_again n ws (omega (arith, fits.1, small)))
     ∙ ap (λ b. cond (b && nat_le n most) (Some (n, ws)) None) (le-leb least n fits.0)
     ∙ ap (λ b. cond b (Some (n, ws)) None) (le-leb n most fits.1)
+
+parties_take : (ws : List (List ℕ)) (n : ℕ) → last_parties ws ≡ Some n → PartiesFit n × (ws ≡ decimal n ∷ [])
+unfolding last_parties
+parties_take ws n is = within_takes 1 1000 ws (n, []) (last_takes (number_within 1 1000 ws) n is)
+
+parties_again : (n : ℕ) → PartiesFit n → last_parties (decimal n ∷ []) ≡ Some n
+unfolding last_parties
+parties_again n fits = ap last (within_again 1 1000 n [] (omega arith) fits)
 
 abbrev IsHeader : List ℕ → List (List ℕ) → Header → Type 0
 IsHeader w ws h = HeaderFits h × (w ∷ ws ≡ header_words h)
