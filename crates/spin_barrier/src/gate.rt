@@ -1,8 +1,10 @@
 //! What a worker passes before its first step. Begin with [`Gate`].
 use std::sync::Wait;
 
-/// What each worker of a team passes before its first step. The caller provides it. A test can so see which workers
-/// arrived, and that all are there at once.
+/// What each worker of a team passes before its first step, as in `count_with` of `spin_run`.
+///
+/// The caller provides it, to prepare its threads: to hold them until all are there, to name them, or to note which
+/// came. [`Open`] does nothing.
 pub trait Gate {
     /// Lets the worker pass. The call may wait.
     ///

@@ -4,4 +4,4 @@
 #![tactic(auto)]
 
 pub mod mutex;
-pub mod testing;
+pub mod tickets;

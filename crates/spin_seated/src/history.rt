@@ -17,10 +17,10 @@ pub struct Known<K, C, A> {
     pub seen: LinkedList<Entry<C, A>>,
 }
 
-/// What a seat at the table knows of each of its passes.
+/// What each pass of a seat knows. A seat has several passes while the lock opens, and while passes meet; otherwise one.
 pub type View<K, C, A> = LinkedList<Known<K, C, A>>;
 
-/// The first pass of a view gets a seat of its own.
+/// Splits a seat: the first of its passes gets a seat of its own.
 pub(crate) struct First;
 
 impl<K, C, A> Split<View<K, C, A>> for First {
@@ -31,7 +31,7 @@ impl<K, C, A> Split<View<K, C, A>> for First {
     ghost right = { λ v. take 1 v };
 }
 
-/// The passes of two seats get one seat.
+/// Joins two seats: one of them gets the passes of both.
 pub(crate) struct Both;
 
 impl<K, C, A> Join<View<K, C, A>> for Both {

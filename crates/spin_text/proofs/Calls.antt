@@ -1,29 +1,27 @@
 -- The calls of each object are read as they are spelled.
-use Rattle.std.proofs.Common.{◌≡◌, ℕ, ◌<◌, ◌^◌, Bool, true, false, ◌&&◌, Some, List, [], ◌∷◌, codes, decimal, map, refl, ap, subst, ◌∙◌}
+use Rattle.std.proofs.Common.{◌≡◌, ℕ, ◌<◌, ◌^◌, Bool, true, false, ◌&&◌, Option, Some, List, [], ◌∷◌, codes, decimal, refl, ap, subst, ◌∙◌}
 use Rattle.std.specs.Str.{bytes_eq}
 use Rattle.std.proofs.lemmas.Bool.{ltb-true, lt-ltb}
-use Rattle.spin_model.specs.declared.flag.FlagCall.{FlagCall}
 use Rattle.spin_model.specs.declared.flag.FlagCall.TheVariants as flag
-use Rattle.spin_step_more.specs.declared.fair_calls.FairCall.{FairCall}
 use Rattle.spin_step_more.specs.declared.fair_calls.FairCall.TheVariants as fair
-use Rattle.spin_step_more.specs.declared.rw_calls.RwCall.{RwCall}
 use Rattle.spin_step_more.specs.declared.rw_calls.RwCall.TheVariants as rw
-use Rattle.spin_model.specs.declared.ticket.TicketCall.{TicketCall}
 use Rattle.spin_model.specs.declared.ticket.TicketCall.TheVariants as ticket
-use Rattle.spin_world.specs.declared.barrier.BarrierCall.{BarrierCall}
 use Rattle.spin_world.specs.declared.barrier.BarrierCall.TheVariants as barrier
 use Rattle.spin_model.specs.declared.once.OnceCall.{OnceCall}
 use Rattle.spin_model.specs.declared.once.OnceCall.TheVariants as once
-use Rattle.spin_text.specs.declared.objects.TheConstants.{PLAIN_ONCE_CALLS}
+use Rattle.spin_text.specs.declared.objects.TheConstants.{FLAG_CALLS, TICKET_CALLS, RW_CALLS, FAIR_CALLS, BARRIER_CALLS, PLAIN_ONCE_CALLS}
 use Rattle.spin_text.specs.Objects.{flag_calls, ticket_calls, rw_calls, fair_calls, barrier_calls, once_calls}
 use Rattle.spin_text.specs.Spelling.{Calls}
-use Rattle.spin_text.specs.Reading.{◌>>=◌, is_end, last_word, last_number, read_flag_call, read_ticket_call, read_rw_call, read_fair_call, read_barrier_call, named, only_named, read_try_call_once, read_once_call}
+use Rattle.spin_text.specs.Reading.{◌>>=◌, is_end, last_word, last_number, read_flag_call, read_ticket_call, read_rw_call, read_fair_call, read_barrier_call, by_word, named, only_named, read_try_call_once, read_once_call}
 use Rattle.spin_text.specs.Readable.{ReadsCalls}
 use Rattle.spin_text.proofs.Options.{chosen, bound, some_is, and_true}
 use Rattle.spin_text.proofs.Moves.{is_text, front, ends, last_word_takes}
 use Rattle.spin_text.proofs.Numerals.{last_number_takes, last_number_again}
 
 module _ {C : Type 0} (calls : Calls C) where
+  abbrev IsReadAgain : (List (List ℕ) → Option C) → C → Type 0
+  IsReadAgain read c = calls.fits c ≡ true → read (calls.words c) ≡ Some c
+
   abbrev IsCall : List (List ℕ) → C → Type 0
   IsCall ws c = (calls.fits c ≡ true) × (ws ≡ calls.words c)
 
@@ -53,7 +51,7 @@ module _ {C : Type 0} (calls : Calls C) where
 
   -- if all calls have one word
   pub word_reads : (rows : List (List ℕ × C)) → are_calls rows ≡ true
-      → ((c : C) → calls.fits c ≡ true → only_named rows (calls.words c) ≡ Some c) → ReadsCalls calls (only_named rows)
+      → ((c : C) → IsReadAgain (only_named rows) c) → ReadsCalls calls (only_named rows)
   unfolding only_named
   word_reads rows each again =
       record {
@@ -73,49 +71,25 @@ module _ {C : Type 0} (calls : Calls C) where
       let number = last_number_takes ws n found in
       told all (this n) c (call n number.0 number.1))
 
-flag_again : (c : FlagCall) → flag_calls.fits c ≡ true → read_flag_call (flag_calls.words c) ≡ Some c
-unfolding read_flag_call only_named last_word named
-flag_again flag.Lock fits = refl
-flag_again _ fits = refl
-
 pub flag_reads : ReadsCalls flag_calls read_flag_call
-unfolding read_flag_call
-flag_reads = word_reads flag_calls _ refl flag_again
-
-ticket_again : (c : TicketCall) → ticket_calls.fits c ≡ true → read_ticket_call (ticket_calls.words c) ≡ Some c
-unfolding read_ticket_call only_named last_word named
-ticket_again ticket.Lock fits = refl
-ticket_again _ fits = refl
+unfolding read_flag_call only_named last_word named
+flag_reads = word_reads flag_calls (by_word FLAG_CALLS) refl (λ c. elim c as (IsReadAgain flag_calls read_flag_call) [ flag.Lock ↦ λ _. refl | _ ↦ λ _. refl ])
 
 pub ticket_reads : ReadsCalls ticket_calls read_ticket_call
-unfolding read_ticket_call
-ticket_reads = word_reads ticket_calls _ refl ticket_again
-
-rw_again : (c : RwCall) → rw_calls.fits c ≡ true → read_rw_call (rw_calls.words c) ≡ Some c
-unfolding read_rw_call only_named last_word named
-rw_again rw.TryRead fits = refl
-rw_again _ fits = refl
+unfolding read_ticket_call only_named last_word named
+ticket_reads = word_reads ticket_calls (by_word TICKET_CALLS) refl (λ c. elim c as (IsReadAgain ticket_calls read_ticket_call) [ ticket.Lock ↦ λ _. refl | _ ↦ λ _. refl ])
 
 pub rw_reads : ReadsCalls rw_calls read_rw_call
-unfolding read_rw_call
-rw_reads = word_reads rw_calls _ refl rw_again
-
-fair_again : (c : FairCall) → fair_calls.fits c ≡ true → read_fair_call (fair_calls.words c) ≡ Some c
-unfolding read_fair_call only_named last_word named
-fair_again fair.Lock fits = refl
-fair_again _ fits = refl
+unfolding read_rw_call only_named last_word named
+rw_reads = word_reads rw_calls (by_word RW_CALLS) refl (λ c. elim c as (IsReadAgain rw_calls read_rw_call) [ rw.TryRead ↦ λ _. refl | _ ↦ λ _. refl ])
 
 pub fair_reads : ReadsCalls fair_calls read_fair_call
-unfolding read_fair_call
-fair_reads = word_reads fair_calls _ refl fair_again
-
-barrier_again : (c : BarrierCall) → barrier_calls.fits c ≡ true → read_barrier_call (barrier_calls.words c) ≡ Some c
-unfolding read_barrier_call only_named last_word named
-barrier_again barrier.Wait fits = refl
+unfolding read_fair_call only_named last_word named
+fair_reads = word_reads fair_calls (by_word FAIR_CALLS) refl (λ c. elim c as (IsReadAgain fair_calls read_fair_call) [ fair.Lock ↦ λ _. refl | _ ↦ λ _. refl ])
 
 pub barrier_reads : ReadsCalls barrier_calls read_barrier_call
-unfolding read_barrier_call
-barrier_reads = word_reads barrier_calls _ refl barrier_again
+unfolding read_barrier_call only_named last_word named
+barrier_reads = word_reads barrier_calls (by_word BARRIER_CALLS) refl (λ c. elim c as (IsReadAgain barrier_calls read_barrier_call) [ barrier.Wait ↦ λ _. refl ])
 
 try_call_once_takes : (w : List ℕ) (ws : List (List ℕ)) (c : OnceCall ℕ) → bytes_eq w (codes "try_call_once") ≡ true → read_try_call_once ws ≡ Some c → IsCall once_calls (w ∷ ws) c
 unfolding read_try_call_once
@@ -128,7 +102,7 @@ try_call_once_takes w (v ∷ ws) c name one =
     let both = and_true _ _ err in
     told once_calls all once.TryCallOnceErr c (refl, front w (v ∷ ws) _ _ name (ends v ws _ (is_text v _ both.0) both.1))) (λ _ is. absurd (cc))) one
 
-plain_once_takes : (w : List ℕ) (ws : List (List ℕ)) (c : OnceCall ℕ) → is_end ws ≡ true → named (map (λ row. (row.0.now, row.1)) PLAIN_ONCE_CALLS) w ≡ Some c → IsCall once_calls (w ∷ ws) c
+plain_once_takes : (w : List ℕ) (ws : List (List ℕ)) (c : OnceCall ℕ) → is_end ws ≡ true → named (by_word PLAIN_ONCE_CALLS) w ≡ Some c → IsCall once_calls (w ∷ ws) c
 plain_once_takes w [] c end = named_takes once_calls _ refl w c
 plain_once_takes w (v ∷ ws) c end = absurd (cc)
 

@@ -5,9 +5,9 @@ use Rattle.std.proofs.lemmas.Slice.Eq.{bytes_eq-Decides}
 use Rattle.spin_model.specs.declared.schedule.Move.{Move}
 use Rattle.spin_model.specs.declared.schedule.Move.TheVariants.{Begin, Step, Weak, Read, Write, Leak, OwnerGet, OwnerSet}
 use Rattle.spin_text.specs.Spelling.{Calls, move_words, MoveFits, entry_words, EntryFits}
-use Rattle.spin_text.specs.Reading.{◌>>=◌, number_at, last_word, last_number, owner_move, plain_move, read_move, read_entry, is_end}
+use Rattle.spin_text.specs.Reading.{◌>>=◌, word_at, number_at, last_word, last_number, owner_move, plain_move, read_move, read_entry, is_end}
 use Rattle.spin_text.specs.Readable.{ReadsCalls}
-use Rattle.spin_text.proofs.Options.{chosen, bound, some_is, and_true}
+use Rattle.spin_text.proofs.Options.{chosen, bound, some_is, and_true, last_takes}
 use Rattle.spin_text.proofs.Numerals.{number_at_takes, number_at_again, last_number_takes, last_number_again}
 
 pub is_text : (w v : List ℕ) → bytes_eq w v ≡ true → w ≡ v
@@ -26,8 +26,7 @@ ends w (x ∷ ws) name is end = absurd (cc)
 pub last_word_takes : (ws : List (List ℕ)) (w : List ℕ) → last_word ws ≡ Some w → ws ≡ w ∷ []
 unfolding last_word
 last_word_takes [] w is = absurd (cc)
-last_word_takes (v ∷ []) w is = ap (λ x. x ∷ []) (some_is is)
-last_word_takes (v ∷ x ∷ ws) w is = absurd (cc)
+last_word_takes (v ∷ ws) w is = ap (λ x. x.0 ∷ x.1) (some_is (last_takes (word_at (v ∷ ws)) w is))
 
 module _ {C : Type 0} (calls : Calls C) (read : List (List ℕ) → Option C) (reads : ReadsCalls calls read) where
   abbrev IsMove : List (List ℕ) → Move C ℕ → Type 0

@@ -13,8 +13,8 @@ use Rattle.std.proofs.lemmas.Fmt.{decimal_is_IsNumeral, decimal-digits_value, de
 use Rattle.memchr.specs.Find.{Nowhere, Passes, is_byte}
 use Rattle.spin_text.specs.Numbers.{IsNumber}
 use Rattle.spin_text.specs.Lines.{words_of}
-use Rattle.spin_text.specs.Reading.{◌>>=◌, is_end, read_number, number_at, last_number}
-use Rattle.spin_text.proofs.Options.{chosen, bound, some_is, and_true}
+use Rattle.spin_text.specs.Reading.{◌>>=◌, last, read_number, number_at, last_number}
+use Rattle.spin_text.proofs.Options.{chosen, bound, some_is, and_true, last_takes}
 use Rattle.spin_text.proofs.Cuts.{cut_none, first_word}
 
 -- a number is printed as the word that it was read from
@@ -141,22 +141,14 @@ unfolding number_at
 number_at_again n ws fits = ap (λ o. o >>= λ k. Some (k, ws)) (read_number_some (decimal n) n fits refl)
 
 -- one number
-no_more : (ws : List (List ℕ)) → is_end ws ≡ true → ws ≡ []
-no_more [] end = refl
-no_more (w ∷ ws) end = absurd (cc)
 
 pub last_number_takes : (ws : List (List ℕ)) (n : ℕ) → last_number ws ≡ Some n → (n < 2 ^ 64) × (ws ≡ decimal n ∷ [])
 unfolding last_number
-last_number_takes ws n =
-    bound (number_at ws) _ n ((n < 2 ^ 64) × (ws ≡ decimal n ∷ [])) (λ x found.
-    chosen (is_end x.1) (Some x.0) None n ((n < 2 ^ 64) × (ws ≡ decimal n ∷ [])) (λ end is.
-    let number = number_at_takes ws x found in
-    let P : ℕ → Type 0 = λ k. (k < 2 ^ 64) × (ws ≡ decimal k ∷ []) in
-    subst P (some_is is) (number.0, number.1 ∙ ap (λ more. decimal x.0 ∷ more) (no_more x.1 end))) (λ _ is. absurd (cc)))
+last_number_takes ws n is = number_at_takes ws (n, []) (last_takes (number_at ws) n is)
 
 pub last_number_again : (n : ℕ) → n < 2 ^ 64 → last_number (decimal n ∷ []) ≡ Some n
 unfolding last_number
-last_number_again n fits = ap (λ o. o >>= λ x. cond (is_end x.1) (Some x.0) None) (number_at_again n [] fits)
+last_number_again n fits = ap last (number_at_again n [] fits)
 
 -- a word read as a line gives the number that it spells
 pub number_alone : (word : List ℕ) (r : Option ℕ) → r ≡ last_number (words_of word) → IfSome r (λ n. IsNumber word n)

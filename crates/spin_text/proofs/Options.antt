@@ -1,9 +1,9 @@
 -- Steps of reading: a test, or one result after another. And what a result says.
-use Rattle.std.proofs.Common.{◌≡◌, Bool, true, false, ◌&&◌, Option, Some, None, Result, Ok, Err, OnOk, OnErr, IfErr, IfNone, cond, refl, sym, subst}
+use Rattle.std.proofs.Common.{◌≡◌, ℕ, Bool, true, false, ◌&&◌, Option, Some, None, Result, Ok, Err, OnOk, OnErr, IfErr, IfNone, List, [], ◌∷◌, cond, refl, sym, ap, subst}
 use Rattle.spin_text.specs.declared.text.RunError.{RunError}
 use Rattle.spin_text.specs.declared.text.RunError.TheVariants.{Memory}
 use Rattle.spin_text.specs.Texts.{StopsWriting}
-use Rattle.spin_text.specs.Reading.{◌>>=◌}
+use Rattle.spin_text.specs.Reading.{◌>>=◌, last}
 
 pub some_is : {A : Type 0} {x y : A} → Some x ≡ Some y → x ≡ y
 some_is is = cc
@@ -21,6 +21,12 @@ bound (Some x) f y P then is = then x refl is
 pub and_true : (a b : Bool) → (a && b) ≡ true → (a ≡ true) × (b ≡ true)
 and_true true b is = (refl, is)
 and_true false b is = absurd (cc)
+
+-- nothing is behind what was read last
+pub last_takes : {A : Type 0} (read : Option (A × List (List ℕ))) (x : A) → last read ≡ Some x → read ≡ Some (x, [])
+last_takes None x is = absurd (cc)
+last_takes (Some (y, [])) x is = ap (λ z. Some (z, [])) (some_is is)
+last_takes (Some (y, w ∷ ws)) x is = absurd (cc)
 
 -- what holds of a result, if one property implies the other
 

@@ -56,28 +56,24 @@ number_at ws = do
   n ← read_number w.0
   Some (n, w.1)
 
--- the only word left
-
-unfoldable pub last_word : List (List ℕ) → Option (List ℕ)
-last_word ws = do
-  w ← word_at ws
-  if is_end w.1 then Some w.0 else None
-
-unfoldable pub last_number : List (List ℕ) → Option ℕ
-last_number ws = do
-  n ← number_at ws
-  if is_end n.1 then Some n.0 else None
-
-unfoldable pub last_parties : List (List ℕ) → Option ℕ
-last_parties ws = do
-  n ← last_number ws
-  if nat_le 1 n && nat_le n 1000 then Some n else None
-
 -- a number between `least` and `most`, and the words behind it
 unfoldable pub number_within : ℕ → ℕ → List (List ℕ) → Option (ℕ × List (List ℕ))
 number_within least most ws = do
   n ← number_at ws
   if nat_le least n.0 && nat_le n.0 most then Some n else None
+
+-- what was read, if no word is behind it
+abbrev pub last : {A : Type 0} → Option (A × List (List ℕ)) → Option A
+last read = read >>= λ x. if is_end x.1 then Some x.0 else None
+
+unfoldable pub last_word : List (List ℕ) → Option (List ℕ)
+last_word ws = last (word_at ws)
+
+unfoldable pub last_number : List (List ℕ) → Option ℕ
+last_number ws = last (number_at ws)
+
+unfoldable pub last_parties : List (List ℕ) → Option ℕ
+last_parties ws = last (number_within 1 1000 ws)
 
 unfoldable pub owner_move : {C : Type 0} → List (List ℕ) → Option (Move C ℕ)
 owner_move ws = do
@@ -110,6 +106,10 @@ read_entry call ws = do
 abbrev pub entries_in : {C : Type 0} → (List (List ℕ) → Option C) → List (List (List ℕ)) → List (ℕ × Move C ℕ)
 entries_in call lines = filter_map (read_entry call) lines
 
+-- a constant table of the code, by its words
+abbrev pub by_word : {C : Type 0} → List (record { now : List ℕ } × C) → List (List ℕ × C)
+by_word table = map (λ row. (row.0.now, row.1)) table
+
 -- the entry that a table has for a word
 unfoldable pub named : {C : Type 0} → List (List ℕ × C) → List ℕ → Option C
 named [] w = None
@@ -122,19 +122,19 @@ only_named rows ws = last_word ws >>= named rows
 -- the calls of each object
 
 unfoldable pub read_flag_call : List (List ℕ) → Option FlagCall
-read_flag_call ws = only_named (map (λ row. (row.0.now, row.1)) FLAG_CALLS) ws
+read_flag_call ws = only_named (by_word FLAG_CALLS) ws
 
 unfoldable pub read_ticket_call : List (List ℕ) → Option TicketCall
-read_ticket_call ws = only_named (map (λ row. (row.0.now, row.1)) TICKET_CALLS) ws
+read_ticket_call ws = only_named (by_word TICKET_CALLS) ws
 
 unfoldable pub read_rw_call : List (List ℕ) → Option RwCall
-read_rw_call ws = only_named (map (λ row. (row.0.now, row.1)) RW_CALLS) ws
+read_rw_call ws = only_named (by_word RW_CALLS) ws
 
 unfoldable pub read_fair_call : List (List ℕ) → Option FairCall
-read_fair_call ws = only_named (map (λ row. (row.0.now, row.1)) FAIR_CALLS) ws
+read_fair_call ws = only_named (by_word FAIR_CALLS) ws
 
 unfoldable pub read_barrier_call : List (List ℕ) → Option BarrierCall
-read_barrier_call ws = only_named (map (λ row. (row.0.now, row.1)) BARRIER_CALLS) ws
+read_barrier_call ws = only_named (by_word BARRIER_CALLS) ws
 
 -- a call that may fail, by the words behind its name
 unfoldable pub read_try_call_once : List (List ℕ) → Option (OnceCall ℕ)
@@ -149,7 +149,7 @@ read_once_call ws = do
   if bytes_eq w.0 (codes "call_once") then (last_number w.1 >>= λ v. Some (once.CallOnce v))
       else if bytes_eq w.0 (codes "try_call_once") then read_try_call_once w.1
       else if bytes_eq w.0 (codes "init_from_ref") then (last_number w.1 >>= λ v. Some (once.InitFromRef v))
-      else if is_end w.1 then named (map (λ row. (row.0.now, row.1)) PLAIN_ONCE_CALLS) w.0 else None
+      else if is_end w.1 then named (by_word PLAIN_ONCE_CALLS) w.0 else None
 
 unfoldable pub read_flag_header : List (List ℕ) → Option Header
 read_flag_header ws = do

@@ -3,7 +3,7 @@ ghost use Rattle.std.specs.Prelude.{◌≡◌, option_map};
 ghost use Rattle.spin_text.specs.Lines.{words_of};
 ghost use Rattle.spin_text.specs.Reading.{words_left, last_parties, number_within, read_flag_header, read_ticket_header, read_rw_header, read_fair_header, read_barrier_header, read_once_header, read_header};
 
-use crate::words::{Rest, is_word, number_then, only_number, word};
+use crate::words::{Rest, is_over, is_word, number_then, word};
 use spin_step_more::{fair, rw};
 
 /// The first line of a text: the object with its opening values, and the number of parties.
@@ -72,12 +72,8 @@ fn within(line: Rest, least: u64, most: u64) -> Option<(usize, Rest)>
 fn parties(line: Rest) -> Option<usize>
     ensures { result ≡ last_parties (words_left line.entry) }
 {
-    let parties = only_number(line)?;
-    if (1..=MAX_PARTIES).contains(&parties) {
-        Some(parties as usize)
-    } else {
-        None
-    }
+    let (parties, rest) = within(line, 1, MAX_PARTIES)?;
+    if is_over(rest) { Some(parties) } else { None }
 }
 
 #[tactic(auto, unfolding(crate::specs::Reading::read_flag_header))]

@@ -4,7 +4,7 @@
 #![tactic(auto)]
 
 pub mod laws;
-pub mod testing;
 pub mod ticket;
+pub mod tickets;
 
 pub use laws::every_run_of_a_ticket_mutex_is_a_schedule;

@@ -310,6 +310,14 @@ fn run_by<'a, P: Plan + Send + Sync, G: Gate + Sync, R: Threads + Wait + Sync, A
 /// # Contract
 /// There may be at most [`MAX_WORKERS`], and all that they add has to fit a `u64`. The total is exact. That workers run
 /// at the same time is not promised. Whether and when the call returns is not promised.
+///
+/// # Examples
+/// ```
+/// use spin_uses::phases::{Open, run_phases};
+///
+/// let folded = run_phases(&rt, rt.alloc(), &Open, 4, 10, 3).expect(&rt, "four threads");
+/// assert_eq!(rt; (folded.total, folded.rounds, folded.smallest), (120, 10, 12));
+/// ```
 pub fn run_phases<G: Gate + Sync, R: Threads + Wait + Sync, A: Allocator>(
     rt: &R,
     alloc: A,

@@ -2,8 +2,8 @@
 use crate::equal::equal;
 use crate::mutex::fair::{HELD, OPEN, refusal, seen, shows};
 use spin_core::relax::{RelaxStrategy, Spin, Yield};
+use spin_fair::attempts::{Waiting, begin, look_and_try, looks};
 use spin_fair::fair::{FairMutex, FairMutexGuard, LockRejectReason, STARVATION_SPINS};
-use spin_fair::testing::{Waiting, begin, look_and_try, looks};
 use std::sync::Wait;
 use std::thread;
 

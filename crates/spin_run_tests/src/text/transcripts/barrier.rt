@@ -64,25 +64,6 @@ pub const BARRIER: &[Worked] = &[
         ",
     ),
     (
-        "a group of none is a group of one",
-        "barrier 0 1\n\
-         0 begin wait\n\
-         0 step\n\
-         0 begin wait\n\
-         0 step\n\
-         0 begin wait\n\
-         0 step\n\
-        ",
-        "1 0 begun: 0 0\n\
-         2 0 answer leader from 1: 0 1\n\
-         3 0 begun: 0 1\n\
-         4 0 answer leader from 3: 0 2\n\
-         5 0 begun: 0 2\n\
-         6 0 answer leader from 5: 0 3\n\
-         end: 0 3 value none\n\
-        ",
-    ),
-    (
         "a follower waits and nobody owns",
         "barrier 2 2\n\
          0 owner get\n\

@@ -46,41 +46,6 @@ pub const RW: &[Worked] = &[
          1 begin try_upgrade_weak\n\
          1 weak\n\
          1 begin try_upgrade\n\
-         1 step\n\
-        ",
-        "1 0 begun: 0\n\
-         2 0 going on: 0\n\
-         3 0 answer granted from 1: 8\n\
-         4 1 begun: 8\n\
-         5 1 going on: 8\n\
-         6 1 answer granted from 4: 10\n\
-         7 1 begun: 10\n\
-         8 1 answer refused from 7: 10\n\
-         9 0 begun: 10\n\
-         10 0 answer done from 9: 2\n\
-         11 1 begun: 2\n\
-         12 1 answer refused from 11: 2\n\
-         13 1 begun: 2\n\
-         14 1 answer granted from 13: 1\n\
-         end: 1 value 1\n\
-        ",
-    ),
-    (
-        "an upgrade is refused until the reader has gone",
-        "rw 1 2 2\n\
-         0 begin try_read\n\
-         0 step\n\
-         0 step\n\
-         1 begin try_upgradeable_read\n\
-         1 step\n\
-         1 step\n\
-         1 begin try_upgrade\n\
-         1 step\n\
-         0 begin release\n\
-         0 step\n\
-         1 begin try_upgrade_weak\n\
-         1 weak\n\
-         1 begin try_upgrade\n\
          1 weak\n\
          1 step\n\
         ",

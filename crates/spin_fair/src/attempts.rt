@@ -1,4 +1,6 @@
-//! For tests of when a waiting `lock` starves. Begin at [`begin`].
+//! A `lock` in single attempts, for a caller with other work to do between them. Begin at [`begin`].
+//!
+//! A [`Waiting`] counts its looks as a waiting `lock` does, and cannot be given up: make attempts until there is a guard.
 ghost use Rattle.std.specs.Prelude.{IfOk};
 ghost use Rattle.spin_core.specs.Guard.{IsHolder};
 ghost use Rattle.spin_fair.specs.Fair.{use_of_party};
@@ -11,14 +13,32 @@ use std::sync::Wait;
 
 /// Begins a call of `lock`, and returns it if it has to wait.
 ///
-/// It exists for tests: a caller cannot count the looks of `lock`, since a strategy has no state to count in.
-///
 /// # Contract
 /// The guard belongs to a holder of the lock (`IsHolder`).
 ///
 /// # Examples
 /// ```
+/// use spin_fair::attempts::{Waiting, begin, look_and_try, looks};
+/// use spin_fair::fair::{FairMutex, FairMutexGuard};
+/// use std::sync::Wait;
+///
+/// fn finish<'a, W: Wait>(rt: &W, waiting: Waiting<'a, u64>) -> FairMutexGuard<'a, u64> {
+///     let mut waiting = waiting;
+///     for _ in rt.forever() {
+///         match look_and_try(rt, waiting) {
+///             Ok(guard) => return guard,
+///             Err(still) => waiting = still,
+///         }
+///     }
+///     unreachable!()
+/// }
+///
+/// let lock: FairMutex<u64> = FairMutex::new(5);
+/// let guard = lock.lock(&rt);
 /// let waiting = begin(&lock).err().expect(&rt, "held");
+/// assert_eq!(rt; looks(&waiting), 0);
+/// drop(guard);
+/// assert_eq!(rt; *finish(&rt, waiting), 5);
 /// ```
 pub fn begin<'a, T, R>(
     lock: &'a FairMutex<T, R>,
@@ -35,11 +55,6 @@ pub fn begin<'a, T, R>(
 ///
 /// # Contract
 /// The guard belongs to a holder of the lock (`IsHolder`).
-///
-/// # Examples
-/// ```
-/// look_and_try(rt, waiting)
-/// ```
 pub fn look_and_try<'a, T, R: RelaxStrategy, W: Wait>(
     rt: &W,
     waiting: Waiting<'a, T>,
@@ -53,11 +68,6 @@ pub fn look_and_try<'a, T, R: RelaxStrategy, W: Wait>(
 }
 
 /// Returns how many looks have found the lock held, until there are enough to starve.
-///
-/// # Examples
-/// ```
-/// equal(&rt, looks(&waiting), 1);
-/// ```
 pub fn looks<T>(waiting: &Waiting<'_, T>) -> usize {
     waiting.spins
 }

@@ -1,0 +1,38 @@
+//! The numbers of the tickets inside a mutex, as `spin_ticket::tickets` has them. Begin at [`next`].
+use crate::mutex::Mutex;
+use spin_ticket::tickets;
+
+/// Returns the number of the next ticket: after [`Mutex::new`], how many tickets were taken.
+///
+/// # Contract
+/// No clause. The call returns.
+///
+/// # Examples
+/// ```
+/// use spin_mutex::mutex::Mutex;
+/// use spin_mutex::tickets::next;
+///
+/// let mutex: Mutex<u64> = Mutex::new(5);
+/// drop(mutex.lock(&rt));
+/// assert_eq!(rt; next(&mutex), 1);
+/// ```
+pub fn next<T, R>(mutex: &Mutex<T, R>) -> u64 {
+    tickets::next(&mutex.inner)
+}
+
+/// Creates an unlocked mutex whose first ticket has the number `first`. With a late one, tickets are soon used up.
+///
+/// # Contract
+/// No clause. The call returns.
+///
+/// # Examples
+/// ```
+/// use spin_mutex::mutex::Mutex;
+/// use spin_mutex::tickets::starting_at;
+///
+/// let mutex: Mutex<u64> = starting_at(5, u64::MAX);
+/// assert!(rt; mutex.try_lock().is_none());
+/// ```
+pub fn starting_at<T, R>(value: T, first: u64) -> Mutex<T, R> {
+    Mutex::over(tickets::starting_at(value, first))
+}

@@ -1,0 +1,44 @@
+//! The numbers of the tickets: how many threads have come, and a lock that soon has no ticket left. Begin at [`next`].
+use crate::ticket::TicketMutex;
+
+/// Returns the number of the next ticket.
+///
+/// The first ticket of [`TicketMutex::new`] has the number 0. So this is how many tickets were taken: a caller can say
+/// how busy a lock is, without a counter beside it.
+///
+/// # Contract
+/// No clause. The call returns.
+///
+/// # Examples
+/// ```
+/// use spin_ticket::ticket::TicketMutex;
+/// use spin_ticket::tickets::next;
+///
+/// let lock: TicketMutex<u64> = TicketMutex::new(5);
+/// drop(lock.lock(&rt));
+/// drop(lock.lock(&rt));
+/// assert_eq!(rt; next(&lock), 2);
+/// ```
+pub fn next<T, R>(lock: &TicketMutex<T, R>) -> u64 {
+    lock.look().1
+}
+
+/// Creates an unlocked mutex whose first ticket has the number `first`.
+///
+/// Tickets are used up after 2^64 - 1 calls. With a late first ticket a caller can try out what its program then does.
+///
+/// # Contract
+/// No clause. The call returns.
+///
+/// # Examples
+/// ```
+/// use spin_ticket::ticket::TicketMutex;
+/// use spin_ticket::tickets::starting_at;
+///
+/// let lock: TicketMutex<u64> = starting_at(5, u64::MAX - 1);
+/// assert!(rt; lock.try_lock().is_some());
+/// assert!(rt; lock.try_lock().is_none());
+/// ```
+pub fn starting_at<T, R>(value: T, first: u64) -> TicketMutex<T, R> {
+    TicketMutex::starting_at(value, first)
+}
