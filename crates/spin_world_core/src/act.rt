@@ -24,8 +24,8 @@ pub enum Act<W, V, L, A> {
     Store(W, Next<L, A>),
     /// A store that completes a closure, which has made this value.
     Complete(W, V, Next<L, A>),
-    /// An exchange. It wins if there are words after it; then the call continues in the first way. Else it loses, and the
-    /// call continues in the second way.
+    /// An exchange. It wins if there are words after it; then the call continues in the first way. Else it loses, and
+    /// the call continues in the second way.
     Exchange(Option<W>, Next<L, A>, Next<L, A>),
     /// An exchange that may also fail spuriously. The call then continues as after one that loses.
     WeakExchange(Option<W>, Next<L, A>, Next<L, A>),
@@ -35,8 +35,9 @@ impl<W: Copy, V, L: Copy, A: Copy> Act<W, V, L, A> {
     /// Returns the step of a call that repeats its exchange with the number that it finds.
     ///
     /// # Contract
-    /// If the word is still the one found before (`is_found`), the step is the exchange. Else it is a load. The call then
-    /// continues with `found` if the step function allows the exchange of the word found now, and else with `missed`.
+    /// If the word is still the one found before (`is_found`), the step is the exchange. Else it is a load. The call
+    /// then continues with `found` if the step function allows the exchange of the word found now, and else with
+    /// `missed`.
     pub fn retry(
         is_found: bool,
         to: Option<W>,

@@ -246,10 +246,8 @@ impl<O: Object, A: Allocator> Table<O, A> {
         }
     }
 
-    /// Makes the next step of the party's call. If `is_weak`, that step fails spuriously, or it is no weak exchange and the
-    /// move is skipped.
-    //
-    // One call of `next_act`: where it is inlined, no `Act` is built.
+    /// Makes the next step of the party's call. If `is_weak`, that step fails spuriously; a step that cannot is skipped.
+    // It calls `next_act` at one place, so that the compiler inlines it and builds no `Act`.
     fn step(
         &mut self,
         object: &O,
@@ -260,7 +258,8 @@ impl<O: Object, A: Allocator> Table<O, A> {
         requires there { slice_get self.old.seats party ≡ Some seat }
         requires can { CanStep (O.machine object.now) self.old }
         ensures { let m = O.machine object.now in let s = self.old in
-            record { outcome = result; next = self.new } ≡ either is_weak (weakly m s party seat) (steps m s party seat) }
+            let happened = either is_weak (weakly m s party seat) (steps m s party seat) in
+            record { outcome = result; next = self.new } ≡ happened }
     {
         let Seat::Calling(call, local, holds) = seat else {
             return Outcome::Skipped;
