@@ -1,17 +1,16 @@
 -- The calls of a latch, step by step, what each step is in the plain lock, and what kind of lock a latch is.
-use Rattle.std.specs.Prelude.{ℕ, Bool, true, false, ◌==◌, Option, Some, None, List, [], ◌∷◌, is_some, nat_lt}
+use Rattle.std.specs.Prelude.{ℕ, Bool, true, false, Option, Some, None, List, [], ◌∷◌, nat_lt}
 use Rattle.spin_step.specs.Plain.{reading, writing, Change, gets, releases, to_read, to_write}
 use Rattle.spin_model.specs.declared.place.Hold.{Hold}
 use Rattle.spin_model.specs.declared.place.Hold.TheVariants.{Read, Write}
 use Rattle.spin_model.specs.declared.step.Next.{Next}
 use Rattle.spin_model.specs.declared.step.Next.TheVariants.{Continue, Answers}
-use Rattle.spin_model.specs.declared.step.Stepped.{Stepped}
 use Rattle.spin_model.specs.declared.answer.Answer.{Answer}
 use Rattle.spin_model.specs.declared.answer.Answer.TheVariants.{Granted, Refused, Done}
 use Rattle.spin_model.specs.Calls.{Asked, LockKind, usual}
 use Rattle.spin_model.specs.Asks.{gives_back, is_read, is_write, looks_and_tries, spins_to_write, tries, waits}
 use Rattle.spin_model.specs.Machines.{Machine}
-use Rattle.spin_model.specs.Acts.{one_number, Act, load_for, exchange, weak_exchange, retry, store, swap, either, stays, retried, Table, machine_of}
+use Rattle.spin_model.specs.Acts.{one_number, Act, load_for, exchange, weak_exchange, retry, store, swap, Table, machine_of}
 use Rattle.spin_model.specs.Tables.{usual_table}
 use Rattle.spin_model.specs.Operations.{subtracts}
 use Rattle.spin_core_tests.specs.Latch.{latch_limit, latch_word, let_in, taken}
@@ -50,11 +49,6 @@ goes_for w = Continue (Exchange w)
 abbrev pub comes_by : Next LatchPoint (Answer (Unit {0})) → LatchPoint → Act ℕ LatchPoint (Answer (Unit {0}))
 comes_by missed First = load_for let_in (λ p. gets p to_read) goes_for missed
 comes_by missed (Exchange k) = retry k let_in (λ p. gets p to_read) (granted Read) goes_for missed
-
--- the outcome of that call's step, if the step function returns `to`
-abbrev pub comes_at : LatchPoint → ℕ → Option ℕ → Next LatchPoint (Answer (Unit {0})) → Stepped ℕ (Unit {0}) LatchPoint (Answer (Unit {0}))
-comes_at First w to missed = stays w (either (is_some to) (goes_for w) missed)
-comes_at (Exchange k) w to missed = retried (λ n. n) (w == k) w to (granted Read) (goes_for w) missed
 
 abbrev pub act_of : LatchCall → LatchPoint → Option Hold → Act ℕ LatchPoint (Answer (Unit {0}))
 act_of call.TryRead l h = comes_by (Answers Refused h) l

@@ -1,12 +1,11 @@
 -- The calls of a lock of seats, step by step, and what each step is in the plain lock.
-use Rattle.std.specs.Prelude.{ℕ, ◌==◌, Option, Some, None, is_some, nat_lt}
+use Rattle.std.specs.Prelude.{ℕ, Option, Some, None, nat_lt}
 use Rattle.spin_step.specs.Plain.{reading, to_read, gets, releases}
 use Rattle.spin_seats.specs.Seats.{seats, entered}
 use Rattle.spin_model.specs.declared.place.Hold.{Hold}
 use Rattle.spin_model.specs.declared.place.Hold.TheVariants.{Read}
 use Rattle.spin_model.specs.declared.step.Next.{Next}
 use Rattle.spin_model.specs.declared.step.Next.TheVariants.{Continue, Answers}
-use Rattle.spin_model.specs.declared.step.Stepped.{Stepped}
 use Rattle.spin_model.specs.declared.answer.Answer.{Answer}
 use Rattle.spin_model.specs.declared.answer.Answer.TheVariants.{Granted, Refused, Done, Count}
 use Rattle.spin_seats.specs.declared.calls.SeatsCall.{SeatsCall}
@@ -17,7 +16,7 @@ use Rattle.spin_model.specs.Calls.{Asked}
 use Rattle.spin_model.specs.Asks.{is_read, looks_and_tries, waits, counts_readers, gives_back}
 use Rattle.spin_seats.specs.Kind as kind
 use Rattle.spin_model.specs.Machines.{Machine}
-use Rattle.spin_model.specs.Acts.{one_number, Act, load, load_for, retry, store, either, stays, retried, Table, machine_of}
+use Rattle.spin_model.specs.Acts.{one_number, Act, load, load_for, retry, store, Table, machine_of}
 use Rattle.spin_model.specs.Tables.{usual_table}
 use Rattle.spin_model.specs.Operations.{subtracts}
 
@@ -35,11 +34,6 @@ goes_for w = Continue (Exchange w)
 abbrev pub comes_by : ℕ → Answered → SeatsPoint → Act ℕ SeatsPoint (Answer (Unit {0}))
 comes_by n missed First = load_for (entered n) (λ p. gets p to_read) goes_for missed
 comes_by n missed (Exchange k) = retry k (entered n) (λ p. gets p to_read) granted goes_for missed
-
--- the outcome of that call's step, if the step function returns `to`
-abbrev pub comes_at : SeatsPoint → ℕ → Option ℕ → Answered → Stepped ℕ (Unit {0}) SeatsPoint (Answer (Unit {0}))
-comes_at First w to missed = stays w (either (is_some to) (goes_for w) missed)
-comes_at (Exchange k) w to missed = retried (λ n. n) (w == k) w to granted (goes_for w) missed
 
 abbrev pub act_of : ℕ → SeatsCall → SeatsPoint → Option Hold → Act ℕ SeatsPoint (Answer (Unit {0}))
 act_of n call.TryEnter l h = comes_by n (Answers Refused h) l

@@ -1,12 +1,11 @@
 -- The calls of the read-write lock, step by step, and what each step is in the plain lock.
-use Rattle.std.specs.Prelude.{ℕ, ◌-◌, ◌/◌, ◌==◌, ◌&&◌, Option, Some, None, is_some, nat_lt, min}
+use Rattle.std.specs.Prelude.{ℕ, ◌-◌, ◌/◌, ◌&&◌, Option, Some, None, nat_lt, min}
 use Rattle.spin_step.specs.Plain.{reading, upgradable, asking, writing, weight, Ask, to_read, to_read_upgradable, to_write, to_upgrade, to_upgrade_asked, gets, releases, turns}
 use Rattle.spin_step_more.specs.Readers.{reader_limit, readers_in, writers_in, tells, read, read_upgradable, write, upgrade, upgrade_asked}
 use Rattle.spin_model.specs.declared.place.Hold.{Hold}
 use Rattle.spin_model.specs.declared.place.Hold.TheVariants as hold
 use Rattle.spin_model.specs.declared.step.Next.{Next}
 use Rattle.spin_model.specs.declared.step.Next.TheVariants.{Continue, Answers}
-use Rattle.spin_model.specs.declared.step.Stepped.{Stepped}
 use Rattle.spin_model.specs.declared.answer.Answer.{Answer}
 use Rattle.spin_model.specs.declared.answer.Answer.TheVariants.{Granted, Refused, Done, Count}
 use Rattle.spin_step_more.specs.declared.rw_calls.RwCall.{RwCall}
@@ -17,7 +16,7 @@ use Rattle.spin_model.specs.Calls.{Asked}
 use Rattle.spin_model.specs.Asks.{is_above_read, is_held_some, is_write, looks_and_tries, spins_to_write, waits_to_upgrade, waits, tries, tries_weakly, counts_readers, counts_writers, turns_to, gives_back}
 use Rattle.spin_step_more.specs.RwKind.{rw}
 use Rattle.spin_model.specs.Machines.{Machine}
-use Rattle.spin_model.specs.Acts.{one_number, Act, load, load_for, exchange, weak_exchange, retry, store, swap, either, stays, retried, Table, machine_of}
+use Rattle.spin_model.specs.Acts.{one_number, Act, load, load_for, exchange, weak_exchange, retry, store, swap, Table, machine_of}
 use Rattle.spin_model.specs.Tables.{usual_table}
 use Rattle.spin_model.specs.Operations.{adds, subtracts}
 
@@ -32,11 +31,6 @@ goes_for w = Continue (Exchange w)
 abbrev pub comes_by : {V : Type 0} → (ℕ → Option ℕ) → Ask → Hold → Next RwPoint (Answer V) → RwPoint → Act ℕ RwPoint (Answer V)
 comes_by f ask held missed (Exchange n) = retry n f (λ p. gets p ask) (granted held) goes_for missed
 comes_by f ask held missed _ = load_for f (λ p. gets p ask) goes_for missed
-
--- the outcome of that call's step, if the step function returns `to`
-abbrev pub comes_at : {V : Type 0} → RwPoint → ℕ → Option ℕ → Hold → Next RwPoint (Answer V) → Stepped ℕ V RwPoint (Answer V)
-comes_at (Exchange n) w to held missed = retried (λ k. k) (w == n) w to (granted held) (goes_for w) missed
-comes_at _ w to held missed = stays w (either (is_some to) (goes_for w) missed)
 
 -- Each call's steps. The waiting exchanges of `Write` and `Upgrade` are weak. `Upgrade` first asks to upgrade.
 -- A conversion and a release add or subtract an amount that depends on what is held.

@@ -1,6 +1,7 @@
 //! The barrier, as a table of the steps of its call. Begin with [`BarrierObject::new`] and [`BarrierCall`].
 ghost use Rattle.std.specs.Prelude.{◌≡◌, true};
-ghost use Rattle.spin_model.specs.Acts.{step_by, can_by};
+ghost use Rattle.spin_model.specs.Acts.{step_by, can_by, refusal_by};
+ghost use Rattle.spin_world_core.specs.Stepping.{result_of, refusal_of};
 ghost use Rattle.spin_world.specs.BarrierTable.{barrier_memory, word_of, act_of, barrier_machine};
 ghost use Rattle.spin_world.specs.Barrier.{IsBarrierOf};
 
@@ -9,7 +10,7 @@ mod laws;
 pub use laws::{a_follower_leaves_a_full_group, every_last_of_a_group_leads};
 use spin_step_more::barrier;
 use spin_step_more::barrier::State;
-use spin_world_core::{Answer, Hold, Next, Object, Stepped};
+use spin_world_core::{Act, Answer, Hold, Next, Object};
 
 /// The two words of a [`BarrierObject`].
 #[derive(Clone, Copy, Debug, PartialEq, Eq)]
@@ -109,16 +110,17 @@ impl Object for BarrierObject {
         }
     }
 
-    fn step(
+    fn next_act(
         &self,
         words: BarrierWords,
         value: Option<u64>,
         call: BarrierCall,
         local: BarrierPoint,
         holds: Option<Hold>,
-    ) -> Stepped<BarrierWords, u64, BarrierPoint, Answer<u64>>
+    ) -> Act<BarrierWords, u64, BarrierPoint, Answer<u64>>
         requires { can_by barrier_memory (word_of local) (act_of self.now.n local holds) words ≡ true }
-        ensures { result ≡ step_by barrier_memory (word_of local) (act_of self.now.n local holds) words }
+        ensures step { result_of result words ≡ step_by barrier_memory (word_of local) (act_of self.now.n local holds) words }
+        ensures refusal { refusal_of result ≡ refusal_by (act_of self.now.n local holds) }
     {
         let _ = (value, call);
         let BarrierWords { count, generation } = words;
@@ -139,7 +141,7 @@ impl Object for BarrierObject {
                 } else {
                     Next::Continue(BarrierPoint::Leave { generation })
                 };
-                Stepped::stay(words, next)
+                Act::Store(words, next)
             }
             BarrierPoint::Leave { generation: found } => {
                 let next = if generation != found {
@@ -147,19 +149,9 @@ impl Object for BarrierObject {
                 } else {
                     Next::Continue(local)
                 };
-                Stepped::stay(words, next)
+                Act::Load(next)
             }
         }
-    }
-
-    fn refuse(
-        &self,
-        call: BarrierCall,
-        local: BarrierPoint,
-        holds: Option<Hold>,
-    ) -> Option<Next<BarrierPoint, Answer<u64>>> {
-        let _ = (call, local, holds);
-        None
     }
 
     fn laws() {}

@@ -1,13 +1,13 @@
 //! The fair lock, as a table of the steps of its calls. Begin with [`Fair::new`] and [`FairCall`].
 //!
 //! A starver is a party that has registered in order to go first. All other parties are newcomers.
-ghost use Rattle.std.specs.Prelude.{◌≡◌, ◌≢◌, ◌<◌, ◌+◌, ◌-◌, ◌==◌, ◌%◌, true, is_some};
-ghost use Rattle.spin_model.specs.declared.step.Next.TheVariants.{Continue, Answers};
-ghost use Rattle.spin_model.specs.declared.answer.Answer.TheVariants.{Done};
-ghost use Rattle.spin_step_more.specs.declared.fair_calls.FairPoint.TheVariants.{Attempt, Register, SetFlag, Await};
-ghost use Rattle.spin_model.specs.Acts.{one_number, either, retried, step_by, can_by};
-ghost use Rattle.spin_step_more.specs.Starvers.{starve, is_set};
-ghost use Rattle.spin_step_more.specs.FairCalls.{granted, rejects, looks_on, finds_no_room, registered, finds_flag_set, act_of_first, act_of, fair_machine};
+ghost use Rattle.std.specs.Prelude.{◌≡◌, ◌≢◌, ◌<◌, ◌+◌, true};
+ghost use Rattle.spin_model.specs.declared.step.Next.TheVariants.{Continue};
+ghost use Rattle.spin_step_more.specs.declared.fair_calls.FairPoint.TheVariants.{Register};
+ghost use Rattle.spin_model.specs.Acts.{one_number, step_by, can_by, refusal_by};
+ghost use Rattle.spin_world_core.specs.Stepping.{result_of, refusal_of, tried_again};
+ghost use Rattle.spin_step_more.specs.Starvers.{starve};
+ghost use Rattle.spin_step_more.specs.FairCalls.{rejects, finds_no_room, registered, act_of_first, act_of, fair_machine};
 ghost use Rattle.spin_world.specs.Fair.{IsFairLock};
 
 mod laws;
@@ -18,7 +18,7 @@ pub use laws::{
 };
 use spin_step_more::fair::LockRejectReason;
 use spin_step_more::{FairCall, FairPoint, fair};
-use spin_world_core::{Answer, Hold, Next, Object, Stepped};
+use spin_world_core::{Act, Answer, Hold, Next, Object};
 
 /// The lock of a flag and a number of starvers, which go first.
 ///
@@ -91,125 +91,66 @@ fn reject<V: Copy>(word: usize, holds: Option<Hold>) -> Next<FairPoint, Answer<V
 }
 
 impl<V: Copy> Fair<V> {
-    /// Returns how `Lock` continues after a look, if this many earlier looks found the flag set.
-    fn look(&self, word: usize, looks: usize) -> Next<FairPoint, Answer<V>>
-        ensures { result ≡ either (is_set word) (looks_on self.now.patience looks) (Continue (Attempt looks)) }
-    {
-        Next::Continue(if !fair::is_locked(word) {
-            FairPoint::Attempt(looks)
-        } else if looks < self.patience {
-            FairPoint::Look(looks + 1)
-        } else {
-            FairPoint::Load
-        })
-    }
-
-    /// Returns how a call continues if as many parties starve as the cap says.
-    fn find_no_room(&self, call: FairCall, holds: Option<Hold>) -> Next<FairPoint, Answer<V>>
-        ensures { result ≡ finds_no_room self.now.patience call holds }
-    {
-        match call {
-            FairCall::Lock => Next::Continue(FairPoint::Look(self.patience)),
-            _ => Next::Answers(Answer::Refused, holds),
-        }
-    }
-
-    /// Returns how a call continues after it has loaded this word in order to register.
-    fn go_to_register(
-        &self,
-        call: FairCall,
-        word: usize,
-        holds: Option<Hold>,
-    ) -> Next<FairPoint, Answer<V>>
-        ensures { result ≡ either (is_some (starve self.now.cap word)) (Continue (Register word)) (finds_no_room self.now.patience call holds) }
-    {
-        match fair::starve(word, self.cap) {
-            Some(_) => Next::Continue(FairPoint::Register(word)),
-            None => self.find_no_room(call, holds),
-        }
-    }
-
-    /// Makes the exchange that registers, if the word is still the one found before.
+    /// Makes the step of a call that registers. If `is_found`, it is the exchange, and else a load before it.
     fn register(
         &self,
         call: FairCall,
         word: usize,
-        found: usize,
+        is_found: bool,
         holds: Option<Hold>,
-    ) -> Stepped<usize, V, FairPoint, Answer<V>>
-        ensures { result ≡ retried (λ w. w) (word == found) word (starve self.now.cap word) (registered call) (Continue (Register word)) (finds_no_room self.now.patience call holds) }
+    ) -> Act<usize, V, FairPoint, Answer<V>>
+        ensures { result ≡ tried_again is_found (starve self.now.cap word) (registered call) (Continue (Register word)) (finds_no_room self.now.patience call holds) }
     {
-        if word != found {
-            return Stepped::stay(word, self.go_to_register(call, word, holds));
+        let to = fair::starve(word, self.cap);
+        let found = Next::Continue(FairPoint::Register(word));
+        if let FairCall::Lock = call {
+            let missed = Next::Continue(FairPoint::Look(self.patience));
+            Act::retry(
+                is_found,
+                to,
+                Next::Continue(FairPoint::SetFlag),
+                found,
+                missed,
+            )
+        } else {
+            let won = Next::Answers(Answer::Granted, Some(Hold::Starver));
+            Act::retry(
+                is_found,
+                to,
+                won,
+                found,
+                Next::Answers(Answer::Refused, holds),
+            )
         }
-        let won = match call {
-            FairCall::Lock => Next::Continue(FairPoint::SetFlag),
-            _ => Next::Answers(Answer::Granted, Some(Hold::Starver)),
-        };
-        Stepped::exchange(
-            word,
-            fair::starve(word, self.cap),
-            won,
-            self.find_no_room(call, holds),
-        )
     }
-}
-
-/// Returns how a starver's call continues if it finds the flag set.
-fn find_flag_set<V: Copy>(call: FairCall, holds: Option<Hold>) -> Next<FairPoint, Answer<V>>
-    ensures { result ≡ finds_flag_set call holds }
-{
-    match call {
-        FairCall::StarverTryLock => Next::Answers(Answer::Refused, holds),
-        _ => Next::Continue(FairPoint::Await),
-    }
-}
-
-/// Returns how a starver's call continues after its look at the flag.
-fn await_clear<V: Copy>(word: usize) -> Next<FairPoint, Answer<V>>
-    ensures { result ≡ either (is_set word) (Continue Await) (Continue SetFlag) }
-{
-    Next::Continue(if fair::is_locked(word) {
-        FairPoint::Await
-    } else {
-        FairPoint::SetFlag
-    })
-}
-
-/// Returns the answer of a call that has acquired the lock.
-fn grant<V: Copy>() -> Next<FairPoint, Answer<V>>
-    ensures { result ≡ granted }
-{
-    Next::Answers(Answer::Granted, Some(Hold::Write))
 }
 
 /// Makes the step of a call with one step, or the first step of `StarverTryLockFair`.
-fn step_first<V: Copy>(
+fn first_act<V: Copy>(
     word: usize,
     call: FairCall,
     holds: Option<Hold>,
-) -> Stepped<usize, V, FairPoint, Answer<V>>
+) -> Act<usize, V, FairPoint, Answer<V>>
     requires { can_by one_number 0 (act_of_first {V = V} call holds) word ≡ true }
-    ensures { result ≡ step_by one_number 0 (act_of_first call holds) word }
+    ensures step { result_of result word ≡ step_by one_number 0 (act_of_first call holds) word }
+    ensures refusal { refusal_of result ≡ refusal_by (act_of_first {V = V} call holds) }
 {
+    let granted = Next::Answers(Answer::Granted, Some(Hold::Write));
     let refused = Next::Answers(Answer::Refused, holds);
     let done = Next::Answers(Answer::Done, None);
     match call {
-        FairCall::TryLock => Stepped::exchange(word, fair::lock(word), grant(), refused),
+        FairCall::TryLock => Act::Exchange(fair::lock(word), granted, refused),
         FairCall::TryLockStarver => match fair::lock(word) {
-            Some(taken) => Stepped::stay(taken, grant()),
-            None => Stepped::stay(word, reject(word, holds)),
+            None => Act::Load(reject(word, holds)),
+            taken => Act::Exchange(taken, granted, refused),
         },
         FairCall::StarverTryLockFair => {
             let won = Next::Continue(FairPoint::Unregister);
-            Stepped::exchange(word, fair::lock_fair(word), won, refused)
+            Act::Exchange(fair::lock_fair(word), won, refused)
         }
-        FairCall::StarverDrop => Stepped::stay(fair::unstarve(word), done),
-        FairCall::Release => Stepped::stay(fair::unlock(word), done),
-        _ => Stepped::stay(
-            word,
-            Next::Answers(Answer::Is(fair::is_locked(word)), holds),
-        ),
+        FairCall::StarverDrop => Act::Store(fair::unstarve(word), done),
+        FairCall::Release => Act::Store(fair::unlock(word), done),
+        _ => Act::Load(Next::Answers(Answer::Is(fair::is_locked(word)), holds)),
     }
 }
 
@@ -256,50 +197,49 @@ impl<V: Copy> Object for Fair<V> {
         }
     }
 
-    fn refuse(
-        &self,
-        call: FairCall,
-        local: FairPoint,
-        holds: Option<Hold>,
-    ) -> Option<Next<FairPoint, Answer<V>>> {
-        let _ = (call, holds);
-        match local {
-            FairPoint::Attempt(looks) => Some(Next::Continue(FairPoint::Look(looks))),
-            _ => None,
-        }
-    }
-
-    fn step(
+    fn next_act(
         &self,
         words: usize,
         value: Option<V>,
         call: FairCall,
         local: FairPoint,
         holds: Option<Hold>,
-    ) -> Stepped<usize, V, FairPoint, Answer<V>>
+    ) -> Act<usize, V, FairPoint, Answer<V>>
         requires { can_by one_number 0 (act_of {V = V} self.now.cap self.now.patience call local holds) words ≡ true }
-        ensures { result ≡ step_by one_number 0 (act_of self.now.cap self.now.patience call local holds) words }
+        ensures step { result_of result words ≡ step_by one_number 0 (act_of self.now.cap self.now.patience call local holds) words }
+        ensures refusal { refusal_of result ≡ refusal_by (act_of {V = V} self.now.cap self.now.patience call local holds) }
     {
         let _ = value;
+        let granted = Next::Answers(Answer::Granted, Some(Hold::Write));
         match local {
-            FairPoint::First => step_first(words, call, holds),
-            FairPoint::Attempt(looks) => Stepped::exchange(
-                words,
-                fair::lock(words),
-                grant(),
-                Next::Continue(FairPoint::Look(looks)),
-            ),
-            FairPoint::Look(looks) => Stepped::stay(words, self.look(words, looks)),
-            FairPoint::Load => Stepped::stay(words, self.go_to_register(call, words, holds)),
-            FairPoint::Register(found) => self.register(call, words, found, holds),
-            FairPoint::SetFlag => Stepped::exchange(
-                words,
-                fair::lock_starved(words),
-                Next::Continue(FairPoint::Unregister),
-                find_flag_set(call, holds),
-            ),
-            FairPoint::Await => Stepped::stay(words, await_clear(words)),
-            FairPoint::Unregister => Stepped::stay(fair::unstarve(words), grant()),
+            FairPoint::First => first_act(words, call, holds),
+            FairPoint::Attempt(looks) => {
+                let lost = Next::Continue(FairPoint::Look(looks));
+                Act::WeakExchange(fair::lock(words), granted, lost)
+            }
+            FairPoint::Look(looks) => Act::Load(Next::Continue(if !fair::is_locked(words) {
+                FairPoint::Attempt(looks)
+            } else if looks < self.patience {
+                FairPoint::Look(looks + 1)
+            } else {
+                FairPoint::Load
+            })),
+            FairPoint::Load => self.register(call, words, false, holds),
+            FairPoint::Register(found) => self.register(call, words, words == found, holds),
+            FairPoint::SetFlag => {
+                let lost = match call {
+                    FairCall::StarverTryLock => Next::Answers(Answer::Refused, holds),
+                    _ => Next::Continue(FairPoint::Await),
+                };
+                let won = Next::Continue(FairPoint::Unregister);
+                Act::Exchange(fair::lock_starved(words), won, lost)
+            }
+            FairPoint::Await => Act::Load(Next::Continue(if fair::is_locked(words) {
+                FairPoint::Await
+            } else {
+                FairPoint::SetFlag
+            })),
+            FairPoint::Unregister => Act::Store(fair::unstarve(words), granted),
         }
     }
 

@@ -1,10 +1,8 @@
 //! The lock of one flag, as a table of the steps of its calls. Begin with [`Flag::new`] and [`FlagCall`].
 ghost use Rattle.std.specs.Prelude.{◌≡◌, true};
-ghost use Rattle.spin_step.specs.Steps.{bit};
-ghost use Rattle.spin_model.specs.Acts.{becomes, step_by, can_by};
-ghost use Rattle.std.specs.Option.{option_map};
-ghost use Rattle.spin_step.specs.Flags.{lock};
-ghost use Rattle.spin_model.specs.Flag.{is_set, flag_memory, granted, act_of, flag_machine};
+ghost use Rattle.spin_model.specs.Acts.{step_by, can_by, refusal_by};
+ghost use Rattle.spin_model.specs.Flag.{flag_memory, act_of, flag_machine};
+ghost use Rattle.spin_world_core.specs.Stepping.{result_of, refusal_of};
 ghost use Rattle.spin_world.specs.Flag.{IsFlag};
 
 mod laws;
@@ -12,7 +10,7 @@ mod laws;
 pub use laws::a_flag_is_clear_when_nobody_holds;
 use spin_model::{FlagCall, FlagPoint};
 use spin_step::flag;
-use spin_world_core::{Answer, Hold, Next, Object, Stepped};
+use spin_world_core::{Act, Answer, Hold, Next, Object};
 
 /// The lock of one flag. The flag is set while a party holds the lock.
 #[derive(Clone, Copy, PartialEq, Eq)]
@@ -31,19 +29,6 @@ impl<V: Copy> Flag<V> {
         ensures named { IsFlag value (⟦<Flag<V> as Object>⟧.machine result) }
     {
         Flag { value }
-    }
-}
-
-/// Makes the exchange that acquires the lock if it is free. If it is held, the call continues with `refusal`.
-fn exchange<V: Copy>(
-    words: bool,
-    refusal: Next<FlagPoint, Answer<V>>,
-) -> Stepped<bool, V, FlagPoint, Answer<V>>
-    ensures { result ≡ becomes is_set words (option_map bit (lock words)) granted refusal }
-{
-    match flag::lock(words) {
-        Some(taken) => Stepped::stay(taken, Next::Answers(Answer::Granted, Some(Hold::Write))),
-        None => Stepped::stay(words, refusal),
     }
 }
 
@@ -81,53 +66,36 @@ impl<V: Copy> Object for Flag<V> {
         }
     }
 
-    fn refuse(
-        &self,
-        call: FlagCall,
-        local: FlagPoint,
-        holds: Option<Hold>,
-    ) -> Option<Next<FlagPoint, Answer<V>>> {
-        match (call, local) {
-            (FlagCall::Lock, FlagPoint::First) => Some(Next::Continue(FlagPoint::Second)),
-            (FlagCall::TryLockWeak, _) => Some(Next::Answers(Answer::Refused, holds)),
-            _ => None,
-        }
-    }
-
-    fn step(
+    fn next_act(
         &self,
         words: bool,
         value: Option<V>,
         call: FlagCall,
         local: FlagPoint,
         holds: Option<Hold>,
-    ) -> Stepped<bool, V, FlagPoint, Answer<V>>
+    ) -> Act<bool, V, FlagPoint, Answer<V>>
         requires { can_by flag_memory 0 (act_of {V = V} call local holds) words ≡ true }
-        ensures { result ≡ step_by flag_memory 0 (act_of call local holds) words }
+        ensures step { result_of result words ≡ step_by flag_memory 0 (act_of call local holds) words }
+        ensures refusal { refusal_of result ≡ refusal_by (act_of {V = V} call local holds) }
     {
         let _ = value;
+        let granted = Next::Answers(Answer::Granted, Some(Hold::Write));
+        let refused = Next::Answers(Answer::Refused, holds);
         match (call, local) {
-            (FlagCall::Lock, FlagPoint::First) => exchange(
-                words,
-                Next::Continue(FlagPoint::Second),
-            ),
-            (FlagCall::Lock, FlagPoint::Second) => Stepped::stay(
-                words,
-                Next::Continue(if words {
-                    FlagPoint::Second
-                } else {
-                    FlagPoint::First
-                }),
-            ),
-            (FlagCall::TryLock | FlagCall::TryLockWeak, _) => {
-                exchange(words, Next::Answers(Answer::Refused, holds))
+            (FlagCall::Lock, FlagPoint::First) => {
+                let lost = Next::Continue(FlagPoint::Second);
+                Act::WeakExchange(flag::lock(words), granted, lost)
             }
-            (FlagCall::IsLocked, _) => Stepped::stay(
-                words,
-                Next::Answers(Answer::Is(words), holds),
-            ),
+            (FlagCall::Lock, FlagPoint::Second) => Act::Load(Next::Continue(if words {
+                FlagPoint::Second
+            } else {
+                FlagPoint::First
+            })),
+            (FlagCall::TryLock, _) => Act::Exchange(flag::lock(words), granted, refused),
+            (FlagCall::TryLockWeak, _) => Act::WeakExchange(flag::lock(words), granted, refused),
+            (FlagCall::IsLocked, _) => Act::Load(Next::Answers(Answer::Is(words), holds)),
             (FlagCall::Release, _) => {
-                Stepped::stay(flag::unlock(words), Next::Answers(Answer::Done, None))
+                Act::Store(flag::unlock(words), Next::Answers(Answer::Done, None))
             }
         }
     }

@@ -1,6 +1,7 @@
 //! The `Once`, as a table of the steps of its calls. Begin with [`OnceObject::new`] and [`OnceCall`].
 ghost use Rattle.std.specs.Prelude.{◌≡◌, Some, None, true};
 ghost use Rattle.spin_model.specs.Acts.{one_number, either, step_by, can_by, completes_by, filled, step_with};
+ghost use Rattle.spin_world_core.specs.Stepping.{result_of, refusal_of};
 ghost use Rattle.spin_model.specs.Once.{is_there, tells, runs, ends, brings_of, act_of, once_machine};
 ghost use Rattle.spin_world.specs.Once.{IsOnceOf};
 
@@ -13,7 +14,7 @@ pub use laws::{
 };
 use spin_model::{OnceCall, OncePoint};
 use spin_step::once;
-use spin_world_core::{Answer, Hold, Next, Object, Stepped};
+use spin_world_core::{Act, Answer, Hold, Next, Object};
 
 /// The cell that is filled once, by the first closure that gives a value.
 ///
@@ -96,37 +97,34 @@ fn run<V: Copy>(
     made: Option<V>,
     local: OncePoint,
     holds: Option<Hold>,
-) -> Stepped<u8, V, OncePoint, Answer<V>>
+) -> Act<u8, V, OncePoint, Answer<V>>
     requires { can_by one_number 0 (runs (ends made holds) local holds) words ≡ true }
-    ensures { result ≡ step_with value made (completes_by (runs (ends made holds) local holds)) (step_by one_number 0 (runs (ends made holds) local holds) words) }
+    ensures step { result_of result words ≡ step_with value made (completes_by (runs (ends made holds) local holds)) (step_by one_number 0 (runs (ends made holds) local holds) words) }
+    ensures refusal { refusal_of result ≡ None }
 {
     match local {
         OncePoint::Look => {
             let other = Next::Continue(OncePoint::TryBegin);
-            Stepped::stay(words, look(words, value, holds, other))
+            Act::Load(look(words, value, holds, other))
         }
-        OncePoint::TryBegin => match once::begin(words) {
-            Some(running) => Stepped::stay(running, Next::Continue(OncePoint::Run)),
-            None => {
-                let other = Next::Continue(OncePoint::Await);
-                Stepped::stay(words, look(words, value, holds, other))
-            }
-        },
+        OncePoint::TryBegin => {
+            let lost = look(words, value, holds, Next::Continue(OncePoint::Await));
+            Act::Exchange(once::begin(words), Next::Continue(OncePoint::Run), lost)
+        }
         OncePoint::Await => {
             let other = Next::Continue(if words == 0 {
                 OncePoint::TryBegin
             } else {
                 OncePoint::Await
             });
-            Stepped::stay(words, look(words, value, holds, other))
+            Act::Load(look(words, value, holds, other))
         }
         OncePoint::Run => match made {
-            Some(made) => Stepped {
-                words: once::complete(words),
-                placed: Some(made),
-                next: Next::Answers(Answer::Value(made), holds),
-            },
-            None => Stepped::stay(once::fail(words), Next::Answers(Answer::Failed, holds)),
+            Some(made) => {
+                let answer = Next::Answers(Answer::Value(made), holds);
+                Act::Complete(once::complete(words), made, answer)
+            }
+            None => Act::Store(once::fail(words), Next::Answers(Answer::Failed, holds)),
         },
     }
 }
@@ -167,52 +165,40 @@ impl<V: Copy> Object for OnceObject<V> {
         }
     }
 
-    fn refuse(
-        &self,
-        call: OnceCall<V>,
-        local: OncePoint,
-        holds: Option<Hold>,
-    ) -> Option<Next<OncePoint, Answer<V>>> {
-        let _ = (call, local, holds);
-        None
-    }
-
-    fn step(
+    fn next_act(
         &self,
         words: u8,
         value: Option<V>,
         call: OnceCall<V>,
         local: OncePoint,
         holds: Option<Hold>,
-    ) -> Stepped<u8, V, OncePoint, Answer<V>>
+    ) -> Act<u8, V, OncePoint, Answer<V>>
         requires { can_by one_number 0 (act_of call local holds) words ≡ true }
-        ensures { result ≡ step_with value (brings_of call) (completes_by (act_of call local holds)) (step_by one_number 0 (act_of call local holds) words) }
+        ensures step { result_of result words ≡ step_with value (brings_of call) (completes_by (act_of call local holds)) (step_by one_number 0 (act_of call local holds) words) }
+        ensures refusal { refusal_of result ≡ None }
     {
         match call {
             OnceCall::CallOnce(made)
             | OnceCall::TryCallOnceOk(made)
-            | OnceCall::InitFromRef(made) => { run(words, value, Some(made), local, holds) }
+            | OnceCall::InitFromRef(made) => run(words, value, Some(made), local, holds),
             OnceCall::TryCallOnceErr => run(words, value, None, local, holds),
-            OnceCall::Wait => Stepped::stay(
-                words,
-                look(words, value, holds, Next::Continue(OncePoint::Look)),
-            ),
+            OnceCall::Wait => {
+                let other = Next::Continue(OncePoint::Look);
+                Act::Load(look(words, value, holds, other))
+            }
             OnceCall::Poll => {
                 let other = if words == 0 {
                     Next::Answers(Answer::NoValue, holds)
                 } else {
                     Next::Continue(OncePoint::Look)
                 };
-                Stepped::stay(words, look(words, value, holds, other))
+                Act::Load(look(words, value, holds, other))
             }
             OnceCall::Get => {
                 let other = Next::Answers(Answer::NoValue, holds);
-                Stepped::stay(words, look(words, value, holds, other))
+                Act::Load(look(words, value, holds, other))
             }
-            OnceCall::IsCompleted => Stepped::stay(
-                words,
-                Next::Answers(Answer::Is(words == 2), holds),
-            ),
+            OnceCall::IsCompleted => Act::Load(Next::Answers(Answer::Is(words == 2), holds)),
         }
     }
 

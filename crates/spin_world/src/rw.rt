@@ -1,9 +1,8 @@
 //! The read-write lock, as a table of the steps of its calls. Begin with [`Rw::new`] and [`RwCall`].
-ghost use Rattle.std.specs.Prelude.{◌≡◌, ◌≤◌, ◌==◌, true};
-ghost use Rattle.spin_model.specs.Acts.{one_number, becomes, stays, step_by, can_by};
-ghost use Rattle.spin_model.specs.declared.step.Next.TheVariants.{Answers};
-ghost use Rattle.spin_model.specs.declared.answer.Answer.TheVariants.{Done};
-ghost use Rattle.spin_step_more.specs.RwCalls.{granted, comes_at, act_of, rw_machine};
+ghost use Rattle.std.specs.Prelude.{◌≡◌, ◌≤◌, true};
+ghost use Rattle.spin_model.specs.Acts.{one_number, step_by, can_by, refusal_by};
+ghost use Rattle.spin_world_core.specs.Stepping.{result_of, refusal_of};
+ghost use Rattle.spin_step_more.specs.RwCalls.{act_of, rw_machine};
 ghost use Rattle.spin_world.specs.Rw.{IsRw};
 
 mod laws;
@@ -14,7 +13,7 @@ pub use laws::{
 };
 use spin_step_more::rw;
 use spin_step_more::rw_calls::{RwCall, RwPoint};
-use spin_world_core::{Answer, Hold, Next, Object, Stepped};
+use spin_world_core::{Act, Answer, Hold, Next, Object};
 
 /// The lock of readers, one upgradable reader and one writer, in one word.
 ///
@@ -54,43 +53,6 @@ impl<V: Copy> Rw<V> {
     {
         Rw { value, cap }
     }
-}
-
-/// Makes a step that stores the new word if there is one, and grants `hold`. If there is none, the call continues with
-/// `lost`.
-fn exchange<V: Copy>(
-    words: usize,
-    to: Option<usize>,
-    hold: Hold,
-    lost: Next<RwPoint, Answer<V>>,
-) -> Stepped<usize, V, RwPoint, Answer<V>>
-    ensures { result ≡ becomes (λ w. w) words to (granted hold) lost }
-{
-    Stepped::exchange(words, to, Next::Answers(Answer::Granted, Some(hold)), lost)
-}
-
-/// Makes a step of a call that acquires shared access. `to` is the word after it has, if the word found admits it.
-fn come<V: Copy>(
-    point: RwPoint,
-    words: usize,
-    to: Option<usize>,
-    hold: Hold,
-    missed: Next<RwPoint, Answer<V>>,
-) -> Stepped<usize, V, RwPoint, Answer<V>>
-    ensures { result ≡ comes_at point words to hold missed }
-{
-    match point {
-        RwPoint::Exchange(found) if found == words => exchange(words, to, hold, missed),
-        _ if to.is_some() => Stepped::stay(words, Next::Continue(RwPoint::Exchange(words))),
-        _ => Stepped::stay(words, missed),
-    }
-}
-
-/// Makes the step that stores this word and ends the call. Afterwards the party holds `holds`.
-fn done<V: Copy>(words: usize, holds: Option<Hold>) -> Stepped<usize, V, RwPoint, Answer<V>>
-    ensures { result ≡ stays words (Answers Done holds) }
-{
-    Stepped::stay(words, Next::Answers(Answer::Done, holds))
 }
 
 impl<V: Copy> Object for Rw<V> {
@@ -144,98 +106,74 @@ impl<V: Copy> Object for Rw<V> {
         }
     }
 
-    fn refuse(
-        &self,
-        call: RwCall,
-        local: RwPoint,
-        holds: Option<Hold>,
-    ) -> Option<Next<RwPoint, Answer<V>>> {
-        match call {
-            RwCall::TryWriteWeak | RwCall::TryUpgradeWeak => {
-                Some(Next::Answers(Answer::Refused, holds))
-            }
-            RwCall::Write => Some(Next::Continue(RwPoint::First)),
-            RwCall::Upgrade if matches!(local, RwPoint::Asking) => {
-                Some(Next::Continue(RwPoint::Asking))
-            }
-            _ => None,
-        }
-    }
-
-    fn step(
+    fn next_act(
         &self,
         words: usize,
         value: Option<V>,
         call: RwCall,
         local: RwPoint,
         holds: Option<Hold>,
-    ) -> Stepped<usize, V, RwPoint, Answer<V>>
+    ) -> Act<usize, V, RwPoint, Answer<V>>
         requires { can_by one_number 0 (act_of {V = V} self.now.cap call local holds) words ≡ true }
-        ensures { result ≡ step_by one_number 0 (act_of self.now.cap call local holds) words }
+        ensures step { result_of result words ≡ step_by one_number 0 (act_of self.now.cap call local holds) words }
+        ensures refusal { refusal_of result ≡ refusal_by (act_of {V = V} self.now.cap call local holds) }
     {
         let _ = value;
+        let is_found = matches!(local, RwPoint::Exchange(found) if found == words);
+        let found = Next::Continue(RwPoint::Exchange(words));
+        let reading = Next::Answers(Answer::Granted, Some(Hold::Read));
+        let upgradable = Next::Answers(Answer::Granted, Some(Hold::Upgradable));
+        let granted = Next::Answers(Answer::Granted, Some(Hold::Write));
         let refused = Next::Answers(Answer::Refused, holds);
         let again = Next::Continue(RwPoint::First);
+        let asking = Next::Continue(RwPoint::Asking);
         match call {
-            RwCall::TryRead => come(local, words, rw::read(words, self.cap), Hold::Read, refused),
-            RwCall::Read => come(local, words, rw::read(words, self.cap), Hold::Read, again),
+            RwCall::TryRead => {
+                Act::retry(is_found, rw::read(words, self.cap), reading, found, refused)
+            }
+            RwCall::Read => Act::retry(is_found, rw::read(words, self.cap), reading, found, again),
             RwCall::TryUpgradeableRead => {
                 let to = rw::upgradable(words, self.cap);
-                come(local, words, to, Hold::Upgradable, refused)
+                Act::retry(is_found, to, upgradable, found, refused)
             }
             RwCall::UpgradeableRead => {
                 let to = rw::upgradable(words, self.cap);
-                come(local, words, to, Hold::Upgradable, again)
+                Act::retry(is_found, to, upgradable, found, again)
             }
-            RwCall::TryWrite | RwCall::TryWriteWeak => {
-                exchange(words, rw::write(words), Hold::Write, refused)
-            }
-            RwCall::Write => exchange(words, rw::write(words), Hold::Write, again),
+            RwCall::TryWrite => Act::Exchange(rw::write(words), granted, refused),
+            RwCall::TryWriteWeak => Act::WeakExchange(rw::write(words), granted, refused),
+            RwCall::Write => Act::WeakExchange(rw::write(words), granted, again),
             RwCall::ReaderCount => {
-                Stepped::stay(
-                    words,
-                    Next::Answers(Answer::Count(rw::readers(words)), holds),
-                )
+                Act::Load(Next::Answers(Answer::Count(rw::readers(words)), holds))
             }
             RwCall::WriterCount => {
-                Stepped::stay(
-                    words,
-                    Next::Answers(Answer::Count(rw::writers(words)), holds),
-                )
+                Act::Load(Next::Answers(Answer::Count(rw::writers(words)), holds))
             }
-            RwCall::TryUpgrade | RwCall::TryUpgradeWeak => {
-                exchange(words, rw::upgrade(words), Hold::Write, refused)
-            }
-            RwCall::Upgrade => {
-                let asked = Next::Continue(RwPoint::Asking);
-                match local {
-                    RwPoint::Asking => exchange(
-                        words,
-                        rw::upgrade_asked(words),
-                        Hold::Write,
-                        asked,
-                    ),
-                    _ => Stepped::stay(rw::ask(words), asked),
-                }
-            }
-            RwCall::Downgrade => done(
-                match holds {
+            RwCall::TryUpgrade => Act::Exchange(rw::upgrade(words), granted, refused),
+            RwCall::TryUpgradeWeak => Act::WeakExchange(rw::upgrade(words), granted, refused),
+            RwCall::Upgrade => match local {
+                RwPoint::Asking => Act::WeakExchange(rw::upgrade_asked(words), granted, asking),
+                _ => Act::Store(rw::ask(words), asking),
+            },
+            RwCall::Downgrade => {
+                let word = match holds {
                     Some(Hold::Write) => rw::write_to_read(words),
                     _ => rw::upgradable_to_read(words),
-                },
-                Some(Hold::Read),
-            ),
-            RwCall::DowngradeToUpgradeable => {
-                done(rw::write_to_upgradable(words), Some(Hold::Upgradable))
+                };
+                Act::Store(word, Next::Answers(Answer::Done, Some(Hold::Read)))
             }
-            RwCall::Release => done(
-                match holds {
+            RwCall::DowngradeToUpgradeable => {
+                let done = Next::Answers(Answer::Done, Some(Hold::Upgradable));
+                Act::Store(rw::write_to_upgradable(words), done)
+            }
+            RwCall::Release => {
+                let word = match holds {
                     Some(Hold::Read) => rw::release_read(words),
                     Some(Hold::Upgradable) => rw::release_upgradable(words),
                     _ => rw::release_write(words),
-                },
-                None,
-            ),
+                };
+                Act::Store(word, Next::Answers(Answer::Done, None))
+            }
         }
     }
 

@@ -1,11 +1,10 @@
 //! The ticket lock, as a table of the steps of its calls. Begin with [`Ticket::new`] and [`TicketCall`].
-ghost use Rattle.std.specs.Prelude.{◌≡◌, ◌==◌, ◌&&◌, true};
-ghost use Rattle.spin_model.specs.declared.step.Next.TheVariants.{Continue, Answers};
-ghost use Rattle.spin_model.specs.declared.answer.Answer.TheVariants.{Refused};
-ghost use Rattle.spin_model.specs.declared.ticket.TicketPoint.TheVariants.{LoadNext, Take, Await, TryTake};
-ghost use Rattle.spin_model.specs.Acts.{guessed, either, becomes, step_by, can_by};
+ghost use Rattle.std.specs.Prelude.{◌≡◌, true};
+ghost use Rattle.std.specs.Option.{option_map};
+ghost use Rattle.spin_model.specs.Acts.{step_by, can_by, refusal_by};
 ghost use Rattle.spin_step.specs.Tickets.{take};
-ghost use Rattle.spin_model.specs.Ticket.{is_left, ticket_memory, word_of, granted, act_of, ticket_machine};
+ghost use Rattle.spin_model.specs.Ticket.{ticket_memory, word_of, act_of, ticket_machine};
+ghost use Rattle.spin_world_core.specs.Stepping.{result_of, refusal_of};
 ghost use Rattle.spin_world.specs.Ticket.{IsTicketLock};
 
 mod laws;
@@ -15,7 +14,7 @@ pub use laws::{
 };
 use spin_model::{TicketCall, TicketPoint, TicketWords};
 use spin_step::ticket;
-use spin_world_core::{Answer, Hold, Next, Object, Stepped};
+use spin_world_core::{Act, Answer, Hold, Next, Object};
 
 /// The ticket lock: parties take tickets, and enter in the order of their numbers.
 ///
@@ -53,59 +52,13 @@ impl<V: Copy> Ticket<V> {
     }
 }
 
-/// Makes a step that takes the ticket with the expected number. The call continues with `won` if it did, else with
-/// `lost`.
-fn exchange<V: Copy>(
-    words: TicketWords,
-    expected: u64,
-    won: Next<TicketPoint, Answer<V>>,
-    lost: Next<TicketPoint, Answer<V>>,
-) -> Stepped<TicketWords, V, TicketPoint, Answer<V>>
-    ensures { result ≡ becomes (λ next. record words { next = next }) words (guessed expected take words.next) won lost }
+/// Returns the words after the next ticket is taken, or `None` if none is left.
+fn take(words: TicketWords) -> Option<TicketWords>
+    ensures { result ≡ option_map (λ next. record words { next = next }) (take words.next) }
 {
-    if words.next != expected {
-        return Stepped::stay(words, lost);
-    }
-    match ticket::take(expected) {
-        Some(next) => Stepped::stay(TicketWords { next, ..words }, won),
-        None => Stepped::stay(words, lost),
-    }
-}
-
-/// Returns how `Lock` continues after it has loaded the next number.
-fn go_for<V: Copy>(next: u64) -> Next<TicketPoint, Answer<V>>
-    ensures { result ≡ either (is_left next) (Continue (Take next)) (Continue LoadNext) }
-{
-    Next::Continue(if next < u64::MAX {
-        TicketPoint::Take(next)
-    } else {
-        TicketPoint::LoadNext
-    })
-}
-
-/// Returns how `Lock` continues with this ticket after it has loaded the served number.
-fn look_for_turn<V: Copy>(serving: u64, ticket: u64) -> Next<TicketPoint, Answer<V>>
-    ensures { result ≡ either (serving == ticket) (granted ticket) (Continue (Await ticket)) }
-{
-    if ticket::is_turn(serving, ticket) {
-        Next::Answers(Answer::Granted, Some(Hold::Ticket(ticket)))
-    } else {
-        Next::Continue(TicketPoint::Await(ticket))
-    }
-}
-
-/// Returns how `TryLock`, which found `next` to be next, continues after it has loaded the served number.
-fn look_for_free<V: Copy>(
-    serving: u64,
-    next: u64,
-    holds: Option<Hold>,
-) -> Next<TicketPoint, Answer<V>>
-    ensures { result ≡ either ((serving == next) && is_left next) (Continue (TryTake next)) (Answers Refused holds) }
-{
-    if ticket::is_turn(serving, next) && next < u64::MAX {
-        Next::Continue(TicketPoint::TryTake(next))
-    } else {
-        Next::Answers(Answer::Refused, holds)
+    match ticket::take(words.next) {
+        Some(next) => Some(TicketWords { next, ..words }),
+        None => None,
     }
 }
 
@@ -147,72 +100,70 @@ impl<V: Copy> Object for Ticket<V> {
         }
     }
 
-    fn refuse(
-        &self,
-        call: TicketCall,
-        local: TicketPoint,
-        holds: Option<Hold>,
-    ) -> Option<Next<TicketPoint, Answer<V>>> {
-        let _ = (call, local, holds);
-        None
-    }
-
-    fn step(
+    fn next_act(
         &self,
         words: TicketWords,
         value: Option<V>,
         call: TicketCall,
         local: TicketPoint,
         holds: Option<Hold>,
-    ) -> Stepped<TicketWords, V, TicketPoint, Answer<V>>
+    ) -> Act<TicketWords, V, TicketPoint, Answer<V>>
         requires { can_by ticket_memory (word_of local) (act_of {V = V} local holds) words ≡ true }
-        ensures { result ≡ step_by ticket_memory (word_of local) (act_of local holds) words }
+        ensures step { result_of result words ≡ step_by ticket_memory (word_of local) (act_of local holds) words }
+        ensures refusal { refusal_of result ≡ refusal_by (act_of {V = V} local holds) }
     {
         let _ = (value, call);
+        let refused = Next::Answers(Answer::Refused, holds);
         match local {
-            TicketPoint::LoadNext => Stepped::stay(words, go_for(words.next)),
-            TicketPoint::Take(next) => exchange(
-                words,
-                next,
+            TicketPoint::LoadNext => Act::Load(Next::Continue(if words.next < u64::MAX {
+                TicketPoint::Take(words.next)
+            } else {
+                TicketPoint::LoadNext
+            })),
+            TicketPoint::Take(next) => Act::retry(
+                words.next == next,
+                take(words),
                 Next::Continue(TicketPoint::Await(next)),
-                go_for(words.next),
+                Next::Continue(TicketPoint::Take(words.next)),
+                Next::Continue(TicketPoint::LoadNext),
             ),
-            TicketPoint::Await(ticket) => Stepped::stay(
-                words,
-                look_for_turn(words.serving, ticket),
-            ),
+            TicketPoint::Await(ticket) => {
+                Act::Load(if ticket::is_turn(words.serving, ticket) {
+                    Next::Answers(Answer::Granted, Some(Hold::Ticket(ticket)))
+                } else {
+                    Next::Continue(local)
+                })
+            }
             TicketPoint::TryLoadNext => {
-                Stepped::stay(
-                    words,
-                    Next::Continue(TicketPoint::TryLoadServing(words.next)),
-                )
+                Act::Load(Next::Continue(TicketPoint::TryLoadServing(words.next)))
             }
             TicketPoint::TryLoadServing(next) => {
-                Stepped::stay(words, look_for_free(words.serving, next, holds))
+                Act::Load(if ticket::is_turn(words.serving, next) && next < u64::MAX {
+                    Next::Continue(TicketPoint::TryTake(next))
+                } else {
+                    refused
+                })
             }
-            TicketPoint::TryTake(next) => exchange(
-                words,
-                next,
-                Next::Answers(Answer::Granted, Some(Hold::Ticket(next))),
-                Next::Answers(Answer::Refused, holds),
-            ),
+            TicketPoint::TryTake(next) => {
+                let to = if words.next == next {
+                    take(words)
+                } else {
+                    None
+                };
+                let won = Next::Answers(Answer::Granted, Some(Hold::Ticket(next)));
+                Act::Exchange(to, won, refused)
+            }
             TicketPoint::LookServing => {
-                Stepped::stay(words, Next::Continue(TicketPoint::LookNext(words.serving)))
+                Act::Load(Next::Continue(TicketPoint::LookNext(words.serving)))
             }
             TicketPoint::LookNext(serving) => {
-                Stepped::stay(
-                    words,
-                    Next::Answers(Answer::Is(words.next != serving), holds),
-                )
+                Act::Load(Next::Answers(Answer::Is(words.next != serving), holds))
             }
-            TicketPoint::Serve(ticket) => Stepped {
-                words: TicketWords {
-                    serving: ticket::serve(ticket),
-                    ..words
-                },
-                placed: None,
-                next: Next::Answers(Answer::Done, None),
-            },
+            TicketPoint::Serve(ticket) => {
+                let serving = ticket::serve(ticket);
+                let done = Next::Answers(Answer::Done, None);
+                Act::Store(TicketWords { serving, ..words }, done)
+            }
         }
     }
 

@@ -9,3 +9,4 @@ pub mod Transcripts
 pub mod Values
 pub mod Lawful
 pub mod Joined
+pub mod Stepping

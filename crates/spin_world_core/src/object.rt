@@ -1,9 +1,11 @@
-//! What a lock has to show to be played in a world. Begin with [`Object`]; its main method returns a [`Stepped`].
+//! What a lock has to show to be played in a world. Begin with [`Object`]; its main method returns an [`Act`].
 ghost use Rattle.std.specs.Prelude.{◌≡◌, true};
 ghost use Rattle.spin_model.specs.Machines.{Machine};
 ghost use Rattle.spin_world_core.specs.Lawful.{Lawful};
+ghost use Rattle.spin_world_core.specs.Stepping.{result_of, refusal_of};
 
-use spin_model::{Hold, Next, Stepped};
+use crate::act::Act;
+use spin_model::Hold;
 
 /// A lock in the world, as its words and a table of the steps of its calls.
 ///
@@ -58,34 +60,23 @@ pub trait Object: Drop {
     fn begin(&self, call: Self::Call, holds: Option<Hold>) -> Option<Self::Local>
         ensures { result ≡ (machine self.now).begin call holds };
 
-    /// Returns how the call continues if its next step is a weak exchange that fails, or `None` if that step is no weak
-    /// exchange.
+    /// Returns the next step of the call, for these words and this value: the table of the object. The step depends
+    /// only on the object and the arguments.
     ///
     /// # Contract
-    /// It is `refuse` of the machine.
-    fn refuse(
-        &self,
-        call: Self::Call,
-        local: Self::Local,
-        holds: Option<Hold>,
-    ) -> Option<Next<Self::Local, Self::Answer>>
-        ensures { result ≡ (machine self.now).refuse call local holds };
-
-    /// Makes the next step of the call, and returns its outcome. The outcome depends only on the object and the
-    /// arguments.
-    ///
-    /// # Contract
-    /// The step has to be possible (`can` of the machine). Then its outcome is `step` of the machine.
-    fn step(
+    /// The step has to be possible (`can` of the machine). Its outcome is then `step` of the machine (`result_of`), and
+    /// it may fail spuriously where `refuse` of the machine says how the call continues after that (`refusal_of`).
+    fn next_act(
         &self,
         words: Self::Words,
         value: Option<Self::Value>,
         call: Self::Call,
         local: Self::Local,
         holds: Option<Hold>,
-    ) -> Stepped<Self::Words, Self::Value, Self::Local, Self::Answer>
+    ) -> Act<Self::Words, Self::Value, Self::Local, Self::Answer>
         requires { (machine self.now).can words call local holds ≡ true }
-        ensures { result ≡ (machine self.now).step words value call local holds };
+        ensures step { result_of result words ≡ (machine self.now).step words value call local holds }
+        ensures refusal { refusal_of result ≡ (machine self.now).refuse call local holds };
 
     /// States that all laws hold of every object of the type, over every schedule (`Lawful`).
     fn laws()

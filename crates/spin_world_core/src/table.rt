@@ -1,10 +1,13 @@
 //! The words, the value and the seats of a world. Begin with [`Table::act`], which makes one move.
 ghost use Rattle.std.specs.Prelude.{◌≡◌, ◌<◌, Some, IfOk, length, map, replicate, slice_get, option_map};
 ghost use Rattle.spin_model.specs.declared.place.Seat.TheVariants.{Idle};
-ghost use Rattle.spin_model.specs.Schedules.{at_first, seated, let_go, seen_by_owner, resting, may_read, may_write, begun, begins, steps, weakly, reads, writes, leaks, owner_gets, owner_writes, owner_sets, goes_on, is_owners, moves, happens, place_of};
+ghost use Rattle.spin_model.specs.Schedules.{at_first, seated, let_go, seen_by_owner, resting, may_read, may_write, begun, begins, steps, weakly, reads, writes, leaks, owner_gets, owner_writes, owner_sets, goes_on, is_owners, moves, happens, placed, place_of};
+ghost use Rattle.spin_model.specs.Acts.{either};
 ghost use Rattle.spin_world_core.specs.Sharing.{shares, has_leaked};
 ghost use Rattle.spin_world_core.specs.Runs.{CanStep};
+ghost use Rattle.spin_world_core.specs.Stepping.{result_of};
 
+use crate::act::Act;
 use crate::object::Object;
 use spin_model::{Hold, Move, Next, Outcome, Place, Seat};
 use std::alloc::{AllocError, Allocator};
@@ -195,8 +198,9 @@ impl<O: Object, A: Allocator> Table<O, A> {
     {
         match entry {
             Move::Begin(call) => self.begin(object, party, call, seat),
-            Move::Step => self.step(object, party, seat),
-            Move::Weak => self.weak(object, party, seat),
+            Move::Step | Move::Weak => {
+                self.step(object, party, seat, matches!(entry, Move::Weak))
+            }
             Move::Read => self.read(seat),
             Move::Write(value) => self.write(value, seat),
             Move::Leak => self.leak(party, seat),
@@ -242,42 +246,63 @@ impl<O: Object, A: Allocator> Table<O, A> {
         }
     }
 
+    /// Makes the next step of the party's call. If `is_weak`, that step fails spuriously; a step that cannot is skipped.
+    // It calls `next_act` at one place, so that the compiler inlines it and builds no `Act`.
     fn step(
         &mut self,
         object: &O,
         party: usize,
         seat: Seat<O::Call, O::Local>,
+        is_weak: bool,
     ) -> Outcome<O::Answer, O::Value>
         requires there { slice_get self.old.seats party ≡ Some seat }
         requires can { CanStep (O.machine object.now) self.old }
-        ensures { record { outcome = result; next = self.new } ≡ steps (O.machine object.now) self.old party seat }
+        ensures { let m = O.machine object.now in let s = self.old in
+            let happened = either is_weak (weakly m s party seat) (steps m s party seat) in
+            record { outcome = result; next = self.new } ≡ happened }
     {
         let Seat::Calling(call, local, holds) = seat else {
             return Outcome::Skipped;
         };
-        let stepped = object.step(self.words, self.value, call, local, holds);
-        self.words = stepped.words;
-        if let Some(placed) = stepped.placed {
-            self.value = Some(placed);
-        }
-        self.go_on(party, call, holds, stepped.next)
+        let act = object.next_act(self.words, self.value, call, local, holds);
+        let next = if is_weak {
+            let Act::WeakExchange(_, _, lost) = act else {
+                return Outcome::Skipped;
+            };
+            lost
+        } else {
+            self.make(act)
+        };
+        self.go_on(party, call, holds, next)
     }
 
-    fn weak(
+    /// Makes the step, and returns how its call continues.
+    fn make(
         &mut self,
-        object: &O,
-        party: usize,
-        seat: Seat<O::Call, O::Local>,
-    ) -> Outcome<O::Answer, O::Value>
-        requires { party < length self.old.seats }
-        ensures { record { outcome = result; next = self.new } ≡ weakly (O.machine object.now) self.old party seat }
+        act: Act<O::Words, O::Value, O::Local, O::Answer>,
+    ) -> Next<O::Local, O::Answer>
+        ensures next { result ≡ (result_of act self.old.words).next }
+        ensures table { let made = result_of act self.old.words in
+            self.new ≡ record self.old { words = made.words; value = placed made.placed self.old.value } }
     {
-        let Seat::Calling(call, local, holds) = seat else {
-            return Outcome::Skipped;
-        };
-        match object.refuse(call, local, holds) {
-            None => Outcome::Skipped,
-            Some(next) => self.go_on(party, call, holds, next),
+        match act {
+            Act::Load(next) => next,
+            Act::Store(words, next) => {
+                self.words = words;
+                next
+            }
+            Act::Complete(words, value, next) => {
+                self.words = words;
+                self.value = Some(value);
+                next
+            }
+            Act::Exchange(to, won, lost) | Act::WeakExchange(to, won, lost) => match to {
+                None => lost,
+                Some(words) => {
+                    self.words = words;
+                    won
+                }
+            },
         }
     }
 

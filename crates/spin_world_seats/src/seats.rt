@@ -1,12 +1,13 @@
 //! The lock of seats, as a table of the steps of its calls. Begin with [`Seats::new`].
 ghost use Rattle.std.specs.Prelude.{◌≡◌, true};
-ghost use Rattle.spin_model.specs.Acts.{one_number, becomes, step_by, can_by};
-ghost use Rattle.spin_seats.specs.Table.{granted, comes_at, act_of, seats_machine};
+ghost use Rattle.spin_model.specs.Acts.{one_number, step_by, can_by, refusal_by};
+ghost use Rattle.spin_world_core.specs.Stepping.{result_of, refusal_of};
+ghost use Rattle.spin_seats.specs.Table.{act_of, seats_machine};
 ghost use Rattle.spin_world_seats.specs.Named.{IsSeats};
 
 use spin_seats::calls::{SeatsCall, SeatsPoint};
 use spin_seats::steps;
-use spin_world_core::{Answer, Hold, Next, Object, Stepped};
+use spin_world_core::{Act, Answer, Hold, Next, Object};
 
 /// The lock with a number of seats. Its value is `()`.
 ///
@@ -44,24 +45,6 @@ impl Seats {
     }
 }
 
-/// Makes a step of a call that takes a seat. `to` is the word after it has taken one, if one is free.
-fn come(
-    point: SeatsPoint,
-    words: usize,
-    to: Option<usize>,
-    missed: Next<SeatsPoint, Answer<()>>,
-) -> Stepped<usize, (), SeatsPoint, Answer<()>>
-    ensures { result ≡ comes_at point words to missed }
-{
-    match (point, to) {
-        (SeatsPoint::Exchange(found), Some(taken)) if found == words => {
-            Stepped::stay(taken, Next::Answers(Answer::Granted, Some(Hold::Read)))
-        }
-        (_, Some(_)) => Stepped::stay(words, Next::Continue(SeatsPoint::Exchange(words))),
-        (_, None) => Stepped::stay(words, missed),
-    }
-}
-
 impl Object for Seats {
     type Words = usize;
 
@@ -95,37 +78,30 @@ impl Object for Seats {
         }
     }
 
-    fn refuse(
-        &self,
-        call: SeatsCall,
-        local: SeatsPoint,
-        holds: Option<Hold>,
-    ) -> Option<Next<SeatsPoint, Answer<()>>> {
-        let _ = (call, local, holds);
-        None
-    }
-
-    fn step(
+    fn next_act(
         &self,
         words: usize,
         value: Option<()>,
         call: SeatsCall,
         local: SeatsPoint,
         holds: Option<Hold>,
-    ) -> Stepped<usize, (), SeatsPoint, Answer<()>>
+    ) -> Act<usize, (), SeatsPoint, Answer<()>>
         requires { can_by one_number 0 (act_of self.now.seats call local holds) words ≡ true }
-        ensures { result ≡ step_by one_number 0 (act_of self.now.seats call local holds) words }
+        ensures step { result_of result words ≡ step_by one_number 0 (act_of self.now.seats call local holds) words }
+        ensures refusal { refusal_of result ≡ refusal_by (act_of self.now.seats call local holds) }
     {
         let _ = value;
         let to = steps::enter(words, self.seats);
+        let is_found = matches!(local, SeatsPoint::Exchange(found) if found == words);
+        let found = Next::Continue(SeatsPoint::Exchange(words));
+        let granted = Next::Answers(Answer::Granted, Some(Hold::Read));
+        let refused = Next::Answers(Answer::Refused, holds);
+        let again = Next::Continue(SeatsPoint::First);
         match call {
-            SeatsCall::TryEnter => come(local, words, to, Next::Answers(Answer::Refused, holds)),
-            SeatsCall::Enter => come(local, words, to, Next::Continue(SeatsPoint::First)),
-            SeatsCall::Count => Stepped::stay(words, Next::Answers(Answer::Count(words), holds)),
-            SeatsCall::Leave => Stepped::stay(
-                steps::leave(words),
-                Next::Answers(Answer::Done, None),
-            ),
+            SeatsCall::TryEnter => Act::retry(is_found, to, granted, found, refused),
+            SeatsCall::Enter => Act::retry(is_found, to, granted, found, again),
+            SeatsCall::Count => Act::Load(Next::Answers(Answer::Count(words), holds)),
+            SeatsCall::Leave => Act::Store(steps::leave(words), Next::Answers(Answer::Done, None)),
         }
     }
 

@@ -4,11 +4,12 @@
 //! Begin with [`Dispenser::new`].
 ghost use Rattle.std.specs.Prelude.{◌≡◌, true};
 ghost use Rattle.spin_world_core.specs.Runs.{Always};
-ghost use Rattle.spin_model.specs.Acts.{one_number, step_by, can_by};
+ghost use Rattle.spin_model.specs.Acts.{one_number, step_by, can_by, refusal_by};
+ghost use Rattle.spin_world_core.specs.Stepping.{result_of, refusal_of};
 ghost use Rattle.spin_world_tests.specs.declared.dispenser.Dispenser.{Dispenser};
 ghost use Rattle.spin_world_tests.specs.Dispenser.{next_after, act_of, dispenser_machine, IsDispenser, DrawsInOrder};
 
-use spin_world_core::{Hold, Next, Object, Stepped};
+use spin_world_core::{Act, Hold, Next, Object};
 
 /// A call of a [`Dispenser`].
 #[derive(Clone, Copy)]
@@ -105,49 +106,36 @@ impl Object for Dispenser {
         }
     }
 
-    fn refuse(
-        &self,
-        call: DispenserCall,
-        local: DispenserPoint,
-        holds: Option<Hold>,
-    ) -> Option<Next<DispenserPoint, DispenserAnswer>> {
-        let _ = (call, local, holds);
-        None
-    }
-
-    fn step(
+    fn next_act(
         &self,
         words: u64,
         value: Option<()>,
         call: DispenserCall,
         local: DispenserPoint,
         holds: Option<Hold>,
-    ) -> Stepped<u64, (), DispenserPoint, DispenserAnswer>
+    ) -> Act<u64, (), DispenserPoint, DispenserAnswer>
         requires { can_by one_number 0 (act_of self.now.cap call local holds) words ≡ true }
-        ensures { result ≡ step_by one_number 0 (act_of self.now.cap call local holds) words }
+        ensures step { result_of result words ≡ step_by one_number 0 (act_of self.now.cap call local holds) words }
+        ensures refusal { refusal_of result ≡ refusal_by (act_of self.now.cap call local holds) }
     {
         let _ = value;
-        if let DispenserCall::Count = call {
-            return Stepped::stay(words, Next::Answers(DispenserAnswer::Count(words), holds));
-        }
-        if let DispenserCall::DrawThis(number) = call {
-            return match next_after(self.cap, words) {
-                Some(next) if number == words => Stepped::stay(
-                    next,
-                    Next::Answers(DispenserAnswer::Drawn(number), Some(Hold::Read)),
-                ),
-                _ => Stepped::stay(words, Next::Answers(DispenserAnswer::NotNext, holds)),
-            };
-        }
-        match (local, next_after(self.cap, words)) {
-            (DispenserPoint::Exchange(found), Some(next)) if found == words => {
-                Stepped::stay(
-                    next,
-                    Next::Answers(DispenserAnswer::Drawn(found), Some(Hold::Read)),
-                )
+        let drawn = Next::Answers(DispenserAnswer::Drawn(words), Some(Hold::Read));
+        let next = next_after(self.cap, words);
+        match call {
+            DispenserCall::Count => {
+                Act::Load(Next::Answers(DispenserAnswer::Count(words), holds))
             }
-            (_, Some(_)) => Stepped::stay(words, Next::Continue(DispenserPoint::Exchange(words))),
-            (_, None) => Stepped::stay(words, Next::Answers(DispenserAnswer::SoldOut, holds)),
+            DispenserCall::DrawThis(number) => {
+                let to = if number == words { next } else { None };
+                Act::Exchange(to, drawn, Next::Answers(DispenserAnswer::NotNext, holds))
+            }
+            DispenserCall::Draw => Act::retry(
+                matches!(local, DispenserPoint::Exchange(found) if found == words),
+                next,
+                drawn,
+                Next::Continue(DispenserPoint::Exchange(words)),
+                Next::Answers(DispenserAnswer::SoldOut, holds),
+            ),
         }
     }
 

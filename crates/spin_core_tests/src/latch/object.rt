@@ -1,14 +1,13 @@
 //! The latch as an object of the world: a table of the steps of its calls. Begin with [`LatchObject::new`].
 ghost use Rattle.std.specs.Prelude.{◌≡◌, true};
-ghost use Rattle.spin_model.specs.Acts.{becomes, can_by, one_number, step_by};
+ghost use Rattle.spin_model.specs.Acts.{can_by, one_number, refusal_by, step_by};
+ghost use Rattle.spin_world_core.specs.Stepping.{refusal_of, result_of};
 ghost use Rattle.spin_core_tests.specs.LatchNamed.{IsLatch};
-ghost use Rattle.spin_core_tests.specs.Latch.{let_in, taken};
-ghost use Rattle.spin_core_tests.specs.LatchTable.{act_of, comes_at, granted, latch_machine};
-ghost use Rattle.spin_model.specs.declared.place.Hold.TheVariants.{Write};
+ghost use Rattle.spin_core_tests.specs.LatchTable.{act_of, latch_machine};
 
 use super::calls::{LatchCall, LatchPoint};
 use super::steps;
-use spin_world_core::{Answer, Hold, Next, Object, Stepped};
+use spin_world_core::{Act, Answer, Hold, Next, Object};
 
 /// A latch without a value.
 #[derive(Drop)]
@@ -23,34 +22,6 @@ impl LatchObject {
         ensures { IsLatch (⟦<LatchObject as Object>⟧.machine result) }
     {
         LatchObject
-    }
-}
-
-/// Makes the exchange of a call that wants to write. If it fails, the call continues with `lost`.
-fn exchange(
-    words: usize,
-    lost: Next<LatchPoint, Answer<()>>,
-) -> Stepped<usize, (), LatchPoint, Answer<()>>
-    ensures { result ≡ becomes (λ w. w) words (taken words) (granted Write) lost }
-{
-    let won = Next::Answers(Answer::Granted, Some(Hold::Write));
-    Stepped::exchange(words, steps::write(words), won, lost)
-}
-
-/// Makes a step of a call that wants to read.
-fn come(
-    point: LatchPoint,
-    words: usize,
-    missed: Next<LatchPoint, Answer<()>>,
-) -> Stepped<usize, (), LatchPoint, Answer<()>>
-    ensures { result ≡ comes_at point words (let_in words) missed }
-{
-    match (point, steps::read(words)) {
-        (LatchPoint::Exchange(found), Some(next)) if found == words => {
-            Stepped::stay(next, Next::Answers(Answer::Granted, Some(Hold::Read)))
-        }
-        (_, Some(_)) => Stepped::stay(words, Next::Continue(LatchPoint::Exchange(words))),
-        (_, None) => Stepped::stay(words, missed),
     }
 }
 
@@ -88,41 +59,34 @@ impl Object for LatchObject {
         }
     }
 
-    fn refuse(
-        &self,
-        call: LatchCall,
-        local: LatchPoint,
-        holds: Option<Hold>,
-    ) -> Option<Next<LatchPoint, Answer<()>>> {
-        let _ = (local, holds);
-        match call {
-            LatchCall::Write => Some(Next::Continue(LatchPoint::First)),
-            _ => None,
-        }
-    }
-
-    fn step(
+    fn next_act(
         &self,
         words: usize,
         value: Option<()>,
         call: LatchCall,
         local: LatchPoint,
         holds: Option<Hold>,
-    ) -> Stepped<usize, (), LatchPoint, Answer<()>>
+    ) -> Act<usize, (), LatchPoint, Answer<()>>
         requires { can_by one_number 0 (act_of call local holds) words ≡ true }
-        ensures { result ≡ step_by one_number 0 (act_of call local holds) words }
+        ensures step { result_of result words ≡ step_by one_number 0 (act_of call local holds) words }
+        ensures refusal { refusal_of result ≡ refusal_by (act_of call local holds) }
     {
         let _ = value;
+        let to = steps::read(words);
+        let is_found = matches!(local, LatchPoint::Exchange(found) if found == words);
+        let found = Next::Continue(LatchPoint::Exchange(words));
+        let reading = Next::Answers(Answer::Granted, Some(Hold::Read));
+        let writing = Next::Answers(Answer::Granted, Some(Hold::Write));
         let refused = Next::Answers(Answer::Refused, holds);
         let again = Next::Continue(LatchPoint::First);
         let done = Next::Answers(Answer::Done, None);
         match call {
-            LatchCall::TryRead => come(local, words, refused),
-            LatchCall::Read => come(local, words, again),
-            LatchCall::TryWrite => exchange(words, refused),
-            LatchCall::Write => exchange(words, again),
-            LatchCall::ReleaseRead => Stepped::stay(words - 2, done),
-            LatchCall::ReleaseWrite => Stepped::stay(words - 1, done),
+            LatchCall::TryRead => Act::retry(is_found, to, reading, found, refused),
+            LatchCall::Read => Act::retry(is_found, to, reading, found, again),
+            LatchCall::TryWrite => Act::Exchange(steps::write(words), writing, refused),
+            LatchCall::Write => Act::WeakExchange(steps::write(words), writing, again),
+            LatchCall::ReleaseRead => Act::Store(words - 2, done),
+            LatchCall::ReleaseWrite => Act::Store(words - 1, done),
         }
     }
 
