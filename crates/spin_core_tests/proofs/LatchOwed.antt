@@ -7,13 +7,13 @@ use Rattle.spin_step.proofs.Holders.{is_holder-from_entries}
 use Rattle.spin_model.specs.declared.place.Hold.{Hold}
 use Rattle.spin_model.specs.Calls.{Mark}
 use Rattle.spin_model.specs.Acts.{begin_of}
-use Rattle.spin_world_core.proofs.Facts.{LocalInvariant, Facts}
+use Rattle.spin_world_core.proofs.Steps.{Plays}
 use Rattle.spin_world_core.proofs.Stands.{holds, entries_at}
 use Rattle.spin_world_core.proofs.Rows.{Point, starts, looked}
-use Rattle.spin_world_core.proofs.Shapes.{Notes, keeping_of, Means, OwesAt, OwesSoon, Pays}
+use Rattle.spin_world_core.proofs.Shapes.{Notes, Means, OwesAll, SoonAll, Pays}
 use Rattle.spin_world_core.proofs.Operating.{one_place, operates_by}
 use Rattle.spin_world_core.proofs.Usual.{no_queue}
-use Rattle.spin_world_core.proofs.Paid.{facts_of}
+use Rattle.spin_world_core.proofs.Filled.{plays_of}
 use Rattle.spin_core_tests.specs.Latch.{latch_limit, latch_weight, latch_word, let_in, taken}
 use Rattle.spin_core_tests.specs.LatchTable.{latch_table, latch_machine}
 use Rattle.spin_core_tests.specs.declared.latch.calls.LatchCall.{LatchCall}
@@ -41,25 +41,25 @@ holder_by p k s mine = is_holder-from_entries p k s.holders (ap (λ (e : Entries
 
 -- what the step functions mean there
 module _ (p : ℕ) (s : Plain) (w : ℕ) (word : latch_word s ≡ w) (exclusive : IsExclusive s) (shape : Latched s) where
-  read_means : Means latch_table latch_notes p s (gets p to_read) (λ k. k) (let_in w)
+  read_means : Means latch_notes p s (gets p to_read) (λ k. k) (let_in w)
   read_means = grind (arith, read-decides s p w exclusive shape.room word, shape)
 
-  write_means : Means latch_table latch_notes p s (gets p to_write) (λ k. k) (taken w)
+  write_means : Means latch_notes p s (gets p to_write) (λ k. k) (taken w)
   write_means = grind (arith, write-decides s p w word, shape)
 
-  reader_means : entries p s ≡ entries_at p (holds reading) → (nat_lt 1 w ≡ true) × Means latch_table latch_notes p s (releases p reading) (λ k. k) (Some (w - 2))
+  reader_means : entries p s ≡ entries_at p (holds reading) → (nat_lt 1 w ≡ true) × Means latch_notes p s (releases p reading) (λ k. k) (Some (w - 2))
   reader_means mine = let found = holder_by p reading s mine in grind (arith, found, sum-less latch_weight p reading s.holders found, word, shape)
 
-  writer_means : entries p s ≡ entries_at p (holds writing) → (nat_lt 0 w ≡ true) × Means latch_table latch_notes p s (releases p writing) (λ k. k) (Some (w - 1))
+  writer_means : entries p s ≡ entries_at p (holds writing) → (nat_lt 0 w ≡ true) × Means latch_notes p s (releases p writing) (λ k. k) (Some (w - 1))
   writer_means mine = let found = holder_by p writing s mine in grind (arith, found, sum-less latch_weight p writing s.holders found, word, shape)
 
-owes : (p : ℕ) (c : LatchCall) (l : LatchPoint) (h : Option Hold) (s : Plain) (w : ℕ) (span : List Mark) → OwesAt latch_table latch_notes p c l h s w span
+owes : OwesAll latch_notes
 owes p c l h s w span = grind (arith, read_means p s w, write_means p s w, reader_means p s w, writer_means p s w)
 
-soon : (p : ℕ) (c : LatchCall) (l : LatchPoint) (h : Option Hold) (s : Plain) (w : ℕ) (span : List Mark) → OwesSoon latch_table latch_notes p c l h s w span
+soon : SoonAll latch_notes
 soon p c l h s w span = grind (arith, open_is s w, nobody_is s w, eq-eqb w w)
 
-latch_pays : Pays latch_table latch_notes
+latch_pays : Pays latch_notes
 latch_pays =
     record {
       fits = λ p c l h. grind arith;
@@ -78,8 +78,8 @@ latch_pays =
       soon = soon;
     }
 
-abbrev pub latch_keeping : LocalInvariant (Unit {0}) LatchCall LatchPoint
-latch_keeping = keeping_of latch_table latch_notes
+abbrev pub latch_keeping : Notes latch_table
+latch_keeping = latch_notes
 
-pub latch_facts : Facts latch_machine latch_keeping
-latch_facts = facts_of latch_table latch_notes latch_pays refl
+pub latch_facts : Plays latch_machine latch_keeping
+latch_facts = plays_of latch_pays refl

@@ -8,11 +8,13 @@ use Rattle.spin_core.specs.Own.{Numbered, IsRun, present_from, kind}
 use Rattle.spin_core.specs.Run.{sits}
 use Rattle.spin_core.proofs.Runs.{get_seam}
 use Rattle.spin_model.specs.declared.place.Seat.{Seat}
+use Rattle.spin_model.specs.Acts.{Table}
 use Rattle.spin_model.specs.Machines.{Machine}
 use Rattle.spin_model.specs.Schedules.{State, Entry, after, at_first}
 use Rattle.spin_world_core.specs.Runs.{Seen, opening, StandsFor}
 use Rattle.spin_world_core.specs.Users.{seen_after}
-use Rattle.spin_world_core.proofs.Facts.{LocalInvariant, Facts}
+use Rattle.spin_world_core.proofs.Shapes.{Notes}
+use Rattle.spin_world_core.proofs.Steps.{played, Plays}
 use Rattle.spin_world_core.proofs.Reached as reached
 use Rattle.spin_threads.specs.Between.{Between}
 
@@ -35,22 +37,6 @@ module _ {W V C L A X S : Type 0} (m : Machine W V C L A) (seat_of : X → Seat 
       (sit P (suc k) more us (let a = length-append front (seat_of u.0 ∷ []) in omega (arith, is, a))
       (λ v at. each v (subst (λ l. slice_get l v.1 ≡ Some (seat_of v.0)) (append_assoc front (seat_of u.0 ∷ []) (seats us)) at)))
 
-  pub between : (k : LocalInvariant V C L) → Facts m k → (log : List (Entry C V)) (words : ℕ × S) (parties : List (Numbered X)) → IsRun m seat_of words_of log words parties → Between m seat_of words_of log words parties
-  between k f log words parties (came, w, value, is, words_is, led, played, rested) =
-      let n : ℕ = length (map kind came) in let seen : Seen W V C L = seen_after m (opening m n) log in
-      let good = reached.good m k f n log in let Stand : Numbered X → Type 0 = λ v. StandsFor seen.plain v.1 (seen.span v.1) (Some (seat_of v.0)) in
-      let state : seen.state ≡ record { words = w; value = value; seats = seats came ++ [] } = reached.state_is m k f n log ∙ ap (λ j. after m (at_first m j) log) (let e : n ≡ n + 0 = omega arith in e) ∙ led 0 in
-      record {
-        came = n;
-        seen = seen;
-        led = refl;
-        encodes = good.encodes;
-        words_are = words_is ∙ ap (λ (s : State W V C L). words_of s.words) (sym state);
-        exclusive = good.exclusive;
-        stand = All-same Stand parties (present_from 0 came) is (sit Stand 0 [] came refl (λ v at.
-            reached.stands m k f n log v.1 (seat_of v.0) (ap (λ (s : State W V C L). slice_get s.seats v.1) (sym (reached.state_is m k f n log) ∙ state) ∙ ap (λ l. slice_get l v.1) (append-nil (seats came)) ∙ at)));
-      }
-
   -- it holds of the parties, whatever their marks count
   pub of_counted : (log : List (Entry C V)) (words : ℕ × S) (marks : Numbered X → ℕ) (parties : List (Numbered X)) → Between m seat_of words_of log words (map (λ v. (v.0, v.1, marks v)) parties) → Between m seat_of words_of log words parties
   of_counted log words marks parties is =
@@ -60,3 +46,23 @@ module _ {W V C L A X S : Type 0} (m : Machine W V C L A) (seat_of : X → Seat 
       each P so [] all = All-nil P
       each P so (v ∷ vs) all =
           All-cons P v vs (so v (All-head P (v.0, v.1, marks v) (map (λ v. (v.0, v.1, marks v)) vs) all)) (each P so vs (All-tail P (v.0, v.1, marks v) (map (λ v. (v.0, v.1, marks v)) vs) all))
+
+module _ {W V C L A B X S : Type 0} {t : Table W V C L B} (by : Machine W V C L A) (seat_of : X → Seat C L) (words_of : W → ℕ × S) (k : Notes t) (f : Plays by k) where
+  abbrev m : Machine W V C L A
+  m = played t by
+
+  pub between : (log : List (Entry C V)) (words : ℕ × S) (parties : List (Numbered X)) → IsRun m seat_of words_of log words parties → Between m seat_of words_of log words parties
+  between log words parties (came, w, value, is, words_is, led, played, rested) =
+      let n : ℕ = length (map kind came) in let seen : Seen W V C L = seen_after m (opening m n) log in
+      let good = reached.good by k f n log in let Stand : Numbered X → Type 0 = λ v. StandsFor seen.plain v.1 (seen.span v.1) (Some (seat_of v.0)) in
+      let state : seen.state ≡ record { words = w; value = value; seats = seats m seat_of words_of came ++ [] } = reached.state_is by k f n log ∙ ap (λ j. after m (at_first m j) log) (let e : n ≡ n + 0 = omega arith in e) ∙ led 0 in
+      record {
+        came = n;
+        seen = seen;
+        led = refl;
+        encodes = good.encodes;
+        words_are = words_is ∙ ap (λ (s : State W V C L). words_of s.words) (sym state);
+        exclusive = good.exclusive;
+        stand = All-same Stand parties (present_from 0 came) is (sit m seat_of words_of Stand 0 [] came refl (λ v at.
+            reached.stands by k f n log v.1 (seat_of v.0) (ap (λ (s : State W V C L). slice_get s.seats v.1) (sym (reached.state_is by k f n log) ∙ state) ∙ ap (λ l. slice_get l v.1) (append-nil (seats m seat_of words_of came)) ∙ at)));
+      }

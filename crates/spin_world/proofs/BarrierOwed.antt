@@ -8,13 +8,13 @@ use Rattle.spin_model.specs.Calls.{AnyOf, BelongsTo, Mark, follows}
 use Rattle.spin_model.specs.Asks.{arrives_leading, finds_full}
 use Rattle.spin_world.specs.BarrierKind.{barrier}
 use Rattle.spin_step.specs.Steps.{bit}
-use Rattle.spin_world_core.proofs.Facts.{LocalInvariant, Facts}
+use Rattle.spin_world_core.proofs.Steps.{Plays}
 use Rattle.spin_world_core.proofs.Stands.{absent}
 use Rattle.spin_world_core.proofs.Rows.{Point, nowhere, looked, onward}
-use Rattle.spin_world_core.proofs.Shapes.{Notes, keeping_of, OwesAt, OwesSoon, Pays}
+use Rattle.spin_world_core.proofs.Shapes.{Notes, OwesAll, SoonAll, Pays}
 use Rattle.spin_world_core.proofs.Usual.{two, no_holders, two_places}
 use Rattle.spin_world_core.proofs.Operating.{operates_by}
-use Rattle.spin_world_core.proofs.Paid.{facts_of}
+use Rattle.spin_world_core.proofs.Filled.{plays_of}
 use Rattle.std.specs.List.{list_any}
 use Rattle.std.specs.Prelude.{nat_le}
 use Rattle.std.proofs.Common.{true}
@@ -88,7 +88,7 @@ module _ (n : ℕ) where
   waits_from : (p : ℕ) (s : Plain) (r : StepKind) (span : List Mark) (g : ℕ) → generation_word s ≡ g → is_leading s (s.arrivals + 1) ≡ false → generation_at s (s.arrivals + 1) ≡ g → Waits g p (apply s (arrives p)) (mark_of p (Some (arrives p)) r s ∷ span)
   waits_from p s r span g is behind same = grind arith
 
-  owes : (p : ℕ) (c : BarrierCall) (l : BarrierPoint) (h : Option Hold) (s : Plain) (w : BarrierWords) (span : List Mark) → OwesAt (barrier_table n) (barrier_notes n) p c l h s w span
+  owes : OwesAll (barrier_notes n)
   owes p c Arrive h s w span =
       let below = barrier_count-below s n w.count w.generation in
       let after = barrier_arrive-words s n w.count w.generation in
@@ -100,13 +100,12 @@ module _ (n : ℕ) where
       grind (arith, full, at.knows, waits, right)
   owes p c (Leave g) (Some h) s w span = tt
 
-  soon : (p : ℕ) (c : BarrierCall) (l : BarrierPoint) (h : Option Hold) (s : Plain) (w : BarrierWords) (span : List Mark)
-      → OwesSoon (barrier_table n) (barrier_notes n) p c l h s w span
+  soon : SoonAll (barrier_notes n)
   soon p c l h s w span =
       let tells = λ (g : ℕ). barrier_may_leave-tells s (arrived p span) n w.count w.generation g in
       grind (arith, is_barrier s w, tells)
 
-  pub barrier_pays : Pays (barrier_table n) (barrier_notes n)
+  pub barrier_pays : Pays (barrier_notes n)
   barrier_pays =
       record {
         fits = λ p c l h. grind arith;
@@ -126,8 +125,8 @@ module _ (n : ℕ) where
         soon = soon;
       }
 
-abbrev pub barrier_keeping : (n : ℕ) → LocalInvariant ℕ BarrierCall BarrierPoint
-barrier_keeping n = keeping_of (barrier_table n) (barrier_notes n)
+abbrev pub barrier_keeping : (n : ℕ) → Notes (barrier_table n)
+barrier_keeping n = barrier_notes n
 
-pub barrier_facts : (n : ℕ) → Facts (barrier_machine n) (barrier_keeping n)
-barrier_facts n = facts_of (barrier_table n) (barrier_notes n) (barrier_pays n) refl
+pub barrier_facts : (n : ℕ) → Plays (barrier_machine n) (barrier_keeping n)
+barrier_facts n = plays_of (barrier_pays n) refl

@@ -22,7 +22,7 @@ pub use Rattle.spin_model.specs.declared.step.Next.TheVariants.{Continue}
 pub use Rattle.spin_model.specs.declared.answer.Answer.{Answer}
 pub use Rattle.spin_world_core.specs.Runs.{opening, mark_of, own_count, changes, RegistersInTime, own, held_looks, IsLateLook}
 pub use Rattle.spin_model.specs.Acts.{tried}
-pub use Rattle.spin_world_core.proofs.Shapes.{row_of, Notes, keeping_of, Means, OwesAt, OwesSoon, Pays}
+pub use Rattle.spin_world_core.proofs.Shapes.{row_of, Notes, Means, OwesAll, SoonAll, Pays}
 pub use Rattle.spin_step_more.specs.declared.fair_calls.FairCall.{FairCall}
 pub use Rattle.spin_step_more.specs.declared.fair_calls.FairCall.TheVariants.{Lock, TryLock, TryLockStarver, IsLocked, Starve, StarverTryLockFair, StarverTryLock, StarverLock, StarverDrop, Release}
 pub use Rattle.spin_step_more.specs.declared.fair_calls.FairPoint.{FairPoint}

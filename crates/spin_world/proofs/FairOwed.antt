@@ -1,9 +1,9 @@
 -- What the fair lock's table must show.
-use Rattle.spin_world.proofs.FairNames.{◌≡◌, ℕ, ◌<◌, ◌+◌, ◌-◌, ◌%◌, ◌==◌, true, false, ◌&&◌, nat_lt, Option, Some, None, List, ◌∷◌, refl, ap, arith, and_parts, eqb-true, Plain, writing, to_lock_unregistered, to_lock_starving, to_lock_starving_alone, to_starve, Change, gets, releases, stops_starving, is_empty, is_starver, fair_word, apply_some, Entries, entries, is_held, empty_is, is_holder-from_entries, length-without_starver, is_set, lock, starve, lock_fair, fair_lock-grants, fair_starve-grants, fair_lock_fair-grants, fair_lock_starved-grants, fair_unstarve-gives, fair_unlock-gives, fair_is_locked-tells, Hold, Write, Starver, FairCall, Lock, TryLock, TryLockStarver, IsLocked, Starve, StarverTryLockFair, StarverTryLock, StarverLock, StarverDrop, Release, FairPoint, First, Attempt, Look, Load, Register, SetFlag, Await, Unregister, StepKind, plain, again, weak, Mark, granted, fair, mark_of, own_count, changes, RegistersInTime, tried, fair_table, fair_machine, holds, starves, holds_and_starves, entries_at, Row, Point, nowhere, looked, onward, Notes, keeping_of, Means, OwesAt, OwesSoon, Pays, no_queue, []}
+use Rattle.spin_world.proofs.FairNames.{◌≡◌, ℕ, ◌<◌, ◌+◌, ◌-◌, ◌%◌, ◌==◌, true, false, ◌&&◌, nat_lt, Option, Some, None, List, ◌∷◌, refl, ap, arith, and_parts, eqb-true, Plain, writing, to_lock_unregistered, to_lock_starving, to_lock_starving_alone, to_starve, Change, gets, releases, stops_starving, is_empty, is_starver, fair_word, apply_some, Entries, entries, is_held, empty_is, is_holder-from_entries, length-without_starver, is_set, lock, starve, lock_fair, fair_lock-grants, fair_starve-grants, fair_lock_fair-grants, fair_lock_starved-grants, fair_unstarve-gives, fair_unlock-gives, fair_is_locked-tells, Hold, Write, Starver, FairCall, Lock, TryLock, TryLockStarver, IsLocked, Starve, StarverTryLockFair, StarverTryLock, StarverLock, StarverDrop, Release, FairPoint, First, Attempt, Look, Load, Register, SetFlag, Await, Unregister, StepKind, plain, again, weak, Mark, granted, fair, mark_of, own_count, changes, RegistersInTime, tried, fair_table, fair_machine, holds, starves, holds_and_starves, entries_at, Row, Point, nowhere, looked, onward, Notes, Means, OwesAll, SoonAll, Pays, no_queue, []}
 use Rattle.spin_model.specs.Operations.{sets_lowest_bit}
 use Rattle.spin_world_core.proofs.Operating.{one_place, operates_by}
-use Rattle.spin_world_core.proofs.Facts.{LocalInvariant, Facts}
-use Rattle.spin_world_core.proofs.Paid.{facts_of}
+use Rattle.spin_world_core.proofs.Steps.{Plays}
+use Rattle.spin_world_core.proofs.Filled.{plays_of}
 use Rattle.spin_world.proofs.Registering.{sooner, MayBeBlind, blind-other, blind_after_step, blind_after_free, blind_after_late, allowed, none_left, few_to_load, few_to_register, Looking, Loading, Registering, none_yet, starving-other, looking-other, loading-other, registering-other, goes_on, missed, looked_free, looked_held, looked_late, loaded, retried, full, registered, looked_starving}
 use Rattle.spin_world.proofs.FairKnowledge.{IsFair, comes, goes_away, is_starving, is_starving_still, set_by_holder, flag_clear, word_locked, word_starved, not_there}
 
@@ -56,7 +56,7 @@ fair_notes v cap patience = record { Shape = λ s. IsFair cap s; point = point_o
 
 module _ {V : Type 0} (v : V) (cap patience : ℕ) where
   abbrev IsMeant : ℕ → Plain → Change → Option ℕ → Type 0
-  IsMeant p s c o = Means (fair_table v cap patience) (fair_notes v cap patience) p s c (λ k. k) o
+  IsMeant p s c o = Means (fair_notes v cap patience) p s c (λ k. k) o
 
   -- what the step functions mean there
   module _ (p : ℕ) (s : Plain) (w : ℕ) (word : fair_word s ≡ w) (shape : IsFair cap s) where
@@ -105,8 +105,7 @@ module _ {V : Type 0} (v : V) (cap patience : ℕ) where
   registers_in_time : (w p : ℕ) (s : Plain) (span : List Mark) → Registering patience w p s span → InTime p span
   registers_in_time w p s span old = sooner (few_to_register p s w) (λ recent. own_count p recent < 2 + changes fair p recent) p patience span (λ recent few. omega (arith, few)) old.in_time
 
-  owes : (p : ℕ) (c : FairCall) (l : FairPoint) (h : Option Hold) (s : Plain) (w : ℕ) (span : List Mark)
-      → OwesAt (fair_table v cap patience) (fair_notes v cap patience) p c l h s w span
+  owes : OwesAll (fair_notes v cap patience)
   owes p Lock (Attempt n) None s w span = λ at.
       let won = goes_on patience p s span (Some (gets p to_lock_unregistered)) plain refl (λ is. cc (is)) refl at.knows.0.in_time in
       let lost = missed patience p s span n plain refl at.knows.1 at.knows.0 in
@@ -155,8 +154,7 @@ module _ {V : Type 0} (v : V) (cap patience : ℕ) where
 
   -- Undisturbed, the exchange acquires a free lock, at once or after a look.
   -- A party that has begun to register does so, gets the lock, and stops starving.
-  soon : (p : ℕ) (c : FairCall) (l : FairPoint) (h : Option Hold) (s : Plain) (w : ℕ) (span : List Mark)
-      → OwesSoon (fair_table v cap patience) (fair_notes v cap patience) p c l h s w span
+  soon : SoonAll (fair_notes v cap patience)
   soon p Lock l h s w span = grind (arith, free_word p s w, clear_word p s w, not_there p s)
   soon p StarverLock l h s w span = grind (arith, clear_word p s w)
   soon p _ _ _ s w span = tt
@@ -168,7 +166,7 @@ module _ {V : Type 0} (v : V) (cap patience : ℕ) where
       let blind = blind-other patience p q s step r span ne in
       grind (arith, knows, looking-other patience p q s step r span ne, loading-other patience p q s step r span ne, starving, blind)
 
-  pub fair_pays : Pays (fair_table v cap patience) (fair_notes v cap patience)
+  pub fair_pays : Pays (fair_notes v cap patience)
   fair_pays =
       record {
         fits = λ p c l h. grind arith;
@@ -187,8 +185,8 @@ module _ {V : Type 0} (v : V) (cap patience : ℕ) where
         soon = soon;
       }
 
-abbrev pub fair_keeping : {V : Type 0} (v : V) (cap patience : ℕ) → LocalInvariant V FairCall FairPoint
-fair_keeping v cap patience = keeping_of (fair_table v cap patience) (fair_notes v cap patience)
+abbrev pub fair_keeping : {V : Type 0} (v : V) (cap patience : ℕ) → Notes (fair_table v cap patience)
+fair_keeping v cap patience = fair_notes v cap patience
 
-pub fair_facts : {V : Type 0} (v : V) (cap patience : ℕ) → Facts (fair_machine v cap patience) (fair_keeping v cap patience)
-fair_facts v cap patience = facts_of (fair_table v cap patience) (fair_notes v cap patience) (fair_pays v cap patience) refl
+pub fair_facts : {V : Type 0} (v : V) (cap patience : ℕ) → Plays (fair_machine v cap patience) (fair_keeping v cap patience)
+fair_facts v cap patience = plays_of (fair_pays v cap patience) refl

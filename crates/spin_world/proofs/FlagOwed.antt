@@ -10,11 +10,11 @@ use Rattle.spin_model.specs.Calls.{Mark}
 use Rattle.spin_model.specs.FlagKind.{flag}
 use Rattle.spin_model.specs.Acts.{begin_of}
 use Rattle.spin_model.specs.Flag.{asks_of, flag_table, flag_machine}
-use Rattle.spin_world_core.proofs.Facts.{LocalInvariant, Facts}
+use Rattle.spin_world_core.proofs.Steps.{Plays}
 use Rattle.spin_world_core.proofs.Rows.{starts_sound, starts}
-use Rattle.spin_world_core.proofs.Shapes.{Notes, keeping_of, OwesAt, OwesSoon, Pays}
+use Rattle.spin_world_core.proofs.Shapes.{Notes, OwesAll, SoonAll, Pays}
 use Rattle.spin_world_core.proofs.Usual.{no_queue}
-use Rattle.spin_world_core.proofs.Paid.{facts_of}
+use Rattle.spin_world_core.proofs.Filled.{plays_of}
 use Rattle.spin_model.specs.declared.flag.FlagCall.TheVariants.{Release}
 
 -- At each point the call is as at its beginning: it has made no plain step, and only `Lock`, which has no limit, makes
@@ -23,15 +23,14 @@ abbrev pub flag_notes : {V : Type 0} (v : V) → Notes (flag_table v)
 flag_notes v = record { Shape = λ s. s.tickets ≡ []; point = λ c l h. starts (begin_of (flag_table v) c h); Knows = λ c l h p s span. Unit {0} }
 
 module _ {V : Type 0} (v : V) where
-  owes : (p : ℕ) (c : FlagCall) (l : FlagPoint) (h : Option Hold) (s : Plain) (w : Bool) (span : List Mark) → OwesAt (flag_table v) (flag_notes v) p c l h s w span
+  owes : OwesAll (flag_notes v)
   owes p Release l h s w span = grind (arith, flag_unlock-gives s p writing w, is_holder-from_entries p writing s.holders, length-held p writing s.holders)
   owes p c l h s w span = grind (arith, flag_lock-grants s p w)
 
-  soon : (p : ℕ) (c : FlagCall) (l : FlagPoint) (h : Option Hold) (s : Plain) (w : Bool) (span : List Mark)
-      → OwesSoon (flag_table v) (flag_notes v) p c l h s w span
+  soon : SoonAll (flag_notes v)
   soon p c l h s w span = grind (arith, flag_lock-grants s p w)
 
-  pub flag_pays : Pays (flag_table v) (flag_notes v)
+  pub flag_pays : Pays (flag_notes v)
   flag_pays =
       record {
         fits = λ p c l h. grind arith;
@@ -51,8 +50,8 @@ module _ {V : Type 0} (v : V) where
         soon = soon;
       }
 
-abbrev pub flag_keeping : {V : Type 0} (v : V) → LocalInvariant V FlagCall FlagPoint
-flag_keeping v = keeping_of (flag_table v) (flag_notes v)
+abbrev pub flag_keeping : {V : Type 0} (v : V) → Notes (flag_table v)
+flag_keeping v = flag_notes v
 
-pub flag_facts : {V : Type 0} (v : V) → Facts (flag_machine v) (flag_keeping v)
-flag_facts v = facts_of (flag_table v) (flag_notes v) (flag_pays v) refl
+pub flag_facts : {V : Type 0} (v : V) → Plays (flag_machine v) (flag_keeping v)
+flag_facts v = plays_of (flag_pays v) refl

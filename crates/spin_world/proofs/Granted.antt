@@ -23,12 +23,12 @@ module _ {V : Type 0} (v : V) (cap patience : ℕ) where
 
   -- at any other point a party does not hold, or is no starver
   leaves_at : (p : ℕ) (c : FairCall) (l : FairPoint) (h : Option Hold)
-      → StandsSo (fair_table v cap patience) (fair_notes v cap patience) holds_starving p c l h → l ≡ Unregister
+      → StandsSo (fair_notes v cap patience) holds_starving p c l h → l ≡ Unregister
   leaves_at p c l h both = grind (arith, both)
 
   pub granted_next : (n : ℕ) (past : List (ℕ × Move FairCall V)) → IsGrantedNext m n past
   granted_next n past p c l h there is =
-      let both = calls_so (fair_table v cap patience) (fair_notes v cap patience) (fair_facts v cap patience) n past holds_starving p c l h
+      let both = calls_so (fair_machine v cap patience) (fair_notes v cap patience) (fair_facts v cap patience) n past holds_starving p c l h
       there (ap holds_starving is) in
       ap (λ o. (moves_at m (after m (at_first m n) past) p Step o).outcome) (there ∙ ap (λ l. Some (Calling c l h)) (leaves_at p c l h both))
 
@@ -43,7 +43,7 @@ module _ {V : Type 0} (v : V) (cap patience : ℕ) where
 
   abbrev WaitsAt : ℕ → FairCall → FairPoint → Option Hold → Type 0
   WaitsAt p c l h =
-      let row = row_of (fair_table v cap patience) (fair_notes v cap patience) c l h in
+      let row = row_of (fair_notes v cap patience) c l h in
       (passes_some (λ row. starves_alone (entries_at p row.stand)) row && (asks_of patience c h).waits) ≡ true
 
   goes_for : (p w : ℕ) → w % 2 ≡ 0 → (c : FairCall) (l : FairPoint) (h : Option Hold) → WaitsAt p c l h → GoesFor w c l h
@@ -54,7 +54,7 @@ module _ {V : Type 0} (v : V) (cap patience : ℕ) where
   pub goes_for_flag : (n : ℕ) (past : List (ℕ × Move FairCall V)) → GoesForAClearFlag m n past
   goes_for_flag n past p c l h there waits is free =
       let now = after m (at_first m n) past in
-      let alone = calls_so (fair_table v cap patience) (fair_notes v cap patience) (fair_facts v cap patience) n past starves_alone p c l h
+      let alone = calls_so (fair_machine v cap patience) (fair_notes v cap patience) (fair_facts v cap patience) n past starves_alone p c l h
       there (ap starves_alone is) in
       let plain = (seen_after m (opening m n) past).plain in
       let word : now.words ≡ fair_word plain = cc (numbers_are m (fair_keeping v cap patience) (fair_facts v cap patience) n past) in

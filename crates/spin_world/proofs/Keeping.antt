@@ -8,7 +8,7 @@ use Rattle.spin_world_core.specs.Values.{GivesAt}
 use Rattle.spin_world_core.proofs.Every.{kept, state-seen_after}
 use Rattle.spin_world_core.proofs.Reached as reached
 use Rattle.spin_world_core.proofs.Reached.{numbers_are, calls}
-use Rattle.spin_world_core.proofs.Paid.{uncompleted}
+use Rattle.spin_world_core.proofs.Filled.{uncompleted}
 use Rattle.spin_world_core.proofs.Values as values
 use Rattle.spin_world.proofs.OnceOwed.{once_keeping, once_facts}
 
@@ -32,7 +32,7 @@ module _ {V : Type 0} (value : Option V) where
   written_stays : (seen : OnceSeen V) (p : ℕ) (v : V) (o : Outcome (Answer V) V) (move : Move (OnceCall V) V) (put : Option V) (step : Option Change)
       → Good seen → MayTouch seen p o move → IsOpenStep seen.plain p step → keeps_value move ≡ true → seen.state.value ≡ Some v
       → last_written o move seen.written put step ≡ Some v
-  written_stays seen p v o move put step good touches may keeps is = grind (arith, good.shape, good.written, uncompleted seen.written put step)
+  written_stays seen p v o move put step good touches may keeps is = grind (arith, good.shape, good.phase, good.written, uncompleted seen.written put step)
 
   stays_one : (seen : OnceSeen V) (p : ℕ) (move : Move (OnceCall V) V) (v : V) → Good seen → keeps_value move ≡ true → seen.state.value ≡ Some v → (scene m seen p move).after.state.value ≡ Some v
   stays_one seen p move v good keeps is =
@@ -52,7 +52,7 @@ module _ {V : Type 0} (value : Option V) where
       let seen = seen_at m n past in
       let state = state-seen_after m (opening m n) past in
       record {
-        complete = (good n past).shape.1 ∙ ap (λ (s : OnceState V). is_some s.value) state;
+        complete = (good n past).phase ∙ ap (λ (s : OnceState V). is_some s.value) state;
         stays = λ v is shared.
             ap (λ (s : OnceState V). s.value) (after-append m (at_first m n) past further)
             ∙ subst (λ (s : OnceState V). (after m s further).value ≡ Some v) state (stays_on seen further v (good n past) shared (ap (λ (s : OnceState V). s.value) state ∙ is));
@@ -64,7 +64,7 @@ module _ {V : Type 0} (value : Option V) where
   -- a party at the end of a closure runs it, and nobody else runs one
 
   module _ (n : ℕ) (past : Entries V) (p : ℕ) (c : OnceCall V) (l : OncePoint) (h : Option Hold) (there : slice_get (once_after m n past).seats p ≡ Some (Calling c l h)) where
-    in_call_at : InCall m (once_keeping value) p c l h (seen_at m n past).plain (seen_at m n past).state.value (seen_at m n past).state.words ((seen_at m n past).span p)
+    in_call_at : InCall (once_keeping value) p c l h (seen_at m n past).plain (seen_at m n past).state.value (seen_at m n past).state.words ((seen_at m n past).span p)
     in_call_at = calls m (once_keeping value) (once_facts value) n past p c l h there
 
     -- if the word is not 1, no closure runs

@@ -1,8 +1,8 @@
 -- What the table of a `Once` must show.
-use Rattle.spin_world.proofs.OnceNames.{◌≡◌, ℕ, true, Option, Some, None, List, ◌∷◌, refl, arith, Plain, running, to_begin, Change, gets, completes, fails, runs-others, Hold, OnceCall, CallOnce, TryCallOnceOk, TryCallOnceErr, InitFromRef, Wait, Poll, Get, IsCompleted, OncePoint, Look, TryBegin, Run, Mark, Said, gives_value, failed, brings_of, once_table, once_machine, has_just_looked, LocalInvariant, Facts, Point, nowhere, looked, onward, Notes, no_holders, []}
+use Rattle.spin_world.proofs.OnceNames.{◌≡◌, ℕ, true, Option, Some, None, List, ◌∷◌, refl, arith, Plain, running, to_begin, Change, gets, completes, fails, runs-others, Hold, OnceCall, CallOnce, TryCallOnceOk, TryCallOnceErr, InitFromRef, Wait, Poll, Get, IsCompleted, OncePoint, Look, TryBegin, Run, Mark, Said, gives_value, failed, brings_of, once_table, once_machine, has_just_looked, Plays, Point, nowhere, looked, onward, Notes, no_holders, []}
 use Rattle.spin_world_core.proofs.Stands.{absent}
 use Rattle.spin_world_core.proofs.Operating.{one_place, operates_by}
-use Rattle.spin_world_core.proofs.Filled.{PaysWith, keeping_with, facts_with}
+use Rattle.spin_world_core.proofs.Filled.{PaysWith, plays_with}
 
 -- a call with a closure looks until it runs its closure; then only the end of the closure is left
 abbrev pub run_point : (ℕ → Change) → Said → OncePoint → Option Hold → Point
@@ -35,7 +35,7 @@ abbrev pub once_notes : {V : Type 0} (value : Option V) → Notes (once_table va
 once_notes value = record { Shape = λ s. IsFree s; point = point_of; Knows = λ c l h p s span. RunsAt l p s span }
 
 module _ {V : Type 0} (value : Option V) where
-  pub once_pays : PaysWith (once_table value) (once_notes value) brings_of
+  pub once_pays : PaysWith (once_notes value) brings_of
   once_pays =
       record {
         pays = record {
@@ -54,17 +54,17 @@ module _ {V : Type 0} (value : Option V) where
           owes = λ p c l h s w span. grind arith;
           soon = λ p c l h s w span. grind arith;
         };
+        makes = refl;
         strong = λ c h d. grind arith;
         says = λ a. refl;
-        phase_first = grind arith;
         none_writes = λ s p free. grind arith;
         none_holds = λ s free. grind arith;
         completes_right = λ p c l h. grind arith;
         tells = λ p c l h s w e. grind arith;
       }
 
-abbrev pub once_keeping : {V : Type 0} (value : Option V) → LocalInvariant V (OnceCall V) OncePoint
-once_keeping value = keeping_with (once_table value) (once_notes value) brings_of (once_pays value)
+abbrev pub once_keeping : {V : Type 0} (value : Option V) → Notes (once_table value)
+once_keeping value = once_notes value
 
-pub once_facts : {V : Type 0} (value : Option V) → Facts (once_machine value) (once_keeping value)
-once_facts value = facts_with (once_table value) (once_notes value) brings_of (once_pays value)
+pub once_facts : {V : Type 0} (value : Option V) → Plays (once_machine value) (once_keeping value)
+once_facts value = plays_with (once_pays value)

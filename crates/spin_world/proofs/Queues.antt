@@ -1,5 +1,5 @@
 -- What users of a ticket lock may rely on.
-use Rattle.spin_world.proofs.TicketNames.{◌≡◌, ℕ, ◌+◌, Option, Some, List, ◌∷◌, ◌++◌, slice_get, ap, arith, Plain, Change, serving_word, apply_some, IsOpenStep, Entries, bit, Numbered, serving-moves, entered_is_served, Answer, Holding, Move, TicketCall, TicketPoint, TicketWords, after, at_first, Seen, scene, opening, ticket_machine, seen_after, passes, serves_one, tickets_gone, InOrder, InTurn, LocalInvariant, []}
+use Rattle.spin_world.proofs.TicketNames.{◌≡◌, ℕ, ◌+◌, Option, Some, List, ◌∷◌, ◌++◌, slice_get, ap, arith, Plain, Change, serving_word, apply_some, IsOpenStep, Entries, bit, Numbered, serving-moves, entered_is_served, Answer, Holding, Move, TicketCall, TicketPoint, TicketWords, after, at_first, Seen, scene, opening, ticket_machine, seen_after, passes, serves_one, tickets_gone, InOrder, InTurn, Notes, ticket_table, []}
 use Rattle.spin_model.specs.declared.place.Hold.TheVariants as hold
 use Rattle.spin_model.specs.Machines.{Machine}
 use Rattle.spin_world.proofs.TicketOwed.{ticket_keeping, ticket_facts}
@@ -15,7 +15,7 @@ module _ {V : Type 0} (v : V) (first : ℕ) where
   abbrev m : Machine TicketWords V TicketCall TicketPoint (Answer V)
   m = ticket_machine v first
 
-  abbrev k : LocalInvariant V TicketCall TicketPoint
+  abbrev k : Notes (ticket_table v first)
   k = ticket_keeping v first
 
   served : (seen : Seen TicketWords V TicketCall TicketPoint) (es : List (ℕ × Move TicketCall V)) → Invariant m k seen

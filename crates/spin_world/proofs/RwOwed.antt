@@ -1,15 +1,15 @@
 -- What the table of the read-write lock must show.
-use Rattle.spin_world.proofs.RwNames.{◌≡◌, ℕ, ◌+◌, ◌/◌, ◌≤◌, true, false, Option, Some, None, List, ◌∷◌, ◌++◌, length, nat_lt, refl, ap, sym, ◌∙◌, arith, eq-eqb, length-append, Plain, Kind, reading, upgradable, asking, writing, weight, Holder, holder, to_read, to_read_upgradable, to_write, to_upgrade, to_upgrade_asked, Change, gets, releases, turns, may_come, is_empty, is_holder, may_turn, with_kind, rw_word, Entries, entries, IsExclusive, reader_limit, tells, read, read_upgradable, write, upgrade, upgrade_asked, released, is_holder-from_entries, is_holder-own, length-without_holder, empty_is, room_to_come, one_of_each, read-word, upgradable_read-word, upgradable-word, tells-holder, readers-word, writers-word, only_upgradable-word, only_asking-word, empty-word, Hold, RwCall, TryRead, Read, TryUpgradeableRead, UpgradeableRead, TryWrite, TryWriteWeak, Write, ReaderCount, WriterCount, TryUpgrade, TryUpgradeWeak, Upgrade, Downgrade, DowngradeToUpgradeable, Release, RwPoint, Exchange, Asking, Mark, begin_of, holds, entries_at, Notes, keeping_of, Means, OwesAt, OwesSoon, Pays, no_queue, [], turned_to}
+use Rattle.spin_world.proofs.RwNames.{◌≡◌, ℕ, ◌+◌, ◌/◌, ◌≤◌, true, false, Option, Some, None, List, ◌∷◌, ◌++◌, length, nat_lt, refl, ap, sym, ◌∙◌, arith, eq-eqb, length-append, Plain, Kind, reading, upgradable, asking, writing, weight, Holder, holder, to_read, to_read_upgradable, to_write, to_upgrade, to_upgrade_asked, Change, gets, releases, turns, may_come, is_empty, is_holder, may_turn, with_kind, rw_word, Entries, entries, IsExclusive, reader_limit, tells, read, read_upgradable, write, upgrade, upgrade_asked, released, is_holder-from_entries, is_holder-own, length-without_holder, empty_is, room_to_come, one_of_each, read-word, upgradable_read-word, upgradable-word, tells-holder, readers-word, writers-word, only_upgradable-word, only_asking-word, empty-word, Hold, RwCall, TryRead, Read, TryUpgradeableRead, UpgradeableRead, TryWrite, TryWriteWeak, Write, ReaderCount, WriterCount, TryUpgrade, TryUpgradeWeak, Upgrade, Downgrade, DowngradeToUpgradeable, Release, RwPoint, Exchange, Asking, Mark, begin_of, holds, entries_at, Notes, Means, OwesAll, SoonAll, Pays, no_queue, [], turned_to}
 use Rattle.std.specs.Prelude.{min, max}
 use Rattle.spin_step.proofs.Sums.{length-with_kind}
 use Rattle.spin_step_more.proofs.ReaderSteps.{rw_read-grants, rw_upgradable-grants, rw_write-grants, rw_upgrade-grants, rw_upgrade_asked-grants, rw_release-gives, rw_turn-gives}
 use Rattle.spin_model.specs.declared.place.Hold.TheVariants as hold
 use Rattle.spin_model.specs.Calls as calls
 use Rattle.spin_step_more.specs.RwCalls.{rw_table, rw_machine}
-use Rattle.spin_world_core.proofs.Facts.{LocalInvariant, Facts}
+use Rattle.spin_world_core.proofs.Steps.{Plays}
 use Rattle.spin_world_core.proofs.Rows.{Row, Point, starts, looked, onward}
 use Rattle.spin_world_core.proofs.Operating.{one_place, operates_by}
-use Rattle.spin_world_core.proofs.Paid.{facts_of}
+use Rattle.spin_world_core.proofs.Filled.{plays_of}
 
 -- a reader that has asked to upgrade becomes the writer
 abbrev pub asking_row : Row
@@ -43,7 +43,7 @@ writes_nothing p s mine = grind (arith, is_holder-own p writing s.holders)
 
 module _ {V : Type 0} (v : V) (cap : ℕ) where
   abbrev IsMeant : ℕ → Plain → Change → Option ℕ → Type 0
-  IsMeant p s c o = Means (rw_table v cap) (rw_notes v cap) p s c (λ k. k) o
+  IsMeant p s c o = Means (rw_notes v cap) p s c (λ k. k) o
 
   -- The shape after a step
 
@@ -105,7 +105,7 @@ module _ {V : Type 0} (v : V) (cap : ℕ) where
     reads_upgradable : may_come upgradable s ≡ true → read_upgradable cap w ≡ Some (w + weight upgradable)
     reads_upgradable may = rw (sym (upgradable_read-word s w cap (one_of_each s exclusive) shape.room word) ∙ may) refl
 
-  owes : (p : ℕ) (c : RwCall) (l : RwPoint) (h : Option Hold) (s : Plain) (w : ℕ) (span : List Mark) → OwesAt (rw_table v cap) (rw_notes v cap) p c l h s w span
+  owes : OwesAll (rw_notes v cap)
   owes p TryRead l h s w span = grind (arith, read_means p s w)
   owes p Read l h s w span = grind (arith, read_means p s w)
   owes p TryUpgradeableRead l h s w span = grind (arith, upgradable_means p s w)
@@ -124,8 +124,7 @@ module _ {V : Type 0} (v : V) (cap : ℕ) where
 
   -- Undisturbed, the exchange succeeds on a word that admits the party, at once or after a look
 
-  soon : (p : ℕ) (c : RwCall) (l : RwPoint) (h : Option Hold) (s : Plain) (w : ℕ) (span : List Mark)
-      → OwesSoon (rw_table v cap) (rw_notes v cap) p c l h s w span
+  soon : SoonAll (rw_notes v cap)
   soon p Read l h s w span = grind (arith, reads p s w, eq-eqb w w)
   soon p UpgradeableRead l h s w span = grind (arith, reads_upgradable p s w, eq-eqb w w)
   soon p Write l h s w span = grind (arith, empty-word s.holders w)
@@ -134,7 +133,7 @@ module _ {V : Type 0} (v : V) (cap : ℕ) where
       grind (arith, writes_nothing p s, only_asking-word s p w, only_one, one_of_each s, holder_by p asking s, holder_by p upgradable s)
   soon p _ _ _ s w span = tt
 
-  pub rw_pays : Pays (rw_table v cap) (rw_notes v cap)
+  pub rw_pays : Pays (rw_notes v cap)
   rw_pays =
       record {
         fits = λ p c l h. grind arith;
@@ -153,8 +152,8 @@ module _ {V : Type 0} (v : V) (cap : ℕ) where
         soon = soon;
       }
 
-abbrev pub rw_keeping : {V : Type 0} (v : V) (cap : ℕ) → LocalInvariant V RwCall RwPoint
-rw_keeping v cap = keeping_of (rw_table v cap) (rw_notes v cap)
+abbrev pub rw_keeping : {V : Type 0} (v : V) (cap : ℕ) → Notes (rw_table v cap)
+rw_keeping v cap = rw_notes v cap
 
-pub rw_facts : {V : Type 0} (v : V) (cap : ℕ) → Facts (rw_machine v cap) (rw_keeping v cap)
-rw_facts v cap = facts_of (rw_table v cap) (rw_notes v cap) (rw_pays v cap) refl
+pub rw_facts : {V : Type 0} (v : V) (cap : ℕ) → Plays (rw_machine v cap) (rw_keeping v cap)
+rw_facts v cap = plays_of (rw_pays v cap) refl

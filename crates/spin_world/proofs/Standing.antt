@@ -7,6 +7,7 @@ use Rattle.spin_model.specs.declared.schedule.Move.{Move}
 use Rattle.spin_model.specs.declared.schedule.Move.TheVariants.{Step}
 use Rattle.spin_model.specs.declared.schedule.Outcome.TheVariants.{Answered}
 use Rattle.spin_model.specs.Schedules.{State, moves_at, after, at_first}
+use Rattle.spin_world_core.proofs.Steps.{Knows}
 use Rattle.spin_world_core.specs.Runs.{Seen, scene, opening, entries_of, is_reader}
 use Rattle.spin_world_core.specs.Users.{seen_after, passes, ReadsAgreeAcross}
 use Rattle.spin_step_more.specs.RwCalls.{rw_table, rw_machine}
@@ -45,7 +46,7 @@ module _ {V : Type 0} (v : V) (cap : ℕ) where
   Upgrades s p c l h = ((moves_at (rw_machine v cap) s p Step (Some (Calling c l h))).outcome ≡ Answered Granted None) ↔ ((s.words == weight asking) ≡ true)
 
   abbrev AsksAt : RwCall → RwPoint → Option Hold → Type 0
-  AsksAt c l h = passes_some (λ row. may_ask row.stand) (row_of (rw_table v cap) (rw_notes v cap) c l h) ≡ true
+  AsksAt c l h = passes_some (λ row. may_ask row.stand) (row_of (rw_notes v cap) c l h) ≡ true
 
   upgraded : (s : State ℕ V RwCall RwPoint) (p : ℕ) (c : RwCall) (l : RwPoint) (h : Option Hold) → AsksAt c l h → Upgrades s p c l h
   upgraded s p c l h asks = grind (arith, asks)
@@ -106,7 +107,7 @@ module _ {V : Type 0} (v : V) (cap : ℕ) where
         opens = left;
         granted = λ c l h there.
             let knows = (calls m (rw_keeping v cap) (rw_facts v cap) n all p c l h there).knows in
-            let asks = row_passes (rw_table v cap) (rw_notes v cap) c l h p _ _ (λ row. may_ask row.stand)
+            let asks = row_passes (rw_notes v cap) c l h p _ _ (λ row. may_ask row.stand)
             (λ row is made. asks_by p later.plain row.stand found is) _ knows in
             let step = upgraded now p c l h asks in
             let at = ap (λ o. (moves_at m now p Step o).outcome) there in
@@ -121,7 +122,7 @@ module _ {V : Type 0} (v : V) (cap : ℕ) where
   downgraded s p c l h held is there = grind (arith, λ (now : Hold). get-set_same s.seats p (Holding now) (Calling c l h) there)
 
   -- a party that is in such a call holds
-  holds_there : (p : ℕ) (c : RwCall) (l : RwPoint) (h : Option Hold) (held : Hold) (s : Plain) (span : List Mark) → less c ≡ Some held → (rw_keeping v cap).Knows c l h p s span → KeepsWritersOut p s
+  holds_there : (p : ℕ) (c : RwCall) (l : RwPoint) (h : Option Hold) (held : Hold) (s : Plain) (span : List Mark) → less c ≡ Some held → Knows (rw_keeping v cap) c l h p s span → KeepsWritersOut p s
   holds_there p c l h held s span is knows =
       grind (arith, knows, holder_by p writing s, holder_by p upgradable s, keeps_writers_out p writing s, keeps_writers_out p upgradable s)
 
@@ -150,13 +151,13 @@ module _ {V : Type 0} (v : V) (cap : ℕ) where
   -- Reads across conversions
 
   abbrev reads_at : ℕ → RwCall → RwPoint → Hold → Bool
-  reads_at p c l h = passes_all (λ row. is_reader (entries_at p row.stand)) (row_of (rw_table v cap) (rw_notes v cap) c l (Some h))
+  reads_at p c l h = passes_all (λ row. is_reader (entries_at p row.stand)) (row_of (rw_notes v cap) c l (Some h))
 
   pub looks_agree : (n : ℕ) (past : List (ℕ × Move RwCall V)) → ReadsAgreeAcross converts m n past
   looks_agree n past =
       reads_agree_across m (rw_keeping v cap) (rw_facts v cap) converts
       (record {
-        reads = λ p c l h s span is may knows. row_tells (rw_table v cap) (rw_notes v cap) c l (Some h) p s span is_reader _ knows (grind (arith, is));
+        reads = λ p c l h s span is may knows. row_tells (rw_notes v cap) c l (Some h) p s span is_reader _ knows (grind (arith, is));
         steps = λ c l h w value is may. grind (arith, is, may);
         refuses = λ c l h next is may weak. grind (arith, is, may, weak);
       })

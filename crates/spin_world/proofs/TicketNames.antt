@@ -17,9 +17,9 @@ pub use Rattle.spin_model.specs.declared.ticket.TicketCall.TheVariants.{Lock, Tr
 pub use Rattle.spin_model.specs.declared.ticket.TicketPoint.{TicketPoint}
 pub use Rattle.spin_model.specs.declared.ticket.TicketPoint.TheVariants.{LoadNext, Take, Await, TryLoadNext, TryLoadServing, TryTake, LookServing, LookNext, Serve}
 pub use Rattle.spin_model.specs.Acts.{passing}
-pub use Rattle.spin_world_core.proofs.Facts.{LocalInvariant, Facts}
+pub use Rattle.spin_world_core.proofs.Steps.{Plays}
 pub use Rattle.spin_world_core.proofs.Stands.{queues, entries_at}
-pub use Rattle.spin_world_core.proofs.Shapes.{Notes, keeping_of, Means, OwesAt, OwesSoon, Pays}
+pub use Rattle.spin_world_core.proofs.Shapes.{Notes, Means, OwesAll, SoonAll, Pays}
 pub use Rattle.spin_world_core.proofs.Usual.{two, no_holders, two_places}
 pub use Rattle.spin_model.specs.declared.place.Seat.TheVariants.{Calling, Holding}
 pub use Rattle.spin_model.specs.declared.schedule.Move.{Move}

@@ -1,5 +1,5 @@
 -- What the ticket lock's table must show.
-use Rattle.spin_world.proofs.TicketNames.{serving-advances, ◌≡◌, ℕ, ◌+◌, ◌-◌, ◌≤◌, ◌==◌, true, false, filter, Option, Some, None, List, ◌∷◌, refl, ap, sym, ◌∙◌, arith, Plain, is_first, effect, to_take_ticket, to_enter, to_take_and_enter, Change, gets, serves, next_word, serving_word, Entries, entries, take, enters_in_turn, numbered-given, numbered-serves, serving-taken, serving-entered, entered_is_served, stands, Hold, TicketWords, TicketCall, Lock, TryLock, IsLocked, Release, TicketPoint, LoadNext, Take, Await, TryLoadNext, TryLoadServing, TryTake, LookServing, LookNext, Serve, own_count, plain, passing, is_left, ticket_table, ticket_machine, LocalInvariant, Facts, queues, entries_at, any_map, Point, nowhere, looked, onward, Notes, keeping_of, Means, OwesAt, OwesSoon, Pays, two, no_holders, two_places, [], Queued, queued}
+use Rattle.spin_world.proofs.TicketNames.{serving-advances, ◌≡◌, ℕ, ◌+◌, ◌-◌, ◌≤◌, ◌==◌, true, false, filter, Option, Some, None, List, ◌∷◌, refl, ap, sym, ◌∙◌, arith, Plain, is_first, effect, to_take_ticket, to_enter, to_take_and_enter, Change, gets, serves, next_word, serving_word, Entries, entries, take, enters_in_turn, numbered-given, numbered-serves, serving-taken, serving-entered, entered_is_served, stands, Hold, TicketWords, TicketCall, Lock, TryLock, IsLocked, Release, TicketPoint, LoadNext, Take, Await, TryLoadNext, TryLoadServing, TryTake, LookServing, LookNext, Serve, own_count, plain, passing, is_left, ticket_table, ticket_machine, Plays, queues, entries_at, any_map, Point, nowhere, looked, onward, Notes, Means, OwesAll, SoonAll, Pays, two, no_holders, two_places, [], Queued, queued}
 use Rattle.spin_step.specs.Parties.{first_alone_entered}
 use Rattle.spin_step.proofs.TicketSteps.{ticket_take-grants_alone, ticket_serve-gives}
 use Rattle.spin_model.specs.declared.place.Hold.TheVariants as hold
@@ -7,7 +7,7 @@ use Rattle.spin_model.specs.Calls.{AnyOf, Mark, granted}
 use Rattle.spin_world_core.proofs.Lists.{eqb_self}
 use Rattle.spin_world_core.proofs.Operating.{operates_by}
 use Rattle.spin_world_core.proofs.Spans.{own_count-mine, own_count-other}
-use Rattle.spin_world_core.proofs.Paid.{facts_of}
+use Rattle.spin_world_core.proofs.Filled.{plays_of}
 use Rattle.spin_world.proofs.TicketKnowledge.{Queue, Stays, Rises, try_refused, look_right}
 
 abbrev pub point_of : TicketCall → TicketPoint → Option Hold → Point
@@ -41,7 +41,7 @@ not_entered p t (k ∷ ts) mine = grind arith
 
 module _ {V : Type 0} (v : V) (first : ℕ) where
   abbrev IsMeant : ℕ → Plain → Change → (ℕ → TicketWords) → Option ℕ → Type 0
-  IsMeant p s c put o = Means (ticket_table v first) (ticket_notes v first) p s c put o
+  IsMeant p s c put o = Means (ticket_notes v first) p s c put o
 
   -- what the step functions mean there
   module _ (p : ℕ) (s : Plain) (w : TicketWords) (queue : Queue s) (next_is : s.next ≡ w.next) (serving_is : serving_word s ≡ w.serving) where
@@ -71,7 +71,7 @@ module _ {V : Type 0} (v : V) (first : ℕ) where
         let gives = ticket_serve-gives s p t queue.numbered.0 (here.1 ∙ sym same) here.0 in
         grind (arith, here, gives, queue, numbered-serves s p queue.numbered, stands p u true s.tickets tickets)
 
-  owes : (p : ℕ) (c : TicketCall) (l : TicketPoint) (h : Option Hold) (s : Plain) (w : TicketWords) (span : List Mark) → OwesAt (ticket_table v first) (ticket_notes v first) p c l h s w span
+  owes : OwesAll (ticket_notes v first)
   owes p TryLock (TryLoadServing n) None s w span =
       let found = any_map (λ m. (m.party ≡ p) × (next_word m.before ≡ n)) (λ m. (m.party ≡ p) × (next_word m.before ≡ serving_word s)) span in
       grind (arith, found, try_refused p n s span, own_count-mine p None plain s span)
@@ -81,11 +81,10 @@ module _ {V : Type 0} (v : V) (first : ℕ) where
 
   -- Undisturbed, the party takes the next ticket, at once or after a look, and enters if it is served
 
-  soon : (p : ℕ) (c : TicketCall) (l : TicketPoint) (h : Option Hold) (s : Plain) (w : TicketWords) (span : List Mark)
-      → OwesSoon (ticket_table v first) (ticket_notes v first) p c l h s w span
+  soon : SoonAll (ticket_notes v first)
   soon p c l h s w span = grind (arith, enters_in_turn s p w.serving, λ (t : ℕ). not_entered p t s.tickets)
 
-  pub ticket_pays : Pays (ticket_table v first) (ticket_notes v first)
+  pub ticket_pays : Pays (ticket_notes v first)
   ticket_pays =
       record {
         fits = λ p c l h. grind arith;
@@ -105,8 +104,8 @@ module _ {V : Type 0} (v : V) (first : ℕ) where
         soon = soon;
       }
 
-abbrev pub ticket_keeping : {V : Type 0} (v : V) (first : ℕ) → LocalInvariant V TicketCall TicketPoint
-ticket_keeping v first = keeping_of (ticket_table v first) (ticket_notes v first)
+abbrev pub ticket_keeping : {V : Type 0} (v : V) (first : ℕ) → Notes (ticket_table v first)
+ticket_keeping v first = ticket_notes v first
 
-pub ticket_facts : {V : Type 0} (v : V) (first : ℕ) → Facts (ticket_machine v first) (ticket_keeping v first)
-ticket_facts v first = facts_of (ticket_table v first) (ticket_notes v first) (ticket_pays v first) refl
+pub ticket_facts : {V : Type 0} (v : V) (first : ℕ) → Plays (ticket_machine v first) (ticket_keeping v first)
+ticket_facts v first = plays_of (ticket_pays v first) refl

@@ -1,10 +1,52 @@
--- An object whose closures make its value: what its table must show, and that it then shows all local facts.
-use Rattle.spin_world_core.proofs.Names.{◌≡◌, ℕ, zero, suc, Bool, true, false, is_some, Option, Some, None, List, ◌∷◌, sym, ◌∙◌, arith, false≢true, Plain, Phase, Change, completes, is_complete, apply_some, IsOpenStep, entries, is_held, Answer, Hold, Next, Continue, Answers, Stepped, Step, StepKind, by_step, encoded, says_of, Mark, Machine, opening_phase, placed, mark_of, if_completed, is_writer, Memory, Act, store, step_by, change_at, change_by, makes_by, is_completion, step_kind_by, Table, machine_of, completes_by, brought, filled, machine_with, steps_alone}
+-- The machines that play a table: that of an object which makes no value, and that of an object whose closures make its value.
+use Rattle.spin_world_core.proofs.Names.{◌≡◌, ℕ, Bool, true, false, is_some, Option, Some, None, refl, ap, sym, ◌∙◌, subst, arith, true≢false, false≢true, Plain, Phase, Change, completes, is_complete, apply_some, IsOpenStep, entries, is_held, Answer, Hold, Next, Continue, Answers, encoded, says_of, placed, HasPhase, if_completed, is_writer, Memory, Act, store, step_by, change_at, change_by, makes_by, is_completion, Table, machine_of, completes_by, brought, filled, machine_with}
 use Rattle.spin_model.specs.declared.answer.Answer.TheVariants.{Value}
-use Rattle.spin_world_core.proofs.Facts.{LocalInvariant, AnswersWithin, InCall, NextIs, NextGives, StepIs, PointFacts, Facts}
-use Rattle.spin_world_core.proofs.Operating.{change_is, open_filled, counted_filled, stepwise_with}
-use Rattle.spin_world_core.proofs.Shapes.{Notes, row_of, KnowsRow, keeping_of, answers_by, Pays}
-use Rattle.spin_world_core.proofs.Paid.{uncompleted, Shown, shown_here, others_here, begins_here}
+use Rattle.spin_world_core.proofs.Operating.{change_is, fits_change, stepwise_of, stepwise_with}
+use Rattle.spin_world_core.proofs.Shapes.{Notes, Pays}
+use Rattle.spin_world_core.proofs.Steps.{told, NextGives, Plays}
+
+-- a step that completes no closure does not change the value last written
+pub uncompleted : {V : Type 0} (old put : Option V) (step : Option Change) → ((q : ℕ) → step ≡ Some (completes q) → ⊥) → old ≡ if_completed old put step
+uncompleted old put step none = grind (arith, none)
+
+-- no closure makes the value: no step stores one
+
+stores_none : {W V L A : Type 0} (m : Memory W) (i : ℕ) (act : Act W L A) (w : W) → (step_by {V = V} m i act w).placed ≡ None
+stores_none {V} m i act w = grind arith
+
+module _ {W V C L A : Type 0} {t : Table W V C L A} {n : Notes t} (pays : Pays n) (no_value : t.lock_kind.makes_value ≡ false) where
+  no_completion : (p : ℕ) (c : C) (l : L) (h : Option Hold) (w : W) (q : ℕ) → change_by t.memory (t.word l) (t.act c l h) p w ≡ Some (completes q) → ⊥
+  no_completion p c l h w q is = true≢false (sym (fits_change t pays.fits pays.operates p c l h _ w (completes q) is).0 ∙ no_value)
+
+  no_phase : (phase : Phase) (v : Option V) → HasPhase t.lock_kind.makes_value phase v
+  no_phase phase v = subst (λ made. HasPhase made phase v) (sym no_value) tt
+
+  silent : (v : Option V) (next : Next L A) → NextGives (machine_of t) v next
+  silent v next = grind (arith, no_value)
+
+  pub plays_of : Plays (machine_of t) n
+  plays_of =
+      record {
+        pays = pays;
+        stepwise = stepwise_of t pays.fits pays.operates pays.calls pays.own;
+        words = λ w v c l h. refl;
+        continues = λ w v c l h k is. is;
+        refuses = λ c l h next is. (next, is, refl);
+        refusal_gives = λ c l h v next is. silent v next;
+        values = λ p c l h s v w encodes shape phase opens. record {
+          tells = refl;
+          phase = no_phase _ _;
+          places =
+              ap (λ o. placed o v) (stores_none t.memory (t.word l) (t.act c l h) w)
+              ∙ uncompleted v _ _ (λ q is. no_completion p c l h w q is);
+          completes_alone = λ q is. absurd (no_completion p c l h w q is);
+          brings = λ q is. absurd (no_completion p c l h w q is);
+          gives = silent _ _;
+        };
+        written = λ s p v shape writes. no_phase _ _;
+      }
+
+-- closures make the value
 
 abbrev is_end : Option Change → Bool
 is_end None = false
@@ -28,18 +70,16 @@ abbrev pub TellsBy : {W L : Type 0} (V : Type 0) → Memory W → ℕ → Act W 
 TellsBy V m i act p s w = TellsOf (apply_some s (change_by m i act p w)).phase (step_by {V = V} m i act w).next
 
 -- what an object shows of its table
-pub record PaysWith {W V C L : Type 0} (t : Table W V C L (Answer (Unit {0}))) (n : Notes t) (brings : C → Option V) : Type 0 where
-  pub pays : Pays t n
+pub record PaysWith {W V C L : Type 0} {t : Table W V C L (Answer (Unit {0}))} (n : Notes t) (brings : C → Option V) : Type 0 where
+  pub pays : Pays n
+  pub makes : t.lock_kind.makes_value ≡ true
   pub strong : (c : C) (h : Option Hold) (d : Change) → (t.asks c h).gets_weakly d ≡ false
   pub says : (a : Answer (Unit {0})) → t.says a ≡ says_of a
-  pub phase_first : is_complete (opening_phase t.lock_kind.makes_value t.value) ≡ is_some t.value
   -- nobody holds it
   pub none_writes : (s : Plain) (p : ℕ) → n.Shape s → is_writer (entries p s) ≡ false
   pub none_holds : (s : Plain) → n.Shape s → is_held s ≡ false
   pub completes_right : (p : ℕ) (c : C) (l : L) (h : Option Hold) → CompletesRight (t.act c l h) p (brings c)
   pub tells : (p : ℕ) (c : C) (l : L) (h : Option Hold) (s : Plain) (w : W) → t.memory.numbers w ≡ encoded t.lock_kind s → TellsBy V t.memory (t.word l) (t.act c l h) p s w
-
--- Phases and values
 
 -- whether there is a value changes only at the end of a closure
 phase-kept : (s : Plain) (p : ℕ) (step : Option Change) (b : Bool) → ((q : ℕ) → step ≡ Some (completes q) → ⊥) → IsOpenStep s p step → is_complete s.phase ≡ b → is_complete (apply_some s step).phase ≡ b
@@ -55,86 +95,36 @@ puts_by : {W V L A : Type 0} (n : ℕ) (act : Act W L A) (s : Plain) (p : ℕ) (
     → Puts s v value (brought (completes_by act) value) (change_at n act p w)
 puts_by n act s p v value w right may e = grind (arith, change_is n act p w, phase-kept s p, uncompleted v)
 
--- Answers
+module _ {W V C L : Type 0} {t : Table W V C L (Answer (Unit {0}))} {n : Notes t} {brings : C → Option V} (pays : PaysWith n brings) where
+  tells_with : (s : Plain) (v : Option V) (next : Next L (Answer (Unit {0}))) → is_complete s.phase ≡ is_some v → TellsOf s.phase next
+      → told says_of (filled v next) ≡ told t.says next
+  tells_with s v next e tells = grind (arith, pays.says)
 
-module _ {W V C L : Type 0} (t : Table W V C L (Answer (Unit {0}))) (n : Notes t) (brings : C → Option V) (pays : PaysWith t n brings) where
-  abbrev m : Machine W V C L (Answer V)
-  m = machine_with t brings
+  gives_at : (v : Option V) (next : Next L (Answer (Unit {0}))) → NextGives (machine_with t brings) v (filled v next)
+  gives_at v next = grind (arith, pays.makes)
 
-  -- nobody holds it, and there is a value exactly if a closure has completed
-  abbrev pub keeping_with : LocalInvariant V C L
-  keeping_with = record { Shape = λ s v. n.Shape s × (is_complete s.phase ≡ is_some v); Knows = λ c l h p s span. KnowsRow t n c l h p s span (row_of t n c l h) }
+  continues_with : (v : Option V) (k : L) (next : Next L (Answer (Unit {0}))) → filled v next ≡ Continue k → next ≡ Continue k
+  continues_with v k next is = grind (arith, is)
 
-  next_with : (p : ℕ) (c : C) (h : Option Hold) (s : Plain) (span : List Mark) (v : Option V) (next : Next L (Answer (Unit {0}))) → is_complete s.phase ≡ is_some v → TellsOf s.phase next
-      → NextIs (machine_of t) (keeping_of t n) Step p c h s span next → NextIs m keeping_with Step p c h s span (filled v next)
-  next_with p c h s span v next e tells is = grind (arith, pays.says, is)
-
-  answers_with : (k : ℕ) (w : W) (c : C) (l : L) (h : Option Hold) → answers_by t k w c l h ≡ true → AnswersWithin m k w c l h
-  answers_with zero w c l h soon = absurd (false≢true soon)
-  answers_with (suc k) w c l h soon = grind (arith, soon, answers_with k)
-
-  -- at a point of a call
-  module _ (p : ℕ) (c : C) (l : L) (h : Option Hold) (s : Plain) (v : Option V) (w : W) (span : List Mark) (here : InCall m keeping_with p c l h s v w span) where
-    abbrev st : Stepped W V L (Answer (Unit {0}))
-    st = step_by t.memory (t.word l) (t.act c l h) w
-
-    abbrev step : Option Change
-    step = change_by t.memory (t.word l) (t.act c l h) p w
-
-    abbrev step_kind : StepKind
-    step_kind = by_step (step_kind_by (t.asks c h) (t.act c l h))
-
-    shown : Shown t n p c l h s w span
-    shown = shown_here t n pays.pays p c l h s w span here.encodes here.shape.0 here.exclusive here.retries here.knows
-
-    puts : Puts s v (brings c) (brought (completes_by (t.act c l h)) (brings c)) step
-    puts = puts_by _ (t.act c l h) s p v (brings c) w (pays.completes_right p c l h) shown.went.opens here.shape.1
-
-    step_here : StepIs m keeping_with p c h s v span (m.step w v c l h) step step_kind
-    step_here =
-        record {
-          opens = shown.went.opens;
-          belongs = shown.went.belongs;
-          encodes = shown.went.encodes;
-          shape = (shown.went.shape, puts.phase);
-          places = puts.places;
-          next =
-              next_with p c h (apply_some s step) (mark_of p step step_kind s ∷ span) _ st.next puts.phase (pays.tells p c l h s w here.encodes) shown.went.next;
-          fails = shown.went.fails;
-        }
-
-    gives_at : (value : Option V) (next : Next L (Answer (Unit {0}))) → NextGives m value (filled value next)
-    gives_at value next = grind arith
-
-    at_point : PointFacts m keeping_with p c l h s v w span
-    at_point =
-        record {
-          can = shown.can;
-          step = step_here;
-          counted = counted_filled _ s _ st.next _ _ shown.counted;
-          due = shown.due;
-          tries_on = λ ask is none. open_filled ask p span s _ st.next _ (shown.tries_on ask is none);
-          undisturbed = λ may. answers_with (steps_alone (t.asks c h)) w c l h (shown.soon may);
-          completes_alone = λ q is. pays.none_holds s here.shape.0;
-          refuses = λ next is. absurd (cc (is));
-          weakly = λ next is. absurd (cc (is));
-          values = record { brings = puts.brings; gives = gives_at _ st.next };
-          refusal_gives = λ next is. absurd (cc (is));
-        }
-
-  pub facts_with : Facts m keeping_with
-  facts_with =
+  pub plays_with : Plays (machine_with t brings) n
+  plays_with =
       record {
+        pays = pays.pays;
         stepwise = stepwise_with t brings pays.pays.fits pays.pays.operates pays.pays.calls pays.pays.own pays.strong;
-        first = pays.pays.first;
-        shape_first = (pays.pays.shape_first, pays.phase_first);
-        numbers_tell = pays.pays.numbers_tell;
-        one_list = λ s v shape. pays.pays.one_list s shape.0;
-        shape_written = λ s p old v writes shape. absurd (false≢true (sym (pays.none_writes s p shape.0) ∙ writes));
-        shape_set = λ s old v shape. shape;
-        phase = λ s v shape. grind (arith, shape.1);
-        begins = λ p c l h s e mine. begins_here t n pays.pays p c l h s e mine;
-        others =
-            λ p q c l h s v step r span ne shape exclusive may belongs knows. others_here t n pays.pays p c l h s span q step r ne shape.0 may belongs knows;
-        at = at_point;
+        words = λ w v c l h. refl;
+        continues = λ w v c l h k is. continues_with _ k _ is;
+        refuses = λ c l h next is. absurd (cc (is));
+        refusal_gives = λ c l h v next is. absurd (cc (is));
+        values = λ p c l h s v w encodes shape phase opens.
+            let complete = subst (λ made. HasPhase made s.phase v) pays.makes phase in
+            let puts = puts_by _ (t.act c l h) s p v (brings c) w (pays.completes_right p c l h) opens complete in
+            record {
+              tells = tells_with (apply_some s (change_by t.memory (t.word l) (t.act c l h) p w)) _ _ puts.phase (pays.tells p c l h s w encodes);
+              phase = subst (λ made. HasPhase made (apply_some s (change_by t.memory (t.word l) (t.act c l h) p w)).phase (placed (brought (completes_by (t.act c l h)) (brings c)) v)) (sym pays.makes) puts.phase;
+              places = puts.places;
+              completes_alone = λ q is. pays.none_holds s shape;
+              brings = puts.brings;
+              gives = gives_at _ _;
+            };
+        written = λ s p v shape writes. absurd (false≢true (sym (pays.none_writes s p shape) ∙ writes));
       }

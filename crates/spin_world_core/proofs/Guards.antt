@@ -1,8 +1,10 @@
 -- What a party finds under one guard does not change.
-use Rattle.spin_world_core.proofs.Names.{slice_get_within, ◌≡◌, ℕ, ◌==◌, ◌||◌, Bool, true, false, not, Option, Some, None, List, [], ◌∷◌, ◌++◌, map, slice_get, slice_set, refl, arith, ap, sym, ◌∙◌, subst, list_all, option_map, and_parts, true≢false, false≢true, slice_get-map, Plain, Change, completes, entries, is_held, Hold, Seat, Calling, Holding, Leaked, Gone, Next, Continue, Answers, Move, Step, Weak, Read, OwnerSet, StepKind, plain, weak, by_step, Mark, Machine, State, moves_at, goes_on, placed, resting, may_read, may_write, yields_to_owner, seen_by_owner, owner_writes, Seen, Scene, scene, scene_at, scene_of, if_completed, StandsFor, is_reader, is_writer, opening, seen_after, is_quiet_move, is_quiet, ReadsAgreeAcross, ReadsAgree}
+use Rattle.spin_world_core.proofs.Names.{slice_get_within, ◌≡◌, ℕ, ◌==◌, ◌||◌, Bool, true, false, not, Option, Some, None, List, [], ◌∷◌, ◌++◌, map, slice_get, slice_set, refl, arith, ap, sym, ◌∙◌, subst, list_all, option_map, and_parts, true≢false, false≢true, slice_get-map, Plain, Change, completes, entries, is_held, Hold, Seat, Calling, Holding, Leaked, Gone, Next, Continue, Answers, Move, Step, Weak, Read, OwnerSet, StepKind, plain, weak, by_step, Mark, Machine, State, moves_at, goes_on, placed, resting, may_read, may_write, yields_to_owner, seen_by_owner, owner_writes, Seen, Scene, scene, scene_at, scene_of, if_completed, StandsFor, is_reader, is_writer, opening, seen_after, is_quiet_move, is_quiet, ReadsAgreeAcross, ReadsAgree, Table}
 use Rattle.spin_model.specs.declared.schedule.Outcome.TheVariants as outcome
 use Rattle.spin_world_core.proofs.Lists.{eqb_self, get-set}
-use Rattle.spin_world_core.proofs.Facts.{LocalInvariant, KnowsAt, Facts}
+use Rattle.spin_world_core.proofs.Steps.{played, Knows, KnowsAt, Plays}
+use Rattle.spin_world_core.proofs.Paid.{at_step}
+use Rattle.spin_world_core.proofs.Shapes.{Notes}
 use Rattle.spin_world_core.proofs.Events.{seat_with, of_event}
 use Rattle.spin_world_core.proofs.Preserved.{Invariant, in_call, with_hold, reader_of, writer_of}
 use Rattle.spin_world_core.proofs.Owners.{all-get}
@@ -22,11 +24,11 @@ ReadsOn (Answers a None) = ⊥
 ReadsOn (Answers a (Some h)) = may_read h ≡ true
 
 -- a party in a call that keeps its guard reads, and still does after each step of the call
-pub record KeepsGuard {W V C L A : Type 0} (m : Machine W V C L A) (k : LocalInvariant V C L) (keeps : C → Bool) : Type 0 where
-  pub reads : (p : ℕ) (c : C) (l : L) (h : Hold) (s : Plain) (span : List Mark) → keeps c ≡ true → may_read h ≡ true → k.Knows c l (Some h) p s span
+pub record KeepsGuard {W V C L A B : Type 0} {t : Table W V C L A} (m : Machine W V C L B) (n : Notes t) (keeps : C → Bool) : Type 0 where
+  pub reads : (p : ℕ) (c : C) (l : L) (h : Hold) (s : Plain) (span : List Mark) → keeps c ≡ true → may_read h ≡ true → Knows n c l (Some h) p s span
       → is_reader (entries p s) ≡ true
   pub steps : (c : C) (l : L) (h : Hold) (w : W) (v : Option V) → keeps c ≡ true → may_read h ≡ true → ReadsOn (m.step w v c l (Some h)).next
-  pub refuses : (c : C) (l : L) (h : Hold) (next : Next L A) → keeps c ≡ true → may_read h ≡ true → m.refuse c l (Some h) ≡ Some next → ReadsOn next
+  pub refuses : (c : C) (l : L) (h : Hold) (next : Next L B) → keeps c ≡ true → may_read h ≡ true → m.refuse c l (Some h) ≡ Some next → ReadsOn next
 
 -- for a party with a guard, or one that is gone since: the value last written is still the one that it found
 abbrev Guard : {V C L : Type 0} → GuardedRead C V → Option V → Option (Seat C L) → Type 0
@@ -56,14 +58,21 @@ module _ {V C L : Type 0} (r : GuardedRead C V) (w v : Option V) where
   gone_for None away guard = guard
   gone_for (Some x) away guard = grind (arith, away x refl)
 
-module _ {W V C L A : Type 0} (m : Machine W V C L A) where
-  module _ (k : LocalInvariant V C L) (f : Facts m k) (r : GuardedRead C V) (g : KeepsGuard m k r.keeps) where
-    reads_at : (w : Option V) (s : Plain) (p : ℕ) (span : List Mark) (o : Option (Seat C L)) → StandsFor s p span o → KnowsAt k s p span o → Guard r w o
+module _ {W V C L A B : Type 0} {t : Table W V C L A} (by : Machine W V C L B) (n : Notes t) (f : Plays by n) where
+  abbrev m : Machine W V C L B
+  m = played t by
+
+  module _ (r : GuardedRead C V) (g : KeepsGuard by n r.keeps) where
+    reads_at : (w : Option V) (s : Plain) (p : ℕ) (span : List Mark) (o : Option (Seat C L)) → StandsFor s p span o → KnowsAt n s p span o → Guard r w o
         → ReaderOrGone s p o
-    reads_at w s p span o stands knows guard = grind (arith, g.reads p, reader_of p)
+    reads_at w s p span (Some (Calling c l (Some h))) stands knows guard = g.reads p c l h s span guard.0 guard.1 knows
+    reads_at w s p span (Some (Holding h)) stands knows guard = ap is_reader stands ∙ (reader_of p h ∙ guard.0)
+    reads_at w s p span (Some (Leaked h)) stands knows guard = ap is_reader stands ∙ (reader_of p h ∙ guard.0)
+    reads_at w s p span (Some (Gone h)) stands knows guard = tt
+    reads_at w s p span _ stands knows guard = absurd guard
 
     -- the party p has a guard, and q moves
-    module _ (seen : Seen W V C L) (p q : ℕ) (good : Invariant m k seen) (guard : Guard r seen.written (slice_get seen.state.seats p)) where
+    module _ (seen : Seen W V C L) (p q : ℕ) (good : Invariant by n seen) (guard : Guard r seen.written (slice_get seen.state.seats p)) where
       reads : ReaderOrGone seen.plain p (slice_get seen.state.seats p)
       reads = reads_at seen.written seen.plain p (seen.span p) (slice_get seen.state.seats p) (good.parties p).stands (good.parties p).knows guard
 
@@ -78,17 +87,17 @@ module _ {W V C L A : Type 0} (m : Machine W V C L A) where
           → Guard r seen.written (Some (Calling c l h))
       begun c l h keeps guard = grind arith
 
-      answered : (w : Option V) (c : C) (l : L) (a : A) (h rest : Option Hold)
+      answered : (w : Option V) (c : C) (l : L) (a : B) (h rest : Option Hold)
           → ((j : Hold) → h ≡ Some j → r.keeps c ≡ true → may_read j ≡ true → ReadsOn {L = L} (Answers a rest))
           → Guard r w (Some (Calling c l h)) → Guard r w (Some (resting {C = C} {L = L} rest))
       answered w c l a None rest on guard = absurd guard
       answered w c l a (Some j) rest on guard = grind (arith, on j refl)
 
       -- after an event
-      abbrev After : Scene W V C L A → Type 0
+      abbrev After : Scene W V C L B → Type 0
       After sc = Guard r sc.after.written (slice_get sc.after.state.seats p)
 
-      went : (move : Move C V) (step : Option Change) (step_kind : StepKind) (value v : Option V) (u : W) (c : C) (l : L) (h : Option Hold) (next : Next L A)
+      went : (move : Move C V) (step : Option Change) (step_kind : StepKind) (value v : Option V) (u : W) (c : C) (l : L) (h : Option Hold) (next : Next L B)
           → slice_get seen.state.seats q ≡ Some (Calling c l h) → ((j : Hold) → h ≡ Some j → r.keeps c ≡ true → may_read j ≡ true → ReadsOn next)
           → Guard r (if_completed seen.written value step) (slice_get seen.state.seats p)
           → After (scene_of seen q move (Some (Calling c l h)) (goes_on (record seen.state { words = u; value = v }) q c h next) step step_kind value)
@@ -116,15 +125,15 @@ module _ {W V C L A : Type 0} (m : Machine W V C L A) where
           (λ j e keeps may. subst (λ o. ReadsOn (m.step seen.state.words seen.state.value c l o).next) (sym e)
           (g.steps c l j seen.state.words seen.state.value keeps may))
           (completed r seen.written st.placed seen.plain p (slice_get seen.state.seats p) step reads
-          (f.at q c l h _ _ _ _ (in_call m k seen q c l h good there)).completes_alone guard)
+          (at_step by n f q c l h _ _ _ _ (in_call by n seen q c l h good there)).values.completes_alone guard)
 
       -- nobody else writes while the party has the guard
       written : (v : V) (b : Bool) (h : Hold) → slice_get seen.state.seats q ≡ Some (seat_with b h) → may_write h ≡ true → (q ≡ p → ⊥)
           → Guard r (Some v) (slice_get seen.state.seats p)
       written v b h there may ne =
-          let writes = ap is_writer (with_hold m k seen q b h good there) ∙ (writer_of q h ∙ may) in
+          let writes = ap is_writer (with_hold by n seen q b h good there) ∙ (writer_of q h ∙ may) in
           no_reader r seen.written (Some v) seen.plain p (slice_get seen.state.seats p) reads
-          (λ reads. ne (one_toucher seen.plain p q good.exclusive (f.one_list seen.plain seen.state.value good.shape) reads writes)) guard
+          (λ reads. ne (one_toucher seen.plain p q good.exclusive (f.pays.one_list seen.plain good.shape) reads writes)) guard
 
       guard_kept : (move : Move C V) → (q ≡ p → is_quiet_move r.keeps move ≡ true) → After (scene m seen q move)
       guard_kept move quiet =
@@ -144,12 +153,12 @@ module _ {W V C L A : Type 0} (m : Machine W V C L A) where
           })
           move quiet
 
-    guard_through : (seen : Seen W V C L) (p : ℕ) (es : List (ℕ × Move C V)) → Invariant m k seen → is_quiet r.keeps p es ≡ true
+    guard_through : (seen : Seen W V C L) (p : ℕ) (es : List (ℕ × Move C V)) → Invariant by n seen → is_quiet r.keeps p es ≡ true
         → Guard r seen.written (slice_get seen.state.seats p)
         → Guard r (seen_after m seen es).written (slice_get (seen_after m seen es).state.seats p)
     guard_through seen p [] good quiet guard = guard
     guard_through seen p (e ∷ es) good quiet guard =
-        guard_through (scene m seen e.0 e.1).after p es (kept m k f seen e.0 e.1 good).good
+        guard_through (scene m seen e.0 e.1).after p es (kept by n f seen e.0 e.1 good).good
         (and_parts (not (e.0 == p) || is_quiet_move r.keeps e.1) (is_quiet r.keeps p es) quiet).1
         (guard_kept seen p e.0 good guard e.1 (λ is. grind arith))
 
@@ -162,30 +171,29 @@ module _ {W V C L A : Type 0} (m : Machine W V C L A) where
         → t ≡ r.value
     found_again r w t o same guard e = grind arith
 
-  module _ (k : LocalInvariant V C L) (f : Facts m k) where
-    pub reads_agree_across : (keeps : C → Bool) → KeepsGuard m k keeps → (n : ℕ) (past : List (ℕ × Move C V)) → ReadsAgreeAcross keeps m n past
-    reads_agree_across keeps g n past p between found t quiet first second =
-        let r : GuardedRead C V = record { keeps = keeps; value = found } in
-        let es = (p, Read) ∷ between in
-        let before = seen_after m (opening m n) past in
-        let later = seen_after m (opening m n) (past ++ es) in
-        let good = good_after m k f (opening m n) past (good_first m k f n) in
-        let good_later = good_after m k f (opening m n) (past ++ es) (good_first m k f n) in
-        let ReaderOrGone : Option V → State W V C L → Type 0 = λ x s. (moves_at m s p Read (slice_get s.seats p)).outcome ≡ outcome.Value x in
-        let first_there = subst (ReaderOrGone found) (sym (state-seen_after m (opening m n) past)) first in
-        let second_there = subst (ReaderOrGone t) (sym (state-seen_after m (opening m n) (past ++ es))) second in
-        let guard = guarded before.state p r before.written (slice_get before.state.seats p) good.written first_there in
-        let guard_later = guard_through k f r g before p es good (rw (eqb_self p) quiet) guard in
-        let guard_there = subst (λ (seen : Seen W V C L). Guard r seen.written (slice_get seen.state.seats p))
-        (sym (seen_after-append m (opening m n) past es)) guard_later in
-        found_again later.state p r later.written t (slice_get later.state.seats p) good_later.written guard_there second_there
+  pub reads_agree_across : (keeps : C → Bool) → KeepsGuard by n keeps → (parties : ℕ) (past : List (ℕ × Move C V)) → ReadsAgreeAcross keeps m parties past
+  reads_agree_across keeps g parties past p between found t quiet first second =
+      let r : GuardedRead C V = record { keeps = keeps; value = found } in
+      let es = (p, Read) ∷ between in
+      let before = seen_after m (opening m parties) past in
+      let later = seen_after m (opening m parties) (past ++ es) in
+      let good = good_after by n f (opening m parties) past (good_first by n f parties) in
+      let good_later = good_after by n f (opening m parties) (past ++ es) (good_first by n f parties) in
+      let ReaderOrGone : Option V → State W V C L → Type 0 = λ x s. (moves_at m s p Read (slice_get s.seats p)).outcome ≡ outcome.Value x in
+      let first_there = subst (ReaderOrGone found) (sym (state-seen_after m (opening m parties) past)) first in
+      let second_there = subst (ReaderOrGone t) (sym (state-seen_after m (opening m parties) (past ++ es))) second in
+      let guard = guarded before.state p r before.written (slice_get before.state.seats p) good.written first_there in
+      let guard_later = guard_through r g before p es good (rw (eqb_self p) quiet) guard in
+      let guard_there = subst (λ (seen : Seen W V C L). Guard r seen.written (slice_get seen.state.seats p))
+      (sym (seen_after-append m (opening m parties) past es)) guard_later in
+      found_again later.state p r later.written t (slice_get later.state.seats p) good_later.written guard_there second_there
 
-    -- no call keeps its guard
-    pub reads_agree : (n : ℕ) (past : List (ℕ × Move C V)) → ReadsAgree m n past
-    reads_agree n past =
-        reads_agree_across (λ c. false)
-        (record {
-          reads = λ p c l h s span no. absurd (false≢true no);
-          steps = λ c l h w v no. absurd (false≢true no);
-          refuses = λ c l h next no. absurd (false≢true no);
-        }) n past
+  -- no call keeps its guard
+  pub reads_agree : (parties : ℕ) (past : List (ℕ × Move C V)) → ReadsAgree m parties past
+  reads_agree parties past =
+      reads_agree_across (λ c. false)
+      (record {
+        reads = λ p c l h s span no. absurd (false≢true no);
+        steps = λ c l h w v no. absurd (false≢true no);
+        refuses = λ c l h next no. absurd (false≢true no);
+      }) parties past

@@ -1,19 +1,21 @@
--- An object that shows its local facts is lawful.
+-- A machine that plays a table which pays is lawful.
 use Rattle.spin_model.specs.Machines.{Machine}
+use Rattle.spin_model.specs.Acts.{Table}
 use Rattle.spin_world_core.specs.Lawful.{Lawful}
-use Rattle.spin_world_core.proofs.Facts.{LocalInvariant, Facts}
+use Rattle.spin_world_core.proofs.Steps.{played, Plays}
+use Rattle.spin_world_core.proofs.Shapes.{Notes}
 use Rattle.spin_world_core.proofs.Every.{can_of, keeps_of, moments_of, counts_of}
 use Rattle.spin_world_core.proofs.Guards.{reads_agree}
 use Rattle.spin_world_core.proofs.Values.{values_of}
 
-pub laws_of : {W V C L A : Type 0} (m : Machine W V C L A) (k : LocalInvariant V C L) → Facts m k → Lawful m
-laws_of m k f =
+pub laws_of : {W V C L A B : Type 0} {t : Table W V C L A} (by : Machine W V C L B) (n : Notes t) → Plays by n → Lawful (played t by)
+laws_of by n f =
     record {
       stepwise = f.stepwise;
-      can = λ n entries. can_of m k f n entries;
-      keeps = λ n entries. keeps_of m k f n entries;
-      moments = λ n entries. moments_of m k f n entries;
-      counts = λ n entries. counts_of m k f n entries;
-      agree = λ n entries. reads_agree m k f n entries;
-      values = λ n entries. values_of m k f n entries;
+      can = λ parties entries. can_of by n f parties entries;
+      keeps = λ parties entries. keeps_of by n f parties entries;
+      moments = λ parties entries. moments_of by n f parties entries;
+      counts = λ parties entries. counts_of by n f parties entries;
+      agree = λ parties entries. reads_agree by n f parties entries;
+      values = λ parties entries. values_of by n f parties entries;
     }

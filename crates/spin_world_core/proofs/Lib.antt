@@ -1,13 +1,13 @@
 pub mod Names
 pub mod Lists
 pub mod Events
-pub mod Facts
 pub mod Spans
 pub mod Stands
 pub mod Rows
 pub mod Operating
 pub mod Shapes
 pub mod Usual
+pub mod Steps
 pub mod Paid
 pub mod Undisturbed
 pub mod Preserved

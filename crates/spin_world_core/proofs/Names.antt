@@ -17,7 +17,7 @@ pub use Rattle.spin_step.proofs.Exclusive.{exclusive-kept}
 pub use Rattle.spin_step.specs.Parties.{Entries, IsExclusive, IsOpenStep, apply_some, entries, entries_after, is_held, party_of}
 pub use Rattle.spin_step.specs.Plain.{Ask, Change, Holder, Phase, Plain, Ticket, apply, arrives, completes, fails, gets, is_complete, is_empty, is_nothing, is_open, is_open_to, is_running, nothing, running, to_begin, to_enter, to_lock_starving, to_lock_unregistered, to_read, to_take_and_enter, to_upgrade_asked, turns, upgradable, writing}
 pub use Rattle.spin_step.specs.Steps.{Decides, bit}
-pub use Rattle.spin_model.specs.Acts.{Act, Memory, Table, attempt, becomes, begin_of, brought, can_by, change_at, change_by, completes_by, either, enter, exchange, filled, gives_of, guessed, is_section, load, load_for, load_if, look_kind, machine_of, machine_with, made_if, makes_by, step_kind_by, number_at, one_number, operation_by, passing, place_of, refusal_by, retried, retry, section, stays, step_at, step_by, store, swap, tried, weak_exchange, with_value}
+pub use Rattle.spin_model.specs.Acts.{Act, Memory, Table, attempt, becomes, begin_of, brought, can_by, change_at, change_by, completes_by, either, enter, exchange, filled, gives_of, guessed, is_section, load, load_for, load_if, look_kind, machine_by, machine_of, machine_with, made_if, makes_by, step_kind_by, number_at, one_number, operation_by, passing, place_of, refusal_by, retried, retry, section, stays, step_at, step_by, store, swap, tried, weak_exchange, with_value}
 pub use Rattle.spin_model.specs.Calls.{AnyOf, limit, Asked, BelongsTo, FindsClosed, Limit, LockKind, Mark, Said, changes_within, encoded, first_word, gets_within, grant, granted, is_step_of, own_steps, registers_after, says_of, unlimited, within, within_changes, Meaning, got, grants, same_ask}
 pub use Rattle.spin_model.specs.Asks.{is_completion}
 pub use Rattle.spin_world_core.specs.Joined.{IsCut, Promised, RunsAreOne, after_runs, began_from, event_from, joined, outcome_from, transcripts_of}
@@ -26,7 +26,7 @@ pub use Rattle.spin_model.specs.Machines.{Machine, opening_phase, opening_plain}
 pub use Rattle.spin_model.specs.StepKinds.{StepKind, again, by_step, is_again, is_look, is_weak, look, plain, weak}
 pub use Rattle.spin_model.specs.Operations.{IsOneOperation, Operation, Performs, RefusesAsLost, Stepwise, exchanges, performed, sets_lowest_bit}
 pub use Rattle.spin_world_core.specs.Order.{Gets, GetsWhenDue, LooksElse, MayTryOn, TriesOn, Way, always, by_looks, is_due, is_due_by, past_looks, way_of, goes_of, tries_of}
-pub use Rattle.spin_world_core.specs.Runs.{AfterAnyPast, CanAlways, CanStep, ComesTo, CountsAll, EndsWithin, Every, ContinuesWithin, InItsCall, InTime, IsBeginning, IsCounted, IsInTime, IsOwners, IsReached, IsRight, IsWeakCall, Keeps, KeepsAll, LeavesCalls, MaySkip, MayTouch, MomentsAll, OwnSteps, RegistersInTime, RightAnswer, Scene, Seen, StandsFor, StepLeaves, YieldsToOwner, asked, changes, entries_held, entries_of, entries_so_far, failures, held_at, if_completed, is_in_place, is_open_move, is_reader, is_writer, mark_of, opening, own, own_count, scene, scene_at, scene_of}
+pub use Rattle.spin_world_core.specs.Runs.{AfterAnyPast, CanAlways, CanStep, ComesTo, CountsAll, EndsWithin, Every, ContinuesWithin, InItsCall, InTime, IsBeginning, IsCounted, IsInTime, IsOwners, IsReached, IsRight, IsWeakCall, Keeps, KeepsAll, LeavesCalls, MaySkip, MayTouch, MomentsAll, OwnSteps, RegistersInTime, RightAnswer, RightBy, Scene, Seen, StandsFor, StepLeaves, YieldsToOwner, asked, changes, entries_held, entries_of, entries_so_far, failures, held_at, if_completed, is_in_place, is_open_move, is_reader, is_writer, mark_of, opening, own, own_count, scene, scene_at, scene_of}
 pub use Rattle.spin_model.specs.Schedules.{Happened, State, after, at_first, begins_after, begun, events_of, goes_on, happens, is_begun, is_owners, last_begin, let_go, may_read, may_write, moves_at, owner_gets, owner_sets, owner_writes, skipped, placed, read_by, refuses, resting, seated, seen_by_owner, with_begin, with_begins, written_by, yields_to_owner}
 pub use Rattle.spin_world_core.specs.Sharing.{has_leaked, shares}
 pub use Rattle.spin_world_core.specs.Transcripts.{EachTells, PlaceSays, SaysAfterAnyPast, Stage, StandsAt, TellsAfterAnyPast, at_rest, in_call, is_gone, let_go_stage, scenes, stage_after, stage_by_own, stage_by_owner, without_begin}

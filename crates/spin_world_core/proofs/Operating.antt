@@ -1,7 +1,6 @@
 -- The steps of a table as operations, and what its shapes show by themselves.
 use Rattle.std.proofs.lemmas.Bool.{not-true}
-use Rattle.spin_world_core.proofs.Names.{AnyOf, own_steps, list_all, Said, ◌≡◌, ℕ, Bool, true, false, not, ◌&&◌, ◌||◌, Option, Some, None, is_some, slice_set, unwrap_or, refl, ap, subst, arith, List, and_parts, Plain, Ask, Change, is_open, Hold, Answer, Next, StepKind, is_again, LockKind, is_step_of, Asked, Mark, performed, Performs, IsOneOperation, RefusesAsLost, Stepwise, Memory, one_number, number_at, Act, weak_exchange, place_of, made_if, change_at, refusal_by, makes_by, operation_by, is_section, step_by, Table, machine_of, filled, machine_with}
-use Rattle.spin_world_core.proofs.Facts.{GoesOnOpen, ContinuesCounted}
+use Rattle.spin_world_core.proofs.Names.{AnyOf, own_steps, list_all, Said, ◌≡◌, ℕ, Bool, true, false, not, ◌&&◌, ◌||◌, Option, Some, None, is_some, slice_set, unwrap_or, refl, ap, subst, arith, and_parts, Change, Hold, Answer, Next, LockKind, is_step_of, Asked, performed, Performs, IsOneOperation, RefusesAsLost, Stepwise, Memory, one_number, number_at, Act, weak_exchange, place_of, made_if, change_at, refusal_by, makes_by, operation_by, is_section, step_by, Table, machine_of, machine_with}
 
 -- What has to be shown
 
@@ -52,17 +51,6 @@ change_is n act p w d is = grind arith
 -- so it is one that the lock makes, and what is got weakly is got by a weak exchange
 pub fits_made : (kind : LockKind) (what : Asked) (weakly : Bool) (o : Option Change) (d : Change) → fits_step kind what weakly o ≡ true → o ≡ Some d → (is_step_of kind d ≡ true) × (what.gets_weakly d ≡ true → weakly ≡ true)
 fits_made kind what weakly o d fit is = grind arith
-
--- a step that continues the call without its plain step is counted, if that step is open
-pub counted_of : {W L A : Type 0} (change : W → Option Change) (s : Plain) (next : Next L A) (o : Option Change) (r : StepKind)
-    → ((w : W) (d : Change) → change w ≡ Some d → is_open s d ≡ true → o ≡ None → is_again r ≡ true) → ContinuesCounted change s next o r
-counted_of change s next o r counts = grind (arith, counts)
-
-pub counted_filled : {W V L : Type 0} (change : W → Option Change) (s : Plain) (value : Option V) (next : Next L (Answer (Unit {0}))) (o : Option Change) (r : StepKind) → ContinuesCounted change s next o r → ContinuesCounted change s (filled value next) o r
-counted_filled change s value next o r counts = grind (arith, counts)
-
-pub open_filled : {V L : Type 0} (ask : Ask) (p : ℕ) (span : List Mark) (s : Plain) (value : Option V) (next : Next L (Answer (Unit {0}))) (o : Option Change) → GoesOnOpen ask p span s next o → GoesOnOpen ask p span s (filled value next) o
-open_filled ask p span s value next o may = grind arith
 
 -- The machines
 

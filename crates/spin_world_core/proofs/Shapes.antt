@@ -1,6 +1,5 @@
 -- What the table of an object must show, point by point. Its machine then shows all local facts.
 use Rattle.spin_world_core.proofs.Names.{own_steps, tries_of, goes_of, ◌≡◌, ℕ, zero, suc, ◌≤◌, Bool, true, false, ◌||◌, ◌==◌, is_some, Option, Some, None, List, [], ◌∷◌, ◌++◌, option_to_list, Plain, Ask, Change, gets, apply, is_open, is_empty, apply_some, IsOpenStep, IsExclusive, Hold, Next, Continue, Answers, StepKind, plain, again, weak, by_step, Asked, encoded, BelongsTo, Mark, AnyOf, Limit, registers_after, arrived, steps_alone, opening_plain, mark_of, failures, changes, number_at, Act, load, load_if, load_for, enter, exchange, weak_exchange, attempt, retry, store, section, swap, tried, guessed, passing, place_of, step_by, makes_by, look_kind, Table, begin_of, machine_of, performed, limit}
-use Rattle.spin_world_core.proofs.Facts.{LocalInvariant}
 use Rattle.spin_world_core.proofs.Operating.{fits_act, CallsFit, OwnFits, Operates}
 use Rattle.spin_world_core.proofs.Stands.{stand_of, stand_after}
 use Rattle.spin_world_core.proofs.Rows.{Branch, goes, finds_open, loses, misses, MaySpend, MayContinue, OwesRight, OwesEnd, Row, Point, row_at, SoundAt, RetryOwes, need_of, FoundBy, NoRetry, BeginsBy, Known}
@@ -72,142 +71,152 @@ module _ {W V C L A : Type 0} (t : Table W V C L A) where
       let st = step_by {V = V} t.memory (t.word l) (t.act c l h) w in
       goes_by st.next true (λ l. answers_by k st.words c l h)
 
-  module _ (n : Notes) where
-    abbrev pub row_of : C → L → Option Hold → Option Row
-    row_of c l h = row_at (t.asks c h) h (n.point c l h)
+module _ {W V C L A : Type 0} {t : Table W V C L A} (n : Notes t) where
+  abbrev pub row_of : C → L → Option Hold → Option Row
+  row_of c l h = row_at (t.asks c h) h (n.point c l h)
 
-    abbrev pub KnowsRow : C → L → Option Hold → ℕ → Plain → List Mark → Option Row → Type 0
-    KnowsRow c l h p s span None = ⊥
-    KnowsRow c l h p s span (Some row) = Known t.lock_kind (t.asks c h) (t.act c l h) row p s span × n.Knows c l h p s span
+  abbrev pub KnowsRow : C → L → Option Hold → ℕ → Plain → List Mark → Option Row → Type 0
+  KnowsRow c l h p s span None = ⊥
+  KnowsRow c l h p s span (Some row) = Known t.lock_kind (t.asks c h) (t.act c l h) row p s span × n.Knows c l h p s span
 
-    abbrev pub keeping_of : LocalInvariant V C L
-    keeping_of = record { Shape = λ s v. n.Shape s; Knows = λ c l h p s span. KnowsRow c l h p s span (row_of c l h) }
+  abbrev pub call_of : C → CallOf W L A
+  call_of c = record { asks = λ h. t.asks c h; act = λ l h. t.act c l h; point = λ l h. n.point c l h; Knows = λ l h p s span. n.Knows c l h p s span }
 
-    abbrev pub call_of : C → CallOf W L A
-    call_of c = record { asks = λ h. t.asks c h; act = λ l h. t.act c l h; point = λ l h. n.point c l h; Knows = λ l h p s span. n.Knows c l h p s span }
+  -- what holds when a party is about to step
+  pub record AtPoint (p : ℕ) (k : CallOf W L A) (l : L) (h : Option Hold) (s : Plain) (w : W) (span : List Mark) (row : Row) : Type 0 where
+    pub encodes : t.memory.numbers w ≡ encoded t.lock_kind s
+    pub shape : n.Shape s
+    pub exclusive : IsExclusive s
+    pub known : Known t.lock_kind (k.asks h) (k.act l h) row p s span
+    pub knows : k.Knows l h p s span
+    pub retries : failures p span ≤ changes t.lock_kind p span
 
-    -- what holds when a party is about to step
-    pub record AtPoint (p : ℕ) (k : CallOf W L A) (l : L) (h : Option Hold) (s : Plain) (w : W) (span : List Mark) (row : Row) : Type 0 where
-      pub encodes : t.memory.numbers w ≡ encoded t.lock_kind s
-      pub shape : n.Shape s
-      pub exclusive : IsExclusive s
-      pub known : Known t.lock_kind (k.asks h) (k.act l h) row p s span
-      pub knows : k.Knows l h p s span
-      pub retries : failures p span ≤ changes t.lock_kind p span
+  abbrev pub At : ℕ → C → L → Option Hold → Plain → W → List Mark → Row → Type 0
+  At p c l h s w span row = AtPoint p (call_of c) l h s w span row
 
-    abbrev pub At : ℕ → C → L → Option Hold → Plain → W → List Mark → Row → Type 0
-    At p c l h s w span row = AtPoint p (call_of c) l h s w span row
+  -- What has to be shown
 
-    -- What has to be shown
+  -- If the step function gives a number, the plain step is open and the party's own, and the number makes the words
+  -- after it. If the function refuses, the plain step is closed.
+  abbrev pub Means : {X : Type 0} → ℕ → Plain → Change → (X → W) → Option X → Type 0
+  Means p s c put None = is_open s c ≡ false
+  Means p s c put (Some x) = IsOpenStep s p (Some c) × (t.memory.numbers (put x) ≡ encoded t.lock_kind (apply s c)) × n.Shape (apply s c)
 
-    -- If the step function gives a number, the plain step is open and the party's own, and the number makes the words
-    -- after it. If the function refuses, the plain step is closed.
-    abbrev pub Means : {X : Type 0} → ℕ → Plain → Change → (X → W) → Option X → Type 0
-    Means p s c put None = is_open s c ≡ false
-    Means p s c put (Some x) = IsOpenStep s p (Some c) × (t.memory.numbers (put x) ≡ encoded t.lock_kind (apply s c)) × n.Shape (apply s c)
-
-    module _ (p : ℕ) (k : CallOf W L A) (h : Option Hold) (s : Plain) (w : W) (span : List Mark) (row : Row) where
-      -- the row of the next point is this one after the step
-      abbrev pub FollowsRow : Option Change → StepKind → Branch → L → Option Row → Type 0
-      FollowsRow step r branch l None = ⊥
-      FollowsRow step r branch l (Some to) =
-          (stand_after s.next step row.stand ≡ Some to.stand) × (row.made p ++ option_to_list step ≡ to.made p)
-          × MayContinue (tries_of (k.asks h)) branch step p s span
+  module _ (p : ℕ) (k : CallOf W L A) (h : Option Hold) (s : Plain) (w : W) (span : List Mark) (row : Row) where
+    -- The call continues correctly: the row of the next point is this one after the step
+    pub record LeadsTo (step : Option Change) (r : StepKind) (branch : Branch) (l : L) (to : Row) : Type 0 where
+      pub stands : stand_after s.next step row.stand ≡ Some to.stand
+      pub made : row.made p ++ option_to_list step ≡ to.made p
+      pub spends : MayContinue (tries_of (k.asks h)) branch step p s span
           (MaySpend (limit t.lock_kind (k.asks h)) branch (to.made p) row.spent to.spent p t.lock_kind (mark_of p step r s ∷ span))
-          × FoundBy (need_of t.lock_kind (k.asks h) (to.made p) (k.act l h)) (RetryOwes (k.act l h) (number_at t.memory 0 w) step) step r s
-          × k.Knows l h p (apply_some s step) (mark_of p step r s ∷ span)
+      pub finds : FoundBy (need_of t.lock_kind (k.asks h) (to.made p) (k.act l h)) (RetryOwes (k.act l h) (number_at t.memory 0 w) step) step r s
+      pub knows : k.Knows l h p (apply_some s step) (mark_of p step r s ∷ span)
 
-      -- by this step and this branch the call continues correctly
-      abbrev pub Follows : Bool → Option Change → StepKind → Branch → Next L A → Type 0
-      Follows weakly step r branch (Continue l) = FollowsRow step r branch l (row_at (k.asks h) h (k.point l h))
-      Follows weakly step r branch (Answers a after) =
-          (stand_after s.next step row.stand ≡ Some (stand_of after))
-          × AnyOf (λ steps. row.made p ++ option_to_list step ≡ steps) (own_steps ((k.asks h).answers (t.says a)) p)
-          × OwesRight weakly (k.asks h) (t.says a) p (mark_of p step r s ∷ span)
-          × OwesEnd (limit t.lock_kind (k.asks h)) t.lock_kind p (mark_of p step r s ∷ span)
+    -- or it is answered correctly
+    pub record EndsBy (weakly : Bool) (step : Option Change) (r : StepKind) (a : A) (after : Option Hold) : Type 0 where
+      pub stands : stand_after s.next step row.stand ≡ Some (stand_of after)
+      pub made : AnyOf (λ steps. row.made p ++ option_to_list step ≡ steps) (own_steps ((k.asks h).answers (t.says a)) p)
+      pub right : OwesRight weakly (k.asks h) (t.says a) p (mark_of p step r s ∷ span)
+      pub in_time : OwesEnd (limit t.lock_kind (k.asks h)) t.lock_kind p (mark_of p step r s ∷ span)
 
-      -- on the i-th word, which is n
-      abbrev pub OwesOn : ℕ → ℕ → Act W L A → Type 0
-      OwesOn i n (load next) = Follows false None plain goes (next n)
-      OwesOn i n (load_if test a b) =
-          let looking = by_step (look_kind (k.asks h)) in
-          (test n ≡ true → Follows false None looking goes (a n)) × (test n ≡ false → Follows false None looking goes (b n))
-      OwesOn i n (load_for f step found missed) =
-          Means p s (step p) (λ j. t.memory.put i j w) (f n) × (is_some (f n) ≡ true → Follows false None plain finds_open (found n))
-          × (is_open s (step p) ≡ false → Follows false None plain (misses (step p)) missed)
-      OwesOn i n (enter test step won lost) =
-          let looking = by_step (look_kind (k.asks h)) in
-          Means p s (step p) (λ j. w) (passing (test n) n) × Follows false (Some (step p)) looking goes won
-          × (is_open s (step p) ≡ false → Follows false None looking (misses (step p)) lost)
-      OwesOn i n (exchange operation step won lost) =
-          Means p s (step p) (λ j. t.memory.put i j w) (tried operation n) × Follows false (Some (step p)) plain goes won
-          × (is_open s (step p) ≡ false → Follows false None plain (misses (step p)) (lost n))
-      OwesOn i n (weak_exchange j f step won lost) =
-          Means p s (step p) (λ j. t.memory.put i j w) (tried (swap j f) n) × Follows false (Some (step p)) plain goes won
-          × (is_open s (step p) ≡ false → Follows false None plain (misses (step p)) lost) × Follows true None weak goes lost
-          × ((k.asks h).is_weak ≡ true) × (row.made p ≡ (k.asks h).before_weakly p)
-      OwesOn i n (attempt j f step won lost) =
-          ((to : ℕ) → guessed j f n ≡ Some to → Means p s (step p) (λ j. t.memory.put i j w) (Some to) × Follows false (Some (step p)) plain goes won)
-          × (guessed j f n ≡ None → Follows false None plain goes lost) × (is_answer lost ≡ true)
-      OwesOn i n (retry j f step won found missed) =
-          Means p s (step p) (λ j. t.memory.put i j w) (f n) × (n ≡ j → Follows false (Some (step p)) again goes won)
-          × (FindsAnother (limit t.lock_kind (k.asks h)) (n == j) (is_some (f n)) → Follows false None again loses (found n))
-          × (is_open s (step p) ≡ false → Follows false None again (misses (step p)) missed)
-      OwesOn i n (store can operation step next) =
-          (can n ≡ true) × Means p s (step p) (λ j. t.memory.put i j w) (Some (performed operation n)) × Follows false (Some (step p)) plain goes next
-      OwesOn i n (section can f step won lost) =
-          (can w ≡ true) × Means p s (step p) (λ u. u) (f w) × Follows false (Some (step p)) plain goes (won w)
-          × (is_open s (step p) ≡ false → Follows false None plain (misses (step p)) (lost w))
+    abbrev pub FollowsRow : Option Change → StepKind → Branch → L → Option Row → Type 0
+    FollowsRow step r branch l None = ⊥
+    FollowsRow step r branch l (Some to) = LeadsTo step r branch l to
 
-      abbrev pub Owes : ℕ → Act W L A → Type 0
-      Owes i act = OwesOn (place_of i act) (number_at t.memory (place_of i act) w) act
+    -- by this step and this branch
+    abbrev pub Follows : Bool → Option Change → StepKind → Branch → Next L A → Type 0
+    Follows weakly step r branch (Continue l) = FollowsRow step r branch l (row_at (k.asks h) h (k.point l h))
+    Follows weakly step r branch (Answers a after) = EndsBy weakly step r a after
 
-    abbrev pub OwesRow : ℕ → CallOf W L A → L → Option Hold → Plain → W → List Mark → Option Row → Type 0
-    OwesRow p k l h s w span None = Unit {0}
-    OwesRow p k l h s w span (Some row) = AtPoint p k l h s w span row → Owes p k h s w span row (t.word l) (k.act l h)
+    -- on the i-th word, which is n
+    abbrev pub OwesOn : ℕ → ℕ → Act W L A → Type 0
+    OwesOn i n (load next) = Follows false None plain goes (next n)
+    OwesOn i n (load_if test a b) =
+        let looking = by_step (look_kind (k.asks h)) in
+        (test n ≡ true → Follows false None looking goes (a n)) × (test n ≡ false → Follows false None looking goes (b n))
+    OwesOn i n (load_for f step found missed) =
+        Means p s (step p) (λ j. t.memory.put i j w) (f n) × (is_some (f n) ≡ true → Follows false None plain finds_open (found n))
+        × (is_open s (step p) ≡ false → Follows false None plain (misses (step p)) missed)
+    OwesOn i n (enter test step won lost) =
+        let looking = by_step (look_kind (k.asks h)) in
+        Means p s (step p) (λ j. w) (passing (test n) n) × Follows false (Some (step p)) looking goes won
+        × (is_open s (step p) ≡ false → Follows false None looking (misses (step p)) lost)
+    OwesOn i n (exchange operation step won lost) =
+        Means p s (step p) (λ j. t.memory.put i j w) (tried operation n) × Follows false (Some (step p)) plain goes won
+        × (is_open s (step p) ≡ false → Follows false None plain (misses (step p)) (lost n))
+    OwesOn i n (weak_exchange j f step won lost) =
+        Means p s (step p) (λ j. t.memory.put i j w) (tried (swap j f) n) × Follows false (Some (step p)) plain goes won
+        × (is_open s (step p) ≡ false → Follows false None plain (misses (step p)) lost) × Follows true None weak goes lost
+        × ((k.asks h).is_weak ≡ true) × (row.made p ≡ (k.asks h).before_weakly p)
+    OwesOn i n (attempt j f step won lost) =
+        ((to : ℕ) → guessed j f n ≡ Some to → Means p s (step p) (λ j. t.memory.put i j w) (Some to) × Follows false (Some (step p)) plain goes won)
+        × (guessed j f n ≡ None → Follows false None plain goes lost) × (is_answer lost ≡ true)
+    OwesOn i n (retry j f step won found missed) =
+        Means p s (step p) (λ j. t.memory.put i j w) (f n) × (n ≡ j → Follows false (Some (step p)) again goes won)
+        × (FindsAnother (limit t.lock_kind (k.asks h)) (n == j) (is_some (f n)) → Follows false None again loses (found n))
+        × (is_open s (step p) ≡ false → Follows false None again (misses (step p)) missed)
+    OwesOn i n (store can operation step next) =
+        (can n ≡ true) × Means p s (step p) (λ j. t.memory.put i j w) (Some (performed operation n)) × Follows false (Some (step p)) plain goes next
+    OwesOn i n (section can f step won lost) =
+        (can w ≡ true) × Means p s (step p) (λ u. u) (f w) × Follows false (Some (step p)) plain goes (won w)
+        × (is_open s (step p) ≡ false → Follows false None plain (misses (step p)) (lost w))
 
-    abbrev pub OwesAt : ℕ → C → L → Option Hold → Plain → W → List Mark → Type 0
-    OwesAt p c l h s w span = OwesRow p (call_of c) l h s w span (row_of c l h)
+    abbrev pub Owes : ℕ → Act W L A → Type 0
+    Owes i act = OwesOn (place_of i act) (number_at t.memory (place_of i act) w) act
 
-    -- a call that may wait is answered in so many steps, if what it asks is open and nobody else steps in between
-    abbrev pub AnswersRow : ℕ → CallOf W L A → L → Option Hold → Plain → W → List Mark → Bool → Bool → Option Row → Type 0
-    AnswersRow p k l h s w span soon true (Some row) =
-        AtPoint p k l h s w span row → (k.asks h).is_open_next (is_empty (row.made p)) (arrived p span) p s ≡ true → soon ≡ true
-    AnswersRow p k l h s w span soon _ _ = Unit {0}
+  abbrev pub OwesRow : ℕ → CallOf W L A → L → Option Hold → Plain → W → List Mark → Option Row → Type 0
+  OwesRow p k l h s w span None = Unit {0}
+  OwesRow p k l h s w span (Some row) = AtPoint p k l h s w span row → Owes p k h s w span row (t.word l) (k.act l h)
 
-    abbrev pub OwesSoon : ℕ → C → L → Option Hold → Plain → W → List Mark → Type 0
-    OwesSoon p c l h s w span =
-        AnswersRow p (call_of c) l h s w span (answers_by (steps_alone (t.asks c h)) w c l h) (t.asks c h).waits (row_of c l h)
+  abbrev pub OwesAt : ℕ → C → L → Option Hold → Plain → W → List Mark → Type 0
+  OwesAt p c l h s w span = OwesRow p (call_of c) l h s w span (row_of c l h)
 
-    -- a call begins with a row that says this
-    abbrev pub BeginsRow : C → L → Option Hold → ℕ → Plain → Option Row → Type 0
-    BeginsRow c l h p s None = ⊥
-    BeginsRow c l h p s (Some row) =
-        (row.stand ≡ stand_of h) × (row.made p ≡ []) × BeginsBy (need_of t.lock_kind (t.asks c h) (row.made p) (t.act c l h)) (NoRetry (t.act c l h))
-        × n.Knows c l h p s []
+  -- a call that may wait is answered in so many steps, if what it asks is open and nobody else steps in between
+  abbrev pub AnswersRow : ℕ → CallOf W L A → L → Option Hold → Plain → W → List Mark → Bool → Bool → Option Row → Type 0
+  AnswersRow p k l h s w span soon true (Some row) =
+      AtPoint p k l h s w span row → (k.asks h).is_open_next (is_empty (row.made p)) (arrived p span) p s ≡ true → soon ≡ true
+  AnswersRow p k l h s w span soon _ _ = Unit {0}
 
-    abbrev pub BeginsAt : C → Option Hold → ℕ → Plain → Option L → Type 0
-    BeginsAt c h p s None = Unit {0}
-    BeginsAt c h p s (Some l) = BeginsRow c l h p s (row_of c l h)
+  abbrev pub OwesSoon : ℕ → C → L → Option Hold → Plain → W → List Mark → Type 0
+  OwesSoon p c l h s w span =
+      AnswersRow p (call_of c) l h s w span (answers_by t (steps_alone (t.asks c h)) w c l h) (t.asks c h).waits (row_of c l h)
 
-    abbrev pub AimsAt : ℕ → C → L → Option Hold → Type 0
-    AimsAt p c l h = aim_by (tries_of (t.asks c h)) (t.act c l h) p ≡ aimed_at p (t.asks c h) (row_of c l h) (aim_by (tries_of (t.asks c h)) (t.act c l h) p)
+  -- a call begins with a row that says this
+  abbrev pub BeginsRow : C → L → Option Hold → ℕ → Plain → Option Row → Type 0
+  BeginsRow c l h p s None = ⊥
+  BeginsRow c l h p s (Some row) =
+      (row.stand ≡ stand_of h) × (row.made p ≡ []) × BeginsBy (need_of t.lock_kind (t.asks c h) (row.made p) (t.act c l h)) (NoRetry (t.act c l h))
+      × n.Knows c l h p s []
 
-    -- what an object shows of its table
-    pub record Pays : Type 0 where
-      pub fits : (p : ℕ) (c : C) (l : L) (h : Option Hold) → fits_act t.lock_kind (t.asks c h) (t.act c l h) p ≡ true
-      pub calls : CallsFit t
-      pub own : OwnFits t
-      pub operates : Operates t
-      pub first : t.memory.numbers t.words ≡ encoded t.lock_kind (opening_plain (machine_of t))
-      pub shape_first : n.Shape (opening_plain (machine_of t))
-      pub numbers_tell : (v w : W) → t.memory.numbers v ≡ t.memory.numbers w → v ≡ w
-      pub one_list : (s : Plain) → n.Shape s → (is_empty s.holders || is_empty s.tickets) ≡ true
-      pub sound : (p : ℕ) (c : C) (l : L) (h : Option Hold) → SoundAt t.lock_kind (t.asks c h) p (n.point c l h)
-      pub aims : (p : ℕ) (c : C) (l : L) (h : Option Hold) → AimsAt p c l h
-      pub begins : (p : ℕ) (c : C) (h : Option Hold) (s : Plain) → BeginsAt c h p s (begin_of t c h)
-      pub others : (p q : ℕ) (c : C) (l : L) (h : Option Hold) (s : Plain) (step : Option Change) (r : StepKind) (span : List Mark) → (q ≡ p → ⊥) → n.Shape s
-          → IsOpenStep s q step → BelongsTo t.lock_kind step
-          → n.Knows c l h p s span → n.Knows c l h p (apply_some s step) (mark_of q step r s ∷ span)
-      pub owes : (p : ℕ) (c : C) (l : L) (h : Option Hold) (s : Plain) (w : W) (span : List Mark) → OwesAt p c l h s w span
-      pub soon : (p : ℕ) (c : C) (l : L) (h : Option Hold) (s : Plain) (w : W) (span : List Mark) → OwesSoon p c l h s w span
+  abbrev pub BeginsAt : C → Option Hold → ℕ → Plain → Option L → Type 0
+  BeginsAt c h p s None = Unit {0}
+  BeginsAt c h p s (Some l) = BeginsRow c l h p s (row_of c l h)
+
+  abbrev pub AimsAt : ℕ → C → L → Option Hold → Type 0
+  AimsAt p c l h = aim_by (tries_of (t.asks c h)) (t.act c l h) p ≡ aimed_at p (t.asks c h) (row_of c l h) (aim_by (tries_of (t.asks c h)) (t.act c l h) p)
+
+  -- at every point of every call
+  abbrev pub OwesAll : Type 0
+  OwesAll = (p : ℕ) (c : C) (l : L) (h : Option Hold) (s : Plain) (w : W) (span : List Mark) → OwesAt p c l h s w span
+
+  abbrev pub SoonAll : Type 0
+  SoonAll = (p : ℕ) (c : C) (l : L) (h : Option Hold) (s : Plain) (w : W) (span : List Mark) → OwesSoon p c l h s w span
+
+  -- what an object shows of its table
+  pub record Pays : Type 0 where
+    pub fits : (p : ℕ) (c : C) (l : L) (h : Option Hold) → fits_act t.lock_kind (t.asks c h) (t.act c l h) p ≡ true
+    pub calls : CallsFit t
+    pub own : OwnFits t
+    pub operates : Operates t
+    pub first : t.memory.numbers t.words ≡ encoded t.lock_kind (opening_plain (machine_of t))
+    pub shape_first : n.Shape (opening_plain (machine_of t))
+    pub numbers_tell : (v w : W) → t.memory.numbers v ≡ t.memory.numbers w → v ≡ w
+    pub one_list : (s : Plain) → n.Shape s → (is_empty s.holders || is_empty s.tickets) ≡ true
+    pub sound : (p : ℕ) (c : C) (l : L) (h : Option Hold) → SoundAt t.lock_kind (t.asks c h) p (n.point c l h)
+    pub aims : (p : ℕ) (c : C) (l : L) (h : Option Hold) → AimsAt p c l h
+    pub begins : (p : ℕ) (c : C) (h : Option Hold) (s : Plain) → BeginsAt c h p s (begin_of t c h)
+    pub others : (p q : ℕ) (c : C) (l : L) (h : Option Hold) (s : Plain) (step : Option Change) (r : StepKind) (span : List Mark) → (q ≡ p → ⊥) → n.Shape s
+        → IsOpenStep s q step → BelongsTo t.lock_kind step
+        → n.Knows c l h p s span → n.Knows c l h p (apply_some s step) (mark_of q step r s ∷ span)
+    pub owes : OwesAll
+    pub soon : SoonAll

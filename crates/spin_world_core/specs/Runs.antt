@@ -319,10 +319,14 @@ pub record Keeps {W V C L A : Type 0} (m : Machine W V C L A) (s : Scene W V C L
   pub calls : LeavesCalls s.party s.before s.after
 
 -- An answer is right at some moment of the call. Only a weak try may fail spuriously, by its weak exchange.
+abbrev pub RightBy : {V C : Type 0} → Move C V → Asked → Said → ℕ → List Mark → Type 0
+RightBy Step what said p span = HasMoment what said p span
+RightBy Weak what said p span = HasWeakMoment what said p span
+RightBy move what said p span = Unit {0}
+
 abbrev pub RightAnswer : {W V C L A : Type 0} → Machine W V C L A → ℕ → List Mark → Outcome A V → Option Asked → Move C V → Type 0
-RightAnswer m p span (outcome.Answered a b) (Some what) Step = HasMoment what (m.says a) p span
-RightAnswer m p span (outcome.Answered a b) (Some what) Weak = HasWeakMoment what (m.says a) p span
-RightAnswer m p span _ _ _ = Unit {0}
+RightAnswer m p span (outcome.Answered a b) (Some what) move = RightBy move what (m.says a) p span
+RightAnswer m p span _ _ move = Unit {0}
 
 abbrev pub IsRight : {W V C L A : Type 0} → Machine W V C L A → Scene W V C L A → Type 0
 IsRight m s = RightAnswer m s.party (s.after.span s.party) s.outcome (asked m s.seat) s.move

@@ -1,7 +1,7 @@
 -- While a starver waits, a fair lock is granted within five rounds. Its holder leaves within two. The starver takes
 -- three: it finds the flag clear, sets it, and stops starving. A party that sets the flag before it is granted the lock
 -- by its next step.
-use Rattle.spin_world_progress.proofs.Names.{cases_eq, Next, suc, Bool, entries, entries-other, empty_is, if◌then◌else◌, ◌-◌, resting, ◌≡◌, ℕ, ◌==◌, true, false, Option, Some, None, List, [], ◌∷◌, length, refl, ap, ◌∙◌, arith, not, ◌≤◌, ◌⊎◌, inl, inr, ⊎_elim, Plain, Kind, writing, Holder, is_empty, is_holder, is_starver, without_holder, holder, IsOpenStep, is_set, Hold, filter, slice_get, subst, Answer, Seat, Calling, Holding, Move, Step, Machine, after, at_first, get-set_same, Seen, Scene, scene_at, opening, seen_after, eqb_self, LocalInvariant, Facts, Invariant, in_call, row_tells, calls_so, StandsSo, fair_table, fair_machine}
+use Rattle.spin_world_progress.proofs.Names.{cases_eq, Next, suc, Bool, entries, entries-other, empty_is, if◌then◌else◌, ◌-◌, resting, ◌≡◌, ℕ, ◌==◌, true, false, Option, Some, None, List, [], ◌∷◌, length, refl, ap, ◌∙◌, arith, not, ◌≤◌, ◌⊎◌, inl, inr, ⊎_elim, Plain, Kind, writing, Holder, is_empty, is_holder, is_starver, without_holder, holder, IsOpenStep, is_set, Hold, filter, slice_get, subst, Answer, Seat, Calling, Holding, Move, Step, Machine, after, at_first, get-set_same, Seen, Scene, scene_at, opening, seen_after, eqb_self, Notes, Plays, Invariant, in_call, row_tells, calls_so, StandsSo, fair_table, fair_machine}
 use Rattle.spin_world.proofs.FairNames.{fair, fair_is_locked-tells, Write, Starver, FairCall, Lock, StarverLock, Release, FairPoint, First, SetFlag, Await, Unregister, asks_of}
 use Rattle.spin_world.proofs.FairOwed.{fair_notes, fair_keeping, fair_facts}
 use Rattle.spin_world_progress.specs.Fair.{grants_lock, LocksInFive, StarversAreDeadlockFree}
@@ -70,17 +70,17 @@ module _ {V : Type 0} (v : V) (cap patience : ℕ) where
   abbrev m : Machine ℕ V FairCall FairPoint (Answer V)
   m = fair_machine v cap patience
 
-  abbrev k : LocalInvariant V FairCall FairPoint
+  abbrev k : Notes (fair_table v cap patience)
   k = fair_keeping v cap patience
 
-  abbrev f : Facts m k
+  abbrev f : Plays m k
   f = fair_facts v cap patience
 
   abbrev World : Type 0
   World = Seen ℕ V FairCall FairPoint
 
   abbrev Sits : ℕ → Option FairSeat → Type 0
-  Sits = walk.SitsSo (fair_table v cap patience) (fair_notes v cap patience) holds_lock
+  Sits = walk.SitsSo (fair_notes v cap patience) holds_lock
 
   module _ (p : ℕ) (c : FairCall) (h : Option Hold) (waits : its_call c h) where
     abbrev x : Wait ℕ V FairCall FairPoint (Answer V)
@@ -98,7 +98,7 @@ module _ {V : Type 0} (v : V) (cap patience : ℕ) where
       flag = grind (arith, fair_is_locked-tells s seen.state.words good.shape.one good.shape.queue (cc (good.encodes)), good.shape.queue)
 
       his_sits : (q : ℕ) → holds_lock (entries q s) ≡ true → Sits q (slice_get seen.state.seats q)
-      his_sits q found = walk.sits_so (fair_table v cap patience) (fair_notes v cap patience) holds_lock seen good q found
+      his_sits q found = walk.sits_so (fair_notes v cap patience) holds_lock seen good q found
 
       others_same : (q o : ℕ) (d : FairCall) (i : FairPoint) (j : Option Hold) → IsOpenStep s q (sc seen q d i j).change → (q ≡ o → ⊥) → theirs_by (holds_lock (entries o (sc seen q d i j).after.plain)) (slice_get seen.state.seats o) ≤ theirs_by (holds_lock (entries o s)) (slice_get seen.state.seats o)
       others_same q o d i j opens ne = omega (arith, ap (λ e. theirs_by (holds_lock e) (slice_get seen.state.seats o)) (entries-other s q o (sc seen q d i j).change ne opens))
@@ -131,14 +131,14 @@ module _ {V : Type 0} (v : V) (cap patience : ℕ) where
 
       some_starve : slice_get seen.state.seats p ≡ Some (Calling c l h) → its_point l → is_empty s.starvers ≡ false
       some_starve there at =
-          own_some p s.starvers (row_tells (fair_table v cap patience) (fair_notes v cap patience) c l h p s (seen.span p) (λ e. not (is_empty e.starvers)) _ (in_call m k seen p c l h good there).knows (grind (arith, waits, at)))
+          own_some p s.starvers (row_tells (fair_notes v cap patience) c l h p s (seen.span p) (λ e. not (is_empty e.starvers)) _ (in_call m k seen p c l h good there).knows (grind (arith, waits, at)))
 
       -- another party's step, which may set a clear flag
       takes_clear : (q : ℕ) (d : FairCall) (i : FairPoint) (j : Option Hold) → s.holders ≡ [] → is_set seen.state.words ≡ false → is_empty s.starvers ≡ false → slice_get seen.state.seats q ≡ Some (Calling d i j) → let y = sc seen q d i j in IsOpenStep s q y.change
           → (y.after.plain.holders ≡ []) ⊎ ((y.after.plain.holders ≡ holder q writing ∷ []) × (slice_get y.after.state.seats q ≡ Some (Calling d Unregister j)))
       takes_clear q d i j none clear some at opens = grind (arith, none, clear, some, opens, get-set_same seen.state.seats q (Calling d Unregister j) _ at)
 
-      takes_none : (q : ℕ) (d : FairCall) (i : FairPoint) (j : Option Hold) → is_set seen.state.words ≡ true → walk.SitsSo (fair_table v cap patience) (fair_notes v cap patience) (λ e. not (holds_lock e)) q (Some (Calling d i j)) → (sc seen q d i j).after.plain.holders ≡ s.holders
+      takes_none : (q : ℕ) (d : FairCall) (i : FairPoint) (j : Option Hold) → is_set seen.state.words ≡ true → walk.SitsSo (fair_notes v cap patience) (λ e. not (holds_lock e)) q (Some (Calling d i j)) → (sc seen q d i j).after.plain.holders ≡ s.holders
       takes_none q d i j set so = grind (arith, set, so)
 
       -- a holder leaves, or is granted
@@ -175,7 +175,7 @@ module _ {V : Type 0} (v : V) (cap patience : ℕ) where
             })
             (takes_clear q d i j (empty_is s.holders is) (flag ∙ ap not is) (some_starve there at) seat made.opens)
         other_steps none false is =
-            let so = subst (walk.SitsSo (fair_table v cap patience) (fair_notes v cap patience) (λ e. not (holds_lock e)) q) seat (walk.sits_so (fair_table v cap patience) (fair_notes v cap patience) (λ e. not (holds_lock e)) seen good q (ap not none)) in
+            let so = subst (walk.SitsSo (fair_notes v cap patience) (λ e. not (holds_lock e)) q) seat (walk.sits_so (fair_notes v cap patience) (λ e. not (holds_lock e)) seen good q (ap not none)) in
             let same = takes_none q d i j (flag ∙ ap not is) so in
             record {
               his = rw (ap (λ hs. not (is_empty (filter (λ z. z.party == q) hs))) same ∙ none) (omega arith);
@@ -188,7 +188,7 @@ module _ {V : Type 0} (v : V) (cap patience : ℕ) where
         steps false none = inr (other_steps none (is_empty s.holders) refl)
 
       busy : (q : ℕ) (b : Bool) → holds_lock (entries q s) ≡ b → 1 ≤ theirs_by b (slice_get seen.state.seats q) → is_busy (slice_get seen.state.seats q) ≡ true
-      busy q true found some = walk.busy_so (fair_table v cap patience) (fair_notes v cap patience) holds_lock q _ refl (λ h so. grind (arith, so)) (his_sits q found)
+      busy q true found some = walk.busy_so (fair_notes v cap patience) holds_lock q _ refl (λ h so. grind (arith, so)) (his_sits q found)
       busy q false found some = absurd (omega (arith, some))
 
       some : slice_get seen.state.seats p ≡ Some (Calling c l h) → its_point l → walk.Within m k f x seen l 0 → ⊥
@@ -221,13 +221,13 @@ module _ {V : Type 0} (v : V) (cap patience : ℕ) where
           some = λ seen l w none. some seen w.3 l w.0 w.1 none;
         }
 
-  its_call_is : (p : ℕ) (c : FairCall) (l : FairPoint) (h : Option Hold) → (asks_of patience c h).waits ≡ true → StandsSo (fair_table v cap patience) (fair_notes v cap patience) (λ e. not (is_empty e.starvers)) p c l h → its_call c h × its_point l
+  its_call_is : (p : ℕ) (c : FairCall) (l : FairPoint) (h : Option Hold) → (asks_of patience c h).waits ≡ true → StandsSo (fair_notes v cap patience) (λ e. not (is_empty e.starvers)) p c l h → its_call c h × its_point l
   its_call_is p c l h asks stands = grind (arith, asks, stands)
 
   pub locks_in_five : (n : ℕ) (past : List (ℕ × Move FairCall V)) (rounds : List (List (ℕ × Move FairCall V))) → LocksInFive m n past rounds
   locks_in_five n past rounds p c l h there asks with_it are few =
       let seen = seen_after m (opening m n) past in
-      let at = its_call_is p c l h asks (calls_so (fair_table v cap patience) (fair_notes v cap patience) f n past (λ e. not (is_empty e.starvers)) p c l h there (starves_own p seen.plain.starvers with_it)) in
+      let at = its_call_is p c l h asks (calls_so (fair_machine v cap patience) (fair_notes v cap patience) f n past (λ e. not (is_empty e.starvers)) p c l h there (starves_own p seen.plain.starvers with_it)) in
       walk.ends m k f (x p c h at.0) (walks p c h at.0) n past rounds l there at.1 tt tt are
       (λ w. let fit = λ (b : Bool) (his : Option FairSeat). loads_fit (is_empty seen.plain.holders) b l his in record { mine = omega (arith, few, (fit true None).0); theirs = λ q ne. omega (arith, few, (fit (holds_lock (entries q seen.plain)) (slice_get seen.state.seats q)).1) })
 

@@ -46,7 +46,7 @@ module _ {V : Type 0} (v : V) where
         → let x = scene_at m seen q Step (Some (Calling c l h)) in (goal q Step x.outcome (slice_get x.after.state.seats q) ≡ true) ⊎ (holds_lock (entries_after seen.plain x.change (entries q seen.plain)) ≡ false)
     comes seen q c l h b is none = grind (arith, is, none, empty_is (entries q seen.plain).holders)
 
-    releases : (q : ℕ) (c : FlagCall) (l : FlagPoint) (h : Option Hold) (w : Bool) (u : Option V) → StandsSo (flag_table v) (flag_notes v) holds_lock q c l h → (a : Answer V) × ((m.step w u c l h).next ≡ Answers a None)
+    releases : (q : ℕ) (c : FlagCall) (l : FlagPoint) (h : Option Hold) (w : Bool) (u : Option V) → StandsSo (flag_notes v) holds_lock q c l h → (a : Answer V) × ((m.step w u c l h).next ≡ Answers a None)
     releases q Release l h w u so = (Done, refl)
     releases q c l h w u so = absurd (grind (arith, so))
 

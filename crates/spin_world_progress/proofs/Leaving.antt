@@ -1,6 +1,6 @@
 -- A walk that several locks share. If holders of a kind only release, they leave within two rounds, all at once. Then
 -- the waiting party can continue.
-use Rattle.spin_world_progress.proofs.Names.{apply_some, seen_after, opening, cases_eq, suc, ◌<◌, cases_lt, ◌≡◌, ℕ, ◌≤◌, ◌⊎◌, ◌+◌, Bool, true, false, Option, Some, None, List, length, slice_get, refl, ap, sym, ◌∙◌, subst, arith, inl, inr, ⊎_elim, IsOpenStep, entries, entries-other, entries-own, Hold, Seat, Idle, Calling, Next, Answers, Move, Step, Weak, Machine, goes_on, resting, may_read, after, at_first, Seen, Scene, scene_at, joined, entries_of, StandsFor, Table, machine_of, ◌-◌, no_entries, entries_after, get-set_same, LocalInvariant, Facts, Invariant, Notes, keeping_of, StandsSo, Test, occurs, AreRounds}
+use Rattle.spin_world_progress.proofs.Names.{apply_some, seen_after, opening, cases_eq, suc, ◌<◌, cases_lt, ◌≡◌, ℕ, ◌≤◌, ◌⊎◌, ◌+◌, Bool, true, false, Option, Some, None, List, length, slice_get, refl, ap, sym, ◌∙◌, subst, arith, inl, inr, ⊎_elim, IsOpenStep, entries, entries-other, entries-own, Hold, Seat, Idle, Calling, Next, Answers, Move, Step, Weak, Machine, goes_on, resting, may_read, after, at_first, Seen, Scene, scene_at, joined, entries_of, StandsFor, Table, machine_of, ◌-◌, no_entries, entries_after, get-set_same, Plays, Invariant, Notes, StandsSo, Test, occurs, AreRounds}
 use Rattle.spin_step.specs.Parties.{Entries}
 use Rattle.spin_world_progress.proofs.Progress.{is_busy}
 use Rattle.spin_world_progress.proofs.Loads.{Wait}
@@ -21,12 +21,12 @@ load_begun bound b c l i h = grind arith
 load_none : {C L : Type 0} (bound n : ℕ) (b : Bool) (o : Option (Seat C L)) → load_by bound b o ≤ suc n → n < bound → b ≡ false
 load_none bound n b o few less = grind (arith, few, less)
 
-module _ {W V C L A : Type 0} (t : Table W V C L A) (n : Notes t) (f : Facts (machine_of t) (keeping_of t n)) (goal : Test V C L A) (p : ℕ) (c : C) (h : Option Hold) (At : L → Type 0) (test : Entries → Bool) (rank : L → ℕ) (bound : ℕ) where
+module _ {W V C L A : Type 0} (t : Table W V C L A) (n : Notes t) (f : Plays (machine_of t) n) (goal : Test V C L A) (p : ℕ) (c : C) (h : Option Hold) (At : L → Type 0) (test : Entries → Bool) (rank : L → ℕ) (bound : ℕ) where
   abbrev m : Machine W V C L A
   m = machine_of t
 
-  abbrev k : LocalInvariant V C L
-  k = keeping_of t n
+  abbrev k : Notes t
+  k = n
 
   abbrev World : Type 0
   World = Seen W V C L
@@ -50,7 +50,7 @@ module _ {W V C L A : Type 0} (t : Table W V C L A) (n : Notes t) (f : Facts (ma
     -- a party without entries holds nothing, nor does the waiting one; and a party that holds in this way holds the
     -- lock
     pub none : test no_entries ≡ false
-    pub not_its : (l : L) → At l → StandsSo t n test p c l h → ⊥
+    pub not_its : (l : L) → At l → StandsSo n test p c l h → ⊥
     pub reads : (q : ℕ) (h : Hold) → test (entries_of q h) ≡ true → may_read h ≡ true
     -- its own step, which lowers its rank if nobody holds, and a spurious failure
     pub own : (seen : World) (l : L) → Invariant m k seen → slice_get seen.state.seats p ≡ Some (Calling c l h) → At l
@@ -60,14 +60,14 @@ module _ {W V C L A : Type 0} (t : Table W V C L A) (n : Notes t) (f : Facts (ma
     pub comes : (seen : World) (l : L) (q : ℕ) (d : C) (i : L) (j : Option Hold) → Waits seen l → slice_get seen.state.seats q ≡ Some (Calling d i j) → holds q seen ≡ false
         → let sc = scene_at m seen q Step (Some (Calling d i j)) in IsOpenStep seen.plain q sc.change → Reaches sc ⊎ (test (entries_after seen.plain sc.change (entries q seen.plain)) ≡ false)
     -- a holder's call releases by its next step, which does not fail
-    pub releases : (q : ℕ) (d : C) (i : L) (j : Option Hold) (w : W) (v : Option V) → StandsSo t n test q d i j → (a : A) × ((m.step w v d i j).next ≡ Answers a None)
-    pub strong : (q : ℕ) (d : C) (i : L) (j : Option Hold) (next : Next L A) → StandsSo t n test q d i j → m.refuse d i j ≡ Some next → ⊥
+    pub releases : (q : ℕ) (d : C) (i : L) (j : Option Hold) (w : W) (v : Option V) → StandsSo n test q d i j → (a : A) × ((m.step w v d i j).next ≡ Answers a None)
+    pub strong : (q : ℕ) (d : C) (i : L) (j : Option Hold) (next : Next L A) → StandsSo n test q d i j → m.refuse d i j ≡ Some next → ⊥
     pub few : (l : L) → rank l ≤ bound
     pub some : (l : L) → 1 ≤ rank l
 
   module _ (leaves : Leaves) where
-    sits : (seen : World) → Invariant m k seen → (q : ℕ) → holds q seen ≡ true → walk.SitsSo t n test q (slice_get seen.state.seats q)
-    sits seen good q found = walk.sits_so t n test seen good q found
+    sits : (seen : World) → Invariant m k seen → (q : ℕ) → holds q seen ≡ true → walk.SitsSo n test q (slice_get seen.state.seats q)
+    sits seen good q found = walk.sits_so n test seen good q found
 
     -- the party that steps no longer holds; or it begins to hold, which is the goal
     gone : (seen : World) (l : L) (q : ℕ) (d : C) (i : L) (j : Option Hold) → Waits seen l → slice_get seen.state.seats q ≡ Some (Calling d i j)
@@ -77,7 +77,7 @@ module _ {W V C L A : Type 0} (t : Table W V C L A) (n : Notes t) (f : Facts (ma
         by : (b : Bool) → holds q seen ≡ b → let sc = scene_at m seen q Step (Some (Calling d i j)) in Reaches sc ⊎ (holds q sc.after ≡ false)
         by true found =
             let sc = scene_at m seen q Step (Some (Calling d i j)) in
-            let ends = leaves.releases q d i j seen.state.words seen.state.value (subst (walk.SitsSo t n test q) there (sits seen w.3 q found)) in
+            let ends = leaves.releases q d i j seen.state.words seen.state.value (subst (walk.SitsSo n test q) there (sits seen w.3 q found)) in
             let idle : slice_get sc.after.state.seats q ≡ Some Idle = rw ends.1 (get-set_same seen.state.seats q Idle _ there) in
             let none : entries q sc.after.plain ≡ no_entries = subst (StandsFor sc.after.plain q (sc.after.span q)) idle (made.good.parties q).stands in
             inr (ap test none ∙ leaves.none)
@@ -89,18 +89,18 @@ module _ {W V C L A : Type 0} (t : Table W V C L A) (n : Notes t) (f : Facts (ma
     strong_there seen good q d i j next there may = by (holds q seen) refl
       where
         by : (b : Bool) → holds q seen ≡ b → b ≡ false
-        by true found = absurd (leaves.strong q d i j next (subst (walk.SitsSo t n test q) there (sits seen good q found)) may)
+        by true found = absurd (leaves.strong q d i j next (subst (walk.SitsSo n test q) there (sits seen good q found)) may)
         by false none = refl
 
     not_mine : (seen : World) (l : L) → Waits seen l → holds p seen ≡ false
     not_mine seen l w = by (holds p seen) refl
       where
         by : (b : Bool) → holds p seen ≡ b → b ≡ false
-        by true found = absurd (leaves.not_its l w.1 (subst (walk.SitsSo t n test p) w.0 (sits seen w.3 p found)))
+        by true found = absurd (leaves.not_its l w.1 (subst (walk.SitsSo n test p) w.0 (sits seen w.3 p found)))
         by false none = refl
 
     busy : (seen : World) → Invariant m k seen → (q : ℕ) (b : Bool) → holds q seen ≡ b → 1 ≤ load_by bound b (slice_get seen.state.seats q) → is_busy (slice_get seen.state.seats q) ≡ true
-    busy seen good q true found some = walk.busy_so t n test q _ leaves.none (λ h. leaves.reads q h) (sits seen good q found)
+    busy seen good q true found some = walk.busy_so n test q _ leaves.none (λ h. leaves.reads q h) (sits seen good q found)
     busy seen good q false found some = absurd (omega (arith, some))
 
     same_load : (seen : World) (q o : ℕ) (sc : Scene W V C L A) → (q ≡ o → ⊥) → IsOpenStep seen.plain q sc.change → sc.after.plain ≡ apply_some seen.plain sc.change → load_by bound (test (entries o sc.after.plain)) (slice_get seen.state.seats o) ≤ load_by bound (holds o seen) (slice_get seen.state.seats o)

@@ -2,7 +2,7 @@
 -- the others continue.
 -- A round lowers the highest loads by one, or reaches the goal. Below is what a step of each party has to show. All
 -- other moves are alike in every object.
-use Rattle.spin_world_progress.proofs.Names.{suc, max, if◌then◌else◌, eqb_self, ne_eqb, eq-eqb, entries, Idle, Gone, may_read, entries_of, Table, machine_of, StandsFor, entries_held, Mark, KnowsAt, Notes, keeping_of, StandsSo, row_passes, ◌≡◌, ℕ, ◌<◌, ◌≤◌, ◌⊎◌, ◌==◌, ◌||◌, Bool, true, false, Option, Some, None, List, [], ◌∷◌, length, slice_get, refl, ap, sym, ◌∙◌, subst, arith, inl, inr, ⊎_elim, cases_eq, cases_lt, false≢true, Plain, IsOpenStep, Hold, Seat, Calling, Holding, Leaked, Next, Move, Begin, Step, Weak, BelongsTo, Machine, goes_on, resting, is_owners, Seen, Scene, scene, scene_at, opening, joined, seen_after, after, at_first, ◌-◌, get-set_same, of_event, LocalInvariant, Facts, Invariant, kept, good_after, state-seen_after, seen_after-append, state_is, seat_is, Test, occurs, IsRound, AreRounds}
+use Rattle.spin_world_progress.proofs.Names.{suc, max, if◌then◌else◌, eqb_self, ne_eqb, eq-eqb, entries, Idle, Gone, may_read, entries_of, Table, machine_of, StandsFor, entries_held, Mark, KnowsAt, Notes, StandsSo, row_passes, ◌≡◌, ℕ, ◌<◌, ◌≤◌, ◌⊎◌, ◌==◌, ◌||◌, Bool, true, false, Option, Some, None, List, [], ◌∷◌, length, slice_get, refl, ap, sym, ◌∙◌, subst, arith, inl, inr, ⊎_elim, cases_eq, cases_lt, false≢true, Plain, IsOpenStep, Hold, Seat, Calling, Holding, Leaked, Next, Move, Begin, Step, Weak, BelongsTo, Machine, goes_on, resting, is_owners, Seen, Scene, scene, scene_at, opening, joined, seen_after, after, at_first, ◌-◌, get-set_same, of_event, Plays, Invariant, kept, good_after, state-seen_after, seen_after-append, state_is, seat_is, Test, occurs, IsRound, AreRounds}
 use Rattle.spin_world_progress.specs.Rounds.{is_release}
 use Rattle.spin_world_progress.proofs.Progress.{or_left, or_right, or_rest, has_left, is_busy, is_idle, calls_not, holds_not, unawaited, awaited_of, same_beside, no_owner, left_never, moves_on, occurs-append, step_first}
 use Rattle.spin_world.proofs.FairNames.{Entries, entries_at}
@@ -10,28 +10,29 @@ use Rattle.spin_model.specs.Schedules.{begun}
 use Rattle.spin_model.specs.declared.schedule.Move.TheVariants.{Leak}
 use Rattle.spin_model.specs.StepKinds as step_kind
 use Rattle.spin_world_core.specs.Runs.{scene_of}
+use Rattle.spin_world_core.proofs.Steps.{played}
 use Rattle.spin_world_core.proofs.Reached as reached
 
 -- the party sits with entries that pass this test
 
-module _ {W V C L A : Type 0} (t : Table W V C L A) (n : Notes t) (test : Entries → Bool) where
+module _ {W V C L A : Type 0} {t : Table W V C L A} (n : Notes t) (test : Entries → Bool) where
   abbrev pub SitsSo : ℕ → Option (Seat C L) → Type 0
-  SitsSo p (Some (Calling c l h)) = StandsSo t n test p c l h
+  SitsSo p (Some (Calling c l h)) = StandsSo n test p c l h
   SitsSo p (Some (Holding h)) = test (entries_of p h) ≡ true
   SitsSo p (Some (Leaked h)) = test (entries_of p h) ≡ true
   SitsSo p (Some (Gone h)) = test (entries_of p h) ≡ true
   SitsSo p _ = test (entries_held p None) ≡ true
 
-  sits_by : (p : ℕ) (s : Plain) (span : List Mark) (o : Option (Seat C L)) → StandsFor s p span o → KnowsAt (keeping_of t n) s p span o → test (entries p s) ≡ true → SitsSo p o
+  sits_by : (p : ℕ) (s : Plain) (span : List Mark) (o : Option (Seat C L)) → StandsFor s p span o → KnowsAt n s p span o → test (entries p s) ≡ true → SitsSo p o
   sits_by p s span (Some (Calling c l h)) stands knows has =
-      row_passes t n c l h p s span (λ row. test (entries_at p row.stand)) (λ row stand made. ap test (sym stand) ∙ has) _ knows
+      row_passes n c l h p s span (λ row. test (entries_at p row.stand)) (λ row stand made. ap test (sym stand) ∙ has) _ knows
   sits_by p s span (Some (Holding h)) stands knows has = sym (ap test stands) ∙ has
   sits_by p s span (Some (Leaked h)) stands knows has = sym (ap test stands) ∙ has
   sits_by p s span (Some (Gone h)) stands knows has = sym (ap test stands) ∙ has
   sits_by p s span (Some Idle) stands knows has = sym (ap test stands) ∙ has
   sits_by p s span None stands knows has = sym (ap test stands) ∙ has
 
-  pub sits_so : (seen : Seen W V C L) → Invariant (machine_of t) (keeping_of t n) seen → (p : ℕ) → test (entries p seen.plain) ≡ true → SitsSo p (slice_get seen.state.seats p)
+  pub sits_so : (seen : Seen W V C L) → Invariant (machine_of t) n seen → (p : ℕ) → test (entries p seen.plain) ≡ true → SitsSo p (slice_get seen.state.seats p)
   sits_so seen good p has = sits_by p seen.plain (seen.span p) _ (good.parties p).stands (good.parties p).knows has
 
   -- so others may wait for it
@@ -52,7 +53,10 @@ pub record Wait (W V C L A : Type 0) : Type 1 where
   pub mine : Plain → L → ℕ
   pub theirs : Plain → L → ℕ → Option (Seat C L) → ℕ
 
-module _ {W V C L A : Type 0} (m : Machine W V C L A) (k : LocalInvariant V C L) (f : Facts m k) (x : Wait W V C L A) where
+module _ {W V C L A B : Type 0} {t : Table W V C L B} (given : Machine W V C L A) (k : Notes t) (f : Plays given k) (x : Wait W V C L A) where
+  abbrev m : Machine W V C L A
+  m = played t given
+
   abbrev World : Type 0
   World = Seen W V C L
 
@@ -70,7 +74,7 @@ module _ {W V C L A : Type 0} (m : Machine W V C L A) (k : LocalInvariant V C L)
   Sits seen l = slice_get seen.state.seats p ≡ Some (Calling x.call l x.hold)
 
   abbrev pub Waits : World → L → Type 0
-  Waits seen l = Sits seen l × x.At l × x.Known seen × Invariant m k seen
+  Waits seen l = Sits seen l × x.At l × x.Known seen × Invariant given k seen
 
   abbrev pub theirs : World → L → ℕ → ℕ
   theirs seen l q = x.theirs seen.plain l q (slice_get seen.state.seats q)
@@ -99,7 +103,7 @@ module _ {W V C L A : Type 0} (m : Machine W V C L A) (k : LocalInvariant V C L)
   -- what holds after an event of the party q
   pub record After (seen : World) (q : ℕ) (sc : Event) : Type 0 where
     pub others : (d : ℕ) → (q ≡ d → ⊥) → slice_get sc.after.state.seats d ≡ slice_get seen.state.seats d
-    pub good : Invariant m k sc.after
+    pub good : Invariant given k sc.after
     pub opens : IsOpenStep seen.plain q sc.change
     pub belongs : BelongsTo m.lock_kind sc.change
     pub known : x.Known sc.after
@@ -113,7 +117,7 @@ module _ {W V C L A : Type 0} (m : Machine W V C L A) (k : LocalInvariant V C L)
   Own seen l n sc = Reaches sc ⊎ ((i : L) × Sits sc.after i × x.At i × (x.mine sc.after.plain i ≤ n) × Others seen l p sc i n)
 
   pub record Walks : Type 0 where
-    pub fine : (seen : World) (q : ℕ) (move : Move C V) → Invariant m k seen → x.Fine (scene m seen q move).after → x.Fine seen
+    pub fine : (seen : World) (q : ℕ) (move : Move C V) → Invariant given k seen → x.Fine (scene m seen q move).after → x.Fine seen
     -- what is known stays true at each event that does not reach the goal
     pub keeps : (seen : World) (q : ℕ) (move : Move C V) (l : L) → Waits seen l → let sc = scene m seen q move in Reaches sc ⊎ x.Known sc.after
     -- its own step, and another party's
@@ -149,7 +153,7 @@ module _ {W V C L A : Type 0} (m : Machine W V C L A) (k : LocalInvariant V C L)
         gets = λ y at may. absurd (no_owner m seen p x.call l x.hold w.0 may);
         sets = λ v y at may. absurd (no_owner m seen p x.call l x.hold w.0 may);
       })
-      move (kept m k f seen q move w.3).keeps.opens
+      move (kept given k f seen q move w.3).keeps.opens
 
   -- The walk over all moves
 
@@ -340,7 +344,7 @@ module _ {W V C L A : Type 0} (m : Machine W V C L A) (k : LocalInvariant V C L)
     goes : (q : ℕ) (move : Move C V) → x.Fine (scene m seen q move).after → Goes (scene m seen q move)
     goes q move fine pays =
         let sc = scene m seen q move in
-        let keeps = kept m k f seen q move w.3 in
+        let keeps = kept given k f seen q move w.3 in
         ⊎_elim inl
         (λ (known : x.Known sc.after).
         let after : After seen q sc = record {
@@ -357,9 +361,9 @@ module _ {W V C L A : Type 0} (m : Machine W V C L A) (k : LocalInvariant V C L)
   -- The rounds
 
   module _ (walks : Walks) where
-    fine_before : (seen : World) (es : Turn) → Invariant m k seen → x.Fine (seen_after m seen es) → x.Fine seen
+    fine_before : (seen : World) (es : Turn) → Invariant given k seen → x.Fine (seen_after m seen es) → x.Fine seen
     fine_before seen [] good is = is
-    fine_before seen (e ∷ es) good is = walks.fine seen e.0 e.1 good (fine_before (scene m seen e.0 e.1).after es (kept m k f seen e.0 e.1 good).good is)
+    fine_before seen (e ∷ es) good is = walks.fine seen e.0 e.1 good (fine_before (scene m seen e.0 e.1).after es (kept given k f seen e.0 e.1 good).good is)
 
     -- the call still waits, and no load is above this one
     abbrev Waiting : World → ℕ → Type 0
@@ -373,7 +377,7 @@ module _ {W V C L A : Type 0} (m : Machine W V C L A) (k : LocalInvariant V C L)
         let sc = scene m seen e.0 e.1 in
         ⊎_elim (λ (r : Reaches sc). inl (or_left _ _ r))
         (λ (on : On walks seen l w n es sc). ⊎_elim (λ (r : occurs m x.goal sc.after.state es ≡ true). inl (or_right _ _ r)) inr (through sc.after on.point n es on.waits fine on.pays))
-        (goes walks seen l w n es e.0 e.1 (fine_before sc.after es (kept m k f seen e.0 e.1 w.3).good fine) pays)
+        (goes walks seen l w n es e.0 e.1 (fine_before sc.after es (kept given k f seen e.0 e.1 w.3).good fine) pays)
 
     -- a round lowers the highest loads
     one_round : (seen : World) (l : L) (n : ℕ) (es : Turn) → Waits seen l → x.Fine (seen_after m seen es) → Within seen l (suc n) → IsRound m seen.state es → (occurs m x.goal seen.state es ≡ true) ⊎ Waiting (seen_after m seen es) n
@@ -400,7 +404,7 @@ module _ {W V C L A : Type 0} (m : Machine W V C L A) (k : LocalInvariant V C L)
         ⊎_elim (λ (r : occurs m x.goal seen.state es ≡ true). or_left _ _ r)
         (λ (y : Waiting next (length rounds)).
         or_right _ _ (subst (λ s. occurs m x.goal s (joined rounds) ≡ true) at (in_rounds rounds next y.0 y.1 fine_there (subst (λ s. AreRounds m s rounds) (sym at) are.1) y.2)))
-        (one_round seen l (length rounds) es w (fine_before next (joined rounds) (good_after m k f seen es w.3) fine_there) within are.0)
+        (one_round seen l (length rounds) es w (fine_before next (joined rounds) (good_after given k f seen es w.3) fine_there) within are.0)
 
     -- this holds after any schedule
     pub ends : (n : ℕ) (past : Turn) (rounds : List Turn) (l : L)
@@ -409,6 +413,6 @@ module _ {W V C L A : Type 0} (m : Machine W V C L A) (k : LocalInvariant V C L)
         → occurs m x.goal s (joined rounds) ≡ true
     ends n past rounds l there at known fine are enough =
         let seen = seen_after m (opening m n) past in
-        let same = state_is m k f n past in
-        let w : Waits seen l = (seat_is m k f n past p _ there, at, known, reached.good m k f n past) in
+        let same = state_is given k f n past in
+        let w : Waits seen l = (seat_is given k f n past p _ there, at, known, reached.good given k f n past) in
         subst (λ s. occurs m x.goal s (joined rounds) ≡ true) same (in_rounds rounds seen l w fine (subst (λ s. AreRounds m s rounds) (sym same) are) (enough w))

@@ -1,6 +1,7 @@
 -- A call with a closure is answered in four rounds, if no closure fails.
-use Rattle.spin_world_progress.proofs.Names.{Bool, suc, eqb-true, eq-eqb, Seat, Outcome, ◌≡◌, ℕ, ◌≤◌, ◌⊎◌, ◌==◌, true, false, Option, Some, None, List, [], ◌∷◌, slice_get, if◌then◌else◌, refl, ap, sym, ◌∙◌, subst, arith, inl, inr, ⊎_elim, cases_eq, ne_eqb, Plain, Phase, nothing, running, complete, Change, is_running, once_word, apply_some, IsOpenStep, Answer, Hold, Calling, Next, Move, Step, BelongsTo, Seen, Scene, scene, scene_at, opening, State, seen_after, OnceMachine, once_machine, eqb_self, get-set_same, LocalInvariant, Facts, of_event, Invariant, in_call, kept, good_first, state_is, numbers_are}
+use Rattle.spin_world_progress.proofs.Names.{Bool, suc, eqb-true, eq-eqb, Seat, Outcome, ◌≡◌, ℕ, ◌≤◌, ◌⊎◌, ◌==◌, true, false, Option, Some, None, List, [], ◌∷◌, slice_get, if◌then◌else◌, refl, ap, sym, ◌∙◌, subst, arith, inl, inr, ⊎_elim, cases_eq, ne_eqb, Plain, Phase, nothing, running, complete, Change, is_running, once_word, apply_some, IsOpenStep, Answer, Hold, Calling, Next, Move, Step, BelongsTo, Seen, Scene, scene, scene_at, opening, State, seen_after, OnceMachine, once_machine, eqb_self, get-set_same, Notes, Plays, of_event, Invariant, in_call, kept, good_first, state_is, numbers_are}
 use Rattle.spin_world.proofs.OnceNames.{OnceCall, CallOnce, TryCallOnceOk, TryCallOnceErr, InitFromRef, OncePoint, Look, TryBegin, Await, Run, asks_of, Entries, once_after, has_closure}
+use Rattle.spin_model.specs.Once.{once_table}
 use Rattle.spin_world.proofs.OnceOwed.{once_keeping, once_facts}
 use Rattle.spin_model.specs.OnceKind.{once}
 use Rattle.spin_world.proofs.Keeping.{run_here}
@@ -70,10 +71,10 @@ module _ {V : Type 0} (value : Option V) where
   abbrev m : OnceMachine V
   m = once_machine value
 
-  abbrev k : LocalInvariant V (OnceCall V) OncePoint
+  abbrev k : Notes (once_table value)
   k = once_keeping value
 
-  abbrev f : Facts m k
+  abbrev f : Plays m k
   f = once_facts value
 
   abbrev World : Type 0

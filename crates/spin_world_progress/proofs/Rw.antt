@@ -134,17 +134,17 @@ module _ {V : Type 0} (v : V) (cap : ℕ) where
         comes_at seen Asking q d i j w there none opens = inr (no_reader seen w.3 w.0 q (scene_at m seen q Step (Some (Calling d i j))).change none opens)
         comes_at seen l q d i j w there none opens = absurd (grind (arith, w.1))
 
-        releases_at : (q : ℕ) (c : RwCall) (l : RwPoint) (h : Option Hold) (w : ℕ) (u : Option V) → StandsSo (rw_table v cap) (rw_notes v cap) (any_of reading) q c l h → (a : Answer V) × ((m.step w u c l h).next ≡ Answers a None)
+        releases_at : (q : ℕ) (c : RwCall) (l : RwPoint) (h : Option Hold) (w : ℕ) (u : Option V) → StandsSo (rw_notes v cap) (any_of reading) q c l h → (a : Answer V) × ((m.step w u c l h).next ≡ Answers a None)
         releases_at q Release l (Some hold.Read) w u so = (Done, refl)
         releases_at q c l h w u so = absurd (grind (arith, so))
 
-  asking_at : (p : ℕ) (c : RwCall) (l : RwPoint) (h : Option Hold) → StandsSo (rw_table v cap) (rw_notes v cap) (any_of asking) p c l h → Some (Calling c l h) ≡ Some (Calling Upgrade Asking (Some hold.Upgradable))
+  asking_at : (p : ℕ) (c : RwCall) (l : RwPoint) (h : Option Hold) → StandsSo (rw_notes v cap) (any_of asking) p c l h → Some (Calling c l h) ≡ Some (Calling Upgrade Asking (Some hold.Upgradable))
   asking_at p c l h stands = grind (arith, stands)
 
   pub upgrades_in_three : (n : ℕ) (past : List (ℕ × Move RwCall V)) (rounds : List (List (ℕ × Move RwCall V))) → UpgradesInThree m n past rounds
   upgrades_in_three n past rounds p c l h there found are long =
       let seen = seen_after m (opening m n) past in
-      let at = asking_at p c l h (calls_so (rw_table v cap) (rw_notes v cap) (rw_facts v cap) n past (any_of asking) p c l h there (any_own asking p seen.plain.holders ∙ found)) in
+      let at = asking_at p c l h (calls_so (rw_machine v cap) (rw_notes v cap) (rw_facts v cap) n past (any_of asking) p c l h there (any_own asking p seen.plain.holders ∙ found)) in
       leaving.two_rounds (rw_table v cap) (rw_notes v cap) (rw_facts v cap) (goal p) p Upgrade (Some hold.Upgradable) at_upgrade (any_of reading) (λ l. 1) 1 (leaves p) n past rounds Asking (there ∙ at) tt are long
 
   pub upgrades_at_last : (n : ℕ) (past : List (ℕ × Move RwCall V)) (schedule : ℕ → ℕ × Move RwCall V) → UpgradesAtLast m n past schedule

@@ -1,6 +1,6 @@
 -- A read-write lock is free of deadlock. The readers leave in the same two rounds. A holder that does more than read is
 -- then alone, and each round takes a move from it.
-use Rattle.spin_world_progress.proofs.Names.{good, cases_eq, scene, eqb-true, empty_is, ◌<◌, one_of, eq-eqb, row_tells, in_call, StandsFor, ne_eqb, entries-other, Holding, Upgrade, Asking, max, suc, not, resting, ◌≡◌, ℕ, ◌+◌, ◌≤◌, ◌==◌, Bool, true, false, Option, Some, None, List, [], ◌∷◌, length, slice_get, refl, ap, sym, ◌∙◌, arith, Plain, Kind, reading, upgradable, asking, writing, Holder, Change, releases, turns, count_kind, weight, rw_word, apply_some, IsOpenStep, IsExclusive, ◌-◌, ◌⊎◌, ◌||◌, ◌&&◌, subst, inl, inr, ⊎_elim, nat_lt, min, if◌then◌else◌, lt-ltb, sum_by-cons, same_kind, may_turn, upgrader, all_kinds, by_kinds, read, read_upgradable, reader_limit, Answer, Hold, Seat, Idle, Calling, Next, Continue, Answers, Move, Step, Weak, Mark, Machine, after, at_first, goes_on, get-set_same, Seen, Scene, scene_at, opening, seen_after, eqb_self, LocalInvariant, Facts, Invariant, calls, RwCall, Read, UpgradeableRead, RwPoint, rw_table, rw_machine, rw_notes, rw_keeping, rw_facts, Test, grants_any, refuses_any, leading, rounds_by, rounds_beside, GrantsSomebody, RwIsDeadlockFree, without_holder, with_kind, filter, list_any, list_all, entries, is_empty}
+use Rattle.spin_world_progress.proofs.Names.{Knows, good, cases_eq, scene, eqb-true, empty_is, ◌<◌, one_of, eq-eqb, row_tells, in_call, StandsFor, ne_eqb, entries-other, Holding, Upgrade, Asking, max, suc, not, resting, ◌≡◌, ℕ, ◌+◌, ◌≤◌, ◌==◌, Bool, true, false, Option, Some, None, List, [], ◌∷◌, length, slice_get, refl, ap, sym, ◌∙◌, arith, Plain, Kind, reading, upgradable, asking, writing, Holder, Change, releases, turns, count_kind, weight, rw_word, apply_some, IsOpenStep, IsExclusive, ◌-◌, ◌⊎◌, ◌||◌, ◌&&◌, subst, inl, inr, ⊎_elim, nat_lt, min, if◌then◌else◌, lt-ltb, sum_by-cons, same_kind, may_turn, upgrader, all_kinds, by_kinds, read, read_upgradable, reader_limit, Answer, Hold, Seat, Idle, Calling, Next, Continue, Answers, Move, Step, Weak, Mark, Machine, after, at_first, goes_on, get-set_same, Seen, Scene, scene_at, opening, seen_after, eqb_self, Notes, Plays, Invariant, calls, RwCall, Read, UpgradeableRead, RwPoint, rw_table, rw_machine, rw_notes, rw_keeping, rw_facts, Test, grants_any, refuses_any, leading, rounds_by, rounds_beside, GrantsSomebody, RwIsDeadlockFree, without_holder, with_kind, filter, list_any, list_all, entries, is_empty}
 use Rattle.spin_world.proofs.RwNames.{Write, Exchange, Release, Entries}
 use Rattle.spin_model.specs.declared.place.Hold.TheVariants as hold
 use Rattle.spin_step_more.specs.RwCalls.{asks_of}
@@ -325,10 +325,10 @@ module _ {V : Type 0} (v : V) (cap : ℕ) (some : 1 ≤ cap) where
   abbrev m : Machine ℕ V RwCall RwPoint (Answer V)
   m = rw_machine v cap
 
-  abbrev k : LocalInvariant V RwCall RwPoint
+  abbrev k : Notes (rw_table v cap)
   k = rw_keeping v cap
 
-  abbrev f : Facts m k
+  abbrev f : Plays m k
   f = rw_facts v cap
 
   abbrev World : Type 0
@@ -351,7 +351,7 @@ module _ {V : Type 0} (v : V) (cap : ℕ) (some : 1 ≤ cap) where
   weak seen q c h (Answers a rest) = grind arith
 
   abbrev Sits : (Entries → Bool) → ℕ → Option RwSeat → Type 0
-  Sits = walk.SitsSo (rw_table v cap) (rw_notes v cap)
+  Sits = walk.SitsSo (rw_notes v cap)
 
   -- a party that holds nothing, or reads, as the flag says
   abbrev reads_so : Bool → Entries → Bool
@@ -399,8 +399,8 @@ module _ {V : Type 0} (v : V) (cap : ℕ) (some : 1 ≤ cap) where
       abbrev b : Bool
       b = beside u s.holders
 
-      sits : (test : Entries → Bool) (q : ℕ) → test (entries q s) ≡ true → walk.SitsSo (rw_table v cap) (rw_notes v cap) test q (slice_get seen.state.seats q)
-      sits test q is = walk.sits_so (rw_table v cap) (rw_notes v cap) test seen good q is
+      sits : (test : Entries → Bool) (q : ℕ) → test (entries q s) ≡ true → walk.SitsSo (rw_notes v cap) test q (slice_get seen.state.seats q)
+      sits test q is = walk.sits_so (rw_notes v cap) test seen good q is
 
       -- if it is alone it has the word to itself
       one : length (its u s.holders) ≤ 1
@@ -415,7 +415,7 @@ module _ {V : Type 0} (v : V) (cap : ℕ) (some : 1 ≤ cap) where
 
       -- the waiting party holds nothing, so somebody else reads with it
       nothing_mine : (l : RwPoint) → slice_get seen.state.seats p ≡ Some (Calling c l None) → is_empty (its p s.holders) ≡ true
-      nothing_mine l mine_at = row_tells (rw_table v cap) (rw_notes v cap) c l None p s (seen.span p) (λ e. is_empty e.holders) _ (in_call m k seen p c l None good mine_at).knows (grind (arith, comes))
+      nothing_mine l mine_at = row_tells (rw_notes v cap) c l None p s (seen.span p) (λ e. is_empty e.holders) _ (in_call m k seen p c l None good mine_at).knows (grind (arith, comes))
 
       reader_beside : {l : RwPoint} → Known seen → slice_get seen.state.seats p ≡ Some (Calling c l None) → b ≡ true → (q : ℕ) × (q ≡ u → ⊥) × (q ≡ p → ⊥) × (reads (its q s.holders) ≡ true)
       reader_beside {l} known mine_at some =
@@ -609,7 +609,7 @@ module _ {V : Type 0} (v : V) (cap : ℕ) (some : 1 ≤ cap) where
       where
         by : (z : Bool) → is_empty (its q seen.plain.holders) ≡ z → is_busy (slice_get seen.state.seats q) ≡ true
         by true none = absurd (omega (arith, long, its_none seen.plain.holders q (slice_get seen.state.seats q) (empty_is (its q seen.plain.holders) none)))
-        by false some = walk.busy_so (rw_table v cap) (rw_notes v cap) holds_lock q _ refl (λ h so. grind (arith, so)) (walk.sits_so (rw_table v cap) (rw_notes v cap) holds_lock seen good q (ap not some))
+        by false some = walk.busy_so (rw_notes v cap) holds_lock q _ refl (λ h so. grind (arith, so)) (walk.sits_so (rw_notes v cap) holds_lock seen good q (ap not some))
 
     -- a party that rests asks nothing
     asks_not : (seen : World) → Invariant m k seen → (q : ℕ) (j : Option Hold) → slice_get seen.state.seats q ≡ Some (resting j) → (q == u) ≡ true → is_asking (kind_of u seen.plain.holders) ≡ false
@@ -617,7 +617,7 @@ module _ {V : Type 0} (v : V) (cap : ℕ) (some : 1 ≤ cap) where
       where
         by : (z : Bool) → is_asking (kind_of u seen.plain.holders) ≡ z → z ≡ false
         by false not_so = refl
-        by true asks = absurd (grind (arith, subst (Sits (λ e. is_asking (kind_in e.holders)) q) at (walk.sits_so (rw_table v cap) (rw_notes v cap) (λ e. is_asking (kind_in e.holders)) seen good q (ap (λ i. is_asking (kind_of i seen.plain.holders)) (eqb-true q u is) ∙ asks))))
+        by true asks = absurd (grind (arith, subst (Sits (λ e. is_asking (kind_in e.holders)) q) at (walk.sits_so (rw_notes v cap) (λ e. is_asking (kind_in e.holders)) seen good q (ap (λ i. is_asking (kind_of i seen.plain.holders)) (eqb-true q u is) ∙ asks))))
 
     rests_in : (j : Option Hold) → leaves (Some (resting j)) ≡ false
     rests_in None = refl
@@ -692,7 +692,7 @@ module _ {V : Type 0} (v : V) (cap : ℕ) (some : 1 ≤ cap) where
         }
 
   -- an upgrade holds
-  come_at : (c : RwCall) (l : RwPoint) (p : ℕ) (s : Plain) (span : List Mark) → (asks_of c None).waits ≡ true → k.Knows c l None p s span → at_come c
+  come_at : (c : RwCall) (l : RwPoint) (p : ℕ) (s : Plain) (span : List Mark) → (asks_of c None).waits ≡ true → Knows k c l None p s span → at_come c
   come_at c l p s span asks knows = grind (arith, asks, knows)
 
   pub grants_somebody : (n : ℕ) (past : List (ℕ × Move RwCall V)) (rounds : List (List (ℕ × Move RwCall V))) → GrantsSomebody m n past rounds

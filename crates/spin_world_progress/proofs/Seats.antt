@@ -61,7 +61,7 @@ module _ (n : ℕ) (some : 1 ≤ n) where
         → let x = scene_at m seen q Step (Some (Calling c l h)) in (goal q Step x.outcome (slice_get x.after.state.seats q) ≡ true) ⊎ (holds_lock (entries_after seen.plain x.change (entries q seen.plain)) ≡ false)
     comes seen q c l h none = grind (arith, none, empty_is (entries q seen.plain).holders)
 
-    releases : (q : ℕ) (c : SeatsCall) (l : SeatsPoint) (h : Option Hold) (w : ℕ) (u : Option (Unit {0})) → StandsSo (seats_table n) (seats_notes n) holds_lock q c l h → (a : Answer (Unit {0})) × ((m.step w u c l h).next ≡ Answers a None)
+    releases : (q : ℕ) (c : SeatsCall) (l : SeatsPoint) (h : Option Hold) (w : ℕ) (u : Option (Unit {0})) → StandsSo (seats_notes n) holds_lock q c l h → (a : Answer (Unit {0})) × ((m.step w u c l h).next ≡ Answers a None)
     releases q Leave l h w u so = (Done, refl)
     releases q c l h w u so = absurd (grind (arith, so))
 

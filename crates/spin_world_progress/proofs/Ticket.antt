@@ -1,5 +1,5 @@
 -- In how many rounds a `lock` is granted: until it has its ticket, and then with it.
-use Rattle.spin_world_progress.proofs.Names.{empty_is, max, ◌++◌, ◌⊎◌, cases_lt, resting, if◌then◌else◌, ◌≡◌, ℕ, ◌+◌, ◌-◌, ◌<◌, ◌≤◌, ◌==◌, Bool, true, false, not, Option, Some, None, List, [], ◌∷◌, refl, ap, sym, ◌∙◌, arith, filter, slice_get, Plain, Change, is_empty, serving_word, is_first, apply_some, IsOpenStep, entries, Seen, scene, opening, ticket_table, ticket_machine, LocalInvariant, Facts, after, at_first, seen_after, zero, ticket_limit, Answer, Hold, Calling, Holding, Move, Step, TicketWords, TicketCall, TicketPoint, Serve, LoadNext, Take, suc, ◌*◌, ◌&&◌, subst, inl, inr, ⊎_elim, length, nat_lt, and_parts, cases_eq, eqb-true, ne_eqb, eq-eqb, lt-ltb, to_enter, Seat, Next, BelongsTo, Mark, joined, Machine, occurs, AreRounds, grants, Scene, StandsFor, scene_at, State, happens, eqb_self, get-set_same, Invariant, in_call, good_after, state-seen_after, good, state_is, numbers_are, StandsSo, calls_so, calls, EntersInRounds, IsNeverStarved, LocksInRounds, slice_get_within, slice_get_past, no_entries, length-happens}
+use Rattle.spin_world_progress.proofs.Names.{Knows, empty_is, max, ◌++◌, ◌⊎◌, cases_lt, resting, if◌then◌else◌, ◌≡◌, ℕ, ◌+◌, ◌-◌, ◌<◌, ◌≤◌, ◌==◌, Bool, true, false, not, Option, Some, None, List, [], ◌∷◌, refl, ap, sym, ◌∙◌, arith, filter, slice_get, Plain, Change, is_empty, serving_word, is_first, apply_some, IsOpenStep, entries, Seen, scene, opening, ticket_table, ticket_machine, Notes, Plays, after, at_first, seen_after, zero, ticket_limit, Answer, Hold, Calling, Holding, Move, Step, TicketWords, TicketCall, TicketPoint, Serve, LoadNext, Take, suc, ◌*◌, ◌&&◌, subst, inl, inr, ⊎_elim, length, nat_lt, and_parts, cases_eq, eqb-true, ne_eqb, eq-eqb, lt-ltb, to_enter, Seat, Next, BelongsTo, Mark, joined, Machine, occurs, AreRounds, grants, Scene, StandsFor, scene_at, State, happens, eqb_self, get-set_same, Invariant, in_call, good_after, state-seen_after, good, state_is, numbers_are, StandsSo, calls_so, calls, EntersInRounds, IsNeverStarved, LocksInRounds, slice_get_within, slice_get_past, no_entries, length-happens}
 use Rattle.spin_world.proofs.TicketNames.{Entries, Numbered, enters_in_turn, serving-taken, serving-entered, serving-taken, stands, serving-moves, asks_of, bit, Lock, Release, Await, queued, Queued}
 use Rattle.spin_world.proofs.TicketOwed.{ticket_notes, ticket_keeping, ticket_facts}
 use Rattle.spin_model.specs.TicketKind.{ticket}
@@ -192,10 +192,10 @@ module _ {V : Type 0} (v : V) (first : ℕ) where
   abbrev m : Machine TicketWords V TicketCall TicketPoint (Answer V)
   m = ticket_machine v first
 
-  abbrev k : LocalInvariant V TicketCall TicketPoint
+  abbrev k : Notes (ticket_table v first)
   k = ticket_keeping v first
 
-  abbrev f : Facts m k
+  abbrev f : Plays m k
   f = ticket_facts v first
 
   abbrev World : Type 0
@@ -205,7 +205,7 @@ module _ {V : Type 0} (v : V) (first : ℕ) where
   TicketSeat = Seat TicketCall TicketPoint
 
   abbrev SitsSo : (Entries → Bool) → ℕ → Option TicketSeat → Type 0
-  SitsSo = walk.SitsSo (ticket_table v first) (ticket_notes v first)
+  SitsSo = walk.SitsSo (ticket_notes v first)
 
   strong : (c : TicketCall) (l : TicketPoint) (h : Option Hold) (next : Next TicketPoint (Answer V)) → m.refuse c l h ≡ Some next → ⊥
   strong c l h next is = grind (arith, is)
@@ -221,7 +221,7 @@ module _ {V : Type 0} (v : V) (first : ℕ) where
     each_one q = by (two (entries q seen.plain)) refl
       where
         by : (b : Bool) → two (entries q seen.plain) ≡ b → length (own q seen.plain.tickets) ≤ 1
-        by true is = absurd (none_two q _ (walk.sits_so (ticket_table v first) (ticket_notes v first) two seen good q is))
+        by true is = absurd (none_two q _ (walk.sits_so (ticket_notes v first) two seen good q is))
         by false is = grind (arith, is)
 
     nobody : (q : ℕ) → length seen.state.seats ≤ q → is_empty (own q seen.plain.tickets) ≡ true
@@ -259,7 +259,7 @@ module _ {V : Type 0} (v : V) (first : ℕ) where
       among = omega (arith, w.2, slice_get_within seen.state.seats p _ w.0)
 
       his_sits : is_empty s.tickets ≡ false → SitsSo has_ticket d (slice_get seen.state.seats d)
-      his_sits some = walk.sits_so (ticket_table v first) (ticket_notes v first) has_ticket seen w.3 d (ap not (first_own s.tickets some))
+      his_sits some = walk.sits_so (ticket_notes v first) has_ticket seen w.3 d (ap not (first_own s.tickets some))
 
       turn_of : (q j : ℕ) → own q s.tickets ≡ queued q j false ∷ [] → (seen.state.words.serving == j) ≡ is_first q false s.tickets
       turn_of q j his = ap (λ i. i == j) serving_is ∙ sym (enters_in_turn s q (serving_word s) j numbered refl his)
@@ -542,7 +542,7 @@ module _ {V : Type 0} (v : V) (first : ℕ) where
         by : (b : Bool) → is_empty seen.plain.tickets ≡ b → is_busy (slice_get seen.state.seats q) ≡ true
         by true none = absurd (omega (arith, long, ap (λ ts. ahead t (serving_word seen.plain) ts q (slice_get seen.state.seats q)) (empty_is seen.plain.tickets none)))
         by false some =
-            ⊎_elim (λ (is : first_party seen.plain.tickets ≡ q). subst (λ z. is_busy (slice_get seen.state.seats z) ≡ true) is (walk.busy_so (ticket_table v first) (ticket_notes v first) has_ticket _ _ refl (λ h is. grind (arith, is)) (his_sits seen l w some)))
+            ⊎_elim (λ (is : first_party seen.plain.tickets ≡ q). subst (λ z. is_busy (slice_get seen.state.seats z) ≡ true) is (walk.busy_so (ticket_notes v first) has_ticket _ _ refl (λ h is. grind (arith, is)) (his_sits seen l w some)))
             (λ (ne : first_party seen.plain.tickets ≡ q → ⊥). absurd (omega (arith, long, ahead_other t (serving_word seen.plain) seen.plain.tickets q (slice_get seen.state.seats q) (λ e. ne (sym e))))) (cases_eq (first_party seen.plain.tickets) q)
 
     busy_at : (seen : World) (l : TicketPoint) → walk.Waits m k f x seen l → (q : ℕ) → 1 ≤ theirs_by N seen.plain l q (slice_get seen.state.seats q) → is_busy (slice_get seen.state.seats q) ≡ true
@@ -587,13 +587,13 @@ module _ {V : Type 0} (v : V) (first : ℕ) where
           some = some_load;
         }
 
-  await_at : (t p : ℕ) (c : TicketCall) (l : TicketPoint) (h : Option Hold) → StandsSo (ticket_table v first) (ticket_notes v first) (λ e. waits_by t e.tickets) p c l h
+  await_at : (t p : ℕ) (c : TicketCall) (l : TicketPoint) (h : Option Hold) → StandsSo (ticket_notes v first) (λ e. waits_by t e.tickets) p c l h
       → Some (Calling c l h) ≡ Some (Calling Lock (Await t) None)
   await_at t p Lock (Await n) None is = ap (λ i. Some (Calling Lock (Await i) None)) (eqb-true n t (and_parts (n == t) true is).0)
   await_at t p c l h is = absurd (grind (arith, is))
 
   -- a call of `lock` holds nothing
-  lock_at : (N p : ℕ) (c : TicketCall) (l : TicketPoint) (h : Option Hold) (s : Plain) (span : List Mark) → (asks_of c h).waits ≡ true → k.Knows c l h p s span → N < ticket_limit → (Some (Calling c l h) ≡ Some (Calling Lock l None)) × at_lock N l
+  lock_at : (N p : ℕ) (c : TicketCall) (l : TicketPoint) (h : Option Hold) (s : Plain) (span : List Mark) → (asks_of c h).waits ≡ true → Knows k c l h p s span → N < ticket_limit → (Some (Calling c l h) ≡ Some (Calling Lock l None)) × at_lock N l
   lock_at N p c l h s span asks knows room = grind (arith, asks, knows, room)
 
   parties : (past : List (ℕ × Move TicketCall V)) (s : State TicketWords V TicketCall TicketPoint) → length (after m s past).seats ≡ length s.seats
@@ -629,7 +629,7 @@ module _ {V : Type 0} (v : V) (first : ℕ) where
 
     pub enters_in_rounds : (rounds : List (List (ℕ × Move TicketCall V))) → EntersInRounds m n past rounds
     enters_in_rounds rounds p t c l h there with_it are long =
-        let at = await_at t p c l h (calls_so (ticket_table v first) (ticket_notes v first) f n past (λ e. waits_by t e.tickets) p c l h there (ap (λ (e : Entries). waits_by t e.tickets) with_it ∙ rw (eqb_self t) refl)) in
+        let at = await_at t p c l h (calls_so (ticket_machine v first) (ticket_notes v first) f n past (λ e. waits_by t e.tickets) p c l h there (ap (λ (e : Entries). waits_by t e.tickets) with_it ∙ rw (eqb_self t) refl)) in
         let long_here : 3 * (t - serving_word seen.plain) + 1 ≤ length rounds = omega (arith, long, ap (λ z. t - z) numbers.1) in
         granted_in p (Await t) rounds (there ∙ at) tt are
         (λ w. record { mine = omega (arith, bit_few (first_party seen.plain.tickets == p), long_here); theirs = λ q ne. omega (arith, long_here, ahead_most t (serving_word seen.plain) seen.plain.tickets q (slice_get seen.state.seats q), left_few (slice_get seen.state.seats q)) })

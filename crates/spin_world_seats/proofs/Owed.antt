@@ -15,13 +15,13 @@ use Rattle.spin_seats.specs.declared.calls.SeatsPoint.TheVariants.{Exchange}
 use Rattle.spin_model.specs.Calls.{Mark}
 use Rattle.spin_model.specs.Acts.{begin_of}
 use Rattle.spin_seats.specs.Table.{seats_table, seats_machine}
-use Rattle.spin_world_core.proofs.Facts.{LocalInvariant, Facts}
+use Rattle.spin_world_core.proofs.Steps.{Plays}
 use Rattle.spin_world_core.proofs.Stands.{holds, entries_at}
 use Rattle.spin_world_core.proofs.Rows.{Point, starts, looked}
-use Rattle.spin_world_core.proofs.Shapes.{Notes, keeping_of, Means, OwesAt, OwesSoon, Pays}
+use Rattle.spin_world_core.proofs.Shapes.{Notes, Means, OwesAll, SoonAll, Pays}
 use Rattle.spin_world_core.proofs.Operating.{one_place, operates_by}
 use Rattle.spin_world_core.proofs.Usual.{no_queue}
-use Rattle.spin_world_core.proofs.Paid.{facts_of}
+use Rattle.spin_world_core.proofs.Filled.{plays_of}
 
 -- a call that has looked has made one step; at any other point it is as at its beginning
 abbrev pub point_of : ℕ → SeatsCall → SeatsPoint → Option Hold → Point
@@ -54,23 +54,22 @@ module _ (n : ℕ) where
 
   -- what the step functions mean there
   module _ (p : ℕ) (s : Plain) (w : ℕ) (shape : Seating n s) (is : seats_word s ≡ w) where
-    enter_means : Means (seats_table n) (seats_notes n) p s (gets p to_read) (λ k. k) (entered n w)
+    enter_means : Means (seats_notes n) p s (gets p to_read) (λ k. k) (entered n w)
     enter_means = grind (arith, enter-grants s p n w shape.all_read shape.room is, one_more s p w shape is)
 
     leave_means : is_holder p reading s.holders ≡ true
-        → (nat_lt 0 w ≡ true) × Means (seats_table n) (seats_notes n) p s (releases p reading) (λ k. k) (Some (w - 1))
+        → (nat_lt 0 w ≡ true) × Means (seats_notes n) p s (releases p reading) (λ k. k) (Some (w - 1))
     leave_means found = grind (arith, length-without_holder p reading s.holders found, leave-gives s p w is found, one_less s p shape found)
 
-  owes : (p : ℕ) (c : SeatsCall) (l : SeatsPoint) (h : Option Hold) (s : Plain) (w : ℕ) (span : List Mark) → OwesAt (seats_table n) (seats_notes n) p c l h s w span
+  owes : OwesAll (seats_notes n)
   owes p c l h s w span = grind (arith, enter_means p s w, leave_means p s w, sits p s, each_reads s.holders)
 
   -- Undisturbed, the exchange succeeds on a word with a free seat, at once or after a look
 
-  soon : (p : ℕ) (c : SeatsCall) (l : SeatsPoint) (h : Option Hold) (s : Plain) (w : ℕ) (span : List Mark)
-      → OwesSoon (seats_table n) (seats_notes n) p c l h s w span
+  soon : SoonAll (seats_notes n)
   soon p c l h s w span = grind (arith, open_is s n w)
 
-  pub seats_pays : Pays (seats_table n) (seats_notes n)
+  pub seats_pays : Pays (seats_notes n)
   seats_pays =
       record {
         fits = λ p c l h. grind arith;
@@ -89,8 +88,8 @@ module _ (n : ℕ) where
         soon = soon;
       }
 
-abbrev pub seats_keeping : (n : ℕ) → LocalInvariant (Unit {0}) SeatsCall SeatsPoint
-seats_keeping n = keeping_of (seats_table n) (seats_notes n)
+abbrev pub seats_keeping : (n : ℕ) → Notes (seats_table n)
+seats_keeping n = seats_notes n
 
-pub seats_facts : (n : ℕ) → Facts (seats_machine n) (seats_keeping n)
-seats_facts n = facts_of (seats_table n) (seats_notes n) (seats_pays n) refl
+pub seats_facts : (n : ℕ) → Plays (seats_machine n) (seats_keeping n)
+seats_facts n = plays_of (seats_pays n) refl

@@ -11,12 +11,12 @@ use Rattle.spin_world_tests.specs.declared.dispenser.DispenserPoint.TheVariants.
 use Rattle.spin_model.specs.Calls.{Mark}
 use Rattle.spin_model.specs.Acts.{begin_of}
 use Rattle.spin_world_tests.specs.Dispenser.{next_after, dispenser_table, dispenser_machine}
-use Rattle.spin_world_core.proofs.Facts.{LocalInvariant, Facts}
+use Rattle.spin_world_core.proofs.Steps.{Plays}
 use Rattle.spin_world_core.proofs.Rows.{Point, starts, looked}
-use Rattle.spin_world_core.proofs.Shapes.{Notes, keeping_of, Means, OwesAt, Pays}
+use Rattle.spin_world_core.proofs.Shapes.{Notes, Means, OwesAll, Pays}
 use Rattle.spin_world_core.proofs.Operating.{one_place, operates_by}
 use Rattle.spin_world_core.proofs.Usual.{no_queue}
-use Rattle.spin_world_core.proofs.Paid.{facts_of}
+use Rattle.spin_world_core.proofs.Filled.{plays_of}
 use Rattle.spin_world_core.proofs.Lists.{eqb_self}
 
 -- a call that has looked has made one step; at any other point it is as at its beginning
@@ -47,15 +47,14 @@ module _ (cap : ℕ) where
   open_is s w shape is = grind (arith, nobody_against s.holders shape.all_read, shape.room)
 
   draw_means : (p : ℕ) (s : Plain) (w : ℕ) → Drawing cap s → flag_word s ≡ w
-      → Means (dispenser_table cap) (dispenser_notes cap) p s (gets p to_read) (λ k. k) (next_after cap w)
+      → Means (dispenser_notes cap) p s (gets p to_read) (λ k. k) (next_after cap w)
   draw_means p s w shape is = grind (arith, open_is s w shape is, length-append s.holders (holder p reading ∷ []), one_more s p shape)
 
-  owes : (p : ℕ) (c : DispenserCall) (l : DispenserPoint) (h : Option Hold) (s : Plain) (w : ℕ) (span : List Mark)
-      → OwesAt (dispenser_table cap) (dispenser_notes cap) p c l h s w span
+  owes : OwesAll (dispenser_notes cap)
   owes p (call.DrawThis k) l h s w span = grind (arith, draw_means p s w, open_is s w, eqb_self p)
   owes p c l h s w span = grind (arith, draw_means p s w, each_reads s.holders)
 
-  dispenser_pays : Pays (dispenser_table cap) (dispenser_notes cap)
+  dispenser_pays : Pays (dispenser_notes cap)
   dispenser_pays =
       record {
         fits = λ p c l h. grind arith;
@@ -74,8 +73,8 @@ module _ (cap : ℕ) where
         soon = λ p c l h s w span. grind arith;
       }
 
-abbrev pub dispenser_keeping : (cap : ℕ) → LocalInvariant (Unit {0}) DispenserCall DispenserPoint
-dispenser_keeping cap = keeping_of (dispenser_table cap) (dispenser_notes cap)
+abbrev pub dispenser_keeping : (cap : ℕ) → Notes (dispenser_table cap)
+dispenser_keeping cap = dispenser_notes cap
 
-pub dispenser_facts : (cap : ℕ) → Facts (dispenser_machine cap) (dispenser_keeping cap)
-dispenser_facts cap = facts_of (dispenser_table cap) (dispenser_notes cap) (dispenser_pays cap) refl
+pub dispenser_facts : (cap : ℕ) → Plays (dispenser_machine cap) (dispenser_keeping cap)
+dispenser_facts cap = plays_of (dispenser_pays cap) refl
