@@ -1,19 +1,17 @@
-//! Tests of what the contracts of the cell do not say: each step returns and stores the right words.
+//! A cell that allows any words, and what the steps of a party find in it. No contract of the cell says this.
 ghost use Rattle.std.specs.Prelude.{◌≡◌, ◌+◌, ◌≤◌, length};
 
-use super::equal::equal;
 use spin_core::cell::{Cell, Play, Rule};
 use spin_core::trace::{Trace, Watch};
-use std::mem::size_of;
 
 /// A party that never uses the value.
 #[derive(Clone, Copy)]
-enum Bystander {
+pub enum Bystander {
     Stands,
 }
 
 /// The rule allows any words and any entries. The trace's name is fixed from the start.
-struct AnyWords;
+pub struct AnyWords;
 
 impl Rule<u64, Bystander> for AnyWords {
     type Key = Watch<()>;
@@ -47,7 +45,8 @@ impl Play<Watch<()>, Bystander, ()> for Mark {
     ghost told = { λ key. marks };
 }
 
-type Words = Cell<u64, Bystander, AnyWords>;
+/// A cell of two words.
+pub type Words = Cell<u64, Bystander, AnyWords>;
 
 // Creates a cell with the value 5 and the words 1 and 2.
 fn words() -> Words {
@@ -56,48 +55,34 @@ fn words() -> Words {
     Cell::new(5, 1, trace, &start)
 }
 
-#[test]
-fn a_trace_has_no_byte(rt: HostRuntime) {
-    equal(&rt, size_of::<Trace<()>>(), 0);
-    equal(&rt, size_of::<Trace<(), u64>>(), 8);
-    equal(&rt, size_of::<Watch<()>>(), 0);
-    equal(&rt, size_of::<Words>(), 24);
-}
-
-#[test]
-fn steps_on_the_first_word(rt: HostRuntime) {
+/// What steps on the first word find, one after another: those that return a number, a load of the last word, and a load
+/// of the second word.
+pub fn steps_on_the_first_word() -> [u64; 8] {
     let cell = words();
-    let (found, party, _) = cell.enter().load::<TellNothing>(Watch::nothing());
-    equal(&rt, found, 1);
-    let (found, party, _) = party.exchange::<Mark>(1, 6, Watch::nothing());
-    equal(&rt, found, 1);
-    let (found, party, _) = party.exchange::<TellNothing>(1, 7, Watch::nothing());
-    equal(&rt, found, 6);
+    let (loaded, party, _) = cell.enter().load::<TellNothing>(Watch::nothing());
+    let (exchanged, party, _) = party.exchange::<Mark>(1, 6, Watch::nothing());
+    let (missed, party, _) = party.exchange::<TellNothing>(1, 7, Watch::nothing());
     let (party, _) = party.store::<Mark>(8, Watch::nothing());
-    let (found, party, _) = party.add::<Mark>(u64::MAX, Watch::nothing());
-    equal(&rt, found, 8);
-    let (found, party, _) = party.subtract::<Mark>(3, Watch::nothing());
-    equal(&rt, found, 7);
-    let (found, party, _) = party.set_bits::<Mark>(3, Watch::nothing());
-    equal(&rt, found, 4);
-    let (found, party, _) = party.load::<TellNothing>(Watch::nothing());
-    equal(&rt, found, 7);
-    let (found, party, _) = party.load_second::<TellNothing>(Watch::nothing());
-    equal(&rt, found, 2);
+    let (added, party, _) = party.add::<Mark>(u64::MAX, Watch::nothing());
+    let (subtracted, party, _) = party.subtract::<Mark>(3, Watch::nothing());
+    let (set, party, _) = party.set_bits::<Mark>(3, Watch::nothing());
+    let (last, party, _) = party.load::<TellNothing>(Watch::nothing());
+    let (second, party, _) = party.load_second::<TellNothing>(Watch::nothing());
     party.leave();
+    [
+        loaded, exchanged, missed, added, subtracted, set, last, second,
+    ]
 }
 
-#[test]
-fn steps_on_the_second_word(rt: HostRuntime) {
+/// What the second word has before a store and after it, and the first word after it.
+pub fn steps_on_the_second_word() -> [u64; 3] {
     let cell = words();
-    let (found, party, _) = cell.enter().load_second::<TellNothing>(Watch::nothing());
-    equal(&rt, found, 2);
+    let (before, party, _) = cell.enter().load_second::<TellNothing>(Watch::nothing());
     let (party, _) = party.store_second::<Mark>(8, Watch::nothing());
-    let (found, party, _) = party.load_second::<TellNothing>(Watch::nothing());
-    equal(&rt, found, 8);
-    let (found, party, _) = party.load::<TellNothing>(Watch::nothing());
-    equal(&rt, found, 1);
+    let (after, party, _) = party.load_second::<TellNothing>(Watch::nothing());
+    let (first, party, _) = party.load::<TellNothing>(Watch::nothing());
     party.leave();
+    [before, after, first]
 }
 
 // Appends an entry by a step on each word, and returns what is then known.
@@ -112,14 +97,14 @@ fn mark_both(cell: &Words, seen: Watch<()>) -> Watch<()>
     seen
 }
 
-#[test]
-fn a_watch_goes_from_step_to_step(rt: HostRuntime) {
+/// What a look finds after a step on each word. The watch goes from step to step, and knows the cell's trace.
+pub fn watched_word() -> u64 {
     let trace = Trace::new(2);
     let start = trace.watch();
     let cell: Words = Cell::new(5, 1, trace, &start);
     let seen = mark_both(&cell, start.copy());
     seen.compare(&start);
-    equal(&rt, cell.enter().look::<TellNothing>(seen).0, 2);
+    cell.enter().look::<TellNothing>(seen).0
 }
 
 // Returns what a load after the exchange finds, or the word that the exchange found.
@@ -128,20 +113,23 @@ fn attempt(cell: &Words, old: u64, new: u64) -> Result<u64, u64> {
     Ok(party?.look::<TellNothing>(Watch::nothing()).0)
 }
 
-#[test]
-fn a_party_goes_where_its_exchange_missed(rt: HostRuntime) {
+/// The results of an exchange that takes place and of one that misses, and the word that is then there.
+pub fn two_attempts() -> (Result<u64, u64>, Result<u64, u64>, u64) {
     let cell = words();
-    equal(&rt, attempt(&cell, 1, 6), Ok(6));
-    equal(&rt, attempt(&cell, 1, 7), Err(6));
-    equal(&rt, cell.enter().look::<TellNothing>(Watch::nothing()).0, 6);
+    let (first, second) = (attempt(&cell, 1, 6), attempt(&cell, 1, 7));
+    (
+        first,
+        second,
+        cell.enter().look::<TellNothing>(Watch::nothing()).0,
+    )
 }
 
-#[test]
-fn the_owner_has_the_value(rt: HostRuntime) {
+/// What the owner finds before it writes, and in the end, after a party's step.
+pub fn owned_values() -> (u64, u64) {
     let mut cell = words();
-    equal(&rt, *cell.get_mut(), 5);
+    let before = *cell.get_mut();
     *cell.get_mut() = 7;
     let (party, _) = cell.enter().store::<Mark>(3, Watch::nothing());
     party.leave();
-    equal(&rt, cell.into_inner(), 7);
+    (before, cell.into_inner())
 }

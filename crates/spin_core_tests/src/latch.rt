@@ -10,8 +10,6 @@ pub mod laws;
 pub mod object;
 mod rule;
 pub mod steps;
-#[cfg(test)]
-mod tests;
 
 use self::rule::{Comes, LatchPermit, Leaves, Looks, Tries, TriesToWrite, Writes};
 pub use self::rule::{Entry, LatchRule, Party, View};

@@ -1,19 +1,10 @@
-//! Tests of the step functions and of the raw cell. They have small locks on the cell, one for each way in which
-//! several parties may read a value. And they have a whole lock for many readers or one writer, with its model and its
-//! object.
+//! Small locks on the raw cell, one for each way in which several parties may read a value, and a cell that allows any
+//! words. And a whole lock for many readers or one writer, with its model and its object. Their tests are in
+//! `spin_lock_tests`.
 #![tactic(auto)]
 
-#[cfg(test)]
-mod cell;
-#[cfg(test)]
-mod equal;
+pub mod cell;
 pub mod latch;
-mod once;
-mod pair;
-#[cfg(test)]
-mod relax;
-#[cfg(test)]
-mod rw;
-#[cfg(test)]
-mod steps;
+pub mod once;
+pub mod pair;
 pub mod written;

@@ -1,15 +1,14 @@
-//! A value that is made once, from a number. A party that reads it never gives its part of the cell back.
+//! A value that is made once, from a number. A party that reads it never gives its part of the cell back. Begin with
+//! [`Next::force`].
 ghost use Rattle.std.specs.Prelude.{◌≡◌, ◌+◌, ◌<◌, IfSome, Some};
 ghost use Rattle.spin_core_tests.specs.declared.once.View.TheVariants.{Reading};
 
-#[cfg(test)]
-use super::equal::equal;
 use spin_core::cell::{Cell, Permit, Play, Rule};
 use spin_core::trace::{Trace, Watch};
 
 /// What a party is to the value.
 #[derive(Clone, Copy)]
-enum View {
+pub enum View {
     Away,
     Running,
     Reading,
@@ -17,7 +16,7 @@ enum View {
 
 /// The value, and the number that it is made from.
 #[derive(Drop)]
-enum Stage {
+pub enum Stage {
     Seed(u64),
     Done(u64),
 }
@@ -75,12 +74,13 @@ impl Play<u64, View, ()> for Complete {
 
 /// The number after `seed`, once somebody has asked for it.
 #[derive(Drop)]
-struct Next {
+pub struct Next {
     cell: Cell<Stage, View, Stage>,
 }
 
 impl Next {
-    fn new(seed: u64) -> Next
+    /// Creates it with no number made.
+    pub fn new(seed: u64) -> Next
         ensures { result.cell ≡ seed }
     {
         Next {
@@ -88,8 +88,8 @@ impl Next {
         }
     }
 
-    // Creates it as if somebody had asked already.
-    fn initialized(seed: u64) -> Next
+    /// Creates it as if somebody had asked already.
+    pub fn initialized(seed: u64) -> Next
         requires { seed + 1 < 18446744073709551616 }
         ensures { result.cell ≡ seed }
     {
@@ -98,7 +98,8 @@ impl Next {
         }
     }
 
-    fn get(&self) -> Option<&u64>
+    /// Returns the number, if it is made.
+    pub fn get(&self) -> Option<&u64>
         ensures { IfSome result (λ value. value.now ≡ self.now.cell + 1) }
     {
         let (found, permit, _) = self.cell.enter().load::<Load>(Watch::nothing());
@@ -109,8 +110,9 @@ impl Next {
         None
     }
 
-    // Returns `None` if another party makes the number, or if no number follows the seed; then the seed is put back.
-    fn force(&self) -> Option<&u64>
+    /// Makes the number, if it is not made yet, and returns it. Returns `None` if another party makes the number, or if no
+    /// number follows the seed; then the seed is put back.
+    pub fn force(&self) -> Option<&u64>
         ensures { IfSome result (λ value. value.now ≡ self.now.cell + 1) }
     {
         let party = self.cell.enter();
@@ -148,28 +150,4 @@ fn made<'a>(permit: Permit<'a, Stage, View, Stage>) -> &'a u64
         Stage::Done(value) => value,
         Stage::Seed(_) => unreachable!(),
     }
-}
-
-#[test]
-fn a_value_that_was_there(rt: HostRuntime) {
-    let next = Next::initialized(4);
-    equal(&rt, next.get(), Some(&5));
-}
-
-#[test]
-fn a_value_that_comes(rt: HostRuntime) {
-    let next = Next::new(4);
-    equal(&rt, next.get(), None);
-    equal(&rt, next.force(), Some(&5));
-    equal(&rt, next.get(), Some(&5));
-    let moved = next;
-    equal(&rt, moved.get(), Some(&5));
-}
-
-#[test]
-fn a_number_that_is_put_back(rt: HostRuntime) {
-    let next = Next::new(u64::MAX);
-    equal(&rt, next.force().is_none(), true);
-    equal(&rt, next.get().is_none(), true);
-    equal(&rt, next.force().is_none(), true);
 }

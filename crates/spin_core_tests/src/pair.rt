@@ -2,16 +2,12 @@
 ghost use Rattle.std.specs.Prelude.{◌≡◌, ◌<◌, Some, IfSome, length};
 ghost use Rattle.spin_core_tests.specs.declared.pair.View.TheVariants.{Reading};
 
-#[cfg(test)]
-use super::equal::equal;
 use spin_core::cell::{Cell, Permit, Play, Rule};
 use spin_core::trace::{Trace, Watch};
-#[cfg(test)]
-use std::mem::size_of;
 
 /// What a party is to the value.
 #[derive(Clone, Copy)]
-enum View {
+pub enum View {
     Away,
     Reading,
 }
@@ -46,16 +42,19 @@ impl Play<(), View, ()> for Leave {
     ghost told = { λ key. Leaves };
 }
 
-type Pair = Cell<u64, View, u64>;
+/// The value that is shared.
+pub type Pair = Cell<u64, View, u64>;
 
-type Reader<'a> = Permit<'a, u64, View, u64>;
+/// A party, mostly one that reads.
+pub type Reader<'a> = Permit<'a, u64, View, u64>;
 
-fn pair(value: u64) -> Pair {
+/// Creates a value that nobody reads.
+pub fn pair(value: u64) -> Pair {
     Cell::new(value, 0, Trace::new(()), &())
 }
 
-// Begins to read while `others` read. What it then knows of the trace has an entry.
-fn read(pair: &Pair, others: u64) -> Option<(Reader<'_>, Watch<()>)>
+/// Begins to read while `others` read. What it then knows of the trace has an entry.
+pub fn read(pair: &Pair, others: u64) -> Option<(Reader<'_>, Watch<()>)>
     requires { others < 2 }
     ensures view { IfSome result (λ came. came.0.view ≡ Some Reading) }
     ensures seen { IfSome result (λ came. 0 < length came.1.entries) }
@@ -69,41 +68,10 @@ fn read(pair: &Pair, others: u64) -> Option<(Reader<'_>, Watch<()>)>
     None
 }
 
-fn stop(reader: Reader<'_>)
+/// Ends a read.
+pub fn stop(reader: Reader<'_>)
     requires { reader.view ≡ Some Reading }
 {
     let (_, permit, _) = reader.subtract::<Leave>(1, Watch::nothing());
     permit.leave();
-}
-
-// Returns `true` if a further reader is refused while `others` read.
-#[cfg(test)]
-fn refuses(pair: &Pair, others: u64) -> bool
-    requires { others < 2 }
-{
-    match read(pair, others) {
-        Some((reader, _)) => {
-            stop(reader);
-            false
-        }
-        None => true,
-    }
-}
-
-#[test]
-fn two_read_beside_one_another(rt: HostRuntime) {
-    let cell = pair(7);
-    let (first, _) = read(&cell, 0).expect(&rt, "nobody reads");
-    let (second, _) = read(&cell, 1).expect(&rt, "one reads");
-    equal(&rt, refuses(&cell, 0), true);
-    equal(&rt, *first.get(), 7);
-    equal(&rt, *second.get(), 7);
-    stop(first);
-    equal(&rt, *second.see(), 7);
-    equal(&rt, refuses(&cell, 0), true);
-}
-
-#[test]
-fn a_trace_takes_no_room(rt: HostRuntime) {
-    equal(&rt, size_of::<Pair>(), 2 * size_of::<u64>());
 }

@@ -4,8 +4,6 @@ ghost use Rattle.std.specs.Prelude.{◌≡◌, ◌⊎◌, ◌++◌, [], ◌∷�
 ghost use mathlib.Core.List.{IsPrefix};
 ghost use Rattle.spin_core_tests.specs.Written.{LastIs, WroteLast};
 
-#[cfg(test)]
-use super::equal::equal;
 use spin_core::cell::{Cell, Play, Rule, WritePermit};
 use spin_core::trace::{Trace, Watch};
 use std::thread::{Threads, join};
@@ -96,7 +94,7 @@ impl<T> Written<T> {
 /// Releases the value.
 ///
 /// # Contract
-/// What the holder leaves is appended to the trace, as the last one (`left`).
+/// The value that the holder leaves is then the last entry of the trace (`left`).
 pub fn let_go<T>(holder: Holder<'_, T>, seen: Watch<T>) -> Watch<T>
     requires { seen.name ≡ holder.key.name }
     ensures name { result.name ≡ seen.name }
@@ -171,16 +169,4 @@ pub fn write_beside_read<W: Threads + Sync>(
     );
     one.1.compare(&other.1);
     (one, other)
-}
-
-#[test]
-fn a_party_finds_what_another_left(rt: HostRuntime) {
-    let (lock, start) = Written::new(5);
-    let (found, seen) = read(&lock, start.copy());
-    equal(&rt, found, Some(5));
-    let (wrote, seen) = write(&lock, 7, seen);
-    equal(&rt, wrote, true);
-    equal(&rt, read(&lock, seen).0, Some(7));
-    let (one, other) = write_beside_read(&rt, &lock, 9, &start);
-    equal(&rt, one.0 || other.0.is_some(), true);
 }

@@ -1,4 +1,5 @@
-//! Tests of the locks over the raw cell, each kind of lock in a module of its own: what no contract says of them.
+//! Tests of the step functions, of the raw cell and of the locks over it, each kind of lock in a module of its own: what
+//! no contract says of them.
 #![tactic(auto)]
 
 #[cfg(test)]
@@ -8,13 +9,21 @@ mod equal;
 #[cfg(test)]
 mod granted;
 #[cfg(test)]
+mod latch;
+#[cfg(test)]
 mod mutex;
 #[cfg(test)]
 mod once;
 #[cfg(test)]
+mod relax;
+#[cfg(test)]
 mod rwlock;
 #[cfg(test)]
 mod sends;
+#[cfg(test)]
+mod small;
+#[cfg(test)]
+mod steps;
 #[cfg(test)]
 mod texts;
 #[cfg(test)]

@@ -33,12 +33,11 @@ fn fail<R: Wait>(rt: &R, once: &Once<u64>, runs: &Cell<u32>) -> Result<u64, ()> 
 fn a_closure_that_fails_leaves_the_next_one_its_turn(rt: HostRuntime) {
     let runs = Cell::new(0u32);
     let once: Once<u64> = Once::new();
-    equal(&rt, fail(&rt, &once, &runs), Err(()));
-    equal(&rt, once.get().copied(), None);
-    equal(&rt, make(&rt, &once, &runs, 7), 7);
-    equal(&rt, make(&rt, &once, &runs, 8), 7);
-    equal(&rt, fail(&rt, &once, &runs), Ok(7));
-    equal(&rt, runs.get(), 2);
+    let first = (fail(&rt, &once, &runs), once.get().copied());
+    let made = [make(&rt, &once, &runs, 7), make(&rt, &once, &runs, 8)];
+    let last = fail(&rt, &once, &runs);
+    equal(&rt, (first, made), ((Err(()), None), [7; 2]));
+    equal(&rt, (last, runs.get()), (Ok(7), 2));
 }
 
 #[test]
@@ -51,23 +50,22 @@ fn a_copy_of_a_value(rt: HostRuntime) {
 #[test]
 fn looks_before_and_after(rt: HostRuntime) {
     let once: Once<u64, Loop> = Once::new();
-    equal(&rt, once.poll(&rt).copied(), None);
-    equal(&rt, once.get().copied(), None);
-    equal(&rt, once.is_completed(), false);
-    equal(&rt, *once.call_once(&rt, || 3), 3);
-    equal(&rt, once.poll(&rt).copied(), Some(3));
-    equal(&rt, once.get().copied(), Some(3));
-    equal(&rt, *once.wait(&rt), 3);
-    equal(&rt, once.is_completed(), true);
-    equal(&rt, once.try_into_inner(), Some(3));
+    let before = [once.poll(&rt).copied(), once.get().copied()];
+    equal(&rt, (before, once.is_completed()), ([None; 2], false));
+    let made = *once.call_once(&rt, || 3);
+    let after = [once.poll(&rt).copied(), once.get().copied()];
+    let waited = *once.wait(&rt);
+    equal(&rt, (after, [made, waited]), ([Some(3); 2], [3; 2]));
+    let completed = once.is_completed();
+    equal(&rt, (completed, once.try_into_inner()), (true, Some(3)));
 }
 
 #[test]
 fn with_a_value_from_the_start_or_without(rt: HostRuntime) {
     let once: Once<u64> = Once::initialized(5);
-    equal(&rt, once.is_completed(), true);
-    equal(&rt, once.get().copied(), Some(5));
-    equal(&rt, *once.call_once(&rt, || 6), 5);
+    let found = (once.is_completed(), once.get().copied());
+    let called = *once.call_once(&rt, || 6);
+    equal(&rt, (found, called), ((true, Some(5)), 5));
     equal(&rt, once.try_into_inner(), Some(5));
     let once: Once<u64> = Once::from(5);
     equal(&rt, *once.wait(&rt), 5);
@@ -100,15 +98,15 @@ fn its_owner_changes_the_value(rt: HostRuntime) {
 fn its_owner_changes_a_value_that_was_made(rt: HostRuntime) {
     let runs = Cell::new(0u32);
     let mut once: Once<u64> = Once::new();
-    equal(&rt, lends(&mut once).is_none(), true);
-    equal(&rt, make(&rt, &once, &runs, 7), 7);
+    let before = lends(&mut once).is_none();
+    let made = make(&rt, &once, &runs, 7);
+    equal(&rt, (before, made), (true, 7));
     if let Some(value) = lends(&mut once) {
         *value = 8;
     }
-    equal(&rt, once.get().copied(), Some(8));
-    equal(&rt, make(&rt, &once, &runs, 9), 8);
-    equal(&rt, once.poll(&rt).copied(), Some(8));
-    equal(&rt, *once.wait(&rt), 8);
+    let looked = [once.get().copied(), once.poll(&rt).copied()];
+    let found = [make(&rt, &once, &runs, 9), *once.wait(&rt)];
+    equal(&rt, (looked, found), ([Some(8); 2], [8; 2]));
     equal(&rt, once.try_into_inner(), Some(8));
 }
 

@@ -1,8 +1,8 @@
 //! What no contract says of a latch: which calls succeed, that threads make progress, and one schedule of its object.
-use super::Latch;
-use super::calls::LatchCall;
-use super::object::LatchObject;
 use crate::equal::equal;
+use spin_core_tests::latch::Latch;
+use spin_core_tests::latch::calls::LatchCall;
+use spin_core_tests::latch::object::LatchObject;
 use spin_world_core::{Move, World};
 use std::sync::Wait;
 use std::thread::join;

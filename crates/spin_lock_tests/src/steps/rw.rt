@@ -1,5 +1,5 @@
 //! The step functions of readers and a writer, applied to words.
-use super::equal::equal;
+use crate::equal::equal;
 use spin_step_more::rw;
 
 /// Words with a cap, and the word after a reader acquires, and after an upgradable reader does.
@@ -19,8 +19,8 @@ const READS: &[(usize, usize, Option<usize>, Option<usize>)] = &[
 #[test]
 fn reads_at_each_word(rt: HostRuntime) {
     for (word, cap, read, upgradable) in READS {
-        equal(&rt, rw::read(*word, *cap), *read);
-        equal(&rt, rw::upgradable(*word, *cap), *upgradable);
+        let found = (rw::read(*word, *cap), rw::upgradable(*word, *cap));
+        equal(&rt, found, (*read, *upgradable));
     }
 }
 
@@ -38,9 +38,12 @@ const WRITES: &[(usize, Option<usize>, Option<usize>, Option<usize>)] = &[
 #[test]
 fn writes_at_each_word(rt: HostRuntime) {
     for (word, write, upgrade, asked) in WRITES {
-        equal(&rt, rw::write(*word), *write);
-        equal(&rt, rw::upgrade(*word), *upgrade);
-        equal(&rt, rw::upgrade_asked(*word), *asked);
+        let found = (
+            rw::write(*word),
+            rw::upgrade(*word),
+            rw::upgrade_asked(*word),
+        );
+        equal(&rt, found, (*write, *upgrade, *asked));
     }
 }
 
@@ -57,22 +60,23 @@ const COUNTS: &[(usize, usize, usize)] = &[
 #[test]
 fn counts(rt: HostRuntime) {
     for (word, readers, writers) in COUNTS {
-        equal(&rt, rw::readers(*word), *readers);
-        equal(&rt, rw::writers(*word), *writers);
+        let found = (rw::readers(*word), rw::writers(*word));
+        equal(&rt, found, (*readers, *writers));
     }
 }
 
 #[test]
 fn releases_and_turns_at_each_word(rt: HostRuntime) {
-    equal(&rt, rw::release_read(18), 10);
-    equal(&rt, rw::release_read(14), 6);
-    equal(&rt, rw::release_upgradable(10), 8);
-    equal(&rt, rw::release_write(1), 0);
-    equal(&rt, rw::write_to_read(1), 8);
-    equal(&rt, rw::write_to_upgradable(1), 2);
-    equal(&rt, rw::upgradable_to_read(10), 16);
-    equal(&rt, rw::ask(2), 6);
-    equal(&rt, rw::ask(10), 14);
+    equal(&rt, [rw::release_read(18), rw::release_read(14)], [10, 6]);
+    let releases = [rw::release_upgradable(10), rw::release_write(1)];
+    equal(&rt, releases, [8, 0]);
+    let turns = [
+        rw::write_to_read(1),
+        rw::write_to_upgradable(1),
+        rw::upgradable_to_read(10),
+    ];
+    equal(&rt, turns, [8, 2, 16]);
+    equal(&rt, [rw::ask(2), rw::ask(10)], [6, 14]);
 }
 
 #[test]

@@ -1,5 +1,5 @@
 //! How long a call that backs off pauses, which no contract says.
-use super::equal::equal;
+use crate::equal::equal;
 use spin_core::relax::{MAX_HINTS, RelaxStrategy};
 use std::cell::Cell;
 use std::sync::Wait;

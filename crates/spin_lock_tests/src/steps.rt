@@ -1,6 +1,8 @@
 //! What the contracts of the step functions leave to a run: each returns the word that it should.
 
-use super::equal::equal;
+mod rw;
+
+use crate::equal::equal;
 use spin_core::step::{flag, once, ticket};
 use spin_step_more::barrier::State;
 use spin_step_more::fair::LockRejectReason::{Locked, Starved};
@@ -8,31 +10,38 @@ use spin_step_more::{barrier, fair};
 
 #[test]
 fn flag_steps(rt: HostRuntime) {
-    equal(&rt, flag::lock(false), Some(true));
-    equal(&rt, flag::lock(true), None);
-    equal(&rt, flag::unlock(true), false);
+    let locks = [flag::lock(false), flag::lock(true)];
+    equal(
+        &rt,
+        (locks, flag::unlock(true)),
+        ([Some(true), None], false),
+    );
 }
 
 #[test]
 fn fair_words(rt: HostRuntime) {
-    equal(&rt, fair::lock(0), Some(1));
-    equal(&rt, fair::lock(1), None);
-    equal(&rt, fair::lock(2), None);
-    equal(&rt, fair::reject(1), Locked);
-    equal(&rt, fair::reject(2), Starved);
-    equal(&rt, fair::reject(3), Starved);
-    equal(&rt, fair::is_locked(0), false);
-    equal(&rt, fair::is_locked(1), true);
-    equal(&rt, fair::is_locked(2), false);
-    equal(&rt, fair::is_locked(3), true);
-    equal(&rt, fair::starve(1, 1), Some(3));
-    equal(&rt, fair::starve(2, 1), None);
-    equal(&rt, fair::unstarve(3), 1);
-    equal(&rt, fair::lock_fair(2), Some(3));
-    equal(&rt, fair::lock_fair(4), None);
-    equal(&rt, fair::lock_starved(4), Some(5));
-    equal(&rt, fair::lock_starved(5), None);
-    equal(&rt, fair::unlock(3), 2);
+    let locks = [fair::lock(0), fair::lock(1), fair::lock(2)];
+    equal(&rt, locks, [Some(1), None, None]);
+    let reasons = [fair::reject(1), fair::reject(2), fair::reject(3)];
+    equal(&rt, reasons, [Locked, Starved, Starved]);
+    let mut locked = [false; 4];
+    for word in 0..4usize {
+        locked[word] = fair::is_locked(word);
+    }
+    equal(&rt, locked, [false, true, false, true]);
+    equal(
+        &rt,
+        [fair::starve(1, 1), fair::starve(2, 1)],
+        [Some(3), None],
+    );
+    equal(
+        &rt,
+        [fair::lock_fair(2), fair::lock_fair(4)],
+        [Some(3), None],
+    );
+    let starved = [fair::lock_starved(4), fair::lock_starved(5)];
+    equal(&rt, starved, [Some(5), None]);
+    equal(&rt, [fair::unstarve(3), fair::unlock(3)], [1, 2]);
 }
 
 #[test]
@@ -57,21 +66,18 @@ fn reasons_are_told(rt: HostRuntime) {
 
 #[test]
 fn once_states(rt: HostRuntime) {
-    equal(&rt, once::begin(0), Some(1));
-    equal(&rt, once::begin(1), None);
-    equal(&rt, once::begin(2), None);
-    equal(&rt, once::complete(1), 2);
-    equal(&rt, once::fail(1), 0);
+    let begins = [once::begin(0), once::begin(1), once::begin(2)];
+    equal(&rt, begins, [Some(1), None, None]);
+    equal(&rt, [once::complete(1), once::fail(1)], [2, 0]);
 }
 
 #[test]
 fn each_last_of_a_group_leads(rt: HostRuntime) {
-    let (first, leads) = barrier::arrive(State::new(2));
-    equal(&rt, leads, false);
-    equal(&rt, barrier::may_leave(first, 0), false);
-    let (second, leads) = barrier::arrive(first);
-    equal(&rt, leads, true);
-    equal(&rt, barrier::may_leave(second, 0), true);
+    let (first, leads_first) = barrier::arrive(State::new(2));
+    let (second, leads_second) = barrier::arrive(first);
+    equal(&rt, [leads_first, leads_second], [false, true]);
+    let may_leave = [barrier::may_leave(first, 0), barrier::may_leave(second, 0)];
+    equal(&rt, may_leave, [false, true]);
     equal(&rt, (second.n, second.count, second.generation), (2, 0, 1));
 }
 
