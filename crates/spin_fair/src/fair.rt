@@ -180,8 +180,8 @@ impl<T, R> FairMutex<T, R> {
     /// while other threads change the word.
     ///
     /// # Contract
-    /// `Some` is registered, as each `Starvation` is. `None` promises nothing. Whether and when the call returns is not
-    /// promised.
+    /// The starver in `Some` is registered, as each `Starvation` is. `None` promises nothing. Whether and when the call
+    /// returns is not promised.
     ///
     /// # Examples
     /// ```

@@ -12,12 +12,12 @@ ghost use Rattle.spin_fair.specs.Fair.{Done, IsFair, model, seat_of, words_of, s
 
 /// Each run of a [`FairMutex`](crate::fair::FairMutex) on threads is a schedule of its model.
 ///
-/// The lock's cell keeps, without a byte, the list of all moves that threads have made in it: which party, and which
-/// move.
+/// The lock's cell keeps the list of all moves that threads have made in it: which party, and which move. The list is
+/// ghost state, and takes no memory.
 ///
 /// # Contract
-/// The law holds between any two steps of threads (`IsFair`): no move of the list is skipped in the model. After the
-/// list the model has the lock's word, and each party is where the lock has it.
+/// The law holds between any two steps of threads (`IsFair`): no move of the list is skipped in the model. After all
+/// these moves the model has the lock's word, and each party is where its view says.
 pub fn every_run_of_a_fair_mutex_is_a_schedule<T>()
     ensures { (opening : Opening T) (word : ℕ) (trace : Trace (Done T) (Unit {0})) (parties : List (Numbered View)) → IsFair opening word trace parties → IsRun (model opening.value) seat_of words_of trace.entries (word, trace.word) parties }
 {}
@@ -28,7 +28,7 @@ pub fn every_run_of_a_fair_mutex_is_a_schedule<T>()
 ///
 /// # Contract
 /// The rule has to hold (`IsFair`). The last move of a newcomer that holds is the one by which it acquired the lock.
-/// The trace after that move is no longer than after the last move of any registered starver.
+/// Right after that move the trace was at most as long as right after the last move of any registered starver.
 pub fn no_newcomer_holds_that_came_behind_a_starver<T>()
     ensures { (opening : Opening T) (word : ℕ) (trace : Trace (Done T) (Unit {0})) (parties : List (Numbered View)) → IsFair opening word trace parties → (i j : ℕ) (v w : Numbered View) → slice_get parties i ≡ Some v → slice_get parties j ≡ Some w → v.0 ≡ Holding → 0 < starver w.0 → v.2 ≤ w.2 }
 {}

@@ -8,12 +8,12 @@ ghost use Rattle.spin_flag.specs.declared.spin.rule.View.{View};
 
 /// Each run of a [`SpinMutex`](crate::spin::SpinMutex) on threads is a schedule of its model.
 ///
-/// The lock's cell keeps, without a byte, the list of all moves that threads have made in it: which party, and which
-/// move.
+/// The lock's cell keeps the list of all moves that threads have made in it: which party, and which move. The list is
+/// ghost state, and takes no memory.
 ///
 /// # Contract
-/// The law holds between any two steps of threads (`IsFlag`): no move of the list is skipped in the model. After the
-/// list the model has the lock's word, and each party is where the lock has it.
+/// The law holds between any two steps of threads (`IsFlag`): no move of the list is skipped in the model. After all
+/// these moves the model has the lock's word, and each party is where its view says.
 pub fn every_run_of_a_spin_mutex_is_a_schedule<T>()
     ensures { (opening : Opening T) (word : ℕ) (trace : Trace (Done T) (Unit {0})) (parties : List (Numbered View)) → IsFlag opening word trace parties → IsRun (model opening.value) seat_of words_of trace.entries (word, trace.word) parties }
 {}

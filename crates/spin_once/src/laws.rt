@@ -14,15 +14,15 @@ ghost use Rattle.spin_once.specs.declared.once_core.rule.View.{View};
 /// Each run of a [`Once`](crate::once::Once) or a [`LazyLock`](crate::lazylock::LazyLock) on threads is a schedule of
 /// its object.
 ///
-/// The cell keeps, without a byte, the list of all moves that threads have made in it so far: who, and which move. The
-/// object's table names beforehand whether the closure of a call fails. On threads that shows where it ends. So the
-/// schedule is the list with each such call named by how it ends, and without the moves that say so (`foretold`). A
-/// write of the list is the last step of its call in the schedule (`bare`).
+/// The cell keeps the list of all moves that threads have made in it so far: which party, and which move. The list is
+/// ghost state, and takes no memory. In the object's table the name of a call says whether its closure will fail. On
+/// threads this shows only when the closure ends. So in the schedule each such call is named by how it ended, and the
+/// moves that tell this are left out (`foretold`). A write of the list is the last step of its call there (`bare`).
 ///
 /// # Contract
-/// Whatever holds between any two steps of threads (`IsOnce`): no move of the schedule is passed over in the object.
-/// After it the object has the cell's word, and has each party where the cell has it. `opening` says whether the cell
-/// was made with a value. The marks of the parties count the moves of the schedule (`counted`).
+/// The law holds between any two steps of threads (`IsOnce`): no move of the schedule is skipped in the object. After
+/// all these moves the object has the cell's word, and each party is where its view says. `opening` says whether the
+/// cell was made with a value. The marks of the parties count the moves of the schedule (`counted`).
 pub fn every_run_of_a_once_is_a_schedule<T, S>()
     ensures { (opening : Opening (Stage T S)) (word : ℕ) (trace : Trace (Valued T) (Unit {0})) (parties : List (Numbered View)) → IsOnce opening word trace parties → IsRun (once_machine (given_of opening.value)) place_of words_of (foretold (bare trace.entries)) (word, trace.word) (map (counted (bare trace.entries)) parties) }
 {}

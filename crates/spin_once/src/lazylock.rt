@@ -91,8 +91,8 @@ impl<T, F, M: Promise<T>> Seed<T> for Initialiser<F, M> {
 
 /// A value that its initialiser makes when a thread first asks for it.
 ///
-/// The initialiser runs at most once. A thread that asks while it runs spins until it has ended, and gets the same
-/// value. An initialiser that asks for the value of its own `LazyLock` never returns.
+/// The initialiser runs at most once. If a thread asks while the initialiser runs, it spins until the initialiser has
+/// ended. Then it gets the same value. An initialiser that asks for the value of its own `LazyLock` never returns.
 ///
 /// `M` says what is promised of the value, and the initialiser keeps it. By default that is nothing.
 ///

@@ -12,12 +12,12 @@ ghost use Rattle.spin_rwlock.specs.Standing.{readers, upgradables, askers, write
 
 /// Each run of an [`RwLock`](crate::rwlock::RwLock) on threads is a schedule of its model.
 ///
-/// The lock's cell keeps, without a byte, the list of all moves that threads have made in it: which party, and which
-/// move.
+/// The lock's cell keeps the list of all moves that threads have made in it: which party, and which move. The list is
+/// ghost state, and takes no memory.
 ///
 /// # Contract
-/// The law holds between any two steps of threads (`IsRw`): no move of the list is skipped in the model. After the list
-/// the model has the lock's word, and each party is where the lock has it.
+/// The law holds between any two steps of threads (`IsRw`): no move of the list is skipped in the model. After all
+/// these moves the model has the lock's word, and each party is where its view says.
 pub fn every_run_of_a_rwlock_is_a_schedule<T>()
     ensures { (opening : Opening T) (word : ℕ) (trace : Trace (Done T) (Unit {0})) (parties : List (Numbered View)) → IsRw opening word trace parties → IsRun (model opening.value) seat_of words_of trace.entries (word, trace.word) parties }
 {}

@@ -21,12 +21,12 @@ pub fn a_subtraction_is_its_step_function()
 
 /// Each run of a [`Seats`](crate::seats::Seats) on threads is a schedule of its model.
 ///
-/// The lock's cell keeps, without a byte, the list of all moves that threads have made in it: which party, and which
-/// move.
+/// The lock's cell keeps the list of all moves that threads have made in it: which party, and which move. The list is
+/// ghost state, and takes no memory.
 ///
 /// # Contract
-/// The law holds between any two steps of threads (`IsSeats`): no move of the list is skipped in the model. After the
-/// list the model has the lock's word, and each party is where the lock has it.
+/// The law holds between any two steps of threads (`IsSeats`): no move of the list is skipped in the model. After all
+/// these moves the model has the lock's word, and each party is where its view says.
 pub fn every_run_of_seats_is_a_schedule()
     ensures { (n name word : ℕ) (trace : Trace Done (Unit {0})) (parties : List (Numbered View)) → IsSeats n name word trace parties → IsRun (model n) seat_of words_of trace.entries (word, trace.word) parties }
 {}

@@ -60,11 +60,11 @@ fn put_line(words: &[u8], number: Option<u64>, buffer: &mut [u8]) -> usize
 
 /// Writes the line that tells of a failure: words, and the number behind them if there is one.
 ///
-/// A failed write is no further failure: it changes no status.
+/// If this write fails, that does not count as another failure: it changes no status.
 ///
 /// # Contract
-/// The caller gives words of at most 139 bytes, and a sink that has not failed. The known bytes grow by the line. If the
-/// sink has failed then, they grow by a beginning of it (`Told`).
+/// The caller gives words of at most 139 bytes, and a sink that has not failed. If no write fails, the
+/// known bytes grow by the line. Else they grow by a beginning of the line (`Told`).
 ///
 /// # Examples
 /// ```

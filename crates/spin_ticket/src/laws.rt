@@ -28,13 +28,13 @@ pub fn the_parties_of_a_ticket_mutex_enter_in_turn<T>()
 
 /// Each run of a [`TicketMutex`](crate::ticket::TicketMutex) on threads is a schedule of its model.
 ///
-/// The lock's cell keeps, without a byte, the list of all moves that threads have made in it: which party, and which
-/// move.
+/// The lock's cell keeps the list of all moves that threads have made in it: which party, and which move. The list is
+/// ghost state, and takes no memory.
 ///
 /// # Contract
 /// The law holds between any two steps of threads (`IsQueue`): no move of the list is skipped in the model, which opens
-/// with the lock's first ticket. After the list the model has the lock's two words, and each party is where the lock
-/// has it.
+/// with the lock's first ticket. After all these moves the model has the lock's two words, and each party is where its
+/// view says.
 pub fn every_run_of_a_ticket_mutex_is_a_schedule<T>()
     ensures { (key : Key T) (next : ℕ) (trace : Trace (Made T) ℕ) (parties : List (Numbered View)) → IsQueue key next trace parties → IsRun (model key) seat_of words_of trace.entries (next, trace.word) parties }
 {}

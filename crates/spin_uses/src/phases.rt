@@ -302,8 +302,8 @@ fn run_by<'a, P: Plan + Send + Sync, G: Gate + Sync, R: Threads + Wait + Sync, A
     team.run(alloc, workers, mine)
 }
 
-/// Runs `rounds` rounds of `workers` threads, in each of which every worker adds `gain`. Each passes the gate once,
-/// before its first round. All threads are joined before the call returns.
+/// Runs `rounds` rounds with `workers` threads. In each round every worker adds `gain`. Each worker passes the gate
+/// once, before its first round. All threads are joined before the call returns.
 ///
 /// If a thread or its memory is refused, there is no total, and no worker adds anything.
 ///

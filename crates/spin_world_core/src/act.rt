@@ -20,24 +20,24 @@ use spin_model::Next;
 pub enum Act<W, V, L, A> {
     /// A load: no word changes.
     Load(Next<L, A>),
-    /// A store, or a whole section: the words after it are these.
+    /// A store, or a whole section under a lock of the object. It leaves these words.
     Store(W, Next<L, A>),
     /// A store that completes a closure, which has made this value.
     Complete(W, V, Next<L, A>),
-    /// An exchange. It wins if there are words after it; then the call continues in the first way. Else it loses, and
-    /// the call continues in the second way.
+    /// An exchange. If the words after it are `Some`, it wins, and the call continues in the first way. If they are
+    /// `None`, it loses, and the call continues in the second way.
     Exchange(Option<W>, Next<L, A>, Next<L, A>),
     /// An exchange that may also fail spuriously. The call then continues as after one that loses.
     WeakExchange(Option<W>, Next<L, A>, Next<L, A>),
 }
 
 impl<W: Copy, V, L: Copy, A: Copy> Act<W, V, L, A> {
-    /// Returns the step of a call that repeats its exchange with the number that it finds.
+    /// Returns the step of a call that repeats its exchange, each time from the number that it found last.
     ///
     /// # Contract
-    /// If the word is still the one found before (`is_found`), the step is the exchange. Else it is a load. The call
-    /// then continues with `found` if the step function allows the exchange of the word found now, and else with
-    /// `missed`.
+    /// If the word is still the one found before (`is_found`), the step is the exchange. Else it is a load of the
+    /// word as it is now. The call then continues with `found` if the step function allows the exchange of that word,
+    /// and else with `missed`.
     pub fn retry(
         is_found: bool,
         to: Option<W>,

@@ -19,7 +19,7 @@ use std::sync::Wait;
 
 /// The guard of the upgradable reader of an [`RwLock`](super::RwLock). Dropping it releases the shared access.
 ///
-/// Meanwhile other readers may acquire and release, until its `upgrade` asks.
+/// While it lives, other readers may acquire and release the lock, until its `upgrade` asks to become the writer.
 ///
 /// # Contract
 /// That of [`SharedGuard`]. The value stays the same when the reader becomes the writer.
