@@ -1,5 +1,5 @@
-//! What callers of any lock know of the values under it. Each law is the contract of a function that does nothing; begin
-//! at [`a_guard_reads_the_last_value_written`].
+//! What callers of any lock know of the values under it. Each law is the contract of a function that does nothing;
+//! begin at [`a_guard_reads_the_last_value_written`].
 ghost use Rattle.std.specs.Prelude.{◌≡◌, ◌++◌, List, true};
 ghost use Rattle.spin_model.specs.Schedules.{Entry};
 ghost use Rattle.spin_core.specs.Values.{IsLast, latest};
@@ -7,8 +7,8 @@ ghost use Rattle.spin_core.specs.declared.tie.Opening.{Opening};
 
 /// A guard reads the value that any thread wrote last in the lock's history.
 ///
-/// `C` are the calls of the lock, and `T` is the type of its values. The calls of a pass say which value was last in the
-/// history that the pass knows: `found` of a guard, and `left` of its release.
+/// `C` are the calls of the lock, and `T` is the type of its values. The calls of a pass say which value was last in
+/// the history that the pass knows: `found` of a guard, and `left` of its release.
 ///
 /// # Contract
 /// Let `x` be the last value of a history `old`, and `y` that of a longer history of the lock (`IsLast`). Then `y` is
@@ -20,8 +20,8 @@ pub fn a_guard_reads_the_last_value_written<C, T>()
 /// Two guards read one value, if nothing was written between.
 ///
 /// # Contract
-/// Let `x` be the last value of a history `old`, and `y` that of a longer history of the lock (`IsLast`). If the further
-/// moves write nothing (`latest`), `x` and `y` are the same.
+/// Let `x` be the last value of a history `old`, and `y` that of a longer history of the lock (`IsLast`). If the
+/// further moves write nothing (`latest`), `x` and `y` are the same.
 pub fn two_guards_read_one_value<C, T>()
     ensures { (opening : Opening T) (old new more : List (Entry C T)) (x y : T) → opening.told ≡ true → new ≡ old ++ more → ((z : T) → latest z more ≡ z) → IsLast opening old x → IsLast opening new y → x ≡ y }
 {}

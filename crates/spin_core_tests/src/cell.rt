@@ -55,8 +55,8 @@ fn words() -> Words {
     Cell::new(5, 1, trace, &start)
 }
 
-/// What steps on the first word find, one after another: those that return a number, a load of the last word, and a load
-/// of the second word.
+/// What steps on the first word find, one after another: those that return a number, a load of the last word, and a
+/// load of the second word.
 pub fn steps_on_the_first_word() -> [u64; 8] {
     let cell = words();
     let (loaded, party, _) = cell.enter().load::<TellNothing>(Watch::nothing());

@@ -110,8 +110,8 @@ impl Next {
         None
     }
 
-    /// Makes the number, if it is not made yet, and returns it. Returns `None` if another party makes the number, or if no
-    /// number follows the seed; then the seed is put back.
+    /// Makes the number, if it is not made yet, and returns it. Returns `None` if another party makes the number, or if
+    /// no number follows the seed; then the seed is put back.
     pub fn force(&self) -> Option<&u64>
         ensures { IfSome result (λ value. value.now ≡ self.now.cell + 1) }
     {

@@ -50,9 +50,9 @@ pub fn try_once(lock: &SpinMutex<u64>) -> Pass<'_, u64, Spin> {
 /// Two threads add one each, and a third one looks whether the lock is held.
 ///
 /// # Contract
-/// Each of the first two passes has acquired the lock and released it, once (`first`, `second`). The third one has looked
-/// once, and returns the answer (`looked`). Of each two of them, one knows a prefix of the lock's history that the
-/// other knows (`one_history`).
+/// Each of the first two passes has acquired the lock and released it, once (`first`, `second`). The third one has
+/// looked once, and returns the answer (`looked`). Of each two of them, one knows a prefix of the lock's history that
+/// the other knows (`one_history`).
 pub fn count_beside_look<'a, W: Threads + Wait + Sync>(
     rt: &W,
     one: Pass<'a, u64, Spin>,

@@ -1,6 +1,7 @@
 //! A `lock` in single attempts, for a caller with other work to do between them. Begin at [`begin`].
 //!
-//! A [`Waiting`] counts its looks as a waiting `lock` does, and cannot be given up: make attempts until there is a guard.
+//! A [`Waiting`] counts its looks as a waiting `lock` does, and cannot be given up: make attempts until there is a
+//! guard.
 ghost use Rattle.std.specs.Prelude.{IfOk};
 ghost use Rattle.spin_core.specs.Guard.{IsHolder};
 ghost use Rattle.spin_fair.specs.Fair.{use_of_party};

@@ -1,5 +1,5 @@
-//! Tests of the step functions, of the raw cell and of the locks over it, each kind of lock in a module of its own: what
-//! no contract says of them.
+//! Tests of the step functions, of the raw cell and of the locks over it, each kind of lock in a module of its own:
+//! what no contract says of them.
 #![tactic(auto)]
 
 #[cfg(test)]

@@ -14,8 +14,8 @@ mod texts;
 
 /// A mutual exclusion lock on which a waiting thread spins.
 ///
-/// Inside it is a [`TicketMutex`], so threads are served in the order of their tickets. Which lock is inside is not part of the
-/// contract. A waiting thread passes the time with the strategy `R`.
+/// Inside it is a [`TicketMutex`], so threads are served in the order of their tickets. Which lock is inside is not
+/// part of the contract. A waiting thread passes the time with the strategy `R`.
 ///
 /// # Contract
 /// While a guard or a hold of the lock lives, no other call acquires it. A guard gives a value of `T`, with all that

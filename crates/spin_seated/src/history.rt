@@ -17,7 +17,8 @@ pub struct Known<K, C, A> {
     pub seen: LinkedList<Entry<C, A>>,
 }
 
-/// What each pass of a seat knows. A seat has several passes while the lock opens, and while passes meet; otherwise one.
+/// What each pass of a seat knows. A seat has several passes while the lock opens, and while passes meet; otherwise
+/// one.
 pub type View<K, C, A> = LinkedList<Known<K, C, A>>;
 
 /// Splits a seat: the first of its passes gets a seat of its own.

@@ -29,7 +29,8 @@ pub fn begin(state: u8) -> Option<u8>
 /// Returns the state after a closure has given its value.
 ///
 /// # Contract
-/// The state has to be 1, that of a closure that runs. The answer is exact, and gives the plain lock's next state (`Gives`).
+/// The state has to be 1, that of a closure that runs. The answer is exact, and gives the plain lock's next state
+/// (`Gives`).
 pub fn complete(state: u8) -> u8
     requires { state ≡ 1 }
     ensures exact { result ≡ completed state }
@@ -41,7 +42,8 @@ pub fn complete(state: u8) -> u8
 /// Returns the state after a closure has failed. Then the next one may begin.
 ///
 /// # Contract
-/// The state has to be 1, that of a closure that runs. The answer is exact, and gives the plain lock's next state (`Gives`).
+/// The state has to be 1, that of a closure that runs. The answer is exact, and gives the plain lock's next state
+/// (`Gives`).
 pub fn fail(state: u8) -> u8
     requires { state ≡ 1 }
     ensures exact { result ≡ failed state }

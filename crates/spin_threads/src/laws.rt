@@ -72,8 +72,8 @@ pub fn between_any_two_steps_of_a_rwlock<T>()
 /// the plain lock what its type says.
 ///
 /// # Contract
-/// `Between`, of the schedule of the object that the moves are which the cell keeps (`bare`, `foretold`), with the cell's
-/// word and parties. `opening` says whether the cell was made with a value.
+/// `Between`, of the schedule of the object that the moves are which the cell keeps (`bare`, `foretold`), with the
+/// cell's word and parties. `opening` says whether the cell was made with a value.
 pub fn between_any_two_steps_of_a_once<T, S>()
     ensures { (opening : Opening (OnceStage T S)) (word : ℕ) (trace : Trace (once_values.Valued T) (Unit {0})) (parties : List (Numbered OnceView)) → once.IsOnce opening word trace parties → Between (once_machine (once_values.given_of opening.value)) place_of once.words_of (foretold (once_values.bare trace.entries)) (word, trace.word) parties }
 {}

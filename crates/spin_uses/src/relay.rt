@@ -10,9 +10,9 @@ use std::sync::Wait;
 /// Writes a value under one pass, and then reads it under another one.
 ///
 /// # Contract
-/// Each pass has acquired the lock and released it, once, and is returned in its place (`wrote`, `read`). `value` is the
-/// last one in the history that the first pass knows (`left`). The value that is returned is the last one in the history
-/// that the second pass knows (`found`).
+/// Each pass has acquired the lock and released it, once, and is returned in its place (`wrote`, `read`). `value` is
+/// the last one in the history that the first pass knows (`left`). The value that is returned is the last one in the
+/// history that the second pass knows (`found`).
 pub fn relay<'a, T: Copy, R: RelaxStrategy, W: Wait>(
     rt: &W,
     writer: Pass<'a, T, R>,

@@ -28,8 +28,8 @@ impl<T: Stabilizes, V, P: Rule<MaybeStable<T>, V>> Cell<MaybeStable<T>, V, P> {
     /// Returns a mutable reference to the value if the first word is `first`. The borrow shows that there is no permit.
     ///
     /// # Contract
-    /// The key becomes the one that the rule names (`lent`). Under it the rule has to hold as before (`Lends`), and where
-    /// it holds of that word the value has to be stable (`StableAt`). It stays so.
+    /// The key becomes the one that the rule names (`lent`). Under it the rule has to hold as before (`Lends`), and
+    /// where it holds of that word the value has to be stable (`StableAt`). It stays so.
     pub fn get_stable(&mut self, first: u64) -> Option<&mut Stable<T>>
         requires stable { StableAt (P.holds (P.lent self.old)) (P.ways (P.lent self.old)) T.stable first }
         requires lends { Lends (P.holds self.old) (P.ways self.old) (P.holds (P.lent self.old)) (P.ways (P.lent self.old)) }

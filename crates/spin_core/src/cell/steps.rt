@@ -32,8 +32,8 @@ pub trait Play<K, V, E> {
 /// step the `Play` holds (`Moved`), of the trace as the watch tells it (`Watches`).
 ///
 /// Where the rule knows a fact of a value that nobody writes, the step has to keep it (`Carrying`). A party that has
-/// written leaves the fact of what it was shown, and the trace then. One that comes to use the value, reads on or leaves
-/// it is told the fact of what it is shown (`Found`).
+/// written leaves the fact of what it was shown, and the trace then. One that comes to use the value, reads on or
+/// leaves it is told the fact of what it is shown (`Found`).
 impl<'a, T, V, E, S, P: Rule<T, V, Second = Trace<E, S>>> Permit<'a, T, V, P> {
     /// Loads the first word.
     pub fn load<M: Play<P::Key, V, E>>(self, seen: Watch<E>) -> (u64, Permit<'a, T, V, P>, Watch<E>)

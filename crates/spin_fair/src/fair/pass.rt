@@ -57,9 +57,9 @@ impl<T, R> FairMutex<T, R> {
     /// A guard that is dropped releases the lock too, and ends its pass.
     ///
     /// # Contract
-    /// `seen` has to be what the call returned with the guard (`Holds`). The pass makes the call, as its next one, behind
-    /// a write (`made`): it writes the guard's value into the history (`wrote`). So that value is the one written last
-    /// (`left`).
+    /// `seen` has to be what the call returned with the guard (`Holds`). The pass makes the call, as its next one,
+    /// behind a write (`made`): it writes the guard's value into the history (`wrote`). So that value is the one
+    /// written last (`left`).
     pub fn unlock<'a>(guard: FairMutexGuard<'a, T, R>, seen: Watch<Entry<T>>) -> Pass<'a, T, R>
         requires { Holds guard seen }
         ensures made { Left (guard_key guard.entry).value (λ x. Unit {0}) (Some (guard_view guard.entry)) seen.entries result.account.permit.view result.account.seen.entries }

@@ -162,8 +162,8 @@ impl<'a, T, R: RelaxStrategy> StarvingPass<'a, T, R> {
     /// Acquires the lock as [`Starvation::lock`](super::Starvation::lock) does.
     ///
     /// # Contract
-    /// The call is one `StarverLock` with the answer `Granted` (`made`), which ends the registration. The guard's value is
-    /// the one written last in the history (`found`). Whether and when the call returns is not promised.
+    /// The call is one `StarverLock` with the answer `Granted` (`made`), which ends the registration. The guard's value
+    /// is the one written last in the history (`found`). Whether and when the call returns is not promised.
     pub fn lock<W: Wait>(self, rt: &W) -> (FairMutexGuard<'a, T, R>, Watch<Entry<T>>)
         ensures holder { IsHolder use_of_party result.0 }
         ensures holds { Holds result.0 result.1 }

@@ -104,8 +104,8 @@ impl<'a, T, R: RelaxStrategy> Pass<'a, T, R> {
     ///
     /// # Contract
     /// The call is one `Lock` with the answer `Granted`, however often it looked and tried (`made`). The guard belongs
-    /// to a holder of the lock, and its value is the one written last in the history (`found`). Whether and when the call
-    /// returns is not promised.
+    /// to a holder of the lock, and its value is the one written last in the history (`found`). Whether and when the
+    /// call returns is not promised.
     pub fn lock<W: Wait>(self, rt: &W) -> (SpinMutexGuard<'a, T, R>, Watch<Entry<T>>)
         ensures holder { IsHolder use_of_party result.0 }
         ensures holds { Holds result.0 result.1 }

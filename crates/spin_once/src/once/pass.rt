@@ -66,8 +66,8 @@ impl<'a, T, R> Pass<'a, T, R> {
     /// Returns the value, or `None` if there is none yet, as [`Once::get`] does.
     ///
     /// # Contract
-    /// The call is one `Get`, with the answer `Value` and a reference, or else `NoValue` (`made`). The value is the only
-    /// one in the history (`found`).
+    /// The call is one `Get`, with the answer `Value` and a reference, or else `NoValue` (`made`). The value is the
+    /// only one in the history (`found`).
     pub fn get(self) -> (Option<&'a T>, Pass<'a, T, R>)
         ensures made { Called Get (found_or_none result.0) self.entry result.1 }
         ensures found { IfSome result.0 (λ value. IsValue (opening_of self.entry) (history result.1) value.now) }
@@ -156,8 +156,8 @@ impl<'a, T, R: RelaxStrategy> Pass<'a, T, R> {
     /// Returns the value, spinning until there is one, as [`Once::wait`] does.
     ///
     /// # Contract
-    /// The call is one `Wait` with the answer `Value`, however often it looked (`made`). The value is the only one in the
-    /// history (`found`). Whether and when it returns is not promised.
+    /// The call is one `Wait` with the answer `Value`, however often it looked (`made`). The value is the only one in
+    /// the history (`found`). Whether and when it returns is not promised.
     pub fn wait<W: Wait>(self, rt: &W) -> (&'a T, Pass<'a, T, R>)
         ensures made { Called WaitCall (Value tt) self.entry result.1 }
         ensures found { IsValue (opening_of self.entry) (history result.1) result.0.now }

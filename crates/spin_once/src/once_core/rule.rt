@@ -89,9 +89,10 @@ impl<T, S> Stabilizes for Stage<T, S> {
     ghost stable = { is_done };
 }
 
-/// The word is that of a plain lock in whose phase these parties are. The trace, without its values, is a schedule of the
-/// model, which leads to this word, with each party in the seat that its view names. It has one value at most, and none
-/// before the word is that of a value. The value that lies there is that one (`IsMade`), until the owner borrows it.
+/// The word is that of a plain lock in whose phase these parties are. The trace, without its values, is a schedule of
+/// the model, which leads to this word, with each party in the seat that its view names. It has one value at most, and
+/// none before the word is that of a value. The value that lies there is that one (`IsMade`), until the owner borrows
+/// it.
 impl<T, S: Seed<T>> Rule<Slot<T, S>, Party> for Stage<T, S> {
     ghost use Rattle.spin_once.specs.Once.{IsOnce, once_ways};
     ghost use Rattle.spin_once.specs.OnceValues.{lent_key};
