@@ -3,8 +3,8 @@ use crate::ticket::TicketMutex;
 
 /// Returns the number of the next ticket.
 ///
-/// The first ticket of [`TicketMutex::new`] has the number 0. So this is how many tickets were taken: a caller can say
-/// how busy a lock is, without a counter beside it.
+/// The first ticket of [`TicketMutex::new`] has the number 0. So this is how many tickets were taken, without a counter
+/// beside the lock.
 ///
 /// # Contract
 /// No clause. The call returns.
