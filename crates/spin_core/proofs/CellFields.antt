@@ -110,7 +110,7 @@ module _ {M : Type 1} {𝓤 : Ura M} (𝓛 : Logic 𝓤) (m ms : Member) (V Y K 
       fpick ! (λ vs. fsplit3 ! $ move ! (2 ∷ 3 ∷ []) $ fjoin ! $ fpack ! All (owned vs) s $ fpack ! Knows (λ _. fex All (owned vs)) k $ move ! (2 ∷ 0 ∷ []) $ fjoin ! $ move ! (1 ∷ 0 ∷ []) $ fjoin ! $
       fpack ! (List Val) (λ us. fsep (cell_at full_share Data.mir us b o) ((C.the_row R V Y K S g).own_val key us)) vs $ done !)
 
-  -- ---- the words and the value, side by side
+  -- ---- the words beside the value
   abbrev pub standing_words : ℕ × S.Denot → Fml
   standing_words s = fsep (word b (o + 0) s.0) (part_at S full_share s.1 b (o + second_at S R))
 
@@ -160,7 +160,7 @@ module _ {M : Type 1} {𝓤 : Ura M} (𝓛 : Logic 𝓤) (m ms : Member) (V Y K 
     rejoined s rule = qed 𝓛 (‵ (At s.2) ∷ ‵ (standing_words (s.0, s.1)) ∷ raw Joins ∷ []) ∵ nothing ! $ fpack ! (Rule s) (λ _. ftrue) rule $ move ! (1 ∷ 0 ∷ []) $ join ! $ move ! (1 ∷ 0 ∷ []) $ join ! $ move ! (1 ∷ []) $
         use1 𝓛 (raw (joined s)) (all_e 𝓤 joined s) $ move ! (1 ∷ 0 ∷ []) $ by ! (apply∗ 𝓤 (⟦ standing_words (s.0, s.1) ⟧ ∗ ⟦ At s.2 ⟧ ∗ ⟦ fact (Rule s) ⟧) ⟦ P ⟧)
 
--- the cell under another key
+-- The same for a cell that gets another key.
 module _ {M : Type 1} {𝓤 : Ura M} (𝓛 : Logic 𝓤) (m ms : Member) (V Y K : RattleType) (g : Ghosts Y.Denot (row_of m).Denot V.Denot K.Denot (row_of ms).Denot) (old key : K.Denot) (b o : ℕ)
     (lends : Lends (g.holds old) (g.ways old) (g.holds key) (g.ways key)) where
   open (signs 𝓛) use {◌⊢◌, ◌∗◌, ◌-∗◌, ⟦◌⟧}

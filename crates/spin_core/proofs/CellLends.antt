@@ -1,4 +1,4 @@
--- What a `&` to a permit owns: a reader or a writer lends what it has of the value. Assumes `Logic`.
+-- What a `&` to a permit owns: the value, as far as its reader or writer may lend it. Assumes `Logic`.
 --     Lends-tracked     the law of a party that tracks the value
 --     permit_laws, Lends-permit     the laws of a permit.        writer_laws, Lends-writer     the laws of a writer
 use Rattle.std.proofs.Common.{◌≡◌, ℕ, ◌+◌, true, List, [], ◌∷◌, ◌++◌, refl, sym, Option, Some, None}
@@ -120,7 +120,7 @@ module _ {M : Type 1} {𝓤 : Ura M} (𝓛 : Logic 𝓤) where
     Lends-writer l le s (block_ptr b o) view x = Lends-tracked R b o β x (writer_owns Y R c S holds ways β (block_ptr b o) view x) l le s (writer_gives b o view x)
     Lends-writer l le s null_ptr view x = Lends-false 𝓛 (writer_shares Y R c S holds ways β null_ptr view x) l
 
-    -- what is shown for a lifetime that lasts for ν is shown for ν
+    -- a value that is shown for a round's lifetime is shown for ν too, if ν lies within the round and within the cell's borrow β
     shows_for : RowLaws R → (b o : ℕ) (t : Id) (x : R.Denot) (ν : Lft) → Incl ν β → (n : ℕ)
         → ⟦ shown R b o x (n ∷ t.life) ⟧ ∗ ⟦ before β t.life ⟧ ∗ ⟦ inside ν (n ∷ []) ⟧ ⊢ ⟦ shown R b o x ν ⟧
     shows_for L b o t x ν inc n =
@@ -138,7 +138,7 @@ module _ {M : Type 1} {𝓤 : Ura M} (𝓛 : Logic 𝓤) where
         fpick ! (λ k. fpick ! (λ t. fsplit3 ! $ move ! (2 ∷ []) $
         rewrite ! 0 (λ (u : Use). ‵ (right R b o t ways.0 u None)) is refl $ keep ! (0 ∷ []) $ by ! (never_e 𝓤 _)))
 
-    -- ---- a permit, at each use
+    -- ---- a permit whose party is off, reads or writes
     module _ (b o : ℕ) (view : Option V) where
       abbrev owned_at : Use → Option R.Denot → Id → Fml
       owned_at u x t = fsep (kept R b o t c S holds ways β) (fsep (stand R b o t c view) (right R b o t ways.0 u x))
@@ -188,7 +188,7 @@ module _ {M : Type 1} {𝓤 : Ura M} (𝓛 : Logic 𝓤) where
     Lends-permit L l le (block_ptr b o) view x = Lends-owned b o view L l le (use_of ways.1 view) x
     Lends-permit L l le null_ptr view x = Lends-false 𝓛 (permit_shares Y R c S holds ways β null_ptr view x) l
 
-    -- ---- a party that reads may show the value for the rest of the cell's borrow: its token is never given back
+    -- ---- a reader may show the value for the rest of the cell's borrow: it never gives its token back
     abbrev pub IsShown : ℕ → ℕ → Option R.Denot → R.Denot → SProp 𝓤
     IsShown b o v x = guard 𝓤 ((v ≡ Some x) × Seen ways.0 x) ⟦ shown R b o x β ⟧
 
@@ -208,7 +208,7 @@ module _ {M : Type 1} {𝓤 : Ura M} (𝓛 : Logic 𝓤) where
         rewrite ! 0 (λ (u : Use). ‵ (right R b o t ways.0 u (Some x))) is refl $ move ! (1 ∷ 0 ∷ []) $ use2 𝓛 (later (given (Seen ways.0 x) (‵ (shown R b o x β)))) (shown_by L b o t x) $ await ! tt $ learn ! (λ known.
         now ! $ show ! (IsShown b o (Some x)) x $ check ! (refl, known) $ keep ! (0 ∷ []) $ done !)))
 
-    -- ---- and it keeps its permit, if all readers may read for ever
+    -- ---- in the way `fixes` such a reader also keeps its permit
     reader_cut : RowLaws R → (b o : ℕ) (t : Id) (way : Way R.Denot) → Fixes way → (x : R.Denot) → ⟦ reader R b o t way x ⟧ ⊢ ⟦ reader R b o t way x ⟧ ∗ ⟦ reader R b o t way x ⟧
     reader_cut L b o t (fixes fact) fixed x =
         let way : Way R.Denot = fixes fact in let V' : Lft → Fml = shown R b o x in let Rd : ℕ → Fml = λ n. fsep (piece R way t.round (n, x)) (V' (n ∷ t.life)) in

@@ -33,14 +33,14 @@ module _ {K W V C L A X S : Type 0} (model : K → Machine W V C L A) (seat_of :
 
 -- One step of a call after another
 module _ {K W V C L A X : Type 0} (model : K → Machine W V C L A) (c : C) (p q : Spot K X (Entry C V)) where
-  -- a step that begins the call and answers it, or does not
+  -- a step that begins the call and answers it at once
   pub in_one : (a : A) → Since model (IsStep false c (Answered a None)) p q → HasCalled model c a p q
   in_one a (made, named, same) = (passes.whole (model p.0) p.1 q.1 p.2.entries q.2.entries c a made, named, same)
 
   pub comes_in : Since model (IsStep false c GoingOn) p q → IsIn model c p q
   comes_in (made, named, same) = (passes.begins (model p.0) p.1 q.1 p.2.entries q.2.entries c made, named, same)
 
-  -- whatever it wrote before
+  -- a release of a value that satisfies Q is a release of some value
   pub wrote_any : (Q : V → Type 0) (a : A) → Since model (WritesSome Q (IsCall c a)) p q → Since model (WritesSome (λ y. Unit {0}) (IsCall c a)) p q
   wrote_any Q a (made, named, same) = (
     passes.weaker (model p.0) p.1 q.1 p.2.entries q.2.entries (WritesSome Q (IsCall c a)) (WritesSome (λ y. Unit {0}) (IsCall c a))
@@ -50,7 +50,7 @@ module _ {K W V C L A X : Type 0} (model : K → Machine W V C L A) (c : C) (p q
   )
 
   module _ (r : Spot K X (Entry C V)) (first : IsIn model c p q) where
-    -- a step of the same lock
+    -- a later step is in the same lock, and so runs the same model
     in_lock : (course : Course V C A) → Since model course q r → Made (model p.0) q.1 q.2.entries r.1 r.2.entries course
     in_lock course step = subst (λ k. Made (model k) q.1 q.2.entries r.1 r.2.entries course) first.2 step.0
 
@@ -70,7 +70,7 @@ module _ {K W V C L A X : Type 0} (model : K → Machine W V C L A) (c : C) (p q
       step.2 ∙ first.2,
     )
 
--- what an attempt makes of what holds before it, the last one has made
+-- if each attempt turns P of its state into Q of its answer, or into P of the next state, the last attempt gives Q
 pub tried : {S A : Type 0} (attempts : S → Result A S → Type 0) (P : S → Type 0) (Q : A → Type 0)
     → ((s : S) (r : Result A S) → attempts s r → P s → IfOk r Q × IfErr r P)
     → (first : S) (answer : A) → Succeeds attempts first answer → P first → Q answer

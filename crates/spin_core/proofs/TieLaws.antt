@@ -53,7 +53,7 @@ traced_over C V S = trace.the_row (entry_over C V) S
 abbrev pub trace_over_laws : (C V S : RattleType) → Laws C → Laws V → Laws S → Laws (traced_over C V S)
 trace_over_laws C V S laws values second = traces.the_row_laws (entry_over C V) S (entry_over_laws C V laws values) second
 
--- What a lock must show when it takes a watch of such a trace: the values live as long as the borrow of the lock
+-- What a lock must show when it takes a watch of such a trace: its values live as long as the borrow of the lock.
 module _ (κ l : Lft) (within : κ ⊑ l) where
   abbrev alone : Lft
   alone = l ++ []

@@ -12,7 +12,7 @@ itself = record { code = λ g. g; inj = λ x y p. p }
 abbrev pub logs : Order (List Gv)
 logs = prefixes itself
 
--- a share of the right to append; it says what the entries are
+-- a share of the right to append to the log, whose entries are l
 abbrev pub log_part : {T : Type 0} → (T → Gv) → ℕ → List T → Share → Fml
 log_part c γ l q = latest logs q γ (map c l)
 

@@ -110,8 +110,8 @@ pub trait SharedLock<T>: Lock<T> {
         ensures { MatchResult result (AnswersOfShared F.FnOnce by) (λ back. back ≡ by) };
 }
 
-/// Calls the closure with the value of a guard that a try returned. Without a guard it returns the closure. Locks with
-/// guards use it for `try_with`.
+/// Calls the closure with the value of a guard, if a try returned one. Otherwise returns the closure. Locks
+/// with guards use it for `try_with`.
 ///
 /// # Contract
 /// The closure has to be always callable. With a guard the result is `Ok` of an answer like that of [`Lock::with`].

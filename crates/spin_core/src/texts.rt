@@ -6,7 +6,7 @@ ghost use Rattle.spin_core.specs.Texts.{lock_text, named_text};
 use std::fmt;
 use std::fmt::{Debug, Formatter};
 
-/// Writes a mutex with the value that one try found, or as locked if it failed.
+/// Writes a mutex: its value if the caller's one try acquired the lock, else `<locked>`.
 ///
 /// The text calls each mutex `Mutex`, as the Rust crate does.
 ///
@@ -18,10 +18,10 @@ pub fn write_lock<T: Debug, W: fmt::Write>(value: Option<&T>, f: &mut Formatter<
     write_named("Mutex { data: ", "Mutex { <locked> }", value, f)
 }
 
-/// Writes a lock: `shown`, the value that one try found, and ` }`; or `locked` if it failed.
+/// Writes a lock. With a value it writes `shown`, the value and ` }`; without one it writes `locked`.
 ///
 /// # Contract
-/// Without options, an `Ok` call has written `named_text` of these.
+/// Without options, an `Ok` call has written `named_text` of the arguments.
 pub fn write_named<T: Debug, W: fmt::Write>(
     shown: &str,
     locked: &str,

@@ -1,4 +1,4 @@
--- A `&` to a cell is made of a borrow of it, whatever the words hold. Assumes `Logic`.
+-- A `&` to a cell is made from a borrow of the cell, whatever the words are. Assumes `Logic`.
 use Rattle.std.proofs.Common.{◌≡◌, ℕ, zero, suc, ◌+◌, ◌<◌, List, [], ◌∷◌, ◌++◌, Option, Some, None, sym, subst, arith}
 use seplogic.Ra.Ura.{Ura}
 use mir.Syntax.{Ty}
@@ -81,7 +81,7 @@ module _ {M : Type 1} {𝓤 : Ura M} (𝓛 : Logic 𝓤) (m ms : Member) (V Y K 
   abbrev Starting : ℕ × S.Denot × R.Denot → Type 0
   Starting = Rule 𝓛 m ms V Y K g key b o
 
-  -- what the words' borrow keeps of the value, by its name: the fact, or that somebody writes
+  -- what the borrow of the words keeps of the value, under the value's name: the known fact, or that somebody writes
   abbrev found : S.Denot → Way R.Denot → GName → ℕ → ℕ → Option R.Denot → Fml
   found k way' ν r w None = fact (0 < w)
   found k way' ν r w (Some x) = fsep (fobs ν (R.coded.code x)) (fact (Knowing ways.2 k w x (Fixed way' r w x)))
@@ -211,7 +211,7 @@ module _ {M : Type 1} {𝓤 : Ura M} (𝓛 : Logic 𝓤) (m ms : Member) (V Y K 
         fpack ! (Met s vs) (λ _. ftrue) meets $ fjoin ! $ fpack ! (List V.Denot) (views_at ν s) vs $ move ! (1 ∷ 2 ∷ 0 ∷ []) $ fjoin3 ! $
         fpack ! (ℕ × S.Denot) (standing_at ν) s $ done !)))
 
-    -- ---- the invariant is made: some views that satisfy the rule take their places
+    -- ---- the invariant is made, with a place for each of the views that satisfy the rule
     module _ (l : Lft) (shares : Shares 𝓛 R l) (μ : Lft) (e f : Share) (i : Incl μ κ) (j : Incl μ l) where
       stands : (k : S.Denot) (vs : List V.Denot) (v : Option R.Denot) → Limits way (read vs) (wrote vs)
           → ⟦ found k way ν (read vs) (wrote vs) v ⟧ ∗ A.bor κ (Named ν) ∗ ⟦ idle γ ⟧ ∗ A.lft μ e ∗ A.lft μ f
@@ -256,7 +256,7 @@ module _ {M : Type 1} {𝓤 : Ura M} (𝓛 : Logic 𝓤) (m ms : Member) (V Y K 
       split ! $ split3 ! $ move ! (1 ∷ 2 ∷ []) $ use2 𝓛 (‵ (flft μ d)) (𝓛.lfts.lft_join μ d) $ move ! (2 ∷ 0 ∷ []) $ use2 𝓛 (‵ (flft μ q)) (𝓛.lfts.lft_join μ q) $
       move ! (0 ∷ 2 ∷ []) $ use2 𝓛 (raw (lfts 𝓛 ts)) (apply∗ 𝓤 (A.lft μ q) (lfts 𝓛 ts)) $ now ! $ keep ! (1 ∷ 0 ∷ []) $ done !)))))
 
--- if a row's machine type is a single one, it is a member's
+-- a row with a single machine type is the row of a member
 alike : (T : RattleType) (L : Laws T) → T ≡ row_of (record { row = T; ty = layout T })
 alike T L = λ i. record { Denot = T.Denot; mir = L.one i; written = T.written; reaches = T.reaches; lives = T.lives; own_val = T.own_val; exit = T.exit; coded = T.coded; shr_at = T.shr_at }
 

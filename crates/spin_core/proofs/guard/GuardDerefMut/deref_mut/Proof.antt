@@ -1,4 +1,4 @@
--- `deref_mut` lends the guard's permit to `get_mut`, and the guard follows what the permit follows. Assumes `Logic`.
+-- `deref_mut` lends the guard's permit to `get_mut`; the guard then has what the permit has. Assumes `Logic`.
 use Rattle.spin_core.proofs.WalkNames.{◌≡◌, ℕ, ◌+◌, List, [], ◌∷◌, refl, ap, dcons, dnil, a_type, named, Val, vptr, vunit, inst_fn, SProp, id⊢, Lft, Share, Fml, ftrue, fsep, flft, fbor, Logic, ‵, raw, ◌⊛◌, ◌$◌, ◌∵◌, !, qed, by, move, keep, drop, split, split3, join, fsplit, fsplit3, fjoin, fjoin3, feq_i, feq_l, use1, use2, use3, later, some, await, pick, stop, addr, no_more, and_then, returns, enter, fld, alloc_all, pass_all, free_all, look_at, get, through, sets, tables, fact, yes, RattleType, owns, types_at, named_lft, nothing, param, layout, bounded, param_laws, walk_of, proved, leaves}
 use seplogic.Ra.Ura.{Ura}
 use base.Fml.{GName, Incl, fobs}

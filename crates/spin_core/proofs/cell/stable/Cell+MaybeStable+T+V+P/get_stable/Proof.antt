@@ -1,4 +1,4 @@
--- `get_stable` reads the first word, and lends the value where that is the number asked for. Assumes `Logic`.
+-- `get_stable` loads the first word, and lends the value if that is the number asked for. Assumes `Logic`.
 use Rattle.spin_core.proofs.WalkNames.{◌≡◌, ℕ, ◌+◌, [], ◌∷◌, sym, refl, subst, lit<, w64, dcons, dnil, named, vint, vptr, vcons, vnil, inst_fn, full_share, SProp, ent, sep, Fml, flft, sem, ‵, raw, ◌⊛◌, some, later, at_ret, ◌$◌, ◌∵◌, !, qed, by, move, keep, drop, use0, use1, use2, split, split3, join, pick, await, rewrite, fsplit, fsplit3, fjoin, fpick, stop, fld, addr, load, lit, of_opd, and_then, no_more, first, blocks, exec, returns, enter, agg, alloc_all, pass_all, free_all, look_at, get, through, sets, sets_last, env, tables, fact, RattleType, owns, types_at, uint_vals, uint_Tells, part_at, param, layout, bounded, param_laws, nothing, heard, walk_of, proved, leaves}
 use Rattle.std.proofs.Common.{eqb→eq, w8}
 use mir.Syntax.{Body, seq, assign, place, rv_opd, copy, aggregate, int}
@@ -36,7 +36,7 @@ use Rattle.spin_core.proofs.cell.stable.Cell+MaybeStable+T+V+P.get_stable.Code a
 abbrev wraps : Body
 wraps = seq (assign (place 7 []) (rv_opd (copy (place 8 [])))) (assign (place 6 []) (aggregate (int w8 1 ∷ copy (place 7 []) ∷ [])))
 
--- a stable value lies as a maybe_stable one does
+-- a `Stable` value has the same layout as a `MaybeStable` one
 lies : (X : RattleType) (g : Ghosts X.Denot) (w : (stable.the_row X g).Denot) (b e : ℕ) → part_at (stable.the_row X g) full_share w b e ≡ part_at (maybe_stable.the_row X) full_share (record { value = w.value }) b e
 unfolding part_of
 lies X g w b e = refl
