@@ -124,7 +124,7 @@ HeaderFits (Fair value cap spins parties) = (value < 2 ^ 64) × IsWithin 1 most_
 HeaderFits (Barrier n parties) = (n < 2 ^ 64) × PartiesFit parties
 HeaderFits (Once parties) = PartiesFit parties
 
--- what the header says about the lines behind it, and about their world
+-- What a header fixes for the lines after it, and for their world.
 
 abbrev pub CallOf : Header → Type 0
 CallOf (Flag value parties) = FlagCall
