@@ -23,11 +23,11 @@ holds_then TryLock (Truth true) held = true
 holds_then Unlock a held = false
 holds_then c a held = held
 
--- what it holds after these calls of its own
+-- what a pass holds after these calls, which are its own
 abbrev pub holds_by : History → Bool
 holds_by own = hold_after holds_then false own
 
--- which calls a pass may make while it holds, and while it does not
+-- which calls a pass may make while it holds the lock, and while it does not
 abbrev pub MayCall : Call → Bool → Type 0
 MayCall TryLock held = Unit {0}
 MayCall IsLocked held = Unit {0}
