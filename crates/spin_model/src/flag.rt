@@ -14,11 +14,11 @@ pub enum FlagCall {
     Release,
 }
 
-/// The point of a call: which step is next. Only `Lock` has a second one.
+/// The point of a call: its next step. Only `Lock` has a second point.
 #[derive(Copy)]
 pub enum FlagPoint {
     /// The first step of any call, and of each further attempt.
     First,
-    /// The look of `Lock` at the flag, after its exchange has failed.
+    /// `Lock` looks at the flag, after its exchange has failed.
     Second,
 }
