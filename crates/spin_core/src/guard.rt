@@ -137,7 +137,7 @@ impl<'a, T, V, P: Release<T, V>, R> Held<'a, T, V, P, R> {
     /// Releases the lock that the hold keeps.
     ///
     /// # Contract
-    /// No clause. The call returns.
+    /// Only that the call returns.
     pub fn release(self) {
         P::release(self.into_permit().into_writer());
     }

@@ -1,5 +1,4 @@
--- `deref_mut` lends the inner guard to its own `deref_mut`, and the guard follows what the inner guard follows. Assumes
--- `Logic`.
+-- `deref_mut` lends the inner guard to that guard's `deref_mut`; the guard then has what the inner guard has. Assumes `Logic`.
 use Rattle.spin_core.proofs.WalkNames.{◌≡◌, ℕ, ◌+◌, List, [], ◌∷◌, refl, sym, ap, a_type, named, Val, vptr, vunit, inst_fn, full_share, SProp, emp, id⊢, Lft, Share, Fml, ftrue, fsep, flft, fbor, Logic, ‵, raw, ◌⊛◌, ◌$◌, ◌∵◌, !, qed, by, move, keep, drop, split, split3, join, fsplit, fsplit3, fjoin, fjoin3, feq_i, feq_l, use0, use1, use2, use3, later, some, await, pick, stop, addr, no_more, and_then, returns, enter, fld, alloc_all, pass_all, free_all, look_at, get, through, sets, tables, fact, fact_i, yes, no, RattleType, owns, types_at, plain, named_lft, RefMutOf, nothing, param, layout, param_laws, Stays, stay_dropped, walk_of, proved, leaves}
 use seplogic.Ra.Ura.{Ura}
 use mir.Raw.{raw as raw_type}
