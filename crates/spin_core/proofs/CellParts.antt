@@ -65,7 +65,7 @@ module _ {M : Type 1} {𝓤 : Ura M} (𝓛 : Logic 𝓤) (R : RattleType) (γ : 
       use1 𝓛 (‵ (parts R γ s 1) ⊛ ‵ (parts R γ s (2 ^ 63 - 1))) (parts_cut s (2 ^ 63) 1 (2 ^ 63 - 1) (omega arith) (omega arith) (omega arith) (omega arith)) $ split ! $
       by ! (glued s 1 (2 ^ 63 - 1) full_share (Counts-all 63))
 
-  -- two shares are of one round, and so of one value
+  -- two shares under one name are of one round, and so of one value
   shares_agree : (s u : Round R) (e f : Share) → ⟦ share R γ s e ⟧ ∗ ⟦ share R γ u f ⟧ ⊢ guard 𝓤 (s ≡ u) (⟦ share R γ s e ⟧ ∗ ⟦ share R γ u f ⟧)
   shares_agree s u e f = let g : Gv = round_code R s in let h : Gv = round_code R u in let Z : SProp 𝓤 = ⟦ tag γ e g ⟧ ∗ ⟦ tag γ f h ⟧ in
       qed 𝓛 (‵ (share R γ s e) ∷ ‵ (share R γ u f) ∷ []) ∵ fsplit ! $ move ! (2 ∷ []) $ fsplit ! $ move ! (3 ∷ 1 ∷ []) $

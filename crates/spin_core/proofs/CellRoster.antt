@@ -1,4 +1,4 @@
--- The views in the invariant: one at a time, and at the beginning. Assumes `Logic`.
+-- The views in the invariant: how one of them changes, and how the list begins. Assumes `Logic`.
 use Rattle.std.proofs.Common.{◌≡◌, ℕ, zero, suc, ◌+◌, List, [], ◌∷◌, ◌++◌, set, sym, refl, ap, subst, arith, Option, Some, None}
 use mathlib.Core.Path.{Path}
 use mathlib.Core.Option.{some}

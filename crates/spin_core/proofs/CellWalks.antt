@@ -11,7 +11,7 @@ use denote.RawPtr.{Ptr, block_ptr, null_ptr}
 use Rattle.spin_core.specs.Cell.{Use, writes, Ways, use_of}
 use Rattle.spin_core.specs.CellMemory.{Known, Id, right, permit_at, permit_owns, writer_at, writer_owns}
 
--- the view and the value exist, and are these
+-- the permit has a view and a value, and they are those of s
 abbrev pub Writes : {V X : Type 0} → Option V → Option X → V × X → Type 0
 Writes view v s = (view ≡ Some s.0) × (v ≡ Some s.1)
 

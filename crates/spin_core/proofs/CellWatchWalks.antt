@@ -38,7 +38,7 @@ use Rattle.spin_core.proofs.Signs.{signs}
 use Rattle.spin_core.proofs.WalkSteps.{says, lies_at, Facts, after_facts, last_fact}
 use Rattle.spin_core.proofs.CellSteps as steps
 
--- the watch that knows these
+-- the watch with this name and these entries
 abbrev pub knowing : {E : Type 0} → ℕ × List E → Watch E
 knowing l = record { marker = record {}; name = l.0; entries = l.1 }
 
@@ -84,7 +84,7 @@ module _ {M : Type 1} {𝓤 : Ura M} (𝓛 : Logic 𝓤) (𝓜 : Model 𝓤 𝓛
     abbrev Owned : Option W.Denot → Option R.Denot → Fml
     Owned view v = permit_owns Y R W.coded.code Sr (g.holds h.key) ways β here view v
 
-    -- why the rule may share, the cell's names, and a share of its lifetime's token
+    -- three things: why parties may share the value, the cell's names, and a share of its lifetime's token
     abbrev Entry : Type 0
     Entry = Shares ways Y Sr R × (Id × Share)
 

@@ -1,4 +1,4 @@
--- What the parties have is at most what the lock has.
+-- The parties own at most what the plain lock has.
 use Rattle.std.proofs.Common.{◌≡◌, ℕ, suc, ◌+◌, ◌≤◌, ◌==◌, true, cond, List, [], ◌∷◌, length, filter, refl, ap, ◌∙◌, arith, nat_lt}
 use Rattle.std.specs.Prelude.{sum_by}
 use Rattle.std.proofs.lemmas.List.Sums.{sum_by-cons, count_by-le-length}
@@ -62,7 +62,7 @@ module _ {X : Type 0} (owner : X → ℕ) (weight : X → ℕ) where
     pub exactly : (vs : List V) (xs : List X) → ((p : ℕ) → own p xs ≡ gives p (part_at part vs p)) → ((p : ℕ) → length vs ≤ p → filter (λ x. owner x == p) xs ≡ []) → sum_by has vs ≡ sum_by weight xs
     exactly vs xs owns nobody = omega (arith, all vs xs owns, below-all (0 + length vs) xs (λ p far. nobody p (omega arith)))
 
--- Who may use the value together with whom
+-- Which parties may use the value together.
 
 abbrev is_entered : Ticket → ℕ
 is_entered t = bit t.entered

@@ -16,7 +16,7 @@ use Rattle.spin_core.specs.Own.{Numbered, by_party, present_from, kind, entries_
 use Rattle.spin_core.proofs.Runs.{around, set_seam, world}
 use Rattle.spin_core.proofs.Runs as runs
 
--- For lists of numbered parties
+-- Lists of numbered parties.
 
 present_from-append : {X : Type 0} (k j : ℕ) (us ws : List (Option (X × ℕ))) → j ≡ k + length us → present_from k (us ++ ws) ≡ present_from k us ++ present_from j ws
 present_from-append k j [] ws is = ap (λ i. present_from i ws) (let e : k ≡ j = omega (arith, is) in e)
@@ -39,7 +39,7 @@ split {X} k (Some u ∷ us) (x ∷ before) v behind e =
     let s = split (suc k) us before v behind rest in
     (Some u ∷ s.0, s.1, ap (λ ws. Some u ∷ ws) s.2, (ap (λ y. y ∷ before) same ∙ ap (λ ws. (u.0, k, u.1) ∷ ws) s.3), (let i = s.4 in omega (arith, i)), s.5)
 
--- For a party's entries
+-- The entries of one party.
 
 abbrev Came : Type 0 → Type 0
 Came X = List (Option (X × ℕ))

@@ -145,7 +145,7 @@ module _ {W V C L A X S : Type 0} (m : Machine W V C L A) (seat_of : X → Seat 
       let all = learns m seat_of words_of says named view before now found v knew moved in let (p, may, is, own, outs, did, said) = all.0 in let so = means own outs found v.0 said in
       record { made = (p, may, is, own, outs, did, so.1); knows = all.1; is = ap Some so.0; named = moved.0 is_named }
 
--- How the courses of a call follow one another
+-- How one course of a call follows another.
 
 pub replicate-sum : {X : Type 0} (i j : ℕ) (x : X) → replicate (i + j) x ≡ replicate i x ++ replicate j x
 replicate-sum zero j x = ap (λ n. replicate n x) (zero-add j)
@@ -169,7 +169,7 @@ module _ {V C A : Type 0} where
       → (own own' : List (Move C V)) (outs outs' : List (Outcome A V)) → Begins c P own outs → Q own' outs' → Begins c R (own ++ own') (outs ++ outs')
   begun c P Q R joins own own' outs outs' (rest, comes, is, are, so) so' = (rest ++ own', comes ++ outs', ap (λ l. l ++ own') is, ap (λ l. l ++ outs') are, joins rest own' comes outs' so so')
 
--- What a party has done, by one step and by one course after another
+-- What a party has done by one step, and by several courses one after another.
 module _ {W V C L A X : Type 0} (m : Machine W V C L A) where
   module _ (view view' : Option (Numbered X)) (old new : List (Entry C V)) where
     abbrev Makes : Course V C A → Type 0
@@ -182,7 +182,7 @@ module _ {W V C L A X : Type 0} (m : Machine W V C L A) where
     pub whole : (c : C) (a : A) → Makes (IsStep false c (Answered a None)) → Makes (IsCall c a)
     whole c a = weaker (IsStep false c (Answered a None)) (IsCall c a) (λ own outs s. (Step ∷ [], Answered a None ∷ [], s.0, s.1, (0, refl, refl)))
 
-    -- the same after a write
+    -- the same for a step after a write
     pub whole_behind : (Q : V → Type 0) (c : C) (a : A) → Makes (WritesSome Q (IsStep false c (Answered a None))) → Makes (WritesSome Q (IsCall c a))
     whole_behind Q c a =
         weaker (WritesSome Q (IsStep false c (Answered a None))) (WritesSome Q (IsCall c a))

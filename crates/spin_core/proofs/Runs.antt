@@ -53,7 +53,7 @@ module _ {W V C L A : Type 0} (m : Machine W V C L A) (xs ys : List (Seat C L)) 
     skipped_alike : Alike (skipped alone) (skipped among)
     skipped_alike = ((w, value, seat, refl, refl), refl)
 
-    -- the party's seat becomes another
+    -- the party gets another seat, in both worlds
     seated_alike : (next : Seat C L) (o : Outcome A V)
         → Alike (record { outcome = o; next = seated alone 0 next }) (record { outcome = o; next = seated among (length xs) next })
     seated_alike next o = ((w, value, next, refl, ap (world w value) (set_seam xs seat ys next)), refl)
@@ -163,7 +163,7 @@ module _ {W V C L A X S : Type 0} (m : Machine W V C L A) (seat_of : X → Seat 
   plays_more log came played more =
       ap (λ count. list_all is_played (outcomes m (at_first m count) log)) (let a = length-append came (None ∷ []) in omega arith) ∙ played (suc more)
 
-  -- a party with others before it and behind it
+  -- A party that has other parties before it and behind it.
   module _ (log : Schedule) (w : W) (value : Option V) (front back : List (Option X)) (o : Option X) (leads : Leads log w value (front ++ o ∷ back))
       (played : IsPlayed m (length (front ++ o ∷ back)) log) where
     abbrev with : Option X → List (Option X)

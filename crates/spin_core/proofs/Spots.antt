@@ -1,4 +1,4 @@
--- What a step tells a party that knows the lock's history, and what the steps of a call make together.
+-- What a step tells a party that knows the lock's history, and what follows from all steps of a call.
 use Rattle.std.proofs.Common.{◌≡◌, ℕ, Bool, true, false, Some, None, List, length, ◌∙◌, subst}
 use Rattle.std.specs.Prelude.{Result, Ok, Err, IfOk, IfErr}
 use Rattle.spin_core.specs.Cell.{Moved}

@@ -37,7 +37,7 @@ module _ {V : Type 0} (part : V → Part) where
   number id None vs = length vs
   number id (Some v) vs = id
 
-  -- its part before the step
+  -- the part of a party before its step
   abbrev pub part_before : Option V → Part
   part_before None = idle
   part_before (Some v) = part v

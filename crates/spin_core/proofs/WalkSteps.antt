@@ -35,7 +35,7 @@ abbrev pub others : (n : ℕ) → Many Lft n → Many Share n → Fml
 others zero κs qs = ftrue
 others (suc n) κs qs = fsep (flft κs.0 qs.0) (others n κs.1 qs.1)
 
--- facts that a walk does not use, and a last one
+-- facts that a walk does not use, and behind them one more fact
 abbrev pub Facts : ℕ → Type 1
 Facts zero = Unit {1}
 Facts (suc n) = Type 0 × Facts n

@@ -61,13 +61,13 @@ module _ {X : Type 0} where
   Limits lends r w = r + most_readers * w ≤ most_readers
   Limits (fixes fact) r w = (w ≤ 1) × (0 < w → r ≡ 0)
 
-  -- the fact of the way `fixes`, of a value that r parties read and w parties write
+  -- what the way `fixes` says of a value with r readers and w writers
   abbrev pub Fixed : Way X → ℕ → ℕ → X → Type 0
   Fixed (fixes fact) (suc r) w x = fact true x
   Fixed (fixes fact) zero zero x = fact false x
   Fixed _ r w x = Unit {0}
 
-  -- the fact of the way `fixes`, as a party that reads knows it
+  -- what the way `fixes` says of a value to a party that reads it
   abbrev pub Seen : Way X → X → Type 0
   Seen way x = Fixed way 1 0 x
 

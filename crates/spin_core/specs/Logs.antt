@@ -24,7 +24,7 @@ log_shares c γ l = one (log_part c γ l)
 unfoldable pub log_owns : {T : Type 0} → (T → Gv) → ℕ → List T → Fml
 log_owns c γ l = latest logs full_share γ (map c l)
 
--- a lower bound: the log begins with these entries. Of an empty list this is known of any log, under any name
+-- A lower bound: the log begins with these entries. The empty list is known of any log, under any name.
 unfoldable pub known_owns : {T : Type 0} → (T → Gv) → ℕ → List T → Fml
 known_owns c γ [] = ftrue
 known_owns c γ (x ∷ l) = at_least logs γ (map c (x ∷ l))

@@ -37,7 +37,7 @@ abbrev pub entries_by : {C V : Type 0} → ℕ → List (Entry C V) → List (En
 entries_by p [] = []
 entries_by p (e ∷ es) = if e.0 == p then e ∷ entries_by p es else entries_by p es
 
--- No party that is present has made an entry since its mark. No party with a number past the list has made any entry.
+-- No present party has made an entry since its mark. Parties with numbers beyond the list have made no entry.
 abbrev pub Rested : {C V X : Type 0} → List (Entry C V) → ℕ → List (Option (X × ℕ)) → Type 0
 Rested schedule k [] = (q : ℕ) → k ≤ q → entries_by q schedule ≡ []
 Rested schedule k (None ∷ us) = Rested schedule (suc k) us

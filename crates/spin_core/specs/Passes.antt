@@ -15,7 +15,7 @@ abbrev pub mark_of : {X : Type 0} → Option (Numbered X) → ℕ
 mark_of None = 0
 mark_of (Some u) = u.2
 
--- the party has this number, or none yet
+-- the party has the number p, or no number yet
 abbrev pub MayBe : {X : Type 0} → ℕ → Option (Numbered X) → Type 0
 MayBe p None = Unit {0}
 MayBe p (Some u) = p ≡ u.1
@@ -25,7 +25,7 @@ abbrev pub IsNumber : {X : Type 0} → ℕ → Option (Numbered X) → Type 0
 IsNumber p None = ⊥
 IsNumber p (Some u) = p ≡ u.1
 
--- the party's view; a party that is new is idle
+-- the party's view; a new party has the idle view
 abbrev pub stands : {X : Type 0} → X → Option X → X
 stands idle None = idle
 stands idle (Some v) = v

@@ -1,5 +1,4 @@
--- A cell whose second word is a trace: what a step needs that changes a word and appends to the trace, and what it
--- tells.
+-- A cell whose `Second` is a trace. What a step must show that changes a word and appends to the trace, and what the step tells.
 use Rattle.std.specs.Prelude.{◌≡◌, ◌⊎◌, ℕ, ◌<◌, List, [], ◌++◌, Option}
 use mathlib.Core.List.{IsPrefix}
 use Rattle.spin_core.specs.declared.trace.Trace.{Trace}

@@ -45,7 +45,7 @@ pub trait Work {
     /// Does the work with a log that `H` names.
     ///
     /// # Contract
-    /// `asks` has to hold, and `H` has to name the log. `gives` holds of the answer.
+    /// `asks` has to hold of the work, and `H` has to name the log. The answer is one that `gives` allows.
     fn run<H: History + Send + Sync>(self, blank: BlankLog) -> Self::Answer
         requires asked { asks self }
         requires name { blank.name ≡ H.name }
@@ -63,7 +63,7 @@ fn open_by<K: Work, H: History + Send + Sync>(work: K, blank: BlankLog) -> K::An
 /// Names a new log, and does the work with it. Inside, the work may open another log.
 ///
 /// # Contract
-/// `asks` has to hold. `gives` holds of the answer.
+/// `asks` has to hold of the work. The answer is one that `gives` allows.
 ///
 /// # Examples
 /// ```

@@ -143,8 +143,8 @@ pub trait Work {
     /// Does the work with a tally that counts 0.
     ///
     /// # Contract
-    /// `asks` has to hold. The share has all `u64::MAX` parts of the ledger, and counts 0. `gives` holds of
-    /// the answer.
+    /// `asks` has to hold of the work. The share has all `u64::MAX` parts of the ledger, and counts 0. The
+    /// answer is one that `gives` allows.
     fn run<L: Ledger + Send + Sync>(self, tally: Tally<L>, all: Share<L>) -> Self::Answer
         requires asked { asks self }
         requires empty { tally.count ≡ 0 }
@@ -168,7 +168,7 @@ fn open_by<K: Work, L: Ledger + Send + Sync>(work: K, blank: Blank) -> K::Answer
 /// Names a new ledger, and does the work with a tally of it.
 ///
 /// # Contract
-/// `asks` has to hold. `gives` holds of the answer.
+/// `asks` has to hold of the work. The answer is one that `gives` allows.
 pub fn open<K: Work>(work: K) -> K::Answer
     requires asked { K.asks work }
     ensures { K.gives work result }

@@ -15,7 +15,7 @@ mod texts;
 /// A mutual exclusion lock on which a waiting thread spins.
 ///
 /// It contains a [`TicketMutex`], so threads are served in the order of their tickets. The contract does not
-/// say which lock it contains. A waiting thread passes the time with the strategy `R`.
+/// say which lock that is. A waiting thread passes the time with the strategy `R`.
 ///
 /// # Contract
 /// While a guard or a hold of the lock lives, no other call acquires the lock. A guard gives a value of `T`,
@@ -140,8 +140,8 @@ impl<T, R> Mutex<T, R> {
 
     /// Tries to acquire the mutex. Returns `None` at once if it is held.
     ///
-    /// It also returns `None` while another thread waits. The contract does not say which lock it contains,
-    /// so it allows `None` for a free mutex too.
+    /// It also returns `None` while another thread waits. The contract does not say which lock the mutex
+    /// contains, so it allows `None` for a free mutex too.
     ///
     /// # Contract
     /// A guard belongs to a holder of the lock (`holds`). After `None` nothing is promised. The call returns.

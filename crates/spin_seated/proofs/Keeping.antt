@@ -134,7 +134,7 @@ module _ {K S C A H : Type 0} (m : Machine K S C A H) where
         subst (λ (words : List ℕ). Steps words (told (slice_index words i))) (sym kept.words)
         (steps (told (slice_index (m.words now) i)) (owes kept.log kept.legal (still m tracked x kept.log own_fits.begins own_fits.own) (subst (λ (words : List ℕ). slice_index words i < 18446744073709551616) kept.words small)))
 
-  -- a step of a pass keeps the rule, if the lock shows what it must for it
+  -- a step of a pass keeps the rule, if the lock shows what `Owes` asks of that step
   pub allows : {X : Type 0} → IsTracked m → (k : K) (slots id : ℕ) (me : Me X (List (Known K C A))) (x : Known K C A) (i : ℕ) (f : ℕ → ℕ) (st : Step X) (told : ℕ → ℕ → Option (C × A))
       → me ≡ (x ∷ [], []) → x.opening ≡ k → Owes m x i f (told st.first) → Allows (OneHistory m k) slots id me i f (Tells m told st me)
   allows {X} tracked k slots id me x i f st told is opening owes =

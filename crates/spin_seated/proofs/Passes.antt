@@ -26,12 +26,12 @@ module _ {S C H : Type 0} (m : Machine Opening S C Answer H) where
     pub its_view : s.me ≡ (v.known ∷ [], [])
     its_view = one_seat o s is one ∙ ap (λ (u : Seated C). (u.known ∷ [], [])) seat_is
 
-    -- a step of the pass keeps the rule, if the lock shows what it must for it
+    -- a step of the pass keeps the rule, if the lock shows what `Owes` asks of that step
     pub allowed : IsTracked m → (k : Opening) (slots i : ℕ) (f : ℕ → ℕ) (st : Step ℕ) (told : ℕ → ℕ → Option (C × Answer)) → v.known.opening ≡ k → Owes m v.known i f (told st.first)
         → Allows (OneHistory m k) slots s.id s.me i f (Tells m told st s.me)
     allowed tracked k slots i f st told opening owes = allows m tracked k slots s.id s.me v.known i f st told its_view opening owes
 
-    -- what a step told, by the seat after it
+    -- a seat that satisfies `One` has exactly one pass, and P holds of it
     one_of : (P : Knows C → Type 0) (w : List (Knows C)) → One P w → (w ≡ first_of_view w ∷ []) × P (first_of_view w)
     one_of P [] h = absurd h
     one_of P (x ∷ []) h = (refl, h)

@@ -36,8 +36,8 @@ impl<C: Answers, A: Allocator, H: History> LoggedTable<C, A, H> {
     ///
     /// # Contract
     /// Afterwards `seen` has the whole log (`exact`). The answer is the one that the log has for the key
-    /// (`known`), and is right for this key (`may`). If `seen` had an answer for the key before, it is the
-    /// same (`same`). `seen` keeps all entries that it had (`later`).
+    /// (`known`), and is right for this key (`may`). If `seen` had an answer for the key before, the answer
+    /// is the same one (`same`). `seen` keeps all entries that it had (`later`).
     pub fn answer(
         &self,
         key: &C::Key,

@@ -47,7 +47,7 @@ into_inner_spec 𝓤 𝓛 𝓜 𝓡 wired X U P K S L _ _ _ LS g d _ =
     pass_all ! refl
     ((both (has_ty (layout X) vy) (has_ty (layout S) vz && true) fy.0 (fine_second vz fz), (tt, (record { fits = fits }, (fy.1, (fz.1, tt))))), tt) $
     sets ! (of_opd ! (get_in ! (fld ! refl (stop !)) (sub ! 2 refl (whole !)))) refl fy $ sets ! (of_opd ! (get_in ! (fld ! refl (stop !)) (sub ! 3 refl (whole !)))) refl fz $ sets ! (of_opd ! (get ! refl)) refl fz $
-    -- the second word is dropped, for its lifetime's token
+    -- the second word is dropped, which takes its lifetime's token
     let yc : Lets.Ghost = (((σ, tt), (q, tt), tt, (s.1, tt), (vz ∷ [], tt)), tt) in
     move ! (2 ∷ []) $ split3 ! $ move ! (2 ∷ []) $ split3 ! $ move ! (2 ∷ []) $ split ! $ nothing ! $ move ! (9 ∷ 0 ∷ []) $ join ! $ nothing ! $ move ! (8 ∷ 0 ∷ []) $ fjoin ! $
     move ! (2 ∷ 3 ∷ 0 ∷ 1 ∷ []) $ join ! $ join ! $ join ! $ use1 𝓛 (raw (Lets.pre yc)) (id⊢ 𝓤 _) $
