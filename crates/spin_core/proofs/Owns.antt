@@ -105,7 +105,7 @@ module _ {C V : Type 0} where
       made k (None ∷ us) o v back is r = made (suc k) us o v back (omega (arith, is)) r
       made k (Some u ∷ us) o v back is r = (on k u.1 (λ e. absurd (omega (arith, is, e))) r.0, made (suc k) us o v back (omega (arith, is)) r.1)
 
--- A step
+-- A step of one party.
 
 module _ {W V C L A X S : Type 0} (m : Machine W V C L A) (seat_of : X → Seat C L) (words_of : W → ℕ × S) where
   abbrev Schedule : Type 0

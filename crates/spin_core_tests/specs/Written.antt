@@ -16,7 +16,7 @@ module _ {X : Type 0} where
   abbrev pub LastIs : List X → X → Type 0
   LastIs log x = (v : X) × (latest v log ≡ x)
 
-  -- this value was left last
+  -- x is the last value in the log
   abbrev pub WroteLast : List X → X → Type 0
   WroteLast log x = (before : List X) × (log ≡ before ++ x ∷ [])
 

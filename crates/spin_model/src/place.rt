@@ -2,15 +2,15 @@
 /// What a party holds.
 #[derive(Copy)]
 pub enum Hold {
-    /// Shared access. It may read the value.
+    /// Shared access. The party may read the value.
     Read,
-    /// Shared access that may become exclusive. It may read the value.
+    /// Shared access that may become exclusive. The party may read the value.
     Upgradable,
-    /// Exclusive access. It may read and write the value.
+    /// Exclusive access. The party may read and write the value.
     Write,
-    /// A ticket that has entered, by its number. It may read and write the value.
+    /// A ticket with this number, which has entered. The party may read and write the value.
     Ticket(u64),
-    /// A registration as a starver. It may neither read nor write the value.
+    /// A registration as a starver. The party may neither read nor write the value.
     Starver,
 }
 

@@ -33,7 +33,7 @@ MayCall TryLock held = Unit {0}
 MayCall IsLocked held = Unit {0}
 MayCall c held = held ≡ true
 
--- the value that a call writes; the value that a call reads
+-- the value that a call writes; below, the value that a call reads
 abbrev pub written : Call → Option ℕ
 written (Write w) = Some w
 written _ = None

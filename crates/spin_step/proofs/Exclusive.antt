@@ -10,9 +10,9 @@ pub empty_is : {X : Type 0} (xs : List X) → is_empty xs ≡ true → xs ≡ []
 empty_is [] e = refl
 empty_is (x ∷ xs) e = absurd cc
 
--- What follows from a step's being open.
+-- What follows if a step is open.
 
--- what must hold of the lists where a party gets something
+-- what must hold of the lists before a party gets what it asks
 abbrev pub Lets : Plain → ℕ → Effect → Type 0
 Lets s p (comes k) = (is_empty s.holders ≡ true) ⊎ (may_come k s ≡ true)
 Lets s p (becomes j k) = is_only p j s.holders ≡ true
@@ -24,7 +24,7 @@ Lets s p runs = is_nothing s.phase ≡ true
 pub lets : (s : Plain) (p : ℕ) (ask : Ask) → is_open_to s p ask ≡ true → Lets s p (effect ask)
 lets s p ask may = grind arith
 
--- a newcomer may hold exactly if all holders admit it and the cap is not reached
+-- if the lock has room for a newcomer, all holders admit it and the cap is not reached
 pub room_to_come : (k : Kind) (s : Plain) → may_come k s ≡ true → (count_against k s.holders ≡ 0) × (length s.holders < s.cap)
 room_to_come k s may = grind arith
 

@@ -7,8 +7,7 @@ abbrev pub bit : Bool → ℕ
 bit true = 1
 bit false = 0
 
--- The step function, on a word that encodes the state s. If the step c is not open, it returns none. If c is open, it returns the word of
--- the next state.
+-- What a step function returns for a word that encodes the state s: none if the step c is not open, otherwise the word of the next state.
 abbrev pub Decides : Plain → Change → (Plain → ℕ) → Option ℕ → Type 0
 Decides s c word None = is_open s c ≡ false
 Decides s c word (Some w) = (is_open s c ≡ true) × (w ≡ word (apply s c))

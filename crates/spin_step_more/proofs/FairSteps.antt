@@ -13,7 +13,7 @@ use Rattle.spin_step.proofs.Starvers.{length-without_starver}
 pub flag_is : (s : Plain) (w : ℕ) → OneHolds s → fair_word s ≡ w → (length s.holders ≡ w % 2) × (length s.starvers ≡ w / 2)
 flag_is s w one is = (omega (arith, one, is), omega (arith, one, is))
 
--- the step functions
+-- The step functions.
 
 pub fair_lock-grants : (s : Plain) (p w : ℕ) → fair_word s ≡ w → Decides s (gets p to_lock_unregistered) fair_word (lock w)
 fair_lock-grants s p w is = grind (arith, length-append)

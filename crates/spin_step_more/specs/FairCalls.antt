@@ -28,7 +28,7 @@ starts_at StarverTryLock = SetFlag
 starts_at StarverLock = SetFlag
 starts_at _ = First
 
--- how a call goes on after a step: its next point or its answer
+-- How a call goes on after a step: its next point or its answer.
 
 abbrev pub granted : {V : Type 0} → Next FairPoint (Answer V)
 granted = Answers Granted (Some Write)

@@ -120,7 +120,7 @@ header_takes (w ∷ ws) h is =
     chosen (bytes_eq w (codes "barrier")) _ _ h (IsHeader w ws h) (barrier_takes w ws h) (λ _.
     chosen (bytes_eq w (codes "once")) _ _ h (IsHeader w ws h) (once_takes w ws h) (λ _ none. absurd (cc))))))) is
 
--- a number that is spelled in decimal is read, and reading goes on behind it
+-- Reading goes on behind a number that is spelled in decimal.
 
 number_then : (n : ℕ) (ws : List (List ℕ)) (k : ℕ × List (List ℕ) → Option Header) → n < 2 ^ 64 → (number_at (decimal n ∷ ws) >>= k) ≡ k (n, ws)
 number_then n ws k fits = ap (λ o. o >>= k) (number_at_again n ws fits)
@@ -145,7 +145,7 @@ header_again (Fair value cap spins parties) fits =
 header_again (Barrier n parties) fits = number_then n _ _ fits.0 ∙ parties_then parties (Barrier n) fits.1
 header_again (Once parties) fits = parties_then parties Once fits
 
--- how the calls in the lines after a header are read
+-- How the calls in the lines after a header are read.
 
 abbrev pub read_of : (h : Header) → List (List ℕ) → Option (CallOf h)
 read_of (Flag value parties) = read_flag_call

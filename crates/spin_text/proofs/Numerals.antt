@@ -140,7 +140,7 @@ pub number_at_again : (n : ℕ) (ws : List (List ℕ)) → n < 2 ^ 64 → number
 unfolding number_at
 number_at_again n ws fits = ap (λ o. o >>= λ k. Some (k, ws)) (read_number_some (decimal n) n fits refl)
 
--- the same for a number that is the only word
+-- A number that is the only word of a line.
 
 pub last_number_takes : (ws : List (List ℕ)) (n : ℕ) → last_number ws ≡ Some n → (n < 2 ^ 64) × (ws ≡ decimal n ∷ [])
 unfolding last_number

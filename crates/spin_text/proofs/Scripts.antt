@@ -135,7 +135,7 @@ entry_stops h es line fits each none =
     ap (λ o. o >>= λ k. (read_entries (read_of k) rest >>= λ xs. Some (record { header = k; entries = xs }))) (header_again h fits)
     ∙ ap (λ o. o >>= λ xs. Some (record { header = h; entries = xs })) (entries_stop (calls_of h) (read_of h) (reads_of h) es line each none)
 
--- of a list in two parts: the elements of the first part
+-- The first elements of a list that is given in two parts.
 
 take_all_before : {X : Type 0} → (xs : List X) (y : X) (ys : List X) → take (length xs) (xs ++ (y ∷ ys)) ≡ xs
 take_all_before [] y ys = refl
@@ -181,7 +181,7 @@ pub whole_text : {W L : Type 0} → (bytes : List ℕ) (h : Header) (rest : List
 whole_text bytes h rest m parties text fits is same plays =
     (record { header = h; entries = plays.0 }, record { fits = (fits, plays.1); words = is ∙ ap (λ r. header_words h ∷ r) plays.2 }, plays.3 ∙ same plays.0)
 
--- the same for the error of a call that writes
+-- The same for the error of a call that writes.
 
 stops_so : (B C : RunError → Type 0) (U P Q : Type 0) → ((e : RunError) → B e → C e) → (P → Q) → (e : RunError) → StopsWriting B U P e → StopsWriting C U Q e
 stops_so B C U P Q before at_write errors.Read stops = (before errors.Read stops.0, stops.1)

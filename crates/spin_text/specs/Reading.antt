@@ -119,7 +119,7 @@ named (row ∷ rows) w = if bytes_eq w row.0 then Some row.1 else named rows w
 unfoldable pub only_named : {C : Type 0} → List (List ℕ × C) → List (List ℕ) → Option C
 only_named rows ws = last_word ws >>= named rows
 
--- how the calls of each object are read
+-- How the calls of each object are read.
 
 unfoldable pub read_flag_call : List (List ℕ) → Option FlagCall
 read_flag_call ws = only_named (by_word FLAG_CALLS) ws

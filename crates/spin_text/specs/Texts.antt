@@ -92,7 +92,7 @@ Stops t Unwritten errors.Write =
     (t.source_failed ≡ false) × (t.sink_failed ≡ true)
     × ((bytes : List ℕ) × (text : List ℕ) × ReadsAll t.left t.left_after bytes × PlaysBytes bytes text × AppendsBeginning t.written t.written_after text)
 
--- why the reading part of a call stopped
+-- Why the reading part of a call stopped, or the playing part.
 
 abbrev pub StopsReading : Bool → Bool → RunError → Type 0
 StopsReading failed failed_after errors.Read = failed_after ≡ true
