@@ -80,7 +80,7 @@ module _ {W V C L A : Type 0} (m : Machine W V C L A) where
     same_number p q None is may = absurd is
     same_number p q (Some u) is may = may ∙ sym is
 
-    -- a party that follows the course P and then the course Q follows a course that contains their joined moves
+    -- if R accepts moves of P followed by moves of Q, a party that follows P and then Q follows R
     pub made_both : (u v w : Option (Numbered X)) (a b c : Schedule) (P Q R : Course V C A) → ((own own' : List (Move C V)) (outs outs' : List (Outcome A V)) → P own outs → Q own' outs' → R (own ++ own') (outs ++ outs'))
         → Made m u a v b P → Made m v b w c Q → Made m u a w c R
     made_both u v w a b c P Q R joins (p, may, is, own, outs, did, so) (q, may', is', own', outs', did', so') =

@@ -18,7 +18,7 @@ use Rattle.spin_model.specs.Schedules.{Entry}
 
 module _ {K W V C L A X S : Type 0} (model : K → Machine W V C L A) (seat_of : X → Seat C L) (words_of : W → ℕ × S) (p q : Spot K X (Entry C V))
     (same : q.0 ≡ p.0) (knew : mark_of p.1 ≡ length p.2.entries) where
-  -- the play of the step says this of its moves
+  -- what a step did, by what its play says of it
   pub took : {named : Type 0} → named → (found : ℕ) (says : Says V C A X) (to : ℕ → X) (course : ℕ → Course V C A)
       → ((own : List (Move C V)) (outs : List (Outcome A V)) (n : ℕ) (v : X) → says own outs n v → (v ≡ to n) × course n own outs)
       → Moved (Watches named p.2 q.2 (Tells (model p.0) seat_of words_of says p.1) found) q.1 → Since model (course found) p q × (what q.1 ≡ Some (to found))
@@ -31,7 +31,7 @@ module _ {K W V C L A X S : Type 0} (model : K → Machine W V C L A) (seat_of :
       → Stepped model goes_on c (end found) (to found) p q
   stepped is_named found goes_on c end to = took is_named found (step_by goes_on c end to) to (λ n. IsStep goes_on c (end n)) (λ own outs n v said. said)
 
--- One step of a call after another
+-- The steps of a call, one after another.
 module _ {K W V C L A X : Type 0} (model : K → Machine W V C L A) (c : C) (p q : Spot K X (Entry C V)) where
   -- a step that begins the call and answers it at once
   pub in_one : (a : A) → Since model (IsStep false c (Answered a None)) p q → HasCalled model c a p q

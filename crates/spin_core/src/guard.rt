@@ -21,7 +21,7 @@ pub trait Uses<V> {
 /// The rule of a lock whose writer can release it. Each lock with a [`Guard`] implements it.
 ///
 /// # Contract
-/// The uses of `Uses` are those of the rule (`same`).
+/// `use_at` agrees with the rule's own uses (`same`).
 pub trait Release<T, V>: Rule<T, V> + Uses<V> {
     /// Releases the lock of a party that writes.
     ///

@@ -108,7 +108,7 @@ pub trait RelaxStrategy {
     /// other is fastest when few of them load its word.
     ///
     /// # Contract
-    /// That of `retry`.
+    /// Like that of `retry`.
     #[cold]
     #[inline(never)]
     final fn back_off<S, A, F: Fn(S) -> Result<A, S>, W: Wait>(rt: &W, state: S, attempt: F) -> A

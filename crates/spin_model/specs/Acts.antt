@@ -53,14 +53,14 @@ pub data Act (W L A : Type 0) : Type 0 where
   exchange : Operation → (ℕ → Change) → Next L A → (ℕ → Next L A) → Act W L A
   -- an exchange that expects this number; the step function gives the new one. It may fail spuriously
   weak_exchange : ℕ → (ℕ → Option ℕ) → (ℕ → Change) → Next L A → Next L A → Act W L A
-  -- an exchange that never fails spuriously; from its failure nothing follows
+  -- an exchange that never fails spuriously; its failure says nothing of the plain step
   attempt : ℕ → (ℕ → Option ℕ) → (ℕ → Change) → Next L A → Next L A → Act W L A
   -- an exchange on the first word that expects the number found before; if it fails, the number found now decides how the call goes on
   retry : ℕ → (ℕ → Option ℕ) → (ℕ → Change) → Next L A → (ℕ → Next L A) → Next L A → Act W L A
   -- an operation that always succeeds; it is possible only if the number passes the test
   store : (ℕ → Bool) → Operation → (ℕ → Change) → Next L A → Act W L A
-  -- A section on all words, which is not one operation. It is possible only if the words pass the test. It gives new words, or none; then
-  -- the plain step is closed.
+  -- A section on all words, which is not one operation. It is possible only if the words pass the test. If it gives no new words, the plain
+  -- step is closed.
   section : (W → Bool) → (W → Option W) → (ℕ → Change) → (W → Next L A) → (W → Next L A) → Act W L A
 
 -- The outcome of a step.

@@ -46,7 +46,7 @@ pub record Mark : Type 0 where
   pub before : Plain
   pub after : Plain
 
--- P holds of one of these
+-- P holds of some element of the list
 abbrev pub AnyOf : {X : Type 0} → (X → Type 0) → List X → Type 0
 AnyOf P [] = ⊥
 AnyOf P (x ∷ xs) = P x ⊎ AnyOf P xs

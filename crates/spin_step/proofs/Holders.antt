@@ -18,7 +18,7 @@ is_holder-from_entries p k (h ∷ hs) e = grind (arith, is_holder-from_entries p
 pub length-held : (p : ℕ) (k : Kind) (hs : List Holder) → filter (λ h. h.party == p) hs ≡ holder p k ∷ [] → 1 ≤ length hs
 length-held p k hs e = omega (arith, ap length e, length-filter (λ (h : Holder). h.party == p) hs, count_by-le-length (λ (h : Holder). h.party == p) hs)
 
--- a list is empty if it has no elements
+-- a list of length 0 is empty
 pub is_empty-none : {X : Type 0} (xs : List X) → 0 ≡ length xs → is_empty xs ≡ true
 is_empty-none xs e = grind arith
 

@@ -50,7 +50,7 @@ pub fn serve(ticket: u64) -> u64
 /// Returns `true` if the thread with `ticket` may enter while `serving` is served.
 ///
 /// # Contract
-/// The answer is exact: it is `true` exactly if the plain lock lets the thread enter (`IsTurn`).
+/// The answer is `true` exactly if the plain lock lets the thread enter (`IsTurn`).
 #[tactic(auto, using(crate::proofs::Tickets::enters_in_turn))]
 pub fn is_turn(serving: u64, ticket: u64) -> bool
     ensures exact { result ≡ (serving == ticket) }

@@ -47,9 +47,9 @@ impl State {
     /// Counts one more arrival. Returns `true` if this arrival leads its group, that is, fills it.
     ///
     /// # Contract
-    /// The state and the answer are exact. If the old state is that of a plain barrier, the new state is that
-    /// of the same barrier after one more arrival (`IsBarrier`). The plain barrier gives the same answer
-    /// (`is_leading`).
+    /// The new state and the answer are those that `arrived` gives. If the old state is that of a plain
+    /// barrier, the new state is that of the same barrier after one more arrival (`IsBarrier`). The plain
+    /// barrier gives the same answer (`is_leading`).
     pub fn arrive(&mut self) -> bool
         ensures n { self.new.n ≡ self.old.n }
         ensures exact { ((self.new.count, self.new.generation), result) ≡ arrived self.old.n self.old.count self.old.generation }
@@ -102,8 +102,7 @@ pub fn arrive(state: State) -> (State, bool)
 /// groups are full, it may not leave until one more is.
 ///
 /// # Contract
-/// The answer is exact, and the plain barrier gives the same one. If a thread that does not lead gets `true`,
-/// its group is full.
+/// The plain barrier gives the same answer. If a thread that does not lead gets `true`, its group is full.
 #[tactic(auto, using(crate::proofs::Barriers::leaving))]
 pub fn may_leave(state: State, generation: usize) -> bool
     ensures exact { result ≡ not (state.generation == generation) }

@@ -99,7 +99,7 @@ impl<O: Opening, A: Allocator> Accounts<O, A> {
     /// Returns the balance of an account, or `None` if it does not exist.
     ///
     /// # Contract
-    /// The answer is exact.
+    /// The answer is the account's present balance.
     pub fn balance(&self, account: usize) -> Option<u64>
         ensures { result ≡ slice_get self.now.balances.items account }
     {

@@ -30,7 +30,7 @@ impl<C: Answers, A: Allocator> Table<C, A> {
     /// Returns the answer for `key`, or `None` if none was made.
     ///
     /// # Contract
-    /// The answer is exact, and right for this key (`may`).
+    /// The answer is the one in the table (`exact`), and is right for this key (`may`).
     pub fn answer(&self, key: &C::Key) -> Option<&C::Value>
         ensures exact { option_copied result ≡ get C.Key.eq self.now.map key.now }
         ensures may { IfSome result (λ value. IsTrue (C.may key.now value.now)) }
