@@ -176,7 +176,7 @@ module _ {X V S : Type 0} (holds : ℕ → S → List V → Type 0) (ways : Ways
   abbrev pub Meets : ℕ → S → List V → Type 0
   Meets n m vs = holds n m vs × Limits ways.0 (readers_of ways.1 vs) (writers_of ways.1 vs)
 
-  -- with these words and this value the rule holds of some views, within the limits; what is known of the value holds too
+  -- The rule holds of these words and of some views, within the limits. What is known of the value holds too.
   abbrev pub Starts : ℕ → S → X → Type 0
   Starts n m x = (vs : List V) × Meets n m vs × Knowing ways.2 m (writers_of ways.1 vs) x (Fixed ways.0 (readers_of ways.1 vs) (writers_of ways.1 vs) x)
 

@@ -82,11 +82,11 @@ pub data Limit : Type 0 where
   -- After this many steps, and one more for each change by others, a call that waits has got what it asks here, or has found it closed.
   gets_within : Ask → ℕ → Limit
   changes_within : ℕ → Limit  -- after this many steps a call that waits has made a plain step
-  -- Take a call that waits, and a look of it that finds the lock held after the first number of such looks. Within the second number of
-  -- steps from there, and one more for each change by others, the call registers as a starver or finds the cap.
+  -- `registers_after n m`: a call that waits has looked n times and found the lock held. If it then looks again and finds the lock held, it
+  -- registers as a starver, or finds the cap, within m steps from there and one more for each change by others.
   registers_after : ℕ → ℕ → Limit
 
--- The plain steps by which a party gets what it asks. To enter it first takes a ticket. To upgrade by a waiting call it first asks to. A
+-- The plain steps by which a party gets what it asks. To enter it first takes a ticket. A call that waits to upgrade first asks to. A
 -- starver that gets the lock then stops starving.
 abbrev pub grant : ℕ → Ask → List Change
 grant p to_upgrade_asked = turns p upgradable asking ∷ gets p to_upgrade_asked ∷ []

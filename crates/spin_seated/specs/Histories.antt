@@ -112,7 +112,7 @@ module _ {K S C A H : Type 0} (m : Machine K S C A H) where
     pub own : calls_by x.pass log ≡ calls_by x.pass x.seen
     pub legal : IsLegal x.opening log
 
-  -- what the pass knows agrees with the history of all calls: it is a beginning with all calls of the pass
+  -- What the pass knows agrees with the history of all calls: it is a beginning of that history, and has all calls of the pass.
   pub record Fits (k : K) (log : List (Entry C A)) (x : Known K C A) : Type 0 where
     pub opening : x.opening ≡ k
     pub given : x.pass < m.passes k

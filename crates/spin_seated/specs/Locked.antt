@@ -29,8 +29,8 @@ all_written written log = flat_map (λ e. option_to_list (written e.call)) log
 abbrev pub all_read : {C A : Type 0} → (C → A → Option ℕ) → List (Entry C A) → List ℕ
 all_read read log = flat_map (λ e. option_to_list (read e.call e.answer)) log
 
--- A value becomes each of `values` in turn, and a reader looks now and then. It may see the values `seen`: none is older than one seen
--- before.
+-- A value becomes each of `values` in turn, and a reader looks now and then. The reader may see the values `seen`: none is older than one
+-- seen before.
 pub data InOrderOf : List ℕ → List ℕ → Type 0 where
   done : {values : List ℕ} → InOrderOf values []
   looks : {value : ℕ} {values seen : List ℕ} → InOrderOf (value ∷ values) seen → InOrderOf (value ∷ values) (value ∷ seen)

@@ -48,7 +48,7 @@ module _ (n name : ℕ) (seen : Watch rule.Done) (same : name ≡ seen.name) whe
     abbrev Steps : Bool → SeatsCall → Ending → View → Type 0
     Steps goes_on c end to = core.Stepped model goes_on c end to (n, view, seen) (n, now.0, now.1)
 
-    -- what a step tells whose play says this, and perhaps more
+    -- what a step tells if its play says this, and perhaps more
     means : (says : Says) (goes_on : Bool) (c : SeatsCall) (end : ℕ → Ending) (to : ℕ → View) → ((own : List OneMove) (outs : List Ending) (i : ℕ) (v : View) → says own outs i v → step_by goes_on c end to own outs i v) → Tells says → Steps goes_on c (end found) (to found)
     means says goes_on c end to so =
         spots.took model seat_of words_of (n, view, seen) (n, now.0, now.1) refl knew named found says to (λ w. IsStep goes_on c (end w)) so

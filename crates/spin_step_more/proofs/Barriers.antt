@@ -7,7 +7,7 @@ use Rattle.std.proofs.Math.Nat.{mod-lt, mod-eq_of_lt, mul-add-mod_self_right, su
 use Rattle.spin_step.specs.Plain.{Plain, arrives, apply}
 use Rattle.spin_step.specs.Barriers.{IsBarrier, arrived, is_leading, filled_by, generation_at, may_leave}
 
--- quotient and remainder, from the sum that they make
+-- if n is q * g + r, and r is below g, then q is the quotient of n by g, and r the remainder
 parts : (n q g r : ℕ) → n ≡ q * g + r → r < g → (n / g ≡ q) × (n % g ≡ r)
 parts n q g r sum less = (ap (λ j. j / g) sum ∙ div-mul-add q g r less, ap (λ j. j % g) sum ∙ (mul-add-mod_self_right q g r ∙ mod-eq_of_lt less))
 
