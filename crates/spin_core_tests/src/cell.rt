@@ -11,7 +11,7 @@ pub enum Bystander {
     Stands,
 }
 
-/// The rule allows any words and any entries. It fixes only the trace's name.
+/// A rule that allows any words and any entries. It fixes only the trace's name.
 pub struct AnyWords;
 
 impl Rule<u64, Bystander> for AnyWords {

@@ -1,5 +1,5 @@
 //! The calls of the lock of one flag, and their points. Begin with [`FlagCall`].
-/// A call of a `Flag`. Each call asks what its comment says: `Flag::new` of `spin_world` promises that.
+/// A call of a `Flag`. `Flag::new` of `spin_world` promises that each call does what its comment says.
 #[derive(Copy)]
 pub enum FlagCall {
     /// Acquires the lock, in as many steps as it needs.

@@ -1,5 +1,6 @@
 //! The calls of a `Once`, and their points. Begin with [`OnceCall`].
-/// A call of a `OnceObject`. `OnceObject::new` of `spin_world` promises that each call asks what is said here.
+/// A call of a `OnceObject`. `OnceObject::new` of `spin_world` promises that each call does what its comment
+/// says.
 ///
 /// A call with a closure answers the value if there is one. If there is none, the call runs its closure.
 /// While another closure runs, the call waits.

@@ -8,10 +8,10 @@ pub struct TicketWords {
     pub serving: u64,
 }
 
-/// A call of a `Ticket`. `Ticket::new` of `spin_world` promises that each call asks what is said here.
+/// A call of a `Ticket`. `Ticket::new` of `spin_world` promises that each call does what its comment says.
 #[derive(Copy)]
 pub enum TicketCall {
-    /// Takes a ticket, in as many steps as it takes, and then waits until the ticket is served. If no number
+    /// Takes a ticket, in as many steps as it needs, and then waits until the ticket is served. If no number
     /// is left, it looks for ever.
     Lock,
     /// Tries to acquire the lock without waiting. It fails only if some party had a ticket at some moment of

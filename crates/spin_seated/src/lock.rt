@@ -49,7 +49,7 @@ pub trait Calls {
     fn nothing() -> Self::Hold
         ensures { (k : Opening) (p : ℕ) → machine.holds p (machine.start k) ≡ result };
 
-    /// Does nothing: a caller learns the contract.
+    /// Does nothing. A caller calls it to learn its contract.
     ///
     /// # Contract
     /// The machine is that of a lock (`IsLock`).

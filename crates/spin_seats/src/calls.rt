@@ -8,7 +8,7 @@ use std::alloc::AllocError;
 pub enum SeatsCall {
     /// Tries to take a seat. It fails only if all seats were taken at some moment of the call.
     TryEnter,
-    /// Takes a seat, in as many steps as it takes.
+    /// Takes a seat, in as many steps as it needs.
     Enter,
     /// Counts the seats that are taken.
     Count,

@@ -174,8 +174,8 @@ fn play<K: Sink>(alloc: Global, bytes: &[u8], output: &mut K) -> Result<(), RunE
 /// number is decimal digits without a sign and without leading zeros, at most `u64::MAX`. Parties are
 /// numbered from 0. If a line names a party that does not exist, its move is skipped.
 ///
-/// It writes a line `LINE PARTY OUTCOME: WORDS` for each move, and finally `end: WORDS value VALUE`. An answer ends
-/// with ` from LINE`, the line at which its call began.
+/// The call writes a line `LINE PARTY OUTCOME: WORDS` for each move, and finally `end: WORDS value VALUE`. An
+/// answer ends with ` from LINE`, the line at which its call began.
 ///
 /// # Contract
 /// The caller gives streams that have not failed. On `Ok` neither stream has failed, and the source is at its
