@@ -1,10 +1,10 @@
-//! One raw cell under all locks: one word or two and a value, under a rule over plain data. Begin with [`Rule`], and
+//! The raw cell under all locks: one word or two, and a value, under a rule over plain data. Begin with [`Rule`], and
 //! with [`Cell::enter`] and [`Permit::load`].
 //!
-//! A lock says what each of its parties is to it (a *view*). Its rule says what holds of the words and of all views
-//! between any two steps. For each kind of step the lock shows one fact about plain data: the step keeps the rule.
-//! Steps are methods of a permit. Each appends to the cell's trace ([`crate::trace`]), and tells its caller what it
-//! appended.
+//! Each party of a lock has a *view*: what the party is to the lock. The lock's *rule* says what holds of the words
+//! and of all views between any two steps. For each kind of step the lock shows one fact about plain data: the step
+//! keeps the rule. Steps are methods of a permit. Each step appends to the cell's trace ([`crate::trace`]), and tells
+//! its caller what it appended.
 ghost use Rattle.std.specs.Prelude.{◌≡◌, ◌≢◌, ◌⊎◌, ℕ, List, [], Option};
 ghost use Rattle.std.specs.Coded.{coded_option};
 ghost use Rattle.spin_core.specs.Cell.{Ways, off, reads, writes, use_of, Opens, Fixes, Frees, Freeing, Lends, Seen, Rests};

@@ -53,7 +53,7 @@ pub struct Guard<'a, T, V, P: Release<T, V>, R> {
 /// lock.
 ///
 /// # Contract
-/// Its party still writes the value (`holding`). `held_value` is the value that the guard had.
+/// The party of the hold still writes the value (`holding`). `held_value` is the value that the guard had.
 #[must_use = "dropping a hold does not release the lock: pass it to `force_unlock`"]
 pub struct Held<'a, T, V, P: Release<T, V>, R> {
     permit: Permit<'a, T, V, P>,

@@ -175,7 +175,7 @@ impl RelaxStrategy for Loop {
     }
 }
 
-/// Names the strategy of a lock. It has no value of type `R`, so a lock can be sent whatever `R` is.
+/// Names the strategy of a lock. It contains no value of type `R`, so a lock may be `Send` whatever `R` is.
 #[derive(Drop)]
 pub struct Strategy<R> {
     name: PhantomData<R>,

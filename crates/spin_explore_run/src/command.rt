@@ -63,8 +63,8 @@ fn run<I: Source, O: Sink>(
 ///
 /// - 0: what was asked for is written (`Does`). No run can get stuck, or a schedule was asked for.
 /// - 3: what was asked for is written (`Does`), and some run can get stuck.
-/// - 1: memory was refused, a read or a write failed, or there are more states than the limit. Only a failed write
-///   leaves a beginning of the text on `output`.
+/// - 1: an allocation, a read or a write failed, or there are more states than the limit. Only a failed write leaves
+///   a beginning of the text on `output`.
 /// - 2: the words are no command, a line of the text is wrong, or there is no such outcome.
 ///
 /// Status 1 or 2 is that of a fault (`status_of`). The run stopped as the fault says (`StopsProgram`), and

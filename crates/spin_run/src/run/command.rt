@@ -119,7 +119,7 @@ fn run<I: Source, O: Sink, R: AllocGlobal + Threads + Wait + Sync, A: Allocator>
 /// The caller gives streams that have not failed. The status is one of these:
 ///
 /// - 0: the run did what the words ask for, no read or write failed, and `errors` is unchanged (`Does`).
-/// - 1: a thread or memory was refused, or a read or a write failed. Only a failed write leaves a beginning of the
+/// - 1: starting a thread failed, or an allocation, a read or a write. Only a failed write leaves a beginning of the
 ///   text on `output`.
 /// - 2: the words are no command, or a line of the schedule is wrong. Then `output` is unchanged.
 ///
