@@ -49,7 +49,7 @@ module _ {X : Type 0} where
   none_else : (u : Use) (way : Way X) (r w : ℕ) → u ≢ off → Lim way r w u → w ≡ 0
   none_else u way r w on lim = grind arith
 
-  -- how many readers there are when a party takes its part; in the way `fixes` a reader takes its part from another reader, or from itself
+  -- how many readers there are when a party takes its part; in the way `fixes` a reader takes its part from a part of another reader
   abbrev room : Way X → Use → ℕ → ℕ
   room (fixes facts) reads r = suc r
   room _ u r = r

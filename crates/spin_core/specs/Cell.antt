@@ -114,9 +114,8 @@ module _ {X : Type 0} where
   Carries φ ψ writes _ (Some x) = ψ x
   Carries φ ψ _ _ shown = (x : X) → φ x → ψ x
 
-  -- What a step tells its party of the value shown before it and after it. A party that begins to use the value, reads on, or stops writing
-  -- to read learns ψ of the value after the step. A party that stops using the value learns ψ of the value before the step. A party that
-  -- writes on learns nothing.
+  -- What a step tells its party of the value shown before it and after it. A party that writes on learns nothing. A party that stops using
+  -- the value learns ψ of the value before the step. Any other party learns ψ of the value after the step, if it is shown one.
   abbrev pub Learns : (X → Type 0) → Use → Use → Option X → Option X → Type 0
   Learns ψ writes writes before after = Unit {0}
   Learns ψ off v before (Some x) = ψ x

@@ -88,7 +88,7 @@ impl<E> Watch<E> {
         }
     }
 
-    /// Compares what two watches know of one trace. It compiles to nothing.
+    /// Compares what two watches know of one trace. It does nothing at run time.
     ///
     /// # Contract
     /// The entries known to one of the watches are a prefix of those known to the other.

@@ -49,7 +49,7 @@ pub data Act (W L A : Type 0) : Type 0 where
   load_for : (ℕ → Option ℕ) → (ℕ → Change) → (ℕ → Next L A) → Next L A → Act W L A
   -- a load; if the number passes the test, the party makes the plain step, and otherwise the plain step is closed
   enter : (ℕ → Bool) → (ℕ → Change) → Next L A → Next L A → Act W L A
-  -- an operation; if it does not find the number that it expects, the plain step is closed
+  -- an operation that may fail; if it fails, the plain step is closed
   exchange : Operation → (ℕ → Change) → Next L A → (ℕ → Next L A) → Act W L A
   -- an exchange that expects this number; the step function gives the new one. It may fail spuriously
   weak_exchange : ℕ → (ℕ → Option ℕ) → (ℕ → Change) → Next L A → Next L A → Act W L A

@@ -184,8 +184,7 @@ waits_to_enter =
       undisturbed_steps = 4;
     }
 
--- The call asks to upgrade by its first step, and then upgrades by a weak exchange. Before the exchange succeeds it has made only the first
--- of these plain steps.
+-- The call asks to upgrade by its first step, and then upgrades by a weak exchange. Its asking is the only plain step before that exchange.
 abbrev pub waits_to_upgrade : Asked
 waits_to_upgrade =
     record (waits to_upgrade_asked) {

@@ -38,8 +38,8 @@ pub enum FairPoint {
     First,
     /// `Lock` tries to set the flag, after this many looks that found it set.
     Attempt(usize),
-    /// `Lock` looks at the flag, after this many looks that found it set. The count stops once it exceeds the
-    /// patience.
+    /// `Lock` looks at the flag, after this many looks that found it set. The count stops at the patience of
+    /// the lock.
     Look(usize),
     /// `Lock` or `Starve` loads the word before it registers.
     Load,

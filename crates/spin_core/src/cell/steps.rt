@@ -35,7 +35,7 @@ pub trait Play<K, V, E> {
 ///
 /// The rule may know a fact of a value that nobody writes. Then the step has to keep this fact (`Carrying`).
 /// A party that stops writing has to show the fact of the value that it leaves. A party that begins to use
-/// the value, reads on or stops reading learns the fact of its value (`Found`).
+/// the value, reads on or stops using it learns the fact of its value (`Found`).
 impl<'a, T, V, E, S, P: Rule<T, V, Second = Trace<E, S>>> Permit<'a, T, V, P> {
     /// Loads the first word.
     pub fn load<M: Play<P::Key, V, E>>(self, seen: Watch<E>) -> (u64, Permit<'a, T, V, P>, Watch<E>)

@@ -120,7 +120,7 @@ impl<'a, const N: usize> Pass<'a, N> {
         Trying { word, account }
     }
 
-    /// Compares what two passes of one lock know. It compiles to nothing.
+    /// Compares what two passes of one lock know. It does nothing at run time.
     ///
     /// # Contract
     /// What one of them knows is a prefix of the history that the other knows.
