@@ -163,7 +163,7 @@ pub record Asked : Type 0 where
   -- own, its party, and the plain lock.
   pub is_open_next : Bool → ℕ → ℕ → Plain → Bool
   pub undisturbed_steps : ℕ  -- once this is open, it takes at most so many own steps if no other party disturbs it
-  -- what a call asks next that waits for its turn without a look, by the plain steps that it has made
+  -- what a call that waits for its turn without a look asks next, by the plain steps that it has made
   pub goes_for : List Change → Option Ask
   pub may_register : List Change → Bool  -- after these plain steps, while its turn has not come, it may register as a starver in place of a look
   pub is_weak : Bool  -- it makes weak exchanges, which may fail spuriously

@@ -12,7 +12,7 @@ impl<C: Calls, A: Allocator> SeatedLock<C, A> {
     ///
     /// # Contract
     /// There has to be at least one pass. The lock opens with this value and this number of passes. The
-    /// result has all its passes, and none of them has made a call.
+    /// result has the lock and all its passes, none of which has made a call.
     pub fn new(
         alloc: A,
         value: u64,
