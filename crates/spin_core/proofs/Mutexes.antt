@@ -24,7 +24,7 @@ use Rattle.spin_model.specs.declared.schedule.Outcome.TheVariants.{Answered}
 use Rattle.spin_model.specs.Machines.{Machine}
 use Rattle.spin_model.specs.Schedules.{Entry}
 
--- a function that treats the idle view like no view treats each party that is out like a new one
+-- if f has the same value at the idle view as without a view, it has the same value for each party that is out as for a new one
 pub as_new : {X Y : Type 0} (idle : X) (f : Option X → Y) → f (Some idle) ≡ f None → (view : Option X) → IsOut idle view → f view ≡ f None
 as_new idle f same None out = refl
 as_new idle f same (Some v) out = ap (λ w. f (Some w)) out ∙ same

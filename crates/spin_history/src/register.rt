@@ -123,7 +123,7 @@ impl<T, H: History, P: Order<T>> Register<T, H, P> {
     /// # Contract
     /// The closure has to be always callable. Whatever value it finds, it has to leave one that may follow in
     /// the order. The closure is called with the last write, and the value that it leaves is the next write
-    /// (`Updates`). The new value is the last one that the caller saw, or a later one.
+    /// (`Updates`). In the order, the new value is at or after the last one that the caller saw.
     ///
     /// # Examples
     /// ```
@@ -267,7 +267,7 @@ impl<T: Drop, H: History, P: Order<T>> Register<T, H, P> {
     /// # Contract
     /// The closure has to be always callable. Whatever value it finds, it has to return one that may follow
     /// in the order. The closure is called with the last write, and its answer is the next write (`Updates`).
-    /// The new value is the last one that the caller saw, or a later one.
+    /// In the order, the new value is at or after the last one that the caller saw.
     pub fn update<F: FnOnce(&T) -> T>(&mut self, by: F, seen: &mut Snapshot<T, H>)
         requires callable { F.IsAlwaysCallable by }
         requires grows { (x y : T) → FnOnceReturnsAt F.FnOnce by x y → P.le x y }
@@ -487,9 +487,9 @@ pub fn try_read_shared<T: Copy, P: Order<T>, H: History, L: SharedLock<Register<
 /// # Contract
 /// The closure has to be always callable. Whatever value it finds, it has to leave one that may follow in the
 /// order. The closure is called with the last write of a history that extends the caller's snapshot. The
-/// value that it leaves is the next write, with no other write in between. This value is the last one that
-/// the caller saw, or a later one. Afterwards it is the last write in the caller's snapshot (`UpdatesIn`).
-/// Whether and when the call returns is not promised.
+/// value that it leaves is the next write, with no other write in between. In the order, this value is at or
+/// after the last one that the caller saw. Afterwards it is the last write in the caller's snapshot
+/// (`UpdatesIn`). Whether and when the call returns is not promised.
 pub fn change<
     T,
     P: Order<T>,

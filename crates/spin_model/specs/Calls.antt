@@ -183,7 +183,7 @@ pub record LockKind : Type 0 where
   pub word : Plain → ℕ  -- its first word, as a sum over the plain lock
   pub further_words : List (Plain → ℕ)  -- its other words, as sums over the plain lock
   pub plain_steps : Change → Bool  -- the plain steps that it makes, except that a closure completes; that is `makes_value`
-  -- the calls that a party has which holds this; the number is an argument that a call may have
+  -- the calls of a party that holds this; the number is an argument that a call may have
   pub calls : ℕ → Option Hold → List Asked
   pub spins_on_exchange : Bool  -- a waiting call that does not look first repeats its exchange without looks
   pub makes_value : Bool  -- closures make its value
