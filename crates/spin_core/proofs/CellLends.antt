@@ -165,7 +165,7 @@ module _ {M : Type 1} {𝓤 : Ura M} (𝓛 : Logic 𝓤) where
         unfolding fseps
         lends_shown q = qed 𝓛 (‵ (fbor ν P) ∷ ‵ (flft ν q) ∷ []) ∵ updating ! $ bor_open ! tt $ move ! (1 ∷ []) $ fpick ! (λ k. fpick ! (λ t. fsplit3 ! $ fsplit ! $ move ! (3 ∷ []) $ fpick ! (λ u. fsplit ! $ fpick ! (λ e. fpick ! (λ n. fsplit ! $
             let a : Lft = u ∷ [] in let K = L x b (o + offset R) in
-            -- [the token; the tag; what is shown; the end; the invariant; the view; the open borrow]
+            -- context: [the token; the tag; what is shown; the end; the invariant; the view; the open borrow]
             move ! (2 ∷ []) $ use1 𝓛 (‵ (V' (u ∷ t.life)) ⊛ ‵ (V' (u ∷ t.life))) (contraction 𝓛 V' K (a ++ t.life)) $ split ! $ move ! (4 ∷ []) $
             use1 𝓛 (‵ (before β t.life) ⊛ ‵ (before β t.life)) (before_dup 𝓛 β t.life) $ split ! $ move ! (0 ∷ 6 ∷ 7 ∷ 5 ∷ 2 ∷ []) $ group ! 5 $
             use1 𝓛 (‵ (fwand (fsep (fdead ν) (fseps (flft a e ∷ []))) (fupd P))) (reads_again k t u e n) $ nothing ! $ move ! (4 ∷ 0 ∷ []) $ fjoin ! $ move ! (4 ∷ 0 ∷ 1 ∷ []) $ obor_alter ! tt (flft a e ∷ []) $
@@ -198,7 +198,7 @@ module _ {M : Type 1} {𝓤 : Ura M} (𝓛 : Logic 𝓤) where
 
     shown_by : RowLaws R → (b o : ℕ) (t : Id) (x : R.Denot) → ⟦ before β t.life ⟧ ∗ ⟦ reader R b o t ways.0 x ⟧ ⊢ H.⇛ (guard 𝓤 (Seen ways.0 x) ⟦ shown R b o x β ⟧)
     shown_by L b o t x = qed 𝓛 (‵ (before β t.life) ∷ ‵ (reader R b o t ways.0 x) ∷ []) ∵ updating ! $ move ! (1 ∷ []) $ fpick ! (λ n. fsplit ! $ fpick ! (λ e. fpick ! (λ known. fsplit ! $
-        -- [the token; the tag; what is shown; the end]
+        -- context: [the token; the tag; what is shown; the end]
         bor_new ! tt β $ bor_fracture ! tt (λ r. flft (n ∷ []) r) e $ move ! (3 ∷ 4 ∷ 0 ∷ []) $
         use3 𝓛 (‵ (shown R b o x β)) (shows_for L b o t x β (Incl-refl β) n) $ now ! $ check ! (known_seen ways.0 x e known) $ keep ! (0 ∷ []) $ done !)))
 
@@ -227,6 +227,6 @@ module _ {M : Type 1} {𝓤 : Ura M} (𝓛 : Logic 𝓤) where
         rewrite ! 0 (λ (u : Use). ‵ (right R b o t ways.0 u (Some x))) is refl $ use1 𝓛 (‵ (Rd t) ⊛ ‵ (Rd t)) (reader_cut L b o t ways.0 fixed x) $ split ! $ move ! (2 ∷ []) $
         use1 𝓛 (‵ (before β t.life) ⊛ ‵ (before β t.life)) (before_dup 𝓛 β t.life) $ split ! $ move ! (0 ∷ 2 ∷ []) $
         use2 𝓛 (later (given (Seen ways.0 x) (‵ (shown R b o x β)))) (shown_by L b o t x) $ await ! tt $ learn ! (λ known.
-        -- [what is shown; the end; the reader; the invariant; the view]
+        -- context: [what is shown; the end; the reader; the invariant; the view]
         move ! (2 ∷ []) $ rewrite ! 0 (λ (u : Use). ‵ (right R b o t ways.0 u (Some x))) (sym is) refl $ move ! (4 ∷ 0 ∷ []) $ fjoin ! $ move ! (2 ∷ 3 ∷ []) $ fjoin ! $ fjoin ! $
         fpack ! Id At t $ fpack ! Knows (λ _. fex Id At) k $ move ! (1 ∷ []) $ now ! $ show ! (IsShownTo b o view (Some x)) x $ check ! (refl, known) $ done !)))

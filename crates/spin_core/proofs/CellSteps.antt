@@ -207,7 +207,7 @@ module _ {M : Type 1} {𝓤 : Ura M} (𝓛 : Logic 𝓤) (Er Ur : RattleType) wh
       grows γ k may n₀ n m y found law = let m' : Trace E U = beside m y in let Z : SProp 𝓤 = ⟦ I ⟧ ∗ ⟦ watched γ k found ⟧ in
           qed 𝓛 (‵ (word b (o + 0) n) ∷ ‵ (Traced m') ∷ ‵ (Core (n₀, m)) ∷ ‵ Mine ∷ ‵ (Known γ k) ∷ []) ∵
           move ! (2 ∷ []) $ fpick ! (λ vs. fsplit ! $ move ! (4 ∷ []) $ fsplit ! $ move ! (2 ∷ 0 ∷ []) $
-          -- [the views; the party's view; what it had; the rest of the core; the first word; the trace; the watch]
+          -- context: [the views; the party's view; what it had; the rest of the core; the first word; the trace; the watch]
           use2 𝓛 (some (λ (id : ℕ). given (Stands id view vs) (raw (all 𝓤 (Turned 𝓛 cv ρ id view vs))))) (places 𝓛 cv ρ view vs) $
           pick ! (λ id. learn ! (λ here. move ! (2 ∷ []) $ fsplit ! $ fpick ! (λ meets. drop ! $
           let r = law id vs meets here in let w : V = r.0 in let es : List E = r.1 in let s : ℕ × Trace E U = (n, grown_at m y es) in
@@ -220,7 +220,7 @@ module _ {M : Type 1} {𝓤 : Ura M} (𝓛 : Logic 𝓤) (Er Ur : RattleType) wh
           (shows γ k m' es b at (name_of γ m.name k may (λ named. named n₀ m vs meets))) $ learn ! (λ p.
           settle 𝓛 Z (‵ (Traced s.1) ⊛ ‵ Now) $ split ! $ suffices ! Z (upd_i 𝓤 Z) $ move ! (4 ∷ 5 ∷ 2 ∷ 3 ∷ []) $ group ! 4 $
           use1 𝓛 (‵ (Core s) ⊛ ‵ (moved (finding s.1.entries (told m.entries es) found))) (leads id vs m s w r.2 (told m.entries es) found r.3) $ split ! $
-          -- [the core; what the step leaves; the trace; what the watch knows; the first word]
+          -- context: [the core; what the step leaves; the trace; what the watch knows; the first word]
           move ! (2 ∷ 0 ∷ []) $ fjoin ! $ move ! (3 ∷ 0 ∷ []) $ fjoin ! $ fpack ! (ℕ × Trace E U) (standing R b o t cv.code S holds ways) s $
           move ! (2 ∷ 1 ∷ []) $ fjoin ! $ nothing ! $
           fpack ! (IsPrefix k m.entries × (Named holds ways γ → m.name ≡ γ)) (λ _. ftrue) (p, λ named. named n₀ m vs meets) $ fjoin ! $

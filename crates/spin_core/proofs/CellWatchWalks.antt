@@ -171,14 +171,14 @@ module _ {M : Type 1} {𝓤 : Ura M} (𝓛 : Logic 𝓤) (𝓜 : Model 𝓤 𝓛
       closes t z k n os go = fsplit t $ move t (1 ∷ []) $ fpick t (λ s. let l : ℕ × List Er.Denot = (s.0, s.1.0 ++ s.1.1) in
           fsplit t $ fpick t (λ p. drop t $ fsplit t $ move t (1 ∷ []) $
           let tells : W.Denot → Option R.Denot → Type 0 = λ w x. told s.1.0 s.1.1 n w × finds l.1 w x in
-          -- [what the step leaves; what the watch knows; the lifetime's token; the way back; the other tokens]
+          -- context: [what the step leaves; what the watch knows; the lifetime's token; the way back; the other tokens]
           move t (2 ∷ 0 ∷ 3 ∷ []) $
           use3 𝓛 (later (some (λ (v : W.Denot × Option R.Denot). given (Closed tells v) (‵ (Owned (Some v.0) v.1))) ⊛ ‵ (flft β q) ⊛ ‵ (flft τ r)))
           (exits k tells) $ await t z $ split3 t $ pick t (λ v. learn t (λ so.
           use0 𝓛 (‵ ((Words ℓ R W Y Kr Sr g).own_val (here, (tt, tt)) (hand_of here ∷ []))) (made ℓ R W Y Kr Sr g 𝓛 here) $ fjoin t $
           says t (h.key ≡ h.key) refl $ says t (finds l.1 v.0 v.1) so.0.1 $ join t $ says t (Keeps ways h.view (Some v.0) h.value v.1) so.1 $ join t $
           says t (then l n v.0) (p.1, (s.1.0, s.1.1, p.0, refl, so.0.0)) $ join t $
-          -- [what the step says; the permit; two tokens; what the watch knows; the other tokens]
+          -- context: [what the step says; the permit; two tokens; what the watch knows; the other tokens]
           move t (3 ∷ 5 ∷ []) $ join t $ move t (3 ∷ 0 ∷ []) $ join t $ move t (3 ∷ []) $
           use0 𝓛 (‵ ((Token Er).own_val (record {}, tt) (token ∷ []))) (token_made Er 𝓛) $ fjoin t $ move t (0 ∷ 1 ∷ 3 ∷ []) $ go v l))))
 

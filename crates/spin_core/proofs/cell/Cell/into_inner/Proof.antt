@@ -35,7 +35,7 @@ into_inner_spec 𝓤 𝓛 𝓜 𝓡 wired X U P K S L _ _ _ LS g d _ =
     qed 𝓛 (((‵ α ⊛ (‵ β ⊛ (‵ π ⊛ (‵ ι ⊛ (‵ (flft σ q) ⊛ ‵ ftrue))))) ⊛ ‵ (fsep (Row.own_val z.0.3.0 z.0.4.0) ftrue)) ∷ raw (fact 𝓤 _) ∷ raw (fact 𝓤 _) ∷ raw (fact 𝓤 _) ∷ raw (fact 𝓤 _) ∷ raw (fact 𝓤 (σ ⊑ S.lives)) ∷ ‵ ftrue ∷ []) ∵
     keep ! (0 ∷ 5 ∷ []) $ split ! $ move ! (1 ∷ []) $ fsplit ! $ fsplit ! $ drop ! $
     fpick ! (λ known. fpick ! (λ s. fsplit ! $ move ! (1 ∷ []) $ drop ! $ fpick ! (λ vss. fsplit ! $ feq_l ! (λ ev. fsplit3 ! $ fpick ! (λ uss. fsplit ! $ feq_l ! (λ em. drop ! $ fsplit ! $ feq_l ! (λ en. flt_l ! (λ fits. fsplit ! $
-    -- [the value; the second; nothing; the tokens; the second's lifetime]
+    -- context: [the value; the second; nothing; the tokens; the second's lifetime]
     peeks ! R (Is R) (shows 𝓛 R) s.2 vss.1.1.0 (λ is_so. move ! (1 ∷ []) $ fsplit ! $ peeks ! Sr (Is Sr) (shows 𝓛 Sr) s.1 vss.1.1.1.0 (λ is_second.
     let got = one E vss.1.1.0 ((lawful E 𝓛).typed s.2 vss.1.1.0 is_so) in let vy = got.0 in let fy = got.2 in
     let got_second = one N vss.1.1.1.0 (((param_laws 4 S LS).lawful 𝓛).typed s.1 vss.1.1.1.0 is_second) in let vz = got_second.0 in
