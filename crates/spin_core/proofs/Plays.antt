@@ -136,7 +136,7 @@ module _ {V S : Type 0} (lock : Lock V S) where
   pub idle_rests : (v : V) → v ≡ idle → Rests Holds uses (Some v)
   idle_rests v is = rw is (rests idle lock.is_idle.1 (λ p. ap (entries_of p) lock.is_idle.0))
 
--- For a lock of one word: a look, an exchange for what a party asks, and a subtraction by a holder
+-- The moves of a lock of one word: a look, an exchange for what a party asks, and a subtraction by a holder.
 module _ {V : Type 0} (lock : Lock V (Unit {0})) where
   open lock use {part, idle, cap, first}
 

@@ -25,7 +25,7 @@ abbrev pub Learnt : {X E S : Type 0} → Knowledge (Trace E S) X → Use → Use
 Learnt no_fact u v before after es = Unit {0}
 Learnt {E = E} {S = S} (knows φ) u v before after es = (t : Trace E S) × (t.entries ≡ es) × Learns (φ t) u v before after
 
--- the same by the party's views, for a watch that knows the whole trace
+-- what a party learns of the value, given its views before and after the step and a watch that knows the whole trace
 abbrev pub Found : {X V E S : Type 0} → Ways X V (Trace E S) → Option V → Option V → Option X → Option X → Watch E → Type 0
 Found ways view new before after seen = Learnt ways.2 (use_of ways.1 view) (use_of ways.1 new) before after seen.entries
 

@@ -33,7 +33,7 @@ holds_then c a held = held
 abbrev pub holds_by : History → Option SeatedHold
 holds_by own = hold_after holds_then None own
 
--- the holders of the plain lock that are this pass, if it holds this
+-- the plain lock's holders that stand for a pass which holds this
 abbrev pub place_of : ℕ → Option SeatedHold → List Holder
 place_of p None = []
 place_of p (Some hold.Read) = holder p reading ∷ []

@@ -71,8 +71,8 @@ impl<C: Calls> TableRule<u64, View<Opening, C, Answer>, Opening> for Law<C> {
     ghost first = { all_passes C.machine };
 }
 
-/// A lock of one number, whose calls form one history. Of its two words the first is the lock's state, the
-/// second the value.
+/// A lock that protects one number. All its calls form one history. The first of its two words is the lock's
+/// state, and the second is the value.
 #[derive(Drop)]
 pub struct SeatedLock<C: Calls, A: Allocator = Global> {
     table: Table<u64, View<Opening, C, Answer>, Opening, Law<C>, A>,

@@ -13,7 +13,7 @@ module _ {n : ℕ} where
   abbrev pub history : Pass n → List Done
   history pass = pass.account.seen.entries
 
-  -- the name of a lock's history; below, by a pass of the lock
+  -- The name of a lock's history. `name_of` takes it from the lock, and `lock_of` from a pass of the lock.
   abbrev pub name_of : Seats n → ℕ
   name_of lock = lock.cell.name
 
