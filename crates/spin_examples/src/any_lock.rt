@@ -21,7 +21,7 @@ pub fn try_count<L: Lock<u64>>(lock: &L) -> Option<u64> {
     .ok()
 }
 
-/// Reads a number under a lock; other readers may read at once. Returns `most` if the number is larger.
+/// Reads a number under a lock. Other readers may read at the same time. Returns `most` if the number is larger.
 pub fn read_up_to<L: SharedLock<u64>, W: Wait>(rt: &W, lock: &L, most: u64) -> u64
     ensures { result ≤ most }
 {

@@ -52,8 +52,8 @@ pub fn try_once(lock: &SpinMutex<u64>) -> Pass<'_, u64, Spin> {
 ///
 /// # Contract
 /// Each of the first two passes has acquired the lock and released it, once (`first`, `second`). The third
-/// pass has looked once, and its answer is returned (`looked`). Of the lock's history one of any two passes
-/// knows a prefix of what the other knows (`one_history`).
+/// pass has looked once, and its answer is returned (`looked`). Of the first and the second pass, one knows
+/// a prefix of the history that the other knows. The same is true of the second and the third (`one_history`).
 pub fn count_beside_look<'a, W: Threads + Wait + Sync>(
     rt: &W,
     one: Pass<'a, u64, Spin>,

@@ -83,7 +83,7 @@ fn try_starving(starving: StarvingPass<'_, u64, Spin>) -> Pass<'_, u64, Spin> {
 /// Adds 1 in each of three threads: two newcomers and a starver.
 ///
 /// # Contract
-/// Of the lock's history one of any two passes knows a prefix of what the other knows.
+/// Of any two of the passes, one knows a prefix of the history that the other knows.
 pub fn count_by_three<'a, W: Threads + Wait + Sync>(
     rt: &W,
     lock: &'a FairMutex<u64>,

@@ -33,7 +33,7 @@ fn force<'a, W: Wait>(
 /// Asks for the value in three threads. One of them makes it.
 ///
 /// # Contract
-/// Of the lock's history one of any two passes knows a prefix of what the other knows.
+/// Of any two of the passes, one knows a prefix of the history that the other knows.
 pub fn force_by_three<'a, W: Threads + Wait + Sync>(
     rt: &W,
     lazy: &'a LazyLock<u64, Seven>,

@@ -29,7 +29,7 @@ fn look(pass: Pass<'_, u64, Spin>) -> (bool, Pass<'_, u64, Spin>)
 /// Calls `call_once` in two threads, while a third thread looks whether there is a value.
 ///
 /// # Contract
-/// Of the history of the `Once` one of any two passes knows a prefix of what the other knows.
+/// Of any two of the passes, one knows a prefix of the history that the other knows.
 pub fn make_beside_look<'a, W: Threads + Wait + Sync>(
     rt: &W,
     once: &'a Once<u64>,

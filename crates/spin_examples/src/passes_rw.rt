@@ -61,7 +61,7 @@ pub fn double<'a, W: Wait>(rt: &W, pass: Pass<'a, u64, Spin>) -> Pass<'a, u64, S
 /// Writes in one thread, reads in another, and counts the readers in a third.
 ///
 /// # Contract
-/// Of the lock's history one of any two passes knows a prefix of what the other knows.
+/// Of any two of the passes, one knows a prefix of the history that the other knows.
 pub fn write_beside_readers<'a, W: Threads + Wait + Sync>(
     rt: &W,
     lock: &'a RwLock<u64>,

@@ -39,7 +39,8 @@ pub fn try_once(pass: Pass<'_, u64, Spin>) -> Pass<'_, u64, Spin> {
 ///
 /// # Contract
 /// In this call each pass has acquired the lock and released it, once (`first`, `second`, `third`). Of the
-/// lock's history one of any two passes knows a prefix of what the other knows (`one_history`).
+/// first and the second pass, one knows a prefix of the history that the other knows. The same is true of the
+/// second and the third (`one_history`).
 pub fn count_by_three<'a, W: Threads + Wait + Sync>(
     rt: &W,
     one: Pass<'a, u64, Spin>,

@@ -98,8 +98,8 @@ fn two_writers<H: History + Send + Sync, W: Threads + Wait + Sync>(
     )
 }
 
-/// Writes in two threads while two other threads read. What one reader saw of the log is a prefix of what the
-/// other saw.
+/// Writes in two threads while two other threads read. Of the two readers, one saw a prefix of what the other
+/// saw of the log.
 pub fn two_write_two_read<H: History + Send + Sync, W: Threads + Wait + Sync>(
     rt: &W,
     lock: &RwLock<Register<u64, H>>,

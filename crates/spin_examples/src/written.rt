@@ -33,7 +33,7 @@ fn read<'a, W: Wait>(rt: &W, pass: Pass<'a, u64, Spin>) -> (u64, Pass<'a, u64, S
 /// Writes a value in one thread, and reads in another.
 ///
 /// # Contract
-/// One of the two passes knows a prefix of the lock's history that the other knows (`one_history`). The value
+/// Of the two passes, one knows a prefix of the history that the other knows (`one_history`). The value
 /// written is the last one in the history that the writer knows (`left`). The value read is the last one in
 /// the history that the reader knows (`found`).
 pub fn write_beside_read<'a, W: Threads + Wait + Sync>(

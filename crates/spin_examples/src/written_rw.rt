@@ -19,7 +19,7 @@ fn write<'a, W: Wait>(rt: &W, pass: Pass<'a, u64, Spin>, value: u64) -> Pass<'a,
     RwLock::unlock(guard, seen)
 }
 
-/// Reads the value; other readers may read at once. It is the last one in the history that the pass knows.
+/// Reads the value. It is the last one in the history that the pass knows. Other readers may read at the same time.
 fn read<'a, W: Wait>(rt: &W, pass: Pass<'a, u64, Spin>) -> (u64, Pass<'a, u64, Spin>)
     ensures found { IsLast (opening_of pass.entry) (history result.1) result.0 }
     ensures lock { lock_of result.1 ≡ lock_of pass.entry }
@@ -32,9 +32,10 @@ fn read<'a, W: Wait>(rt: &W, pass: Pass<'a, u64, Spin>) -> (u64, Pass<'a, u64, S
 /// Writes a value in one thread, and reads in two others.
 ///
 /// # Contract
-/// Of the lock's history one of any two passes knows a prefix of what the other knows (`written_read`,
-/// `both_read`). The value written is the last one in the history that the writer knows (`left`). The value
-/// that a reader read is the last one in the history that this reader knows (`first`, `second`).
+/// Of the writer and the first reader, one knows a prefix of the history that the other knows
+/// (`written_read`). The same is true of the two readers (`both_read`). The value written is the last one in
+/// the history that the writer knows (`left`). The value that a reader read is the last one in the history
+/// that this reader knows (`first`, `second`).
 pub fn write_beside_readers<'a, W: Threads + Wait + Sync>(
     rt: &W,
     lock: &'a RwLock<u64>,

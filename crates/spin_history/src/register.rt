@@ -369,7 +369,7 @@ pub fn read<T: Copy, P: Order<T>, H: History, L: Lock<Register<T, H, P>>, W: Wai
 }
 
 /// Calls a closure with the value of a register under a lock, and returns its answer. Other readers may read
-/// at once.
+/// at the same time.
 ///
 /// # Contract
 /// Like that of [`inspect`].
@@ -401,7 +401,7 @@ pub fn inspect_shared<
     answer
 }
 
-/// Reads a register under a lock. Other readers may read at once.
+/// Reads a register under a lock. Other readers may read at the same time.
 ///
 /// # Contract
 /// Like that of [`read`].

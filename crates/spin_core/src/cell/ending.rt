@@ -27,8 +27,9 @@ impl<'a, T, V, E, S, P: Rule<T, V, Second = Trace<E, S>>> Permit<'a, T, V, P> {
     /// and returns that word. In both cases the step returns what is then known of the trace.
     ///
     /// # Contract
-    /// After a step that finds another word the party has to be at rest (`rests`). `Ok` has the permit after
-    /// a step that found `old`; `Err` has the other word. The `Play` holds of either (`moved`, `left`).
+    /// If the step finds another word, it has to leave the party at rest (`rests`). `Ok` has the permit after a
+    /// step that found `old`. `Err` has the other word. In both cases the `Play` holds of the step (`moved`,
+    /// `left`).
     pub fn attempt<M: Play<P::Key, V, E>>(
         self,
         old: u64,
