@@ -19,11 +19,12 @@ use Rattle.spin_core.proofs.CellParts.{parts_cut, parts_glue, parts_whole, parts
 use Rattle.spin_core.proofs.CellRounds.{begun, held, whole, renewed, rests_lent, rests_fixed}
 use Rattle.spin_core.proofs.Signs.{signs}
 
--- the number of readers, and below of writers, with one more party that uses the value so
+-- the number of readers with one more party, which uses the value in this way
 abbrev pub with_reader : Use → ℕ → ℕ
 with_reader reads r = suc r
 with_reader _ r = r
 
+-- the number of writers with one more party, which uses the value in this way
 abbrev pub with_writer : Use → ℕ → ℕ
 with_writer writes w = suc w
 with_writer _ w = w

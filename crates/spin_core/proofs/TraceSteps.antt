@@ -47,7 +47,7 @@ module _ {M : Type 1} {𝓤 : Ura M} (𝓛 : Logic 𝓤) where
     begins = via 𝓤 _ (latest_new logs 𝓛 []) (basic 𝓛 _)
 
   module _ {T : Type 0} (cv : Coded T) (γ : ℕ) where
-    -- a share of the right to append, and below all of it, and what a watch knows
+    -- `Right` is a share of the right to append, `Log` is all of that right, and `Known` is what a watch knows.
     abbrev Right : List T → Share → Fml
     Right = log_part cv.code γ
 

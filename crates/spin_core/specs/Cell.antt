@@ -25,11 +25,12 @@ pub data Knowledge (S X : Type 0) : Type 1 where
 abbrev pub Ways : Type 0 → Type 0 → Type 0 → Type 1
 Ways X V S = Way X × (V → Use) × Knowledge S X
 
--- counts 1 for a party that reads; `writing` below counts 1 for a party that writes
+-- counts 1 for a party that reads
 abbrev pub reading : Use → ℕ
 reading reads = 1
 reading _ = 0
 
+-- counts 1 for a party that writes
 abbrev pub writing : Use → ℕ
 writing writes = 1
 writing _ = 0

@@ -39,9 +39,10 @@ Loads old new before found after = (found ≡ 2 → after ≡ Reading) × (found
 abbrev pub Begins : ℕ → ℕ → Option View → ℕ → View → Type 0
 Begins old new before found after = (found ≡ 0 → after ≡ Running) × (found ≡ 2 → after ≡ Reading) × (found ≢ 0 → found ≢ 2 → after ≡ Away)
 
--- a party that was to make the value puts the number back; below, a party that made the value reads it
+-- a party that was to make the value puts the number back
 abbrev pub PutsBack : ℕ → ℕ → Option View → ℕ → View → Type 0
 PutsBack old new before found after = after ≡ Away
 
+-- a party that made the value reads it
 abbrev pub Completes : ℕ → ℕ → Option View → ℕ → View → Type 0
 Completes old new before found after = after ≡ Reading

@@ -147,7 +147,7 @@ abbrev pub refusal_by : {W L A : Type 0} → Act W L A → Option (Next L A)
 refusal_by (weak_exchange k f step won lost) = Some lost
 refusal_by _ = None
 
--- the plain step that a step of this shape makes if it succeeds; below its operation
+-- the plain step that a step of this shape makes if it succeeds
 abbrev pub makes_by : {W L A : Type 0} → Act W L A → ℕ → Option Change
 makes_by (enter test step won lost) p = Some (step p)
 makes_by (exchange operation step won lost) p = Some (step p)
@@ -158,6 +158,7 @@ makes_by (store can operation step next) p = Some (step p)
 makes_by (section can f step won lost) p = Some (step p)
 makes_by _ p = None
 
+-- the operation of a step of this shape
 abbrev pub operation_by : {W L A : Type 0} → Act W L A → Operation
 operation_by (exchange operation step won lost) = operation
 operation_by (weak_exchange k f step won lost) = swap k f

@@ -37,11 +37,12 @@ pub record Happened (W V C L A : Type 0) : Type 0 where
   pub outcome : Outcome A V
   pub next : State W V C L
 
--- a party with this hold may read the value; below, it may replace it
+-- a party with this hold may read the value
 abbrev pub may_read : Hold → Bool
 may_read hold.Starver = false
 may_read _ = true
 
+-- a party with this hold may replace the value
 abbrev pub may_write : Hold → Bool
 may_write hold.Write = true
 may_write (hold.Ticket t) = true

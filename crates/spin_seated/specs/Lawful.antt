@@ -33,11 +33,12 @@ MayCall TryLock held = Unit {0}
 MayCall IsLocked held = Unit {0}
 MayCall c held = held ≡ true
 
--- the value that a call writes; below, the value that a call reads
+-- the value that a call writes, if it writes
 abbrev pub written : Call → Option ℕ
 written (Write w) = Some w
 written _ = None
 
+-- the value that a call reads, if it reads
 abbrev pub read_by : Call → Answer → Option ℕ
 read_by Read (Value v) = Some v
 read_by _ _ = None

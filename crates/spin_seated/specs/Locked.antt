@@ -22,10 +22,11 @@ abbrev pub hold_after : {C H : Type 0} → (C → Answer → H → H) → H → 
 hold_after turn h [] = h
 hold_after turn h (e ∷ es) = hold_after turn (turn e.call e.answer h) es
 
--- all values that these calls wrote, and below all that they read, in order
+-- all values that these calls wrote, in order
 abbrev pub all_written : {C A : Type 0} → (C → Option ℕ) → List (Entry C A) → List ℕ
 all_written written log = flat_map (λ e. option_to_list (written e.call)) log
 
+-- all values that these calls read, in order
 abbrev pub all_read : {C A : Type 0} → (C → A → Option ℕ) → List (Entry C A) → List ℕ
 all_read read log = flat_map (λ e. option_to_list (read e.call e.answer)) log
 
