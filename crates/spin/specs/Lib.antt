@@ -1,5 +1,4 @@
--- The names that the contracts of the locks and of their steps use. A crate that depends on `spin` alone can cite
--- them here.
+-- The names that the contracts of the locks and of their steps use. A crate that depends only on `spin` can cite them here.
 pub use Rattle.spin_mutex.specs.MutexGuard
 pub use Rattle.spin_core.specs.Guard
 pub use Rattle.spin_core.specs.Values

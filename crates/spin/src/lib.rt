@@ -19,7 +19,7 @@ pub mod step;
 /// A [`barrier::Barrier`] with the default strategy, [`Spin`].
 ///
 /// # Contract
-/// That of `barrier::Barrier`.
+/// See `barrier::Barrier`.
 ///
 /// # Examples
 /// ```
@@ -36,7 +36,7 @@ pub type Barrier = barrier::Barrier<Spin>;
 /// A [`mutex::Mutex`] with the default strategy, [`Spin`].
 ///
 /// # Contract
-/// That of `mutex::Mutex`.
+/// See `mutex::Mutex`.
 ///
 /// # Examples
 /// ```
@@ -56,7 +56,7 @@ pub type Mutex<T> = mutex::Mutex<T, Spin>;
 /// A [`rwlock::RwLock`] with the default strategy, [`Spin`].
 ///
 /// # Contract
-/// That of `rwlock::RwLock`.
+/// See `rwlock::RwLock`.
 ///
 /// # Examples
 /// ```
@@ -72,7 +72,7 @@ pub type RwLock<T> = rwlock::RwLock<T, Spin>;
 /// The guard of the upgradable reader of a [`RwLock`].
 ///
 /// # Contract
-/// That of `rwlock::RwLockUpgradableGuard`.
+/// See `rwlock::RwLockUpgradableGuard`.
 ///
 /// # Examples
 /// ```
@@ -90,7 +90,7 @@ pub type RwLockUpgradableGuard<'a, T> = rwlock::RwLockUpgradableGuard<'a, T, Spi
 /// The guard of the writer of a [`RwLock`].
 ///
 /// # Contract
-/// That of `rwlock::RwLockWriteGuard`.
+/// See `rwlock::RwLockWriteGuard`.
 ///
 /// # Examples
 /// ```
@@ -107,7 +107,7 @@ pub type RwLockWriteGuard<'a, T> = rwlock::RwLockWriteGuard<'a, T, Spin>;
 /// A [`once::Once`] with the default strategy, [`Spin`].
 ///
 /// # Contract
-/// That of `once::Once`.
+/// See `once::Once`.
 ///
 /// # Examples
 /// ```
@@ -124,7 +124,7 @@ pub type Once<T = ()> = once::Once<T, Spin>;
 /// A [`lazylock::LazyLock`] with the default strategy, [`Spin`].
 ///
 /// # Contract
-/// That of `lazylock::LazyLock`.
+/// See `lazylock::LazyLock`.
 ///
 /// # Examples
 /// ```
@@ -140,6 +140,6 @@ pub type LazyLock<T, F = fn() -> T> = lazylock::LazyLock<T, F, Spin>;
 /// The earlier name of [`LazyLock`].
 ///
 /// # Contract
-/// That of `lazylock::LazyLock`.
+/// See `lazylock::LazyLock`.
 #[deprecated(note = "use `spin::LazyLock`")]
 pub type Lazy<T, F = fn() -> T> = lazylock::LazyLock<T, F, Spin>;

@@ -9,11 +9,11 @@ use spin_mutex::mutex::Mutex;
 use spin_step_more::barrier::{self, State};
 use std::sync::Wait;
 
-/// A barrier at which the threads of a group wait for each other. It is reusable: after each group it gathers the
-/// next one.
+/// A barrier at which the threads of a group wait for each other. It is reusable: after a group it gathers
+/// the next one.
 ///
-/// Groups are counted in 64 bits. If exactly a multiple of 2^64 groups fill up between two looks of a thread, it waits
-/// for one group more. No thread leaves early.
+/// Groups are counted modulo 2^64. If exactly a multiple of 2^64 groups fill up between two looks of a
+/// thread, it waits until one more group is full. No thread leaves early.
 ///
 /// # Examples
 /// ```
@@ -34,17 +34,18 @@ pub struct Barrier<R = Spin> {
     state: Mutex<State, R>,
 }
 
-/// The answer of [`Barrier::wait`]: whether the thread leads its group.
+/// The result of [`Barrier::wait`]: whether the thread leads its group.
 #[derive(Clone, Copy)]
 pub struct BarrierWaitResult {
     leads: bool,
 }
 
 impl BarrierWaitResult {
-    /// Returns `true` if this thread leads its group. One thread of each group does: the one that arrived last.
+    /// Returns `true` if this thread leads its group. One thread of each group does: the one that arrives
+    /// last.
     ///
     /// # Contract
-    /// Each call on the same answer returns the same.
+    /// Each call on the same result returns the same answer.
     pub fn is_leader(&self) -> bool
         ensures { result ≡ self.now.leads }
     {
@@ -53,8 +54,8 @@ impl BarrierWaitResult {
 }
 
 impl<R> Barrier<R> {
-    /// Creates a barrier for groups of `n` threads, at which no thread has arrived. With 0, as with 1, a group is one
-    /// thread, which does not wait.
+    /// Creates a barrier for groups of `n` threads, at which no thread has arrived. If `n` is 0 or 1, each
+    /// thread is a group of its own and does not wait.
     ///
     /// # Examples
     /// ```
@@ -73,12 +74,14 @@ impl<R> Barrier<R> {
 impl<R: RelaxStrategy> Barrier<R> {
     /// Arrives at the barrier, and spins until the group is full.
     ///
-    /// The arrival is one [`State::arrive`] under the lock. The last thread of a group fills it, leads it, and does not
-    /// wait. The others look again under the lock, and relax with strategy `R` between two looks.
+    /// The arrival is one [`State::arrive`] under the lock. The last thread of a group fills it, leads it,
+    /// and does not wait. Each other thread looks at the state under the lock until it may leave, and relaxes
+    /// with strategy `R` between two looks.
     ///
     /// # Contract
-    /// Whether and when the call returns is not promised. The step functions promise that a thread waits for its group
-    /// and that one thread leads ([`State::arrive`] and `may_leave`). Of this call a test shows it.
+    /// Whether and when the call returns is not promised. The step functions promise that a thread waits for
+    /// its group and that one thread leads ([`State::arrive`] and `may_leave`). For this call only a test
+    /// shows it.
     pub fn wait<W: Wait>(&self, rt: &W) -> BarrierWaitResult {
         let mut state = self.state.lock(rt);
         let leads = state.arrive();
@@ -90,7 +93,7 @@ impl<R: RelaxStrategy> Barrier<R> {
         BarrierWaitResult { leads }
     }
 
-    // Waits until the group that gathers in this generation is full.
+    // Waits until the group of this generation is full.
     fn follow<W: Wait>(&self, rt: &W, generation: usize) {
         R::retry(rt, (), |()| {
             if barrier::may_leave(*self.state.lock(rt), generation) {

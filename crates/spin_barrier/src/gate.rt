@@ -1,15 +1,15 @@
-//! What a worker passes before its first step. Begin with [`Gate`].
+//! A call that a worker makes before its first step. Begin with [`Gate`].
 use std::sync::Wait;
 
-/// What each worker of a team passes before its first step, as in `count_with` of `spin_run`.
+/// A gate. Each worker of a team calls it before its first step, as in `count_with` of `spin_run`.
 ///
-/// The caller provides it, to prepare its threads: to hold them until all are there, to name them, or to note which
-/// came. [`Open`] does nothing.
+/// The caller provides a gate to prepare its threads: to hold them until all are there, to name them, or to
+/// note which of them came. [`Open`] does nothing.
 pub trait Gate {
     /// Lets the worker pass. The call may wait.
     ///
     /// # Contract
-    /// No clause. Whether and when the call returns is not promised.
+    /// Nothing is promised, not even that the call returns.
     fn before<R: Wait>(&self, rt: &R, worker: usize);
 }
 

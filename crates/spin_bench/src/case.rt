@@ -15,32 +15,33 @@ pub use rounds::Rounds;
 pub use seated::Seated;
 pub use world::{EVENTS, Plays};
 
-/// Calls that are made over and over, also by several threads at once. A call either adds 1 to the value, or reads a 1.
+/// Calls that are repeated, perhaps by several threads at once. A call either adds 1 to the value, or reads a
+/// 1.
 pub trait Case: Drop {
-    /// Makes this many calls, in the worker with this number, and returns the sum of what they saw. This is what is
-    /// measured: a loop by itself, with only the calls and their sum in it.
+    /// Makes this many calls in the worker with this number, and returns the sum of what they read. This
+    /// function is measured, so it has only a loop with the calls and their sum.
     fn repeat<W: Wait>(&self, rt: &W, worker: usize, calls: u64) -> u64;
 
-    /// Returns `true` if the worker has to end, since it may have been told to.
+    /// Returns `true` if the worker has to stop: `told` is set, unless the case decides otherwise.
     fn is_to_stop<W: Wait>(&self, _rt: &W, told: &AtomicBool) -> bool {
         told.load(Ordering::SeqCst)
     }
 
-    /// Returns how much all calls have added.
+    /// Returns the sum of what all calls added.
     fn added(self) -> u64;
 }
 
 /// One call.
 pub trait Call: Drop {
-    /// Makes the call, in the worker with this number. Returns what it saw, or 0 if it added. It should be inlined into
-    /// the loop of [`Calls`].
+    /// Makes the call in the worker with this number. Returns what it read, or 0 if it added. It should be
+    /// inlined into the loop of [`Calls`].
     fn call<W: Wait>(&self, rt: &W, worker: usize) -> u64;
 
-    /// Returns how much all calls have added.
+    /// Returns the sum of what all calls added.
     fn added(self) -> u64;
 }
 
-/// Repeats a call.
+/// A case that repeats one call.
 #[derive(Drop)]
 pub struct Calls<C>(pub C);
 
@@ -59,7 +60,7 @@ impl<C: Call> Case for Calls<C> {
     }
 }
 
-/// The two steps that every lock needs: an exchange of 0 for 1, and a store of 0.
+/// The two steps that every lock makes at least: an exchange of 0 for 1, and a store of 0.
 #[derive(Drop)]
 pub struct Floor {
     word: AtomicU64,

@@ -11,7 +11,7 @@ use std::thread::Threads;
 use std::time::Clock;
 use std::{env, io};
 
-/// Does what the words of the command line ask.
+/// Does what the words of the command line ask for.
 fn command<R: Threads + Wait + Clock + Print + AllocGlobal + Sync>(
     rt: &R,
     name: &str,

@@ -1,4 +1,4 @@
-//! What the program does and writes.
+//! What the program does and prints.
 use crate::case::{
     Adds, Alone, Calls, Case, EVENTS, FirstCalls, Floor, Forces, Gets, LateCalls, OneWriter,
     PassAdds, PassReaders, Plays, Readers, Rounds, Seated, Starvers, Upgrades, complete,
@@ -22,11 +22,12 @@ const ROUNDS: usize = 7;
 /// How long one round is, in milliseconds.
 const ROUND_MILLIS: u64 = 100;
 
-/// The size of the block that a case is in, as a number of cases. So large a block begins at a page, after the 16
-/// bytes that the allocator uses. So no lock crosses a cache line. The Rust driver does the same.
+/// The size of the block of memory for a case, as a number of cases. The allocator begins a block of this
+/// size at a page, after the 16 bytes that it uses itself. So no lock crosses a cache line. The Rust driver
+/// does the same.
 const BLOCK: usize = 32_768;
 
-/// The cases that one thread does by itself.
+/// The cases of one thread.
 const ALONE: [&str; 8] = [
     "fair_starve",
     "rw_upgrade",
@@ -38,7 +39,7 @@ const ALONE: [&str; 8] = [
     "world",
 ];
 
-/// The cases that several threads do at once, except `barrier_rounds`.
+/// The cases of several threads, except `barrier_rounds`.
 const BESIDE: [&str; 13] = [
     "floor",
     "spin_mutex",
@@ -58,8 +59,9 @@ const BESIDE: [&str; 13] = [
 /// What to do with a case.
 #[derive(Clone, Copy)]
 enum Task {
-    /// Measure rounds. For each round a line says how many calls there were, how many nanoseconds they took, and how
-    /// many calls the slowest thread made. A thread makes this many calls before it checks again whether to stop.
+    /// Measure rounds, and print a line for each: the number of calls, the nanoseconds that they took, and
+    /// the number of calls by the slowest thread. A thread makes this many calls before it checks again
+    /// whether to stop.
     Measure(u64),
     /// Make this many calls in each thread.
     Try(u64),
@@ -70,7 +72,7 @@ pub fn usage() -> io::Error {
     io::Error::other("usage: spin_bench CASE THREADS | spin_bench sizes | spin_bench smoke")
 }
 
-/// Measures one round of a case, and returns what its calls saw.
+/// Measures one round of a case, and returns the sum of what its calls read.
 fn round<C: Case + Sync, R: Threads + Wait + Clock + Print + Sync>(
     rt: &R,
     case: &C,
@@ -83,7 +85,7 @@ fn round<C: Case + Sync, R: Threads + Wait + Clock + Print + Sync>(
     Ok(team.seen())
 }
 
-/// Measures all rounds of a case, and returns what their calls saw.
+/// Measures all rounds of a case, and returns the sum of what their calls read.
 fn rounds<C: Case + Sync, R: Threads + Wait + Clock + Print + Sync>(
     rt: &R,
     case: &C,
@@ -97,7 +99,7 @@ fn rounds<C: Case + Sync, R: Threads + Wait + Clock + Print + Sync>(
     Ok(seen)
 }
 
-/// Does the task, and returns the sum of what was seen.
+/// Does the task on a case, and returns the sum of what its calls read.
 fn on_shared<C: Case + Sync, R: Threads + Wait + Clock + Print + Sync>(
     rt: &R,
     task: Task,
@@ -114,8 +116,8 @@ fn on_shared<C: Case + Sync, R: Threads + Wait + Clock + Print + Sync>(
     }
 }
 
-/// Does the task, and returns the sum of what was seen, and what is left at the end. If each call did its work, that
-/// is the number of calls.
+/// Does the task on a case. Returns the sum of what its calls read, plus the sum of what they added. If each
+/// call did its work, this is the number of calls.
 fn on_case<C: Case + Sync, R: Threads + Wait + Clock + Print + AllocGlobal + Sync>(
     rt: &R,
     task: Task,
@@ -128,7 +130,7 @@ fn on_case<C: Case + Sync, R: Threads + Wait + Clock + Print + AllocGlobal + Syn
     Ok(block.remove(0).added().wrapping_add(seen))
 }
 
-/// The same for the case with this name that one thread does by itself.
+/// Does the task on the case of one thread that has this name.
 fn on_alone<R: Threads + Wait + Clock + Print + AllocGlobal + Sync>(
     rt: &R,
     task: Task,
@@ -148,7 +150,7 @@ fn on_alone<R: Threads + Wait + Clock + Print + AllocGlobal + Sync>(
     }
 }
 
-/// The same for any case with this name.
+/// Does the task on the case that has this name.
 fn on_name<R: Threads + Wait + Clock + Print + AllocGlobal + Sync>(
     rt: &R,
     task: Task,
@@ -174,7 +176,7 @@ fn on_name<R: Threads + Wait + Clock + Print + AllocGlobal + Sync>(
     }
 }
 
-/// Does the task, and prints what was seen and left.
+/// Does the task, and prints the sum of what the calls read and added.
 fn report<R: Threads + Wait + Clock + Print + AllocGlobal + Sync>(
     rt: &R,
     task: Task,
@@ -185,9 +187,10 @@ fn report<R: Threads + Wait + Clock + Print + AllocGlobal + Sync>(
     println!(rt; "{name}.{threads} {sum}")
 }
 
-/// Returns how many calls of this case a thread makes before it checks again whether to stop. For a thread by itself
-/// they are so many that the checks cost nothing; each play uses the whole schedule. With other threads each call is
-/// slow enough for few. If a thread that others wait for is not running, the round still ends soon after its time.
+/// Returns how many calls of this case a thread makes before it checks again whether to stop. For one thread
+/// there are so many that the checks cost nothing, and each play uses the whole schedule. For several threads
+/// there are few, since each call takes longer. So a round ends soon after its time, even if a thread that
+/// others wait for is not running.
 fn chunk(name: &str, threads: u8) -> u64 {
     if name == "world" {
         EVENTS
@@ -228,8 +231,8 @@ fn try_each<R: Threads + Wait + Clock + Print + AllocGlobal + Sync>(
     Ok(())
 }
 
-/// Tries each case. Barriers get few rounds: on a busy machine a round waits until each of its threads has had a
-/// processor.
+/// Tries each case. Barriers get few calls: on a busy machine a wait lasts until each thread of the group has
+/// run.
 pub fn try_all<R: Threads + Wait + Clock + Print + AllocGlobal + Sync>(rt: &R) -> io::Result<()> {
     try_each(rt, 1000, 1, &ALONE)?;
     for threads in [1, 2, 4] {

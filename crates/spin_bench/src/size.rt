@@ -1,4 +1,4 @@
-//! How large the locks and their guards are.
+//! The sizes of the locks and their guards.
 use spin_fair::fair::{FairMutex, FairMutexGuard};
 use spin_flag::spin::{SpinMutex, SpinMutexGuard};
 use spin_mutex::mutex::{Mutex, MutexGuard};

@@ -1,4 +1,4 @@
-//! A case that several threads do at once.
+//! A case that several threads run at once.
 use crate::case::Case;
 use std::sync::Wait;
 use std::sync::atomic::{AtomicBool, AtomicU64, Ordering};
@@ -6,7 +6,7 @@ use std::thread::{Scope, Threads};
 use std::time::{Clock, Duration, Instant};
 use std::{io, sync, thread};
 
-/// What the threads of a case share, and what they did.
+/// What the threads of a case share, and the counts of what they did.
 #[derive(Drop)]
 pub struct Team<'a, C, R> {
     rt: &'a R,
@@ -14,8 +14,8 @@ pub struct Team<'a, C, R> {
     /// How many calls a thread makes before it checks again whether to stop.
     chunk: u64,
     most_chunks: u64,
-    /// Whether all threads are started. The thread that starts them holds the lock until then, so that all begin
-    /// together.
+    /// Whether all threads are started. The thread that starts them holds this lock until then, so that all
+    /// begin together.
     complete: sync::Mutex<bool>,
     stop: AtomicBool,
     calls: AtomicU64,
@@ -49,7 +49,7 @@ impl<'a, C: Case + Sync, R: Threads + Wait + Clock + Sync> Team<'a, C, R> {
         self.fewest.load(Ordering::SeqCst)
     }
 
-    /// Returns the sum of what the calls saw.
+    /// Returns the sum of what the calls read.
     pub fn seen(&self) -> u64 {
         self.seen.load(Ordering::SeqCst)
     }
@@ -72,7 +72,7 @@ impl<'a, C: Case + Sync, R: Threads + Wait + Clock + Sync> Team<'a, C, R> {
         self.seen.fetch_add(seen, Ordering::SeqCst);
     }
 
-    /// Starts this many threads. If one is refused, those that were started do nothing.
+    /// Starts this many threads. If a start fails, the threads started before do nothing.
     fn start<'s, E>(&'s self, scope: &Scope<'s, E>, threads: usize) -> io::Result<()> {
         let mut complete = self.complete.lock(self.rt);
         for worker in 0..threads {
@@ -82,7 +82,8 @@ impl<'a, C: Case + Sync, R: Threads + Wait + Clock + Sync> Team<'a, C, R> {
         Ok(())
     }
 
-    /// Does the case in this many threads, tells them to stop after this time, and waits until they have.
+    /// Runs the case in this many threads, tells them to stop after this time, and waits until they have
+    /// stopped.
     pub fn run(&self, threads: usize, time: Duration) -> io::Result<()> {
         thread::scope(thread::scope_env(), self.rt, |scope| -> io::Result<()> {
             self.start(scope, threads)?;

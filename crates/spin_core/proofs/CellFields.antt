@@ -110,7 +110,7 @@ module _ {M : Type 1} {𝓤 : Ura M} (𝓛 : Logic 𝓤) (m ms : Member) (V Y K 
       fpick ! (λ vs. fsplit3 ! $ move ! (2 ∷ 3 ∷ []) $ fjoin ! $ fpack ! All (owned vs) s $ fpack ! Knows (λ _. fex All (owned vs)) k $ move ! (2 ∷ 0 ∷ []) $ fjoin ! $ move ! (1 ∷ 0 ∷ []) $ fjoin ! $
       fpack ! (List Val) (λ us. fsep (cell_at full_share Data.mir us b o) ((C.the_row R V Y K S g).own_val key us)) vs $ done !)
 
-  -- ---- the words and the value, side by side
+  -- ---- the words beside the value
   abbrev pub standing_words : ℕ × S.Denot → Fml
   standing_words s = fsep (word b (o + 0) s.0) (part_at S full_share s.1 b (o + second_at S R))
 
@@ -142,7 +142,7 @@ module _ {M : Type 1} {𝓤 : Ura M} (𝓛 : Logic 𝓤) (m ms : Member) (V Y K 
     joins : (k : Knows) → ⟦ Mark ⟧ ∗ Back ⊢ Joins
     joins k = qed 𝓛 (‵ Mark ∷ raw Back ∷ []) ∵ each ! joined (λ s. let a : Denots (rows_of ks) = data_of s in assume ! (‵ (standing_words (s.0, s.1)) ⊛ ‵ (At s.2) ⊛ ‵ (fact (Rule s))) $ split3 ! $ fsplit ! $
         use1 𝓛 (‵ (First s.0)) (word_in 𝓛 b (o + 0) s.0) $ nothing ! $
-        -- [nothing; the first word; the second; the value; the rule; the marker; the way back]
+        -- context: [nothing; the first word; the second; the value; the rule; the marker; the way back]
         move ! (2 ∷ 0 ∷ []) $ fjoin ! $ move ! (2 ∷ 0 ∷ []) $ fjoin ! $ move ! (3 ∷ 1 ∷ 0 ∷ []) $ fjoin3 ! $ move ! (2 ∷ []) $
         use1 𝓛 (raw (⟦ parts_at full_share ks zero a b o ⟧ -∗ ⟦ Fields s ⟧)) (all_e 𝓤 (λ (u : Denots (rows_of ks)). ⟦ parts_at full_share ks zero u b o ⟧ -∗ ⟦ part_at Data full_share u b o ⟧) a) $
         move ! (1 ∷ 0 ∷ []) $ use2 𝓛 (‵ (Fields s)) (apply∗ 𝓤 ⟦ parts_at full_share ks zero a b o ⟧ ⟦ Fields s ⟧) $ by ! (from k s))
@@ -152,15 +152,15 @@ module _ {M : Type 1} {𝓤 : Ura M} (𝓛 : Logic 𝓤) (m ms : Member) (V Y K 
         use1 𝓛 ((‵ Mark ⊛ ‵ (First s.0) ⊛ ‵ (At s.2) ⊛ ‵ (Second s.1) ⊛ ‵ ftrue) ⊛ raw Back)
         (Struct-parts 𝓛 full_share [] ks (Struct-Lawful 𝓛 (denote.Struct.Declared.shape (marker.the_type Both)) tt, (u64-laws.lawful 𝓛, (L, (LS, tt)))) (data_of s) b o) $ split ! $ split3 ! $
         move ! (1 ∷ []) $ use1 𝓛 (‵ (word b (o + 0) s.0)) (word_out 𝓛 b (o + 0) s.0) $ move ! (2 ∷ []) $ split3 ! $
-        -- [the value; the second word; nothing; the first word; the marker; the way back; the rule]
+        -- context: [the value; the second word; nothing; the first word; the marker; the way back; the rule]
         move ! (3 ∷ 1 ∷ []) $ fjoin ! $ move ! (3 ∷ 4 ∷ []) $ use2 𝓛 (raw Joins) (joins k) $ show ! Apart (k, s) $ keep ! (1 ∷ 2 ∷ 4 ∷ 0 ∷ []) $ done !))
 
-    -- the cell again, from any value that the rule allows
+    -- the words and any value that the rule allows make the cell again
     pub rejoined : (s : All) → Rule s → ⟦ At s.2 ⟧ ∗ ⟦ standing_words (s.0, s.1) ⟧ ∗ Joins ⊢ ⟦ P ⟧
     rejoined s rule = qed 𝓛 (‵ (At s.2) ∷ ‵ (standing_words (s.0, s.1)) ∷ raw Joins ∷ []) ∵ nothing ! $ fpack ! (Rule s) (λ _. ftrue) rule $ move ! (1 ∷ 0 ∷ []) $ join ! $ move ! (1 ∷ 0 ∷ []) $ join ! $ move ! (1 ∷ []) $
         use1 𝓛 (raw (joined s)) (all_e 𝓤 joined s) $ move ! (1 ∷ 0 ∷ []) $ by ! (apply∗ 𝓤 (⟦ standing_words (s.0, s.1) ⟧ ∗ ⟦ At s.2 ⟧ ∗ ⟦ fact (Rule s) ⟧) ⟦ P ⟧)
 
--- the cell under another key
+-- The same for a cell that gets another key.
 module _ {M : Type 1} {𝓤 : Ura M} (𝓛 : Logic 𝓤) (m ms : Member) (V Y K : RattleType) (g : Ghosts Y.Denot (row_of m).Denot V.Denot K.Denot (row_of ms).Denot) (old key : K.Denot) (b o : ℕ)
     (lends : Lends (g.holds old) (g.ways old) (g.holds key) (g.ways key)) where
   open (signs 𝓛) use {◌⊢◌, ◌∗◌, ◌-∗◌, ⟦◌⟧}

@@ -26,7 +26,7 @@ module _ {M : Type 1} {𝓤 : Ura M} (𝓛 : Logic 𝓤) (R : RattleType) (γ : 
   sum : (g : Gv) (r e f : Share) → r ∈ Share.op e f → ◌∈◌ {α = Share × Gv} (r, g) (halved.op (e, g) (f, g))
   sum g r e f m = Prod.mk-mem-op Share.op (Ag.op (SetCoded-set (coded itself))) {a = e} {a' = f} {x = r} {b = g} {b' = g} {y = g} m (Ag.idem (SetCoded-set (coded itself)) g)
 
-  -- a share of which P holds
+  -- a share that satisfies P
   abbrev Some : (Share → Type 0) → Round R → Fml
   Some P s = fex Share (λ e. fex (P e) (λ _. share R γ s e))
 
@@ -65,7 +65,7 @@ module _ {M : Type 1} {𝓤 : Ura M} (𝓛 : Logic 𝓤) (R : RattleType) (γ : 
       use1 𝓛 (‵ (parts R γ s 1) ⊛ ‵ (parts R γ s (2 ^ 63 - 1))) (parts_cut s (2 ^ 63) 1 (2 ^ 63 - 1) (omega arith) (omega arith) (omega arith) (omega arith)) $ split ! $
       by ! (glued s 1 (2 ^ 63 - 1) full_share (Counts-all 63))
 
-  -- two shares are of one round, and so of one value
+  -- two shares under one name are of one round, and so of one value
   shares_agree : (s u : Round R) (e f : Share) → ⟦ share R γ s e ⟧ ∗ ⟦ share R γ u f ⟧ ⊢ guard 𝓤 (s ≡ u) (⟦ share R γ s e ⟧ ∗ ⟦ share R γ u f ⟧)
   shares_agree s u e f = let g : Gv = round_code R s in let h : Gv = round_code R u in let Z : SProp 𝓤 = ⟦ tag γ e g ⟧ ∗ ⟦ tag γ f h ⟧ in
       qed 𝓛 (‵ (share R γ s e) ∷ ‵ (share R γ u f) ∷ []) ∵ fsplit ! $ move ! (2 ∷ []) $ fsplit ! $ move ! (3 ∷ 1 ∷ []) $
@@ -78,7 +78,7 @@ module _ {M : Type 1} {𝓤 : Ura M} (𝓛 : Logic 𝓤) (R : RattleType) (γ : 
       use2 𝓛 (given (s ≡ u) (‵ (share R γ s e) ⊛ ‵ (share R γ u f))) (shares_agree s u e f) $ learn ! (λ same. check ! same $ split ! $
       use1 𝓛 (‵ (Some P s)) (some_in P s e is) $ move ! (1 ∷ []) $ use1 𝓛 (‵ (Some Q u)) (some_in Q u f it) $ move ! (1 ∷ []) $ done !)))))
 
-  -- so two parts are
+  -- so i parts and j parts are of one round
   pub parts_agree : (s u : Round R) (i j : ℕ) → ⟦ parts R γ s i ⟧ ∗ ⟦ parts R γ u j ⟧ ⊢ guard 𝓤 (s ≡ u) (⟦ parts R γ s i ⟧ ∗ ⟦ parts R γ u j ⟧)
   parts_agree s u i j = some_agree (λ r. Counts 63 r i) (λ r. Counts 63 r j) s u
 

@@ -1,4 +1,4 @@
--- The views in the invariant: one at a time, and at the beginning. Assumes `Logic`.
+-- The views in the invariant: how one of them changes, and how the list begins. Assumes `Logic`.
 use Rattle.std.proofs.Common.{◌≡◌, ℕ, zero, suc, ◌+◌, List, [], ◌∷◌, ◌++◌, set, sym, refl, ap, subst, arith, Option, Some, None}
 use mathlib.Core.Path.{Path}
 use mathlib.Core.Option.{some}
@@ -44,7 +44,7 @@ module _ {M : Type 1} {𝓤 : Ura M} (𝓛 : Logic 𝓤) {V : Type 0} (cv : Code
   two_parts : (g : Gv) → ◌∈◌ {α = Share × Gv} (full_share, g) (halved.op (quarter, g) (three_quarters, g))
   two_parts g = Prod.mk-mem-op Share.op (Ag.op (SetCoded-set (coded itself))) {a = quarter} {a' = three_quarters} {x = full_share} {b = g} {b' = g} {y = g} Share.quarters (Ag.idem (SetCoded-set (coded itself)) g)
 
-  -- the whole of an entry becomes a view, in two parts
+  -- a whole entry gets a view, and is split in two parts
   resets : (k : ℕ) (g : Gv) (u : V) → ⟦ Whole k g ⟧ ⊢ upd 𝓤 (⟦ L k u ⟧ ∗ ⟦ R k u ⟧)
   resets k g u = let B : Share × Gv → Type 0 = λ x. Path (Share × Gv) x (full_share, c u) in let F : Share × Gv → SProp 𝓤 = λ x. guard 𝓤 (B x) ⟦ entry halved γ k x ⟧ in let Z : SProp 𝓤 = ⟦ L k u ⟧ ∗ ⟦ R k u ⟧ in
       via 𝓤 (upd 𝓤 (ex 𝓤 F)) (entry_set halved 𝓛 γ k (full_share, g) B ∣ ((full_share, c u), refl) ∣₁ (λ f d. absurd (not-OpDef-full_share f.0 d.0)))
@@ -97,7 +97,7 @@ module _ {M : Type 1} {𝓤 : Ura M} (𝓛 : Logic 𝓤) {V : Type 0} (cv : Code
   abbrev pub Placed : Option V → List V → ℕ → SProp 𝓤
   Placed view vs id = guard 𝓤 (Stands id view vs) (all 𝓤 (Turned id view vs))
 
-  -- a party has a place among the views, or takes the next one, and there it gets any view
+  -- a party has its place among the views, or takes the next one; at that place it gets any view
   pub places : (view : Option V) (vs : List V) → ⟦ roster c γ 0 vs ⟧ ∗ ⟦ Stand view ⟧ ⊢ ex 𝓤 (Placed view vs)
   places None vs = qed 𝓛 (‵ (roster c γ 0 vs) ∷ ‵ ftrue ∷ []) ∵ Kit.show ! (Placed None vs) 0 $ check ! tt $ each ! (Turned 0 None vs) (λ w.
       use1 𝓛 (raw (Turned 0 None vs w)) (joins vs 0 w) $ keep ! (0 ∷ []) $ done !)
@@ -108,7 +108,7 @@ module _ {M : Type 1} {𝓤 : Ura M} (𝓛 : Logic 𝓤) {V : Type 0} (cv : Code
       settle 𝓛 Z (‵ (roster c γ 0 us) ⊛ ‵ (R id w)) $ split ! $ suffices ! Z (upd_i 𝓤 Z) $
       move ! (1 ∷ []) $ fpack ! ℕ (λ i. R i w) id $ move ! (1 ∷ 0 ∷ []) $ done !)))
 
-  -- the views of parties that have left
+  -- unused entries become the views of parties that have left
   pub enrols : (vs : List V) (k : ℕ) (g : Gv) → ⟦ unused γ k g ⟧ ⊢ upd 𝓤 ⟦ roster c γ k vs ⟧
   enrols [] k g = qed 𝓛 (‵ (unused γ k g) ∷ []) ∵ suffices ! _ (upd_i 𝓤 ⟦ roster c γ k [] ⟧) $ fpack ! Gv (unused γ k) g $ done !
   enrols (w ∷ ws) k g = let Z : SProp 𝓤 = ⟦ roster c γ k (w ∷ ws) ⟧ in qed 𝓛 (‵ (unused γ k g) ∷ []) ∵ use1 𝓛 (‵ (Whole k g) ⊛ ‵ (unused γ (suc k) g)) (entries_take halved 𝓛 γ k (λ _. (full_share, g))) $ split ! $

@@ -1,5 +1,4 @@
--- A round begins and ends: the value is lent for a new lifetime, and is given back when that has ended. Assumes
--- `Logic`.
+-- A round begins when the value is lent for a new lifetime. It ends when that lifetime has ended and the value is back. Assumes `Logic`.
 use Rattle.std.proofs.Common.{ℕ, zero, suc, ◌+◌, ◌-◌, ◌^◌, ◌<◌, Bool, false, [], ◌∷◌, ◌++◌, Option, Some, None}
 use seplogic.Ra.Ura.{Ura}
 use base.Fraction.{full_share}
@@ -39,13 +38,13 @@ module _ {M : Type 1} {𝓤 : Ura M} (𝓛 : Logic 𝓤) (R : RattleType) (b o :
   next None = ffalse
   next (Some x) = fex ℕ (begun x)
 
-  -- what a party has during a step; a writer has begun the next round already, if others may begin to read
+  -- what a party has during a step; if others may read next, a writer has already begun the next round
   abbrev pub held : Use → Way R.Denot → Option R.Denot → Fml
   held writes lends v = next v
   held writes (fixes fact) v = next v
   held u way v = right R b o t way u v
 
-  -- from a borrow of the value: what is shared of it for a new lifetime
+  -- from a borrow of the value a new lifetime begins, for which the value is shared
   pub begins : (l : Lft) → Shares 𝓛 R l → (x : R.Denot) (μ : Lft) (s : Share) (τ : Lft) (r : Share) → Incl μ α → Incl τ l
       → ⟦ tracked R b o t x ⟧ ∗ A.lft μ s ∗ A.lft τ r ⊢ H.⇛ (⟦ fex ℕ (begun x) ⟧ ∗ A.lft μ s ∗ A.lft τ r)
   begins l shares x μ s τ r i j = let e : ℕ = o + offset R in
@@ -62,7 +61,7 @@ module _ {M : Type 1} {𝓤 : Ura M} (𝓛 : Logic 𝓤) (R : RattleType) (b o :
   ends x a = qed 𝓛 (‵ (begun x a) ∷ []) ∵ updating ! $ fsplit ! $ lft_end ! tt $ use1 𝓛 (‵ (fdead (a ∷ α))) (𝓛.lfts.dead-incl (a ∷ α) (a ∷ []) (meet_⊑_left (a ∷ []) α)) $
       move ! (1 ∷ []) $ fsplit3 ! $ move ! (3 ∷ 2 ∷ []) $ lent_back ! tt $ move ! (1 ∷ 0 ∷ []) $ fjoin ! $ now ! $ keep ! (0 ∷ []) $ done !
 
-  -- the round that a writer began is that of the cell
+  -- the whole of the cell's round, which a writer began
   abbrev pub whole : R.Denot → Fml
   whole x = fex ℕ (λ a. fsep (share R t.round (a, x) full_share) (shared R b o t (a, x)))
 
@@ -74,21 +73,21 @@ module _ {M : Type 1} {𝓤 : Ura M} (𝓛 : Logic 𝓤) (R : RattleType) (b o :
   pub renewed : (x : R.Denot) (Z : SProp 𝓤) → ⟦ whole x ⟧ ⊢ Z → ⟦ idle t.round ⟧ ∗ ⟦ fex ℕ (begun x) ⟧ ⊢ upd 𝓤 Z
   renewed x Z to = via 𝓤 (upd 𝓤 ⟦ whole x ⟧) (renews x) (upd_mono 𝓤 {P = ⟦ whole x ⟧} {Q = Z} to)
 
-  -- a whole round is the state of the value, with room for r readers that have not begun
+  -- a whole round is the state of the value with r readers, whose parts are put aside
   pub rests_lent : (r : ℕ) (x : R.Denot) → r < 2 ^ 63 → ⟦ whole x ⟧ ⊢ ⟦ resting R b o t lends r x ⟧
   rests_lent r x small = qed 𝓛 (‵ (whole x) ∷ []) ∵ fpick ! (λ a. fsplit ! $
       use1 𝓛 (‵ (parts R t.round (a, x) (2 ^ 63))) (parts_in 𝓛 R t.round (a, x) (2 ^ 63) full_share (Counts-all 63)) $
       use1 𝓛 (‵ (parts R t.round (a, x) (2 ^ 63 - r))) (parts_but 𝓛 R t.round (a, x) r small) $
       fjoin ! $ fpack ! ℕ (λ c. fsep (parts R t.round (c, x) (2 ^ 63 - r)) (shared R b o t (c, x))) a $ done !)
 
-  -- or it is the state in which the first reader reads for ever
+  -- a whole round is also the state of the way `fixes` with r readers
   pub rests_fixed : (fact : Bool → R.Denot → Type 0) (r : ℕ) (x : R.Denot) → Fixed (fixes fact) r 0 x → ⟦ whole x ⟧ ⊢ ⟦ resting R b o t (fixes fact) r x ⟧
   rests_fixed fact zero x known = qed 𝓛 (‵ (whole x) ∷ []) ∵ fpick ! (λ a. fsplit ! $ fpack ! (fact false x) (λ _. share R t.round (a, x) full_share) known $
       fjoin ! $ fpack ! ℕ (λ c. fsep (remains R fact t.round (c, x) zero) (shared R b o t (c, x))) a $ done !)
   rests_fixed fact (suc r) x known = qed 𝓛 (‵ (whole x) ∷ []) ∵ fpick ! (λ a. fsplit ! $ use1 𝓛 (‵ (piece R (fixes fact) t.round (a, x))) (piece_in 𝓛 R t.round (fixes fact) (a, x) full_share known) $
       fjoin ! $ fpack ! ℕ (λ c. fsep (remains R fact t.round (c, x) (suc r)) (shared R b o t (c, x))) a $ done !)
 
-  -- before a step, and after it
+  -- before a step a party's right becomes what it has during the step
   pub readies : (l : Lft) → Shares 𝓛 R l → (u : Use) (way : Way R.Denot) (v : Option R.Denot) (μ : Lft) (s : Share) (τ : Lft) (r : Share) → Incl μ α → Incl τ l
       → ⟦ right R b o t way u v ⟧ ∗ A.lft μ s ∗ A.lft τ r ⊢ H.⇛ (⟦ held u way v ⟧ ∗ A.lft μ s ∗ A.lft τ r)
   readies l shares writes lends (Some x) = begins l shares x

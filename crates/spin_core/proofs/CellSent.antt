@@ -1,5 +1,5 @@
--- A cell may be shared if the value may, and its parties may then be sent. If `sees` has it, what is shared of the
--- value is the same for every thread.
+-- What a `&` to a cell owns, and what a permit owns, does not depend on the thread, if the value is `Send` and the rule is `Sync`. `sees`
+-- says that a value which parties share is `Sync`.
 use Rattle.std.proofs.Common.{◌≡◌, Bool, ℕ, zero, suc, ◌+◌, List, [], ◌∷◌, refl, Option, Some, None}
 use base.Fraction.{full_share}
 use base.Stored.{Gv}

@@ -1,5 +1,5 @@
--- One step on the words of a cell. The party gives back what it had of the value, gets a new view, and takes what that
--- view may use. It also appends to the trace, and a watch is brought up to date. Assumes `Logic`.
+-- One step on the words of a cell. The party gives back what it had of the value, gets a new view, and takes the part of the value that
+-- this view uses. The step also appends to the trace and updates a watch. Assumes `Logic`.
 --     first_steps, second_steps     a step on the first word, and one on the word next to the trace
 use Rattle.std.proofs.Common.{◌≡◌, ◌⊎◌, ◌∙◌, ◌++◌, ℕ, ◌+◌, T, [], ◌∷◌, List, refl, sym, subst, w64, Option, Some, None, ap, ◌<◌}
 use mathlib.Core.Logic.{inl, inr}
@@ -54,7 +54,7 @@ module _ {M : Type 1} {𝓤 : Ura M} (𝓛 : Logic 𝓤) (Er Ur : RattleType) wh
   abbrev pub Known : ℕ → List E → Fml
   Known = known_owns Er.coded.code
 
-  -- what a watch of this trace knew is a prefix; so it is of one that knew nothing
+  -- what a watch of this trace knew is a prefix of the trace; a watch that knew nothing knows the empty prefix
   knew : (γ : ℕ) (k : List E) (m : Trace E U) → (k ≡ []) ⊎ (m.name ≡ γ) → ⟦ Log m ⟧ ∗ ⟦ Known γ k ⟧ ⊢ guard 𝓤 (IsPrefix k m.entries) ⟦ Log m ⟧
   knew γ k m (inl none) = qed 𝓛 (‵ (Log m) ∷ ‵ (Known γ k) ∷ []) ∵ move ! (1 ∷ []) $ drop ! $
       check ! (subst (λ l. IsPrefix l m.entries) (sym none) (m.entries, refl)) $ done !
@@ -117,18 +117,18 @@ module _ {M : Type 1} {𝓤 : Ura M} (𝓛 : Logic 𝓤) (Er Ur : RattleType) wh
     abbrev Got : Trace E U → V → Fml
     Got m w = value.Got 𝓛 R L b o t way (know m) u (f w) v
 
-    -- what a step tells if it found the number n and the trace then has these entries
+    -- what a step tells that found the number n, if the trace then has the entries es
     abbrev pub finding : List E → (ℕ → V → Type 0) → ℕ → V → Option R.Denot → Type 0
     finding es then n w x = then n w × Learnt ways.2 u (f w) v x es
 
-    -- and what it leaves to its party
+    -- what such a step leaves to its party
     abbrev pub left_to : (V → Option R.Denot → Type 0) → V × Option R.Denot → Fml
     left_to tells s = fsep (fact (tells s.0 s.1 × Keeps ways view (Some s.0) v s.1)) (fsep (Stand (Some s.0)) (Held (f s.0) s.1))
 
     abbrev pub moved : (V → Option R.Denot → Type 0) → Fml
     moved tells = fex (V × Option R.Denot) (left_to tells)
 
-    -- where the trace is
+    -- the place of the trace in memory
     abbrev pub at : ℕ
     at = o + second_at S R
 
@@ -139,7 +139,7 @@ module _ {M : Type 1} {𝓤 : Ura M} (𝓛 : Logic 𝓤) (Er Ur : RattleType) wh
     use_part g none None = sym none
     use_part g none (Some w) = refl
 
-    -- what a step must show that leads from m to these words and views, if r parties read
+    -- what a step from m must show that leads to these words and views, while r parties read
     abbrev Owed : ℕ → Trace E U → ℕ × Trace E U → List V → V → Type 0
     Owed r m s us w = Going way u (f w) v r (Carrying ways.2 m s.1 u (f w) v (Meets holds ways s.0 s.1 us))
 
@@ -168,7 +168,7 @@ module _ {M : Type 1} {𝓤 : Ura M} (𝓛 : Logic 𝓤) (Er Ur : RattleType) wh
           (going_map way u (f w) v (readers_of f vs) limits_of owed)
           (carrying_carries ways.2 m s.1 u (f w) v (Meets holds ways s.0 s.1 us) carrying)
 
-      -- the rule holds again, and the party has what it got
+      -- the rule holds again, and the party has its new view and its part of the value
       leads : (then : ℕ → V → Type 0) (k : ℕ) → then k w → ⟦ roster cv.code ρ 0 us ⟧ ∗ ⟦ Stand (Some w) ⟧ ∗ ⟦ states s.1 us ⟧ ∗ ⟦ Got s.1 w ⟧
           ⊢ ⟦ Core s ⟧ ∗ ⟦ moved (finding s.1.entries then k) ⟧
       leads then k so = let tells : V → Option R.Denot → Type 0 = finding s.1.entries then k in
@@ -196,19 +196,18 @@ module _ {M : Type 1} {𝓤 : Ura M} (𝓛 : Logic 𝓤) (Er Ur : RattleType) wh
       abbrev pub watched : ℕ → List E → ℕ → Fml
       watched γ k n = fex (ℕ × (List E × List E)) (seen_by γ k n)
 
-      -- what a step needs that finds the number k and leaves the words n and y; before it the words were n₀ and the one
-      -- next to m
+      -- What a step must show that finds the number k and changes the words from n₀ and that of m to n and y.
       abbrev pub Grows : ℕ → Trace E U → ℕ → U → ℕ → Type 0
       Grows n₀ m n y k = (id : ℕ) (vs : List V) → Meets holds ways n₀ m vs → Stands id view vs
           → (w : V) × (es : List E) × Owed (readers_of f vs) m (n, grown_at m y es) (after id view vs w) w × told m.entries es k w
 
-      -- the step, with its words in place
+      -- the ghost part of such a step, if its words already stand in memory
       pub grows : (γ : ℕ) (k : List E) → May γ k → (n₀ n : ℕ) (m : Trace E U) (y : U) (found : ℕ) → Grows n₀ m n y found
           → ⟦ word b (o + 0) n ⟧ ∗ ⟦ Traced (beside m y) ⟧ ∗ ⟦ Core (n₀, m) ⟧ ∗ ⟦ Mine ⟧ ∗ ⟦ Known γ k ⟧ ⊢ upd 𝓤 (⟦ I ⟧ ∗ ⟦ watched γ k found ⟧)
       grows γ k may n₀ n m y found law = let m' : Trace E U = beside m y in let Z : SProp 𝓤 = ⟦ I ⟧ ∗ ⟦ watched γ k found ⟧ in
           qed 𝓛 (‵ (word b (o + 0) n) ∷ ‵ (Traced m') ∷ ‵ (Core (n₀, m)) ∷ ‵ Mine ∷ ‵ (Known γ k) ∷ []) ∵
           move ! (2 ∷ []) $ fpick ! (λ vs. fsplit ! $ move ! (4 ∷ []) $ fsplit ! $ move ! (2 ∷ 0 ∷ []) $
-          -- [the views; the party's view; what it had; the rest of the core; the first word; the trace; the watch]
+          -- context: [the views; the party's view; what it had; the rest of the core; the first word; the trace; the watch]
           use2 𝓛 (some (λ (id : ℕ). given (Stands id view vs) (raw (all 𝓤 (Turned 𝓛 cv ρ id view vs))))) (places 𝓛 cv ρ view vs) $
           pick ! (λ id. learn ! (λ here. move ! (2 ∷ []) $ fsplit ! $ fpick ! (λ meets. drop ! $
           let r = law id vs meets here in let w : V = r.0 in let es : List E = r.1 in let s : ℕ × Trace E U = (n, grown_at m y es) in
@@ -221,13 +220,13 @@ module _ {M : Type 1} {𝓤 : Ura M} (𝓛 : Logic 𝓤) (Er Ur : RattleType) wh
           (shows γ k m' es b at (name_of γ m.name k may (λ named. named n₀ m vs meets))) $ learn ! (λ p.
           settle 𝓛 Z (‵ (Traced s.1) ⊛ ‵ Now) $ split ! $ suffices ! Z (upd_i 𝓤 Z) $ move ! (4 ∷ 5 ∷ 2 ∷ 3 ∷ []) $ group ! 4 $
           use1 𝓛 (‵ (Core s) ⊛ ‵ (moved (finding s.1.entries (told m.entries es) found))) (leads id vs m s w r.2 (told m.entries es) found r.3) $ split ! $
-          -- [the core; what the step leaves; the trace; what the watch knows; the first word]
+          -- context: [the core; what the step leaves; the trace; what the watch knows; the first word]
           move ! (2 ∷ 0 ∷ []) $ fjoin ! $ move ! (3 ∷ 0 ∷ []) $ fjoin ! $ fpack ! (ℕ × Trace E U) (standing R b o t cv.code S holds ways) s $
           move ! (2 ∷ 1 ∷ []) $ fjoin ! $ nothing ! $
           fpack ! (IsPrefix k m.entries × (Named holds ways γ → m.name ≡ γ)) (λ _. ftrue) (p, λ named. named n₀ m vs meets) $ fjoin ! $
           fpack ! (ℕ × (List E × List E)) (seen_by γ k found) (m.name, (m.entries, es)) $ move ! (1 ∷ 0 ∷ []) $ done !)))))
 
-      -- a word is found, and another one put in its place
+      -- a step finds the word n, and puts `to n` in its place
       pub answers : (e : ℕ) (to : ℕ → ℕ) (q : Share) (left : ℕ → Fml) (n : ℕ) (P : SProp 𝓤) → (n < words → ⟦ word b e (to n) ⟧ ∗ P ⊢ upd 𝓤 (⟦ I ⟧ ∗ ⟦ left n ⟧))
           → ⟦ word b e n ⟧ ∗ P ⊢ ex 𝓤 (Lies 𝓛 t.life q I b e to always left)
       answers e to q left n P go = qed 𝓛 (‵ (word b e n) ∷ raw P ∷ []) ∵

@@ -1,5 +1,5 @@
--- The value's borrow leaves a write permit, for the rest of the cell's borrow or for a borrow of the permit. The permit
--- then follows it. Assumes `Logic`.
+-- The borrow of the value leaves a write permit, either for the rest of the cell's borrow or for a borrow of the permit. In the second case
+-- the permit follows the borrowed value. Assumes `Logic`.
 use Rattle.std.proofs.Common.{◌≡◌, ℕ, ◌+◌, List, [], ◌∷◌, ◌++◌, refl}
 use seplogic.Ra.Ura.{Ura}
 use mir.Syntax.{Lifetime}
@@ -38,7 +38,7 @@ module _ {M : Type 1} {𝓤 : Ura M} (𝓛 : Logic 𝓤) where
       use2 𝓛 (later (‵ (flft κ q))) (apply∗ 𝓤 (A.lft (ν ++ κ) r) (H.⇛ (A.lft κ q))) $ await ! tt $ move ! (2 ∷ 1 ∷ 0 ∷ []) $
       use3 𝓛 (later (‵ (fbor κ P) ⊛ ‵ (flft κ q))) (bor-within 𝓛 κ ν q P) $ await ! tt $ now ! $ done !)
 
-  -- a borrow is one for any lifetime that ends before it
+  -- a borrow lasts for any lifetime that ends before its own
   pub lasts : (κ α : Lft) (q : Share) (P : Fml) → ⟦ before κ α ⟧ ∗ A.bor α P ∗ A.lft κ q ⊢ H.⇛ (A.bor κ P ∗ A.lft κ q)
   lasts κ α q P = qed 𝓛 (‵ (before κ α) ∷ ‵ (fbor α P) ∷ ‵ (flft κ q) ∷ []) ∵ fpick ! (λ νs. by ! (lasts_chain νs κ α q P))
 
@@ -46,7 +46,7 @@ module _ {M : Type 1} {𝓤 : Ura M} (𝓛 : Logic 𝓤) where
     abbrev Pen : R.Denot → Fml
     Pen x = writer_owns Y R cv.code S holds ways β (block_ptr c e) w x
 
-    -- a write permit is the value's borrow, and what makes that a permit again at any value
+    -- a write permit is the borrow of its value, with the way to make a permit again from the borrow of any value
     abbrev pub Cut : R.Denot → Id → SProp 𝓤
     Cut x t = ⟦ before β t.life ⟧ ∗ ⟦ tracked R c e t x ⟧ ∗ all 𝓤 (λ (z : R.Denot). ⟦ tracked R c e t z ⟧ -∗ ⟦ Pen z ⟧)
 
@@ -62,7 +62,7 @@ module _ {M : Type 1} {𝓤 : Ura M} (𝓛 : Logic 𝓤) where
       abbrev Again : Id → R.Denot → SProp 𝓤
       Again t z = ⟦ tracked R c e t z ⟧ -∗ Whole z
 
-      -- a whole that contains the permit is split in the same way
+      -- the same for an object that contains the permit
       abbrev pub Opened : R.Denot → Id → SProp 𝓤
       Opened x t = ⟦ before β t.life ⟧ ∗ ⟦ tracked R c e t x ⟧ ∗ all 𝓤 (Again t)
 

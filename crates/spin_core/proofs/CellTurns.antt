@@ -19,11 +19,12 @@ use Rattle.spin_core.proofs.CellParts.{parts_cut, parts_glue, parts_whole, parts
 use Rattle.spin_core.proofs.CellRounds.{begun, held, whole, renewed, rests_lent, rests_fixed}
 use Rattle.spin_core.proofs.Signs.{signs}
 
--- one reader more, or one writer more, if a party uses the value so
+-- the number of readers with one more party, which uses the value in this way
 abbrev pub with_reader : Use → ℕ → ℕ
 with_reader reads r = suc r
 with_reader _ r = r
 
+-- the number of writers with one more party, which uses the value in this way
 abbrev pub with_writer : Use → ℕ → ℕ
 with_writer writes w = suc w
 with_writer _ w = w
@@ -45,16 +46,16 @@ module _ {X : Type 0} where
   abbrev Lim : Way X → ℕ → ℕ → Use → Type 0
   Lim way r w u = Limits way (with_reader u r) (with_writer u w)
 
-  -- nobody else writes while a party uses the value
+  -- while a party uses the value, nobody else writes it
   none_else : (u : Use) (way : Way X) (r w : ℕ) → u ≢ off → Lim way r w u → w ≡ 0
   none_else u way r w on lim = grind arith
 
-  -- how many readers there are where a party takes its part: one that may read for ever takes it from another
+  -- how many readers there are when a party takes its part; in the way `fixes` a reader takes its part from a part of another reader
   abbrev room : Way X → Use → ℕ → ℕ
   room (fixes facts) reads r = suc r
   room _ u r = r
 
-  -- what is known of a value that a party gives back, if φ is known of one that nobody writes
+  -- what is known of a value that a party gives back, if φ holds of a value that nobody writes
   abbrev Had : (X → Type 0) → Use → X → Type 0
   Had φ writes x = Unit {0}
   Had φ _ x = φ x
@@ -65,7 +66,7 @@ module _ {X : Type 0} where
   shows _ off x = refl
   shows _ _ x = refl
 
-  -- only a party that begins to use the value finds out something
+  -- a party that already uses the value learns no more than one that begins to use it
   finds_so : (way : Way X) (u u' : Use) (x : X) → Finds way off u' (shown_to u' x) → Finds way u u' (shown_to u' x)
   finds_so way off u' x finds = finds
   finds_so alone _ u' x finds = tt
@@ -87,7 +88,7 @@ module _ {X : Type 0} where
     learns _ off x known = known
     learns _ _ x known = known
 
-    -- what is known after the step, unless the party writes on
+    -- after a step ψ holds of the value, unless the party writes on
     known_after : (u u' : Use) (x : X) → (u ≡ writes → u' ≢ writes) → Carries φ ψ u u' (shown_to u x) → Had φ u x → ψ x
     known_after off u' x turned owed had = owed x had
     known_after reads u' x turned owed had = owed x had
@@ -116,7 +117,7 @@ module _ {M : Type 1} {𝓤 : Ura M} (𝓛 : Logic 𝓤) (R : RattleType) (L : R
   abbrev V : X → Lft → Fml
   V = shown R b o
 
-  -- what is lent of a round to r readers, and the rest of it
+  -- a round of which r readers have their parts: the other parts, and what is shared
   abbrev lent : ℕ → Round R → Fml
   lent r s = fsep (parts R γ s (2 ^ 63 - r)) (shared R b o t s)
 
@@ -152,7 +153,7 @@ module _ {M : Type 1} {𝓤 : Ura M} (𝓛 : Logic 𝓤) (R : RattleType) (L : R
     gave_whole way u' x to =
         renewed 𝓛 R b o t x ⟦ Given way writes u' (Some x) ⟧ (via 𝓤 ⟦ Rest way (room way u' r) x ⟧ to (gave way writes u' (Some x) x refl tt))
 
-    -- a reader gives back one part, which is of the round that the state has
+    -- a reader gives back one part; the part is of the round in the state
     gave_part : (u' : Use) (x : X) → r < 2 ^ 63 → ⟦ St lends φ (suc r) 0 ⟧ ∗ ⟦ reader R b o t lends x ⟧ ⊢ ⟦ Given lends reads u' (Some x) ⟧
     gave_part u' x small = qed 𝓛 (‵ (St lends φ (suc r) 0) ∷ ‵ (reader R b o t lends x) ∷ []) ∵ fpick ! (λ y. fpick ! (λ known. fpick ! (λ a.
         fsplit ! $ move ! (2 ∷ []) $ fpick ! (λ c. let s : Round R = (a, y) in let u : Round R = (c, x) in fsplit ! $ move ! (2 ∷ 0 ∷ []) $
@@ -163,7 +164,7 @@ module _ {M : Type 1} {𝓤 : Ura M} (𝓛 : Logic 𝓤) (R : RattleType) (L : R
         rewrite ! 0 (λ (z : Round R). ‵ (shared R b o t z)) same refl $ move ! (1 ∷ 0 ∷ []) $ fjoin ! $ fpack ! ℕ (λ e. lent r (e, x)) c $
         keep ! (0 ∷ []) $ by ! (gave lends reads u' (Some x) x refl (subst (λ (z : Round R). φ z.1) same known)))))))
 
-    -- a reader that may read for ever lets its piece go
+    -- in the way `fixes` a reader drops its part
     gave_piece : (facts : Bool → X → Type 0) (x : X)
         → ⟦ St (fixes facts) φ (suc r) 0 ⟧ ∗ ⟦ reader R b o t (fixes facts) x ⟧ ⊢ ⟦ Given (fixes facts) reads reads (Some x) ⟧
     gave_piece facts x = let way : Way X = fixes facts in
@@ -236,7 +237,7 @@ module _ {M : Type 1} {𝓤 : Ura M} (𝓛 : Logic 𝓤) (R : RattleType) (L : R
         use1 𝓛 (given (facts true x) (‵ (piece R way γ (a, x)) ⊛ ‵ (piece R way γ (a, x)))) (piece_cut 𝓛 R γ facts (a, x)) $
         learn ! (λ so. check ! so $ split ! $ by ! (taken way r (λ s. piece R way γ s) x a known (id⊢ 𝓤 _))))
 
-    -- one that writes takes the whole round
+    -- each party takes what it may use: a writer takes the whole round
     takes : (way : Way X) (r : ℕ) (u : Use) (x : X) → ψ x → Lim way r 0 u → Takes way r u x
     takes alone r off x known lim = takes_nothing alone r x known (Unit {0}) tt
     takes way r off x known lim = takes_nothing way r x known (Unit {0}) tt
@@ -266,14 +267,14 @@ module _ {M : Type 1} {𝓤 : Ura M} (𝓛 : Logic 𝓤) (R : RattleType) (L : R
       nothing ! $ fpack ! (Preserves way u u' v v' × Learns ψ u u' v v') (λ _. ftrue) so $ fjoin ! $
       fpack ! (Option X) (got way ψ u u' v) v' $ done !
 
-  -- before the step φ is known of a value that nobody writes, after it ψ
+  -- Before the step φ holds of a value that nobody writes; after it ψ does.
   module _ (φ ψ : X → Type 0) (way : Way X) (r : ℕ) where
     abbrev Turns : ℕ → Use → Use → Option X → Type 1
     Turns w u u' v = Lim way r w u → Going way u u' v (with_reader u r) (Lim way r w u') → Carries φ ψ u u' v
         → ⟦ St way φ (with_reader u r) (with_writer u w) ⟧ ∗ ⟦ Held u way v ⟧
         ⊢ upd 𝓤 (⟦ St way ψ (with_reader u' r) (with_writer u' w) ⟧ ∗ ⟦ Got way ψ u u' v ⟧)
 
-    -- nobody else writes: what the party had is given back, and what it may use is taken
+    -- if nobody else writes, the party gives back what it had, and takes what it may use next
     passes : (u u' : Use) (v : Option X) → (u ≡ writes → u' ≢ writes) → Turns 0 u u' v
     passes u u' v turned lim going owed =
         let Before : Fml = St way φ (with_reader u r) (with_writer u 0) in let After : Fml = St way ψ (with_reader u' r) (with_writer u' 0) in
@@ -288,7 +289,7 @@ module _ {M : Type 1} {𝓤 : Ura M} (𝓛 : Logic 𝓤) (R : RattleType) (L : R
         let so : So v x = subst (λ z. So z x) (sym had.0) ((shows u u' x, finds_so way u u' x finds), learns φ ψ u u' x known) in
         split ! $ move ! (1 ∷ []) $ use1 𝓛 (‵ (Got way ψ u u' v)) (got_in way ψ u u' v (shown_to u' x) so) $ move ! (1 ∷ 0 ∷ []) $ done !)))
 
-    -- a party stays as it is
+    -- a party that keeps its use keeps what it has
     stays : (u : Use) (P : Fml) (v : Option X) → Preserves way u u v v × Learns ψ u u v v → ⟦ P ⟧ ∗ ⟦ Held u way v ⟧ ⊢ upd 𝓤 (⟦ P ⟧ ∗ ⟦ Got way ψ u u v ⟧)
     stays u P v so = let Z : SProp 𝓤 = ⟦ P ⟧ ∗ ⟦ Got way ψ u u v ⟧ in qed 𝓛 (‵ P ∷ ‵ (Held u way v) ∷ []) ∵
         suffices ! Z (upd_i 𝓤 Z) $ move ! (1 ∷ []) $ use1 𝓛 (‵ (Got way ψ u u v)) (got_in way ψ u u v v so) $ move ! (1 ∷ 0 ∷ []) $ done !

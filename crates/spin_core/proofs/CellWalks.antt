@@ -11,7 +11,7 @@ use denote.RawPtr.{Ptr, block_ptr, null_ptr}
 use Rattle.spin_core.specs.Cell.{Use, writes, Ways, use_of}
 use Rattle.spin_core.specs.CellMemory.{Known, Id, right, permit_at, permit_owns, writer_at, writer_owns}
 
--- the view and the value exist, and are these
+-- the permit has a view and a value, and they are those of s
 abbrev pub Writes : {V X : Type 0} → Option V → Option X → V × X → Type 0
 Writes view v s = (view ≡ Some s.0) × (v ≡ Some s.1)
 
@@ -25,7 +25,7 @@ module _ {M : Type 1} {𝓤 : Ura M} (𝓛 : Logic 𝓤) (Y R : RattleType) {V :
   abbrev As : Ptr → Option V → Option R.Denot → V × R.Denot → SProp 𝓤
   As p view v s = guard 𝓤 (Writes view v s) (sem 𝓛 (Pen p s.0 s.1))
 
-  -- a permit at a view that writes is a write permit, at its value
+  -- a permit whose view writes becomes a write permit with its value
   pub to_writer : (p : Ptr) (view : Option V) (v : Option R.Denot) → use_of ways.1 view ≡ writes → ent 𝓤 (sem 𝓛 (Owns p view v)) (ex 𝓤 (As p view v))
   to_writer null_ptr view v e = never_e 𝓤 _
   to_writer (block_ptr b o) None v e = absurd cc

@@ -38,7 +38,7 @@ use Rattle.spin_core.proofs.Signs.{signs}
 use Rattle.spin_core.proofs.WalkSteps.{says, lies_at, Facts, after_facts, last_fact}
 use Rattle.spin_core.proofs.CellSteps as steps
 
--- the watch that knows these
+-- the watch with this name and these entries
 abbrev pub knowing : {E : Type 0} → ℕ × List E → Watch E
 knowing l = record { marker = record {}; name = l.0; entries = l.1 }
 
@@ -84,7 +84,7 @@ module _ {M : Type 1} {𝓤 : Ura M} (𝓛 : Logic 𝓤) (𝓜 : Model 𝓤 𝓛
     abbrev Owned : Option W.Denot → Option R.Denot → Fml
     Owned view v = permit_owns Y R W.coded.code Sr (g.holds h.key) ways β here view v
 
-    -- why the rule may share, the cell's names, and a share of its lifetime's token
+    -- three things: why parties may share the value, the cell's names, and a share of its lifetime's token
     abbrev Entry : Type 0
     Entry = Shares ways Y Sr R × (Id × Share)
 
@@ -107,7 +107,7 @@ module _ {M : Type 1} {𝓤 : Ura M} (𝓛 : Logic 𝓤) (𝓜 : Model 𝓤 𝓛
       abbrev Gives : SProp 𝓤
       Gives = A.lft t.life k.1.1 -∗ H.⇛ (A.lft β q)
 
-      -- what is left of the cell after a step, by the number found, with the watch
+      -- what the step leaves of the cell, with the watch, if it found this number
       abbrev left : ℕ → Fml
       left n = fsep alive (steps.watched 𝓛 Er Ur R LR.shr_laws b o t W.coded (g.holds h.key) ways h.view h.value told seen.name seen.entries n)
 
@@ -128,7 +128,7 @@ module _ {M : Type 1} {𝓤 : Ura M} (𝓛 : Logic 𝓤) (𝓜 : Model 𝓤 𝓛
         (readies 𝓛 R b o t R.lives (LR.shares 𝓛) u ways.0 h.value t.life s τ r (Incl-refl t.life) le) $ await ! tt $ split3 ! $
         move ! (3 ∷ 0 ∷ []) $ fjoin ! $ now ! $ show ! Entered (known, (t, s)) $ move ! (5 ∷ 1 ∷ 0 ∷ 4 ∷ 3 ∷ 2 ∷ []) $ done !)))
 
-    -- what holds of a permit that is closed: what the step tells, and that a value in use stays the same
+    -- what holds of a permit at its new view and value: the step tells it, and a value that it keeps using is the same
     abbrev Closed : (W.Denot → Option R.Denot → Type 0) → W.Denot × Option R.Denot → Type 0
     Closed tells s = tells s.0 s.1 × Keeps ways h.view (Some s.0) h.value s.1
 
@@ -149,7 +149,7 @@ module _ {M : Type 1} {𝓤 : Ura M} (𝓛 : Logic 𝓤) (𝓜 : Model 𝓤 𝓛
         use1 𝓛 (raw (ex 𝓤 (Left tells)))
         (via 𝓤 (Left tells s) (guard_i 𝓤 (Closed tells s) ⟦ Owned (Some s.0) s.1 ⟧ so) (ex_i 𝓤 (Left tells) s)) $ now ! $ done !))
 
-    -- what the party then knows of the value, and what the step tells, if the watch knows these entries
+    -- what the step tells and the party learns of the value, for a watch that knows these entries
     abbrev finds : List Er.Denot → W.Denot → Option R.Denot → Type 0
     finds es w x = Learnt ways.2 (use_of ways.1 h.view) (ways.1 w) h.value x es
 
@@ -171,18 +171,18 @@ module _ {M : Type 1} {𝓤 : Ura M} (𝓛 : Logic 𝓤) (𝓜 : Model 𝓤 𝓛
       closes t z k n os go = fsplit t $ move t (1 ∷ []) $ fpick t (λ s. let l : ℕ × List Er.Denot = (s.0, s.1.0 ++ s.1.1) in
           fsplit t $ fpick t (λ p. drop t $ fsplit t $ move t (1 ∷ []) $
           let tells : W.Denot → Option R.Denot → Type 0 = λ w x. told s.1.0 s.1.1 n w × finds l.1 w x in
-          -- [what the step leaves; what the watch knows; the lifetime's token; the way back; the other tokens]
+          -- context: [what the step leaves; what the watch knows; the lifetime's token; the way back; the other tokens]
           move t (2 ∷ 0 ∷ 3 ∷ []) $
           use3 𝓛 (later (some (λ (v : W.Denot × Option R.Denot). given (Closed tells v) (‵ (Owned (Some v.0) v.1))) ⊛ ‵ (flft β q) ⊛ ‵ (flft τ r)))
           (exits k tells) $ await t z $ split3 t $ pick t (λ v. learn t (λ so.
           use0 𝓛 (‵ ((Words ℓ R W Y Kr Sr g).own_val (here, (tt, tt)) (hand_of here ∷ []))) (made ℓ R W Y Kr Sr g 𝓛 here) $ fjoin t $
           says t (h.key ≡ h.key) refl $ says t (finds l.1 v.0 v.1) so.0.1 $ join t $ says t (Keeps ways h.view (Some v.0) h.value v.1) so.1 $ join t $
           says t (then l n v.0) (p.1, (s.1.0, s.1.1, p.0, refl, so.0.0)) $ join t $
-          -- [what the step says; the permit; two tokens; what the watch knows; the other tokens]
+          -- context: [what the step says; the permit; two tokens; what the watch knows; the other tokens]
           move t (3 ∷ 5 ∷ []) $ join t $ move t (3 ∷ 0 ∷ []) $ join t $ move t (3 ∷ []) $
           use0 𝓛 (‵ ((Token Er).own_val (record {}, tt) (token ∷ []))) (token_made Er 𝓛) $ fjoin t $ move t (0 ∷ 1 ∷ 3 ∷ []) $ go v l))))
 
-    -- the step's result: the number found, the permit and the watch; or these two alone
+    -- the step's result as a machine value: the number found, the permit and the watch; or without the number
     abbrev triple_of : ℕ → Val
     triple_of n = vstruct (vcons (vint w64 n) (vcons (hand_of here) (vcons token vnil)))
 
@@ -197,7 +197,7 @@ module _ {M : Type 1} {𝓤 : Ura M} (𝓛 : Logic 𝓤) (𝓜 : Model 𝓤 𝓛
     both s l uss = fsep (feq (List Val) (pair_of ∷ []) (vstruct (of_list (uss.0 ++ (uss.1.0 ++ []))) ∷ []))
         (owns (Hr ∷ Wr ∷ []) (next h b o s, (knowing l, tt)) uss)
 
-    -- How a walk closes the permit: from what the step leaves, by the number found, and from what was put aside.
+    -- How a walk closes the permit, from what the step leaves by the number found, and from what the walk put aside.
     pub record Closes (leaves : ℕ → Fml) (rest : SProp 𝓤) : Type 2 where
       pub found : {K : Type 0} {Γ : List (Item 𝓤)} {G : Goal 𝓤 𝓛.H} → K → Soaks G → (n : ℕ) → n < 2 ^ 64 → (os : Fml)
           → ((s : W.Denot × Option R.Denot) (l : ℕ × List Er.Denot) → Seq K 𝓛 (Tokens os ∷ ‵ (fex (Valss (u64 ∷ Hr ∷ Wr ∷ [])) (all n s l)) ∷ Says l n s ∷ Γ) G)
@@ -211,7 +211,7 @@ module _ {M : Type 1} {𝓤 : Ura M} (𝓛 : Logic 𝓤) (𝓜 : Model 𝓤 𝓛
           fpack t (Valss (u64 ∷ Hr ∷ Wr ∷ [])) (all n v l) (vint w64 n ∷ [], (hand_of here ∷ [], (token ∷ [], tt))) $ move t (1 ∷ []) $ go v l);
     }
 
-    -- and where the step found no number
+    -- The same for a step that finds no number.
     pub record Stores (leaves : Fml) (rest : SProp 𝓤) : Type 2 where
       pub stored : {K : Type 0} {Γ : List (Item 𝓤)} {G : Goal 𝓤 𝓛.H} → K → Soaks G → (os : Fml)
           → ((s : W.Denot × Option R.Denot) (l : ℕ × List Er.Denot) → Seq K 𝓛 (Tokens os ∷ ‵ (fex (Valss (Hr ∷ Wr ∷ [])) (both s l)) ∷ Says l 0 s ∷ Γ) G)
@@ -224,7 +224,7 @@ module _ {M : Type 1} {𝓤 : Ura M} (𝓛 : Logic 𝓤) (𝓜 : Model 𝓤 𝓛
           fpack t (Valss (Hr ∷ Wr ∷ [])) (both v l) (hand_of here ∷ [], (token ∷ [], tt)) $ move t (1 ∷ []) $ go v l);
     }
 
-    -- what a step on the word there asks
+    -- what the machine's step on this word asks
     abbrev Asked : Ptr → (ℕ → ℕ) → Type 1
     Asked at f = (k : Entry) → A.inv (Inv k) ∗ ⟦ alive k ⟧ ∗ ⟦ fsep (Mine k) (Known seen) ⟧ ⊢ asks 𝓛 at f always (left k)
 
@@ -247,7 +247,7 @@ module _ {M : Type 1} {𝓤 : Ura M} (𝓛 : Logic 𝓤) (𝓜 : Model 𝓤 𝓛
           → Seq K 𝓛 (‵ (Owned h.view h.value) ∷ ‵ (flft β q) ∷ ‵ (flft τ r) ∷ ‵ (Known seen) ∷ Γ) G
       opens t z le at f can go = opens_at t z le at f can (λ k. go (left k) (back k) (closes_found k))
 
-  -- the same for a step that finds none
+  -- The same for a step that finds no number.
   module _ (b o : ℕ) (h : Hr.Denot) (q : Share) (τ : Lft) (r : Share) (seen : Watch Er.Denot) (told : List Er.Denot → List Er.Denot → W.Denot → Type 0) where
     abbrev Told : List Er.Denot → List Er.Denot → ℕ → W.Denot → Type 0
     Told log es _ = told log es
@@ -264,7 +264,7 @@ module _ {M : Type 1} {𝓤 : Ura M} (𝓛 : Logic 𝓤) (𝓜 : Model 𝓤 𝓛
     (g : Ghosts Y.Denot T.Denot W.Denot Kr.Denot (trace.the_row Er u64).Denot) (b o : ℕ)
     (h : (hand.the_row ℓ (param 0 T) W Y Kr (trace.the_row Er u64) g).Denot)
     (q : Share) (τ : Lft) (r : Share) (seen : Watch Er.Denot) (told : List Er.Denot → List Er.Denot → ℕ → W.Denot → Type 0) where
-  -- where that word is
+  -- the place of the second word
   abbrev pub place : ℕ
   place = (o + second_at (trace.the_row Er u64) (param 0 T)) + 0
 
@@ -278,8 +278,7 @@ module _ {M : Type 1} {𝓤 : Ura M} (𝓛 : Logic 𝓤) (ℓ : NamedLft) (T W Y
   abbrev Row : RattleType
   Row = hand.the_row ℓ (param 0 T) W Y Kr Sr g
 
-  -- A walk has the tokens; the permit with the other arguments, which it keeps; the lifetime of its value; and last
-  -- what the step needs.
+  -- A walk begins with four things: the tokens, the permit with the other arguments, the lifetime of its value, and what the step needs.
   pub begins_with : (n : ℕ) (φs : Facts n) (h : Row.Denot) (Asked : Type 0) (q : Share) (τ : Lft) (r : Share) (os owned rest : Fml)
       → owned ≡ fsep (Row.own_val h (hand_of h.cell ∷ [])) rest → {P : SProp 𝓤}
       → (let Owned : Ptr → Fml = λ p. permit_owns Y (param 0 T) W.coded.code Sr (g.holds h.key) (g.ways h.key) ℓ.lft p h.view h.value in

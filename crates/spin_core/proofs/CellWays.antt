@@ -1,4 +1,4 @@
--- What a step needs besides the rule, part by part.
+-- What a step must show besides the rule, part by part.
 use Rattle.std.proofs.Common.{◌≡◌, ℕ, zero, suc, ◌<◌, true, false, List, Option, Some, None, refl, arith}
 use Rattle.spin_core.specs.Cell.{Use, writes, Way, fixes, Ways, Going, Frees, Limits, Fixed, Starts, readers_of, writers_of, Knowledge, no_fact, knows, IsKnown, Knowing, Freeing, Carries, Owed, Carrying, Learns}
 use Rattle.spin_core.specs.Traced.{Learnt}
@@ -13,20 +13,20 @@ module _ {X : Type 0} where
   going_map (fixes fact) u v shown r f going = (going.0, going.1, f going.2)
   going_map _ u v shown r f going = f going
 
-  -- in a way in which any value may replace an unused one, the fact is known of every value
+  -- in a way in which any value may replace an unused one, `Fixed` holds of every value
   freed : (way : Way X) → Frees way → (r w : ℕ) (x : X) → Fixed way r w x
   freed (fixes fact) frees (suc r) w x = frees true x
   freed (fixes fact) frees zero zero x = frees false x
   freed _ frees r w x = tt
 
-  -- if there is no fact, a step shows nothing
+  -- without a known fact a step has nothing to show
   carries_nothing : (u v : Use) (shown : Option X) → Carries (λ x. Unit {0}) (λ x. Unit {0}) u v shown
   carries_nothing writes writes shown = tt
   carries_nothing writes _ None = tt
   carries_nothing writes _ (Some x) = tt
   carries_nothing _ v shown = λ x known. tt
 
-  -- ---- what is known of the value in addition
+  -- ---- the known fact of a value, beside another statement A
   module _ {S : Type 0} where
     pub knowing_at : (k : Knowledge S X) (m : S) (x : X) {A : Type 0} → IsKnown k m x → A → Knowing k m 0 x A
     knowing_at no_fact m x known a = a
@@ -41,7 +41,7 @@ module _ {X : Type 0} where
     knowing_rest (knows φ) m zero x known = known.1
     knowing_rest (knows φ) m (suc w) x known = known
 
-    -- if somebody writes, nothing
+    -- if somebody writes, A alone is enough
     pub knowing_none : (k : Knowledge S X) (m : S) (w : ℕ) (x : X) {A : Type 0} → 0 < w → A → Knowing k m w x A
     knowing_none k m zero x some a = absurd (omega (arith, some))
     knowing_none no_fact m (suc w) x some a = a
@@ -64,7 +64,7 @@ module _ {X : Type 0} where
     carrying_carries no_fact m m' u v shown A owed = carries_nothing u v shown
     carrying_carries (knows φ) m m' u v shown A owed = owed.0
 
-  -- what a party learns of a trace t, it knows of t's entries
+  -- what a party learns of a trace t, it learns of the entries of t
   pub learnt_of : {E S : Type 0} (k : Knowledge (Trace E S) X) (t : Trace E S) (u v : Use) (before after : Option X) → Learns (IsKnown k t) u v before after → Learnt k u v before after t.entries
   learnt_of no_fact t u v before after learns = tt
   learnt_of (knows φ) t u v before after learns = (t, refl, learns)

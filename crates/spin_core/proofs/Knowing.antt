@@ -1,4 +1,4 @@
--- What a step knows of the lock if it knows all parties: how many hold it.
+-- What a step can use about the whole lock, such as how many hold it, if it knows the views of all parties.
 use Rattle.std.proofs.Common.{◌≡◌, ℕ, zero, suc, ◌+◌, ◌≤◌, ◌==◌, cond, List, [], ◌∷◌, length, filter, refl, sym, ap, subst, arith}
 use Rattle.std.proofs.lemmas.List.Sums.{sum_by-cons, count_by-le-length}
 use Rattle.spin_step.specs.Plain.{Plain, writing, Holder, same_kind, count_kind}
@@ -6,7 +6,7 @@ use Rattle.spin_step.specs.Parties.{OneHolds}
 use Rattle.spin_core.specs.Views.{Part, entries_of, part_at, IsLockOf}
 use Rattle.spin_step.specs.Orders.{IsInOrder}
 
--- all of these write
+-- all of these holders write
 abbrev pub AllWrite : List Holder → Type 0
 AllWrite hs = count_kind writing hs ≡ length hs
 
@@ -25,7 +25,7 @@ few_write hs = count_by-le-length (λ (h : Holder). same_kind writing h.kind) hs
 rest_writes : (p : ℕ) (h : Holder) (hs : List Holder) → AllWrite (own p (h ∷ hs)) → AllWrite (own p hs)
 rest_writes p h hs all = grind (arith, writers-cons h (own p hs), few_write (own p hs))
 
--- all write if each party's own holders do
+-- if the holders of each party write, all do
 all_write : (hs : List Holder) → ((p : ℕ) → AllWrite (own p hs)) → AllWrite hs
 all_write [] each = refl
 all_write (h ∷ hs) each =
@@ -33,7 +33,7 @@ all_write (h ∷ hs) each =
     grind (arith, writers-cons h hs, writers-cons h (own h.party hs), few_write (own h.party hs))
 
 module _ {V : Type 0} (part : V → Part) where
-  -- a party that holds writes
+  -- whatever a party with this part holds, it writes
   abbrev pub Writes : Part → Type 0
   Writes x = (p : ℕ) → AllWrite (entries_of p x).holders
 

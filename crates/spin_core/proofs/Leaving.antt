@@ -37,7 +37,7 @@ module _ {X : Type 0} (owner : X → ℕ) (rename : X → X) (k q : ℕ) (same :
   abbrev of : ℕ → List X → List X
   of p xs = filter (λ x. owner x == p) xs
 
-  -- if nobody is at k, a party now at q was one place further on
+  -- if party k has none of these entries, the renamed entries of q are those of the party that moved to q
   renames : (xs : List X) → of k xs ≡ [] → of q (map rename xs) ≡ map rename (of (back k q) xs)
   renames [] none = refl
   renames (x ∷ xs) none = grind (arith, same x, same_place k (owner x) q, renames xs)
@@ -65,7 +65,7 @@ entries-up k q s none =
 part-up : (k p : ℕ) (x : Part) → entries_up k (entries_of p x) ≡ entries_of (up k p) x
 part-up k p x = grind arith
 
--- Only the names change
+-- Moving up changes only the names.
 
 pub sum-up : (k : ℕ) (f : Kind → ℕ) (hs : List Holder) → sum_kinds f (map (holder_up k) hs) ≡ sum_kinds f hs
 sum-up k f [] = refl
@@ -82,7 +82,7 @@ numbered-up : (k n : ℕ) (ts : List Ticket) → numbered_from n ts → numbered
 numbered-up k n [] numbers = tt
 numbered-up k n (t ∷ ts) numbers = (numbers.0, numbered-up k (suc n) ts numbers.1)
 
--- the words name nobody
+-- a word does not depend on the parties' names
 abbrev pub NamesNobody : {S : Type 0} → (Plain → S) → Type 0
 NamesNobody word = (k : ℕ) (s : Plain) → word (moved_up k s) ≡ word s
 

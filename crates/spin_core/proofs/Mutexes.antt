@@ -24,12 +24,12 @@ use Rattle.spin_model.specs.declared.schedule.Outcome.TheVariants.{Answered}
 use Rattle.spin_model.specs.Machines.{Machine}
 use Rattle.spin_model.specs.Schedules.{Entry}
 
--- what holds of a new party holds of each one that is out
+-- if f has the same value at the idle view as without a view, it has the same value for each party that is out as for a new one
 pub as_new : {X Y : Type 0} (idle : X) (f : Option X → Y) → f (Some idle) ≡ f None → (view : Option X) → IsOut idle view → f view ≡ f None
 as_new idle f same None out = refl
 as_new idle f same (Some v) out = ap (λ w. f (Some w)) out ∙ same
 
--- A mutex with its model, as it opened: where each party sits in the model, and which words those of the model are
+-- A mutex with its model and its opening. It says where each view sits in the model, and which of the model's words are the lock's.
 pub record Mutex (W V C L X S : Type 0) : Type 1 where
   pub plain : Lock X S
   pub model : Machine W V C L (Answer V)
@@ -65,12 +65,12 @@ module _ {W V C L X S : Type 0} (lock : Mutex W V C L X S) where
   abbrev pub Moves : Option X → (ℕ → ℕ) → (ℕ → X → Type 0) → Says V C (Answer V) X → Type 0
   Moves view g = AreMoves model seat_of words_of view (on_first g) first
 
-  -- A party that is out
+  -- For a party that is out:
 
   pub out_off : (view : Option X) → IsOut idle view → use_of uses view ≡ off
   out_off = as_new idle (use_of uses) plain.is_idle.1
 
-  -- it makes the moves of a new one
+  -- it makes the moves that a new party makes
   pub out_moves : (view : Option X) → IsOut idle view → (g : ℕ → ℕ) (to : ℕ → X → Type 0) (says : Says V C (Answer V) X) → Moves None g to says
       → Moves view g to says
   out_moves view out g to says moves w value u so = let is = as_new idle (sits model seat_of words_of) lock.idle_sits view out in rw is (moves w value u so)
@@ -90,7 +90,7 @@ module _ {W V C L X S : Type 0} (lock : Mutex W V C L X S) where
   rests (Some v) out =
       tie.rests model seat_of words_of (Holds plain) opening.name V alone uses (last opening) v (ap seat_of out ∙ lock.idle_sits) (idle_rests plain v.0 out)
 
-  -- A step keeps the rule, if the plain lock allows it, and the model has moves for it
+  -- A step keeps the rule if the plain lock allows it and the model has moves for it.
 
   pub keeps : (view : Option (Numbered X)) (shown : Option V) (g : ℕ → ℕ) (then : ℕ → X → Type 0) (says : Says V C (Answer V) X)
       → Leaving (what view) shown says → Moves (what view) g then says
@@ -117,7 +117,7 @@ module _ {W V C L X S : Type 0} (lock : Mutex W V C L X S) where
   begins view shown out g c end to moves =
       in_call view shown (out_off (what view) out) g false c end to (out_moves (what view) out g (λ n v. v ≡ to n) (step_by false c end to) moves)
 
-  -- The holder writes the value that it leaves, and is out
+  -- The holder writes the value that it leaves, and is out afterwards.
 
   pub leaving : (view : Option X) (shown : Option V) (x : V) (c : C) (a : Answer V) → use_of uses view ≡ writes → shown ≡ Some x
       → Leaving view shown (leaves_by (λ y. y ≡ x) c a idle)
@@ -134,7 +134,7 @@ module _ {W V C L X S : Type 0} (lock : Mutex W V C L X S) where
       (λ own outs n u (stays, (y, is, by)). (stays, (y, tt, by))) Rule own_ways shown g
       (keeps view shown g then (leaves_by (λ y. y ≡ x) c a idle) (leaving (what view) shown x c a held here) moves allowed)
 
--- What a party learns of the value by a step
+-- What a party learns of the value by a step.
 module _ {W V C L X S : Type 0} (lock : Mutex W V C L X S) (view view' : Option (Numbered X)) (before after : Option V) (seen : Watch (Entry C V)) (x : V)
     (known : Found (own_ways lock) view view' before after seen) where
   open lock use {plain, opening}
@@ -151,7 +151,7 @@ module _ {W V C L X S : Type 0} (lock : Mutex W V C L X S) (view view' : Option 
       gave opening (uses_of view) (uses_of view') before after seen.entries x known (sym (tie.same_use uses view) ∙ held)
       (sym (tie.same_use uses view') ∙ left)
 
--- A holder that releases its lock by one step wrote the value that it left. The model is by the key of the lock.
+-- A holder that releases its lock by one step has written the value that it leaves. A lock's key gives its model.
 module _ {K W V C L X S : Type 0} (lock : K → Mutex W V C L X S) (c : C) (a : Answer V) (p q : Spot K X (Entry C V)) (named : Type 0) (n : ℕ) where
   open lock p.0 use {plain, model, seat_of, words_of, opening}
   open plain use {uses, idle}
@@ -163,7 +163,7 @@ module _ {K W V C L X S : Type 0} (lock : K → Mutex W V C L X S) (c : C) (a : 
   abbrev IsIt : V → V → Type 0
   IsIt x y = opening.told ≡ true → y ≡ x
 
-  -- it is out
+  -- the party is out after the step
   pub ends_out : (w : Option (Numbered X)) → Step (λ y. Unit {0}) w → IsOut idle (what w)
   ends_out None moved = absurd moved
   ends_out (Some v) moved = moved.1.4.6.0
@@ -184,7 +184,7 @@ module _ {K W V C L X S : Type 0} (lock : K → Mutex W V C L X S) (c : C) (a : 
           let so = wrote opening log es q.2.entries w.1 own x y grew mine (write_leaves y false c (Answered a None) own outs by) is in
           (named, (log, es, known, grew, (own, outs, mine, mark, none, alike, (stays, (y, so, by)))))
 
--- the same for steps on a second word
+-- The same for steps on a second word.
 module _ {W V C L X : Type 0} (lock : Mutex W V C L X ℕ) where
   open lock use {plain, model, seat_of, words_of, opening}
   open plain use {uses, idle}

@@ -1,4 +1,4 @@
--- What the parties have is at most what the lock has.
+-- The parties own at most what the plain lock has.
 use Rattle.std.proofs.Common.{◌≡◌, ℕ, suc, ◌+◌, ◌≤◌, ◌==◌, true, cond, List, [], ◌∷◌, length, filter, refl, ap, ◌∙◌, arith, nat_lt}
 use Rattle.std.specs.Prelude.{sum_by}
 use Rattle.std.proofs.lemmas.List.Sums.{sum_by-cons, count_by-le-length}
@@ -14,7 +14,7 @@ module _ {X : Type 0} (owner : X → ℕ) (weight : X → ℕ) where
   abbrev own : ℕ → List X → ℕ
   own p xs = sum_by weight (filter (λ x. owner x == p) xs)
 
-  -- of the parties below k
+  -- the total weight of what the parties below k own
   abbrev below : ℕ → List X → ℕ
   below k [] = 0
   below k (x ∷ xs) = cond (nat_lt (owner x) k) (weight x) 0 + below k xs
@@ -54,15 +54,15 @@ module _ {X : Type 0} (owner : X → ℕ) (weight : X → ℕ) where
     all : (vs : List V) (xs : List X) → ((p : ℕ) → own p xs ≡ gives p (part_at part vs p)) → sum_by has vs ≡ below (0 + length vs) xs
     all vs xs owns = omega (arith, counted 0 vs xs (λ p i e. owns p ∙ ap (λ j. gives p (part_at part vs j)) (let f : p ≡ i = omega arith in f)), below-none xs)
 
-    -- what the parties have is at most everything
+    -- the parties in the list own at most the total weight
     pub within : (vs : List V) (xs : List X) → ((p : ℕ) → own p xs ≡ gives p (part_at part vs p)) → sum_by has vs ≤ sum_by weight xs
     within vs xs owns = omega (arith, all vs xs owns, below-le (0 + length vs) xs)
 
-    -- and if nobody else has anything, it is everything
+    -- if nobody else owns anything, they own the total weight
     pub exactly : (vs : List V) (xs : List X) → ((p : ℕ) → own p xs ≡ gives p (part_at part vs p)) → ((p : ℕ) → length vs ≤ p → filter (λ x. owner x == p) xs ≡ []) → sum_by has vs ≡ sum_by weight xs
     exactly vs xs owns nobody = omega (arith, all vs xs owns, below-all (0 + length vs) xs (λ p far. nobody p (omega arith)))
 
--- Who may use the value together with whom
+-- Which parties may use the value together.
 
 abbrev is_entered : Ticket → ℕ
 is_entered t = bit t.entered
@@ -83,7 +83,7 @@ module _ {V : Type 0} (part : V → Part) where
   abbrev pub OfHolders : V → Type 0
   OfHolders v = (reading (used_by part v) ≡ 0) × ((p : ℕ) → writing (used_by part v) ≡ count_kind writer (entries_of p (part v)).holders)
 
-  -- or it has a ticket with which it entered
+  -- or: nobody reads, and each writer has a ticket with which it entered
   abbrev pub OfTickets : V → Type 0
   OfTickets v = (reading (used_by part v) ≡ 0) × ((p : ℕ) → writing (used_by part v) ≡ sum_by is_entered (entries_of p (part v)).tickets)
 

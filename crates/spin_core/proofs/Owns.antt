@@ -16,7 +16,7 @@ use Rattle.spin_core.specs.Own.{Numbered, by_party, present_from, kind, entries_
 use Rattle.spin_core.proofs.Runs.{around, set_seam, world}
 use Rattle.spin_core.proofs.Runs as runs
 
--- For lists of numbered parties
+-- Lists of numbered parties.
 
 present_from-append : {X : Type 0} (k j : ℕ) (us ws : List (Option (X × ℕ))) → j ≡ k + length us → present_from k (us ++ ws) ≡ present_from k us ++ present_from j ws
 present_from-append k j [] ws is = ap (λ i. present_from i ws) (let e : k ≡ j = omega (arith, is) in e)
@@ -39,12 +39,12 @@ split {X} k (Some u ∷ us) (x ∷ before) v behind e =
     let s = split (suc k) us before v behind rest in
     (Some u ∷ s.0, s.1, ap (λ ws. Some u ∷ ws) s.2, (ap (λ y. y ∷ before) same ∙ ap (λ ws. (u.0, k, u.1) ∷ ws) s.3), (let i = s.4 in omega (arith, i)), s.5)
 
--- For a party's entries
+-- The entries of one party.
 
 abbrev Came : Type 0 → Type 0
 Came X = List (Option (X × ℕ))
 
--- one more in front, if it is picked
+-- a party's entries with one more entry in front, which is the party's own or is not
 pub picked : {X : Type 0} (x : X) (ls rs ts : List X) → ls ≡ rs ++ ts → (b : Bool) → (if b then x ∷ ls else ls) ≡ (if b then x ∷ rs else rs) ++ ts
 picked x ls rs ts e true = ap (λ l. x ∷ l) e
 picked x ls rs ts e false = e
@@ -62,7 +62,7 @@ module _ {C V : Type 0} where
   none_of_both q xs ys e d = by-append q xs ys ∙ ap (λ l. l ++ entries_by q ys) e ∙ d
 
   module _ (log : List (Entry C V)) where
-    -- a party that is present has made none since its mark
+    -- a party that is present has made no entry since its mark
     rested_at : {X : Type 0} (k p : ℕ) (front : Came X) (u : X × ℕ) (back : Came X) → p ≡ k + length front → Rested log k (front ++ Some u ∷ back) → entries_by p (drop u.1 log) ≡ []
     rested_at k p [] u back is r = subst (λ i. entries_by i (drop u.1 log) ≡ []) (let e : k ≡ p = omega (arith, is) in e) r.0.1
     rested_at k p (None ∷ us) u back is r = rested_at (suc k) p us u back (omega (arith, is)) r
@@ -99,13 +99,13 @@ module _ {C V : Type 0} where
       later k (None ∷ us) under r = later (suc k) us (omega (arith, under)) r
       later k (Some u ∷ us) under r = (on k u.1 (λ e. absurd (omega (arith, under, e))) r.0, later (suc k) us (omega (arith, under)) r.1)
 
-      -- the party that made them has its mark after them
+      -- after the entries es the party that made them has a mark behind them
       made : {X : Type 0} (k : ℕ) (front : Came X) (o : Option (X × ℕ)) (v : X) (back : Came X) → p ≡ k + length front → Rested log k (front ++ o ∷ back) → Rested (log ++ es) k (front ++ Some (v, length (log ++ es)) ∷ back)
       made k [] o v back is r = (((let x : length (log ++ es) ≤ length (log ++ es) = omega arith in x), ap (entries_by k) (drop-length (log ++ es))), later (suc k) back (omega (arith, is)) (behind k o back r))
       made k (None ∷ us) o v back is r = made (suc k) us o v back (omega (arith, is)) r
       made k (Some u ∷ us) o v back is r = (on k u.1 (λ e. absurd (omega (arith, is, e))) r.0, made (suc k) us o v back (omega (arith, is)) r.1)
 
--- A step
+-- A step of one party.
 
 module _ {W V C L A X S : Type 0} (m : Machine W V C L A) (seat_of : X → Seat C L) (words_of : W → ℕ × S) where
   abbrev Schedule : Type 0
@@ -123,7 +123,7 @@ module _ {W V C L A X S : Type 0} (m : Machine W V C L A) (seat_of : X → Seat 
   pub opens : (s : ℕ × S) → s ≡ words_of m.words → Run [] s []
   opens s is = ([], m.words, m.value, refl, is, (λ more. ap (at_first m) (zero-add more)), (λ more. refl), λ q le. refl)
 
-  -- A run in which a party with this view stands at a place of its own: at one that it had, or behind all others.
+  -- a run that leads to these words, in which the party with this view has its old place, or a new place behind all others
   record Placed (view : Option (Numbered X)) (id : ℕ) (s : ℕ × S) (log : Schedule) (vs : List (Numbered X)) : Type 0 where
     words : W
     value : Option V
@@ -179,7 +179,7 @@ module _ {W V C L A X S : Type 0} (m : Machine W V C L A) (seat_of : X → Seat 
             ∙ sym (present_from-append 0 v.1 front (Some (u, mark) ∷ back) place);
       }
 
-  -- the result of a step by which the party with this view gets the view u
+  -- the result of a step that turns the view `view` of a party into u
   abbrev pub Comes : Option (Numbered X) → X → (List (Move C V) → List (Outcome A V) → Type 0) → ℕ → ℕ × S → Schedule → List (Numbered X) → Type 0
   Comes view u says id s log vs = (p : ℕ) × (own : List (Move C V)) × (outs : List (Outcome A V)) × (let es = by_party p own in
       Run (log ++ es) s (views_after id view vs (u, p, length (log ++ es))) × MadeNone m seat_of words_of log p view × run.AreOwn m own outs log es

@@ -57,7 +57,7 @@ module _ {W V C L A : Type 0} (m : Machine W V C L A) where
       let h = happens m s p move in
       ap (λ b. if b then h.outcome ∷ outcomes_by m p h.next (by_party p own) else outcomes_by m p h.next (by_party p own)) (eq-eqb p p refl) ∙ ap (λ l. h.outcome ∷ l) (by-own p h.next own)
 
-  -- it did the one, and then the other
+  -- moves of a party up to a later trace, followed by its moves up to a still later one, are its moves over both
   pub did_both : (p : ℕ) (a b c : Schedule) (own own' : List (Move C V)) (outs outs' : List (Outcome A V)) → Did m p a b own outs → Did m p b c own' outs' → Did m p a c (own ++ own') (outs ++ outs')
   did_both p a b c own own' outs outs' (more, least, is, mine, played, came) (more', least', is', mine', played', came') = (
     more ++ more',
@@ -80,7 +80,7 @@ module _ {W V C L A : Type 0} (m : Machine W V C L A) where
     same_number p q None is may = absurd is
     same_number p q (Some u) is may = may ∙ sym is
 
-    -- first moves of the one course, then of the other
+    -- if R accepts moves of P followed by moves of Q, a party that follows P and then Q follows R
     pub made_both : (u v w : Option (Numbered X)) (a b c : Schedule) (P Q R : Course V C A) → ((own own' : List (Move C V)) (outs outs' : List (Outcome A V)) → P own outs → Q own' outs' → R (own ++ own') (outs ++ outs'))
         → Made m u a v b P → Made m v b w c Q → Made m u a w c R
     made_both u v w a b c P Q R joins (p, may, is, own, outs, did, so) (q, may', is', own', outs', did', so') =
@@ -88,14 +88,13 @@ module _ {W V C L A : Type 0} (m : Machine W V C L A) where
         (p, may, subst (λ i. IsNumber i w) same is', own ++ own', outs ++ outs', did_both p a b c own own' outs outs' did (subst (λ i. Did m i b c own' outs') same did'), joins own own' outs outs' so so')
 
   module _ {X S : Type 0} (seat_of : X → Seat C L) (words_of : W → ℕ × S) where
-    -- it has made no entry since it knew these
+    -- the party has made no entry since it knew `old`
     none_between : (view : Option (Numbered X)) (p : ℕ) (old log : Schedule) (known : IsPrefix old log) → mark_of view ≡ length old → MadeNone m seat_of words_of log p view → MayBe p view × (entries_by p known.0 ≡ [])
     none_between None p old log known knew none = (tt, ap (entries_by p) (ap (λ l. l ++ known.0) (sym (nothing_known old knew)) ∙ known.1) ∙ none)
     none_between (Some u) p old log known knew none =
         (none.0, ap (entries_by p) (sym (drop-append_seam old known.0) ∙ ap (λ n. drop n (old ++ known.0)) (sym knew) ∙ ap (drop u.2) known.1) ∙ none.1)
 
-    -- what a step tells a party that knew everything up to its last step: what it did, and that it again knows
-    -- everything
+    -- what a step tells a party that knew all entries up to its last step: its moves, and that it knows all entries up to this step
     pub learns : (says : List (Move C V) → List (Outcome A V) → ℕ → X → Type 0) (named : Type 0) (view : Option (Numbered X)) (before now : Watch (Entry C V)) (n : ℕ) (v : Numbered X)
         → mark_of view ≡ length before.entries → Watches named before now (Tells m seat_of words_of says view) n v
         → Made m view before.entries (Some v) now.entries (λ own outs. says own outs n v.0) × (mark_of (Some v) ≡ length now.entries)
@@ -129,8 +128,8 @@ module _ {W V C L A : Type 0} (m : Machine W V C L A) where
 pub may_know : {E S V R : Type 0} (holds : ℕ → Trace E S → List V → Type 0) (ways : Ways R V (Trace E S)) (name : ℕ) → ((n : ℕ) (t : Trace E S) (vs : List V) → holds n t vs → t.name ≡ name) → (known : ℕ) → name ≡ known → Named holds ways known
 may_know holds ways name says known same n t vs meets = says n t vs meets.0 ∙ same
 
--- What a step tells a party that knew everything up to its last step: its course, where it led, and that the party
--- again knows everything
+-- What a step tells a party that knew all entries up to its last step: its course, where that led, and that the party now knows all entries
+-- up to this step.
 pub record Learnt {W V C L A X : Type 0} (m : Machine W V C L A) (view view' : Option (Numbered X)) (before now : Watch (Entry C V)) (to : X) (course : Course V C A) : Type 0 where
   pub made : Made m view before.entries view' now.entries course
   pub knows : mark_of view' ≡ length now.entries
@@ -146,7 +145,7 @@ module _ {W V C L A X S : Type 0} (m : Machine W V C L A) (seat_of : X → Seat 
       let all = learns m seat_of words_of says named view before now found v knew moved in let (p, may, is, own, outs, did, said) = all.0 in let so = means own outs found v.0 said in
       record { made = (p, may, is, own, outs, did, so.1); knows = all.1; is = ap Some so.0; named = moved.0 is_named }
 
--- How the courses of a call follow one another
+-- How one course of a call follows another.
 
 pub replicate-sum : {X : Type 0} (i j : ℕ) (x : X) → replicate (i + j) x ≡ replicate i x ++ replicate j x
 replicate-sum zero j x = ap (λ n. replicate n x) (zero-add j)
@@ -170,7 +169,7 @@ module _ {V C A : Type 0} where
       → (own own' : List (Move C V)) (outs outs' : List (Outcome A V)) → Begins c P own outs → Q own' outs' → Begins c R (own ++ own') (outs ++ outs')
   begun c P Q R joins own own' outs outs' (rest, comes, is, are, so) so' = (rest ++ own', comes ++ outs', ap (λ l. l ++ own') is, ap (λ l. l ++ outs') are, joins rest own' comes outs' so so')
 
--- What a party has done, by one step and by one course after another
+-- What a party has done by one step, and by several courses one after another.
 module _ {W V C L A X : Type 0} (m : Machine W V C L A) where
   module _ (view view' : Option (Numbered X)) (old new : List (Entry C V)) where
     abbrev Makes : Course V C A → Type 0
@@ -183,7 +182,7 @@ module _ {W V C L A X : Type 0} (m : Machine W V C L A) where
     pub whole : (c : C) (a : A) → Makes (IsStep false c (Answered a None)) → Makes (IsCall c a)
     whole c a = weaker (IsStep false c (Answered a None)) (IsCall c a) (λ own outs s. (Step ∷ [], Answered a None ∷ [], s.0, s.1, (0, refl, refl)))
 
-    -- the same after a write
+    -- the same for a step after a write
     pub whole_behind : (Q : V → Type 0) (c : C) (a : A) → Makes (WritesSome Q (IsStep false c (Answered a None))) → Makes (WritesSome Q (IsCall c a))
     whole_behind Q c a =
         weaker (WritesSome Q (IsStep false c (Answered a None))) (WritesSome Q (IsCall c a))

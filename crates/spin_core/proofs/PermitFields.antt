@@ -40,7 +40,7 @@ pointer (block_ptr b o) i = (tt, tt)
 pointer null_ptr i = absurd i
 
 module _ (a : NamedLft) (R V Y K S : RattleType) (g : Ghosts Y.Denot R.Denot V.Denot K.Denot S.Denot) where
-  -- the words of a permit, and of a write permit too
+  -- the machine words of a permit; a write permit has the same
   abbrev pub Words : RattleType
   Words = Struct (shape (permit.the_type a R V Y K S g))
 

@@ -1,5 +1,5 @@
--- The kinds of play that locks share. A step on a word is allowed if it is an open step of its party in the plain lock,
--- or no step there.
+-- The kinds of play that locks share. A step on a word keeps the rule if it is an open step of its party in the plain lock, or no step of
+-- the plain lock at all.
 use Rattle.std.proofs.Common.{◌≡◌, ℕ, ◌+◌, ◌-◌, ◌<◌, ◌≤◌, ◌%◌, ◌^◌, ◌==◌, Bool, true, if◌then◌else◌, List, [], Option, Some, None, refl, sym, ap, ◌∙◌, subst, arith, eq-eqb, ne_eqb}
 use mathlib.Core.Logic.{dite}
 use native.Mathlib.Decide.{ℕ_discrete}
@@ -17,8 +17,8 @@ use Rattle.spin_step.proofs.Sums.{sum_kinds, sum-less}
 use Rattle.spin_step.proofs.InOrder.{in_order-kept, in_order-fresh, cap-kept}
 use Rattle.spin_core.proofs.Views.{number, part_before, own_part, lock_after, release-own}
 
--- A lock over the cell: what each view is in the plain lock, and how it uses the value; the view of a party that has
--- nothing; the first word; the second word or nothing; and that parties use the value together only if they may.
+-- A lock over the cell. It says what each view is in the plain lock and how it uses the value, which view has nothing, and what the words
+-- are. Parties use the value together only within the limits.
 pub record Lock (V S : Type 0) : Type 1 where
   pub part : V → Part
   pub uses : V → Use
@@ -45,7 +45,7 @@ pub record Makes {S : Type 0} (first : Plain → ℕ) (second : Plain → S) (ol
 abbrev pub Weighs : ℕ → ℕ → Type 0
 Weighs k n = (k ≤ n) × (n < 2 ^ 63)
 
--- so a subtraction of the weight does not wrap
+-- so subtracting this weight does not wrap
 pub less_by : (n k : ℕ) → Weighs k n → (n + (2 ^ 64 - k)) % 2 ^ 64 ≡ n - k
 less_by n k some = omega (arith, some.0, some.1)
 
@@ -58,11 +58,11 @@ module _ {V S : Type 0} (lock : Lock V S) where
   abbrev pub ways : Ways (Unit {0}) V S
   ways = (way, uses, no_fact)
 
-  -- in each lock in which the party has the part of its view
+  -- P holds in each plain lock in which the party has the part of its view
   abbrev pub Each : Option V → (Plain → ℕ → Type 0) → Type 0
   Each view P = (s : Plain) (p : ℕ) → s.cap ≡ cap → IsInOrder s → HasPart s p (part_before part view) → P s p
 
-  -- it gets the view w
+  -- a step, or none, by which the party gets the view w
   abbrev pub Reaches : Option V → V → Plain → ℕ → ℕ → S → Type 0
   Reaches view w s p n m = Makes first second (part_before part view) (part w) s p n m
 
@@ -73,12 +73,12 @@ module _ {V S : Type 0} (lock : Lock V S) where
   pub by_none : (view : Option V) (w : V) (s : Plain) (p : ℕ) → entries_of p (part_before part view) ≡ entries_of p (part w) → Knows s (part w) → Reaches view w s p (first s) (second s)
   by_none view w s p same known = record { step = None; is_open = tt; entries = same; knows = known; first_is = refl; second_is = refl }
 
-  -- a party gets what it asks, if the lemma of the step function says so
+  -- if the lemma of the step function grants what the party asks, the party reaches the view w
   pub by_grant : (view : Option V) (w : V) (s : Plain) (p : ℕ) (ask : Ask) (n : ℕ) (m : S) → Decides s (gets p ask) first (Some n) → entries_after s (Some (gets p ask)) (entries_of p (part_before part view)) ≡ entries_of p (part w)
       → Knows (apply s (gets p ask)) (part w) → m ≡ second (apply s (gets p ask)) → Reaches view w s p n m
   by_grant view w s p ask n m granted becomes known same = by_step view w s (gets p ask) n m granted.0 becomes known granted.1 same
 
-  -- an exchange is one step if it finds the number that it expected, otherwise another
+  -- an exchange reaches the view `won` if it finds the number that it expected, otherwise the view `lost`
   pub by_exchange : (view : Option V) (won lost : V) (s : Plain) (p n : ℕ) (m : S) (expected new : ℕ) → (n ≡ expected → Reaches view won s p new m) → Reaches view lost s p n m
       → (w : V) × Reaches view w s p (either (n == expected) new n) m × (w ≡ (if n == expected then won else lost))
   by_exchange view won lost s p n m expected new hit miss =
@@ -93,7 +93,7 @@ module _ {V S : Type 0} (lock : Lock V S) where
       let cap_is = cap-kept s made.step ∙ room in
       ((apply_some s made.step, cap_is, kept, new, made.first_is, made.second_is), lock.fits (after id view vs w) (apply_some s made.step) cap_is kept new)
 
-  -- the same for a lock whose parties are all known, and for a word of the machine
+  -- the same, where the views of all parties are known and the first word is below 2^64
   abbrev pub EachOf : Option V → (Plain → ℕ → Type 0) → Type 0
   EachOf view P = (s : Plain) (p : ℕ) (vs : List V) → s.cap ≡ cap → IsInOrder s → IsLockOf part vs s → HasPart s p (part_before part view) → first s < words → P s p
 
@@ -118,11 +118,11 @@ module _ {V S : Type 0} (lock : Lock V S) where
       let s = fresh cap group ticket in let order = in_order-fresh cap group ticket within in let nobody : IsLockOf part [] s = λ p. (refl, tt) in
       ((s, refl, order, nobody, e, f), lock.fits [] s refl order nobody)
 
-  -- a look by a new party
+  -- a load by a new party, which stays idle
   pub looks : Allows Holds ways None (λ n. n) (becomes idle 0 0 None)
   looks = allows None (λ n. n) (becomes idle 0 0 None) (λ s p room order has. (idle, by_none None idle s p (sym (ap (entries_of p) lock.is_idle.0)) (rw lock.is_idle.0 tt), refl))
 
-  -- if an exchange finds the number given to the step function, it is a step; otherwise the party keeps what it had
+  -- an exchange makes the step of its step function if it finds the old number; otherwise the party keeps its part
   pub exchanged : (view : Option V) (won : ℕ → V) (lost : V) (old new : ℕ) → ((s : Plain) (p : ℕ) → (entries_of p (part_before part view) ≡ entries_of p (part lost)) × Knows s (part lost))
       → EachOf view (λ s p. first s ≡ old → Reaches view (won old) s p new (second s)) → Allows Holds ways view (λ n. either (n == old) new n) (exchanges won lost old new view)
   exchanged view won lost old new still comes =
@@ -136,15 +136,15 @@ module _ {V S : Type 0} (lock : Lock V S) where
   pub idle_rests : (v : V) → v ≡ idle → Rests Holds uses (Some v)
   idle_rests v is = rw is (rests idle lock.is_idle.1 (λ p. ap (entries_of p) lock.is_idle.0))
 
--- For a lock of one word: a look, an exchange for what a party asks, and a subtraction by a holder
+-- The moves of a lock of one word: a look, an exchange for what a party asks, and a subtraction by a holder.
 module _ {V : Type 0} (lock : Lock V (Unit {0})) where
   open lock use {part, idle, cap, first}
 
-  -- a look, after which the party's part is unchanged
+  -- a load, after which the party has the same part
   pub stays_at : (view : Option V) (to : ℕ → V) → ((n : ℕ) → part_before part view ≡ part (to n)) → ((s : Plain) (n : ℕ) → Knows s (part (to n))) → Allows (Holds lock) (ways lock) view (λ n. n) (λ n v. v ≡ to n)
   stays_at view to same knows = allows lock view (λ n. n) (λ n v. v ≡ to n) (λ s p room order has. (to (first s), by_none lock view (to (first s)) s p (ap (entries_of p) (same (first s))) (knows s (first s)), refl))
 
-  -- for a party that has nothing
+  -- a load by a party that has nothing
   pub looks_at : (view : Option V) (to : ℕ → V) → part_before part view ≡ nothing → ((n : ℕ) → part (to n) ≡ nothing) → Allows (Holds lock) (ways lock) view (λ n. n) (λ n v. v ≡ to n)
   looks_at view to had none = stays_at view to (λ n. had ∙ sym (none n)) (λ s n. rw (none n) tt)
 
@@ -157,7 +157,7 @@ module _ {V : Type 0} (lock : Lock V (Unit {0})) where
       by_exchange lock view won (lost (first s)) s p (first s) tt old new (λ e. by_grant lock view won s p ask new tt (grants s p vs room order is has small e) (comes s p) (knows (apply s (gets p ask))) refl)
       (by_none lock view (lost (first s)) s p (ap (entries_of p) (same (first s))) (still s (first s))))
 
-  -- the lemma of the step function, if it makes the number new from old
+  -- the lemma of the step function: it takes the word from old to new and grants the ask
   abbrev pub Grants : Ask → ℕ → ℕ → Type 0
   Grants ask old new = (s : Plain) (p : ℕ) → IsInOrder s → s.cap ≡ cap → first s ≡ old → Decides s (gets p ask) first (Some new)
 

@@ -1,5 +1,5 @@
--- A block of `Release` fits its trait: its `release` needs and promises nothing, and its rows own what those of the
--- trait own. Assumes `Logic`.
+-- An `impl` of `Release` fits its trait: `release` asks and promises nothing, and the rows of the `impl` own what those of the trait own.
+-- Assumes `Logic`.
 use Rattle.std.proofs.Common.{[], ◌∷◌}
 use seplogic.Ra.Ura.{Ura}
 use mir.Syntax.{Dict, named}
@@ -26,7 +26,7 @@ use Rattle.spin_core.specs.declared.guard.Uses as Uses
 use Rattle.spin_core.specs.contracts.guard.Release.release as trait
 
 module _ (Y V K S T : RattleType) (rule : Rule.Ghosts Y.Denot T.Denot V.Denot K.Denot S.Denot) where
-  -- the block's own signature
+  -- the signature of `release` in the `impl`
   abbrev pub own : Signature
   own = record {
     lifetimes = 2;

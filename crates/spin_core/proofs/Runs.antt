@@ -1,5 +1,4 @@
--- Moves of one party alone in its world are moves of it in any world, with the same outcomes. So a step may be appended
--- to a schedule that leads to it.
+-- A party's moves in a world of its own are also its moves in any world, with the same outcomes. So a step can be appended to a schedule.
 use Rattle.std.proofs.Common.{◌≡◌, ℕ, zero, suc, ◌+◌, Bool, true, false, ◌&&◌, Option, Some, None, List, [], ◌∷◌, ◌++◌, length, map, replicate, slice_get, slice_set, refl, sym, ap, ◌∙◌, subst, arith}
 use Rattle.std.proofs.Math.Seq.{set-append_seam}
 use Rattle.std.specs.List.{list_all}
@@ -35,12 +34,12 @@ abbrev pub world : {W V C L : Type 0} → W → Option V → List (Seat C L) →
 world w value seats = record { words = w; value = value; seats = seats }
 
 module _ {W V C L A : Type 0} (m : Machine W V C L A) (xs ys : List (Seat C L)) where
-  -- a party's world, and the same with others before it and behind it
+  -- the same party in a world of its own, and among others
   abbrev Same : State W V C L → State W V C L → Type 0
   Same alone among =
       (w : W) × (value : Option V) × (seat : Seat C L) × (alone ≡ world w value (seat ∷ [])) × (among ≡ world w value (xs ++ seat ∷ ys))
 
-  -- what happens in both is the same, with the same outcome
+  -- what happens in both worlds is the same, with the same outcome
   abbrev Alike : Happened W V C L A → Happened W V C L A → Type 0
   Alike alone among = Same alone.next among.next × (alone.outcome ≡ among.outcome)
 
@@ -54,7 +53,7 @@ module _ {W V C L A : Type 0} (m : Machine W V C L A) (xs ys : List (Seat C L)) 
     skipped_alike : Alike (skipped alone) (skipped among)
     skipped_alike = ((w, value, seat, refl, refl), refl)
 
-    -- the party's seat becomes another
+    -- the party gets another seat, in both worlds
     seated_alike : (next : Seat C L) (o : Outcome A V)
         → Alike (record { outcome = o; next = seated alone 0 next }) (record { outcome = o; next = seated among (length xs) next })
     seated_alike next o = ((w, value, next, refl, ap (world w value) (set_seam xs seat ys next)), refl)
@@ -115,7 +114,7 @@ module _ {W V C L A : Type 0} (m : Machine W V C L A) (xs ys : List (Seat C L)) 
     pub outcomes_same : outcomes m (alone w value seat) (by_party 0 own) ≡ outcomes m (among w value seat) (by_party (length xs) own)
     outcomes_same = (goes_alike (alone w value seat) (among w value seat) own all (w, value, seat, refl, refl)).1
 
--- a party has some before it and some behind it
+-- the party with the view v is at place id, with others before it and behind it
 abbrev pub Around : {X : Type 0} → ℕ → X → List X → Type 0
 Around id v vs = (before : List _) × (behind : List _) × (vs ≡ before ++ v ∷ behind) × (id ≡ length before)
 
@@ -129,7 +128,7 @@ module _ {W V C L A : Type 0} (m : Machine W V C L A) where
   outcomes-append s [] ys = refl
   outcomes-append s (x ∷ xs) ys = ap (λ l. (happens m s x.0 x.1).outcome ∷ l) (outcomes-append (happens m s x.0 x.1).next xs ys)
 
-  -- what is played after something that was played
+  -- if a schedule is played after another that was played, both together are played
   played_on : (s : State W V C L) (xs ys : List (Entry C V)) (outs : List (Outcome A V)) → list_all is_played (outcomes m s xs) ≡ true
       → outcomes m (after m s xs) ys ≡ outs → list_all is_played outs ≡ true → list_all is_played (outcomes m s (xs ++ ys)) ≡ true
   played_on s xs ys outs before are all =
@@ -164,7 +163,7 @@ module _ {W V C L A X S : Type 0} (m : Machine W V C L A) (seat_of : X → Seat 
   plays_more log came played more =
       ap (λ count. list_all is_played (outcomes m (at_first m count) log)) (let a = length-append came (None ∷ []) in omega arith) ∙ played (suc more)
 
-  -- a party with others before it and behind it
+  -- A party that has other parties before it and behind it.
   module _ (log : Schedule) (w : W) (value : Option V) (front back : List (Option X)) (o : Option X) (leads : Leads log w value (front ++ o ∷ back))
       (played : IsPlayed m (length (front ++ o ∷ back)) log) where
     abbrev with : Option X → List (Option X)
@@ -173,7 +172,7 @@ module _ {W V C L A X S : Type 0} (m : Machine W V C L A) (seat_of : X → Seat 
     as_many : (u : Option X) → length (with u) ≡ length (with o)
     as_many u = length-append front (u ∷ back) ∙ sym (length-append front (o ∷ back))
 
-    -- where the schedule leads, with the party's seat among the others'
+    -- the schedule leads to this world, in which the party's seat stands among the others' seats
     comes_to : (u : Option X) (more : ℕ)
         → after m (at_first m (length (with u) + more)) log ≡ world w value (seats front ++ sits o ∷ (seats back ++ replicate more Idle))
     comes_to u more =
@@ -189,7 +188,7 @@ module _ {W V C L A X S : Type 0} (m : Machine W V C L A) (seat_of : X → Seat 
         let behind = seats back ++ replicate more Idle in
         comes_to None more ∙ ap (world w value) (ap (λ seat. seats front ++ seat ∷ behind) idle ∙ sym (seats-seam front back None (replicate more Idle)))
 
-    -- the party makes moves of its own, with the outcomes that it has alone
+    -- the party makes its moves among others, with the outcomes that they have in a world of its own
     pub goes : (v : X) (s : ℕ × S) (P : List (Move C V) → List (Outcome A V) → Type 0) (moves : run.Goes m seat_of words_of o v w value s P) (p : ℕ)
         → p ≡ length front → let es = by_party p moves.0 in
         Leads (log ++ es) moves.5 moves.6 (with (Some v)) × IsPlayed m (length (with (Some v))) (log ++ es) × AreOwn m moves.0 moves.1 log es

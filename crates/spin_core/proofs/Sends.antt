@@ -1,5 +1,5 @@
--- What a lock must show when it makes its cell: any thread may own its trace, with or without a number, and a thread
--- that may share its rule may share its value.
+-- What a lock must show when it makes its cell: its trace is `Send`, with or without a second word, and its value is `Sync` where its rule
+-- is.
 use Rattle.std.proofs.Common.{◌≡◌, ℕ, ◌+◌, ◌-◌, ◌%◌, [], ◌∷◌, ap, ◌∙◌, arith, subst}
 use Rattle.std.proofs.Math.Nat.{mod_self, zero-mod}
 use base.Fml.{Lft}
@@ -17,14 +17,14 @@ use Rattle.spin_core.specs.contracts.trace.Trace.{the_row, the_type}
 use Rattle.spin_core.proofs.TraceSteps.{log_keyless}
 use Rattle.spin_model.specs.contracts.schedule.Move as move
 
--- an entry with calls of this row and values of that one, or with calls only
+-- the row of an entry, by the rows of its calls and its values; and of an entry without values
 abbrev pub entry_over : RattleType → RattleType → RattleType
 entry_over C V = Tuple (usize ∷ move.the_row C V ∷ [])
 
 abbrev pub entry : RattleType → RattleType
 entry C = entry_over C unit
 
--- what is in its fields
+-- the fields of a trace are `Send`, if its second word is
 pub fields_send : (E S : RattleType) → IsSend S → IsSend (Struct (shape (the_type E S)))
 fields_send E S s = search sendable depth 20
 
@@ -44,6 +44,6 @@ at_first k =
     let none = ap (λ j. (k - j) % k) (zero-mod k) ∙ (ap (λ j. j % k) all ∙ mod_self k) in
     omega (arith, none)
 
--- so a thread that may share a struct may share its first field; a rule that lends is a struct over the value
+-- so a shared struct shares its first field; the rule of such a lock is a struct over its value
 pub first_field : (T : RattleType) → ((x : T.Denot) (b o : ℕ) (κ : Lft) → Keyless (shared_of T x b (o + up (align (lone T.mir)) 0) κ)) → Common T
 first_field T may x b o κ = let same : o + up (align (lone T.mir)) 0 ≡ o = omega (arith, at_first (align (lone T.mir))) in subst (λ e. Keyless (shared_of T x b e κ)) same (may x b o κ)

@@ -1,4 +1,4 @@
--- What a step tells a party that knows the lock's history, and what the steps of a call make together.
+-- What a step tells a party that knows the lock's history, and what follows from all steps of a call.
 use Rattle.std.proofs.Common.{◌≡◌, ℕ, Bool, true, false, Some, None, List, length, ◌∙◌, subst}
 use Rattle.std.specs.Prelude.{Result, Ok, Err, IfOk, IfErr}
 use Rattle.spin_core.specs.Cell.{Moved}
@@ -18,7 +18,7 @@ use Rattle.spin_model.specs.Schedules.{Entry}
 
 module _ {K W V C L A X S : Type 0} (model : K → Machine W V C L A) (seat_of : X → Seat C L) (words_of : W → ℕ × S) (p q : Spot K X (Entry C V))
     (same : q.0 ≡ p.0) (knew : mark_of p.1 ≡ length p.2.entries) where
-  -- the play of the step says this of its moves
+  -- what a step did, by what its play says of it
   pub took : {named : Type 0} → named → (found : ℕ) (says : Says V C A X) (to : ℕ → X) (course : ℕ → Course V C A)
       → ((own : List (Move C V)) (outs : List (Outcome A V)) (n : ℕ) (v : X) → says own outs n v → (v ≡ to n) × course n own outs)
       → Moved (Watches named p.2 q.2 (Tells (model p.0) seat_of words_of says p.1) found) q.1 → Since model (course found) p q × (what q.1 ≡ Some (to found))
@@ -31,16 +31,16 @@ module _ {K W V C L A X S : Type 0} (model : K → Machine W V C L A) (seat_of :
       → Stepped model goes_on c (end found) (to found) p q
   stepped is_named found goes_on c end to = took is_named found (step_by goes_on c end to) to (λ n. IsStep goes_on c (end n)) (λ own outs n v said. said)
 
--- One step of a call after another
+-- The steps of a call, one after another.
 module _ {K W V C L A X : Type 0} (model : K → Machine W V C L A) (c : C) (p q : Spot K X (Entry C V)) where
-  -- a step that begins the call and answers it, or does not
+  -- a step that begins the call and answers it at once
   pub in_one : (a : A) → Since model (IsStep false c (Answered a None)) p q → HasCalled model c a p q
   in_one a (made, named, same) = (passes.whole (model p.0) p.1 q.1 p.2.entries q.2.entries c a made, named, same)
 
   pub comes_in : Since model (IsStep false c GoingOn) p q → IsIn model c p q
   comes_in (made, named, same) = (passes.begins (model p.0) p.1 q.1 p.2.entries q.2.entries c made, named, same)
 
-  -- whatever it wrote before
+  -- a release of a value that satisfies Q is a release of some value
   pub wrote_any : (Q : V → Type 0) (a : A) → Since model (WritesSome Q (IsCall c a)) p q → Since model (WritesSome (λ y. Unit {0}) (IsCall c a)) p q
   wrote_any Q a (made, named, same) = (
     passes.weaker (model p.0) p.1 q.1 p.2.entries q.2.entries (WritesSome Q (IsCall c a)) (WritesSome (λ y. Unit {0}) (IsCall c a))
@@ -50,7 +50,7 @@ module _ {K W V C L A X : Type 0} (model : K → Machine W V C L A) (c : C) (p q
   )
 
   module _ (r : Spot K X (Entry C V)) (first : IsIn model c p q) where
-    -- a step of the same lock
+    -- a later step is in the same lock, and so runs the same model
     in_lock : (course : Course V C A) → Since model course q r → Made (model p.0) q.1 q.2.entries r.1 r.2.entries course
     in_lock course step = subst (λ k. Made (model k) q.1 q.2.entries r.1 r.2.entries course) first.2 step.0
 
@@ -70,7 +70,7 @@ module _ {K W V C L A X : Type 0} (model : K → Machine W V C L A) (c : C) (p q
       step.2 ∙ first.2,
     )
 
--- what an attempt makes of what holds before it, the last one has made
+-- if each attempt turns P of its state into Q of its answer, or into P of the next state, the last attempt gives Q
 pub tried : {S A : Type 0} (attempts : S → Result A S → Type 0) (P : S → Type 0) (Q : A → Type 0)
     → ((s : S) (r : Result A S) → attempts s r → P s → IfOk r Q × IfErr r P)
     → (first : S) (answer : A) → Succeeds attempts first answer → P first → Q answer

@@ -30,7 +30,7 @@ numbered V = Tuple (V ∷ usize ∷ usize ∷ [])
 abbrev pub numbered_laws : (V : RattleType) → Laws V → Laws (numbered V)
 numbered_laws V laws = tuple_laws (V ∷ usize ∷ usize ∷ []) (laws, (numbers, (numbers, tt)))
 
--- an entry; what is known of a trace of such entries; and a trace with a second word
+-- the laws of three types: an entry, a watch of such entries, and a trace of them with a second word
 abbrev pub entry_over_laws : (C V : RattleType) → Laws C → Laws V → Laws (entry_over C V)
 entry_over_laws C V laws values = tuple_laws (usize ∷ _ ∷ []) (numbers, (moves.the_row_laws C V laws values, tt))
 
@@ -40,7 +40,7 @@ watched C = watch.the_row (entry C)
 abbrev pub traced : RattleType → RattleType → RattleType
 traced C S = trace.the_row (entry C) S
 
--- the same for a lock whose trace tells values of this row; and what is fixed when that lock is made
+-- the same for a lock whose trace tells values of this row, and the type of the lock's opening
 abbrev pub opened : RattleType → RattleType
 opened V = opening.the_row V
 
@@ -53,7 +53,7 @@ traced_over C V S = trace.the_row (entry_over C V) S
 abbrev pub trace_over_laws : (C V S : RattleType) → Laws C → Laws V → Laws S → Laws (traced_over C V S)
 trace_over_laws C V S laws values second = traces.the_row_laws (entry_over C V) S (entry_over_laws C V laws values) second
 
--- What a lock must show when it takes a watch of such a trace: the values live as long as the borrow of the lock
+-- What a lock must show when it takes a watch of such a trace: its values live as long as the borrow of the lock.
 module _ (κ l : Lft) (within : κ ⊑ l) where
   abbrev alone : Lft
   alone = l ++ []

@@ -1,5 +1,4 @@
--- A lock's rule together with its trace of numbered parties. Each step of the rule that is moves of the model keeps
--- both.
+-- A lock's rule together with its trace of numbered parties. A step that keeps the rule and is moves of the model keeps both.
 use Rattle.std.proofs.Common.{◌≡◌, ℕ, zero, suc, ◌+◌, ◌++◌, ◌∷◌, map, length, Option, Some, None, List, [], refl, sym, ap, ◌∙◌, subst}
 use Rattle.std.specs.Prelude.{sum_by}
 use mathlib.Core.Option.{some, some-injective, some-ne-none}
@@ -125,7 +124,7 @@ module _ {W V C L A X S : Type 0} (m : Machine W V C L A) (seat_of : X → Seat 
     ),
   )
 
--- a step on the second
+-- the same for a step on the second word
 module _ {W V C L A X : Type 0} (m : Machine W V C L A) (seat_of : X → Seat C L) (words_of : W → ℕ × ℕ) (holds : ℕ → ℕ → List X → Type 0) (name : ℕ) (Y : Type 0) (way : Way Y) (f : X → Use) (know : Knowledge (Trace (Entry C V) ℕ) Y) where
   pub traces_second : (view : Option (Numbered X)) (shown : Option Y) (g : ℕ → ℕ) (then : ℕ → X → Type 0) (says : List (Move C V) → List (Outcome A V) → ℕ → X → Type 0)
       → AreMoves m seat_of words_of (what view) (on_second g) second then says → Owes m seat_of words_of holds name Y way f know view shown (on_second g) second then says → AllowsSecondAt holds (ways m seat_of words_of holds name Y way f know) (what view) shown g then
@@ -134,7 +133,7 @@ module _ {W V C L A X : Type 0} (m : Machine W V C L A) (seat_of : X → Seat C 
       let made = allows id n t.word (all vs) (meets.0.1, plain f vs way meets.1) (stands id view vs at) small in
       leads m seat_of words_of holds name Y way f know view shown (on_second g) second then says moves owes id n t vs meets at made.0 made.1 made.2
 
--- a step may tell less of its moves
+-- if what a step says of its moves implies less, the step may say less
 module _ {W V C L A X S : Type 0} (m : Machine W V C L A) (seat_of : X → Seat C L) (words_of : W → ℕ × S) (view : Option (Numbered X)) (says says' : List (Move C V) → List (Outcome A V) → ℕ → X → Type 0)
     (less : (own : List (Move C V)) (outs : List (Outcome A V)) (n : ℕ) (u : X) → says own outs n u → says' own outs n u) where
   pub tells_less : {Y : Type 0} (holds : ℕ → Trace (Entry C V) S → List (Numbered X) → Type 0) (used : Ways Y (Numbered X) (Trace (Entry C V) S)) (shown : Option Y) (g : ℕ → ℕ)
@@ -142,7 +141,7 @@ module _ {W V C L A X S : Type 0} (m : Machine W V C L A) (seat_of : X → Seat 
   tells_less holds used shown g traces id n t vs meets at small =
       let (w, es, going, (own, outs, is, mark, none, mine, said)) = traces id n t vs meets at small in (w, es, going, (own, outs, is, mark, none, mine, less own outs n w.0 said))
 
--- a step on the second
+-- the same for a step on the second word
 module _ {W V C L A X : Type 0} (m : Machine W V C L A) (seat_of : X → Seat C L) (words_of : W → ℕ × ℕ) (view : Option (Numbered X)) (says says' : List (Move C V) → List (Outcome A V) → ℕ → X → Type 0)
     (less : (own : List (Move C V)) (outs : List (Outcome A V)) (n : ℕ) (u : X) → says own outs n u → says' own outs n u) where
   pub tells_less_second : {Y : Type 0} (holds : ℕ → Trace (Entry C V) ℕ → List (Numbered X) → Type 0) (used : Ways Y (Numbered X) (Trace (Entry C V) ℕ)) (shown : Option Y) (g : ℕ → ℕ)

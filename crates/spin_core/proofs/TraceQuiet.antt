@@ -1,4 +1,4 @@
--- A lock without a trace, on the steps that append: each appends nothing.
+-- A lock that does not use its trace: its steps append nothing.
 use Rattle.std.proofs.Common.{ℕ, [], List, Option, Some, None, refl}
 use Rattle.spin_core.specs.declared.trace.Watch.{Watch}
 use Rattle.spin_core.specs.Cell.{Use, Way, Ways, no_fact, AllowsAt, Rests, Moved}

@@ -47,7 +47,7 @@ module _ {M : Type 1} {𝓤 : Ura M} (𝓛 : Logic 𝓤) where
     begins = via 𝓤 _ (latest_new logs 𝓛 []) (basic 𝓛 _)
 
   module _ {T : Type 0} (cv : Coded T) (γ : ℕ) where
-    -- a share of the right to append, all of it, and what is known
+    -- `Right` is a share of the right to append, `Log` is all of that right, and `Known` is what a watch knows.
     abbrev Right : List T → Share → Fml
     Right = log_part cv.code γ
 
@@ -87,7 +87,7 @@ module _ {M : Type 1} {𝓤 : Ura M} (𝓛 : Logic 𝓤) where
         qed 𝓛 (‵ top ∷ ‵ had ∷ []) ∵ use2 𝓛 (given (IsPrefix (map cv.code k) (map cv.code l)) (‵ top ⊛ ‵ had)) (latest_bounds logs 𝓛 q γ (map cv.code l) (map cv.code k)) $
         learn ! (λ p. check ! (prefix_uncoded cv k l p) $ split ! $ keep ! (0 ∷ []) $ use1 𝓛 (‵ top ⊛ ‵ has) (shows q l) $ split ! $ done !)
 
-    -- whoever appends sees that what was known is a prefix
+    -- who appends learns that what a watch knew is a prefix of the log
     pub observes_whole : (l k : List T) → ⟦ Log l ⟧ ∗ ⟦ Known k ⟧ ⊢ guard 𝓤 (IsPrefix k l) (⟦ Log l ⟧ ∗ ⟦ Known l ⟧)
     unfolding log_owns
     observes_whole l k = observes full_share l k
@@ -96,7 +96,7 @@ module _ {M : Type 1} {𝓤 : Ura M} (𝓛 : Logic 𝓤) where
     unfolding log_owns
     shows_whole l = shows full_share l
 
-    -- two owners of a share of one right
+    -- two owners of shares of one right agree on the log
     pub same_log : (q r : Share) (l k : List T) → ⟦ Right l q ⟧ ∗ ⟦ Right k r ⟧ ⊢ guard 𝓤 (l ≡ k) (⟦ Right l q ⟧ ∗ ⟦ Right k r ⟧)
     same_log q r l k = let a = map cv.code l in let b = map cv.code k in let x : Fml = Right l q in let y : Fml = Right k r in
         qed 𝓛 (‵ x ∷ ‵ y ∷ []) ∵ use2 𝓛 (given (a ≡ b) (‵ x ⊛ ‵ y)) (latest_agrees logs 𝓛 q r γ a b) $

@@ -71,7 +71,7 @@ module _ {M : Type 1} {𝓤 : Ura M} (𝓛 : Logic 𝓤) (Er : RattleType) (b o 
   unfolding part_of
   takes m = qed 𝓛 (‵ Mark ∷ raw Back ∷ ‵ (Log m) ∷ []) ∵ each ! (with m) (λ w. let a : Denots (rows_of ks) = data_of w in let m' : Trace Er.Denot ℕ = beside m w in assume ! (‵ (word b (o + 0) w)) $
       use1 𝓛 (‵ (Word w)) (word_in 𝓛 b (o + 0) w) $ nothing ! $
-      -- [nothing; the word; the marker; the way back; the log]
+      -- context: [nothing; the word; the marker; the way back; the log]
       move ! (2 ∷ 0 ∷ []) $ fjoin ! $ move ! (1 ∷ 0 ∷ []) $ fjoin ! $ move ! (1 ∷ []) $
       use1 𝓛 (raw (⟦ parts_at full_share ks zero a b o ⟧ -∗ ⟦ part_at Data full_share a b o ⟧)) (all_e 𝓤 (λ (u : Denots (rows_of ks)). ⟦ parts_at full_share ks zero u b o ⟧ -∗ ⟦ part_at Data full_share u b o ⟧) a) $
       move ! (1 ∷ 0 ∷ []) $ use2 𝓛 (‵ (part_at Data full_share a b o)) (apply∗ 𝓤 ⟦ parts_at full_share ks zero a b o ⟧ ⟦ part_at Data full_share a b o ⟧) $
@@ -80,7 +80,7 @@ module _ {M : Type 1} {𝓤 : Ura M} (𝓛 : Logic 𝓤) (Er : RattleType) (b o 
   pub word_apart : (m : Trace Er.Denot ℕ) → ⟦ In m ⟧ ⊢ ⟦ word b (o + 0) m.word ⟧ ∗ Takes m
   unfolding part_of
   word_apart m = qed 𝓛 (‵ (In m) ∷ []) ∵ fpick ! (λ vs. fsplit ! $ move ! (1 ∷ []) $ fsplit ! $
-      -- [the fields; the log; the place]
+      -- context: [the fields; the log; the place]
       move ! (2 ∷ 0 ∷ []) $ fjoin ! $ fpack ! (List Val) (λ us. fsep (cell_at full_share Data.mir us b o) (Data.own_val (data_of m.word) us)) vs $
       use1 𝓛 ((‵ (Word m.word) ⊛ ‵ Mark ⊛ ‵ ftrue) ⊛ raw Back) (Struct-parts 𝓛 full_share [] ks (u64-laws.lawful 𝓛, (Struct-Lawful 𝓛 (denote.Struct.Declared.shape (marker.the_type Er)) tt, tt)) (data_of m.word) b o) $
       split ! $ split3 ! $ use1 𝓛 (‵ (word b (o + 0) m.word)) (word_out 𝓛 b (o + 0) m.word) $ move ! (1 ∷ 3 ∷ 4 ∷ []) $ use3 𝓛 (raw (Takes m)) (takes m) $ keep ! (1 ∷ 0 ∷ []) $ done !)

@@ -1,5 +1,4 @@
--- Steps keep what is known of the value. Moves that write nothing keep it, and a holder writes the value that it
--- leaves.
+-- Steps keep what is known of the value. Moves that write nothing keep it. A holder that releases writes the value that it leaves.
 use Rattle.std.proofs.Common.{◌≡◌, ℕ, Bool, true, false, Option, Some, None, List, [], ◌∷◌, ◌++◌, refl, sym, ap, ◌∙◌, subst}
 use Rattle.std.specs.Option.{IfSome}
 use Rattle.spin_model.specs.declared.schedule.Move.{Move}
@@ -16,8 +15,7 @@ use Rattle.spin_core.specs.declared.trace.Trace.{Trace}
 some_none : {V : Type 0} (x : V) → Some x ≡ None → ⊥
 some_none x e = absurd cc
 
--- what a step tells of the value that it shows after, where its party comes to use it or reads on: also one that wrote
--- before
+-- A party that is shown a value after a step learns ψ of it, unless it writes on. This includes a party that stopped writing to read.
 tells : {V : Type 0} (ψ : V → Type 0) (u u' : Use) (before after : Option V) → (u ≡ writes → u' ≡ reads) → Shows u' before after → Learns ψ u u' before after → IfSome after ψ
 tells ψ u u' before None so shows learns = tt
 tells ψ writes reads before (Some x) so shows learns = learns
@@ -25,7 +23,7 @@ tells ψ writes u' before (Some x) so shows learns = absurd (let e : u' ≡ read
 tells ψ reads off before (Some x) so shows learns = absurd (some_none x shows)
 tells ψ _ u' before (Some x) so shows learns = learns
 
--- and of the value that a reader leaves
+-- a party that stops reading learns ψ of the value that it read
 leaves_told : {V : Type 0} (ψ : V → Type 0) (before after : Option V) → Learns ψ reads off before after → IfSome before ψ
 leaves_told ψ None after learns = tt
 leaves_told ψ (Some x) after learns = learns
@@ -42,7 +40,7 @@ module _ {C V : Type 0} where
   pub latest_left : (v : V) (log : List (Entry C V)) (p : ℕ) (own : List (Move C V)) → latest v (log ++ by_party p own) ≡ left own (latest v log)
   latest_left v log p own = latest-append v log (by_party p own) ∙ latest-own (latest v log) p own
 
-  -- a step that begins a call or continues it writes nothing; after a write it leaves the written value
+  -- a step of a call writes nothing; after a write the moves leave the written value
   pub step_leaves : {A : Type 0} (goes_on : Bool) (c : C) (end : Outcome A V) (own : List (Move C V)) (outs : List (Outcome A V)) → IsStep goes_on c end own outs → (v : V) → left own v ≡ v
   step_leaves true c end own outs is v = ap (λ o. left o v) is.0
   step_leaves false c end own outs is v = ap (λ o. left o v) is.0
@@ -50,7 +48,7 @@ module _ {C V : Type 0} where
   pub write_leaves : {A : Type 0} (x : V) (goes_on : Bool) (c : C) (end : Outcome A V) (own : List (Move C V)) (outs : List (Outcome A V)) → Writes x (IsStep goes_on c end) own outs → (v : V) → left own v ≡ x
   write_leaves x goes_on c end own outs (rest, comes, is, came, step) v = ap (λ o. left o v) is ∙ step_leaves goes_on c end rest comes step x
 
-  -- so such a step writes nothing, if its party does not use the value
+  -- so a step of a call writes nothing, for a party that does not use the value
   pub steps_leave : {A : Type 0} (u u' : Use) (shown : Option V) → u ≡ off → (goes_on : Bool) (c : C) (end : Outcome A V) (own : List (Move C V)) (outs : List (Outcome A V)) → IsStep goes_on c end own outs → Leaves u u' shown own
   steps_leave u u' shown is goes_on c end own outs step = subst (λ z. Leaves z u' shown own) (sym is) (step_leaves goes_on c end own outs step)
 
@@ -62,7 +60,7 @@ module _ {C V : Type 0} where
       leaves : (x : V) → ((v : V) → left own v ≡ x) → IsLast opening (t.entries ++ by_party p own) x
       leaves x all told = latest_left opening.value t.entries p own ∙ all (latest opening.value t.entries)
 
-      -- what such moves must show
+      -- what moves must show that write as `Leaves` says
       pub owed : (u u' : Use) (shown : Option V) → Leaves u u' shown own → Owed (last opening) t (grown_at t word (by_party p own)) u u' shown
       owed writes writes shown l = tt
       owed writes _ None l = tt
@@ -73,17 +71,17 @@ module _ {C V : Type 0} where
     pub opens_last : (es : List (Entry C V)) (x : V) → es ≡ [] → opening.value ≡ x → IsLast opening es x
     opens_last es x none is told = ap (latest opening.value) none ∙ is
 
-    -- what a party is shown that comes to use the value, or reads on
+    -- a party that begins to use the value, or reads on, is shown the value written last
     pub shows_last : {S : Type 0} (u u' : Use) (before after : Option V) (es : List (Entry C V)) → Learnt {S = S} (last opening) u u' before after es → (u ≡ writes → u' ≡ reads) → Shows u' before after → IfSome after (λ y. IsLast opening es y)
     shows_last u u' before after es learnt so shows = subst (λ l. IfSome after (λ y. IsLast opening l y)) learnt.1 (tells (λ y. IsLast opening learnt.0.entries y) u u' before after so shows learnt.2)
 
-    -- and what it left that it had read
+    -- a party that stops reading has read the value written last
     pub read_last : {S : Type 0} (u u' : Use) (before after : Option V) (es : List (Entry C V)) → Learnt {S = S} (last opening) u u' before after es → u ≡ reads → u' ≡ off → IfSome before (λ y. IsLast opening es y)
     read_last u u' before after es learnt is is' =
         let told = subst (λ (z : Use × Use). Learns (λ y. IsLast opening learnt.0.entries y) z.0 z.1 before after) (λ i. (is i, is' i)) learnt.2 in
         subst (λ l. IfSome before (λ y. IsLast opening l y)) learnt.1 (leaves_told (λ y. IsLast opening learnt.0.entries y) before after told)
 
-    -- what a party finds when it begins to use the value, and what one leaves that has written it
+    -- What a party finds when it begins to use the value, and what it leaves when it stops writing: the value written last.
     module _ {S : Type 0} (u u' : Use) (before after : Option V) (es : List (Entry C V)) (x : V) (learnt : Learnt {S = S} (last opening) u u' before after es) where
       pub found : u ≡ off → after ≡ Some x → IsLast opening es x
       found is some = subst (λ l. IsLast opening l x) learnt.1 (subst (λ (z : Use × Option V). Learns (λ y. IsLast opening learnt.0.entries y) z.0 u' before z.1) (λ i. (is i, some i)) learnt.2)
@@ -91,13 +89,13 @@ module _ {C V : Type 0} where
       pub gave : u ≡ writes → u' ≡ off → before ≡ Some x → IsLast opening es x
       gave is is' some = subst (λ l. IsLast opening l x) learnt.1 (subst (λ (z : Use × Use × Option V). Learns (λ y. IsLast opening learnt.0.entries y) z.0 z.1 z.2 after) (λ i. (is i, is' i, some i)) learnt.2)
 
-    -- what a party wrote last is what it left
+    -- the value that a party wrote last is the one that it left
     pub wrote : (log es now : List (Entry C V)) (p : ℕ) (own : List (Move C V)) (x y : V) → now ≡ log ++ es → es ≡ by_party p own → ((v : V) → left own v ≡ y) → IsLast opening now x → opening.told ≡ true → y ≡ x
     wrote log es now p own x y is mine all so told =
         let whole : now ≡ log ++ by_party p own = is ∙ ap (λ l. log ++ l) mine in
         let here : latest opening.value now ≡ y = ap (latest opening.value) whole ∙ latest_left opening.value log p own ∙ all (latest opening.value log) in
         subst (λ z. z ≡ x) here (so told)
 
-    -- what is read later was written since, or was there before
+    -- a later value is the last one written since the earlier look, or the value of that look if nothing was written
     pub read_on : (old new more : List (Entry C V)) (x y : V) → opening.told ≡ true → new ≡ old ++ more → IsLast opening old x → IsLast opening new y → latest x more ≡ y
     read_on old new more x y told grew is is' = ap (λ z. latest z more) (sym (is told)) ∙ sym (latest-append opening.value old more) ∙ ap (latest opening.value) (sym grew) ∙ is' told

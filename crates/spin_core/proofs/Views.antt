@@ -17,7 +17,7 @@ use Rattle.spin_step.proofs.Tickets.{serving-moves}
 knows-kept : (s : Plain) (p : ℕ) (step : Option Change) (x : Part) → IsInOrder s → IsOpenStep s p step → Knows s x → Knows (apply_some s step) x
 knows-kept s p step x order may known = grind (arith, serving-moves)
 
--- What a party's own steps do to what it has
+-- What a party's own steps do to its entries.
 
 pub release-own : (s : Plain) (p : ℕ) (k : Kind) → entries_after s (Some (releases p k)) (entries_of p (holds k)) ≡ entries_of p idle
 release-own s p k = grind (arith, same_kind-self k)
@@ -37,7 +37,7 @@ module _ {V : Type 0} (part : V → Part) where
   number id None vs = length vs
   number id (Some v) vs = id
 
-  -- its part before the step
+  -- the part of a party before its step
   abbrev pub part_before : Option V → Part
   part_before None = idle
   part_before (Some v) = part v
@@ -60,7 +60,7 @@ module _ {V : Type 0} (part : V → Part) where
   was id None vs at = part-beyond (length vs) vs (omega arith)
   was id (Some v) vs at = at_place id v vs at
 
-  -- the party gets the part of its new view, and the others keep theirs
+  -- party p gets the part of its new view, and the others keep theirs
   abbrev Moves : ℕ → List V → List V → V → ℕ → Type 0
   Moves p vs new w q = (part_at part new p ≡ part w) × ((p ≡ q → ⊥) → part_at part new q ≡ part_at part vs q)
 
@@ -80,7 +80,7 @@ module _ {V : Type 0} (part : V → Part) where
   pub own_part : (id : ℕ) (view : Option V) (vs : List V) (s : Plain) → Stands id view vs → IsLockOf part vs s → HasPart s (number id view vs) (part_before view)
   own_part id view vs s at is = subst (HasPart s (number id view vs)) (was id view vs at) (is (number id view vs))
 
-  -- a party's open step, or no step, after which its part is that of its next view
+  -- a party's open step, or no step, after which the party has the part of its next view
   pub lock_after : (id : ℕ) (view : Option V) (vs : List V) (w : V) (s : Plain) (step : Option Change) → Stands id view vs → IsInOrder s → IsLockOf part vs s
       → IsOpenStep s (number id view vs) step → entries_after s step (entries_of (number id view vs) (part_before view)) ≡ entries_of (number id view vs) (part w) → Knows (apply_some s step) (part w)
       → IsLockOf part (after id view vs w) (apply_some s step)

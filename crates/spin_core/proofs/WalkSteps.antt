@@ -1,5 +1,5 @@
--- Rules that the walks share, in addition to the toolchain's: how to state a fact, that what somebody owns is in a
--- block, and tokens and facts that a walk does not use. Assumes `Logic`.
+-- Rules for walks that the toolchain does not have: how to state a fact, why a pointer points into a block, and how to drop tokens and
+-- facts that a walk does not use. Assumes `Logic`.
 use Rattle.std.proofs.Common.{◌≡◌, ℕ, zero, suc, List, [], ◌∷◌, refl}
 use seplogic.Ra.Ura.{Ura}
 use base.Logic.{SProp, ent, sep, emp, never_e, id⊢, via, snd∗}
@@ -16,7 +16,7 @@ module _ {M : Type 1} {𝓤 : Ura M} {𝓛 : Logic 𝓤} {K : Type 0} {Γ : List
   pub says : K → (φ : Type 0) → φ → Step K 𝓛 (raw (fact 𝓤 φ) ∷ Γ) G Γ G
   says t φ holds = use0 𝓛 (raw (fact 𝓤 φ)) (fact_i 𝓤 φ (emp 𝓤) holds)
 
-  -- a party that owns something that no null pointer has, has a pointer into a block
+  -- if a null pointer owns nothing of this kind, a party that owns it has a pointer into a block
   pub lies : K → (F : Ptr → Fml) → F null_ptr ≡ ffalse → (p : Ptr) → (InBlock p → Seq K 𝓛 (‵ (F p) ∷ Γ) G) → Seq K 𝓛 (‵ (F p) ∷ Γ) G
   lies t F never (block_ptr b o) go = go tt
   lies t F never null_ptr go = rewrite t 0 (λ (P : Fml). ‵ P) never refl $ use1 𝓛 (given ⊥ (‵ ftrue)) (never_e 𝓤 _) $ learn t (λ no. absurd no)
@@ -35,7 +35,7 @@ abbrev pub others : (n : ℕ) → Many Lft n → Many Share n → Fml
 others zero κs qs = ftrue
 others (suc n) κs qs = fsep (flft κs.0 qs.0) (others n κs.1 qs.1)
 
--- facts that a walk does not use, and a last one
+-- facts that a walk does not use, and behind them one more fact
 abbrev pub Facts : ℕ → Type 1
 Facts zero = Unit {1}
 Facts (suc n) = Type 0 × Facts n
@@ -49,7 +49,7 @@ module _ {M : Type 1} (𝓤 : Ura M) (φ : Type 0) where
   last_fact zero φs = id⊢ 𝓤 (fact 𝓤 φ)
   last_fact (suc n) φs = via 𝓤 (after_facts n φs.1) (snd∗ 𝓤 (fact 𝓤 φs.0) (after_facts n φs.1)) (last_fact n φs.1)
 
--- A function that keeps nothing of its arguments: of each, the contract says nothing at the exit.
+-- A function that keeps none of its arguments: the contract says nothing of them at the exit.
 module _ {n : ℕ} where
   abbrev pub all_dropped : (ss : List (Slot n)) (ks : Kepts ss) → Stays ss ks
   all_dropped [] ks = tt

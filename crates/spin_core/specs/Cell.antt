@@ -9,16 +9,14 @@ pub data Use : Type 0 where
   reads : Use
   writes : Use
 
--- How the parties share a value of type X. `alone`: each user has it to itself. `lends`: readers share it, or one
--- writer has it.
--- `fixes`: readers share it, and a party may keep reading it for ever. Then `fact true` holds of a value that
--- somebody reads, and `fact false` of a value that nobody uses.
+-- How the parties share a value of type X. `alone`: one user at a time. `lends`: many readers, or one writer. `fixes`: like `lends`, and a
+-- party may also read for ever. Then `fact true` holds of a value that somebody reads, and `fact false` of a value that nobody uses.
 pub data Way (X : Type 0) : Type 1 where
   alone : Way X
   lends : Way X
   fixes : (Bool → X → Type 0) → Way X
 
--- what is known of a value that nobody writes: nothing, or a fact about it and the second word, such as a trace
+-- what is known of a value that nobody writes: nothing, or a fact that relates the value to the `Second` of the cell, such as its trace
 pub data Knowledge (S X : Type 0) : Type 1 where
   no_fact : Knowledge S X
   knows : (S → X → Type 0) → Knowledge S X
@@ -27,17 +25,18 @@ pub data Knowledge (S X : Type 0) : Type 1 where
 abbrev pub Ways : Type 0 → Type 0 → Type 0 → Type 1
 Ways X V S = Way X × (V → Use) × Knowledge S X
 
--- counts 1 for a party that reads; `writing` below counts 1 for a party that writes
+-- counts 1 for a party that reads
 abbrev pub reading : Use → ℕ
 reading reads = 1
 reading _ = 0
 
+-- counts 1 for a party that writes
 abbrev pub writing : Use → ℕ
 writing writes = 1
 writing _ = 0
 
 module _ {V : Type 0} (f : V → Use) where
-  -- a permit that has taken no step has no view, and no use
+  -- the use of a permit's party; a permit that has taken no step has no view, and does not use the value
   abbrev pub use_of : Option V → Use
   use_of None = off
   use_of (Some v) = f v
@@ -57,59 +56,58 @@ abbrev pub most_readers : ℕ
 most_readers = 4611686018427387904
 
 module _ {X : Type 0} where
-  -- how many may read, and how many may write, at once
+  -- in this way r parties may read and w parties may write at once
   abbrev pub Limits : Way X → ℕ → ℕ → Type 0
   Limits alone r w = r + r + w ≤ 1
   Limits lends r w = r + most_readers * w ≤ most_readers
   Limits (fixes fact) r w = (w ≤ 1) × (0 < w → r ≡ 0)
 
-  -- what is known of the value if r parties read it and w parties write it
+  -- what the way `fixes` says of a value with r readers and w writers
   abbrev pub Fixed : Way X → ℕ → ℕ → X → Type 0
   Fixed (fixes fact) (suc r) w x = fact true x
   Fixed (fixes fact) zero zero x = fact false x
   Fixed _ r w x = Unit {0}
 
-  -- what a party knows of the value that it reads
+  -- what the way `fixes` says of a value to a party that reads it
   abbrev pub Seen : Way X → X → Type 0
   Seen way x = Fixed way 1 0 x
 
-  -- in this way a party that reads the value may read it for ever
+  -- the way is `fixes`: a party that reads the value may read it for ever
   abbrev pub Fixes : Way X → Type 0
   Fixes (fixes fact) = Unit {0}
   Fixes _ = ⊥
 
-  -- which parties may have used a new cell and left it
+  -- parties with these views may have used the new cell and left it; without `fixes` there are none
   abbrev pub IsNew : {V : Type 0} → Way X → List V → Type 0
   IsNew (fixes fact) vs = Unit {0}
   IsNew _ vs = vs ≡ []
 
-  -- whether a value that nobody writes is shared
+  -- several parties may read the value at once
   abbrev pub IsShared : Way X → Type 0
   IsShared alone = ⊥
   IsShared _ = Unit {0}
 
-  -- any value may replace one that nobody uses
+  -- in this way any value may replace one that nobody uses
   abbrev pub Frees : Way X → Type 0
   Frees (fixes fact) = (read : Bool) (x : X) → fact read x
   Frees _ = Unit {0}
 
-  -- what is known of a value that nobody writes
+  -- the known fact, if there is one, holds of the value x and the `Second` m
   abbrev pub IsKnown : {S : Type 0} → Knowledge S X → S → X → Type 0
   IsKnown no_fact m x = Unit {0}
   IsKnown (knows φ) m x = φ m x
 
-  -- A holds, and if nobody writes the new value, so does the fact; if there is no fact, A alone
+  -- A holds; if there is a known fact and nobody writes, that fact holds too
   abbrev pub Knowing : {S : Type 0} → Knowledge S X → S → ℕ → X → Type 0 → Type 0
   Knowing (knows φ) m zero x A = φ m x × A
   Knowing _ m w x A = A
 
-  -- A holds, and so does the fact of every value
+  -- A holds; if there is a known fact, it holds of every value
   abbrev pub Freeing : {S : Type 0} → Knowledge S X → Type 0 → Type 0
   Freeing no_fact A = A
   Freeing {S} (knows φ) A = ((m : S) (x : X) → φ m x) × A
 
-  -- What a step must show where the known fact changes from φ to ψ. A writer that ends shows ψ of the value that it
-  -- leaves.
+  -- What a step must show if the known fact is φ before it and ψ after it. A party that stops writing shows ψ of the value that it leaves.
   -- Any other party shows that φ implies ψ.
   abbrev pub Carries : (X → Type 0) → (X → Type 0) → Use → Use → Option X → Type 0
   Carries φ ψ writes writes shown = Unit {0}
@@ -117,7 +115,8 @@ module _ {X : Type 0} where
   Carries φ ψ writes _ (Some x) = ψ x
   Carries φ ψ _ _ shown = (x : X) → φ x → ψ x
 
-  -- and what it tells its party, by the values that it is shown before and after: ψ of one that it comes to use, reads on or leaves, but nothing of one that it writes on
+  -- What a step tells its party of the value shown before it and after it. A party that writes on learns nothing. A party that stops using
+  -- the value learns ψ of the value before the step. Any other party learns ψ of the value after the step, if it is shown one.
   abbrev pub Learns : (X → Type 0) → Use → Use → Option X → Option X → Type 0
   Learns ψ writes writes before after = Unit {0}
   Learns ψ off v before (Some x) = ψ x
@@ -127,30 +126,30 @@ module _ {X : Type 0} where
   Learns ψ _ _ before (Some x) = ψ x
   Learns ψ _ _ before None = Unit {0}
 
-  -- what a step from m to m' must show of that fact
+  -- what a step must show of the known fact, if the step changes the `Second` from m to m'
   abbrev pub Owed : {S : Type 0} → Knowledge S X → S → S → Use → Use → Option X → Type 0
   Owed no_fact m m' u v shown = Unit {0}
   Owed (knows φ) m m' u v shown = Carries (φ m) (φ m') u v shown
 
-  -- a step from m to m' must show that, and A; if there is no fact, A alone
+  -- A holds; if there is a known fact, the step from m to m' also shows what `Carries` asks
   abbrev pub Carrying : {S : Type 0} → Knowledge S X → S → S → Use → Use → Option X → Type 0 → Type 0
   Carrying no_fact m m' u v shown A = A
   Carrying (knows φ) m m' u v shown A = Carries (φ m) (φ m') u v shown × A
 
-  -- What a party must show when it changes its use and r parties read. One that begins to read shows that somebody
-  -- reads already. One that stops writing shows the fact.
+  -- What a step must show in the way `fixes`, while r parties read. A party that begins to read shows that somebody reads already. A party
+  -- that stops writing shows the fact of the value that it leaves.
   abbrev pub Owes : (Bool → X → Type 0) → Use → Use → Option X → ℕ → Type 0
   Owes fact off reads shown r = 0 < r
   Owes fact writes reads (Some x) r = fact true x
   Owes fact writes off (Some x) r = fact false x
   Owes fact _ _ shown r = Unit {0}
 
-  -- A, and in the way `fixes` two things more: a reader keeps reading, and the party shows what `Owes` says
+  -- A holds; in the way `fixes` a reader keeps reading, and the party shows what `Owes` says
   abbrev pub Going : Way X → Use → Use → Option X → ℕ → Type 0 → Type 0
   Going (fixes fact) u v shown r A = (u ≡ reads → v ≡ reads) × Owes fact u v shown r × A
   Going _ u v shown r A = A
 
-  -- what a party is shown after a step, where it was shown `before` earlier: a value that it keeps using is the same
+  -- a party that was shown the value `before` is now shown the same value; a party that was shown none is now shown some value
   abbrev pub SameValue : Option X → Option X → Type 0
   SameValue None after = (x : X) × (after ≡ Some x)
   SameValue (Some x) after = after ≡ Some x
@@ -159,7 +158,7 @@ module _ {X : Type 0} where
   Shows off before after = after ≡ None
   Shows _ before after = SameValue before after
 
-  -- what a party learns of the value that it begins to use
+  -- in the way `fixes`, the fact that a party learns when it begins to use the value
   abbrev pub Finds : Way X → Use → Use → Option X → Type 0
   Finds (fixes fact) off reads (Some x) = fact true x
   Finds (fixes fact) off writes (Some x) = fact false x
@@ -168,7 +167,7 @@ module _ {X : Type 0} where
   abbrev pub Preserves : Way X → Use → Use → Option X → Option X → Type 0
   Preserves way u v before after = Shows v before after × Finds way u v after
 
-  -- a step from one view to another keeps the value that is shown
+  -- a step from one view to the next shows the value that it showed before, and tells a new user what `Finds` says
   abbrev pub Keeps : {V S : Type 0} → Ways X V S → Option V → Option V → Option X → Option X → Type 0
   Keeps ways view new before after = Preserves ways.0 (use_of ways.1 view) (use_of ways.1 new) before after
 
@@ -177,15 +176,16 @@ module _ {X V S : Type 0} (holds : ℕ → S → List V → Type 0) (ways : Ways
   abbrev pub Meets : ℕ → S → List V → Type 0
   Meets n m vs = holds n m vs × Limits ways.0 (readers_of ways.1 vs) (writers_of ways.1 vs)
 
-  -- some parties may have used a cell with these words and this value, and left it
+  -- The rule holds of these words and of some views, within the limits. What is known of the value holds too.
   abbrev pub Starts : ℕ → S → X → Type 0
   Starts n m x = (vs : List V) × Meets n m vs × Knowing ways.2 m (writers_of ways.1 vs) x (Fixed ways.0 (readers_of ways.1 vs) (writers_of ways.1 vs) x)
 
-  -- nobody has used the new cell yet; or, in the way `fixes`, the party that made the value has left
+  -- The rule may hold of a new cell with these words and this value. Nobody has used the cell, unless the way is `fixes`: then the parties
+  -- that made the value have left.
   abbrev pub Opens : ℕ → S → X → Type 0
   Opens n m x = (vs : List V) × IsNew ways.0 vs × Meets n m vs × Knowing ways.2 m (writers_of ways.1 vs) x (Fixed ways.0 (readers_of ways.1 vs) (writers_of ways.1 vs) x)
 
--- wherever the rule held, it also holds under another key, and each view uses the value as before
+-- where the rule held under the old key it holds under the new one, and each view uses the value as before
 module _ {X V S : Type 0} (holds : ℕ → S → List V → Type 0) (ways : Ways X V S) (holds' : ℕ → S → List V → Type 0) (ways' : Ways X V S) where
   abbrev pub Lends : Type 0
   Lends = (IsShared ways'.0 → IsShared ways.0) × ((v : V) → ways'.1 v ≡ ways.1 v) × ((n : ℕ) (m : S) (x : X) → Starts holds ways n m x → Starts holds' ways' n m x)
@@ -201,20 +201,20 @@ module _ {V : Type 0} where
   after id None vs w = vs ++ w ∷ []
   after id (Some v) vs w = slice_set vs id w
 
-  -- a party may leave: it does not use the value, and the rule also holds without it
+  -- the party may leave: it does not use the value, and the rule also holds without its view
   abbrev pub Rests : {S : Type 0} → (ℕ → S → List V → Type 0) → (V → Use) → Option V → Type 0
   Rests holds f None = Unit {0}
   Rests {S} holds f (Some v) = (f v ≡ off) × ((n : ℕ) (m : S) (before behind : List V) → holds n m (before ++ v ∷ behind) → holds n m (before ++ behind))
 
--- What a step needs of a party that is shown a value, or nothing. The step applies f to the word. Whatever the words
--- and the views are, the party has a next view that keeps the rule.
+-- What a step must show that applies f to a word; `shown` is the value that its party is shown, if any. Whatever the words and the views
+-- are, the party has a next view that keeps the rule.
 module _ {X V S : Type 0} (holds : ℕ → S → List V → Type 0) (ways : Ways X V S) (view : Option V) where
   -- a step on the first word
   abbrev pub AllowsAt : Option X → (ℕ → ℕ) → (ℕ → V → Type 0) → Type 0
   AllowsAt shown f then = (id n : ℕ) (m : S) (vs : List V) → Meets holds ways n m vs → Stands id view vs → n < words
       → (w : V) × Going ways.0 (use_of ways.1 view) (ways.1 w) shown (readers_of ways.1 vs) (Meets holds ways (f n) m (after id view vs w)) × then n w
 
-  -- the same where the value does not matter, as in the ways `alone` and `lends`
+  -- the same if the party is shown no value, as in the ways `alone` and `lends`
   abbrev pub Allows : (ℕ → ℕ) → (ℕ → V → Type 0) → Type 0
   Allows f then = AllowsAt None f then
 

@@ -1,13 +1,10 @@
 -- What a `Cell` shares, and what its permits own.
--- The cell is shared for a lifetime α. One invariant holds its words, a quarter of each party's view, and the state
--- of the value.
+-- The cell is shared for a lifetime α. One invariant holds its words, a quarter of each party's view, and the state of the value.
 -- In the way `alone` the state is the borrow of the value, or nothing while a writer has it.
--- In the way `lends` a value that nobody writes is shared for a lifetime a of its own. A reader has one part in 2 ^
--- 63 of a's token. A writer ends that lifetime, and begins the next one.
--- The way `fixes` is the same, but a reader has any part of a's token, and knows the fact. It never gives its part
--- back.
--- The name ρ has the views. The name γ has a and the value, in the same parts as a's token. The name ν tracks the
--- value as long as the cell is shared.
+-- In the way `lends` a value that nobody writes is shared for a lifetime a of its own. A reader has one of the 2^63 parts of a's token. A
+-- writer ends the lifetime a, and begins the next one when it stops writing.
+-- In the way `fixes` a reader has some part of a's token, never gives it back, and knows the fact.
+-- Ghost names: ρ has the views. γ has a and the value, split like a's token. ν tracks the value as long as the cell is shared.
 use Rattle.std.specs.Prelude.{◌≡◌, Bool, true, false, ℕ, zero, suc, ◌+◌, ◌-◌, ◌^◌, [], ◌∷◌, List, Option, Some, None}
 use base.Fraction.{full_share}
 use base.FractionLaws.{Counts}
@@ -28,25 +25,24 @@ use types.Keyed.{entries_from}
 use base.Share.{quarter}
 use Rattle.spin_core.specs.Cell.{Use, off, reads, writes, Way, alone, lends, fixes, Ways, IsShared, IsKnown, use_of, readers_of, writers_of, Meets, Starts}
 
--- where the value is, behind the first word
+-- the place of the value, behind the first word
 abbrev pub offset : RattleType → ℕ
 offset R = up (align (lone R.mir)) 8
 
--- where the second word's data is, behind the value
+-- the place of the second word's data, behind the value
 abbrev pub second_at : RattleType → RattleType → ℕ
 second_at S R = up (align (lone S.mir)) (offset R + size (lone R.mir))
 
--- any thread may read such a value through a `&`
+-- the type is `Sync`: any thread may read a shared value of it
 abbrev pub Common : RattleType → Type 0
 Common R = (x : R.Denot) (b e : ℕ) (κ : Lft) → Keyless (shared_of R x b e κ)
 
--- any thread may own such a value
+-- the type is `Send`: any thread may own a value of it
 abbrev pub Sends : RattleType → Type 0
 Sends S = (y : S.Denot) (vs : List Val) → Keyless (S.own_val y vs)
 
--- If parties share the value, or some view reads it: where threads may share the rule's own type, they may share the
--- value's type.
--- Any thread may own the second word's data.
+-- If parties share the value, or some view reads it, then the value's type is `Sync` wherever the rule's own type is. The second word's
+-- data is `Send`.
 abbrev pub Known : {X V S : Type 0} → Ways X V S → RattleType → RattleType → RattleType → Type 0
 Known {V = V} ways Y S R = (IsShared ways.0 → Common Y → Common R) × ((v : V) → ways.1 v ≡ reads → Common Y → Common R) × Sends S
 
@@ -57,7 +53,7 @@ pub record Id : Type 0 where
   pub views : GName
   pub value : GName
 
--- the keys from k on, which no party has yet
+-- the entries from k on, which belong to no party yet
 abbrev pub unused : GName → ℕ → Gv → Fml
 unused ρ k g = entries_from halved ρ k (λ _. (full_share, g))
 
@@ -66,7 +62,7 @@ abbrev pub roster : {V : Type 0} → (V → Gv) → GName → ℕ → List V →
 roster c ρ k [] = fex Gv (unused ρ k)
 roster c ρ k (v ∷ vs) = fsep (seen c ρ k quarter v) (roster c ρ (suc k) vs)
 
--- a lifetime, and the value that is shared for it
+-- a round: a lifetime, and the value that is shared for it
 abbrev pub Round : RattleType → Type 0
 Round R = ℕ × R.Denot
 
@@ -82,8 +78,7 @@ share R γ s e = fsep (flft (s.0 ∷ []) e) (tag γ e (round_code R s))
 abbrev pub parts : (R : RattleType) → GName → Round R → ℕ → Fml
 parts R γ s k = fex Share (λ e. fex (Counts 63 e k) (λ _. share R γ s e))
 
--- What a reader knows of its share: in the way `lends` it is one part in 2 ^ 63, in the way `fixes` the value has the
--- fact.
+-- What a reader knows of its share. In the way `lends` it is one of 2^63 parts. In the way `fixes` the value satisfies the fact.
 abbrev pub Part : {X : Type 0} → Way X → X → Share → Type 0
 Part alone x e = ⊥
 Part lends x e = Counts 63 e 1
@@ -130,11 +125,11 @@ module _ (R : RattleType) (b o : ℕ) where
     missing alone = ftrue
     missing _ = idle t.round
 
-    -- the value with r readers, and φ holds of it
+    -- the value has r readers, and satisfies φ
     abbrev pub lying : Way R.Denot → (R.Denot → Type 0) → ℕ → R.Denot → Fml
     lying way φ r x = fex (φ x) (λ _. resting way r x)
 
-    -- the same with w writers too
+    -- the state of a value with r readers and w writers; φ holds of it if nobody writes
     abbrev pub state : Way R.Denot → (R.Denot → Type 0) → ℕ → ℕ → Fml
     state way φ r zero = fex R.Denot (lying way φ r)
     state way φ r (suc w) = missing way
@@ -172,7 +167,7 @@ module _ (R : RattleType) (b o : ℕ) where
         kept = beside (ends t.life) (always (fbor t.life inner))
 
 module _ (Y R : RattleType) {V : Type 0} (c : V → Gv) (S : RattleType) (holds : ℕ → S.Denot → List V → Type 0) (ways : Ways R.Denot V S.Denot) where
-  -- the cell's own fields, and some views that meet the rule
+  -- the cell's own fields; with them the rule holds of some views
   abbrev pub cell_owns : (ℕ → S.Denot → R.Denot → Fml) → Fml
   cell_owns fields = fex (Known ways Y S R) (λ _. fex (ℕ × S.Denot × R.Denot) (λ s. fsep (fields s.0 s.1 s.2) (fact (Starts holds ways s.0 s.1 s.2))))
 

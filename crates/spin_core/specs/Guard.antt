@@ -1,4 +1,4 @@
--- The value of a guard, the guard with another value in its place, and the value that a hold will free.
+-- The value of a guard, the guard with another value in its place, and the value that a hold keeps.
 use Rattle.std.specs.Prelude.{◌≡◌, Option}
 use Rattle.spin_core.specs.Cell.{Use, writes}
 use Rattle.spin_core.specs.Writer.{with_value}
@@ -20,11 +20,11 @@ module _ {T V P R K S : Type 0} where
   abbrev pub guard_key : Guard T V P R K S → K
   guard_key it = it.writer.key
 
-  -- the guard's party is a holder of the lock: its view writes the value
+  -- the guard's party holds the lock: it uses the value as a writer
   abbrev pub IsHolder : (V → Use) → Guard T V P R K S → Type 0
   IsHolder use_of_view it = use_of_view it.writer.view ≡ writes
 
-  -- the value that the hold releases when it is consumed
+  -- the value that the hold keeps
   abbrev pub held_value : {uses : Ghosts P V} → Held T V P R K S uses → Option T
   held_value it = it.permit.value
 

@@ -12,7 +12,7 @@ itself = record { code = λ g. g; inj = λ x y p. p }
 abbrev pub logs : Order (List Gv)
 logs = prefixes itself
 
--- a share of the right to append; it says what the entries are
+-- a share of the right to append to the log, whose entries are l
 abbrev pub log_part : {T : Type 0} → (T → Gv) → ℕ → List T → Share → Fml
 log_part c γ l q = latest logs q γ (map c l)
 
@@ -24,7 +24,7 @@ log_shares c γ l = one (log_part c γ l)
 unfoldable pub log_owns : {T : Type 0} → (T → Gv) → ℕ → List T → Fml
 log_owns c γ l = latest logs full_share γ (map c l)
 
--- a lower bound: the log begins with these entries. Of an empty list this is known of any log, under any name
+-- A lower bound: the log begins with these entries. The empty list is known of any log, under any name.
 unfoldable pub known_owns : {T : Type 0} → (T → Gv) → ℕ → List T → Fml
 known_owns c γ [] = ftrue
 known_owns c γ (x ∷ l) = at_least logs γ (map c (x ∷ l))

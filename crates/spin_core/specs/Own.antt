@@ -1,6 +1,5 @@
--- A trace whose parties know which entries are theirs. A party's number is its place among all parties that ever
--- joined.
--- Its mark is a length of the trace: a party that is present has made no entry since then.
+-- A trace whose parties know which entries are their own. A party's number is its place among all parties that ever joined. Its mark is an
+-- earlier length of the trace: a present party has made no entry from there on.
 use Rattle.std.specs.Prelude.{◌≡◌, ℕ, suc, ◌≤◌, Option, Some, None, List, [], ◌∷◌, ◌++◌, length, map, drop, ◌==◌, if◌then◌else◌}
 use Rattle.spin_model.specs.declared.place.Seat.{Seat}
 use Rattle.spin_model.specs.declared.schedule.Move.{Move}
@@ -10,7 +9,7 @@ use Rattle.spin_model.specs.Schedules.{Entry}
 use Rattle.spin_core.specs.Run.{IsPlayed, LeadsTo, AreOwn}
 use Rattle.spin_core.specs.declared.trace.Trace.{Trace}
 
--- what a party is, its number and its mark
+-- what a party is (X), its number, and its mark
 abbrev pub Numbered : Type 0 → Type 0
 Numbered X = X × ℕ × ℕ
 
@@ -33,12 +32,12 @@ kind (Some u) = Some u.0
 abbrev pub by_party : {C V : Type 0} → ℕ → List (Move C V) → List (Entry C V)
 by_party p own = map (λ move. (p, move)) own
 
--- those of these entries that the party made
+-- of these entries, those that the party p made
 abbrev pub entries_by : {C V : Type 0} → ℕ → List (Entry C V) → List (Entry C V)
 entries_by p [] = []
 entries_by p (e ∷ es) = if e.0 == p then e ∷ entries_by p es else entries_by p es
 
--- No party that is present has made an entry since its mark. No party with a number past the list has made any entry.
+-- No present party has made an entry since its mark. Parties with numbers beyond the list have made no entry.
 abbrev pub Rested : {C V X : Type 0} → List (Entry C V) → ℕ → List (Option (X × ℕ)) → Type 0
 Rested schedule k [] = (q : ℕ) → k ≤ q → entries_by q schedule ≡ []
 Rested schedule k (None ∷ us) = Rested schedule (suc k) us
@@ -56,13 +55,12 @@ module _ {W V C L A X S : Type 0} (m : Machine W V C L A) (seat_of : X → Seat 
   MadeNone log p None = entries_by p log ≡ []
   MadeNone log p (Some u) = (p ≡ u.1) × (entries_by p (drop u.2 log) ≡ [])
 
-  -- what a step tells: the party's number, its new mark, that it made no entry since its last step, and its moves
-  -- with their outcomes
+  -- what a step tells: the party's number and new mark, that it made no entry between its last step and this one, and its moves in this
+  -- step with their outcomes
   abbrev pub Tells : (List (Move C V) → List (Outcome A V) → ℕ → X → Type 0) → Option (Numbered X) → List (Entry C V) → List (Entry C V) → ℕ → Numbered X → Type 0
   Tells says view log es n v =
       (own : List (Move C V)) × (outs : List (Outcome A V)) × (es ≡ by_party v.1 own) × (v.2 ≡ length (log ++ es)) × MadeNone log v.1 view × AreOwn m own outs log es × says own outs n v.0
 
-  -- the lock's own rule holds, the trace has this name, and it is a run of the model that leads to this word and
-  -- these parties
+  -- The lock's own rule holds, and the trace has this name. The trace is a schedule of the model that leads to this word and these parties.
   abbrev pub Runs : (ℕ → S → List X → Type 0) → ℕ → ℕ → Trace (Entry C V) S → List (Numbered X) → Type 0
   Runs holds name n t vs = (t.name ≡ name) × holds n t.word (map (λ v. v.0) vs) × IsRun t.entries (n, t.word) vs

@@ -15,7 +15,7 @@ abbrev pub mark_of : {X : Type 0} → Option (Numbered X) → ℕ
 mark_of None = 0
 mark_of (Some u) = u.2
 
--- the party has this number, or none yet
+-- the party has the number p, or no number yet
 abbrev pub MayBe : {X : Type 0} → ℕ → Option (Numbered X) → Type 0
 MayBe p None = Unit {0}
 MayBe p (Some u) = p ≡ u.1
@@ -25,7 +25,7 @@ abbrev pub IsNumber : {X : Type 0} → ℕ → Option (Numbered X) → Type 0
 IsNumber p None = ⊥
 IsNumber p (Some u) = p ≡ u.1
 
--- the party's view; a party that is new is idle
+-- the party's view; a new party has the idle view
 abbrev pub stands : {X : Type 0} → X → Option X → X
 stands idle None = idle
 stands idle (Some v) = v
@@ -38,11 +38,11 @@ IsOut idle view = stands idle view ≡ idle
 abbrev pub Ending : Type 0 → Type 0
 Ending V = Outcome (Answer V) V
 
--- what a step says of its moves, their outcomes, the number found and the party's next view
+-- what a step says, of four things: its moves, their outcomes, the number found, and the party's next view
 abbrev pub Says : (V C A X : Type 0) → Type 1
 Says V C A X = List (Move C V) → List (Outcome A V) → ℕ → X → Type 0
 
--- a relation of what a party was and knew, earlier and now
+-- a relation of a party's view and known entries before to its view and known entries now
 abbrev pub Between : (V C X : Type 0) → Type 1
 Between V C X = Option (Numbered X) → List (Entry C V) → Option (Numbered X) → List (Entry C V) → Type 0
 
@@ -51,62 +51,61 @@ abbrev pub Course : (V C A : Type 0) → Type 1
 Course V C A = List (Move C V) → List (Outcome A V) → Type 0
 
 module _ {V C A : Type 0} where
-  -- no moves
+  -- the course without moves
   abbrev pub Nothing : Course V C A
   Nothing own outs = (own ≡ []) × (outs ≡ [])
 
-  -- steps after which the call still waits
+  -- the course of steps after which the call still waits
   abbrev pub Waits : Course V C A
   Waits own outs = (n : ℕ) × (own ≡ replicate n Step) × (outs ≡ replicate n GoingOn)
 
-  -- such steps, and then one that answers the call
+  -- the course of waiting steps, and then a step that answers the call
   abbrev pub Ends : A → Course V C A
   Ends a own outs = (n : ℕ) × (own ≡ replicate n Step ++ Step ∷ []) × (outs ≡ replicate n GoingOn ++ Answered a None ∷ [])
 
-  -- the beginning of this call, and then these moves
+  -- the course that begins this call, and then goes on as P
   abbrev pub Begins : C → Course V C A → Course V C A
   Begins c P own outs = (rest : List (Move C V)) × (comes : List (Outcome A V)) × (own ≡ Begin c ∷ rest) × (outs ≡ Begun ∷ comes) × P rest comes
 
-  -- a write of this value, and then these moves
+  -- the course that writes this value, and then goes on as P
   abbrev pub Writes : V → Course V C A → Course V C A
   Writes x P own outs = (rest : List (Move C V)) × (comes : List (Outcome A V)) × (own ≡ Write x ∷ rest) × (outs ≡ Written ∷ comes) × P rest comes
 
-  -- a write of a value that satisfies Q, and then these moves
+  -- the course that writes some value that satisfies Q, and then goes on as P
   abbrev pub WritesSome : (V → Type 0) → Course V C A → Course V C A
   WritesSome Q P own outs = (x : V) × Q x × Writes x P own outs
 
-  -- a whole call and its answer
+  -- the course of a whole call, which ends with this answer
   abbrev pub IsCall : C → A → Course V C A
   IsCall c a = Begins c (Ends a)
 
-  -- One step with this outcome: the next one of a call under way (true), or the first one after the call begins
-  -- (false).
+  -- The course of one step with this outcome. If the argument is true, it is a step of a call that has begun. If false, the call begins and
+  -- makes its first step.
   abbrev pub IsStep : Bool → C → Outcome A V → Course V C A
   IsStep true c end own outs = (own ≡ Step ∷ []) × (outs ≡ end ∷ [])
   IsStep false c end own outs = (own ≡ Begin c ∷ Step ∷ []) × (outs ≡ Begun ∷ end ∷ [])
 
-  -- what a play says of its step: its outcome and the next view, by the number found
+  -- what a play says of such a step: the number found decides its outcome and the next view
   abbrev pub step_by : {X : Type 0} → Bool → C → (ℕ → Outcome A V) → (ℕ → X) → Says V C A X
   step_by goes_on c end to own outs n v = (v ≡ to n) × IsStep goes_on c (end n) own outs
 
-  -- the party writes the value that it leaves, which satisfies Q, makes this call, and then has this view
+  -- what a play says of a release: the party writes a value that satisfies Q, makes this call, and gets this view
   abbrev pub leaves_by : {X : Type 0} → (V → Type 0) → C → A → X → Says V C A X
   leaves_by Q c a to own outs n v = (v ≡ to) × WritesSome Q (IsStep false c (Answered a None)) own outs
 
 module _ {W V C L A : Type 0} (m : Machine W V C L A) where
-  -- the outcomes of one party's entries, among those of others
+  -- the outcomes of the entries that one party made in this schedule
   abbrev pub outcomes_by : ℕ → State W V C L → List (Entry C V) → List (Outcome A V)
   outcomes_by p s [] = []
   outcomes_by p s (e ∷ es) = let h = happens m s e.0 e.1 in if e.0 == p then h.outcome ∷ outcomes_by p h.next es else outcomes_by p h.next es
 
-  -- Since the trace was `old` the party has made exactly these moves, with these outcomes. No entry of `new` is
-  -- skipped.
+  -- Since the trace was `old`, the party has made exactly these moves, with these outcomes. No entry of `new` is skipped.
   abbrev pub Did : ℕ → List (Entry C V) → List (Entry C V) → List (Move C V) → List (Outcome A V) → Type 0
   Did p old new own outs =
       (more : List (Entry C V)) × (least : ℕ) × (new ≡ old ++ more) × (entries_by p more ≡ by_party p own) × IsPlayed m least new
       × ((k : ℕ) → outcomes_by p (after m (at_first m (least + k)) old) more ≡ outs)
 
-  -- a party that had the view `view` and knew `old` now has the view `view'` and knows `new`; in between it made
-  -- exactly the moves of this course
+  -- A party had the view `view` and knew the entries `old`. Now it has the view `view'` and knows `new`. In between it has made exactly the
+  -- moves of this course.
   abbrev pub Made : {X : Type 0} → Option (Numbered X) → List (Entry C V) → Option (Numbered X) → List (Entry C V) → Course V C A → Type 0
   Made view old view' new P = (p : ℕ) × MayBe p view × IsNumber p view' × (own : List (Move C V)) × (outs : List (Outcome A V)) × Did p old new own outs × P own outs

@@ -1,5 +1,4 @@
--- What a call results in that retries. An attempt from a state either answers, or fails and gives the state of the
--- next attempt.
+-- The result of a call that retries. An attempt from a state either answers, or fails and gives the state of the next attempt.
 use Rattle.std.specs.Prelude.{◌≡◌, ℕ, zero, suc, Result, Ok, Err}
 
 module _ {S A : Type 0} (attempts : S → Result A S → Type 0) where

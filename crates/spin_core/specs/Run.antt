@@ -11,7 +11,7 @@ use Rattle.spin_model.specs.declared.schedule.Outcome.TheVariants.{Skipped}
 use Rattle.spin_model.specs.Machines.{Machine}
 use Rattle.spin_model.specs.Schedules.{State, Entry, after, at_first, happens}
 
--- a move of a party's own calls, or a write while it holds
+-- the move begins a call, is a step of one, or writes a value
 abbrev pub is_of_call : {C V : Type 0} → Move C V → Bool
 is_of_call (Begin c) = true
 is_of_call Step = true
@@ -24,7 +24,7 @@ abbrev pub is_played : {V A : Type 0} → Outcome A V → Bool
 is_played Skipped = false
 is_played _ = true
 
--- steps on the first word (with a second word or none), and on the second word
+-- a step on the first word, by f (the lock may have a second word); and one on the second word
 abbrev pub on_first : {S : Type 0} → (ℕ → ℕ) → ℕ × S → ℕ × S
 on_first f s = (f s.0, s.1)
 
@@ -43,22 +43,22 @@ module _ {W V C L A : Type 0} (m : Machine W V C L A) where
   outcomes s [] = []
   outcomes s (e ∷ es) = (happens m s e.0 e.1).outcome ∷ outcomes (happens m s e.0 e.1).next es
 
-  -- in each world with at least so many parties no entry of the schedule is skipped
+  -- in each world with at least `least` parties, no entry of the schedule is skipped
   abbrev pub IsPlayed : ℕ → List (Entry C V) → Type 0
   IsPlayed least schedule = (more : ℕ) → list_all is_played (outcomes (at_first m (least + more)) schedule) ≡ true
 
-  -- These entries are moves of one party, and none is skipped. After this log they have these outcomes, in each world
-  -- of the model with at least so many parties.
+  -- The entries `es` are moves of one party, and none is skipped. Played after `log` they have these outcomes, in each world of the model
+  -- with enough parties.
   abbrev pub AreOwn : List (Move C V) → List (Outcome A V) → List (Entry C V) → List (Entry C V) → Type 0
   AreOwn own outs log es = (p least : ℕ) × (es ≡ map (λ move. (p, move)) own) × IsPlayed least (log ++ es) × ((more : ℕ) → outcomes (after m (at_first m (least + more)) log) es ≡ outs)
 
   module _ {X S : Type 0} (seat_of : X → Seat C L) (words_of : W → ℕ × S) where
-    -- where a party sits in the model; one that has left is idle
+    -- the party's seat in the model; a party that has left is idle
     abbrev pub sits : Option X → Seat C L
     sits None = Idle
     sits (Some v) = seat_of v
 
-    -- the schedule leads to these words, with each of these parties in its seat; all further seats are idle
+    -- the schedule leads to these words and this value, with each party in its seat; all further seats are idle
     abbrev pub LeadsTo : List (Entry C V) → W → Option V → List (Option X) → Type 0
     LeadsTo schedule w value came = (more : ℕ) → after m (at_first m (length came + more)) schedule ≡ record { words = w; value = value; seats = map sits came ++ replicate more Idle }
 
@@ -69,15 +69,15 @@ module _ {W V C L A : Type 0} (m : Machine W V C L A) where
     abbrev pub of_one : List (Move C V) → List (Entry C V)
     of_one own = map (λ move. (0, move)) own
 
-    -- From these words a party with this view has moves of its own, and P holds of them and their outcomes. They lead
-    -- to the view u, and to the words s.
+    -- From the words w a party with the view `view` can make moves that lead to the view u and the words s. P holds of these moves and
+    -- their outcomes.
     abbrev pub Goes : Option X → X → W → Option V → (ℕ × S) → (List (Move C V) → List (Outcome A V) → Type 0) → Type 0
     Goes view u w value s P =
         (own : List (Move C V)) × (outs : List (Outcome A V)) × P own outs × (list_all is_of_call own ≡ true) × (list_all is_played outs ≡ true) × (w' : W) × (now : Option V)
         × (after m (alone w value (sits view)) (of_one own) ≡ record { words = w'; value = now; seats = seat_of u ∷ [] }) × (outcomes (alone w value (sits view)) (of_one own) ≡ outs) × (words_of w' ≡ s)
 
-    -- Take any words, and any view that the party gets by a step that satisfies `then`. The party has moves for that
-    -- step, and they lead to the step's words.
+    -- Take any words, and any view that a step satisfying `then` gives the party. The party has moves that lead to this view and to the
+    -- step's words. What `says` states holds of them.
     abbrev pub AreMoves : Option X → (ℕ × S → ℕ × S) → (ℕ × S → ℕ) → (ℕ → X → Type 0) → (List (Move C V) → List (Outcome A V) → ℕ → X → Type 0) → Type 0
     AreMoves view to found then says =
         (w : W) (value : Option V) (u : X) → then (found (words_of w)) u → Goes view u w value (to (words_of w)) (λ own outs. says own outs (found (words_of w)) u)

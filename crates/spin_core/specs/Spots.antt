@@ -10,33 +10,33 @@ use Rattle.spin_core.specs.declared.cell.Permit.{Permit}
 use Rattle.spin_core.specs.declared.tie.Opening.{Opening}
 use Rattle.spin_core.specs.declared.trace.Watch.{Watch}
 
--- where a party is: the key of its lock, its view, and what it knows of the trace
+-- a party's spot: the key of its lock, its view, and what it knows of the trace
 abbrev pub Spot : (K X E : Type 0) → Type 0
 Spot K X E = K × Option (Numbered X) × Watch E
 
 abbrev pub spot : {T P K X E S : Type 0} → Permit T (Numbered X) P K S → Watch E → Spot K X E
 spot permit seen = (permit.key, permit.view, seen)
 
--- Of locks that run this model, by their key
+-- For locks that run a model, which is given by the key:
 module _ {K W V C L A X : Type 0} (model : K → Machine W V C L A) where
-  -- between the two spots the party has made exactly the moves of this course, in one lock
+  -- from the spot p to the spot q the party has made exactly the moves of this course, in one lock
   abbrev pub Since : Course V C A → Spot K X (Entry C V) → Spot K X (Entry C V) → Type 0
   Since course p q = Made (model p.0) p.1 p.2.entries q.1 q.2.entries course × (q.2.name ≡ p.2.name) × (q.0 ≡ p.0)
 
-  -- it has made one step of this call, with this outcome, and now has this view
+  -- from p to q the party has made one step of this call, with this outcome, and at q it has this view
   abbrev pub Stepped : Bool → C → Outcome A V → X → Spot K X (Entry C V) → Spot K X (Entry C V) → Type 0
   Stepped goes_on call end view p q = Since (IsStep goes_on call end) p q × (what q.1 ≡ Some view)
 
-  -- it is in this call, which it began there
+  -- at q the party waits in this call, which it began at p
   abbrev pub IsIn : C → Spot K X (Entry C V) → Spot K X (Entry C V) → Type 0
   IsIn call = Since (Begins call Waits)
 
-  -- it has made exactly this call, with this answer
+  -- from p to q the party has made exactly this call, with this answer
   abbrev pub HasCalled : C → A → Spot K X (Entry C V) → Spot K X (Entry C V) → Type 0
   HasCalled call answer = Since (IsCall call answer)
 
--- and that open so, by their key
+-- For locks whose opening is given by the key as well:
 module _ {K W V C L A X : Type 0} (model : K → Machine W V C L A) (opening : K → Opening V) where
-  -- the holder has written this value, which is now the one written last, and made this call
+  -- from p to q the holder has written the value x and made this call; at q the trace says that x was written last
   abbrev pub Releases : C → A → V → Spot K X (Entry C V) → Spot K X (Entry C V) → Type 0
   Releases call answer x p q = Since model (WritesSome (λ y. (opening p.0).told ≡ true → y ≡ x) (IsCall call answer)) p q × IsLast (opening p.0) q.2.entries x

@@ -7,7 +7,7 @@ abbrev pub maybe_stable : {X : Type 0} → X → MaybeStable X
 maybe_stable x = record { value = x }
 
 module _ {X V S : Type 0} (holds : ℕ → S → List V → Type 0) (ways : Ways (MaybeStable X) V S) where
-  -- such a value may be in a cell with these words
+  -- this value may lie in a cell with these words
   abbrev pub Lies : ℕ → S → X → Type 0
   Lies n m x = Starts holds ways n m (maybe_stable x)
 

@@ -1,5 +1,4 @@
--- A cell whose second word is a trace: what a step needs that changes a word and appends to the trace, and what it
--- tells.
+-- A cell whose `Second` is a trace. What a step must show that changes a word and appends to the trace, and what the step tells.
 use Rattle.std.specs.Prelude.{◌≡◌, ◌⊎◌, ℕ, ◌<◌, List, [], ◌++◌, Option}
 use mathlib.Core.List.{IsPrefix}
 use Rattle.spin_core.specs.declared.trace.Trace.{Trace}
@@ -11,22 +10,22 @@ module _ {E S : Type 0} where
   abbrev pub grown : Trace E S → List E → Trace E S
   grown t es = record { word = t.word; marker = t.marker; name = t.name; entries = t.entries ++ es }
 
-  -- the same, with this word in it
+  -- the trace with these entries appended, and this word beside it
   abbrev pub grown_at : Trace E S → S → List E → Trace E S
   grown_at t word es = record { word = word; marker = t.marker; name = t.name; entries = t.entries ++ es }
 
 module _ {E : Type 0} where
-  -- A watch that knew `before` now knows `now`: the trace before the step (log), and what the step appended (es).
-  -- If it was a watch of this trace, it has the same name as before.
+  -- A watch that knew `before` now knows `now`: the trace before the step (log), and the entries that the step appended (es). If `before`
+  -- was a watch of this trace, `now` has the same name.
   abbrev pub Watches : {V : Type 0} → Type 0 → Watch E → Watch E → (List E → List E → ℕ → V → Type 0) → ℕ → V → Type 0
   Watches named before now told n v = (named → now.name ≡ before.name) × ((log es : List E) × IsPrefix before.entries log × (now.entries ≡ log ++ es) × told log es n v)
 
--- what a party learns of the value by a step, if the trace then has these entries
+-- what a party learns of the value by a step after which the trace has the entries es
 abbrev pub Learnt : {X E S : Type 0} → Knowledge (Trace E S) X → Use → Use → Option X → Option X → List E → Type 0
 Learnt no_fact u v before after es = Unit {0}
 Learnt {E = E} {S = S} (knows φ) u v before after es = (t : Trace E S) × (t.entries ≡ es) × Learns (φ t) u v before after
 
--- the same, by the party's views, if the watch knows the whole trace
+-- what a party learns of the value, given its views before and after the step and a watch that knows the whole trace
 abbrev pub Found : {X V E S : Type 0} → Ways X V (Trace E S) → Option V → Option V → Option X → Option X → Watch E → Type 0
 Found ways view new before after seen = Learnt ways.2 (use_of ways.1 view) (use_of ways.1 new) before after seen.entries
 
@@ -39,8 +38,8 @@ module _ {X V E S : Type 0} (holds : ℕ → Trace E S → List V → Type 0) (w
   abbrev pub MayKnow : Watch E → Type 0
   MayKnow seen = (seen.entries ≡ []) ⊎ Named seen.name
 
-  -- Whatever the words, the trace and the views are, the step applies f to the first word. The party has a next view,
-  -- and entries to append, that keep the rule.
+  -- What a step must show that applies f to the first word. Whatever the words, the trace and the views are, there are a next view for the
+  -- party and entries to append that keep the rule.
   abbrev pub Traces : Option V → Option X → (ℕ → ℕ) → (List E → List E → ℕ → V → Type 0) → Type 0
   Traces view shown f told = (id n : ℕ) (t : Trace E S) (vs : List V) → Meets holds ways n t vs → Stands id view vs → n < words
       → (w : V) × (es : List E) × Going ways.0 (use_of ways.1 view) (ways.1 w) shown (readers_of ways.1 vs)
@@ -53,7 +52,7 @@ module _ {X V E : Type 0} (holds : ℕ → Trace E ℕ → List V → Type 0) (w
       → (w : V) × (es : List E) × Going ways.0 (use_of ways.1 view) (ways.1 w) shown (readers_of ways.1 vs)
       (Carrying ways.2 t (grown_at t (f t.word) es) (use_of ways.1 view) (ways.1 w) shown (Meets holds ways n (grown_at t (f t.word) es) (after id view vs w))) × told t.entries es t.word w
 
--- a lock without a trace: its rule ignores the trace, and its steps append nothing
+-- A lock that does not use its trace: its rule ignores the trace, and its steps append nothing.
 module _ {V E : Type 0} where
   abbrev pub Untraced : {S : Type 0} → (ℕ → S → List V → Type 0) → ℕ → Trace E S → List V → Type 0
   Untraced holds n t vs = holds n t.word vs

@@ -1,5 +1,4 @@
--- The values in a trace that is a schedule of a model: which one was written last, and what follows for the value in
--- the cell.
+-- The values in a trace that is a schedule of a model: which one was written last, and how it tells the value in the cell.
 use Rattle.std.specs.Prelude.{◌≡◌, true, false, Option, Some, None, List, [], ◌∷◌}
 use Rattle.spin_model.specs.declared.schedule.Move.{Move}
 use Rattle.spin_model.specs.declared.schedule.Move.TheVariants.{Write}
@@ -9,12 +8,12 @@ use Rattle.spin_core.specs.declared.tie.Opening.{Opening}
 use Rattle.spin_core.specs.declared.trace.Trace.{Trace}
 
 module _ {C V : Type 0} where
-  -- the value after a move, where it was v
+  -- the value after a move, if it was v before
   abbrev pub written : Move C V → V → V
   written (Write x) v = x
   written _ v = v
 
-  -- the value after these moves of one party, where it was v
+  -- the value after these moves of one party, if it was v before
   abbrev pub left : List (Move C V) → V → V
   left [] v = v
   left (move ∷ own) v = left own (written move v)
@@ -29,18 +28,18 @@ module _ {C V : Type 0} where
   abbrev pub IsLast : Opening V → List (Entry C V) → V → Type 0
   IsLast opening entries x = opening.told ≡ true → latest opening.value entries ≡ x
 
-  -- what is known of a value that nobody writes
+  -- the fact known of a value that nobody writes: it is the last one of the trace
   abbrev pub last : {S : Type 0} → Opening V → Knowledge (Trace (Entry C V) S) V
   last opening = knows (λ t x. IsLast opening t.entries x)
 
-  -- What a step's moves write, by the party's use before and after and the value shown. A writer that ends writes the
-  -- value that it leaves. Others write nothing.
+  -- What a step's moves write, given the party's use before the step, its use after the step, and the value shown to it. A party that
+  -- stops writing writes the value that it leaves. Any other party writes nothing.
   abbrev pub Leaves : Use → Use → Option V → List (Move C V) → Type 0
   Leaves writes writes shown own = Unit {0}
   Leaves writes _ None own = Unit {0}
   Leaves writes _ (Some x) own = (v : V) → left own v ≡ x
   Leaves _ _ shown own = (v : V) → left own v ≡ v
 
--- the same lock after its owner has borrowed the value: the trace no longer tells the value
+-- the opening after the owner has borrowed the value: the trace no longer tells the value
 abbrev pub untold : {V : Type 0} → Opening V → Opening V
 untold opening = record { marker = opening.marker; name = opening.name; value = opening.value; told = false }

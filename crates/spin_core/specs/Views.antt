@@ -23,12 +23,12 @@ entries_of p (knows_served n) = no_entries
 entries_of p starves = record { holders = []; tickets = []; starvers = p ∷ [] }
 entries_of p holds_starving = record { holders = holder p writing ∷ []; tickets = []; starvers = p ∷ [] }
 
--- what it knows of the plain lock: the served number never falls below the one that it found
+-- what the part knows of the plain lock: the served number is at least the one that the party found
 abbrev pub Knows : Plain → Part → Type 0
 Knows s (knows_served n) = n ≤ serving_word s
 Knows s _ = Unit {0}
 
--- how it uses the value
+-- how a party with this part uses the value
 abbrev pub use_of_part : Part → Use
 use_of_part (holds k) = if is_reader k then reads else writes
 use_of_part (queues n true) = writes
@@ -40,17 +40,17 @@ abbrev pub HasPart : Plain → ℕ → Part → Type 0
 HasPart s p x = (entries p s ≡ entries_of p x) × Knows s x
 
 module _ {V : Type 0} (part : V → Part) where
-  -- a party's number is the place of its view; later numbers belong to nobody
+  -- the part of party p: the part of the p-th view; numbers past the list belong to nobody
   abbrev pub part_at : List V → ℕ → Part
   part_at [] p = idle
   part_at (v ∷ vs) zero = part v
   part_at (v ∷ vs) (suc p) = part_at vs p
 
-  -- each party's part is the one its view says, and nobody else has entries in the lock
+  -- each party has in the plain lock the part that its view says; nobody else has entries there
   abbrev pub IsLockOf : List V → Plain → Type 0
   IsLockOf vs s = (p : ℕ) → HasPart s p (part_at vs p)
 
-  -- each view uses the value as its part does
+  -- a view uses the value as its part does
   abbrev pub used_by : V → Use
   used_by v = use_of_part (part v)
 
@@ -58,6 +58,6 @@ module _ {V : Type 0} (part : V → Part) where
   abbrev pub Encodes : {S : Type 0} → ℕ → (Plain → ℕ) → (Plain → S) → ℕ → S → List V → Type 0
   Encodes cap first second n m vs = (s : Plain) × (s.cap ≡ cap) × IsInOrder s × IsLockOf vs s × (n ≡ first s) × (m ≡ second s)
 
--- a lock of one word has no second word
+-- for a lock of one word: it has no second word
 abbrev pub no_word : Plain → Unit {0}
 no_word s = tt

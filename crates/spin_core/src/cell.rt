@@ -1,10 +1,10 @@
-//! One raw cell under all locks: one word or two and a value, under a rule over plain data. Begin with [`Rule`], and
+//! The raw cell under all locks: one word or two, and a value, under a rule over plain data. Begin with [`Rule`], and
 //! with [`Cell::enter`] and [`Permit::load`].
 //!
-//! A lock says what each of its parties is to it (a *view*). Its rule says what holds of the words and of all views
-//! between any two steps. For each kind of step the lock shows one fact about plain data: the step keeps the rule.
-//! Steps are methods of a permit. Each appends to the cell's trace ([`crate::trace`]), and tells its caller what it
-//! appended.
+//! Each party of a lock has a *view*: what the party is to the lock. The lock's *rule* says what holds of the words
+//! and of all views between any two steps. For each kind of step the lock shows one fact about plain data: the step
+//! keeps the rule. Steps are methods of a permit. Each step appends to the cell's trace ([`crate::trace`]), and tells
+//! its caller what it appended.
 ghost use Rattle.std.specs.Prelude.{◌≡◌, ◌≢◌, ◌⊎◌, ℕ, List, [], Option};
 ghost use Rattle.std.specs.Coded.{coded_option};
 ghost use Rattle.spin_core.specs.Cell.{Ways, off, reads, writes, use_of, Opens, Fixes, Frees, Freeing, Lends, Seen, Rests};
@@ -24,23 +24,24 @@ pub use steps::Play;
 ///
 /// `V` is the type of a party's view, a plain `Copy` enum of the lock's own. `T` is the value's type.
 pub trait Rule<T, V> {
-    // What is fixed when a cell is made, such as the closure of a lazy value.
+    // What is fixed when a cell is made. For a lazy value it is the closure.
     type Key;
-    // What is behind the value: a trace, with a second word or without. A trace without one has no bytes.
+    // What stands behind the value: a trace, or a trace with a second word. A trace alone has no bytes.
     type Second;
-    // What holds of the first word, of what is behind the value, and of the views of all parties.
+    // What holds of the first word, of the `Second`, and of the views of all parties.
     ghost holds: { Self.Key → ℕ → Self.Second → List V → Type 0 };
-    // Whether several parties may read the value at once; how a party with a given view may use it; what is known of a
-    // value that nobody writes.
+    // Three things: whether several parties may read the value at once, how a party with a given view uses
+    // it, and what is known of a value that nobody writes.
     ghost ways: { Self.Key → Ways T V Self.Second };
-    // The key once the owner has borrowed the value to write it. From then on less may be known of the value.
+    // The cell's key after its owner has borrowed the value to write it. Under this key less may be known of
+    // the value.
     ghost lent: { Self.Key → Self.Key };
 }
 
-/// A cell: a word, a value, and a trace with a second word or nothing. Only a party with a permit touches the
+/// A cell: a word, a value, and a trace, which may have a second word. Only a party with a permit touches the
 /// value.
 ///
-/// In a clause a cell is its key.
+/// A clause refers to a cell by its key.
 pub struct Cell<T, V, P: Rule<T, V>> {
     marker: PhantomData<(V, P)>,
     first: u64,
@@ -60,11 +61,13 @@ impl<T, V, P: Rule<T, V>> Move for Cell<T, V, P> {
     ghost own_val = { λ key vs. cell_owns P.row T.row V.row.coded.code P.Second.row (P.holds key) (P.ways key) (λ n m x. Fields.own_val (record { marker = record {}; first = n; value = x; second = m }) vs) };
 }
 
-/// A permit: what its party may do. `view` is what the party is to the lock; it is `None` until the first step.
-/// `value` is the value if that view reads or writes it.
+/// A permit: the right of one party to step on the cell and use its value.
 ///
-/// A permit cannot be dropped. [`leave`](Permit::leave) ends it if its party is at rest, and [`leak`](Permit::leak)
-/// keeps its use of the value.
+/// `view` is what the party is to the lock; it is `None` until the party's first step. `value` is the value
+/// if that view reads or writes it.
+///
+/// A permit cannot be dropped. A party at rest ends its permit by [`leave`](Permit::leave). A party that uses
+/// the value may end it by [`leak`](Permit::leak), and then its use lasts for ever.
 pub struct Permit<'a, T, V, P: Rule<T, V>> {
     cell: *const Cell<T, V, P>,
     marker: PhantomData<&'a T>,
@@ -79,8 +82,9 @@ impl<'a, T, V, P: Rule<T, V>> Model for Permit<'a, T, V, P> {
     ghost also_shares = { λ h _ κ. permit_shares P.row T.row V.row.coded.code P.Second.row (P.holds h.key) (P.ways h.key) 'a h.cell h.view h.value κ };
 }
 
-/// The right to write the value, which its party has alone. [`into_permit`](WritePermit::into_permit) turns it back,
-/// and [`leak`](WritePermit::leak) keeps it for good.
+/// The right to write the value, which only one party has at a time.
+/// [`into_permit`](WritePermit::into_permit) turns it back into a permit, and [`leak`](WritePermit::leak)
+/// makes it last for ever.
 pub struct WritePermit<'a, T, V, P: Rule<T, V>> {
     cell: *const Cell<T, V, P>,
     marker: PhantomData<&'a T>,
@@ -96,12 +100,12 @@ impl<'a, T, V, P: Rule<T, V>> Model for WritePermit<'a, T, V, P> {
 }
 
 impl<T, V, P: Rule<T, V>> Cell<T, V, P> {
-    /// Creates a cell that no party has used. In the way `fixes` it may have its value from the start, as if the party
-    /// that made it had left.
+    /// Creates a cell that no party uses. In the way `fixes` the cell may be created as if a party had stored
+    /// its value and left.
     ///
     /// # Contract
-    /// The rule has to hold of the words (`Opens`). If several parties may read the value at once, a thread that may
-    /// share the rule's own type has to be allowed to share the value (`Known`).
+    /// The rule has to hold of the words (`Opens`). If several parties may read the value at once, its type
+    /// has to be `Sync` wherever the rule's own type is (`Known`).
     pub fn new(value: T, first: u64, second: P::Second, key: &P::Key) -> Cell<T, V, P>
         requires known { Known (P.ways key.now) P.row P.Second.row T.row }
         requires rule { Opens (P.holds key.now) (P.ways key.now) first second value }
@@ -116,7 +120,7 @@ impl<T, V, P: Rule<T, V>> Cell<T, V, P> {
         }
     }
 
-    /// Consumes the cell, and returns its value. It reads no word.
+    /// Consumes the cell and returns its value, without a load of its words.
     pub fn into_inner(self) -> T {
         let Self {
             marker: _,
@@ -141,10 +145,11 @@ impl<T, V, P: Rule<T, V>> Cell<T, V, P> {
 }
 
 impl<T, V, E, S, P: Rule<T, V, Second = Trace<E, S>>> Cell<T, V, P> {
-    /// Returns a watch of the cell's trace. It knows no entries yet.
+    /// Returns a watch of the cell's trace that knows no entries yet.
     ///
     /// # Contract
-    /// The caller chooses its name (`name`): the name that the rule gives the trace, by the cell's key.
+    /// The caller chooses `name`. It has to be the name that the rule gives the trace of a cell with this
+    /// key.
     pub fn watch(&self) -> Watch<E>
         ghost name: { ℕ }
         ensures { (result.name ≡ name) × (result.entries ≡ []) }
@@ -158,11 +163,12 @@ impl<T, V, P: Rule<T, V>> Cell<T, V, P> {
     ghost use denote.Follow.{follows};
     ghost use Rattle.spin_core.specs.contracts.cell.Cell.{the_row};
 
-    /// Returns a mutable reference to the value. It reads no word: the borrow shows that no permit exists.
+    /// Returns a mutable reference to the value, without a load of the words. The `&mut` borrow shows that no
+    /// permit exists.
     ///
     /// # Contract
-    /// The key becomes the one that the rule names (`lent`). Under that key the rule has to hold as before (`Lends`),
-    /// and any value has to be allowed in place of one that nobody uses (`Frees`, `Freeing`).
+    /// The cell gets the key that the rule names (`lent`). Under that key the rule has to hold as before
+    /// (`Lends`). It also has to allow any value in place of one that nobody uses (`Frees`, `Freeing`).
     pub fn get_mut(&mut self) -> &mut T
         requires free { Freeing (P.ways (P.lent self.old)).2 (Frees (P.ways (P.lent self.old)).0) }
         requires lends { Lends (P.holds self.old) (P.ways self.old) (P.holds (P.lent self.old)) (P.ways (P.lent self.old)) }
@@ -192,8 +198,8 @@ impl<'a, T, V, P: Rule<T, V>> Permit<'a, T, V, P> {
         unsafe { &(*cell).value }
     }
 
-    /// Like [`see`](Permit::see), but returns the permit too. This is possible only in the way `fixes`, where a party
-    /// may read for ever.
+    /// Like [`see`](Permit::see), but also returns the permit. The way has to be `fixes`: there a party may
+    /// read for ever.
     pub fn show(self) -> (&'a T, Permit<'a, T, V, P>)
         requires reads { use_of (P.ways self.key).1 self.view ≡ reads }
         requires fixed { Fixes (P.ways self.key).0 }
@@ -225,23 +231,25 @@ impl<'a, T, V, P: Rule<T, V>> Permit<'a, T, V, P> {
         }
     }
 
-    /// Ends the permit. The party has to be at rest: it does not use the value, and the rule holds as well without it.
+    /// Ends the permit. The party has to be at rest: it does not use the value, and the rule also holds
+    /// without the party.
     pub fn leave(self)
         requires { Rests (P.holds self.key) (P.ways self.key).1 self.view }
     {
         let Permit { cell: _, marker: _ } = self;
     }
 
-    /// Ends the permit of a party that is at rest ([`leave`](Permit::leave)), or of one that uses the value and keeps
-    /// its use for ever ([`leak`](Permit::leak)).
+    /// Ends the permit of a party that is at rest, like [`leave`](Permit::leave), or of one that uses the
+    /// value, like [`leak`](Permit::leak).
     pub fn finish(self)
         requires { Rests (P.holds self.key) (P.ways self.key).1 self.view ⊎ (use_of (P.ways self.key).1 self.view ≢ off) }
     {
         let Permit { cell: _, marker: _ } = self;
     }
 
-    /// Ends the permit, and keeps its use of the value for ever: a lock that the party holds stays held. A party that
-    /// only waits may not do so, since a queue would stop at it.
+    /// Ends the permit, and keeps the party's use of the value for ever. A lock that the party holds stays
+    /// held. A party that only waits cannot leak its permit, since those behind it in a queue would wait for
+    /// ever.
     pub fn leak(self)
         requires { use_of (P.ways self.key).1 self.view ≢ off }
     {
@@ -257,7 +265,7 @@ impl<'a, T, V, P: Rule<T, V>> WritePermit<'a, T, V, P> {
         unsafe { &(*self.cell).value }
     }
 
-    /// Returns a mutable reference to the value for the rest of the cell's borrow. The party keeps its view for ever.
+    /// Returns a mutable reference to the value for the rest of the cell's borrow. The party writes for ever.
     pub fn leak(self) -> &'a mut T
         ensures { result.now ≡ self.entry.value }
     {
@@ -286,8 +294,8 @@ impl<T, V, P: Rule<T, V>> WritePermit<'_, T, V, P> {
     ghost use Rattle.spin_core.specs.contracts.cell.WritePermit.{the_row};
     ghost use Rattle.spin_core.specs.Writer.{with_value};
 
-    /// Returns a mutable reference to the value. When the borrow ends, the permit's value is what was written through
-    /// it.
+    /// Returns a mutable reference to the value. After the borrow the permit has the value that was written
+    /// through it.
     pub fn get_mut(&mut self) -> &mut T
         ensures* writes_back { sem 𝓛 (follows (the_row (record { mir = named 1; lft = [] }) T.row V.row P.row P.Key.row P.Second.row (record { holds = P.holds; ways = P.ways; lent = P.lent })) T.row self.entry.ghost_name result.ghost_name (with_value self.old)) }
         ensures value { result.now ≡ self.old.value }
@@ -296,7 +304,7 @@ impl<T, V, P: Rule<T, V>> WritePermit<'_, T, V, P> {
     }
 }
 
-// Forgets a value whose type need not be `Drop`: a trace, with a number or nothing.
+// Forgets a `Second`, a type that need not be `Drop`.
 pub(crate) fn let_go<S>(second: S) {
     let _gone = unsafe { ManuallyDrop::new_unchecked(second) };
 }
@@ -310,17 +318,18 @@ impl<T: Drop, V, P: Rule<T, V>> Drop for Cell<T, V, P> {
 // SAFETY: the owner of the cell owns the value, and no permit exists.
 unsafe impl<T: Send, V, P: Rule<T, V>> Send for Cell<T, V, P> {}
 
-// SAFETY: steps on the words are atomic, and one party at a time may write the value, whatever its thread. If parties
-// read it at once, `Known` asks that a thread that may share the rule may share the value.
+// SAFETY: steps on the words are atomic, and at most one party at a time may write the value, on whatever
+// thread. If parties read it at once, `Known` asks that the value is `Sync` where the rule is.
 unsafe impl<T: Send, V, P: Rule<T, V> + Sync> Sync for Cell<T, V, P> {}
 
 // SAFETY: any thread may make the party's next step, and so reach the value.
 unsafe impl<T: Send, V, P: Rule<T, V> + Sync> Send for Permit<'_, T, V, P> {}
 
-// SAFETY: a `&` to a permit shows the value only if the view reads, and then `Known` asks what the cell asks.
+// SAFETY: a `&` to a permit shows the value only if the view reads. Then `Known` asks what it asks of a
+// shared cell.
 unsafe impl<T, V, P: Rule<T, V> + Sync> Sync for Permit<'_, T, V, P> {}
 
-// SAFETY: its new thread has the value alone, as its old one had.
+// SAFETY: the new thread has the value alone, as the old one had.
 unsafe impl<T: Send, V, P: Rule<T, V> + Sync> Send for WritePermit<'_, T, V, P> {}
 
 // SAFETY: a `&` to it lends a `&T` and no more.

@@ -1,5 +1,5 @@
-//! The guard of a party that writes, and its hold without a guard, for every lock over a `Cell`. Begin at [`Release`]:
-//! a lock implements it, and has an alias for [`Guard`] and [`Held`].
+//! The guard of a party that writes, and a hold without a guard, for every lock over a `Cell`. A lock
+//! implements [`Release`], and names its [`Guard`] and [`Held`] by type aliases. Begin at [`Release`].
 ghost use Rattle.std.specs.Prelude.{◌≡◌, Option, Some};
 ghost use Rattle.spin_core.specs.Cell.{Use, writes, use_of};
 
@@ -9,49 +9,51 @@ use std::ops::{Deref, DerefMut};
 
 mod texts;
 
-/// How each party of a lock uses the value, whatever the value's type is.
+/// How the parties of a lock use the value. It does not depend on the value's type.
 ///
 /// # Contract
 /// `use_at` is the use of a party with a given view.
 pub trait Uses<V> {
-    // By the party's view, which may not exist yet.
+    // The use of a party with this view. A party without a view has taken no step.
     ghost use_at: { Option V → Use };
 }
 
-/// A lock that a party that writes can release. A lock with a [`Guard`] implements it.
+/// The rule of a lock whose writer can release it. Each lock with a [`Guard`] implements it.
 ///
 /// # Contract
-/// The uses of `Uses` are those of the rule (`same`).
+/// `use_at` agrees with the rule's own uses (`same`).
 pub trait Release<T, V>: Rule<T, V> + Uses<V> {
     /// Releases the lock of a party that writes.
     ///
     /// # Contract
-    /// No clause. A permit cannot be dropped, so the body has to end it: the party rests, or keeps its use for ever.
+    /// There is no clause. A permit cannot be dropped, so the body has to end the writer's permit: by
+    /// `leave`, or by `leak`.
     fn release(writer: WritePermit<'_, T, V, Self>);
 
-    // The uses are those of the rule. `Uses` names them anew, since a ghost field cannot use names of the rule.
+    // `use_at` agrees with the rule. It is stated apart, since a ghost field cannot use names of the rule.
     ghost same: { (key : Self.Key) (view : Option V) → Self.use_at view ≡ use_of (Self.ways key).1 view };
 }
 
-/// The guard of the one party that writes. Dropping it releases the lock.
+/// The guard of the one party that writes the value. Dropping it releases the lock.
 ///
 /// It gives access to the value by `Deref` and `DerefMut`. `R` is the strategy of the lock; the guard itself does not
 /// use it.
 ///
 /// # Contract
-/// `guard_value` is the lock's value. What is written through the guard is read through it.
+/// `guard_value` is the lock's value. A read through the guard returns what was last written through it.
 #[must_use = "dropping the guard at once releases the lock: bind it, or write `drop(..)`"]
 pub struct Guard<'a, T, V, P: Release<T, V>, R> {
     writer: WritePermit<'a, T, V, P>,
     strategy: PhantomData<R>,
 }
 
-/// A hold on a lock: it keeps the lock without a guard, and gives no access to the value.
+/// A hold on a lock: it keeps the lock held without a guard, and gives no access to the value.
 ///
-/// [`release`](Held::release) takes it and releases the lock. Dropping it does not release the lock.
+/// [`release`](Held::release) consumes the hold and releases the lock. Dropping the hold does not release the
+/// lock.
 ///
 /// # Contract
-/// Its party still writes the value (`holding`). `held_value` is the value that the guard had.
+/// The party of the hold still writes the value (`holding`). `held_value` is the value that the guard had.
 #[must_use = "dropping a hold does not release the lock: pass it to `force_unlock`"]
 pub struct Held<'a, T, V, P: Release<T, V>, R> {
     permit: Permit<'a, T, V, P>,
@@ -135,7 +137,7 @@ impl<'a, T, V, P: Release<T, V>, R> Held<'a, T, V, P, R> {
     /// Releases the lock that the hold keeps.
     ///
     /// # Contract
-    /// No clause. The call returns.
+    /// Only that the call returns.
     pub fn release(self) {
         P::release(self.into_permit().into_writer());
     }
@@ -202,8 +204,8 @@ unsafe impl<T: Send, V, P: Release<T, V> + Sync, R> Send for Guard<'_, T, V, P, 
 // SAFETY: a shared guard lends a `&T` and no more.
 unsafe impl<T: Sync, V, P: Release<T, V>, R> Sync for Guard<'_, T, V, P, R> {}
 
-// SAFETY: the new thread releases the lock, and so passes the value to its next user. That asks what a guard asks.
+// SAFETY: the new thread may release the lock, and so pass the value to its next user. A guard asks the same.
 unsafe impl<T: Send, V, P: Release<T, V> + Sync, R> Send for Held<'_, T, V, P, R> {}
 
-// SAFETY: a shared hold lends nothing. It asks what the lock asks.
+// SAFETY: a shared hold lends nothing.
 unsafe impl<T: Send, V, P: Release<T, V> + Sync, R> Sync for Held<'_, T, V, P, R> {}

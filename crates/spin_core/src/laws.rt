@@ -7,8 +7,9 @@ ghost use Rattle.spin_core.specs.declared.tie.Opening.{Opening};
 
 /// A guard reads the value that any thread wrote last in the lock's history.
 ///
-/// `C` are the calls of the lock, and `T` is the type of its values. The calls of a pass say which value was last in
-/// the history that the pass knows: `found` of a guard, and `left` of its release.
+/// `C` is the type of the lock's calls, and `T` the type of its values. A contract of a pass says which value
+/// was last in the history that the pass knows: the clause `found` of an acquire, and the clause `left` of a
+/// release.
 ///
 /// # Contract
 /// Let `x` be the last value of a history `old`, and `y` that of a longer history of the lock (`IsLast`). Then `y` is
@@ -17,7 +18,7 @@ pub fn a_guard_reads_the_last_value_written<C, T>()
     ensures { (opening : Opening T) (old new more : List (Entry C T)) (x y : T) → opening.told ≡ true → new ≡ old ++ more → IsLast opening old x → IsLast opening new y → latest x more ≡ y }
 {}
 
-/// Two guards read one value, if nothing was written between.
+/// Two guards read the same value if nothing was written in between.
 ///
 /// # Contract
 /// Let `x` be the last value of a history `old`, and `y` that of a longer history of the lock (`IsLast`). If the

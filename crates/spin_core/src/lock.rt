@@ -40,8 +40,8 @@ pub trait Lock<T> {
         requires { F.IsAlwaysCallable by }
         ensures { AnswersOf F.FnOnce by result };
 
-    /// Tries to acquire the lock, and then does what [`with`](Lock::with) does. Returns the closure if the lock is
-    /// held.
+    /// Tries to acquire the lock. If it succeeds, goes on like [`with`](Lock::with). If the lock is held,
+    /// returns the closure.
     ///
     /// # Contract
     /// The closure has to be always callable. `Ok` is an answer like that of `with`. `Err` is the closure, which was
@@ -76,7 +76,7 @@ pub trait Lock<T> {
 /// assert_eq!(rt; *reader, 3);
 /// ```
 pub trait SharedLock<T>: Lock<T> {
-    /// Acquires shared access, calls the closure with the value, and releases it.
+    /// Acquires shared access, calls the closure with the value, and releases the access.
     ///
     /// A waiting call spins as the lock does. The call never returns if its own thread is the writer.
     ///
@@ -87,8 +87,8 @@ pub trait SharedLock<T>: Lock<T> {
         requires { F.IsAlwaysCallable by }
         ensures { AnswersOfShared F.FnOnce by result };
 
-    /// Tries to acquire shared access, and then does what [`with_shared`](SharedLock::with_shared) does. Returns the
-    /// closure if access is refused, for example because a writer holds.
+    /// Tries to acquire shared access. If it succeeds, goes on like [`with_shared`](SharedLock::with_shared).
+    /// If it fails, for example because a writer holds the lock, returns the closure.
     ///
     /// # Contract
     /// The closure has to be always callable. `Ok` is an answer like that of `with_shared`. `Err` is the closure, which
@@ -110,8 +110,8 @@ pub trait SharedLock<T>: Lock<T> {
         ensures { MatchResult result (AnswersOfShared F.FnOnce by) (λ back. back ≡ by) };
 }
 
-/// Calls the closure with the value of a guard that a try returned. Without a guard it returns the closure. Locks with
-/// guards use it for `try_with`.
+/// Calls the closure with the value of a guard, if a try returned one. Otherwise returns the closure. Locks
+/// with guards use it for `try_with`.
 ///
 /// # Contract
 /// The closure has to be always callable. With a guard the result is `Ok` of an answer like that of [`Lock::with`].

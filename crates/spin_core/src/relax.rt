@@ -8,7 +8,7 @@ use std::marker::PhantomData;
 use std::sync::Wait;
 use std::thread::yield_now;
 
-/// The longest pause between two attempts of a call that backs off, in hints.
+/// The longest pause between two attempts of a call that backs off, as a number of spin hints.
 pub const MAX_HINTS: u32 = 64;
 
 /// How a waiting call passes the time. A lock names its strategy as its type parameter `R`.
@@ -39,8 +39,8 @@ pub trait RelaxStrategy {
     /// Passes a little time.
     fn relax<W: Wait>(rt: &W);
 
-    /// Passes the time between two attempts of a waiting call. [`Spin`] gives this many hints. A strategy without a
-    /// `pause` of its own relaxes once.
+    /// Passes the time between two attempts of a waiting call. [`Spin`] gives `hints` spin hints. By default
+    /// it calls `relax` once.
     fn pause<W: Wait>(rt: &W, hints: u32) {
         let _ = hints;
         Self::relax(rt);
@@ -48,8 +48,8 @@ pub trait RelaxStrategy {
 
     /// Relaxes and tries again, until an attempt succeeds.
     ///
-    /// A failed attempt returns the state in which the next one begins. Use it in calls whose first attempt has
-    /// failed.
+    /// A failed attempt returns the state in which the next one begins. Use it in calls whose first attempt
+    /// has failed.
     ///
     /// # Contract
     /// The closure has to be always callable. The first attempt begins in `state`, and each later one in the state of
@@ -73,12 +73,13 @@ pub trait RelaxStrategy {
         Self::retry_after(rt, state, |_| 1, attempt)
     }
 
-    /// Like [`retry`](RelaxStrategy::retry), with a pause before each attempt whose length depends on the state.
+    /// Like [`retry`](RelaxStrategy::retry), but pauses before each attempt. The closure `pause` gives the
+    /// length by the state.
     ///
     /// It is not inlined, since that would lengthen the path of each caller that does not wait.
     ///
     /// # Contract
-    /// That of `retry`. Also `pause` has to be always callable.
+    /// Like that of `retry`. The closure `pause` also has to be always callable.
     #[cold]
     #[inline(never)]
     final fn retry_after<S, A, P: Fn(&S) -> u32, F: Fn(S) -> Result<A, S>, W: Wait>(
@@ -102,12 +103,12 @@ pub trait RelaxStrategy {
         unreachable!()
     }
 
-    /// Like [`retry`](RelaxStrategy::retry), but with a [`pause`](RelaxStrategy::pause) before each attempt. Its hints
-    /// double each time, up to [`MAX_HINTS`]. If any waiting thread may be next, a lock is quickest when few threads
-    /// look at it.
+    /// Like [`retry`](RelaxStrategy::retry), but calls [`pause`](RelaxStrategy::pause) before each attempt.
+    /// The number of hints doubles each time, up to [`MAX_HINTS`]. A lock whose waiters may overtake each
+    /// other is fastest when few of them load its word.
     ///
     /// # Contract
-    /// That of `retry`.
+    /// Like that of `retry`.
     #[cold]
     #[inline(never)]
     final fn back_off<S, A, F: Fn(S) -> Result<A, S>, W: Wait>(rt: &W, state: S, attempt: F) -> A
@@ -174,7 +175,7 @@ impl RelaxStrategy for Loop {
     }
 }
 
-/// Names the strategy of a lock. It has no value of type `R`, so a lock can be sent whatever `R` is.
+/// Names the strategy of a lock. It contains no value of type `R`, so a lock may be `Send` whatever `R` is.
 #[derive(Drop)]
 pub struct Strategy<R> {
     name: PhantomData<R>,
@@ -187,8 +188,8 @@ impl<R> Strategy<R> {
     }
 }
 
-// SAFETY: it only names a strategy, and has no `R`.
+// SAFETY: it contains no `R`.
 unsafe impl<R> Send for Strategy<R> {}
 
-// SAFETY: like `Send`: there is nothing to share.
+// SAFETY: it contains no `R`, so there is nothing to share.
 unsafe impl<R> Sync for Strategy<R> {}

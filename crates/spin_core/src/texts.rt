@@ -6,22 +6,23 @@ ghost use Rattle.spin_core.specs.Texts.{lock_text, named_text};
 use std::fmt;
 use std::fmt::{Debug, Formatter};
 
-/// Writes a mutex with the value that one try found, or as locked if it failed.
+/// Writes a mutex with this value. Without a value it writes `<locked>`: the caller tried to acquire the lock
+/// once, and failed.
 ///
 /// The text calls each mutex `Mutex`, as the Rust crate does.
 ///
 /// # Contract
-/// Without options, an `Ok` call has written `lock_text` of the value.
+/// Without formatting options, a call that returns `Ok` has written `lock_text` of the value.
 pub fn write_lock<T: Debug, W: fmt::Write>(value: Option<&T>, f: &mut Formatter<W>) -> fmt::Result
     ensures { DisplaysOnOk W.write_str_gives f.old result (lock_text T.debug_output (option_copied value.entry)) f.new }
 {
     write_named("Mutex { data: ", "Mutex { <locked> }", value, f)
 }
 
-/// Writes a lock: `shown`, the value that one try found, and ` }`; or `locked` if it failed.
+/// Writes a lock. With a value it writes `shown`, the value and ` }`; without one it writes `locked`.
 ///
 /// # Contract
-/// Without options, an `Ok` call has written `named_text` of these.
+/// Without formatting options, a call that returns `Ok` has written `named_text` of the arguments.
 pub fn write_named<T: Debug, W: fmt::Write>(
     shown: &str,
     locked: &str,

@@ -1,5 +1,4 @@
-//! The entries of a lock's trace and the views of its parties, if the trace is the schedule that the lock has run.
-//! Begin with [`Entry`].
+//! Entries and views for a lock whose trace is the schedule that the lock has run. Begin with [`Entry`].
 ghost use Rattle.std.specs.Prelude.{◌≡◌, ℕ, Bool, true};
 
 use crate::trace::Trace;
@@ -9,13 +8,14 @@ use std::marker::{Model, PhantomData};
 /// An entry of a lock's trace: the number of a party, and its move in the lock's model. No such value exists at run
 /// time.
 ///
-/// `T` is the type of the values that parties write. Without it the trace tells no values.
+/// `T` is the type of the values that parties write. With the default `()` the trace does not tell which
+/// values.
 pub type Entry<C, T = ()> = (usize, Move<C, T>);
 
 /// What is fixed when a lock is made: the name of its trace, and its opening value. It has no bytes.
 ///
-/// `told` says that the trace tells the value: it is the one written last. This holds until the owner borrows the
-/// value.
+/// If `told` is true, the lock's value is the one that the trace says was written last. This holds until the
+/// owner borrows the value.
 pub struct Opening<T> {
     marker: PhantomData<T>,
     pub ghost name: { ℕ },
@@ -50,5 +50,6 @@ impl<T> Drop for Opening<T> {
 
 /// A party's view, its number, and how long the trace was after its last step. No such value exists at run time.
 ///
-/// The number is the party's place among all that ever took a step. So entries with this number are its own.
+/// The number is the party's place among all parties that ever took a step. Entries with this number are the
+/// party's own.
 pub type Numbered<V> = (V, usize, usize);

@@ -8,8 +8,8 @@ ghost use Rattle.spin_core.specs.Logs.{log_owns, log_shares, known_owns};
 use crate::cell::let_go;
 use std::marker::{Model, PhantomData};
 
-/// A list that only grows, and the whole right to append to it. With it is a word of type `S`, or nothing.
-///
+/// A list that only grows, with the exclusive right to append to it. A word of type `S` may stand beside the
+/// list.
 /// The list and its name are ghost state: a `Trace<E>` has no bytes, and a `Trace<E, u64>` has those of its word. A
 /// [`Cell`](crate::cell::Cell) that contains a trace makes it grow by the steps of its permits.
 pub struct Trace<E, S = ()> {
@@ -25,7 +25,8 @@ impl<E, S> Model for Trace<E, S> {
     ghost also_shares = { λ trace _ κ. log_shares E.row.coded.code trace.name trace.entries κ };
 }
 
-/// What is known of a trace with this name: its entries begin with these, now and ever after. It has no bytes.
+/// What is known of a trace with this name: it begins with these entries, now and for ever. A watch has no
+/// bytes.
 pub struct Watch<E> {
     marker: PhantomData<E>,
     pub ghost name: { ℕ },
@@ -49,7 +50,7 @@ impl<E, S> Trace<E, S> {
         }
     }
 
-    /// Returns a watch that knows the entries so far.
+    /// Returns a watch that knows all entries so far.
     pub fn watch(&self) -> Watch<E>
         ensures { (result.name ≡ self.now.name) × (result.entries ≡ self.now.entries) }
     {
@@ -60,7 +61,7 @@ impl<E, S> Trace<E, S> {
 }
 
 impl<E> Watch<E> {
-    /// Returns a watch that knows nothing. Its trace no longer exists.
+    /// Returns a watch that knows nothing, under the name of a trace that no longer exists.
     pub fn nothing() -> Watch<E>
         ensures { result.entries ≡ [] }
     {
@@ -68,7 +69,7 @@ impl<E> Watch<E> {
         trace.watch()
     }
 
-    // Returns a watch that knows nothing, of a trace with any name.
+    // Returns a watch that knows nothing, under the name that the caller chooses.
     pub(crate) fn start() -> Watch<E>
         ghost name: { ℕ }
         ensures { (result.name ≡ name) × (result.entries ≡ []) }
@@ -87,10 +88,10 @@ impl<E> Watch<E> {
         }
     }
 
-    /// Compares what two watches know of one trace. It does nothing when it runs.
+    /// Compares what two watches know of one trace. It does nothing at run time.
     ///
     /// # Contract
-    /// What one of them knows is a prefix of what the other knows.
+    /// The entries known to one of the watches are a prefix of those known to the other.
     pub fn compare(&self, other: &Watch<E>)
         requires { self.now.name ≡ other.now.name }
         ensures { IsPrefix self.now.entries other.now.entries ⊎ IsPrefix other.now.entries self.now.entries }
@@ -109,14 +110,14 @@ impl<E> Drop for Watch<E> {
     }
 }
 
-// SAFETY: the right to append has no bytes, and what it owns names no thread.
+// SAFETY: the right to append has no bytes, and what it owns does not depend on a thread.
 unsafe impl<E, S: Send> Send for Trace<E, S> {}
 
 // SAFETY: a shared trace tells its entries, and lends its word.
 unsafe impl<E, S: Sync> Sync for Trace<E, S> {}
 
-// SAFETY: like a trace.
+// SAFETY: a watch has no bytes, and what it knows holds on any thread.
 unsafe impl<E> Send for Watch<E> {}
 
-// SAFETY: like a trace.
+// SAFETY: a shared watch tells only what it knows.
 unsafe impl<E> Sync for Watch<E> {}

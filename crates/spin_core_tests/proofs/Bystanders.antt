@@ -1,4 +1,4 @@
--- Parties that do not use the value may take any step.
+-- A party that does not use the value may make any step.
 use Rattle.std.proofs.Common.{◌≡◌, ℕ, List, Option, Some, None, refl, ◌∙◌, arith}
 use Rattle.spin_core.specs.declared.trace.Watch.{Watch}
 use Rattle.spin_core.specs.Cell.{off, alone, reading, writing, readers_of, writers_of, Limits, after, Moved}
@@ -19,7 +19,7 @@ module _ (X : Type 0) {V : Type 0} where
   pub named : (name other : ℕ) → name ≡ other → Named {X = X} {V = V} {E = Unit {0}} {S = ℕ} (any_words name) no_use other
   named name other e n t vs meets = meets.0 ∙ e
 
--- a watch of the cell's trace is still one after a step
+-- a watch of the cell's trace is a watch of the same trace after a step
 pub same_name : {V : Type 0} (is : Type 0) (before now : Watch (Unit {0})) (told : List (Unit {0}) → List (Unit {0}) → ℕ → V → Type 0) (n : ℕ) (view : Option V) → is → Moved (Watches is before now told n) view → now.name ≡ before.name
 same_name is before now told n None named moved = absurd moved
 same_name is before now told n (Some v) named moved = moved.0 named

@@ -22,13 +22,13 @@ use Rattle.spin_core_tests.specs.declared.latch.calls.LatchPoint.{LatchPoint}
 use Rattle.spin_core_tests.specs.declared.latch.calls.LatchPoint.TheVariants.{Exchange}
 use Rattle.spin_core_tests.proofs.Latches.{open_is, nobody_is, read-decides, write-decides}
 
--- a call that has looked has made one step; at any other point it is as at its beginning
+-- a call to read that has looked has made one step; at any other point a call is as at its beginning
 abbrev pub point_of : LatchCall → LatchPoint → Option Hold → Point
 point_of TryRead (Exchange k) None = looked 1
 point_of Read (Exchange k) None = looked 1
 point_of c l h = starts (begin_of latch_table c h)
 
--- the shape of the lock: nobody queues, and the cap is a latch's
+-- what holds of the plain lock of a latch: nobody queues, and the cap is the limit of readers
 pub record Latched (s : Plain) : Type 0 where
   pub no_queue : s.tickets ≡ []
   pub room : s.cap ≡ latch_limit
@@ -39,7 +39,7 @@ latch_notes = record { Shape = λ s. Latched s; point = point_of; Knows = λ c l
 holder_by : (p : ℕ) (k : Kind) (s : Plain) → entries p s ≡ entries_at p (holds k) → is_holder p k s.holders ≡ true
 holder_by p k s mine = is_holder-from_entries p k s.holders (ap (λ (e : Entries). e.holders) mine)
 
--- what the step functions mean there
+-- What the step functions mean in such a lock.
 module _ (p : ℕ) (s : Plain) (w : ℕ) (word : latch_word s ≡ w) (exclusive : IsExclusive s) (shape : Latched s) where
   read_means : Means latch_notes p s (gets p to_read) (λ k. k) (let_in w)
   read_means = grind (arith, read-decides s p w exclusive shape.room word, shape)

@@ -1,4 +1,4 @@
--- The steps of a latch keep its rule: each is the plain step of its step function, and moves of the latch's model.
+-- The steps of a latch keep its rule: each is the plain step of its step function, and is moves of the latch's model.
 use Rattle.std.proofs.Common.{◌≡◌, ◌≢◌, ℕ, ◌+◌, ◌-◌, ◌<◌, ◌%◌, ◌^◌, ◌==◌, Bool, true, false, if◌then◌else◌, List, [], ◌∷◌, Option, Some, None, refl, sym, ap, ◌∙◌, subst, arith, ne_eqb}
 use prog.Atomic.{either}
 use Rattle.spin_step.specs.Plain.{Plain, reading, writing, gets, to_read, to_write}
@@ -31,7 +31,7 @@ use Rattle.spin_core_tests.specs.LatchRule as rule
 use Rattle.spin_core_tests.proofs.Latches.{read-decides, write-decides}
 use Rattle.spin_core_tests.specs.LatchRule.{part, IsWord, IsLatch, OneMove, Ending, Leads, seat_of, words_of, use_of_view, use_of_party, gone, at_word, leads_by, either_at, reads_by, MayLook, MayWrite}
 
--- The record of the lock
+-- The record of the lock.
 
 kind : (v : View) → OfReaders part v
 kind Reading = (λ p. refl, λ p. refl)
@@ -56,11 +56,11 @@ latch = record {
   names_nobody = (latch_word-up, no_word-up);
 }
 
--- no sum wraps below the limit
+-- below the limit of readers no sum wraps
 bounded : (s : Plain) → s.cap ≡ latch_limit → IsInOrder s → latch_word s < 2 ^ 63
 bounded s room order = omega (arith, by_kinds latch_weight s.holders, all_kinds s.holders, order.holders_fit, room)
 
--- The plain step of each
+-- The plain step of each kind of step.
 
 -- what a holder of each kind adds to the word (`latch_weight`)
 abbrev reader_weight : ℕ
@@ -85,12 +85,12 @@ may_write None may = refl
 may_write (Some WaitingToWrite) may = refl
 may_write (Some _) may = absurd may
 
--- The moves of each step: a call of the model and its steps, or a step of a call under way
+-- The moves of each step: it begins a call of the model and steps, or is a step of a call under way.
 
 abbrev Moves : Option View → (ℕ → ℕ) → (ℕ → View → Type 0) → (ℕ → View) → Type 0
 Moves view f says to = AreMoves latch_machine seat_of words_of view (on_first f) first says (leads_by to)
 
--- the outcomes of these moves, for a party with this view that is alone
+-- the outcomes of these moves, for a party with this view in a world of its own
 abbrev ends : Option View → ℕ → Option (Unit {0}) → List OneMove → List Ending
 ends view w value own = outcomes latch_machine (alone latch_machine seat_of words_of w value (seat_at latch_machine seat_of words_of view)) (of_one latch_machine seat_of words_of own)
 
@@ -123,12 +123,12 @@ reader_moves w value v is = rw is.1 (Begin call.ReleaseRead ∷ Step ∷ [], Beg
 writer_moves : Moves (Some Writing) (λ w. (w + (2 ^ 64 - writer_weight)) % 2 ^ 64) (λ w v. Weighs writer_weight w × (v ≡ Idle)) (λ w. Idle)
 writer_moves w value v is = rw is.1 (Begin call.ReleaseWrite ∷ Step ∷ [], Begun ∷ Answered Done None ∷ [], refl, refl, refl, w - writer_weight, value, refl, refl, rw (less_by w writer_weight is.0) refl)
 
--- Each step keeps the rule, and appends its moves
+-- Each step keeps the rule, and appends its moves.
 
 abbrev own_ways : Ways (Unit {0}) (Numbered View) (Trace rule.Done (Unit {0}))
 own_ways = (lends, use_of_party, no_fact)
 
--- a call whose word admits readers has found that word
+-- if the step function gives a next word, the call has found a word with room for a reader
 is_coming : (old new : ℕ) (waits : Bool) (view : Option View) → Some new ≡ let_in old → view ≡ Some (at_word waits old) → view ≡ Some (Coming waits old)
 is_coming old new waits view free is = grind (arith, free, is)
 
@@ -173,7 +173,7 @@ module _ (name : ℕ) where
   pub writer_leaves : (v : Numbered View) → use_of_party v ≡ writes → Keeps (Some v) (λ w. (w + (2 ^ 64 - writer_weight)) % 2 ^ 64) (λ w. Idle)
   writer_leaves v held = let is = is_writing v.0 held in keeps (Some v) (λ w. (w + (2 ^ 64 - writer_weight)) % 2 ^ 64) (λ w v. Weighs writer_weight w × (v ≡ Idle)) (λ w. Idle) (rw is writer_moves) (rw is (leaves_at latch latch_weight (λ s. refl) bounded Writing writing (λ p. refl)))
 
-  -- Who may leave
+  -- A party that may leave.
 
   pub idle_rests : (v : Numbered View) → v.0 ≡ Idle → Rests (IsLatch name) use_of_party (Some v)
   idle_rests v is = tie.rests latch_machine seat_of words_of IsWord name (Unit {0}) lends use_of_view no_fact v (ap seat_of is) (plays.idle_rests latch v.0 is)
@@ -185,21 +185,21 @@ module _ (name : ℕ) where
   left_rests named before None known now found moved = absurd moved
   left_rests named before (Some v) known now found moved = idle_rests v moved.1.4.6
 
-  -- a try whose word does not admit readers has ended
+  -- a try whose word has no room for a reader has failed, and its party may leave
   pub gives_up : (word : ℕ) → None ≡ let_in word → (view : Option (Numbered View)) → what view ≡ Some (at_word false word) → Rests (IsLatch name) use_of_party view
   gives_up word closed None is = absurd cc
   gives_up word closed (Some v) is = idle_rests v (grind (arith, closed, is))
 
--- and a call that waits looks again
+-- a waiting call whose word has no room for a reader looks again
 pub looks_again : (word : ℕ) (view : Option (Numbered View)) → None ≡ let_in word → what view ≡ Some (at_word true word) → MayLook (what view)
 looks_again word view closed is = let at : at_word true word ≡ WaitingToRead = grind (arith, closed) in rw (is ∙ ap Some at) tt
 
--- where a step led
+-- the view to which a step led
 pub led : (to : ℕ → View) (named : Type 0) (before view : Option (Numbered View)) (known now : Watch rule.Done) (found : ℕ) → Moved (Watches named known now (Leads to before) found) view → what view ≡ Some (to found)
 led to named before None known now found moved = absurd moved
 led to named before (Some v) known now found moved = ap Some moved.1.4.6
 
--- What the rule says of a writer
+-- What the rule says of a writer.
 
 pub writer_word : (word : ℕ) (vs : List View) (p : ℕ) → IsWord word tt vs → part_at part vs p ≡ holds writing → word ≡ writer_weight
 writer_word word vs p is at =

@@ -1,4 +1,4 @@
--- What the step functions of a latch are in the plain lock.
+-- The step functions of a latch decide as the plain lock does.
 use Rattle.std.proofs.Common.{◌≡◌, ℕ, zero, suc, ◌+◌, ◌*◌, ◌≤◌, ◌%◌, ◌/◌, ◌==◌, ◌&&◌, length, arith, nat_lt}
 use Rattle.spin_step.specs.Plain.{Plain, reading, upgradable, writing, gets, to_read, to_write, may_come, is_empty, count_kind, count_against}
 use Rattle.spin_step.specs.Parties.{IsExclusive}
@@ -6,7 +6,7 @@ use Rattle.spin_step.specs.Steps.{Decides}
 use Rattle.spin_step.proofs.Sums.{against, upgrader, by_kinds, all_kinds, sum-more}
 use Rattle.spin_core_tests.specs.Latch.{latch_limit, latch_weight, latch_word, let_in, taken}
 
--- what a word tells: k holders, at most one, that do not admit readers, and n others
+-- a word with k holders that admit no readers (at most one), and n others, has room for a reader exactly if k is 0 and the limit allows
 tells : (n k w : ℕ) → k ≤ 1 → w ≡ 2 * n + k → ((k == 0) && nat_lt (n + k) latch_limit) ≡ ((w % 2 == 0) && nat_lt (w / 2) latch_limit)
 tells n zero w one is = grind (arith, is)
 tells n (suc zero) w one is = grind (arith, is)

@@ -12,7 +12,7 @@ use Rattle.spin_core_tests.specs.declared.once.Stage.TheVariants.{Seed, Done}
 abbrev f : View → Use
 f = use_of_view
 
--- how many read and how many write, after a party has got another view
+-- the numbers of readers and of writers, when a party gets another view
 read_after : (id : ℕ) (view : Option View) (vs : List View) (w : View) → At id view vs → readers_of f (after id view vs w) + reading (use_of f view) ≡ readers_of f vs + reading (f w)
 read_after id None vs w at = moves (λ v. reading (f v)) id None vs w at
 read_after id (Some v) vs w at = moves (λ v. reading (f v)) id (Some v) vs w at
@@ -33,7 +33,7 @@ meets key n m vs is = (is, limits key n (readers_of f vs) (writers_of f vs) is)
 pub is_made : (key value : ℕ) → value ≡ key + 1 → Opens IsOnce (once_ways key) 2 tt (Done value)
 is_made key value e = (Reading ∷ [], tt, meets key 2 tt (Reading ∷ []) (omega arith, refl), e)
 
--- a load: a party that finds 2 becomes a reader
+-- a load: a party that finds 2 reads
 pub looks : (key : ℕ) → AllowsAt IsOnce (once_ways key) None None (λ n. n) (Loads 0 0 None)
 looks key id zero m vs has at small = let r = read_after id None vs Away tt in let w = write_after id None vs Away tt in
     (Away, (λ e. e, tt, meets key 0 m (vs ++ Away ∷ []) (omega (arith, has.0), omega (arith, has.0))), (λ e. absurd (omega (arith, e)), λ ne. refl))
@@ -43,7 +43,7 @@ looks key id (suc (suc zero)) m vs has at small = let r = read_after id None vs 
     (Reading, (λ e. refl, has.0.0, meets key 2 m (vs ++ Reading ∷ []) (omega (arith, has.0), omega (arith, has.0))), (λ e. refl, λ ne. absurd (ne refl)))
 looks key id (suc (suc (suc n))) m vs has at small = absurd has.0
 
--- an exchange of 0 for 1: a party that finds 0 runs
+-- an exchange of 0 for 1: a party that finds 0 makes the value
 pub begins : (key : ℕ) → AllowsAt IsOnce (once_ways key) None None (λ n. either (n == 0) 1 n) (Begins 0 1 None)
 begins key id zero m vs has at small = let r = read_after id None vs Running tt in let w = write_after id None vs Running tt in
     (Running, (λ e. absurd (let d : off ≡ reads = e in cc), tt, meets key 1 m (vs ++ Running ∷ []) (omega (arith, has.0), omega (arith, has.0))), (λ e. refl, λ e. absurd (omega (arith, e)), λ ne ne'. absurd (ne refl)))
@@ -53,7 +53,7 @@ begins key id (suc (suc zero)) m vs has at small = let r = read_after id None vs
     (Reading, (λ e. refl, has.0.0, meets key 2 m (vs ++ Reading ∷ []) (omega (arith, has.0), omega (arith, has.0))), (λ e. absurd (omega (arith, e)), λ e. refl, λ ne ne'. absurd (ne' refl)))
 begins key id (suc (suc (suc n))) m vs has at small = absurd has.0
 
--- a party that runs finds 1
+-- while a party makes the value, the word is 1
 runs : (n id : ℕ) (vs : List View) → At id (Some Running) vs → IsOnce n tt vs → (readers_of f vs ≡ 0) × (writers_of f vs ≡ 1)
 runs zero id vs at s = absurd (let w = write_after id (Some Running) vs Away at in omega (arith, s))
 runs (suc zero) id vs at s = s
@@ -68,7 +68,7 @@ pub completes : (key value : ℕ) → value ≡ key + 1 → AllowsAt IsOnce (onc
 completes key value e id n m vs has at small = let one = runs n id vs at has.0 in let r = read_after id (Some Running) vs Reading at in let w = write_after id (Some Running) vs Reading at in
     (Reading, (λ d. refl, e, meets key 2 m (after id (Some Running) vs Reading) (omega (arith, one), omega (arith, one))), refl)
 
--- a party that is away may leave
+-- a party that does not use the value may leave
 pub away_rests : Rests IsOnce f (Some Away)
 away_rests = (
   refl,
@@ -77,7 +77,7 @@ away_rests = (
       subst (λ (k : ℕ × ℕ). Stands n k.0 k.1) (λ i. (same_r i, same_w i)) is,
 )
 
--- ---- what a party that began knows
+-- ---- what a party knows after its exchange
 pub ran : (view : Option View) (found : ℕ) → Moved (Begins 0 1 None found) view → found ≡ 0 → view ≡ Some Running
 ran None found moved e = absurd moved
 ran (Some v) found moved e = ap Some (moved.0 e)

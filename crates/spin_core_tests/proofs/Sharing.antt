@@ -1,4 +1,4 @@
--- The steps of a value that two parties read keep its rule.
+-- The steps of a value that at most two parties read keep its rule.
 use Rattle.std.proofs.Common.{◌≡◌, ℕ, ◌+◌, ◌-◌, ◌%◌, ◌^◌, ◌<◌, ◌==◌, List, [], ◌∷◌, ◌++◌, Bool, if◌then◌else◌, Option, Some, None, refl, sym, subst, eq-eqb, ne_eqb, arith}
 use mathlib.Core.Logic.{dite}
 use native.Mathlib.Decide.{ℕ_discrete}
@@ -14,7 +14,7 @@ use Rattle.spin_core_tests.specs.Pair.{use_of_view, pair_ways, IsPair, Joins, Le
 use Rattle.spin_core_tests.specs.declared.pair.View.{View}
 use Rattle.spin_core_tests.specs.declared.pair.View.TheVariants.{Away, Reading}
 
--- for a value of any type; the unit type represents it here
+-- for a value of any type, which the unit type stands for here
 abbrev ways : Ways (Unit {0}) View (Trace (Unit {0}) (Unit {0}))
 ways = pair_ways
 
@@ -28,7 +28,7 @@ Log = Trace (Unit {0}) (Unit {0})
 meets : (n : ℕ) (t : Log) (vs : List View) → IsPair n t vs → Meets IsPair ways n t vs
 meets n t vs is = let w = none (λ v. writing (use_of_view v)) no_writer vs in (is, omega (arith, is.0, is.1))
 
--- the trace has its former entries, and then those that the step appended
+-- the trace has its former entries, followed by those that the step appends
 longer : (t : Log) (es : List (Unit {0})) → length (grown t es).entries ≡ length t.entries + length es
 longer t es = length-append t.entries es
 

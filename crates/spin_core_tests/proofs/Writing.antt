@@ -1,4 +1,4 @@
--- The steps of a value whose trace has each value left there: they keep its rule, and what is known of the value.
+-- The steps of a value whose trace has each value that a party left: they keep the rule, and what is known of the value.
 use Rattle.std.proofs.Common.{◌≡◌, ℕ, ◌==◌, List, [], ◌∷◌, ◌++◌, Bool, if◌then◌else◌, Option, Some, None, refl, sym, ap, ◌∙◌, subst, eq-eqb, ne_eqb, arith}
 use mathlib.Core.Logic.{dite}
 use mathlib.Core.List.{IsPrefix}
@@ -45,7 +45,7 @@ module _ {X : Type 0} where
     pub opens : (t : Log X) (x : X) → t.name ≡ name → t.entries ≡ [] → Opens (IsWritten {X = X} name) written_ways 0 t x
     opens t x named empty = ([], refl, meets 0 t [] (named, refl, omega arith), (subst (λ l. LastIs l x) (sym empty) (x, refl), tt))
 
-    -- what a step must show that found whether the word is its own
+    -- what a step must show that appends these entries and leads to these views
     abbrev Owes : Use → Option X → Log X → List View → ℕ → View → List X → List View → Type 0
     Owes u shown t vs n w es us = Going (written_ways {X = X}).0 u (use_of_view w) shown (readers_of use_of_view vs) (Carrying (written_ways {X = X}).2 t (grown t es) u (use_of_view w) shown (Meets (IsWritten {X = X} name) written_ways n (grown t es) us))
 
@@ -69,7 +69,7 @@ module _ {X : Type 0} where
     pub idle_rests : Rests (IsWritten {X = X} name) use_of_view (Some Idle)
     idle_rests = (refl, λ n t before behind is. let c = without (λ v. writing (use_of_view v)) before behind Idle in (is.0, omega (arith, is.1, c), is.2))
 
-  -- a party that released the value appended the value shown to it
+  -- a party that releases the value appends the value that it was shown
   left_at : (seen log es : List X) (z x : X) (t : Log X) → seen ≡ log ++ es → es ≡ z ∷ [] → t.entries ≡ seen → LastIs t.entries x → seen ≡ log ++ x ∷ []
   left_at seen log es z x t grew one is l =
       let whole : t.entries ≡ log ++ z ∷ [] = is ∙ grew ∙ ap (λ k. log ++ k) one in
@@ -84,7 +84,7 @@ module _ {X : Type 0} where
       let l = subst (λ (y : Option View × Option View × Option X). Found (written_ways {X = X}) y.0 y.1 y.2 shown' now) (λ i. (holds i, Some (idle i), shown_is i)) found in
       (m.0, m.2, left_at now.entries m.0 m.1 m.4.1.0 x l.0 m.3 m.4.1.1 l.1 l.2)
 
-  -- what one party found is what the other left, if both know the same trace
+  -- if both parties know the same trace, one of them found what the other left
   pub same_found : (wrote seen : List X) (did : Bool) (found : Option X) (x : X) → (IsTrue did → WroteLast wrote x) → IfSome found (λ y. LastIs seen y) → IsTrue did → wrote ≡ seen → IfSome found (λ y. y ≡ x)
   same_found wrote seen did None x w l is e = tt
   same_found wrote seen did (Some y) x w l is e = let was = w is in sym l.1 ∙ ap (latest l.0) (sym e ∙ was.1) ∙ latest-append l.0 was.0 x

@@ -1,4 +1,4 @@
--- The rule of a cell whose value nobody uses: it allows any words and any parties.
+-- The rule of a cell whose value no party uses: it allows any words and any parties.
 use Rattle.std.specs.Prelude.{◌≡◌, ℕ, List, [], ◌∷◌, Option}
 use Rattle.spin_core.specs.Cell.{off, alone, no_fact, Ways}
 use Rattle.spin_core.specs.declared.trace.Trace.{Trace}

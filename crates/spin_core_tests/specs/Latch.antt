@@ -1,4 +1,4 @@
--- A latch: a plain lock of many readers or one writer. Its word is a sum over the holders, by their kinds.
+-- The plain lock of a latch: many readers or one writer. Its word is a sum over the holders, by their kinds.
 use Rattle.std.specs.Prelude.{ℕ, ◌+◌, ◌%◌, ◌/◌, ◌==◌, ◌&&◌, Option, Some, None, if◌then◌else◌, nat_lt, sum_by}
 use Rattle.spin_step.specs.Plain.{Plain, Kind, reading, upgradable, asking, writing}
 
@@ -15,7 +15,7 @@ latch_weight writing = 1
 abbrev pub latch_word : Plain → ℕ
 latch_word s = sum_by (λ h. latch_weight h.kind) s.holders
 
--- the word after one more reader has acquired the latch, if nobody writes and there is room
+-- the word after one more reader has acquired the latch, if no writer holds it and the limit allows
 abbrev pub let_in : ℕ → Option ℕ
 let_in w = if (w % 2 == 0) && nat_lt (w / 2) latch_limit then Some (w + 2) else None
 

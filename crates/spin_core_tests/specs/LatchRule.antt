@@ -1,5 +1,5 @@
--- The rule of a latch. Its word is that of a plain lock whose holders are its parties. Its trace is a schedule of its
--- model, which leads to that word.
+-- The rule of a latch. Its word is that of a plain lock whose holders are the latch's parties. Its trace is a schedule of the latch's model
+-- that leads to that word and these parties.
 use Rattle.std.specs.Prelude.{◌≡◌, ℕ, ◌==◌, Bool, true, false, if◌then◌else◌, is_some, List, Option, Some, None}
 use Rattle.spin_step.specs.Plain.{reading, writing}
 use Rattle.spin_core.specs.Cell.{Use, lends, no_fact, Ways}
@@ -36,7 +36,7 @@ use_of_party v = use_of_view v.0
 abbrev pub latch_ways : {X S : Type 0} → Ways X (Numbered View) S
 latch_ways = (lends, use_of_party, no_fact)
 
--- where a party sits in the model
+-- the seat in the model of a party with this view
 abbrev pub seat_of : View → Seat LatchCall LatchPoint
 seat_of Idle = seat.Idle
 seat_of Reading = seat.Holding hold.Read
@@ -64,7 +64,7 @@ IsWord = Encodes part latch_limit latch_word no_word
 abbrev pub IsLatch : ℕ → ℕ → Trace Done (Unit {0}) → List (Numbered View) → Type 0
 IsLatch = Runs latch_machine seat_of words_of IsWord
 
--- The steps. Of each they tell the view after it, by the number found
+-- The next view of each step, by the number found.
 
 abbrev pub leads_by : (ℕ → View) → List OneMove → List Ending → ℕ → View → Type 0
 leads_by to own outs found v = v ≡ to found
@@ -72,34 +72,35 @@ leads_by to own outs found v = v ≡ to found
 abbrev pub Leads : (ℕ → View) → Option (Numbered View) → List Done → List Done → ℕ → Numbered View → Type 0
 Leads to = Tells latch_machine seat_of words_of (leads_by to)
 
--- an exchange gets the view `won` if it finds the number that it expected, else `lost`
+-- the view after an exchange: `won` if it finds the number that it expects, else `lost`
 abbrev pub either_at : ℕ → View → View → ℕ → View
 either_at old won lost found = if found == old then won else lost
 
--- the view of a call to read after a word that does not admit it: it waits, or is refused
+-- the view of a call to read that found no room: `read` waits, and `try_read` has failed
 abbrev pub gone : Bool → View
 gone true = WaitingToRead
 gone false = Idle
 
--- the view after such a call has found this word
+-- the view of a call to read that has found this word: its next step is an exchange if there is room
 abbrev pub at_word : Bool → ℕ → View
 at_word waits word = if is_some (let_in word) then Coming waits word else gone waits
 
 abbrev pub IsAtWord : Option View → ℕ → Type 0
 IsAtWord view word = (waits : Bool) × (view ≡ Some (at_word waits word))
 
--- it reads if it found the word that it expected; else it continues at the word that it found
+-- the view after the exchange of a call to read: if it finds the word that it expects, the party reads; else the call goes on with the word
+-- found
 abbrev pub reads_by : ℕ → Option View → ℕ → View
 reads_by old (Some (Coming waits word)) found = if found == old then Reading else at_word waits found
 reads_by old _ found = Idle
 
--- the call has just begun, or looks again
+-- a load may come next: the call to read has just begun, or waits
 abbrev pub MayLook : Option View → Type 0
 MayLook None = Unit {0}
 MayLook (Some WaitingToRead) = Unit {0}
 MayLook _ = ⊥
 
--- the call to write has just begun, or waits
+-- an exchange may come next: the call to write has just begun, or waits
 abbrev pub MayWrite : Option View → Type 0
 MayWrite None = Unit {0}
 MayWrite (Some WaitingToWrite) = Unit {0}

@@ -19,7 +19,7 @@ use Rattle.spin_core_tests.specs.declared.latch.calls.LatchCall.TheVariants as c
 use Rattle.spin_core_tests.specs.declared.latch.calls.LatchPoint.{LatchPoint}
 use Rattle.spin_core_tests.specs.declared.latch.calls.LatchPoint.TheVariants.{First, Exchange}
 
--- The kind of lock
+-- The kind of lock.
 
 abbrev pub latch_plain_steps : Change → Bool
 latch_plain_steps (gets p to_read) = true
@@ -36,16 +36,16 @@ latch_calls n h =
 abbrev pub latch : LockKind
 latch = record (usual latch_word [] latch_plain_steps latch_calls) { spins_on_exchange = true }
 
--- The table
+-- The table.
 
 abbrev pub granted : Hold → Next LatchPoint (Answer (Unit {0}))
 granted held = Answers Granted (Some held)
 
--- a call that wants to read tries to exchange the word that it found
+-- a call to read goes on to an exchange that expects the word found
 abbrev pub goes_for : ℕ → Next LatchPoint (Answer (Unit {0}))
 goes_for w = Continue (Exchange w)
 
--- It looks first. It then repeats its exchange while each word that it finds admits it.
+-- A call to read looks first. Then it repeats its exchange as long as the word found has room for a reader.
 abbrev pub comes_by : Next LatchPoint (Answer (Unit {0})) → LatchPoint → Act ℕ LatchPoint (Answer (Unit {0}))
 comes_by missed First = load_for let_in (λ p. gets p to_read) goes_for missed
 comes_by missed (Exchange k) = retry k let_in (λ p. gets p to_read) (granted Read) goes_for missed
@@ -58,7 +58,7 @@ act_of call.Write l h = weak_exchange 0 taken (λ p. gets p to_write) (granted W
 act_of call.ReleaseRead l h = store (λ w. nat_lt 1 w) (subtracts 2) (λ p. releases p reading) (Answers Done None)
 act_of call.ReleaseWrite l h = store (λ w. nat_lt 0 w) (subtracts 1) (λ p. releases p writing) (Answers Done None)
 
--- a call that wants to read looks first, and one that wants to write does not
+-- what each call promises: a call to read looks first, a call to write does not
 abbrev pub asks_of : LatchCall → Option Hold → Asked
 asks_of call.TryRead h = looks_and_tries to_read
 asks_of call.Read h = waits to_read

@@ -1,5 +1,4 @@
--- The rule of a value that is made once, from a number. It is a small lock that shows how parties keep reading for
--- ever.
+-- The rule of a value that is made once, from a number. This small lock shows how parties keep reading for ever.
 use Rattle.std.specs.Prelude.{◌≡◌, ◌≢◌, ◌<◌, ◌+◌, ℕ, zero, suc, Bool, true, false, List, Option}
 use Rattle.spin_core.specs.Cell.{Use, off, reads, writes, fixes, no_fact, Ways, readers_of, writers_of}
 use Rattle.spin_core_tests.specs.declared.once.View.{View}
@@ -7,7 +6,7 @@ use Rattle.spin_core_tests.specs.declared.once.View.TheVariants.{Away, Running, 
 use Rattle.spin_core_tests.specs.declared.once.Stage.{Stage}
 use Rattle.spin_core_tests.specs.declared.once.Stage.TheVariants.{Seed, Done}
 
--- a value that somebody reads was made from the key; one that nobody uses is the key
+-- a value that somebody reads was made from the key; a value that nobody uses is the key itself
 abbrev pub IsMade : ℕ → Bool → Stage → Type 0
 IsMade key true (Done value) = value ≡ key + 1
 IsMade key true (Seed seed) = ⊥
@@ -22,7 +21,7 @@ use_of_view Reading = reads
 abbrev pub once_ways : {S : Type 0} → ℕ → Ways Stage View S
 once_ways key = (fixes (IsMade key), use_of_view, no_fact)
 
--- the word is 0 before a party begins, 1 while a party makes the value, and 2 when it is made
+-- the word is 0 before a party begins to make the value, 1 while it makes it, and 2 afterwards
 abbrev pub Stands : ℕ → ℕ → ℕ → Type 0
 Stands zero r w = (r ≡ 0) × (w ≡ 0)
 Stands (suc zero) r w = (r ≡ 0) × (w ≡ 1)
@@ -32,17 +31,18 @@ Stands _ r w = ⊥
 abbrev pub IsOnce : ℕ → Unit {0} → List View → Type 0
 IsOnce n m vs = Stands n (readers_of use_of_view vs) (writers_of use_of_view vs)
 
--- a party that finds 2 reads the value; any other does not
+-- a party whose load finds 2 reads the value; any other party does not
 abbrev pub Loads : ℕ → ℕ → Option View → ℕ → View → Type 0
 Loads old new before found after = (found ≡ 2 → after ≡ Reading) × (found ≢ 2 → after ≡ Away)
 
--- a party that finds 0 makes the value, and one that finds 2 reads it
+-- a party whose exchange finds 0 makes the value; one that finds 2 reads it
 abbrev pub Begins : ℕ → ℕ → Option View → ℕ → View → Type 0
 Begins old new before found after = (found ≡ 0 → after ≡ Running) × (found ≡ 2 → after ≡ Reading) × (found ≢ 0 → found ≢ 2 → after ≡ Away)
 
--- a party that made the value puts the number back, or reads the value
+-- a party that was to make the value puts the number back
 abbrev pub PutsBack : ℕ → ℕ → Option View → ℕ → View → Type 0
 PutsBack old new before found after = after ≡ Away
 
+-- a party that made the value reads it
 abbrev pub Completes : ℕ → ℕ → Option View → ℕ → View → Type 0
 Completes old new before found after = after ≡ Reading

@@ -1,5 +1,5 @@
--- The rule of a value that one party has at a time. The trace has each value that a party left. It is a small lock
--- that shows what is known of a value.
+-- The rule of a value that one party has at a time. The trace has each value that a party left. This small lock shows how parties know a
+-- fact of the value.
 use Rattle.std.specs.Prelude.{◌≡◌, ◌≤◌, ℕ, List, [], ◌∷◌, ◌++◌, Option, if◌then◌else◌, ◌==◌}
 use Rattle.spin_core.specs.Cell.{Use, off, writes, alone, knows, Ways, writers_of}
 use Rattle.spin_core.specs.declared.trace.Trace.{Trace}
@@ -12,11 +12,11 @@ module _ {X : Type 0} where
   latest v [] = v
   latest v (x ∷ xs) = latest x xs
 
-  -- the value is the last of these, if there is any
+  -- the value is the last of these; if there are none, it may be any
   abbrev pub LastIs : List X → X → Type 0
   LastIs log x = (v : X) × (latest v log ≡ x)
 
-  -- this value was left last
+  -- x is the last value in the log
   abbrev pub WroteLast : List X → X → Type 0
   WroteLast log x = (before : List X) × (log ≡ before ++ x ∷ [])
 
@@ -31,10 +31,10 @@ written_ways = (alone, use_of_view, knows (λ t x. LastIs t.entries x))
 abbrev pub IsWritten : {X : Type 0} → ℕ → ℕ → Trace X (Unit {0}) → List View → Type 0
 IsWritten name n t vs = (t.name ≡ name) × (n ≡ writers_of use_of_view vs) × (n ≤ 1)
 
--- a party that finds 0 holds the value; it appends nothing
+-- a party whose exchange finds 0 holds the value; it appends nothing
 abbrev pub Takes : {X : Type 0} → ℕ → ℕ → Option View → List X → List X → ℕ → View → Type 0
 Takes old new before log es found after = (after ≡ (if found == 0 then Holding else Idle)) × (es ≡ [])
 
--- a party that releases the value appends one value
+-- a party that releases the value appends some value
 abbrev pub Frees : {X : Type 0} → ℕ → ℕ → Option View → List X → List X → ℕ → View → Type 0
 Frees {X} old new before log es found after = (after ≡ Idle) × ((x : X) × (es ≡ x ∷ []))

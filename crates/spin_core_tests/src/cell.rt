@@ -1,4 +1,5 @@
-//! A cell that allows any words, and what the steps of a party find in it. No contract of the cell says this.
+//! A cell that allows any words. The functions return what a party's steps find in it, which no contract of
+//! the cell says.
 ghost use Rattle.std.specs.Prelude.{◌≡◌, ◌+◌, ◌≤◌, length};
 
 use spin_core::cell::{Cell, Play, Rule};
@@ -10,7 +11,7 @@ pub enum Bystander {
     Stands,
 }
 
-/// The rule allows any words and any entries. The trace's name is fixed from the start.
+/// A rule that allows any words and any entries. It fixes only the trace's name.
 pub struct AnyWords;
 
 impl Rule<u64, Bystander> for AnyWords {
@@ -55,8 +56,8 @@ fn words() -> Words {
     Cell::new(5, 1, trace, &start)
 }
 
-/// What steps on the first word find, one after another: those that return a number, a load of the last word, and a
-/// load of the second word.
+/// Returns what steps on the first word find, one after another. First are the steps that return a number,
+/// then a load of the first word, and last a load of the second word.
 pub fn steps_on_the_first_word() -> [u64; 8] {
     let cell = words();
     let (loaded, party, _) = cell.enter().load::<TellNothing>(Watch::nothing());
@@ -74,7 +75,7 @@ pub fn steps_on_the_first_word() -> [u64; 8] {
     ]
 }
 
-/// What the second word has before a store and after it, and the first word after it.
+/// Returns the second word before a store to it, the second word after it, and the first word after it.
 pub fn steps_on_the_second_word() -> [u64; 3] {
     let cell = words();
     let (before, party, _) = cell.enter().load_second::<TellNothing>(Watch::nothing());
@@ -85,7 +86,7 @@ pub fn steps_on_the_second_word() -> [u64; 3] {
     [before, after, first]
 }
 
-// Appends an entry by a step on each word, and returns what is then known.
+// Makes a step on each word that appends an entry, and returns what is then known of the trace.
 fn mark_both(cell: &Words, seen: Watch<()>) -> Watch<()>
     requires { seen.name ≡ cell.now.name }
     ensures name { result.name ≡ seen.name }
@@ -97,7 +98,8 @@ fn mark_both(cell: &Words, seen: Watch<()>) -> Watch<()>
     seen
 }
 
-/// What a look finds after a step on each word. The watch goes from step to step, and knows the cell's trace.
+/// Returns what a load finds after a step on each word. One watch goes through all steps, and knows the
+/// cell's trace.
 pub fn watched_word() -> u64 {
     let trace = Trace::new(2);
     let start = trace.watch();
@@ -107,13 +109,13 @@ pub fn watched_word() -> u64 {
     cell.enter().look::<TellNothing>(seen).0
 }
 
-// Returns what a load after the exchange finds, or the word that the exchange found.
+// Returns `Ok` of what a load after the exchange finds, or `Err` of the word that a failed exchange found.
 fn attempt(cell: &Words, old: u64, new: u64) -> Result<u64, u64> {
     let (party, _) = cell.enter().attempt::<Mark>(old, new, Watch::nothing());
     Ok(party?.look::<TellNothing>(Watch::nothing()).0)
 }
 
-/// The results of an exchange that takes place and of one that misses, and the word that is then there.
+/// Returns the results of an exchange that succeeds and of one that fails, and the word afterwards.
 pub fn two_attempts() -> (Result<u64, u64>, Result<u64, u64>, u64) {
     let cell = words();
     let (first, second) = (attempt(&cell, 1, 6), attempt(&cell, 1, 7));
@@ -124,7 +126,7 @@ pub fn two_attempts() -> (Result<u64, u64>, Result<u64, u64>, u64) {
     )
 }
 
-/// What the owner finds before it writes, and in the end, after a party's step.
+/// Returns what the owner finds before it writes, and what it finds at the end, after a step of a party.
 pub fn owned_values() -> (u64, u64) {
     let mut cell = words();
     let before = *cell.get_mut();

@@ -1,4 +1,5 @@
-//! A lock for many readers or one writer. Its word is their number and a bit. Begin with [`Latch::read`].
+//! A lock for many readers or one writer. Its word has a bit for the writer, and the number of readers. Begin
+//! with [`Latch::read`].
 ghost use Rattle.std.specs.Prelude.{◌≡◌, Bool, Some, IfErr, true, false};
 ghost use Rattle.spin_core.specs.Own.{what};
 ghost use Rattle.spin_core_tests.specs.Latch.{let_in};
@@ -20,7 +21,8 @@ use spin_core::trace::{Trace, Watch};
 use std::ops::Deref;
 use std::sync::Wait;
 
-/// A lock for many readers or one writer. The rule is a parameter, so that the value can be moved out of it.
+/// A lock for many readers or one writer. The rule is a type parameter, so that the value can be moved out of
+/// the lock.
 #[derive(Drop)]
 pub struct Latch<T, V = Party, P: Rule<T, V> = LatchRule<T>> {
     cell: Cell<T, V, P>,
@@ -46,7 +48,8 @@ impl<T> Latch<T> {
         }
     }
 
-    /// Tries to acquire shared access. Returns `None` while a writer holds, or at the limit of readers.
+    /// Tries to acquire shared access. Returns `None` while a writer holds the latch, or if the number of
+    /// readers is at the limit.
     #[must_use = "dropping the guard at once releases the latch: bind the answer"]
     pub fn try_read<W: Wait>(&self, rt: &W) -> Option<ReadGuard<'_, T>> {
         let (found, permit, _) = self.cell.enter().load::<Tries>(Watch::nothing());
@@ -65,7 +68,7 @@ impl<T> Latch<T> {
         }
     }
 
-    /// Tries to acquire exclusive access, by one exchange. Returns `None` if any thread holds the latch.
+    /// Tries to acquire exclusive access, by one exchange. Returns `None` if the latch is held.
     #[must_use = "dropping the guard at once releases the latch: bind the answer"]
     pub fn try_write<'a>(&'a self) -> Option<WriteGuard<'a, T>> {
         let next = steps::write(0)?;
@@ -94,7 +97,7 @@ impl<T, V, P: Rule<T, V>> Latch<T, V, P> {
     }
 }
 
-// A call of `try_read`, with the word that it found.
+// A call of `try_read` that has found this word.
 struct Trying<'a, T> {
     word: usize,
     permit: LatchPermit<'a, T>,
@@ -102,7 +105,7 @@ struct Trying<'a, T> {
 }
 
 impl<'a, T> Trying<'a, T> {
-    // Tries to acquire at its word. Returns `Ok(None)` if that word does not admit readers.
+    // Tries to acquire at the word found. Returns `Ok(None)` if that word has no room for a reader.
     fn attempt(self) -> Result<Option<ReadGuard<'a, T>>, Trying<'a, T>> {
         let Self { word, permit } = self;
         let Some(next) = steps::read(word) else {
@@ -116,7 +119,7 @@ impl<'a, T> Trying<'a, T> {
     }
 }
 
-// A call of `read`, with the word that it found.
+// A call of `read` that has found this word.
 struct Entering<'a, T> {
     word: usize,
     permit: LatchPermit<'a, T>,
@@ -124,7 +127,7 @@ struct Entering<'a, T> {
 }
 
 impl<'a, T> Entering<'a, T> {
-    // Tries to acquire at its word, if that word admits readers.
+    // Tries to acquire at the word found, if that word has room for a reader.
     fn attempt(self) -> Result<ReadGuard<'a, T>, Entering<'a, T>> {
         let Self { word, permit } = self;
         let Some(next) = steps::read(word) else {
@@ -136,7 +139,7 @@ impl<'a, T> Entering<'a, T> {
         }
     }
 
-    // The same, but it looks first if its word does not admit readers.
+    // Tries to acquire, like `attempt`, but looks first if the word found has no room for a reader.
     fn again(self) -> Result<ReadGuard<'a, T>, Entering<'a, T>> {
         let Self { word, permit } = self;
         if steps::read(word).is_some() {
@@ -147,7 +150,7 @@ impl<'a, T> Entering<'a, T> {
     }
 }
 
-// The look of `read`, and its exchange if the word admits readers.
+// Makes the look of `read`, and its exchange if the word has room for a reader.
 fn look_and_come<'a, T>(permit: LatchPermit<'a, T>) -> Result<ReadGuard<'a, T>, Entering<'a, T>>
     requires { MayLook (what permit.view) }
 {
@@ -156,7 +159,7 @@ fn look_and_come<'a, T>(permit: LatchPermit<'a, T>) -> Result<ReadGuard<'a, T>, 
     Entering { word, permit }.attempt()
 }
 
-// Exchanges the word that a call found for `next`. Returns the word found if that is another.
+// Exchanges `word`, which the call found, for `next`. If the exchange finds another word, returns that one.
 fn come<'a, T>(
     permit: LatchPermit<'a, T>,
     word: usize,
@@ -172,7 +175,7 @@ fn come<'a, T>(
     Err((found as usize, permit))
 }
 
-// A call of `write` that continues with its exchange.
+// A call of `write` that goes on with its exchange.
 struct Waiting<'a, T> {
     permit: LatchPermit<'a, T>,
     ghost waits: { what permit.view ≡ Some WaitingToWrite },
@@ -185,7 +188,7 @@ impl<'a, T> Waiting<'a, T> {
     }
 }
 
-// The exchange of `write`, for a call that begins or waits.
+// Makes the exchange of `write`, for a call that begins or waits.
 fn write<'a, T>(permit: LatchPermit<'a, T>) -> Result<WriteGuard<'a, T>, Waiting<'a, T>>
     requires { MayWrite (what permit.view) }
 {

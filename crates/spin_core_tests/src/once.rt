@@ -1,4 +1,4 @@
-//! A value that is made once, from a number. A party that reads it never gives its part of the cell back. Begin with
+//! A value that is made once, from a number. A party that reads it may do so for ever. Begin with
 //! [`Next::force`].
 ghost use Rattle.std.specs.Prelude.{◌≡◌, ◌+◌, ◌<◌, IfSome, Some};
 ghost use Rattle.spin_core_tests.specs.declared.once.View.TheVariants.{Reading};
@@ -14,7 +14,7 @@ pub enum View {
     Reading,
 }
 
-/// The value, and the number that it is made from.
+/// The number that the value is made from, or the value.
 #[derive(Drop)]
 pub enum Stage {
     Seed(u64),
@@ -72,14 +72,14 @@ impl Play<u64, View, ()> for Complete {
     ghost told = { λ key old new before. quiet (Completes old new before) };
 }
 
-/// The number after `seed`, once somebody has asked for it.
+/// The number after `seed`, which the first caller makes.
 #[derive(Drop)]
 pub struct Next {
     cell: Cell<Stage, View, Stage>,
 }
 
 impl Next {
-    /// Creates it with no number made.
+    /// Creates a `Next` whose number is not made yet.
     pub fn new(seed: u64) -> Next
         ensures { result.cell ≡ seed }
     {
@@ -88,7 +88,7 @@ impl Next {
         }
     }
 
-    /// Creates it as if somebody had asked already.
+    /// Creates a `Next` whose number is made.
     pub fn initialized(seed: u64) -> Next
         requires { seed + 1 < 18446744073709551616 }
         ensures { result.cell ≡ seed }
@@ -110,8 +110,8 @@ impl Next {
         None
     }
 
-    /// Makes the number, if it is not made yet, and returns it. Returns `None` if another party makes the number, or if
-    /// no number follows the seed; then the seed is put back.
+    /// Makes the number if it is not made yet, and returns it. Returns `None` if another party is making the
+    /// number, or if no number follows the seed. In the second case the seed is put back.
     pub fn force(&self) -> Option<&u64>
         ensures { IfSome result (λ value. value.now ≡ self.now.cell + 1) }
     {

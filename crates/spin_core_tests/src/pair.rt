@@ -42,10 +42,10 @@ impl Play<(), View, ()> for Leave {
     ghost told = { λ key. Leaves };
 }
 
-/// The value that is shared.
+/// The shared value.
 pub type Pair = Cell<u64, View, u64>;
 
-/// A party, mostly one that reads.
+/// A party, usually one that reads.
 pub type Reader<'a> = Permit<'a, u64, View, u64>;
 
 /// Creates a value that nobody reads.
@@ -53,7 +53,7 @@ pub fn pair(value: u64) -> Pair {
     Cell::new(value, 0, Trace::new(()), &())
 }
 
-/// Begins to read while `others` read. What it then knows of the trace has an entry.
+/// Begins to read, if exactly `others` parties read. Then at least one entry of the trace is known.
 pub fn read(pair: &Pair, others: u64) -> Option<(Reader<'_>, Watch<()>)>
     requires { others < 2 }
     ensures view { IfSome result (λ came. came.0.view ≡ Some Reading) }

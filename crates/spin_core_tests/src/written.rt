@@ -1,4 +1,4 @@
-//! A value that one party has at a time. Its trace has each value that a party left there. Begin with
+//! A value that one party has at a time. The trace has each value that a party left in it. Begin with
 //! [`Written::try_take`].
 ghost use Rattle.std.specs.Prelude.{◌≡◌, ◌⊎◌, ◌++◌, [], ◌∷◌, List, Option, IsTrue, IfSome};
 ghost use mathlib.Core.List.{IsPrefix};
@@ -15,7 +15,8 @@ pub enum View {
     Holding,
 }
 
-/// The rule: the word is 1 while a party holds, and a value that nobody holds is the last one of the trace.
+/// The rule: the word is 1 while a party holds the value. A value that nobody holds is the last one in the
+/// trace.
 pub struct WrittenRule;
 
 impl<T> Rule<T, View> for WrittenRule {
@@ -48,13 +49,13 @@ impl<T> Play<Watch<T>, View, T> for Free {
     ghost told = { λ key. Frees };
 }
 
-/// The value, and the name of its trace (`cell`).
+/// The value, and the name of its trace.
 #[derive(Drop)]
 pub struct Written<T> {
     cell: Cell<T, View, WrittenRule>,
 }
 
-/// The right of its holder.
+/// The right of the party that holds the value.
 pub type Holder<'a, T> = WritePermit<'a, T, View, WrittenRule>;
 
 impl<T> Written<T> {
@@ -75,7 +76,7 @@ impl<T> Written<T> {
     /// Takes the value, if nobody holds it.
     ///
     /// # Contract
-    /// What the holder finds is the value that was left last (`found`).
+    /// The holder finds the value that was left last (`found`).
     pub fn try_take(&self, seen: Watch<T>) -> (Option<Holder<'_, T>>, Watch<T>)
         requires { seen.name ≡ self.now.cell.name }
         ensures name { result.1.name ≡ seen.name }
@@ -94,7 +95,7 @@ impl<T> Written<T> {
 /// Releases the value.
 ///
 /// # Contract
-/// The value that the holder leaves is then the last entry of the trace (`left`).
+/// The value that the holder leaves is the last entry of the trace (`left`).
 pub fn let_go<T>(holder: Holder<'_, T>, seen: Watch<T>) -> Watch<T>
     requires { seen.name ≡ holder.key.name }
     ensures name { result.name ≡ seen.name }
@@ -139,10 +140,11 @@ pub fn read(lock: &Written<u64>, seen: Watch<u64>) -> (Option<u64>, Watch<u64>)
     }
 }
 
-/// One thread writes and another reads.
+/// Writes in one thread, and reads in another.
 ///
 /// # Contract
-/// If one thread wrote, and the other knows the same trace, the other read what the first one wrote (`same`).
+/// If the first thread wrote, and the other one knows the same trace, the other one read the value written
+/// (`same`).
 pub fn write_beside_read<W: Threads + Sync>(
     rt: &W,
     lock: &Written<u64>,

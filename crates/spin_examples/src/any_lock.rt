@@ -4,7 +4,7 @@ ghost use Rattle.std.specs.Prelude.{◌≤◌};
 use spin::lock::{Lock, SharedLock};
 use std::sync::Wait;
 
-/// Counts one more under any lock.
+/// Adds 1 to a number under any lock.
 pub fn count<L: Lock<u64>, W: Wait>(rt: &W, lock: &L) -> u64 {
     lock.with(rt, |number| {
         *number = number.wrapping_add(1);
@@ -12,7 +12,7 @@ pub fn count<L: Lock<u64>, W: Wait>(rt: &W, lock: &L) -> u64 {
     })
 }
 
-/// Tries to count one more. Returns `None` if the lock is held.
+/// Tries to add 1 to a number under any lock. Returns `None` if the lock is held.
 pub fn try_count<L: Lock<u64>>(lock: &L) -> Option<u64> {
     lock.try_with(|number| {
         *number = number.wrapping_add(1);
@@ -21,7 +21,7 @@ pub fn try_count<L: Lock<u64>>(lock: &L) -> Option<u64> {
     .ok()
 }
 
-/// Reads a number, possibly with other readers. Returns `most` if the number is larger.
+/// Reads a number under a lock. Other readers may read at the same time. Returns `most` if the number is larger.
 pub fn read_up_to<L: SharedLock<u64>, W: Wait>(rt: &W, lock: &L, most: u64) -> u64
     ensures { result ≤ most }
 {

@@ -1,4 +1,4 @@
-//! The programs of the guide that have no test. Each is a whole `lib.rt`.
+//! Programs of the guide that have no test. Each one is a whole `lib.rt`.
 pub mod calls;
 pub mod setting;
 pub mod table;

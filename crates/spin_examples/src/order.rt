@@ -1,4 +1,4 @@
-//! A caller's own order for the values of a `Growing`.
+//! An order of a caller's own for the values of a `Growing`.
 use spin_history::growing::Order;
 
 /// A version of a program, and its size.
@@ -8,7 +8,7 @@ pub struct Build {
     pub size: u64,
 }
 
-/// The order of builds: the version never falls.
+/// The order in which a build is followed by one of the same version or a later one.
 pub struct ByVersion;
 
 impl Order<Build> for ByVersion {

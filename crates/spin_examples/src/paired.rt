@@ -1,4 +1,5 @@
-//! Values with related logs: two registers with equally many writes, and a tally with the log of its totals.
+//! Values whose logs are related: two registers with equally many writes, and a tally with a log of its
+//! totals.
 ghost use Rattle.std.specs.Prelude.{◌≡◌, ◌<◌, [], Some, length};
 ghost use Rattle.spin_history.specs.Entries.{last};
 
@@ -17,7 +18,7 @@ pub struct Pair<H: History, K: History> {
     ghost even: { length left.log.entries ≡ length right.log.entries },
 }
 
-/// Writes both registers under the lock. The caller knows equally many writes of both.
+/// Writes both registers under the lock. Afterwards the caller knows equally many writes of each.
 pub fn write_both<H: History, K: History, W: Wait>(
     rt: &W,
     lock: &SpinMutex<Pair<H, K>>,
@@ -43,8 +44,8 @@ pub struct Audited<L: Ledger, H: History> {
     ghost tied: { tally.count ≡ totals.value },
 }
 
-/// Adds to the tally and logs the new total, under one lock. To a caller that has every share it returns the total,
-/// which is the last entry of the log.
+/// Adds to the tally and logs the new total, under one lock. If the caller has every share, the call returns
+/// the total, which is the last entry of the log.
 pub fn add_and_audit<L: Ledger, H: History, W: Wait>(
     rt: &W,
     lock: &SpinMutex<Audited<L, H>>,
@@ -66,7 +67,7 @@ pub fn add_and_audit<L: Ledger, H: History, W: Wait>(
     total
 }
 
-/// Work that opens the log of the second register, while that of the first is open.
+/// Work that opens the log of the second register, inside the work that opened the first.
 struct BesideLeft<'r, W, H: History> {
     rt: &'r W,
     values: (u64, u64),
@@ -108,12 +109,12 @@ impl<W: Wait> Work for WriteBoth<'_, W> {
     }
 }
 
-/// Writes two registers of one lock, and returns their last values. No file names their logs.
+/// Writes two registers under one lock, and returns their last values. The caller need not name their logs.
 pub fn write_a_pair<W: Wait>(rt: &W, values: (u64, u64)) -> (u64, u64) {
     open(WriteBoth { rt, values })
 }
 
-/// Work that opens the log of the totals, while a tally is open.
+/// Work that opens the log of the totals, inside the work that opened the tally.
 struct BesideTally<'r, W, L: Ledger> {
     rt: &'r W,
     more: u64,
@@ -169,8 +170,8 @@ impl<W: Wait> tally::Work for AddAndAudit<'_, W> {
     }
 }
 
-/// Adds to a tally whose totals are logged. Returns the total and the last entry of the log, which is the same. No file
-/// names the ledger or the log.
+/// Adds to a tally whose totals are logged. Returns the total and the last entry of the log, which are equal.
+/// The caller need not name the ledger or the log.
 pub fn audit_one<W: Wait>(rt: &W, more: u64) -> (u64, u64)
     ensures { result.0 ≡ result.1 }
 {

@@ -1,4 +1,4 @@
-//! What three threads with a pass each know of their calls of one `SpinMutex`.
+//! Three threads call one `SpinMutex`, each by a pass of its own. The contracts say what the passes know.
 ghost use Rattle.std.specs.Prelude.{◌≡◌, ◌⊎◌};
 ghost use mathlib.Core.List.{IsPrefix};
 ghost use Rattle.spin.specs.Passes.{history, lock_of, Looked, HeldOnce};
@@ -9,7 +9,7 @@ use spin::mutex::{SpinMutex, SpinMutexGuard};
 use std::sync::Wait;
 use std::thread::{Threads, join};
 
-/// Adds one. It acquires the lock and releases it, once.
+/// Adds 1. The pass acquires the lock and releases it, once.
 fn count<'a, W: Wait>(rt: &W, pass: Pass<'a, u64, Spin>) -> Pass<'a, u64, Spin>
     ensures made { HeldOnce pass.entry result }
     ensures lock { lock_of result ≡ lock_of pass.entry }
@@ -19,7 +19,8 @@ fn count<'a, W: Wait>(rt: &W, pass: Pass<'a, u64, Spin>) -> Pass<'a, u64, Spin>
     SpinMutex::unlock(guard, seen)
 }
 
-/// Doubles the value, by a hold in place of the guard. The release is the pass's next call.
+/// Doubles the value. The pass keeps the lock by a hold in place of the guard, and its next call is the
+/// release.
 pub fn double_by_a_hold<'a, W: Wait>(rt: &W, pass: Pass<'a, u64, Spin>) -> Pass<'a, u64, Spin>
     ensures lock { lock_of result ≡ lock_of pass.entry }
 {
@@ -39,7 +40,7 @@ fn look(pass: Pass<'_, u64, Spin>) -> (bool, Pass<'_, u64, Spin>)
     (set, pass)
 }
 
-/// Tries once to acquire the lock, and releases it at once if it did.
+/// Tries once to acquire the lock. If the try succeeds, releases the lock at once.
 pub fn try_once(lock: &SpinMutex<u64>) -> Pass<'_, u64, Spin> {
     match lock.pass().try_lock() {
         Ok((guard, seen)) => SpinMutex::unlock(guard, seen),
@@ -47,12 +48,12 @@ pub fn try_once(lock: &SpinMutex<u64>) -> Pass<'_, u64, Spin> {
     }
 }
 
-/// Two threads add one each, and a third one looks whether the lock is held.
+/// Adds 1 in each of two threads, while a third thread looks whether the lock is held.
 ///
 /// # Contract
-/// Each of the first two passes has acquired the lock and released it, once (`first`, `second`). The third one has
-/// looked once, and returns the answer (`looked`). Of each two of them, one knows a prefix of the lock's history that
-/// the other knows (`one_history`).
+/// Each of the first two passes has acquired the lock and released it, once (`first`, `second`). The third
+/// pass has looked once, and its answer is returned (`looked`). Of the first and the second pass, one knows
+/// a prefix of the history that the other knows. The same is true of the second and the third (`one_history`).
 pub fn count_beside_look<'a, W: Threads + Wait + Sync>(
     rt: &W,
     one: Pass<'a, u64, Spin>,

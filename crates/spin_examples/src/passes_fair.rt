@@ -1,4 +1,4 @@
-//! What three threads with a pass each know of their calls of one `FairMutex`.
+//! Three threads call one `FairMutex`, each by a pass of its own. The contracts say what the passes know.
 ghost use Rattle.std.specs.Prelude.{◌≡◌, ◌⊎◌};
 ghost use mathlib.Core.List.{IsPrefix};
 ghost use Rattle.spin.specs.FairPasses.{history, lock_of, name_of, starving_lock_of, Looked, HeldOnce, ServedOnce};
@@ -9,7 +9,7 @@ use spin::mutex::fair::{Pass, StarvingPass};
 use std::sync::Wait;
 use std::thread::{Threads, join};
 
-/// Adds one. It acquires the lock and releases it, once.
+/// Adds 1. The pass acquires the lock and releases it, once.
 fn count<'a, W: Wait>(rt: &W, pass: Pass<'a, u64, Spin>) -> Pass<'a, u64, Spin>
     ensures made { HeldOnce pass.entry result }
     ensures lock { lock_of result ≡ lock_of pass.entry }
@@ -28,7 +28,7 @@ fn look(pass: Pass<'_, u64, Spin>) -> (bool, Pass<'_, u64, Spin>)
     (held, pass)
 }
 
-/// Adds one as a starver, which acquires the lock and releases it, once.
+/// Adds 1 as a starver. The pass acquires the lock and releases it, once.
 fn count_served<'a, W: Wait>(rt: &W, starving: StarvingPass<'a, u64, Spin>) -> Pass<'a, u64, Spin>
     ensures made { ServedOnce starving.entry result }
     ensures lock { lock_of result ≡ starving_lock_of starving.entry }
@@ -38,7 +38,7 @@ fn count_served<'a, W: Wait>(rt: &W, starving: StarvingPass<'a, u64, Spin>) -> P
     FairMutex::unlock(guard, seen)
 }
 
-/// Adds one as a starver. Does nothing if too many threads starve.
+/// Adds 1 as a starver. Does nothing if too many threads starve.
 fn count_starving<'a, W: Wait>(rt: &W, lock: &'a FairMutex<u64>) -> Pass<'a, u64, Spin>
     ensures { lock_of result ≡ name_of lock.now }
 {
@@ -48,8 +48,8 @@ fn count_starving<'a, W: Wait>(rt: &W, lock: &'a FairMutex<u64>) -> Pass<'a, u64
     }
 }
 
-/// Calls `is_locked`, and then tries to acquire the lock, as a newcomer and as a starver. If a try succeeds it releases
-/// at once.
+/// Calls `is_locked`, and then tries to acquire the lock, first as a newcomer and then as a starver. After a
+/// try that succeeds, it releases the lock at once.
 pub fn look_and_try<'a, W: Wait>(rt: &W, lock: &'a FairMutex<u64>) -> (bool, Pass<'a, u64, Spin>) {
     let pass = lock.pass();
     let (held, pass) = look(pass);
@@ -68,7 +68,7 @@ pub fn look_and_try<'a, W: Wait>(rt: &W, lock: &'a FairMutex<u64>) -> (bool, Pas
     (held, pass)
 }
 
-// Tries as the only starver, and then as one of several. It gives up if the lock is held.
+// Tries to acquire the lock as the only starver, and then as one of several. It gives up if the lock is held.
 fn try_starving(starving: StarvingPass<'_, u64, Spin>) -> Pass<'_, u64, Spin> {
     let starving = match starving.try_lock_fair() {
         Ok((guard, seen)) => return FairMutex::unlock(guard, seen),
@@ -80,10 +80,10 @@ fn try_starving(starving: StarvingPass<'_, u64, Spin>) -> Pass<'_, u64, Spin> {
     }
 }
 
-/// Three threads add one each: two newcomers, and one that starves.
+/// Adds 1 in each of three threads: two newcomers and a starver.
 ///
 /// # Contract
-/// What any two of the three passes know of the lock's history are prefixes of one history.
+/// Of any two of the passes, one knows a prefix of the history that the other knows.
 pub fn count_by_three<'a, W: Threads + Wait + Sync>(
     rt: &W,
     lock: &'a FairMutex<u64>,

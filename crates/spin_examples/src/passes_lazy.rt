@@ -1,4 +1,4 @@
-//! What three threads with a pass each know of their calls of one `LazyLock`.
+//! Three threads call one `LazyLock`, each by a pass of its own. The contracts say what the passes know.
 ghost use Rattle.std.specs.Prelude.{◌≡◌, ◌⊎◌};
 ghost use mathlib.Core.List.{IsPrefix};
 ghost use Rattle.spin.specs.LazyPasses.{history, lock_of, name_of, Forced};
@@ -30,10 +30,10 @@ fn force<'a, W: Wait>(
     (*value, pass)
 }
 
-/// Three threads ask for the value. One of them makes it.
+/// Asks for the value in three threads. One of them makes it.
 ///
 /// # Contract
-/// Of any two of them, one knows a prefix of the history that the other knows.
+/// Of any two of the passes, one knows a prefix of the history that the other knows.
 pub fn force_by_three<'a, W: Threads + Wait + Sync>(
     rt: &W,
     lazy: &'a LazyLock<u64, Seven>,

@@ -1,4 +1,4 @@
-//! What three threads with a pass each know of their calls of one `Once`.
+//! Three threads call one `Once`, each by a pass of its own. The contracts say what the passes know.
 ghost use Rattle.std.specs.Prelude.{◌≡◌, ◌⊎◌};
 ghost use mathlib.Core.List.{IsPrefix};
 ghost use Rattle.spin.specs.OncePasses.{history, lock_of, name_of, CalledOnce, Looked};
@@ -26,10 +26,10 @@ fn look(pass: Pass<'_, u64, Spin>) -> (bool, Pass<'_, u64, Spin>)
     (there, pass)
 }
 
-/// Two threads call `call_once`, and a third one looks whether there is a value.
+/// Calls `call_once` in two threads, while a third thread looks whether there is a value.
 ///
 /// # Contract
-/// Of any two of them, one knows a prefix of the history that the other knows.
+/// Of any two of the passes, one knows a prefix of the history that the other knows.
 pub fn make_beside_look<'a, W: Threads + Wait + Sync>(
     rt: &W,
     once: &'a Once<u64>,

@@ -1,4 +1,4 @@
-//! What three threads with a pass each know of their calls of one read-write lock.
+//! Three threads call one read-write lock, each by a pass of its own. The contracts say what the passes know.
 ghost use Rattle.std.specs.Prelude.{◌≡◌, ◌⊎◌};
 ghost use mathlib.Core.List.{IsPrefix};
 ghost use Rattle.spin.specs.RwPasses.{history, lock_of, name_of, ReadOnce, WroteOnce, RaisedOnce, CountedReaders, CountedWriters};
@@ -8,7 +8,7 @@ use spin::rwlock::{Pass, RwLock};
 use std::sync::Wait;
 use std::thread::{Threads, join};
 
-/// Adds one, as the writer.
+/// Adds 1 as the writer.
 fn add<'a, W: Wait>(rt: &W, pass: Pass<'a, u64, Spin>) -> Pass<'a, u64, Spin>
     ensures made { WroteOnce pass.entry result }
     ensures lock { lock_of result ≡ lock_of pass.entry }
@@ -47,7 +47,7 @@ pub fn count_writers(pass: Pass<'_, u64, Spin>) -> (usize, Pass<'_, u64, Spin>)
     (writers, pass)
 }
 
-/// Acquires as an upgradable reader, becomes the writer, and doubles the value.
+/// Acquires the lock as an upgradable reader, becomes the writer, and doubles the value.
 pub fn double<'a, W: Wait>(rt: &W, pass: Pass<'a, u64, Spin>) -> Pass<'a, u64, Spin>
     ensures made { RaisedOnce pass.entry result }
     ensures lock { lock_of result ≡ lock_of pass.entry }
@@ -58,10 +58,10 @@ pub fn double<'a, W: Wait>(rt: &W, pass: Pass<'a, u64, Spin>) -> Pass<'a, u64, S
     RwLock::unlock(guard, seen)
 }
 
-/// One thread writes, one reads, and one counts the readers.
+/// Writes in one thread, reads in another, and counts the readers in a third.
 ///
 /// # Contract
-/// Of any two of them, one knows a prefix of the history that the other knows.
+/// Of any two of the passes, one knows a prefix of the history that the other knows.
 pub fn write_beside_readers<'a, W: Threads + Wait + Sync>(
     rt: &W,
     lock: &'a RwLock<u64>,
@@ -98,7 +98,7 @@ pub fn write_beside_readers<'a, W: Threads + Wait + Sync>(
     all
 }
 
-/// Adds one, and then reads the sum, by closures that see the value under the lock.
+/// Adds 1, and then reads the sum. Both use closures that get the value under the lock.
 pub fn add_and_read<'a, W: Wait>(rt: &W, pass: Pass<'a, u64, Spin>) -> (u64, Pass<'a, u64, Spin>)
     ensures lock { lock_of result.1 ≡ lock_of pass.entry }
 {
@@ -107,7 +107,7 @@ pub fn add_and_read<'a, W: Wait>(rt: &W, pass: Pass<'a, u64, Spin>) -> (u64, Pas
     (value, pass)
 }
 
-/// Tries each way once to acquire the lock, and releases it at once if it did.
+/// Tries once to acquire the lock in each way. After a try that succeeds, it releases the lock at once.
 pub fn try_each<'a, W: Wait>(rt: &W, pass: Pass<'a, u64, Spin>) -> Pass<'a, u64, Spin> {
     let pass = match pass.try_read(rt) {
         Ok((guard, seen)) => RwLock::unlock_shared(guard, seen),

@@ -1,4 +1,4 @@
-//! What three threads with a pass each know of their calls of one `TicketMutex`.
+//! Three threads call one `TicketMutex`, each by a pass of its own. The contracts say what the passes know.
 ghost use Rattle.std.specs.Prelude.{◌≡◌, ◌⊎◌};
 ghost use mathlib.Core.List.{IsPrefix};
 ghost use Rattle.spin.specs.TicketPasses.{history, lock_of, HeldOnce, Looked};
@@ -9,7 +9,7 @@ use spin::mutex::ticket::Pass;
 use std::sync::Wait;
 use std::thread::{Threads, join};
 
-/// Adds one. It acquires the lock and releases it, once.
+/// Adds 1. The pass acquires the lock and releases it, once.
 fn count<'a, W: Wait>(rt: &W, pass: Pass<'a, u64, Spin>) -> Pass<'a, u64, Spin>
     ensures made { HeldOnce pass.entry result }
     ensures lock { lock_of result ≡ lock_of pass.entry }
@@ -27,7 +27,7 @@ pub fn look(pass: Pass<'_, u64, Spin>) -> (bool, Pass<'_, u64, Spin>)
     (held, pass)
 }
 
-/// Tries once to acquire the lock, and releases it at once if it did.
+/// Tries once to acquire the lock. If the try succeeds, releases the lock at once.
 pub fn try_once(pass: Pass<'_, u64, Spin>) -> Pass<'_, u64, Spin> {
     match pass.try_lock() {
         Ok((guard, seen)) => TicketMutex::unlock(guard, seen),
@@ -35,11 +35,12 @@ pub fn try_once(pass: Pass<'_, u64, Spin>) -> Pass<'_, u64, Spin> {
     }
 }
 
-/// Three threads add one each.
+/// Adds 1 in each of three threads.
 ///
 /// # Contract
-/// In this call each pass has acquired the lock and released it, once (`first`, `second`, `third`). Of any two of them,
-/// one knows a prefix of the history that the other knows (`one_history`).
+/// In this call each pass has acquired the lock and released it, once (`first`, `second`, `third`). Of the
+/// first and the second pass, one knows a prefix of the history that the other knows. The same is true of the
+/// second and the third (`one_history`).
 pub fn count_by_three<'a, W: Threads + Wait + Sync>(
     rt: &W,
     one: Pass<'a, u64, Spin>,

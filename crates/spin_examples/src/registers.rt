@@ -1,4 +1,4 @@
-//! What callers of a register know of each other's writes.
+//! What the callers of one register know of each other's writes.
 ghost use Rattle.std.specs.Prelude.{◌≡◌, ◌⊎◌};
 ghost use mathlib.Core.List.{IsPrefix};
 ghost use Rattle.spin_history.specs.Entries.{Reads, Writes, Updates};
@@ -10,7 +10,7 @@ use std::marker::Brand;
 use std::sync::Wait;
 use std::thread::{Threads, join};
 
-/// Reads under two guards that are held at the same time. Both show the same value.
+/// Reads through two guards that are held at the same time. Both show the same value.
 pub fn read_under_two<T: Copy, H: History, W: Wait>(
     rt: &W,
     lock: &RwLock<Register<T, H>>,
@@ -24,7 +24,7 @@ pub fn read_under_two<T: Copy, H: History, W: Wait>(
     (first.read(seen), second.read(seen))
 }
 
-/// Reads, upgrades and writes. No write of another thread comes between.
+/// Reads the value, upgrades and writes. No other thread writes in between.
 pub fn read_and_write<T: Copy + Drop, H: History, W: Wait>(
     rt: &W,
     lock: &RwLock<Register<T, H>>,
@@ -98,8 +98,8 @@ fn two_writers<H: History + Send + Sync, W: Threads + Wait + Sync>(
     )
 }
 
-/// Writes from two threads while two others read. Each reader sees the writes in one order: what one saw is a prefix of
-/// what the other saw.
+/// Writes in two threads while two other threads read. Of the two readers, one saw a prefix of what the other
+/// saw of the log.
 pub fn two_write_two_read<H: History + Send + Sync, W: Threads + Wait + Sync>(
     rt: &W,
     lock: &RwLock<Register<u64, H>>,
@@ -153,7 +153,8 @@ fn four_threads_by<H: History + Send + Sync, W: Threads + Wait + Sync>(
     ((first, second), last)
 }
 
-/// Returns what two readers of a register that held 0 found while two threads wrote, and the last value.
+/// Lets two threads write to a register that held 0, while two others read. Returns what the readers found,
+/// and the last value.
 pub fn four_threads<W: Threads + Wait + Sync>(rt: &W, values: (u64, u64)) -> ((u64, u64), u64) {
     four_threads_by::<Brand, W>(rt, values, BlankLog::new())
 }

@@ -1,4 +1,4 @@
-//! Threads that add to a total, which is exactly what they added.
+//! Threads that add to a total, which is exactly the sum of what they added.
 ghost use Rattle.std.specs.Prelude.{◌≡◌, ◌+◌};
 
 use spin::lock::Lock;
@@ -9,7 +9,7 @@ use std::sync::Wait;
 use std::sync::ledger::{Blank, Ledger, Share};
 use std::thread::{Threads, join};
 
-/// Adds under any lock. Returns how much it added: 0 if the sum would not fit.
+/// Adds to a tally under any lock. Returns the amount added, which is 0 if the sum would not fit.
 pub fn add<L: Ledger, K: Lock<Tally<L>>, W: Wait>(
     rt: &W,
     lock: &K,
@@ -61,7 +61,7 @@ fn add_both<L: Ledger + Send + Sync, W: Threads + Wait + Sync>(
     (first, second, total)
 }
 
-/// Adds from two threads. The total is the sum of what each says that it added.
+/// Adds in two threads. The total is the sum of the amounts that the two report.
 pub fn add_from_two<W: Threads + Wait + Sync>(rt: &W, values: (u64, u64)) -> (u64, u64, u64)
     ensures { result.2 ≡ result.0 + result.1 }
 {

@@ -1,4 +1,4 @@
-//! A version that threads raise, and that never falls for a reader.
+//! A version that threads raise. No reader sees it fall.
 ghost use Rattle.std.specs.Prelude.{◌≡◌, ◌≤◌, Some};
 ghost use Rattle.spin_history.specs.Entries.{last};
 
@@ -32,10 +32,10 @@ fn raise<H: History, W: Wait>(
     }
 }
 
-/// What two reads found, and what is known of the version since.
+/// The numbers that two reads found, and a snapshot of the log afterwards.
 type Watched<H> = ((u64, u64), Snapshot<u64, H>);
 
-/// Reads twice. The second value is not below the first, whoever raises the version in between.
+/// Reads twice. The second number is not below the first, whichever thread raised the version in between.
 fn watch<H: History, W: Wait>(
     rt: &W,
     version: &Version<H>,
@@ -103,8 +103,8 @@ fn race_by<H: History + Send + Sync, W: Threads + Wait + Sync>(
     (one, two, last)
 }
 
-/// Raises a version from 0 in two threads, while two others read it twice. No reader sees it fall, or above its last
-/// value.
+/// Raises a version from 0 in two threads, while two other threads read it twice each. No reader sees it
+/// fall, or exceed its last value.
 pub fn race<W: Threads + Wait + Sync>(rt: &W, times: u64) -> ((u64, u64), (u64, u64), u64)
     ensures first { (result.0.0 ≤ result.0.1) × (result.0.1 ≤ result.2) }
     ensures second { (result.1.0 ≤ result.1.1) × (result.1.1 ≤ result.2) }
@@ -112,7 +112,7 @@ pub fn race<W: Threads + Wait + Sync>(rt: &W, times: u64) -> ((u64, u64), (u64, 
     race_by::<Brand, W>(rt, times, BlankLog::new())
 }
 
-/// Reads through a guard that is never dropped, and then again. What it saw first it still knows.
+/// Reads through a guard that is never dropped, and then reads again. What the first read saw is still known.
 pub fn watch_leaked<H: History, W: Wait>(
     rt: &W,
     version: &Version<H>,
@@ -126,7 +126,7 @@ pub fn watch_leaked<H: History, W: Wait>(
     (first, register::read_shared(rt, version, seen))
 }
 
-/// A watcher that leaks its guard, over a version of its own.
+/// Work that watches a version of its own and leaks a guard.
 #[derive(Drop)]
 pub struct WatchLeaked<'r, W>(pub &'r W);
 
@@ -145,7 +145,8 @@ impl<W: Wait> Work for WatchLeaked<'_, W> {
     }
 }
 
-/// Watches a version that was raised once, with a guard that is never dropped. No file names its log.
+/// Watches a version that was raised once, with a guard that is never dropped. The caller need not name its
+/// log.
 pub fn watch_one<W: Wait>(rt: &W) -> (u64, u64)
     ensures { result.0 ≤ result.1 }
 {

@@ -1,4 +1,4 @@
-//! What a thread reads under a lock is the value that was written last in the lock's history.
+//! A thread that acquires a lock reads the value that was written last in the lock's history.
 ghost use Rattle.std.specs.Prelude.{◌≡◌, ◌⊎◌, true};
 ghost use mathlib.Core.List.{IsPrefix};
 ghost use Rattle.spin.specs.Passes.{history, lock_of, name_of, opening, opening_of};
@@ -10,7 +10,7 @@ use spin::mutex::spin::Pass;
 use std::sync::Wait;
 use std::thread::{Threads, join};
 
-/// Writes the value. It is then the last one in the history that the pass knows.
+/// Writes the value. Afterwards it is the last one in the history that the pass knows.
 fn write<'a, W: Wait>(rt: &W, pass: Pass<'a, u64, Spin>, value: u64) -> Pass<'a, u64, Spin>
     ensures left { IsLast (opening_of pass.entry) (history result) value }
     ensures lock { lock_of result ≡ lock_of pass.entry }
@@ -30,12 +30,12 @@ fn read<'a, W: Wait>(rt: &W, pass: Pass<'a, u64, Spin>) -> (u64, Pass<'a, u64, S
     (value, SpinMutex::unlock(guard, seen))
 }
 
-/// One thread writes a value, and one reads.
+/// Writes a value in one thread, and reads in another.
 ///
 /// # Contract
-/// One of them knows a prefix of the lock's history that the other knows (`one_history`). The value written is the last
-/// one in the history that the writer knows (`left`). The value read is the last one in the history that the reader
-/// knows (`found`).
+/// Of the two passes, one knows a prefix of the history that the other knows (`one_history`). The value
+/// written is the last one in the history that the writer knows (`left`). The value read is the last one in
+/// the history that the reader knows (`found`).
 pub fn write_beside_read<'a, W: Threads + Wait + Sync>(
     rt: &W,
     lock: &'a SpinMutex<u64>,

@@ -1,4 +1,4 @@
-//! What readers under an `RwLock` read is the value that was written last in the lock's history.
+//! A reader of an `RwLock` reads the value that was written last in the lock's history.
 ghost use Rattle.std.specs.Prelude.{◌≡◌, ◌⊎◌, true};
 ghost use mathlib.Core.List.{IsPrefix};
 ghost use Rattle.spin.specs.RwPasses.{history, lock_of, name_of, opening, opening_of};
@@ -9,7 +9,7 @@ use spin::rwlock::{Pass, RwLock};
 use std::sync::Wait;
 use std::thread::{Threads, join};
 
-/// Writes the value. It is then the last one in the history that the pass knows.
+/// Writes the value. Afterwards it is the last one in the history that the pass knows.
 fn write<'a, W: Wait>(rt: &W, pass: Pass<'a, u64, Spin>, value: u64) -> Pass<'a, u64, Spin>
     ensures left { IsLast (opening_of pass.entry) (history result) value }
     ensures lock { lock_of result ≡ lock_of pass.entry }
@@ -19,7 +19,7 @@ fn write<'a, W: Wait>(rt: &W, pass: Pass<'a, u64, Spin>, value: u64) -> Pass<'a,
     RwLock::unlock(guard, seen)
 }
 
-/// Reads the value, which other readers may share. It is the last one in the history that the pass knows.
+/// Reads the value. It is the last one in the history that the pass knows. Other readers may read at the same time.
 fn read<'a, W: Wait>(rt: &W, pass: Pass<'a, u64, Spin>) -> (u64, Pass<'a, u64, Spin>)
     ensures found { IsLast (opening_of pass.entry) (history result.1) result.0 }
     ensures lock { lock_of result.1 ≡ lock_of pass.entry }
@@ -29,12 +29,13 @@ fn read<'a, W: Wait>(rt: &W, pass: Pass<'a, u64, Spin>) -> (u64, Pass<'a, u64, S
     (value, RwLock::unlock_shared(guard, seen))
 }
 
-/// One thread writes a value, and two read.
+/// Writes a value in one thread, and reads in two others.
 ///
 /// # Contract
-/// Of any two of them, one knows a prefix of the history that the other knows (`written_read`, `both_read`). The value
-/// that was written is the last one in the history that the writer knows (`left`). What each reader read is the last
-/// one in the history that this reader knows (`first`, `second`).
+/// Of the writer and the first reader, one knows a prefix of the history that the other knows
+/// (`written_read`). The same is true of the two readers (`both_read`). The value written is the last one in
+/// the history that the writer knows (`left`). The value that a reader read is the last one in the history
+/// that this reader knows (`first`, `second`).
 pub fn write_beside_readers<'a, W: Threads + Wait + Sync>(
     rt: &W,
     lock: &'a RwLock<u64>,

@@ -9,7 +9,7 @@ use Rattle.spin_explore_run.specs.Options.{with_option, options_from}
 all_of_rest : {X : Type 0} (xs : List X) (n : ℕ) → take (length xs - n) (drop n xs) ≡ drop n xs
 all_of_rest xs n = grind (arith, common_steps, length-drop)
 
--- after two words the others are left
+-- an option takes two words, and the others are left
 pub next_options : (o p : Options) (rest : List (Bor (List ℕ))) (d e : Bor (List ℕ)) (word : List ℕ) (number : Option ℕ) (found : Option Options) → 2 ≤ length rest
     → word ≡ (get_or rest 0 d).now → number ≡ last_number (words_of (get_or rest 1 e).now) → found ≡ with_option o word number → found ≡ Some p
     → options_from p (map (λ w. w.now) (take (length rest - 2) (drop 2 rest))) ≡ options_from o (map (λ w. w.now) rest)

@@ -8,7 +8,7 @@ use Rattle.spin_explore_run.specs.declared.options.Options.{Options}
 abbrev pub no_options : Options
 no_options = record { schedule = None; limit = None }
 
--- the options with one more, given by a word and a number; a later option replaces an earlier one of the same name
+-- the options with one more, given by its word and its number; a later option replaces an earlier one of the same name
 unfoldable pub with_option : Options → List ℕ → Option ℕ → Option Options
 with_option o word number =
     number >>= λ n. (if bytes_eq word (codes "--schedule") then Some (record { schedule = Some n; limit = o.limit })

@@ -13,8 +13,8 @@ use crate::options::{Options, options_of};
 use spin_text::{Sink, Source, read_all, write_whole};
 use std::alloc::Global;
 
-/// Reads a text from `input`, and writes all that it may result in to `output`. Returns `true` if the output says that
-/// a run can get stuck.
+/// Reads a text from `input`, and writes to `output` all that its programs may result in. Returns `true` if
+/// the output says that a run can get stuck.
 fn run<I: Source, O: Sink>(
     alloc: Global,
     options: Options,
@@ -48,26 +48,27 @@ fn run<I: Source, O: Sink>(
 
 /// Runs the program on these words and streams, and returns the status of the process.
 ///
-/// It reads a text from `input`: a schedule as [`world_text`](spin_text::world_text) reads it, but without the moves
-/// `step` and `weak`. The lines of one party, in their order, are its program. In place of the header the text may
-/// have lines `lock NAME HEADER`, each with a header that lacks the number of parties. Then each move names its lock:
-/// `PARTY NAME MOVE`.
+/// It reads a text from `input`. The text is a schedule as [`world_text`](spin_text::world_text) reads it,
+/// but without the moves `step` and `weak`. The lines of one party, in their order, are its program. In place
+/// of the header the text may begin with lines `lock NAME HEADER`, each with a header that lacks the number
+/// of parties. Then each move names its lock: `PARTY NAME MOVE`.
 ///
-/// It writes each outcome of all interleavings, each way to get stuck with a schedule that leads there, and how many
-/// states it has seen. The words `--schedule NUMBER` ask for a schedule of the outcome with this number instead. The
-/// words `--limit STATES` bound the search. A run that fails writes one line with the reason on `errors`.
+/// It writes each outcome that any interleaving has, each way to get stuck with a schedule that leads there,
+/// and how many states it has seen. The words `--schedule NUMBER` ask for a schedule of the outcome with this
+/// number instead. The words `--limit STATES` bound the search. A run that fails writes one line with the
+/// reason to `errors`.
 ///
 /// # Contract
 /// The caller gives streams that have not failed. The status is one of these:
 ///
 /// - 0: what was asked for is written (`Does`). No run can get stuck, or a schedule was asked for.
 /// - 3: what was asked for is written (`Does`), and some run can get stuck.
-/// - 1: memory was refused, a read or a write failed, or there are more states than the limit. Only a failed write
-///   leaves a beginning of the text on `output`.
+/// - 1: an allocation, a read or a write failed, or there are more states than the limit. Only a failed write leaves
+///   a beginning of the text on `output`.
 /// - 2: the words are no command, a line of the text is wrong, or there is no such outcome.
 ///
-/// The status 1 or 2 is that of a fault (`status_of`). The run stopped as that fault says (`StopsProgram`), and the
-/// line of the fault is on `errors` (`Told`).
+/// Status 1 or 2 is that of a fault (`status_of`). The run stopped as the fault says (`StopsProgram`), and
+/// the fault's line is on `errors` (`Told`).
 pub fn program<I: Source, O: Sink, E: Sink>(
     alloc: Global,
     words: &[&str],

@@ -18,13 +18,13 @@ pub enum Fault {
     Memory,
     /// A read of standard input failed.
     Read,
-    /// The first line of standard input that does not belong to a text, counted from 1.
+    /// The first line of standard input that does not belong to a text of programs, counted from 1.
     BadLine(usize),
     /// There are more states than the limit; this many were seen.
     TooMany(usize),
     /// There is no outcome with the number that was asked for.
     NoOutcome,
-    /// The search did not settle from which states a run can end. No text is known for which this happens.
+    /// The search did not find out from which states a run can end. No text is known for which this happens.
     Unsettled,
     /// A write to standard output failed.
     Write,
@@ -72,7 +72,7 @@ impl From<Stop> for Fault {
 }
 
 impl Fault {
-    /// Returns the status of the process.
+    /// Returns the exit status of the process for this fault.
     fn status(self) -> u8
         ensures { result ≡ status_of self }
     {
@@ -82,7 +82,7 @@ impl Fault {
         }
     }
 
-    /// Returns the words of the fault's line, and the number behind them if there is one.
+    /// Returns the words of the fault's line, and the number after them if there is one.
     fn line(self) -> (&'static [u8], Option<u64>)
         ensures line { failure_line result.0.now result.1 ≡ line_of self }
         ensures short { length result.0.now ≤ 64 }
@@ -103,7 +103,7 @@ impl Fault {
     }
 }
 
-/// Writes the line of the fault, and returns its status. A failed write changes no status.
+/// Writes the line of the fault, and returns its status. If the write fails, the status is the same.
 pub fn report_fault<E: Sink>(fault: Fault, errors: &mut E) -> u8
     requires { E.failed errors.old ≡ false }
     ensures status { result ≡ status_of fault }

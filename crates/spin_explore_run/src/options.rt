@@ -34,7 +34,7 @@ fn with_option(options: Options, word: &[u8], number: Option<u64>) -> Option<Opt
     }
 }
 
-/// Returns what the words ask for, or `None` if they ask for nothing that the program does.
+/// Returns what the words ask for, or `None` if they are no command.
 pub fn options_of(words: &[&str]) -> Option<Options>
     ensures { result ≡ options_from no_options (texts_of words.now) }
 {

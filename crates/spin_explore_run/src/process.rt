@@ -14,13 +14,13 @@ use std::env::Env;
 
 /// Runs [`program`] on the arguments of the process.
 ///
-/// Arguments that are not text are treated as no command. If there is no memory for the arguments, the call only writes
-/// a line about it on `errors`.
+/// If an argument is not text, the arguments are treated as no command. If allocating the arguments fails,
+/// the call only writes a line about it to `errors`.
 ///
 /// # Contract
-/// The caller gives streams that have not failed. Either the status means what it means for `program`, for some words.
-/// Or the run failed before the words were known, by wrong usage or for lack of memory (`IsWordless`). Then `input` and
-/// `output` are unchanged.
+/// The caller gives streams that have not failed. Either the status means what it means for [`program`], for
+/// some words. Or the run failed before the words were known: an argument was not text, or an allocation
+/// failed (`IsWordless`). Then `input` and `output` are unchanged.
 pub fn program_over_arguments<I: Source, O: Sink, E: Sink, R: Env + AllocGlobal>(
     rt: &R,
     input: &mut I,

@@ -9,11 +9,11 @@ module _ {T : Type 0} where
   last_of (y ∷ []) x = refl
   last_of (y ∷ z ∷ l) x = last_of (z ∷ l) x
 
-  -- the same for a list that is known to be this one
+  -- if m is the list l with x behind it, x is the last entry of m
   pub last_is : (m l : List T) (x : T) → m ≡ l ++ x ∷ [] → last m ≡ Some x
   last_is m l x e = subst (λ (z : List T). last z ≡ Some x) (sym e) (last_of l x)
 
-  -- what holds of two values holds of equal ones
+  -- a relation of two values holds of values equal to them
   pub at_both : (R : T → T → Type 0) {x x' y y' : T} → x ≡ x' → y ≡ y' → R x y → R x' y'
   at_both R {x} {x'} {y} {y'} e d h = subst (λ (z : T). R z y') e (subst (R x) d h)
 
@@ -32,7 +32,7 @@ module _ {T : Type 0} where
     over (x ∷ []) t w h e = first x t w h e
     over (x ∷ y ∷ k) t w h e = over (y ∷ k) t w h.1 e
 
-    -- in the order, the last entry is at or after that of each prefix
+    -- in an ordered list, the last entry is at or after the last entry of each prefix
     pub later : (k l : List T) (w : T) → IsPrefix k l → InOrder le l → last l ≡ Some w → IsAtOrAfter le k w
     later k l w p h e = over k p.0 w (subst (InOrder le) (sym p.1) h) (subst (λ (z : List T). last z ≡ Some w) (sym p.1) e)
 
@@ -42,7 +42,7 @@ module _ {T : Type 0} where
     goes_on (y ∷ []) v x h e up = (subst (λ (z : T). le z x) (sym (ap (from y) e)) up, tt)
     goes_on (y ∷ z ∷ l) v x h e up = (h.0, goes_on (z ∷ l) v x h.1 e up)
 
-    -- if all that a caller has seen is at or before v, then it is at or before x
+    -- if v is at or after all that a caller has seen, and x may follow v, then x is at or after it too
     pub at_or_after : (k : List T) (v x : T) → IsAtOrAfter le k v → le v x → IsAtOrAfter le k x
     at_or_after k v x = by_last (last k)
       where

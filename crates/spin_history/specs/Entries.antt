@@ -1,4 +1,4 @@
--- The entries of a log: what readers and writers learn of them, and entries that are in an order.
+-- What readers and writers learn of a log's entries, and when entries are in an order.
 use Rattle.std.specs.Prelude.{◌≡◌, List, [], ◌∷◌, ◌++◌, Option, None, Some, IfSome, ⊤}
 use mathlib.Core.List.{IsPrefix}
 use mathlib.Core.HLevel.{×_prop, Unit-prop}
@@ -8,19 +8,19 @@ last [] = None
 last (x ∷ []) = Some x
 last (x ∷ y ∷ l) = last (y ∷ l)
 
--- a caller that knew `old` reads x, and then knows `new`
+-- a caller that knew the entries `old` reads x, and then knows `new`
 abbrev pub Reads : {T : Type 0} → List T → T → List T → Type 0
 Reads old x new = IsPrefix old new × (last new ≡ Some x)
 
--- a caller that knew `old` writes x, and then knows `new`
+-- a caller that knew the entries `old` writes x, and then knows `new`
 abbrev pub Writes : {T : Type 0} → List T → T → List T → Type 0
 Writes {T} old x new = (between : List T) × (new ≡ (old ++ between) ++ x ∷ [])
 
--- a caller that knew `old` finds x and writes y, with no entry in between, and then knows `new`
+-- a caller that knew the entries `old` finds x and writes y, with no entry in between, and then knows `new`
 abbrev pub Updates : {T : Type 0} → List T → T → T → List T → Type 0
 Updates {T} old x y new = (found : List T) × (Reads old x found × (new ≡ found ++ y ∷ []))
 
--- in the order, each entry may follow the one before it
+-- the entries are in order: each may follow the one before it
 abbrev pub InOrder : {T : Type 0} → (T → T → Type 0) → List T → Type 0
 InOrder le [] = ⊤
 InOrder le (x ∷ []) = ⊤
@@ -31,12 +31,12 @@ InOrder-prop le p [] = Unit-prop
 InOrder-prop le p (x ∷ []) = Unit-prop
 InOrder-prop le p (x ∷ y ∷ l) = ×_prop (p x y) (InOrder-prop le p (y ∷ l))
 
--- in the order, x may follow the last of these entries
+-- x may follow the last of the entries `seen`, if there is one
 abbrev pub IsAtOrAfter : {T : Type 0} → (T → T → Type 0) → List T → T → Type 0
 IsAtOrAfter le seen x = IfSome (last seen) (λ before. le before x)
 
--- The same for values in an order. The value read or written may follow the last value that the caller saw, and all
--- that it knows is in order.
+-- The same for values in an order. The value may follow the last one that the caller saw, and all entries that the caller then knows are in
+-- order.
 abbrev pub ReadsIn : {T : Type 0} → (T → T → Type 0) → List T → T → List T → Type 0
 ReadsIn le old x new = IsAtOrAfter le old x × (InOrder le new × Reads old x new)
 

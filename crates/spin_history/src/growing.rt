@@ -1,5 +1,5 @@
-//! Orders of values, and a value that changes only in an order of its caller's choice. Begin with [`Growing`]; the
-//! functions of [`register`](crate::register) work on such a value under a lock.
+//! Orders of values, and a register whose value changes only as an order allows. Begin with [`Growing`]. The
+//! functions of [`register`](crate::register) work on such a register under a lock.
 ghost use Rattle.std.specs.Prelude.{◌≡◌};
 
 use crate::register::Register;
@@ -54,7 +54,7 @@ pub trait Order<T> {
     ghost transitive: { (x y z : T) → le x y → le y z → le x z };
 }
 
-/// The order in which any value may follow any other. A plain [`Register`] uses it.
+/// The order in which any value may follow any other: the default order of a [`Register`].
 pub struct Unordered;
 
 impl<T> Order<T> for Unordered {
@@ -70,7 +70,7 @@ impl<T> Order<T> for Unordered {
     ghost transitive = { λ x y z h k. tt };
 }
 
-/// The order of numbers: they never fall.
+/// The order in which a number never falls.
 pub struct Ascending;
 
 impl Order<u64> for Ascending {
@@ -87,7 +87,7 @@ impl Order<u64> for Ascending {
     ghost transitive = { λ x y z h k. le_trans h k };
 }
 
-/// A register whose values change only as the order `P` allows. After a caller has seen a value, it never reads an
+/// A register whose values change only as the order `P` allows. A caller that has seen a value never reads an
 /// earlier one.
 ///
 /// # Examples

@@ -1,5 +1,5 @@
-//! A log that only grows, and snapshots of it, as ghost state: tokens that have no bytes and take no steps. Begin with
-//! [`BlankLog::new`] and [`Snapshot`].
+//! A log that only grows, and snapshots of it. Both are ghost state: tokens that have no bytes and cost
+//! nothing at run time. Begin with [`BlankLog::new`] and [`Snapshot`].
 ghost use Rattle.std.specs.Prelude.{◌≡◌, ◌⊎◌, ℕ, List, [], ◌∷◌, ◌++◌, ⊤};
 ghost use Rattle.std.specs.Coded.{coded_list};
 ghost use mathlib.Core.List.{IsPrefix};
@@ -9,9 +9,9 @@ ghost use Rattle.spin_history.specs.History.{blank_owns, closed_owns};
 
 use std::marker::{Brand, Model, PhantomData};
 
-/// The name of a log in the types of its tokens. Tokens of one type belong to one log.
+/// The name of a log, as a type. All tokens with the same `H` belong to one log.
 ///
-/// A caller takes a type parameter `H: History`. Where it opens the log it passes `Brand` for `H`.
+/// Generic code takes a type parameter `H: History`. The code that opens the log passes `Brand` for `H`.
 pub trait History {
     ghost name: { ℕ };
 }
@@ -20,7 +20,7 @@ impl History for Brand {
     ghost name = { 0 };
 }
 
-/// A new log that has no type yet. [`open`](BlankLog::open) gives it one.
+/// A new log, whose entries have no type yet. [`open`](BlankLog::open) gives them one.
 pub struct BlankLog {
     marker: PhantomData<()>,
     pub ghost name: { ℕ },
@@ -30,11 +30,11 @@ impl Model for BlankLog {
     ghost also_owns = { λ blank. blank_owns blank.name };
 }
 
-/// Work that has a log of its own. [`open`] names that log.
+/// Work that uses a log of its own. [`open`] names that log.
 ///
 /// # Contract
-/// `asks` is what the work asks of its own fields, and `gives` says which answers it may give. Both say nothing unless
-/// the work defines them.
+/// `asks` says what has to hold of the fields of the work, and `gives` which answers it may give. Each says
+/// nothing if the work does not define it.
 pub trait Work {
     type Answer;
 
@@ -45,7 +45,7 @@ pub trait Work {
     /// Does the work with a log that `H` names.
     ///
     /// # Contract
-    /// What the work asks has to hold, and `H` has to name the log. The answer is one that the work may give.
+    /// `asks` has to hold of the work, and `H` has to name the log. The answer is one that `gives` allows.
     fn run<H: History + Send + Sync>(self, blank: BlankLog) -> Self::Answer
         requires asked { asks self }
         requires name { blank.name ≡ H.name }
@@ -60,10 +60,10 @@ fn open_by<K: Work, H: History + Send + Sync>(work: K, blank: BlankLog) -> K::An
     work.run::<H>(blank)
 }
 
-/// Names a new log, and does the work with it. The work may open another log inside.
+/// Names a new log, and does the work with it. Inside, the work may open another log.
 ///
 /// # Contract
-/// What the work asks has to hold. The answer is one that the work may give.
+/// `asks` has to hold of the work. The answer is one that `gives` allows.
 ///
 /// # Examples
 /// ```
@@ -94,10 +94,10 @@ pub fn open<K: Work>(work: K) -> K::Answer
     open_by::<K, Brand>(work, BlankLog::new())
 }
 
-/// A monotone log: a list that only grows, and the right to append to it. There is one for each history.
+/// A monotone log: a list that only grows, with the right to append to it. Each `H` has one.
 ///
-/// A log is kept with the value that it is about, under the same lock. The struct that has both says in an invariant of
-/// its own how they belong together, as [`Register`](crate::register::Register) does.
+/// A log is kept together with the value that it is about, under the same lock. A struct that has both
+/// relates them by an invariant, as [`Register`](crate::register::Register) does.
 pub struct Log<T, H: History> {
     marker: PhantomData<(T, H)>,
     pub ghost entries: { List T } by { coded_list T.code },
@@ -109,7 +109,7 @@ impl<T, H: History> Model for Log<T, H> {
     ghost also_shares = { λ log _ κ. log_shares T.row.coded.code H.name log.entries κ };
 }
 
-/// A lower bound of a log: its entries are a prefix of the log's, now and ever after.
+/// A lower bound of a log: its entries are a prefix of the log, now and for ever.
 ///
 /// Any number of threads may each have a snapshot, whether or not they hold the lock.
 pub struct Snapshot<T, H: History> {
@@ -123,7 +123,7 @@ impl<T, H: History> Model for Snapshot<T, H> {
     ghost also_shares = { λ snapshot _ κ. said (known_owns T.row.coded.code H.name snapshot.entries) κ };
 }
 
-/// A log to which no thread appends any more. Every snapshot is a prefix of it.
+/// A log to which no thread can append any more. Every snapshot is a prefix of it.
 pub struct ClosedLog<T, H: History> {
     marker: PhantomData<(T, H)>,
     pub ghost entries: { List T } by { coded_list T.code },
@@ -136,14 +136,14 @@ impl<T, H: History> Model for ClosedLog<T, H> {
 }
 
 impl BlankLog {
-    /// Creates a log that has no type yet.
+    /// Creates a log whose entries have no type yet.
     pub fn new() -> BlankLog {
         BlankLog {
             marker: PhantomData,
         }
     }
 
-    /// Opens the log as that of the history `H`.
+    /// Opens the log under the name `H`, with entries of type `T`.
     ///
     /// # Contract
     /// `H` has to name this log: the caller passes `Brand` for `H`. The log is empty.
@@ -162,7 +162,7 @@ impl<T, H: History> Log<T, H> {
     /// Appends an entry.
     ///
     /// # Contract
-    /// The log has its former entries, and then this one.
+    /// The log has its former entries, followed by `value`.
     pub fn append(&mut self, value: &T)
         ensures { self.new.entries ≡ self.old.entries ++ value.now ∷ [] }
     {}
@@ -170,7 +170,7 @@ impl<T, H: History> Log<T, H> {
     /// Returns a snapshot of all entries so far.
     ///
     /// # Contract
-    /// It has all entries of the log.
+    /// The snapshot has all entries of the log.
     pub fn snapshot(&self) -> Snapshot<T, H>
         ensures { result.entries ≡ self.now.entries }
     {
@@ -190,15 +190,15 @@ impl<T, H: History> Log<T, H> {
     /// Compares two references to the log that are held at the same time.
     ///
     /// # Contract
-    /// They show the same entries. So two readers that hold a lock at the same time read the same value.
+    /// Both show the same entries. So two readers that hold a lock at the same time read the same value.
     pub fn same(&self, other: &Log<T, H>)
         ensures { self.now.entries ≡ other.now.entries }
     {}
 
-    /// Closes the log: no thread appends to it any more.
+    /// Closes the log: no thread can append to it any more.
     ///
     /// # Contract
-    /// The closed log has all entries.
+    /// The closed log has all entries of the log.
     pub fn close(self) -> ClosedLog<T, H>
         ensures { result.entries ≡ self.entries }
     {
@@ -210,10 +210,10 @@ impl<T, H: History> Log<T, H> {
 }
 
 impl<T, H: History> ClosedLog<T, H> {
-    /// Returns a copy.
+    /// Returns a copy of the closed log.
     ///
     /// # Contract
-    /// It has the same entries.
+    /// The copy has the same entries.
     pub fn copy(&self) -> ClosedLog<T, H>
         ensures { result.entries ≡ self.now.entries }
     {
@@ -222,20 +222,20 @@ impl<T, H: History> ClosedLog<T, H> {
         }
     }
 
-    /// Brings a snapshot up to date, for ever.
+    /// Brings a snapshot up to date. The log is closed, so it stays up to date.
     ///
     /// # Contract
-    /// That of [`Log::observe`].
+    /// Like that of [`Log::observe`].
     pub fn observe(&self, snapshot: &mut Snapshot<T, H>)
         ensures { IsPrefix snapshot.old.entries self.now.entries × (snapshot.new.entries ≡ self.now.entries) }
     {}
 }
 
 impl<T, H: History> Snapshot<T, H> {
-    /// Returns a copy.
+    /// Returns a copy of the snapshot.
     ///
     /// # Contract
-    /// It has the same entries.
+    /// The copy has the same entries.
     pub fn copy(&self) -> Snapshot<T, H>
         ensures { result.entries ≡ self.now.entries }
     {
@@ -247,15 +247,15 @@ impl<T, H: History> Snapshot<T, H> {
     /// Compares two snapshots of one log.
     ///
     /// # Contract
-    /// One is a prefix of the other.
+    /// The entries of one snapshot are a prefix of the other's.
     pub fn compare(&self, other: &Snapshot<T, H>)
         ensures { IsPrefix self.now.entries other.now.entries ⊎ IsPrefix other.now.entries self.now.entries }
     {}
 
-    /// Merges what another snapshot knows into this one.
+    /// Adds what another snapshot knows to this one.
     ///
     /// # Contract
-    /// Both are prefixes of what this one has afterwards.
+    /// The former entries of both snapshots are prefixes of the entries that this one has afterwards.
     pub fn merge(&mut self, other: &Snapshot<T, H>)
         ensures { IsPrefix self.old.entries self.new.entries × IsPrefix other.now.entries self.new.entries }
     {}
@@ -285,20 +285,20 @@ impl<T, H: History> Drop for ClosedLog<T, H> {
     }
 }
 
-// SAFETY: a token has no bytes, and what it owns names no thread.
+// SAFETY: a token has no bytes, and what it owns does not depend on a thread.
 unsafe impl<T, H: History> Send for Log<T, H> {}
 
-// SAFETY: a shared log tells its entries and no more.
+// SAFETY: a shared log tells only its entries.
 unsafe impl<T, H: History> Sync for Log<T, H> {}
 
-// SAFETY: like a log.
+// SAFETY: a snapshot has no bytes, and what it knows holds on any thread.
 unsafe impl<T, H: History> Send for Snapshot<T, H> {}
 
-// SAFETY: like a log.
+// SAFETY: a shared snapshot tells only its entries.
 unsafe impl<T, H: History> Sync for Snapshot<T, H> {}
 
-// SAFETY: like a log.
+// SAFETY: a closed log has no bytes, and what it knows holds on any thread.
 unsafe impl<T, H: History> Send for ClosedLog<T, H> {}
 
-// SAFETY: like a log.
+// SAFETY: a shared closed log tells only its entries.
 unsafe impl<T, H: History> Sync for ClosedLog<T, H> {}

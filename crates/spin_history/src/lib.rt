@@ -1,8 +1,8 @@
 //! What callers know of other threads' writes under a lock: a log that only grows, with snapshots, and the types that
 //! use it. It is ghost state, and changes no lock.
 //!
-//! Begin with [`register::Register`]. A [`growing::Growing`] value follows an order, and [`tally::Tally`] has an exact
-//! total.
+//! Begin with [`register::Register`]. A [`growing::Growing`] value changes only as an order allows, and a
+//! [`tally::Tally`] has an exact total.
 #![tactic(auto)]
 
 pub mod growing;

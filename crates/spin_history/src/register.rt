@@ -1,6 +1,6 @@
-//! A value whose callers know the history of its writes. Begin with [`Register::new`]. The functions [`read`],
-//! [`write`], [`update`] and [`change`] work on a register under a lock. Those whose names begin with `try` do not wait
-//! for it.
+//! A value whose callers know the history of its writes. Begin with [`Register::new`]. The functions
+//! [`read`], [`write`], [`update`] and [`change`] work on a register under a lock. A function whose name
+//! begins with `try` does not wait for the lock.
 //!
 //! # Examples
 //! ```
@@ -41,8 +41,8 @@ use std::sync::Wait;
 
 /// A value, and the log of all its writes: the last entry is the value.
 ///
-/// Put it under any lock. Each call takes a [`Snapshot`] of the caller, and brings it up to date. The values change
-/// only as the order `P` allows; by default it allows each change.
+/// Put it under any lock. Each call takes the caller's [`Snapshot`] and brings it up to date. The value
+/// changes only as the order `P` allows; the default order allows every change.
 #[derive(Drop)]
 pub struct Register<T, H: History, P: Order<T> = Unordered> {
     value: T,
@@ -56,8 +56,8 @@ impl<T, H: History, P: Order<T>> Register<T, H, P> {
     /// Creates a register that holds `value`.
     ///
     /// # Contract
-    /// The value becomes the next entry of the log, and has to follow in order there. To an empty log any value may be
-    /// added.
+    /// The value becomes the next entry of the log, and has to follow the last one in the order. An empty log
+    /// accepts any value.
     #[tactic(auto, using(crate::proofs::Entries::last_is))]
     pub fn new(value: T, log: Log<T, H>) -> Self
         requires { InOrder P.le (log.entries ++ value ∷ []) }
@@ -73,10 +73,10 @@ impl<T, H: History, P: Order<T>> Register<T, H, P> {
         }
     }
 
-    /// Returns a snapshot of all that was written so far.
+    /// Returns a snapshot of all writes so far.
     ///
     /// # Contract
-    /// It has the whole log, whose last entry is the value.
+    /// The snapshot has the whole log, whose last entry is the value.
     pub fn snapshot(&self) -> Snapshot<T, H>
         ensures exact { result.entries ≡ self.now.log.entries }
         ensures last { last result.entries ≡ Some self.now.value }
@@ -87,8 +87,8 @@ impl<T, H: History, P: Order<T>> Register<T, H, P> {
     /// Returns a reference to the value.
     ///
     /// # Contract
-    /// It is the last write of a history that extends what the caller knew, and is in order (`order`). So it is the
-    /// last value that the caller saw, or a later one (`grown`), whichever thread wrote.
+    /// The caller's snapshot grows to a history that is in order (`order`), and the value is its last write.
+    /// So the caller gets the last value that it saw, or a later one, whichever thread wrote it (`grown`).
     pub fn get(&self, seen: &mut Snapshot<T, H>) -> &T
         ensures order { InOrder P.le seen.new.entries }
         ensures grown { IsAtOrAfter P.le seen.old.entries result.now }
@@ -104,7 +104,8 @@ impl<T, H: History, P: Order<T>> Register<T, H, P> {
     /// Calls a closure with the value, and returns its answer.
     ///
     /// # Contract
-    /// The closure has to be always callable, and is called once. The value is that of [`get`](Self::get).
+    /// The closure has to be always callable, and is called once. Its argument is the value that
+    /// [`get`](Self::get) returns.
     pub fn inspect<A, F: FnOnce(&T) -> A>(&self, by: F, seen: &mut Snapshot<T, H>) -> A
         requires { F.IsAlwaysCallable by }
         ensures called { FnOnceReturnsAt F.FnOnce by self.now.value result }
@@ -120,9 +121,9 @@ impl<T, H: History, P: Order<T>> Register<T, H, P> {
     /// Calls a closure with the value, which it may change in place, and returns its answer.
     ///
     /// # Contract
-    /// The closure has to be always callable. For each value that it may find, it has to leave one that may follow it.
-    /// It is called with the last write, and what it leaves is the next write (`Updates`). The new value is the last
-    /// one that the caller saw, or a later one.
+    /// The closure has to be always callable. Whatever value it finds, it has to leave one that may follow in
+    /// the order. The closure is called with the last write, and the value that it leaves is the next write
+    /// (`Updates`). In the order, the new value is at or after the last one that the caller saw.
     ///
     /// # Examples
     /// ```
@@ -181,7 +182,7 @@ impl<T, H: History, P: Order<T>> Register<T, H, P> {
     /// Compares two references to the register that are held at the same time.
     ///
     /// # Contract
-    /// They show the same value, and the same history.
+    /// Both show the same value and the same history.
     pub fn same(&self, other: &Register<T, H, P>)
         ensures value { self.now.value ≡ other.now.value }
         ensures entries { self.now.log.entries ≡ other.now.log.entries }
@@ -189,11 +190,12 @@ impl<T, H: History, P: Order<T>> Register<T, H, P> {
         self.log.same(&other.log);
     }
 
-    /// Consumes the register. Returns the value and the whole history, which nobody can extend any more.
+    /// Consumes the register. Returns the value and the whole history, to which no thread can append any
+    /// more.
     ///
     /// # Contract
-    /// The history is in order, and the value is its last entry. Every snapshot is a prefix of it, by
-    /// [`ClosedLog::observe`].
+    /// The history is in order, and the value is its last entry. Each snapshot is a prefix of the history, as
+    /// [`ClosedLog::observe`] shows.
     ///
     /// # Examples
     /// ```
@@ -238,8 +240,8 @@ impl<T: Drop, H: History, P: Order<T>> Register<T, H, P> {
     /// Writes a value.
     ///
     /// # Contract
-    /// The value has to be one that may follow any other. It is the last entry of a history that extends what the
-    /// caller knew (`Writes`). No other write is between the register's former value and this write.
+    /// In the order, the value has to be allowed to follow any other. The caller's snapshot grows to a
+    /// history whose last write is the value (`Writes`). The entry before it is the register's former value.
     pub fn write(&mut self, new: T, seen: &mut Snapshot<T, H>)
         requires { (x : T) → P.le x new }
         ensures order { InOrder P.le seen.new.entries }
@@ -260,12 +262,12 @@ impl<T: Drop, H: History, P: Order<T>> Register<T, H, P> {
         );
     }
 
-    /// Writes what a closure makes of the value.
+    /// Writes the value that a closure returns for the current one.
     ///
     /// # Contract
-    /// The closure has to be always callable. For each value that it may find, it has to return one that may follow it.
-    /// It is called with the last write, and its answer is the next write (`Updates`). The new value is the last one
-    /// that the caller saw, or a later one.
+    /// The closure has to be always callable. Whatever value it finds, it has to return one that may follow
+    /// in the order. The closure is called with the last write, and its answer is the next write (`Updates`).
+    /// In the order, the new value is at or after the last one that the caller saw.
     pub fn update<F: FnOnce(&T) -> T>(&mut self, by: F, seen: &mut Snapshot<T, H>)
         requires callable { F.IsAlwaysCallable by }
         requires grows { (x y : T) → FnOnceReturnsAt F.FnOnce by x y → P.le x y }
@@ -294,7 +296,7 @@ impl<T: Copy, H: History, P: Order<T>> Register<T, H, P> {
     /// Returns a copy of the value.
     ///
     /// # Contract
-    /// That of [`get`](Register::get).
+    /// Like that of [`get`](Register::get).
     pub fn read(&self, seen: &mut Snapshot<T, H>) -> T
         ensures order { InOrder P.le seen.new.entries }
         ensures grown { IsAtOrAfter P.le seen.old.entries result }
@@ -310,8 +312,8 @@ impl<T: Copy, H: History, P: Order<T>> Register<T, H, P> {
 /// Calls a closure with the value of a register under a lock, and returns its answer.
 ///
 /// # Contract
-/// The closure has to be always callable. It is called with the last write of a history that extends what the
-/// caller knew, and is in order (`ReadsIn`). Whether and when the call returns is not promised.
+/// The closure has to be always callable. The caller's snapshot grows to a history that is in order, and the
+/// closure is called with its last write (`ReadsIn`). Whether and when the call returns is not promised.
 pub fn inspect<
     T,
     P: Order<T>,
@@ -343,9 +345,9 @@ pub fn inspect<
 /// Reads a register under a lock.
 ///
 /// # Contract
-/// The answer is the last write of a history that extends what the caller knew, and is in order. So it is the last
-/// value that the caller saw, or a later one, whichever thread wrote. Whether and when the call returns is not
-/// promised.
+/// The caller's snapshot grows to a history that is in order, and the answer is its last write. So it is the
+/// last value that the caller saw, or a later one, whichever thread wrote it. Whether and when the call
+/// returns is not promised.
 pub fn read<T: Copy, P: Order<T>, H: History, L: Lock<Register<T, H, P>>, W: Wait>(
     rt: &W,
     lock: &L,
@@ -366,10 +368,11 @@ pub fn read<T: Copy, P: Order<T>, H: History, L: Lock<Register<T, H, P>>, W: Wai
     )
 }
 
-/// Calls a closure with the value of a register under a lock, with other readers, and returns its answer.
+/// Calls a closure with the value of a register under a lock, and returns its answer. Other readers may read
+/// at the same time.
 ///
 /// # Contract
-/// That of [`inspect`].
+/// Like that of [`inspect`].
 pub fn inspect_shared<
     T,
     P: Order<T>,
@@ -398,10 +401,10 @@ pub fn inspect_shared<
     answer
 }
 
-/// Reads a register under a lock, with other readers.
+/// Reads a register under a lock. Other readers may read at the same time.
 ///
 /// # Contract
-/// That of [`read`].
+/// Like that of [`read`].
 pub fn read_shared<T: Copy, P: Order<T>, H: History, L: SharedLock<Register<T, H, P>>, W: Wait>(
     rt: &W,
     lock: &L,
@@ -422,11 +425,12 @@ pub fn read_shared<T: Copy, P: Order<T>, H: History, L: SharedLock<Register<T, H
     )
 }
 
-/// Tries to read a register under a lock, and does not wait for it.
+/// Tries to read a register under a lock, without waiting for the lock.
 ///
 /// # Contract
-/// A value is as [`read`] returns it. After `None` the caller knows what it knew before. A test shows that `None` is
-/// returned only if the lock's `try_with` returns its closure.
+/// `Some` has a value like that of [`read`]. After `None` the caller's snapshot is unchanged. The contract
+/// does not say when the answer is `None`. A test shows `None` only where the lock's `try_with` returns its
+/// closure.
 pub fn try_read<T: Copy, P: Order<T>, H: History, L: Lock<Register<T, H, P>>>(
     lock: &L,
     seen: &mut Snapshot<T, H>,
@@ -449,10 +453,10 @@ pub fn try_read<T: Copy, P: Order<T>, H: History, L: Lock<Register<T, H, P>>>(
     Some(value)
 }
 
-/// Tries to read a register under a lock, with other readers. Does not wait while a writer holds the lock.
+/// Tries to read a register under a lock, together with other readers. Fails while a writer holds the lock.
 ///
 /// # Contract
-/// That of [`try_read`]. Whether and when the call returns is not promised.
+/// Like that of [`try_read`]. Whether and when the call returns is not promised.
 pub fn try_read_shared<T: Copy, P: Order<T>, H: History, L: SharedLock<Register<T, H, P>>, W: Wait>(
     rt: &W,
     lock: &L,
@@ -477,13 +481,15 @@ pub fn try_read_shared<T: Copy, P: Order<T>, H: History, L: SharedLock<Register<
     Some(value)
 }
 
-/// Calls a closure with the value of a register under a lock, which it may change in place, and returns its answer.
+/// Calls a closure with the value of a register under a lock, and returns its answer. The closure may change
+/// the value.
 ///
 /// # Contract
-/// The closure has to be always callable. For each value that it may find, it has to leave one that may follow it. It
-/// is called with the last write of a history that extends what the caller knew. What it leaves is the next write: no
-/// other write is in between. It is the last value that the caller saw, or a later one. Afterwards the caller knows it
-/// as the last write (`UpdatesIn`). Whether and when the call returns is not promised.
+/// The closure has to be always callable. Whatever value it finds, it has to leave one that may follow in the
+/// order. The closure is called with the last write of a history that extends the caller's snapshot. The
+/// value that it leaves is the next write, with no other write in between. In the order, this value is at or
+/// after the last one that the caller saw. Afterwards it is the last write in the caller's snapshot
+/// (`UpdatesIn`). Whether and when the call returns is not promised.
 pub fn change<
     T,
     P: Order<T>,
@@ -517,8 +523,8 @@ pub fn change<
 /// Writes to a register under a lock.
 ///
 /// # Contract
-/// The new value has to be one that may follow any other. It is the last entry of a history that extends what the
-/// caller knew. Whether and when the call returns is not promised.
+/// In the order, the new value has to be allowed to follow any other. The caller's snapshot grows to a
+/// history whose last write is the new value. Whether and when the call returns is not promised.
 pub fn write<T: Drop, P: Order<T>, H: History, L: Lock<Register<T, H, P>>, W: Wait>(
     rt: &W,
     lock: &L,
@@ -543,12 +549,12 @@ pub fn write<T: Drop, P: Order<T>, H: History, L: Lock<Register<T, H, P>>, W: Wa
     );
 }
 
-/// Writes what a closure makes of the value of a register under a lock.
+/// Writes, to a register under a lock, the value that a closure returns for the current one.
 ///
 /// # Contract
-/// The closure has to be always callable. For each value that it may find, it has to return one that may follow it. It
-/// is called with the last write, and its answer is the next write, as with [`change`] (`UpdatesIn`). Whether and when
-/// the call returns is not promised.
+/// The closure has to be always callable. Whatever value it finds, it has to return one that may follow in
+/// the order. The closure is called with the last write, and its answer is the next write, as with [`change`]
+/// (`UpdatesIn`). Whether and when the call returns is not promised.
 pub fn update<
     T: Drop,
     P: Order<T>,
@@ -574,12 +580,12 @@ pub fn update<
     );
 }
 
-/// Tries to write to a register under a lock, and does not wait for it. Returns whether it wrote.
+/// Tries to write to a register under a lock, without waiting for the lock. Returns `true` if it wrote.
 ///
 /// # Contract
-/// The value has to be one that may follow any other. After `true` it is written as by [`write`]. After `false` the
-/// caller knows what it knew before. A test shows that `false` is returned only if the lock's `try_with` returns its
-/// closure.
+/// In the order, the value has to be allowed to follow any other. After `true` it is written as by [`write`].
+/// After `false` the caller's snapshot is unchanged. The contract does not say when the answer is `false`. A
+/// test shows `false` only where the lock's `try_with` returns its closure.
 ///
 /// # Examples
 /// ```

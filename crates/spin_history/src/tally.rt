@@ -1,5 +1,5 @@
-//! A number that threads add to, whose total is exactly what they added. Begin with [`Tally::new`]. The functions
-//! [`add`] and [`total`] work on a tally under a lock.
+//! A number that threads add to, whose total is exactly the sum of what they added. Begin with
+//! [`Tally::new`]. The functions [`add`] and [`total`] work on a tally under a lock.
 //!
 //! # Examples
 //! ```
@@ -34,10 +34,10 @@ use std::mem;
 use std::sync::Wait;
 use std::sync::ledger::{Blank, Book, Ledger, Share};
 
-/// A number that threads add to, and the ledger's book of what they added. The book's total is the number.
+/// A number that threads add to, and the ghost book of a ledger, whose total is that number.
 ///
-/// Put it under a mutex: a `Book` is not `Sync`, so threads cannot share an `RwLock` around a tally. Each thread that
-/// adds has a `Share` of the ledger, which counts its additions.
+/// Put it under a mutex: a `Book` is not `Sync`, so threads cannot share an `RwLock` around a tally. Each
+/// thread that adds has a `Share` of the ledger. Its share counts what the thread added.
 #[derive(Drop)]
 pub struct Tally<L: Ledger> {
     count: u64,
@@ -46,10 +46,10 @@ pub struct Tally<L: Ledger> {
 }
 
 impl<L: Ledger> Tally<L> {
-    /// Creates a tally to which nothing is added yet.
+    /// Creates a tally that counts 0.
     ///
     /// # Contract
-    /// Nothing may have been added to the book either. The count is 0.
+    /// The book's total has to be 0. The tally's count is 0.
     pub fn new(book: Book<L>) -> Self
         requires { book.total ≡ 0 }
         ensures { result.count ≡ 0 }
@@ -60,12 +60,14 @@ impl<L: Ledger> Tally<L> {
         }
     }
 
-    /// Adds `more`, and counts it in the caller's share. Returns `false`, and adds nothing, if the sum would not fit.
+    /// Adds `more` to the tally and to the caller's share. Returns `false`, and adds nothing, if the sum
+    /// exceeds `u64::MAX`.
     ///
     /// # Contract
-    /// The share must not be empty. If the answer is `true`, the share and the tally count `more`. Otherwise both are
-    /// unchanged. The answer is `false` exactly if the sum would not fit. A share counts at most as much as the tally
-    /// (`bound`), and one with all parts exactly as much (`whole`).
+    /// The share must not be empty. After `true` the share and the tally have grown by `more`; after `false`
+    /// both are unchanged. The answer is `false` exactly if the tally's sum exceeds `u64::MAX`. A share
+    /// counts at most as much as the tally (`bound`). A share with all parts of the ledger counts exactly as
+    /// much (`whole`).
     ///
     /// # Examples
     /// ```
@@ -108,10 +110,11 @@ impl<L: Ledger> Tally<L> {
         }
     }
 
-    /// Returns the exact total, to a caller that has every share.
+    /// Returns the exact total. The caller needs all parts of the ledger.
     ///
     /// # Contract
-    /// The share has to have all parts of the ledger. The answer is its amount, and the tally's count.
+    /// The share has to have all parts of the ledger. The answer is the share's amount, which is the tally's
+    /// count.
     pub fn total(&mut self, every: &mut Share<L>) -> u64
         requires { every.old.parts ≡ L.parts }
         ensures total { result ≡ every.old.amount }
@@ -125,11 +128,11 @@ impl<L: Ledger> Tally<L> {
     }
 }
 
-/// Work that has a ledger of its own. [`open`] names that ledger.
+/// Work that uses a ledger of its own. [`open`] names that ledger.
 ///
 /// # Contract
-/// `asks` is what the work asks of its own fields, and `gives` says which answers it may give. Both say nothing unless
-/// the work defines them.
+/// `asks` says what has to hold of the fields of the work, and `gives` which answers it may give. Each says
+/// nothing if the work does not define it.
 pub trait Work {
     type Answer;
 
@@ -137,11 +140,11 @@ pub trait Work {
 
     ghost gives: { Self → Self.Answer → Type 0 } = { λ _ _. ⊤ };
 
-    /// Does the work with a tally to which nothing is added yet.
+    /// Does the work with a tally that counts 0.
     ///
     /// # Contract
-    /// What the work asks has to hold. The share has all `u64::MAX` parts of the ledger, and counts nothing yet. The
-    /// answer is one that the work may give.
+    /// `asks` has to hold of the work. The share has all `u64::MAX` parts of the ledger, and counts 0. The
+    /// answer is one that `gives` allows.
     fn run<L: Ledger + Send + Sync>(self, tally: Tally<L>, all: Share<L>) -> Self::Answer
         requires asked { asks self }
         requires empty { tally.count ≡ 0 }
@@ -165,7 +168,7 @@ fn open_by<K: Work, L: Ledger + Send + Sync>(work: K, blank: Blank) -> K::Answer
 /// Names a new ledger, and does the work with a tally of it.
 ///
 /// # Contract
-/// What the work asks has to hold. The answer is one that the work may give.
+/// `asks` has to hold of the work. The answer is one that `gives` allows.
 pub fn open<K: Work>(work: K) -> K::Answer
     requires asked { K.asks work }
     ensures { K.gives work result }
@@ -173,13 +176,13 @@ pub fn open<K: Work>(work: K) -> K::Answer
     open_by::<K, Brand>(work, Blank::new(u64::MAX))
 }
 
-/// Adds `more` to a tally under a lock. Returns `false`, and adds nothing, if the sum would not fit.
+/// Adds `more` to a tally under a lock. Returns `false`, and adds nothing, if the sum exceeds `u64::MAX`.
 ///
 /// # Contract
-/// The share must not be empty. If the answer is `true`, it counts `more`; otherwise it is unchanged. After `false`
-/// there is some number to which `more` cannot be added (`full`). A test shows that the tally held such a number. If
-/// the share has all parts of the ledger, the answer is `true` exactly if the sum fits (`whole`). Whether and when the
-/// call returns is not promised.
+/// The share must not be empty. After `true` it has grown by `more`; after `false` it is unchanged. After
+/// `false` there is some number to which `more` cannot be added (`full`); a test shows that the tally held
+/// such a number. If the share has all parts of the ledger, the answer is `true` exactly if the sum fits
+/// (`whole`). Whether and when the call returns is not promised.
 pub fn add<L: Ledger, K: Lock<Tally<L>>, W: Wait>(
     rt: &W,
     lock: &K,
@@ -212,11 +215,11 @@ pub fn add<L: Ledger, K: Lock<Tally<L>>, W: Wait>(
     added
 }
 
-/// Returns the exact total of a tally under a lock, to a caller that has every share.
+/// Returns the exact total of a tally under a lock. The caller needs all parts of the ledger.
 ///
 /// # Contract
-/// The share has to have all parts of the ledger. The answer is its amount. Whether and when the call returns is not
-/// promised.
+/// The share has to have all parts of the ledger. The answer is the share's amount. Whether and when the call
+/// returns is not promised.
 pub fn total<L: Ledger, K: Lock<Tally<L>>, W: Wait>(rt: &W, lock: &K, every: &mut Share<L>) -> u64
     requires { every.old.parts ≡ L.parts }
     ensures total { result ≡ every.old.amount }

@@ -1,4 +1,4 @@
--- A schedule after another.
+-- Two schedules played one after the other.
 use Rattle.std.proofs.Common.{◌≡◌, ℕ, List, [], ◌∷◌, ◌++◌, refl}
 use Rattle.spin_model.specs.declared.schedule.Move.{Move}
 use Rattle.spin_model.specs.Machines.{Machine}

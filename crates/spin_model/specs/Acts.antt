@@ -1,5 +1,5 @@
--- An object as a table: the shape of the next step for each point of a call. The shapes determine the machine, and what
--- has to be shown of each step.
+-- An object as a table, which gives the shape of the next step for each point of a call. The shapes determine the machine, and what has to
+-- be shown of each step.
 use Rattle.std.specs.Prelude.{ℕ, zero, suc, ◌+◌, ◌%◌, Bool, true, false, Option, Some, None, List, [], ◌∷◌, is_some, ◌==◌, if◌then◌else◌, get_or, unwrap_or}
 use Rattle.spin_step.specs.Plain.{Change}
 use Rattle.spin_model.specs.declared.place.Hold.{Hold}
@@ -15,7 +15,7 @@ use Rattle.spin_model.specs.Machines.{Machine}
 use Rattle.spin_model.specs.Operations.{Operation, loads, exchanges, sets_lowest_bit, performed}
 use Rattle.spin_model.specs.Schedules.{placed}
 
--- The numbers of an object's words, and the words after this number has replaced the i-th
+-- An object's words as a list of numbers, and the words after the i-th of these numbers is replaced.
 pub record Memory (W : Type 0) : Type 0 where
   pub numbers : W → List ℕ
   pub put : ℕ → ℕ → W → W
@@ -32,50 +32,50 @@ put_in_two f g zero k w = f k w
 put_in_two f g (suc zero) k w = g k w
 put_in_two f g _ k w = w
 
--- how each of the two numbers is read, and how it is replaced
+-- the memory of an object with two numbers: how each is read and replaced
 abbrev pub two_numbers : {W : Type 0} → (W → ℕ) → (W → ℕ) → (ℕ → W → W) → (ℕ → W → W) → Memory W
 two_numbers a b f g = record { numbers = λ w. a w ∷ b w ∷ []; put = put_in_two f g }
 
 abbrev pub number_at : {W : Type 0} → Memory W → ℕ → W → ℕ
 number_at m i w = get_or (m.numbers w) i 0
 
--- The shape of a step of a call on one word, by the number that it finds. A step function gives the next number, or
--- refuses. Then comes the plain step that the party makes.
+-- The shape of a step of a call on one word. `f` is a step function: it gives the next number for the number found, or none. `step` is the
+-- plain step that the party makes if its operation succeeds.
 pub data Act (W L A : Type 0) : Type 0 where
   load : (ℕ → Next L A) → Act W L A
-  -- a load; how the call continues depends on whether the number passes a test
+  -- a load; a test of the number found decides how the call goes on
   load_if : (ℕ → Bool) → (ℕ → Next L A) → (ℕ → Next L A) → Act W L A
-  -- a load; how the call continues depends on whether the step function gives a new number
+  -- a load; whether the step function gives a next number decides how the call goes on
   load_for : (ℕ → Option ℕ) → (ℕ → Change) → (ℕ → Next L A) → Next L A → Act W L A
-  -- the number does not change; if it passes a test, the plain step is made, and otherwise the plain step is closed
+  -- a load; if the number passes the test, the party makes the plain step, and otherwise the plain step is closed
   enter : (ℕ → Bool) → (ℕ → Change) → Next L A → Next L A → Act W L A
-  -- the operation changes the number; if it finds another number, the plain step is closed
+  -- an operation that may fail; if it fails, the plain step is closed
   exchange : Operation → (ℕ → Change) → Next L A → (ℕ → Next L A) → Act W L A
-  -- an exchange of this number for the one that the step function gives for it; the exchange may fail spuriously
+  -- an exchange that expects this number; the step function gives the new one. It may fail spuriously
   weak_exchange : ℕ → (ℕ → Option ℕ) → (ℕ → Change) → Next L A → Next L A → Act W L A
-  -- an exchange; if it fails, that alone shows nothing
+  -- an exchange that never fails spuriously; its failure says nothing of the plain step
   attempt : ℕ → (ℕ → Option ℕ) → (ℕ → Change) → Next L A → Next L A → Act W L A
-  -- an exchange if the first word is still the number found before; if not, a load of the number for the next exchange
+  -- an exchange on the first word that expects the number found before; if it fails, the number found now decides how the call goes on
   retry : ℕ → (ℕ → Option ℕ) → (ℕ → Change) → Next L A → (ℕ → Next L A) → Next L A → Act W L A
-  -- an operation without a look before it; it may be made only if the number passes a test
+  -- an operation that always succeeds; it is possible only if the number passes the test
   store : (ℕ → Bool) → Operation → (ℕ → Change) → Next L A → Act W L A
-  -- A section on all words, not one operation. It may be made only if they pass a test. It gives new words, or refuses,
-  -- and then the plain step is closed.
+  -- A section on all words, which is not one operation. It is possible only if the words pass the test. If it gives no new words, the plain
+  -- step is closed.
   section : (W → Bool) → (W → Option W) → (ℕ → Change) → (W → Next L A) → (W → Next L A) → Act W L A
 
--- The outcome of a step
+-- The outcome of a step.
 
--- an exchange of this number for the one that the step function gives for it
+-- the exchange of the number k for the one that the step function gives
 abbrev pub swap : ℕ → (ℕ → Option ℕ) → Operation
 swap k f = exchanges k (unwrap_or (f k) k)
 
--- the number after an operation, if it makes its change
+-- the number after an operation that succeeds, or none if it fails
 abbrev pub tried : Operation → ℕ → Option ℕ
 tried (exchanges from to) n = if n == from then Some to else None
 tried sets_lowest_bit n = if n % 2 == 0 then Some (n + 1) else None
 tried operation n = Some (performed operation n)
 
--- what the step function gives, if the number is this one
+-- the number that the step function gives, if the number found is k
 abbrev pub guessed : ℕ → (ℕ → Option ℕ) → ℕ → Option ℕ
 guessed k f n = if n == k then f n else None
 
@@ -86,7 +86,7 @@ either false a b = b
 abbrev pub stays : {W V L A : Type 0} → W → Next L A → Stepped W V L A
 stays w next = record { words = w; placed = None; next = next }
 
--- if there is a new number, `put` stores it
+-- the outcome of an operation: if it gives something new, `put` stores it
 abbrev pub becomes : {X W V L A : Type 0} → (X → W) → W → Option X → Next L A → Next L A → Stepped W V L A
 becomes put w None won lost = stays w lost
 becomes put w (Some x) won lost = stays (put x) won
@@ -99,12 +99,12 @@ abbrev pub retried : {W V L A : Type 0} → (ℕ → W) → Bool → W → Optio
 retried put true w o won found missed = becomes put w o won missed
 retried put false w o won found missed = stays w (either (is_some o) found missed)
 
--- a retry is on the first word
+-- the word that a step is on; a retry is always on the first word
 abbrev pub place_of : {W L A : Type 0} → ℕ → Act W L A → ℕ
 place_of i (retry k f step won found missed) = 0
 place_of i _ = i
 
--- on the i-th word, which is n
+-- the outcome of a step on the i-th word, in which it finds the number n
 abbrev pub step_at : {W V L A : Type 0} → Memory W → ℕ → ℕ → Act W L A → W → Stepped W V L A
 step_at m i n (load next) w = stays w (next n)
 step_at m i n (load_if test a b) w = stays w (either (test n) (a n) (b n))
@@ -120,7 +120,7 @@ step_at m i n (section can f step won lost) w = becomes (λ u. u) w (f w) (won w
 abbrev pub step_by : {W V L A : Type 0} → Memory W → ℕ → Act W L A → W → Stepped W V L A
 step_by m i act w = step_at m (place_of i act) (number_at m (place_of i act) w) act w
 
--- the plain step is made if there is a new number
+-- the plain step is made if the operation gives something new
 abbrev pub made_if : {X : Type 0} → Option X → Change → Option Change
 made_if None c = None
 made_if (Some x) c = Some c
@@ -147,7 +147,7 @@ abbrev pub refusal_by : {W L A : Type 0} → Act W L A → Option (Next L A)
 refusal_by (weak_exchange k f step won lost) = Some lost
 refusal_by _ = None
 
--- the plain step of a shape, if it makes one, and its operation
+-- the plain step that a step of this shape makes if it succeeds
 abbrev pub makes_by : {W L A : Type 0} → Act W L A → ℕ → Option Change
 makes_by (enter test step won lost) p = Some (step p)
 makes_by (exchange operation step won lost) p = Some (step p)
@@ -158,6 +158,7 @@ makes_by (store can operation step next) p = Some (step p)
 makes_by (section can f step won lost) p = Some (step p)
 makes_by _ p = None
 
+-- the operation of a step of this shape
 abbrev pub operation_by : {W L A : Type 0} → Act W L A → Operation
 operation_by (exchange operation step won lost) = operation
 operation_by (weak_exchange k f step won lost) = swap k f
@@ -170,7 +171,7 @@ abbrev pub is_section : {W L A : Type 0} → Act W L A → Bool
 is_section (section can f step won lost) = true
 is_section _ = false
 
--- a call that waits for another party looks
+-- a load by a call that waits for another party is a look
 abbrev pub look_kind : Asked → StepKind
 look_kind what = either what.waits look plain
 
@@ -180,19 +181,19 @@ step_kind_by what (enter test step won lost) = look_kind what
 step_kind_by what (retry k f step won found missed) = again
 step_kind_by what _ = plain
 
--- An object
+-- An object.
 
 pub record Table (W V C L A : Type 0) : Type 0 where
-  pub words : W  -- at first
-  pub value : Option V  -- at first
+  pub words : W  -- the words before any step
+  pub value : Option V  -- the value before any step
   pub owned : Bool
   pub lock_kind : LockKind
   pub cap : ℕ
   pub group : ℕ
   pub first : ℕ
   pub memory : Memory W
-  pub start : C → Option Hold → L  -- where a call begins, if the party holds what the call needs
-  pub word : L → ℕ  -- which word a step is on
+  pub start : C → Option Hold → L  -- the point at which a call begins, if its party holds what the call needs
+  pub word : L → ℕ  -- the word on which the step at this point is made
   pub act : C → L → Option Hold → Act W L A
   pub asks : C → Option Hold → Asked
   pub says : A → Said
@@ -200,8 +201,8 @@ pub record Table (W V C L A : Type 0) : Type 0 where
 abbrev pub begin_of : {W V C L A : Type 0} → Table W V C L A → C → Option Hold → Option L
 begin_of t c h = passing ((t.asks c h).begins h) (t.start c h)
 
--- The machine of a table, with its own results of a weak refusal and of a step, and with what its answers say and give.
--- The answers may be others than the table's.
+-- The machine of a table, with its own outcomes of a spurious failure (`refuse`) and of a step. `says` tells what its answers say. `brings`
+-- and `gives` tell the values of calls and of answers. The answers may be of another type than the table's.
 abbrev pub machine_by : {W V C L A B : Type 0} → Table W V C L A → (C → L → Option Hold → Option (Next L B)) → (W → Option V → C → L → Option Hold → Stepped W V L B) → (B → Said) → (C → Option V) → (B → Option V) → Machine W V C L B
 machine_by t refuse step says brings gives =
     record {
@@ -228,10 +229,10 @@ machine_by t refuse step says brings gives =
 abbrev pub machine_of : {W V C L A : Type 0} → Table W V C L A → Machine W V C L A
 machine_of t = machine_by t (λ c l h. refusal_by (t.act c l h)) (λ w v c l h. step_by t.memory (t.word l) (t.act c l h) w) t.says (λ c. None) (λ a. None)
 
--- An object whose closures make its value. Its table has no values: a call that gives one answers the value that is
--- there after its last step
+-- An object whose closures make its value. Its table has no values. A call whose answer is a value gets the value that is there after its
+-- last step.
 
--- only a store completes a closure, and it stores the value that its call brings
+-- only a store completes a closure; it stores the value that the call's closure gave
 abbrev pub completes_by : {W L A : Type 0} → Act W L A → Bool
 completes_by (store can f step next) = is_completion (step 0)
 completes_by _ = false

@@ -1,4 +1,4 @@
--- The calls of the objects here: of each, what it promises.
+-- What each call of the objects here promises.
 use Rattle.std.specs.Prelude.{ℕ, ◌==◌, ◌&&◌, ◌||◌, Bool, true, false, not, nat_le, Option, Some, None, List, [], ◌∷◌, if◌then◌else◌}
 use Rattle.std.specs.List.{list_any}
 use Rattle.spin_step.specs.Plain.{Plain, Kind, reading, upgradable, asking, writing, Ask, to_write, to_upgrade, to_upgrade_asked, to_take_ticket, to_enter, to_take_and_enter, to_lock_unregistered, to_lock_starving, to_lock_starving_alone, to_begin, Change, gets, releases, serves, stops_starving, turns, completes, fails, arrives, is_open_to, is_empty, is_first, is_holder, is_nothing, is_complete}
@@ -8,10 +8,10 @@ use Rattle.spin_model.specs.declared.place.Hold.{Hold}
 use Rattle.spin_model.specs.declared.place.Hold.TheVariants.{Read, Upgradable, Write, Ticket, Starver}
 use Rattle.spin_model.specs.Calls.{Said, granted, refused, locked, starved, done, tells, counted, gives_value, has_no_value, failed, leads, follows, Mark, unlimited, within, within_changes, gets_within, changes_within, registers_after, Meaning, never, got, got_or_starved, found, means, is_for, makes, is_starved, readers, writers, Asked}
 
--- What is held
+-- What a party holds.
 
--- An upgrade is an upgradable reader's, and a starver's lock or try is a starver's.
--- A party that asks for anything else holds nothing
+-- What a party must hold to ask this. Only an upgradable reader upgrades, and only a starver locks or tries as a starver. For all else the
+-- party holds nothing.
 abbrev pub held_for : Ask → Option Hold
 held_for to_upgrade = Some Upgradable
 held_for to_upgrade_asked = Some Upgradable
@@ -61,9 +61,9 @@ abbrev pub is_held_some : Hold → Bool
 is_held_some Read = true
 is_held_some hold = is_above_read hold
 
--- Plain steps
+-- Plain steps.
 
--- a party releases what it holds
+-- the plain steps by which a party releases what it holds
 abbrev pub let_go_of : ℕ → Option Hold → List Change
 let_go_of p None = []
 let_go_of p (Some Read) = releases p reading ∷ []
@@ -89,35 +89,35 @@ abbrev pub is_arrival : Change → Bool
 is_arrival (arrives p) = true
 is_arrival _ = false
 
--- What a moment of the call finds
+-- What holds at a moment of a call.
 
 abbrev pub same : Bool → Bool → Bool
 same true b = b
 same false b = not b
 
--- there is a value, or the party's own step completes its closure
+-- at this mark there is a value, or the party's own step completes its closure
 abbrev pub finds_value : ℕ → Mark → Bool
 finds_value p m = is_complete m.before.phase || makes p is_completion m
 
--- the party's own step is its arrival, as the last of its group or not
+-- at this mark the party arrives; `leading` says whether it fills its group
 abbrev pub arrives_leading : ℕ → Bool → Mark → Bool
 arrives_leading p leading m = makes p is_arrival m && same leading (is_leading m.before m.after.arrivals)
 
--- the group of this arrival is full
+-- at the mark m the group of this arrival is full
 abbrev pub finds_full : Mark → Mark → Bool
 finds_full arrival m = nat_le (filled_by m.before arrival.after.arrivals) m.before.arrivals
 
--- What answers say
+-- What answers say.
 
--- the call has done what it is for
+-- the party has made these plain steps
 abbrev pub made : (ℕ → List Change) → Meaning
 made steps = means (λ p. steps p ∷ []) (λ p span. true)
 
--- it gives the value, and has made one of these steps
+-- the party gets the value, and has made one of these lists of plain steps
 abbrev pub gave : (ℕ → List (List Change)) → Meaning
 gave steps = means steps (λ p span. list_any (finds_value p) span)
 
--- a call of one step that makes no plain step and is never answered, to build others from
+-- A call of one step that makes no plain step and has no answers. Other calls are built from it.
 abbrev pub a_call : Asked
 a_call =
     record {
@@ -137,10 +137,10 @@ a_call =
       needs_no_cause = λ said. false;
     }
 
--- Calls that wait
+-- Calls that wait.
 
--- It looks first, and steps until it is granted, without a limit. Undisturbed it looks once at most before its exchange.
--- Once it has made its plain step, only the answer is left
+-- The call looks first, and steps until it is granted, without a limit. Undisturbed it looks at most once before its exchange. After its
+-- plain step only the answer is left.
 abbrev pub waits : Ask → Asked
 waits ask =
     record a_call {
@@ -153,7 +153,7 @@ waits ask =
       undisturbed_steps = 2;
     }
 
--- it does not look first, but makes a weak exchange
+-- the same, but the call begins with a weak exchange, not with a look
 abbrev pub waits_to_write : Asked
 waits_to_write =
     record (waits to_write) {
@@ -162,11 +162,11 @@ waits_to_write =
       gets_weakly = λ c. true;
     }
 
--- again and again, without a look between
+-- the same, but the call repeats its exchange without a look in between
 abbrev pub spins_to_write : Asked
 spins_to_write = record waits_to_write { undisturbed_steps = 1 }
 
--- a starver, whose exchange sets the flag
+-- a starver waits for the lock; its exchange sets the flag
 abbrev pub waits_starving : Asked
 waits_starving =
     record (waits to_lock_starving) {
@@ -174,8 +174,8 @@ waits_starving =
       undisturbed_steps = 4;
     }
 
--- In a queue: it has a ticket by its second step, and one more for each change by others.
--- It asks for a ticket that enters at once, and with its ticket to enter
+-- The call waits in a queue. It has a ticket by its second step; each change by others allows one step more. Without a ticket it asks for
+-- one that enters at once; with its ticket it asks to enter.
 abbrev pub waits_to_enter : Asked
 waits_to_enter =
     record (waits to_enter) {
@@ -184,8 +184,7 @@ waits_to_enter =
       undisturbed_steps = 4;
     }
 
--- It asks by its first step, and then upgrades by a weak exchange.
--- It has nothing but its own asking before it, and then the upgrade
+-- The call asks to upgrade by its first step, and then upgrades by a weak exchange. Its asking is the only plain step before that exchange.
 abbrev pub waits_to_upgrade : Asked
 waits_to_upgrade =
     record (waits to_upgrade_asked) {
@@ -197,8 +196,8 @@ waits_to_upgrade =
       gets_weakly = is_for to_upgrade_asked;
     }
 
--- It steps until it is granted, unregistered or, once it has registered, as a starver.
--- After so many looks that found the lock held, the next one that does makes it register by its second step from there
+-- The call steps until it is granted. It locks unregistered; once it has registered, it locks as a starver. After n looks that found the
+-- lock held, a further such look makes it register by its second step from there.
 abbrev pub waits_or_starves : ℕ → Asked
 waits_or_starves n =
     record a_call {
@@ -216,9 +215,9 @@ waits_or_starves n =
       gets_weakly = is_for to_lock_unregistered;
     }
 
--- Tries
+-- Tries.
 
--- in so many steps at most
+-- a try that takes at most k steps
 abbrev pub tries_in : ℕ → Ask → Asked
 tries_in k ask =
     record a_call {
@@ -232,11 +231,11 @@ tries_in k ask =
 abbrev pub tries : Ask → Asked
 tries ask = tries_in 1 ask
 
--- it looks first, and makes its exchange again for each change by others
+-- the try looks first, and repeats its exchange at most once for each change by others
 abbrev pub looks_and_tries : Ask → Asked
 looks_and_tries ask = record (tries ask) { limit = λ words. within_changes 2 }
 
--- by a weak exchange, which may refuse without cause
+-- a try by a weak exchange, which may fail spuriously
 abbrev pub tries_weakly : Ask → Asked
 tries_weakly ask =
     record (tries ask) {
@@ -246,7 +245,7 @@ tries_weakly ask =
       needs_no_cause = λ said. elim said [ refused ↦ true | _ ↦ false ];
     }
 
--- and a refusal says why
+-- a try that says why it fails
 abbrev pub tries_to_know : Ask → Asked
 tries_to_know ask =
     record a_call {
@@ -260,9 +259,9 @@ tries_to_know ask =
       ];
     }
 
--- Looks
+-- Looks.
 
--- whether the lock is held: one step for each word
+-- the call answers whether the lock is held; it takes one step for each word
 abbrev pub looks : Asked
 looks =
     record a_call {
@@ -274,29 +273,29 @@ looks =
 abbrev pub counts : (Plain → ℕ) → Asked
 counts number = record a_call { most = counted 0; answers = λ said. elim said [ counted n ↦ found (λ p s. number s == n) | _ ↦ never ] }
 
--- how many hold the lock to read, or upgradably
+-- the call counts the readers, including the upgradable one
 abbrev pub counts_readers : Asked
 counts_readers = counts readers
 
 abbrev pub counts_writers : Asked
 counts_writers = counts writers
 
--- What is held becomes less
+-- Calls after which the party holds less.
 
 abbrev pub does : (Hold → Bool) → (ℕ → List Change) → Asked
 does may steps = record a_call { begins = is_one_of may; most = done; answers = λ said. elim said [ done ↦ made steps | _ ↦ never ] }
 
--- what it holds, one of these, becomes this
+-- a party that holds one of these turns what it holds into this kind
 abbrev pub turns_to : (Hold → Bool) → Option Hold → Kind → Asked
 turns_to may held kind = does may (λ p. turn_to p held kind)
 
--- it gives back what it holds, one of these
+-- a party that holds one of these releases it
 abbrev pub gives_back : (Hold → Bool) → Option Hold → Asked
 gives_back may held = does may (λ p. let_go_of p held)
 
--- Values
+-- Values.
 
--- it gives a value, made by its own closure where there is none
+-- the call gives a value; if there is none, its own closure makes it
 abbrev pub initializes : Asked
 initializes =
     record a_call {
@@ -307,7 +306,7 @@ initializes =
       is_open_next = λ first k p s. not first || (is_nothing s.phase || is_complete s.phase);
     }
 
--- its own closure fails
+-- the same, for a call whose own closure fails
 abbrev pub fails_to_initialize : Asked
 fails_to_initialize =
     record initializes {
@@ -328,26 +327,26 @@ waits_for_value =
       is_open_next = λ first k p s. is_complete s.phase;
     }
 
--- the value, or that none is there, where this is so
+-- the answer is the value; or that there is none, where `none` holds of the plain lock
 abbrev pub value_or : (Plain → Bool) → Said → Meaning
 value_or none gives_value = gave (λ p. [] ∷ [])
 value_or none has_no_value = found (λ p s. none s)
 value_or none _ = never
 
--- the value, once no closure runs
+-- the call waits while a closure runs, and then answers the value or that there is none
 abbrev pub polls : Asked
 polls = record waits_for_value { answers = value_or (λ s. is_nothing s.phase); is_open_next = λ first k p s. is_nothing s.phase || is_complete s.phase }
 
 abbrev pub looks_for_value : Asked
 looks_for_value = record a_call { most = gives_value; answers = value_or (λ s. not (is_complete s.phase)) }
 
--- whether there is a value
+-- the call answers whether there is a value
 abbrev pub looks_complete : Asked
 looks_complete = record a_call { most = tells true; answers = λ said. elim said [ tells there ↦ found (λ p s. same there (is_complete s.phase)) | _ ↦ never ] }
 
--- Meetings
+-- Meetings at a barrier.
 
--- it arrives by its first step, and waits until its group is full
+-- the call arrives by its first step, and waits until its group is full
 abbrev pub meets : Asked
 meets =
     record a_call {

@@ -1,5 +1,5 @@
--- What an answer says, what a call promises, and what a kind of lock is.
--- The calls of the objects here are in `Asks`. An object may bring others, and brings its kind of lock.
+-- What an answer says, what a call promises, and what a kind of lock is. `Asks` has the calls of the objects here. Each object brings its
+-- kind of lock, and may bring further calls.
 use Rattle.std.specs.Prelude.{◌≡◌, ℕ, suc, ◌⊎◌, ◌==◌, ◌&&◌, ◌||◌, Bool, true, false, not, Option, Some, None, List, [], ◌∷◌, length, map}
 use Rattle.std.specs.List.{list_any}
 use Rattle.spin_step.specs.Plain.{Plain, upgradable, asking, Ask, to_read, to_read_upgradable, to_write, to_upgrade, to_upgrade_asked, to_take_ticket, to_enter, to_take_and_enter, to_lock_unregistered, to_lock_starving, to_lock_starving_alone, to_starve, to_begin, Change, gets, stops_starving, turns, completes, writing, is_open_to, is_empty, count_kind, reader_count}
@@ -46,12 +46,12 @@ pub record Mark : Type 0 where
   pub before : Plain
   pub after : Plain
 
--- it holds of one of these
+-- P holds of some element of the list
 abbrev pub AnyOf : {X : Type 0} → (X → Type 0) → List X → Type 0
 AnyOf P [] = ⊥
 AnyOf P (x ∷ xs) = P x ⊎ AnyOf P xs
 
--- What a moment of the call finds
+-- What holds at a moment of a call.
 
 abbrev pub is_starved : Plain → Bool
 is_starved s = not (is_empty s.starvers)
@@ -62,29 +62,32 @@ readers s = reader_count s.holders
 abbrev pub writers : Plain → ℕ
 writers s = count_kind writing s.holders
 
--- at this step of its own the party finds closed what it asks
+-- the party takes a step, and what it asks is closed at that moment
 abbrev pub FindsClosed : ℕ → Ask → Mark → Type 0
 FindsClosed p ask m = (m.party ≡ p) × (is_open_to m.before p ask ≡ false)
 
--- at this step of its own the party registers as a starver
+-- the party registers as a starver by this step
 abbrev pub Registers : ℕ → Mark → Type 0
 Registers p m = (m.party ≡ p) × (m.change ≡ Some (gets p to_starve))
 
--- it registers, or finds the cap
+-- the party registers as a starver, or finds that the cap does not allow it
 abbrev pub TriesToStarve : ℕ → Mark → Type 0
 TriesToStarve p m = Registers p m ⊎ FindsClosed p to_starve m
 
--- the most steps that a call takes
+-- the most steps that a call may take
 pub data Limit : Type 0 where
   unlimited : Limit
   within : ℕ → Limit
-  within_changes : ℕ → Limit  -- and one more for each change of the first word by another party during the call
-  gets_within : Ask → ℕ → Limit  -- by then a call that waits has got this, or has found it closed; others' changes count too
-  changes_within : ℕ → Limit  -- by then a call that waits has made a plain step
-  registers_after : ℕ → ℕ → Limit  -- from each look on that finds the lock held after so many others, a call that waits registers as a starver by so many steps, others' changes since that look counted too, or finds the cap
+  within_changes : ℕ → Limit  -- this many steps, and one more for each change of the first word by another party during the call
+  -- After this many steps, and one more for each change by others, a call that waits has got what it asks here, or has found it closed.
+  gets_within : Ask → ℕ → Limit
+  changes_within : ℕ → Limit  -- after this many steps a call that waits has made a plain step
+  -- `registers_after n m`: a call that waits has looked n times and found the lock held. If it then looks again and finds the lock held, it
+  -- registers as a starver, or finds the cap, within m steps from there and one more for each change by others.
+  registers_after : ℕ → ℕ → Limit
 
--- The plain steps by which a party is granted what it asks. To enter it takes a ticket first. To upgrade after waiting
--- it asks first. A starver that gets the lock stops starving.
+-- The plain steps by which a party gets what it asks. To enter it first takes a ticket. A call that waits to upgrade first asks to. A
+-- starver that gets the lock then stops starving.
 abbrev pub grant : ℕ → Ask → List Change
 grant p to_upgrade_asked = turns p upgradable asking ∷ gets p to_upgrade_asked ∷ []
 grant p to_enter = gets p to_take_ticket ∷ gets p to_enter ∷ []
@@ -116,21 +119,21 @@ abbrev pub is_own : ℕ → (Change → Bool) → Option Change → Bool
 is_own p test None = false
 is_own p test (Some c) = (party_of c == p) && test c
 
--- the party's own step, and such a plain step
+-- at this mark the party makes a plain step that passes the test
 abbrev pub makes : ℕ → (Change → Bool) → Mark → Bool
 makes p test m = (m.party == p) && is_own p test m.change
 
--- what the party asks is open to it, and its own step gets it
+-- at this mark what the party asks is open to it, and its own step gets it
 abbrev pub grants : ℕ → Ask → Mark → Bool
 grants p ask m = is_open_to m.before p ask && makes p (is_for ask) m
 
--- What an answer says of its call
+-- What an answer says of its call.
 pub data Meaning : Type 0 where
-  never : Meaning  -- the call is never answered so
+  never : Meaning  -- the call never has this answer
   got : Ask → Meaning  -- the party has got what it asks
-  got_or_starved : Ask → Ask → Meaning  -- it has got the first, or has registered as a starver and got the second
-  found : (ℕ → Plain → Bool) → Meaning  -- a moment passes this test, and the call has made no plain step
-  -- the call has made one of these lists of plain steps, and the answer is right where this holds of its span
+  got_or_starved : Ask → Ask → Meaning  -- it has got the first, or it has registered as a starver and got the second
+  found : (ℕ → Plain → Bool) → Meaning  -- the plain lock passes this test at some moment, and the call has made no plain step
+  -- the call has made one of these lists of plain steps, and its span passes this test
   means : (ℕ → List (List Change)) → (ℕ → List Mark → Bool) → Meaning
 
 abbrev pub own_steps : Meaning → ℕ → List (List Change)
@@ -140,7 +143,7 @@ own_steps (got_or_starved a b) p = grant p a ∷ (gets p to_starve ∷ grant p b
 own_steps (found test) p = [] ∷ []
 own_steps (means steps right) p = steps p
 
--- the answer is right at a moment of the call: at a state in which one of the steps of its span was made, the answering one included
+-- The answer is right at a moment of the call: in a state in which a step of its span was made, perhaps the last one.
 abbrev pub moment : Meaning → ℕ → List Mark → Bool
 moment never p span = false
 moment (got ask) p span = list_any (grants p ask) span
@@ -148,47 +151,46 @@ moment (got_or_starved a b) p span = list_any (grants p a) span || list_any (gra
 moment (found test) p span = list_any (λ m. test p m.before) span
 moment (means steps right) p span = right p span
 
--- What a call promises. An object names calls of `Asks`, or brings its own
+-- What a call promises. An object takes calls from `Asks`, or brings its own.
 pub record Asked : Type 0 where
-  pub begins : Option Hold → Bool  -- at these holds
-  pub waits : Bool  -- for another party
-  pub tries : Option Ask  -- what a try asks: it continues only where that is open
+  pub begins : Option Hold → Bool  -- what its party may hold when it begins
+  pub waits : Bool  -- it may wait for another party
+  pub tries : Option Ask  -- what a try asks; where that is closed the try ends
   pub answers : Said → Meaning
-  pub most : Said  -- an answer that it may give
+  pub most : Said  -- one of the answers that it may give
   pub limit : ℕ → Limit  -- the most steps that it takes, on a lock of so many words
-  -- Whether what the call asks in its present state is open to the party, where it may wait:
-  -- by whether it has made no plain step yet, by how many had arrived with its own arrival, and by its party
+  -- Whether what a waiting call asks next is open. The arguments: whether it has made no plain step yet, the number of arrivals up to its
+  -- own, its party, and the plain lock.
   pub is_open_next : Bool → ℕ → ℕ → Plain → Bool
-  pub undisturbed_steps : ℕ  -- the own steps that it takes at most from there on, where nobody disturbs it
-  -- what a call that waits for its turn without a look goes for, by the plain steps that it has made
+  pub undisturbed_steps : ℕ  -- once this is open, it takes at most so many own steps if no other party disturbs it
+  -- what a call that waits for its turn without a look asks next, by the plain steps that it has made
   pub goes_for : List Change → Option Ask
-  pub may_register : List Change → Bool  -- where its step is not due it may register as a starver, and need not look
-  pub is_weak : Bool  -- it makes a weak exchange, once or again and again, and so may be refused without cause
-  pub before_weakly : ℕ → List Change  -- the plain steps that it makes before
-  pub gets_weakly : Change → Bool  -- what it gets by that exchange, and by no other step
-  pub needs_no_cause : Said → Bool  -- an answer by a weak exchange that refuses, which needs no moment
+  pub may_register : List Change → Bool  -- after these plain steps, while its turn has not come, it may register as a starver in place of a look
+  pub is_weak : Bool  -- it makes weak exchanges, which may fail spuriously
+  pub before_weakly : ℕ → List Change  -- the plain steps that it makes before its weak exchange
+  pub gets_weakly : Change → Bool  -- the plain steps that it makes by a weak exchange, and only so
+  pub needs_no_cause : Said → Bool  -- the answers to which a spurious failure may lead, which need no moment
 
 abbrev pub HasMoment : Asked → Said → ℕ → List Mark → Type 0
 HasMoment what said p span = moment (what.answers said) p span ≡ true
 
--- the same of an answer by a weak exchange that refuses
+-- the same for an answer that a spurious failure may have led to
 abbrev pub HasWeakMoment : Asked → Said → ℕ → List Mark → Type 0
 HasWeakMoment what said p span = (what.needs_no_cause said || moment (what.answers said) p span) ≡ true
 
--- A kind of lock, which its object provides. The laws speak of the kind that a machine has, so each object says by name
--- which kind that is.
+-- A kind of lock, which its object provides. The laws speak of the kind that a machine has. So each object says by name which kind that is.
 pub record LockKind : Type 0 where
-  pub word : Plain → ℕ  -- its first word, as a sum
-  pub further_words : List (Plain → ℕ)  -- its other words, as sums
-  pub plain_steps : Change → Bool  -- the plain steps that it makes; `makes_value` says whether closures complete
-  -- the calls that it has, for a party that holds this; the number is one that a call may bring
+  pub word : Plain → ℕ  -- its first word, as a sum over the plain lock
+  pub further_words : List (Plain → ℕ)  -- its other words, as sums over the plain lock
+  pub plain_steps : Change → Bool  -- the plain steps that it makes, except that a closure completes; that is `makes_value`
+  -- the calls of a party that holds this; the number is an argument that a call may have
   pub calls : ℕ → Option Hold → List Asked
-  pub spins_on_exchange : Bool  -- a call that waits and does not look first repeats its exchange without looks
+  pub spins_on_exchange : Bool  -- a waiting call that does not look first repeats its exchange without looks
   pub makes_value : Bool  -- closures make its value
   pub steps_in_sections : Bool  -- a step is a whole section under a lock of its own, not one operation
 
--- The usual kind, of these words, plain steps and calls: a call looks between its exchanges, no closure makes the value,
--- and each step is one operation
+-- The usual kind, with these words, plain steps and calls. A call looks between its exchanges, no closure makes the value, and each step is
+-- one operation.
 abbrev pub usual : (Plain → ℕ) → List (Plain → ℕ) → (Change → Bool) → (ℕ → Option Hold → List Asked) → LockKind
 usual word further plain_steps calls =
     record {
@@ -204,17 +206,17 @@ usual word further plain_steps calls =
 abbrev pub encoded : LockKind → Plain → List ℕ
 encoded kind s = kind.word s ∷ map (λ sum. sum s) kind.further_words
 
--- the plain steps that it makes; a closure completes exactly if closures make the value
+-- the kind makes this plain step; a closure completes only if closures make the value
 abbrev pub is_step_of : LockKind → Change → Bool
 is_step_of kind (completes p) = kind.makes_value
 is_step_of kind c = kind.plain_steps c
 
--- the step is one that this kind of lock makes, or there is none
+-- there is no step, or this kind of lock makes it
 abbrev pub BelongsTo : LockKind → Option Change → Type 0
 BelongsTo kind None = Unit {0}
 BelongsTo kind (Some c) = is_step_of kind c ≡ true
 
--- the word on which a call repeats its exchange
+-- the first word, on which a call repeats its exchange
 abbrev pub first_word : LockKind → Plain → ℕ
 first_word kind s = kind.word s
 

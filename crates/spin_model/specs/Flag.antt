@@ -25,7 +25,7 @@ use Rattle.spin_model.specs.Operations.{stores}
 abbrev pub is_set : ℕ → Bool
 is_set n = n == 1
 
--- the step function on numbers
+-- the step function of `lock`, on numbers
 abbrev pub lock : ℕ → Option ℕ
 lock n = option_map bit (flags.lock (is_set n))
 
@@ -35,8 +35,8 @@ flag_memory = record { numbers = λ w. bit w ∷ []; put = λ i n w. is_set n }
 abbrev pub granted : {V : Type 0} → Next FlagPoint (Answer V)
 granted = Answers Granted (Some Write)
 
--- Each call's steps. The exchange of `Lock` is weak, and after it has failed `Lock` looks until the flag is clear. Only
--- a set flag is released.
+-- The steps of each call. `Lock` makes a weak exchange; after that has failed, it looks until the flag is clear. A release is possible only
+-- if the flag is set.
 abbrev pub act_of : {V : Type 0} → FlagCall → FlagPoint → Option Hold → Act Bool FlagPoint (Answer V)
 act_of Lock First h = weak_exchange 0 lock (λ p. gets p to_write) granted (Continue Second)
 act_of Lock Second h = load_if is_set (λ n. Continue Second) (λ n. Continue First)

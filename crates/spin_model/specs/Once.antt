@@ -23,21 +23,21 @@ use Rattle.spin_model.specs.Asks.{initializes, fails_to_initialize, waits_for_va
 abbrev pub is_there : ℕ → Bool
 is_there w = w == 2
 
--- the answer is the present value
+-- the call answers the value that is there
 abbrev pub tells : Option Hold → Next OncePoint (Answer (Unit {0}))
 tells h = Answers (Value tt) h
 
 abbrev pub OnceAct : Type 0
 OnceAct = Act ℕ OncePoint (Answer (Unit {0}))
 
--- A call with a closure looks first. It begins its closure if there is no value, and waits while another one runs.
+-- A call with a closure looks first. If there is no value, it begins its closure; while another closure runs, it waits.
 abbrev pub runs : OnceAct → OncePoint → Option Hold → OnceAct
 runs end Look h = load_if is_there (λ w. tells h) (λ w. Continue TryBegin)
 runs end TryBegin h = exchange (swap 0 begun) (λ p. gets p to_begin) (Continue Run) (λ w. either (is_there w) (tells h) (Continue Await))
 runs end Await h = load_if is_there (λ w. tells h) (λ w. either (w == 0) (Continue TryBegin) (Continue Await))
 runs end Run h = end
 
--- the end of its closure: it gives a value, which the same step stores, or it fails
+-- the step that ends the call's own closure: it stores the value, or it fails
 abbrev pub ends : {V : Type 0} → Option V → Option Hold → OnceAct
 ends (Some v) h = store (λ w. w == 1) (stores (completed 1)) (λ p. completes p) (tells h)
 ends None h = store (λ w. w == 1) (stores (failed 1)) (λ p. fails p) (Answers Failed h)

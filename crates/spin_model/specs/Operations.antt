@@ -1,4 +1,4 @@
--- What a step of a call is: one operation on one word, such as a processor makes.
+-- The operations on words: a step of a call is one operation on one word, as a processor makes it.
 use Rattle.std.specs.Prelude.{◌≡◌, ℕ, ◌+◌, ◌-◌, ◌%◌, ◌==◌, Bool, true, false, Option, Some, is_some, if◌then◌else◌, get_or, slice_set}
 use Rattle.std.specs.List.{list_all}
 use Rattle.spin_model.specs.declared.place.Hold.{Hold}
@@ -10,7 +10,7 @@ use Rattle.spin_model.specs.Machines.{Machine}
 
 pub data Operation : Type 0 where
   loads : Operation
-  exchanges : ℕ → ℕ → Operation  -- it replaces the first number, if it finds that, by the second
+  exchanges : ℕ → ℕ → Operation  -- it replaces the first number by the second, if it finds the first
   adds : ℕ → Operation
   subtracts : ℕ → Operation
   sets_lowest_bit : Operation
@@ -25,33 +25,33 @@ performed (subtracts k) n = n - k
 performed sets_lowest_bit n = if n % 2 == 0 then n + 1 else n
 performed (stores k) n = k
 
--- Whenever the step is possible, it makes this operation on the i-th word and leaves the others. Its outcome depends
--- only on the number in that word.
+-- Whenever the step is possible, it makes this operation on the i-th word, and leaves the other words. Its outcome depends only on the
+-- number that it finds.
 pub record Performs {W V C L A : Type 0} (m : Machine W V C L A) (c : C) (l : L) (h : Option Hold) (i : ℕ) (operation : Operation) : Type 0 where
   pub words : (w : W) (v : Option V) → m.can w c l h ≡ true → m.numbers (m.step w v c l h).words ≡ slice_set (m.numbers w) i (performed operation (get_or (m.numbers w) i 0))
   pub next : (w u : W) (v : Option V) → m.can w c l h ≡ true → m.can u c l h ≡ true → get_or (m.numbers w) i 0 ≡ get_or (m.numbers u) i 0 → (m.step w v c l h).next ≡ (m.step u v c l h).next
   pub placed : (w u : W) (v : Option V) → (m.step w v c l h).placed ≡ (m.step u v c l h).placed
 
--- a step is one operation, unless steps of this kind of lock are whole sections under a lock of its own
+-- a step is one operation, unless this kind of lock makes steps that are whole sections
 abbrev pub IsOneOperation : {W V C L A : Type 0} → Bool → Machine W V C L A → C → L → Option Hold → Type 0
 IsOneOperation true m c l h = Unit {0}
 IsOneOperation false m c l h = (i : ℕ) × (operation : Operation) × Performs m c l h i operation
 
--- A spurious failure is that of an exchange. The call continues as it does when it finds another number.
+-- Only an exchange fails spuriously. The call then goes on as if the exchange had found another number.
 abbrev pub RefusesAsLost : {W V C L A : Type 0} → Machine W V C L A → C → L → Option Hold → Next L A → Type 0
 RefusesAsLost {W} {V} m c l h next =
     (i from to : ℕ) × Performs m c l h i (exchanges from to) × ((w : W) (v : Option V) → (get_or (m.numbers w) i 0 == from) ≡ false → (m.step w v c l h).next ≡ next)
     × ((p : ℕ) (w : W) → (get_or (m.numbers w) i 0 == from) ≡ true → is_some (m.change p w c l h) ≡ true)
 
--- what holds of the calls and steps of an object, whatever the schedule
+-- what holds of an object's calls and steps in every schedule
 pub record Stepwise {W V C L A : Type 0} (m : Machine W V C L A) : Type 0 where
-  -- the calls are those of the kind of lock, and each begins exactly if its party holds what it needs
+  -- each call is one of its kind of lock, and begins exactly if its party holds what the call needs
   pub calls : (c : C) (h : Option Hold) → (n : ℕ) × AnyOf (λ what. m.asks c h ≡ what) (m.lock_kind.calls n h)
   pub begins : (c : C) (h : Option Hold) → is_some (m.begin c h) ≡ (m.asks c h).begins h
   -- a call that begins makes the plain steps of its kind of lock
   pub fits : (c : C) (h : Option Hold) (said : Said) (p : ℕ) → (m.asks c h).begins h ≡ true
       → list_all (list_all (is_step_of m.lock_kind)) (own_steps ((m.asks c h).answers said) p) ≡ true
-  -- what a call gets by a weak exchange it gets by no other step
+  -- what a call gets by a weak exchange, no other step gets
   pub weak : (p : ℕ) (c : C) (l : L) (h : Option Hold) (w : W) (d : Change) → m.change p w c l h ≡ Some d → (m.asks c h).gets_weakly d ≡ true → is_some (m.refuse c l h) ≡ true
   pub operates : (c : C) (l : L) (h : Option Hold) → IsOneOperation m.lock_kind.steps_in_sections m c l h
   pub refuses : (c : C) (l : L) (h : Option Hold) (next : Next L A) → m.refuse c l h ≡ Some next → RefusesAsLost m c l h next

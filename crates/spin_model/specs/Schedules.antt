@@ -28,26 +28,27 @@ pub record Shown (O W V C L : Type 0) : Type 0 where
   pub object : O
   pub state : State W V C L
 
--- an entry of a schedule
+-- an entry of a schedule: a party and its move
 abbrev pub Entry : Type 0 → Type 0 → Type 0
 Entry C V = ℕ × Move C V
 
--- the outcome of an entry
+-- what one entry leads to: its outcome and the next state
 pub record Happened (W V C L A : Type 0) : Type 0 where
   pub outcome : Outcome A V
   pub next : State W V C L
 
--- a party with this hold may read the value; `may_write`: may replace it
+-- a party with this hold may read the value
 abbrev pub may_read : Hold → Bool
 may_read hold.Starver = false
 may_read _ = true
 
+-- a party with this hold may replace the value
 abbrev pub may_write : Hold → Bool
 may_write hold.Write = true
 may_write (hold.Ticket t) = true
 may_write _ = false
 
--- the party no longer shares the value
+-- a party with this seat leaves the value to the owner
 abbrev pub yields_to_owner : {C L : Type 0} → Seat C L → Bool
 yields_to_owner Idle = true
 yields_to_owner (Calling c l h) = false
@@ -87,7 +88,7 @@ abbrev pub goes_on : {W V C L A : Type 0} → State W V C L → ℕ → C → Op
 goes_on s p c h (Continue l) = record { outcome = outcome.GoingOn; next = seated s p (Calling c l h) }
 goes_on s p c h (Answers a after) = record { outcome = outcome.Answered a None; next = seated s p (resting after) }
 
--- a value that a step stores is the value from then on
+-- the value after a step: the one that the step stores, or the old one
 abbrev pub placed : {V : Type 0} → Option V → Option V → Option V
 placed None old = old
 placed (Some v) old = Some v
@@ -129,11 +130,11 @@ abbrev pub leaks : {W V C L A : Type 0} → State W V C L → ℕ → Seat C L �
 leaks s p (Holding h) = record { outcome = outcome.Leaked; next = seated s p (Leaked h) }
 leaks s p _ = skipped s
 
--- the owner has the lock to itself
+-- the owner may use the value: the object is owned, and every party leaves the value to the owner
 abbrev pub is_owners : {W V C L A : Type 0} → Machine W V C L A → State W V C L → Bool
 is_owners m s = m.owned && list_all yields_to_owner s.seats
 
--- every leaked party is then gone
+-- the state after the owner has used the value: every leaked party is gone
 abbrev pub let_go : {W V C L : Type 0} → State W V C L → State W V C L
 let_go s = record s { seats = map seen_by_owner s.seats }
 
@@ -141,7 +142,7 @@ abbrev pub owner_gets : {W V C L A : Type 0} → State W V C L → Bool → Happ
 owner_gets s true = record { outcome = outcome.Value s.value; next = let_go s }
 owner_gets s false = skipped s
 
--- if there is no value, the owner writes nothing
+-- the owner replaces the value, if there is one
 abbrev pub owner_writes : {W V C L A : Type 0} → State W V C L → V → Option V → Happened W V C L A
 owner_writes s v None = record { outcome = outcome.Value None; next = let_go s }
 owner_writes s v (Some old) = record { outcome = outcome.Written; next = let_go (record s { value = Some v }) }
@@ -161,16 +162,16 @@ moves m s p Leak seat = leaks s p seat
 moves m s p OwnerGet seat = owner_gets s (is_owners m s)
 moves m s p (OwnerSet v) seat = owner_sets s v (is_owners m s)
 
--- a party that does not exist is skipped
+-- a move of a party with this seat; if the party does not exist, the move is skipped
 abbrev pub moves_at : {W V C L A : Type 0} → Machine W V C L A → State W V C L → ℕ → Move C V → Option (Seat C L) → Happened W V C L A
 moves_at m s p move None = skipped s
 moves_at m s p move (Some seat) = moves m s p move seat
 
--- the outcome of one entry
+-- what one entry leads to
 abbrev pub happens : {W V C L A : Type 0} → Machine W V C L A → State W V C L → ℕ → Move C V → Happened W V C L A
 happens m s p move = moves_at m s p move (slice_get s.seats p)
 
--- at first all parties are idle
+-- the state before any move: all parties are idle
 abbrev pub at_first : {W V C L A : Type 0} → Machine W V C L A → ℕ → State W V C L
 at_first m n = record { words = m.words; value = m.value; seats = replicate n Idle }
 
@@ -179,7 +180,7 @@ abbrev pub after : {W V C L A : Type 0} → Machine W V C L A → State W V C L 
 after m s [] = s
 after m s (e ∷ es) = after m (happens m s e.0 e.1).next es
 
--- the events of the schedule, without the places where calls began
+-- the events of the schedule; answers do not have the places yet where their calls began
 abbrev pub events_of : {W V C L A : Type 0} → Machine W V C L A → State W V C L → List (ℕ × Move C V) → List (Event W V A)
 events_of m s [] = []
 events_of m s (e ∷ es) =
@@ -190,7 +191,7 @@ abbrev pub is_begun : {V A : Type 0} → Outcome A V → Bool
 is_begun outcome.Begun = true
 is_begun _ = false
 
--- the place of the party's last beginning among these events; the first event has the place k
+-- the place of the party's last `Begun` among these events, of which the first has the place k
 abbrev pub last_begin : {W V A : Type 0} → ℕ → ℕ → Option ℕ → List (Event W V A) → Option ℕ
 last_begin p k found [] = found
 last_begin p k found (e ∷ es) = last_begin p (k + 1) (if (e.party == p) && is_begun e.outcome then Some k else found) es
@@ -199,12 +200,12 @@ abbrev pub with_begin : {V A : Type 0} → Option ℕ → Outcome A V → Outcom
 with_begin began (outcome.Answered a b) = outcome.Answered a began
 with_begin began o = o
 
--- the events, with the place of the call's beginning added to each answer
+-- the events; each answer gets the place where its call began
 abbrev pub with_begins : {W V A : Type 0} → List (Event W V A) → List (Event W V A) → List (Event W V A)
 with_begins before [] = []
 with_begins before (e ∷ es) = record e { outcome = with_begin (last_begin e.party 0 None before) e.outcome } ∷ with_begins (before ++ e ∷ []) es
 
--- where each party's call began, as a table; a party beyond its end has begun none
+-- the place where a party's call began, by a table; a party beyond the table has begun none
 abbrev pub begin_of : List (Option ℕ) → ℕ → Option ℕ
 begin_of begins p = unwrap_or (slice_get begins p) None
 

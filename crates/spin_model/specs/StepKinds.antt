@@ -2,10 +2,10 @@
 use Rattle.std.specs.Prelude.{Bool, true, false}
 
 pub data StepKind : Type 0 where
-  plain : StepKind  -- it is made once
+  plain : StepKind  -- a step that the call makes once
   again : StepKind  -- an exchange that the call repeats if it fails
-  look : StepKind  -- a look of a call that waits
-  weak : StepKind  -- a weak exchange that fails, whatever the word is; only the move `Weak` makes such a step
+  look : StepKind  -- a load of a call that waits
+  weak : StepKind  -- a weak exchange that fails, whatever the word is; only the move `Weak` makes it
 
 abbrev pub is_again : StepKind → Bool
 is_again again = true
@@ -19,7 +19,7 @@ abbrev pub is_weak : StepKind → Bool
 is_weak weak = true
 is_weak _ = false
 
--- the kind of a step made by the move `Step`, which never fails spuriously
+-- the kind of a step that the move `Step` makes; such a step never fails spuriously
 abbrev pub by_step : StepKind → StepKind
 by_step weak = plain
 by_step step_kind = step_kind

@@ -5,8 +5,8 @@ use Rattle.spin_model.specs.declared.answer.Answer.{Answer}
 use Rattle.spin_model.specs.Calls.{Asked, LockKind, says_of}
 use Rattle.spin_model.specs.Acts.{Memory, Act, Table}
 
--- With this value, kind of lock and words. It has an owner, no cap and no groups. Its first ticket is 0, and each step
--- is on the first word.
+-- The table with this value, kind of lock and words. Its object has an owner, no cap and no groups. Its first ticket is 0, and each step is
+-- on the first word.
 abbrev pub usual_table : {W V C L X : Type 0} → Option V → LockKind → W → Memory W → (C → Option Hold → L) → (C → L → Option Hold → Act W L (Answer X))
     → (C → Option Hold → Asked) → Table W V C L (Answer X)
 usual_table value kind words memory start act asks =

@@ -21,7 +21,7 @@ use Rattle.spin_model.specs.Acts.{Memory, two_numbers, Act, load, load_if, load_
 use Rattle.spin_model.specs.Tables.{usual_table}
 use Rattle.spin_model.specs.Operations.{stores}
 
--- where calls begin; a release begins with the ticket that its party holds
+-- the point at which a call begins; a release begins with the ticket that its party holds
 abbrev pub starts_at : TicketCall → Option Hold → TicketPoint
 starts_at Lock h = LoadNext
 starts_at TryLock h = TryLoadNext
@@ -40,18 +40,18 @@ word_of LookServing = 1
 word_of (Serve t) = 1
 word_of _ = 0
 
--- if this number is next, some tickets are left
+-- if this number is next, it can still be taken
 abbrev pub is_left : ℕ → Bool
 is_left n = nat_lt n ticket_limit
 
--- this number is served, and its ticket is left
+-- this number is served, and can still be taken
 abbrev pub is_free : ℕ → ℕ → Bool
 is_free n serving = (serving == n) && is_left n
 
 abbrev pub granted : {V : Type 0} → ℕ → Next TicketPoint (Answer V)
 granted t = Answers Granted (Some (hold.Ticket t))
 
--- `lock` tries to take the number that it found next
+-- `lock` goes on to take the number that it found next
 abbrev pub goes_for : {V : Type 0} → ℕ → Next TicketPoint (Answer V)
 goes_for n = Continue (Take n)
 

@@ -1,4 +1,5 @@
-//! `Clone` for each type that is `Copy` if its parameters are. A clone is the same value, and never fails.
+//! `Clone` for each type that is `Copy` where its parameters are. A clone is the same value, and cloning
+//! never fails.
 ghost use Rattle.std.specs.Prelude.{◌≡◌, ⊤};
 
 use crate::answer::Answer;

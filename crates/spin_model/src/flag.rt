@@ -1,5 +1,5 @@
 //! The calls of the lock of one flag, and their points. Begin with [`FlagCall`].
-/// A call of a `Flag`. Each call asks what its comment says: `Flag::new` of `spin_world` promises that.
+/// A call of a `Flag`. `Flag::new` of `spin_world` promises that each call does what its comment says.
 #[derive(Copy)]
 pub enum FlagCall {
     /// Acquires the lock, in as many steps as it needs.
@@ -14,11 +14,11 @@ pub enum FlagCall {
     Release,
 }
 
-/// The point of a call: which step is next. Only `Lock` has a second one.
+/// The point of a call: its next step. Only `Lock` has a second point.
 #[derive(Copy)]
 pub enum FlagPoint {
     /// The first step of any call, and of each further attempt.
     First,
-    /// The look of `Lock` at the flag, after its exchange has failed.
+    /// `Lock` looks at the flag, after its exchange has failed.
     Second,
 }

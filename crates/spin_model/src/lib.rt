@@ -1,7 +1,8 @@
 //! The model of parties: a party's place, the outcomes of its moves, and what a schedule does.
 //!
-//! It has definitions, and types that they use. `spin_world_core` plays them, and proves what holds of every schedule.
-//! Begin with [`Move`] and [`Stepped`]. `after` in specs/Schedules.antt says what a schedule does.
+//! This crate has definitions, and the types that they use. `spin_world_core` plays schedules by these
+//! definitions, and proves what holds of every schedule. Begin with [`Move`] and [`Stepped`]. `after` in
+//! specs/Schedules.antt says what a schedule does.
 #![tactic(auto)]
 
 mod answer;

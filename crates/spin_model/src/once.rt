@@ -1,8 +1,9 @@
 //! The calls of a `Once`, and their points. Begin with [`OnceCall`].
-/// A call of a `OnceObject`. `OnceObject::new` of `spin_world` promises that each call asks what is said here.
+/// A call of a `OnceObject`. `OnceObject::new` of `spin_world` promises that each call does what its comment
+/// says.
 ///
-/// If there is a value, a call with a closure answers it. If there is none, the call runs its closure. While another
-/// closure runs, it waits.
+/// A call with a closure answers the value if there is one. If there is none, the call runs its closure.
+/// While another closure runs, the call waits.
 #[derive(Copy)]
 pub enum OnceCall<V> {
     /// Runs a closure that gives this value.
@@ -15,7 +16,7 @@ pub enum OnceCall<V> {
     InitFromRef(V),
     /// Waits for the value.
     Wait,
-    /// Answers the value, or that there is none. While a closure runs it waits.
+    /// Answers the value, or that there is none. It waits while a closure runs.
     Poll,
     /// Answers the value, or that there is none, without waiting.
     Get,
@@ -23,15 +24,15 @@ pub enum OnceCall<V> {
     IsCompleted,
 }
 
-/// The point of a call: which step is next.
+/// The point of a call: its next step.
 #[derive(Copy)]
 pub enum OncePoint {
     /// The first look of any call, and each further look of `Wait` and `Poll`.
     Look,
-    /// A call with a closure begins to run it by an exchange.
+    /// A call with a closure tries to begin it, by an exchange.
     TryBegin,
     /// The call looks until no other closure runs.
     Await,
-    /// The call's closure ends.
+    /// The call's closure ends: it gives a value, or fails.
     Run,
 }

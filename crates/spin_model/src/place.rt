@@ -2,15 +2,15 @@
 /// What a party holds.
 #[derive(Copy)]
 pub enum Hold {
-    /// Shared access. It may read the value.
+    /// Shared access. The party may read the value.
     Read,
-    /// Shared access that may become exclusive. It may read the value.
+    /// Shared access that may become exclusive. The party may read the value.
     Upgradable,
-    /// Exclusive access. It may read and write the value.
+    /// Exclusive access. The party may read and write the value.
     Write,
-    /// A ticket that has entered, by its number. It may read and write the value.
+    /// A ticket with this number, which has entered. The party may read and write the value.
     Ticket(u64),
-    /// A registration as a starver. It may neither read nor write the value.
+    /// A registration as a starver. The party may neither read nor write the value.
     Starver,
 }
 
@@ -23,20 +23,21 @@ pub enum Place {
     InCall,
     /// The party holds this, and is in no call.
     Holding(Hold),
-    /// The party forgot its guard. It holds for ever, and makes no further call.
+    /// The party leaked its guard. It holds for ever, and makes no further call.
     Leaked(Hold),
-    /// The party has leaked, and the owner has used the value since. The party no longer uses the value.
+    /// The party leaked its guard, and later the owner used the value. The party no longer uses the value.
     Gone,
 }
 
-/// The place of a party, with all that the world keeps of it. Contracts use it; a program uses [`Place`].
+/// The place of a party, with all that the world keeps of it. Contracts use this type; a program uses
+/// [`Place`].
 #[derive(Copy)]
 pub enum Seat<C, L> {
     Idle,
-    /// The party is in this call, at this point. The last part is what it held when the call began.
+    /// The party is in this call, at this point. The third field is what it held when the call began.
     Calling(C, L, Option<Hold>),
     Holding(Hold),
     Leaked(Hold),
-    /// The party is gone. What it leaked still counts in the words.
+    /// The party is gone. The words still count what it leaked.
     Gone(Hold),
 }

@@ -2,20 +2,23 @@
 /// One move of a party. A schedule is a list of parties with their moves.
 #[derive(Copy)]
 pub enum Move<C, V> {
-    /// Begins a call, as an idle party or as a holder. The object says which calls a party may begin.
+    /// Begins a call. The party is idle, or holds something. The object says which calls such a party may
+    /// begin.
     Begin(C),
     /// Makes the next step of the party's call.
     Step,
-    /// Makes the next step of the party's call, if that is a weak exchange. It fails, whatever the word is.
+    /// Makes the next step of the party's call, if that step is a weak exchange. The exchange fails, whatever
+    /// the word is.
     Weak,
-    /// Reads the value, as a holder that may read. It may have leaked.
+    /// Reads the value. The party has to be a holder that may read; it may have leaked its guard.
     Read,
-    /// Replaces the value, as a holder that may write. It may have leaked.
+    /// Replaces the value. The party has to be a holder that may write; it may have leaked its guard.
     Write(V),
-    /// Forgets the guard, as a holder that is in no call.
+    /// Leaks the guard. The party has to be a holder in no call.
     Leak,
-    /// Reads the value, as the owner; the party only stands for it. The move is open to any party of the world if the
-    /// object is owned, and no party holds or is in a call. After it every leaked party is gone.
+    /// Reads the value as the object's owner. The party of the entry does not matter, but has to exist. The
+    /// move is open if the object is owned and no party holds or is in a call. After it every party that
+    /// leaked is gone.
     OwnerGet,
     /// Replaces the value, as the owner. It is open exactly when `OwnerGet` is.
     OwnerSet(V),
@@ -24,7 +27,7 @@ pub enum Move<C, V> {
 /// The outcome of one move.
 #[derive(Copy)]
 pub enum Outcome<A, V> {
-    /// The move was not open to the party, or there is no such party. Nothing changed.
+    /// The move was not open to the party, or the party does not exist. Nothing has changed.
     Skipped,
     /// The call has begun. It has made no step yet.
     Begun,
@@ -33,16 +36,16 @@ pub enum Outcome<A, V> {
     /// The step ends the call with this answer.
     Answered {
         answer: A,
-        /// The place of the call's `Begin` in this schedule, from 0. `None`: the call began before this schedule, or
-        /// `World::act` made the move.
+        /// The place of the call's `Begin` in this schedule, counted from 0. It is `None` if the call began
+        /// before this schedule, or if `World::act` made the move.
         began: Option<usize>,
     },
-    /// The value that a holder or the owner found, or `None` if there is none. If there is none, `OwnerSet` has this
-    /// outcome too.
+    /// The value that a holder or the owner found, or `None` if there is none. `OwnerSet` has this outcome
+    /// too if there is no value to replace.
     Value(Option<V>),
     /// The value is replaced.
     Written,
-    /// The party has forgotten its guard.
+    /// The party has leaked its guard.
     Leaked,
 }
 

@@ -1,12 +1,12 @@
 //! The outcome of a step of a call. Begin with [`Stepped`].
 use crate::place::Hold;
 
-/// How a call continues after a step, if at all.
+/// How a call goes on after a step: it continues or ends.
 #[derive(Copy)]
 pub enum Next<L, A> {
     /// The call continues at this point.
     Continue(L),
-    /// The call ends with this answer. From then on the party holds this.
+    /// The call ends with this answer. The second field is what the party then holds.
     Answers(A, Option<Hold>),
 }
 
@@ -17,6 +17,6 @@ pub struct Stepped<W, V, L, A> {
     pub words: W,
     /// The new value, if the step replaces the value.
     pub placed: Option<V>,
-    /// How the call continues, if at all.
+    /// How the call goes on.
     pub next: Next<L, A>,
 }

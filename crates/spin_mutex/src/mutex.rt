@@ -14,12 +14,12 @@ mod texts;
 
 /// A mutual exclusion lock on which a waiting thread spins.
 ///
-/// Inside it is a [`TicketMutex`], so threads are served in the order of their tickets. Which lock is inside is not
-/// part of the contract. A waiting thread passes the time with the strategy `R`.
+/// It contains a [`TicketMutex`], so threads are served in the order of their tickets. The contract does not
+/// say which lock that is. A waiting thread passes the time with the strategy `R`.
 ///
 /// # Contract
-/// While a guard or a hold of the lock lives, no other call acquires it. A guard gives a value of `T`, with all that
-/// the invariant of `T` says. Nothing else is promised of what other threads wrote.
+/// While a guard or a hold of the lock lives, no other call acquires the lock. A guard gives a value of `T`,
+/// which satisfies the invariant of `T`. Nothing else is promised of what other threads wrote.
 ///
 /// # Examples
 /// ```
@@ -40,21 +40,22 @@ pub struct Mutex<T, R = Spin> {
 /// It gives access to the value by `Deref` and `DerefMut`.
 ///
 /// # Contract
-/// `value_of` is the lock's value. What is written through the guard is read through it.
+/// `value_of` is the lock's value. A read through the guard returns what was last written through it.
 #[derive(Drop)]
 #[must_use = "dropping the guard at once releases the lock: bind it, or write `drop(..)`"]
 pub struct MutexGuard<'a, T, R = Spin> {
     inner: TicketMutexGuard<'a, T, R>,
-    // The clause of `deref_mut` needs this lifetime, and a lender's type has to name it itself.
+    // The clause of `deref_mut` needs this lifetime, and the guard's type has to name it itself.
     life: PhantomData<&'a ()>,
 }
 
-/// A hold on a [`Mutex`]: it keeps the lock without a guard, and gives no access to the value.
+/// A hold on a [`Mutex`]: it keeps the lock held without a guard, and gives no access to the value.
 ///
-/// [`Mutex::force_unlock`] takes it and releases the lock. Dropping it does not release the lock.
+/// [`Mutex::force_unlock`] consumes the hold and releases the lock. Dropping the hold does not release the
+/// lock.
 ///
 /// # Contract
-/// `held_value` is the value that the guard had.
+/// `held_value` is the value of the guard that became this hold.
 #[derive(Drop)]
 #[must_use = "dropping a hold does not release the lock: pass it to `force_unlock`"]
 pub struct Held<'a, T, R = Spin> {
@@ -99,7 +100,7 @@ impl<T, R> Mutex<T, R> {
         Self::over(TicketMutex::new(value))
     }
 
-    // Wraps an existing lock.
+    // Wraps an existing ticket lock.
     pub(crate) fn over(inner: TicketMutex<T, R>) -> Self
         ensures { result.inner ≡ inner }
     {
@@ -108,10 +109,11 @@ impl<T, R> Mutex<T, R> {
 
     /// Consumes the mutex and returns the value.
     ///
-    /// It does not acquire the lock: no other thread has the mutex. A value that was leaked or held is returned too.
+    /// It does not acquire the lock, since no other thread can have the mutex. It also returns a value whose
+    /// guard was leaked or held.
     ///
     /// # Contract
-    /// No clause. The call returns.
+    /// Only that the call returns.
     pub fn into_inner(self) -> T {
         let Self { inner } = self;
         inner.into_inner()
@@ -119,10 +121,10 @@ impl<T, R> Mutex<T, R> {
 
     /// Returns a mutable reference to the value.
     ///
-    /// It does not acquire the lock: no other thread has the mutex.
+    /// It does not acquire the lock, since no other thread can have the mutex.
     ///
     /// # Contract
-    /// No clause. The call returns.
+    /// Only that the call returns.
     ///
     /// # Examples
     /// ```
@@ -138,11 +140,11 @@ impl<T, R> Mutex<T, R> {
 
     /// Tries to acquire the mutex. Returns `None` at once if it is held.
     ///
-    /// It also returns `None` while another thread waits. Since the lock inside is not part of the contract, `None` is
-    /// possible for a free mutex too.
+    /// It also returns `None` while another thread waits. The contract does not say which lock the mutex
+    /// contains, so it allows `None` for a free mutex too.
     ///
     /// # Contract
-    /// A guard belongs to a holder of the lock (`holds`). `None` promises nothing. The call returns.
+    /// A guard belongs to a holder of the lock (`holds`). After `None` nothing is promised. The call returns.
     ///
     /// # Examples
     /// ```
@@ -170,7 +172,7 @@ impl<T, R> Mutex<T, R> {
     /// By the time the caller reads the answer it may be out of date.
     ///
     /// # Contract
-    /// No clause. The call returns.
+    /// Only that the call returns.
     ///
     /// # Examples
     /// ```
@@ -186,12 +188,12 @@ impl<T, R> Mutex<T, R> {
         self.inner.is_locked()
     }
 
-    /// Returns a pass that has made no call. It makes no operation on the lock.
+    /// Returns a pass that has made no call. It does not touch the lock.
     ///
-    /// The calls of the pass are those of the inner queue of tickets: its guard is a [`TicketMutexGuard`].
+    /// The calls of the pass are those of the ticket lock inside: its guard is a [`TicketMutexGuard`].
     ///
     /// # Contract
-    /// The pass is of this mutex (`lock`), and knows nothing of its history yet (`new`).
+    /// The pass is of this mutex (`lock`), and knows nothing of the mutex's history yet (`new`).
     pub fn pass(&self) -> ticket::Pass<'_, T, R>
         ensures new { (history result ≡ []) × (party result ≡ None) }
         ensures lock { (lock_of result ≡ name_of self.now.inner) × (opening_of result ≡ opening self.now.inner) }
@@ -201,10 +203,10 @@ impl<T, R> Mutex<T, R> {
 
     /// Releases the lock that the hold keeps.
     ///
-    /// The call consumes the hold, so no lock is released twice.
+    /// The call consumes the hold, so no lock can be released twice.
     ///
     /// # Contract
-    /// No clause. The call returns.
+    /// Only that the call returns.
     pub fn force_unlock(held: Held<'_, T, R>) {
         let Held { inner } = held;
         TicketMutex::force_unlock(inner);
@@ -214,8 +216,8 @@ impl<T, R> Mutex<T, R> {
 impl<T, R: RelaxStrategy> Mutex<T, R> {
     /// Acquires the mutex, spinning until it is free.
     ///
-    /// A waiting thread passes the time with the strategy `R`. The call never returns if its own thread holds the lock,
-    /// or once all 2^64 - 1 tickets of the lock inside are used up.
+    /// A waiting thread passes the time with the strategy `R`. The call never returns if its own thread holds
+    /// the lock, or if all 2^64 - 1 tickets of the ticket lock inside are used up.
     ///
     /// # Contract
     /// The guard belongs to a holder of the lock (`holds`). Whether and when the call returns is not promised.
@@ -343,10 +345,10 @@ impl<T, R: RelaxStrategy> Lock<T> for Mutex<T, R> {
     }
 }
 
-// SAFETY: the inner lock, which owns the value, is sent too.
+// SAFETY: the inner lock owns the value, and is `Send`.
 unsafe impl<T: Send, R> Send for Mutex<T, R> {}
 
-// SAFETY: the inner lock gives the value to one holder at a time, in whatever thread.
+// SAFETY: the inner lock gives the value to one holder at a time, on whatever thread.
 unsafe impl<T: Send, R> Sync for Mutex<T, R> {}
 
 // SAFETY: the new thread has the value to itself, like the old one.
@@ -355,8 +357,8 @@ unsafe impl<T: Send, R> Send for MutexGuard<'_, T, R> {}
 // SAFETY: a shared guard lends a `&T` and no more.
 unsafe impl<T: Sync, R> Sync for MutexGuard<'_, T, R> {}
 
-// SAFETY: the new thread releases the lock, and so passes the value to its next user. That asks what a guard asks.
+// SAFETY: the new thread may release the lock, and so pass the value to its next user. A guard asks the same.
 unsafe impl<T: Send, R> Send for Held<'_, T, R> {}
 
-// SAFETY: a shared hold lends nothing. It asks what the lock asks.
+// SAFETY: a shared hold lends nothing.
 unsafe impl<T: Send, R> Sync for Held<'_, T, R> {}

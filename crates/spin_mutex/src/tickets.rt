@@ -1,11 +1,12 @@
-//! The numbers of the tickets inside a mutex, as `spin_ticket::tickets` has them. Begin at [`next`].
+//! The ticket numbers of a mutex, by the functions of `spin_ticket::tickets`. Begin at [`next`].
 use crate::mutex::Mutex;
 use spin_ticket::tickets;
 
-/// Returns the number of the next ticket: after [`Mutex::new`], how many tickets were taken.
+/// Returns the number of the next ticket. If the mutex was created by [`Mutex::new`], this is how many
+/// tickets were taken.
 ///
 /// # Contract
-/// No clause. The call returns.
+/// Only that the call returns.
 ///
 /// # Examples
 /// ```
@@ -20,10 +21,11 @@ pub fn next<T, R>(mutex: &Mutex<T, R>) -> u64 {
     tickets::next(&mutex.inner)
 }
 
-/// Creates an unlocked mutex whose first ticket has the number `first`. With a late one, tickets are soon used up.
+/// Creates an unlocked mutex whose first ticket has the number `first`. With a large number, tickets are soon
+/// used up.
 ///
 /// # Contract
-/// No clause. The call returns.
+/// Only that the call returns.
 ///
 /// # Examples
 /// ```

@@ -1,4 +1,4 @@
--- The words of a command, and how the program ends at each fault.
+-- The words of a command, and how the program ends for each fault.
 use Rattle.std.proofs.Common.{◌≡◌, ℕ, ◌≤◌, Bool, true, false, not, Option, Result, Ok, Err, IfErr, List, [], ◌∷◌, length, get_or, arith, ap, inl, inr, Bor, codes}
 use Rattle.std.specs.Str.{bytes_eq}
 use Rattle.std.proofs.lemmas.Slice.Eq.{bytes_eq-Decides}
@@ -11,11 +11,11 @@ use Rattle.spin_run.specs.declared.run.faults.Fault.{Fault}
 use Rattle.spin_run.specs.declared.run.faults.Fault.TheVariants.{Usage, Refused, Memory, Read, BadLine, Write}
 use Rattle.spin_run.specs.Faults.{Stops, StopsCount, status_of, line_of}
 
--- two texts are equal if a test says that they do not differ
+-- two texts are equal if the test `other` finds no difference
 is_text : (xs ys : List ℕ) (other : Bool) → other ≡ not (bytes_eq xs ys) → other ≡ false → xs ≡ ys
 is_text xs ys other is same = (bytes_eq-Decides xs ys).0 (grind (arith, is, same))
 
--- Three words ask for a count if the first is `count` and the others are numbers within the limits.
+-- three words ask for a count if the first is `count` and the others are numbers within the limits
 pub asks_count : (words : List (Bor (List ℕ))) (d e f : Bor (List ℕ)) (workers times : ℕ) → length words ≡ 3 → (other : Bool) → other ≡ not (bytes_eq (get_or words 0 d).now (codes "count")) → other ≡ false → IsNumber (get_or words 1 e).now workers → workers ≤ 64 → IsNumber (get_or words 2 f).now times → times ≤ 1000000 → AsksCount (texts_of words) workers times
 asks_count [] d e f workers times three other is same first few second small = absurd (omega arith)
 asks_count (a ∷ []) d e f workers times three other is same first few second small = absurd (omega arith)
@@ -24,7 +24,7 @@ asks_count (a ∷ b ∷ c ∷ []) d e f workers times three other is same first 
     (b.now, c.now, ap (λ w. w ∷ b.now ∷ c.now ∷ []) (is_text a.now (codes "count") other is same), first, few, second, small)
 asks_count (a ∷ b ∷ c ∷ x ∷ xs) d e f workers times three other is same first few second small = absurd (omega arith)
 
--- the one word `world` asks for a world, and others do not
+-- the one word `world` asks for a world; other words do not
 pub asks_world : (words : List (Bor (List ℕ))) (d : Bor (List ℕ)) → length words ≡ 1 → bytes_eq (get_or words 0 d).now (codes "world") ≡ true → AsksWorld (texts_of words)
 asks_world [] d one same = absurd (omega (arith, one))
 asks_world (a ∷ []) d one same = ap (λ w. w ∷ []) ((bytes_eq-Decides a.now (codes "world")).0 same)
@@ -41,7 +41,7 @@ count_stops words workers times Unread Unwritten t (Err Read) asks unread stops 
 count_stops words workers times Unread Unwritten t (Err (BadLine n)) asks unread stops = absurd stops
 count_stops words workers times Unread Unwritten t (Err Write) asks unread stops = inl (unread, stops.0, (workers, times, asks, stops.1))
 
--- the usage is the answer to a command line that asks for nothing
+-- a command line that is no command gets the usage line and the status 2
 pub told_usage : (words : List (List ℕ)) (Unread Unwritten : Type 0) (t : Streams) (failed : Bool) (old new : Option (List ℕ)) (f : Fault) (status : ℕ) → Stops words Unread Unwritten t f → status ≡ status_of f → Told failed old new (line_of f)
     → AsksNothing words → (status ≡ 2) × Told failed old new usage_line
 told_usage words Unread Unwritten t failed old new Usage status stops is told none = (is, told)

@@ -17,11 +17,11 @@ AsksSomeCount words = (workers : ℕ) × (times : ℕ) × AsksCount words worker
 abbrev pub AsksWorld : List (List ℕ) → Type 0
 AsksWorld words = words ≡ codes "world" ∷ []
 
--- the words ask for nothing that the program does
+-- the words are no command
 abbrev pub AsksNothing : List (List ℕ) → Type 0
 AsksNothing words = ((workers times : ℕ) → ¬ (AsksCount words workers times)) × (¬ (AsksWorld words))
 
--- what a count writes, with so many workers that each count so many times
+-- what a count writes: the total of `workers` workers that each add `times` times
 abbrev pub total_text : ℕ → ℕ → List ℕ
 total_text workers times = decimal (workers * times) ++ 10 ∷ []
 
@@ -30,7 +30,7 @@ abbrev pub Counts : List (List ℕ) → Streams → Type 0
 Counts words t =
     (t.sink_failed ≡ false) × ((workers : ℕ) × (times : ℕ) × AsksCount words workers times × Appends t.written t.written_after (total_text workers times))
 
--- the program wrote what the words ask for, and no read or write failed; only a world reads
+-- the program wrote what the words ask for, and no read or write failed; a count reads nothing
 abbrev pub Does : List (List ℕ) → Type 0 → Streams → Type 0
 Does words Unread t = (Unread × Counts words t) ⊎ (AsksWorld words × (t.source_failed ≡ false) × (t.sink_failed ≡ false) × Plays t)
 

@@ -1,5 +1,5 @@
--- What the mutex must show for each kind of step: the call may be made, the words become those of the next state, and
--- the answer is the plain one.
+-- What the mutex must show for each kind of step: the pass may make the call, the words become those of the next state, and the answer is
+-- the machine's.
 use Rattle.std.proofs.Common.{◌≡◌, ℕ, ◌==◌, Bool, true, false, not, List, [], ◌∷◌, length, Some, refl, sym, ap, subst, ◌∙◌, ne_eqb, arith}
 use prog.Atomic.{either}
 use Rattle.spin_step.specs.Plain.{Plain, Holder, writing, gets, releases, to_write, is_open, apply, flag_word}
@@ -10,11 +10,11 @@ use Rattle.spin_seated.specs.Locked.{Locked}
 use Rattle.spin_seated.specs.Mutex.{mutex, Knows, holds, tries, loads, reads, writes, frees}
 use Rattle.spin_seated.proofs.Holders.{held_by, alone_state, alone_is, is_held_by}
 
--- the theorem of the step function: if the flag is clear the lock is open, and new is the flag after it
+-- what the step function of `try_lock` ensures: if the flag is clear, the lock is open, and `new` is the flag after it is acquired
 abbrev pub Takes : ℕ → Type 0
 Takes new = (s : Plain) (p : ℕ) → flag_word s ≡ 0 → (is_open s (gets p to_write) ≡ true) × (new ≡ flag_word (apply s (gets p to_write)))
 
--- if the flag is set, new is the flag after the holder has released
+-- what the step function of `unlock` ensures: if the flag is set, `new` is the flag after the holder has released
 abbrev pub Leaves : ℕ → Type 0
 Leaves new = (s : Plain) (p : ℕ) → flag_word s ≡ 1 → is_open s (releases p writing) ≡ true → new ≡ flag_word (apply s (releases p writing))
 

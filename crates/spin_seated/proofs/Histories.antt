@@ -36,7 +36,7 @@ module _ {C A : Type 0} where
   pub calls_by-other : (p q : ℕ) (c : C) (a : A) → q ≢ p → calls_by p (entry q c a ∷ []) ≡ []
   calls_by-other p q c a apart = ap (λ (b : Bool). if b then entry q c a ∷ [] else []) (ne_eqb q p apart)
 
-  -- if a history has no more calls of a pass than its beginning, the part in between has none
+  -- if two histories have the same calls of a pass, so has each history between them
   pub none_between : (p : ℕ) (all mid first : List (Entry C A)) → BeginsWith all mid → BeginsWith mid first → calls_by p all ≡ calls_by p first → calls_by p mid ≡ calls_by p first
   none_between p all mid first more some same =
       let one : calls_by p mid ≡ calls_by p first ++ calls_by p some.rest = ap (calls_by p) some.is ∙ calls_by-append p first some.rest in
@@ -54,22 +54,22 @@ module _ {K S C A H : Type 0} (m : Machine K S C A H) where
   legal-append n s [] ys first rest = rest
   legal-append n s (e ∷ es) ys first rest = (first.0, first.1, first.2, legal-append n (m.next e.pass e.call s) es ys first.3 rest)
 
-  -- a legal history in two parts
+  -- both parts of a legal history are legal
   pub legal-split : (n : ℕ) (s : S) (xs ys : List (Entry C A)) → IsLegalFrom m n s (xs ++ ys) → IsLegalFrom m n s xs × IsLegalFrom m n (after m s xs) ys
   legal-split n s [] ys legal = (tt, legal)
   legal-split n s (e ∷ es) ys legal = let two = legal-split n (m.next e.pass e.call s) es ys legal.3 in ((legal.0, legal.1, legal.2, two.0), two.1)
 
-  -- what holds at first, and is kept by each call that may be made, holds after each legal history
+  -- A property of the first state that each allowed call keeps holds after each legal history.
   module _ (P : S → Type 0) (n : ℕ) (kept : (p : ℕ) (c : C) (s : S) → p < n → m.may p c s ≡ true → P s → P (m.next p c s)) where
     pub always : (s : S) (log : List (Entry C A)) → P s → IsLegalFrom m n s log → P (after m s log)
     always s [] first legal = first
     always s (e ∷ es) first legal = always (m.next e.pass e.call s) es (kept e.pass e.call s legal.0 legal.1 first) legal.3
 
-  -- a call in a legal history: its past is legal, and its answer is the plain one
+  -- for a call in a legal history: the history before it is legal, and the answer is the machine's
   pub answered : (k : K) (before rest : List (Entry C A)) (p : ℕ) (c : C) (a : A) → IsLegal m k (before ++ entry p c a ∷ rest) → IsLegal m k before × (a ≡ m.answer p c (state m k before))
   answered k before rest p c a legal = let two = legal-split (m.passes k) (m.start k) before (entry p c a ∷ rest) legal in (two.0, two.1.2)
 
-  -- what a call of another pass does not change, several such calls do not change
+  -- If no call of another pass changes what a pass holds, a list of such calls does not either.
   module _ (p : ℕ) (steady : (q : ℕ) (d : C) (s : S) → q ≢ p → m.holds p (m.next q d s) ≡ m.holds p s) where
     passed_by : (s : S) (e : Entry C A) (es : List (Entry C A)) (b : Bool) → (e.pass == p) ≡ b → (if b then e ∷ calls_by p es else calls_by p es) ≡ []
         → (calls_by p es ≡ [] → m.holds p (after m (m.next e.pass e.call s) es) ≡ m.holds p (m.next e.pass e.call s)) → m.holds p (after m (m.next e.pass e.call s) es) ≡ m.holds p s
@@ -85,7 +85,7 @@ module _ {K S C A H : Type 0} (m : Machine K S C A H) where
         let alone : calls_by p begins.rest ≡ [] = nothing_more (calls_by p seen) (calls_by p begins.rest) (sym (calls_by-append p seen begins.rest) ∙ (ap (calls_by p) (sym begins.is) ∙ own)) in
         ap (λ (l : List (Entry C A)). m.holds p (state m k l)) begins.is ∙ (ap (m.holds p) (after-append (m.start k) seen begins.rest) ∙ stands (state m k seen) begins.rest alone)
 
-  -- where a call is in the history: what came before it, and what it found and left
+  -- the place of a call in the history: the calls before it, and what it found and left
   pub record MadeAt (x : Known K C A) (c : C) (a : A) (y : Known K C A) : Type 0 where
     pub before : List (Entry C A)
     pub history : y.seen ≡ before ++ entry x.pass c a ∷ []
@@ -116,7 +116,7 @@ module _ {K S C A H : Type 0} (m : Machine K S C A H) where
         left = ap (λ (k : K). state m k y.seen) made.opening ∙ (ap (state m x.opening) made.history ∙ after-append (m.start x.opening) before last);
       }
 
-  -- what a pass knows of its hold is true in the history of all calls, and only its own calls change it
+  -- What a pass knows of its hold is true in the history of all calls, and changes only by its own calls.
   module _ (tracked : IsTracked m) (x : Known K C A) where
     pub still : (log : List (Entry C A)) → BeginsWith log x.seen → calls_by x.pass log ≡ calls_by x.pass x.seen → m.holds x.pass (state m x.opening log) ≡ holds m x
     still log begins own = stands_on x.pass (λ q c s apart. tracked.steady x.pass q c s apart) x.opening log x.seen begins own

@@ -1,4 +1,4 @@
--- What a pass holds, by its own calls.
+-- What a pass holds, as its own calls say it.
 use Rattle.std.proofs.Common.{◌≡◌, ℕ, ◌==◌, ◌&&◌, ◌||◌, cond, Bool, true, false, if◌then◌else◌, filter, map, List, [], ◌∷◌, ◌++◌, Option, Some, None, refl, sym, ap, subst, ◌∙◌, append_assoc, append-nil, eqb-true, eq-eqb}
 use Rattle.std.proofs.lemmas.Bool.{true≢false}
 use Rattle.spin_step.specs.Plain.{Holder, writing, same_kind, is_holder}
@@ -49,13 +49,13 @@ module _ {C H : Type 0} (m : Machine Opening Locked C Answer H) (tracked : IsTra
   pub held_by_own : (k : Opening) (log : List (Entry C Answer)) (p : ℕ) → IsLegal m k log → m.holds p (state m k log) ≡ hold_after turn (m.holds p (m.start k)) (calls_by p log)
   held_by_own k log p legal = held_on k [] log p legal
 
-  -- a pass may make a call, by what it holds
+  -- if a pass made a call, it held what the call needs
   pub may_by_own : (May : H → Type 0) (k : Opening) (before rest : List (Entry C Answer)) (p : ℕ) (c : C) (a : Answer) → IsLegal m k (before ++ entry p c a ∷ rest)
       → (m.may p c (state m k before) ≡ true → May (m.holds p (state m k before))) → May (hold_after turn (m.holds p (m.start k)) (calls_by p before))
   may_by_own May k before rest p c a legal may =
       let two = legal-split m (m.passes k) (m.start k) before (entry p c a ∷ rest) legal in subst May (held_by_own k before p two.0) (may two.1.1)
 
--- For the mutex
+-- For the mutex:
 
 or_true : (b : Bool) → (b || true) ≡ true
 or_true true = refl
@@ -97,7 +97,7 @@ may_hold p Unlock s may = may
 pub calls_own : (k : Opening) (before rest : History) (p : ℕ) (c : Call) (a : Answer) → IsLegal mutex k (before ++ entry p c a ∷ rest) → MayCall c (holds_by (calls_by p before))
 calls_own k before rest p c a legal = may_by_own mutex mutexes.tracked holds_then then_is (MayCall c) k before rest p c a legal (may_hold p c (state mutex k before))
 
--- For the read-write lock
+-- For the read-write lock:
 
 rw_then_is : (c : rwlock.Call) (a : Answer) (held : Option SeatedHold) → rwlock.held_after c a held ≡ rw_lawful.holds_then c a held
 rw_then_is rwlock.TryRead (Truth true) held = refl

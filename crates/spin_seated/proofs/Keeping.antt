@@ -1,4 +1,4 @@
--- The table's rule under each step: a call, a look of two passes at one history, and how seats are added and merged.
+-- How each step keeps the table's rule: a call, a load by two passes that meet, and the splitting and joining of seats.
 use Rattle.std.proofs.Common.{◌≡◌, ℕ, zero, suc, ◌+◌, ◌≤◌, ◌<◌, ◌≢◌, ◌==◌, ⊎_elim, Bool, true, false, cond, List, [], ◌∷◌, ◌++◌, map, take, drop, slice_index, slice_set, set, Option, Some, None, refl, sym, ap, subst, ◌∙◌, append-nil, eq-eqb, eqb-true, arith}
 use Rattle.std.specs.List.{range_with_len}
 use Rattle.std.proofs.lemmas.List.{set-get_or}
@@ -13,7 +13,7 @@ use Rattle.spin_seated.proofs.Totals.{total-append, total-set, two_at_most}
 use Rattle.spin_seated.proofs.Histories.{begins_here, begins_longer, calls_by-append, calls_by-own, calls_by-other, after-append, legal-append, still}
 
 module _ {K C A : Type 0} where
-  -- the same pass, with this history
+  -- the same pass, which now knows this history
   abbrev pub knowing : Known K C A → List (Entry C A) → Known K C A
   knowing x log = record x { seen = log }
 
@@ -28,7 +28,7 @@ module _ {K C A : Type 0} where
   names-cut p (x ∷ xs) = omega arith
 
 module _ {K S C A H : Type 0} (m : Machine K S C A H) where
-  -- the history of all calls, and what each seat knows after one more call
+  -- The history of all calls, and what each seat knows, when one call is added.
   module _ (k : K) (log : List (Entry C A)) where
     stays : (x : Known K C A) (p : ℕ) (c : C) (a : A) → p ≢ x.pass → Fits m k log x → Fits m k (log ++ entry p c a ∷ []) x
     stays x p c a apart fits =
@@ -58,7 +58,7 @@ module _ {K S C A H : Type 0} (m : Machine K S C A H) where
     fit-cut [] fits = (tt, tt)
     fit-cut (x ∷ xs) fits = (fits.1, (fits.0, tt))
 
-  -- a seat of one pass steps, where the rule holds
+  -- A step of a seat with one pass, while the rule holds.
   module _ {X : Type 0} (x : Known K C A) (id i : ℕ) (f : ℕ → ℕ) (s : State X (List (Known K C A))) (kept : OneHistory m x.opening s) (at : get_elem? s.views id ≡ some (x ∷ [])) where
     abbrev own_fits : Fits m x.opening kept.log x
     own_fits = (kept.fit id (x ∷ []) at).0
@@ -118,7 +118,7 @@ module _ {K S C A H : Type 0} (m : Machine K S C A H) where
             legal = grown;
           }
 
-    -- the result of the step, if it finds its word as in the history's state
+    -- the result of the step on these words
     abbrev Steps : List ℕ → Option (C × A) → Type 0
     Steps words t =
         (w : List (Known K C A)) × (act : Act X) × Valid s.homes [] act × OneHistory m x.opening (stepped (record s { words = words }) i (f (slice_index words i)) id [] w act)
@@ -134,7 +134,7 @@ module _ {K S C A H : Type 0} (m : Machine K S C A H) where
         subst (λ (words : List ℕ). Steps words (told (slice_index words i))) (sym kept.words)
         (steps (told (slice_index (m.words now) i)) (owes kept.log kept.legal (still m tracked x kept.log own_fits.begins own_fits.own) (subst (λ (words : List ℕ). slice_index words i < 18446744073709551616) kept.words small)))
 
-  -- a step of a pass, if the lock shows what it must for it
+  -- a step of a pass keeps the rule, if the lock shows what `Owes` asks of that step
   pub allows : {X : Type 0} → IsTracked m → (k : K) (slots id : ℕ) (me : Me X (List (Known K C A))) (x : Known K C A) (i : ℕ) (f : ℕ → ℕ) (st : Step X) (told : ℕ → ℕ → Option (C × A))
       → me ≡ (x ∷ [], []) → x.opening ≡ k → Owes m x i f (told st.first) → Allows (OneHistory m k) slots id me i f (Tells m told st me)
   allows {X} tracked k slots id me x i f st told is opening owes =
@@ -142,7 +142,7 @@ module _ {K S C A H : Type 0} (m : Machine K S C A H) where
       (subst (λ (u : Me X (List (Known K C A))). Allows (OneHistory m x.opening) slots id u i f (Tells m told st u)) (sym is)
       (λ s kept size at small. steps_here x id i f s kept at tracked (told st.first) owes small))
 
-  -- a load by the seat of two passes, which then know the history of all
+  -- a load by a seat of two passes keeps the rule; both then know the history of all calls
   pub shows : {X : Type 0} (k : K) (slots id : ℕ) (me : Me X (List (Known K C A))) (x y : Known K C A) (i : ℕ) (st : Step X)
       → me ≡ (x ∷ y ∷ [], []) → x.opening ≡ k → y.opening ≡ k → Allows (OneHistory m k) slots id me i (λ n. n) (Shows m st me)
   shows {X} k slots id me x y i st is of_x of_y =
@@ -163,7 +163,7 @@ module _ {K S C A H : Type 0} (m : Machine K S C A H) where
         ((kept.log, meets k kept.log x of_x kept.legal fits.0, meets k kept.log y of_y kept.legal fits.1.0), refl),
       ))
 
-  -- the first pass of a seat gets a seat of its own
+  -- the rule holds when the first pass of a seat moves to a seat of its own
   pub splits : {X : Type 0} (k : K) (id : ℕ) (v : List (Known K C A)) → Splits {S = X} (OneHistory m k) id v (drop 1 v) (take 1 v)
   splits k id v s kept at =
       let cut = fit-cut k kept.log v (kept.fit id v at) in
@@ -177,7 +177,7 @@ module _ {K S C A H : Type 0} (m : Machine K S C A H) where
             let parts = names-cut p v in let most : total (names p) s.views ≤ 1 = kept.once p in omega arith;
       }
 
-  -- a seat takes over another's passes
+  -- the rule holds when one seat gets the passes of another
   pub joins : {X : Type 0} (k : K) (id : ℕ) (v : List (Known K C A)) (other : ℕ) (w : List (Known K C A)) → Joins {S = X} (OneHistory m k) id v other w (w ++ v) []
   joins k id v other w s kept at apart there =
       let w_there : get_elem? s.views other ≡ some w = sym (set_else s.views id other (w ++ v) apart) ∙ there in
@@ -196,7 +196,7 @@ module _ {K S C A H : Type 0} (m : Machine K S C A H) where
   fit-newcomers k a zero room = tt
   fit-newcomers k a (suc n) room = (record { opening = refl; given = omega arith; begins = begins_here []; own = refl }, fit-newcomers k (a + 1) n (omega arith))
 
-  -- among passes numbered from a on, none is named twice, and none is below a
+  -- passes numbered from a on name a pass at most once, and none below a
   abbrev NamedOnce : ℕ → ℕ → ℕ → Type 0
   NamedOnce p a times = (times ≤ 1) × (p < a → times ≡ 0)
 
@@ -208,7 +208,7 @@ module _ {K S C A H : Type 0} (m : Machine K S C A H) where
   names-newcomers k p a zero = (omega arith, (λ h. refl))
   names-newcomers k p a (suc n) = named p a (names p (map (newcomer {C = C} {A = A} k) (range_with_len (a + 1) n))) (a == p) refl (names-newcomers k p (a + 1) n)
 
-  -- the table as it begins
+  -- the rule holds of the table as it opens
   pub opens : {X : Type 0} (k : K) (words : List ℕ) → words ≡ m.words (m.start k) → OneHistory m {X = X} k (opening words [] (all_passes m k))
   opens k words is =
       record {

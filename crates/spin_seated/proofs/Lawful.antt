@@ -16,7 +16,7 @@ use Rattle.spin_seated.specs.Lawful.{History, holders, written, read_by, last_wr
 use Rattle.spin_seated.proofs.Histories.{after-append, answered, calls_by-append}
 use Rattle.spin_seated.proofs.Holders.{Alone, alone_state, held_by, truth_is, value_tried}
 
--- For any lock
+-- For any lock:
 module _ {K S C A H : Type 0} (m : Machine K S C A H) where
   pub in_order : (log seen : List (Entry C A)) (p : ℕ) → BeginsWith log seen → BeginsWith (calls_by p log) (calls_by p seen)
   in_order log seen p begins = record { rest = calls_by p begins.rest; is = ap (calls_by p) begins.is ∙ calls_by-append p seen begins.rest }
@@ -35,7 +35,7 @@ module _ {K S C A H : Type 0} (m : Machine K S C A H) where
   agree a b met_a met_b first second =
       (second.history, (λ n e is. ap (λ (l : List (Entry C A)). slice_get l n) second.history ∙ still_there met_a.seen a.seen first.begins n e is), still_there met_a.seen b.seen second.begins)
 
--- what a call reads, and what it writes; it reads the present value, which it does not change
+-- a call that reads the value v and does not write, or one that does not read
 abbrev pub ReadsValue : Option ℕ → Option ℕ → ℕ → Type 0
 ReadsValue None w v = Unit {0}
 ReadsValue (Some x) None v = x ≡ v
@@ -52,7 +52,7 @@ module _ {C H : Type 0} (m : Machine Opening Locked C Answer H) (written : C →
   value_is s [] = refl
   value_is s (e ∷ es) = value_is (m.next e.pass e.call s) es ∙ ap (λ (v : ℕ). value_after written v es) (writes e.pass e.call s)
 
-  -- a call whose answer is the value
+  -- the answer of a call that reads the value
   pub read_is : (k : Opening) (before rest : List (Entry C Answer)) (p v : ℕ) (c : C) → ((s : Locked) → m.answer p c s ≡ Value s.value) → IsLegal m k (before ++ entry p c (Value v) ∷ rest)
       → v ≡ value_after written (m.start k).value before
   read_is k before rest p v c reads legal =
@@ -71,7 +71,7 @@ module _ {C H : Type 0} (m : Machine Opening Locked C Answer H) (written : C →
         one_call e s.value (all_written written es) (calls_by p es) (e.pass == p) (subst (λ (a : Answer). ReadsValue (read e.call a) (written e.call) s.value) (sym legal.2) (reads e.pass e.call s))
         (subst (λ (v : ℕ). InOrderOf (v ∷ all_written written es) (all_read read (calls_by p es))) (writes e.pass e.call s) (reads_in_order n (m.next e.pass e.call s) es p legal.3))
 
--- For the mutex
+-- For the mutex:
 one_at_most : (n : ℕ) (hs : List Holder) → Alone n hs → length (map (λ h. h.party) hs) ≤ 1
 one_at_most n [] alone = omega arith
 one_at_most n (h ∷ []) alone = omega arith
@@ -80,7 +80,7 @@ one_at_most n (h ∷ g ∷ hs) alone = absurd alone
 pub one_holder : (k : Opening) (log : History) → IsLegal mutex k log → length (holders k log) ≤ 1
 one_holder k log legal = one_at_most k.passes (state mutex k log).lock.holders (alone_state k log legal)
 
--- a try, by who holds
+-- a try that succeeds, or fails, by the holders
 won : (p : ℕ) (s : Locked) (hs : List Holder) → Truth true ≡ Truth (is_empty hs) → (map (λ h. h.party) hs ≡ []) × (map (λ h. h.party) (after_call p TryLock (held_by s hs)).lock.holders ≡ p ∷ [])
 won p s [] is = (refl, refl)
 won p s (h ∷ hs) is = absurd (cc (truth_is true false is))

@@ -15,7 +15,7 @@ module _ {S C H : Type 0} (m : Machine Opening S C Answer H) where
   one_seat : (o : Option (Seat ℕ (List (Knows C)))) (s : Seat ℕ (List (Knows C))) → o ≡ Some s → IsOneSeat o → s.me ≡ (first_of_view s.me.0 ∷ [], [])
   one_seat o s is one = subst IsOneSeat is one
 
-  -- the seat in an open pass, whose value is v
+  -- The seat in an open pass whose value is v.
   module _ (o : Option (Seat ℕ (List (Knows C)))) (s : Seat ℕ (List (Knows C))) (v : Seated C) (is : o ≡ Some s) (one : IsOneSeat o) (view : seated_of o ≡ v) where
     seat_is : seated_of (Some s) ≡ v
     seat_is = ap seated_of (sym is) ∙ view
@@ -26,12 +26,12 @@ module _ {S C H : Type 0} (m : Machine Opening S C Answer H) where
     pub its_view : s.me ≡ (v.known ∷ [], [])
     its_view = one_seat o s is one ∙ ap (λ (u : Seated C). (u.known ∷ [], [])) seat_is
 
-    -- a step of the pass, if the lock shows what it must for it
+    -- a step of the pass keeps the rule, if the lock shows what `Owes` asks of that step
     pub allowed : IsTracked m → (k : Opening) (slots i : ℕ) (f : ℕ → ℕ) (st : Step ℕ) (told : ℕ → ℕ → Option (C × Answer)) → v.known.opening ≡ k → Owes m v.known i f (told st.first)
         → Allows (OneHistory m k) slots s.id s.me i f (Tells m told st s.me)
     allowed tracked k slots i f st told opening owes = allows m tracked k slots s.id s.me v.known i f st told its_view opening owes
 
-    -- what the step told, for the seat as it now is
+    -- a seat that satisfies `One` has exactly one pass, and P holds of it
     one_of : (P : Knows C → Type 0) (w : List (Knows C)) → One P w → (w ≡ first_of_view w ∷ []) × P (first_of_view w)
     one_of P [] h = absurd h
     one_of P (x ∷ []) h = (refl, h)
@@ -44,7 +44,7 @@ module _ {S C H : Type 0} (m : Machine Opening S C Answer H) where
         let w = one_of (λ y. Turned m (told st.first found) v.known y) me.0 t.0 in
         ((λ i. (w.0 i, t.1 i)), after_step m tracked v.known (told st.first found) (first_of_view me.0) w.1)
 
-  -- Two passes that meet: the seat of both, before and after its step, and what each has afterwards
+  -- Two passes that meet: the seat of both before and after its step, and the two seats afterwards.
   module _ (st : Step ℕ) (x y : Knows C) (found : ℕ) (before me of_x of_y : Me ℕ (List (Knows C))) where
     two_of : (P : Knows C → Knows C → Type 0) (w : List (Knows C)) → Two P w → (u : Knows C) × (v : Knows C) × (w ≡ u ∷ v ∷ []) × P u v
     two_of P [] h = absurd h
@@ -80,7 +80,7 @@ range-first : (a n : ℕ) → a < n → range_with_len a (n - a) ≡ a ∷ range
 range-first a n below = let e : n - a ≡ suc (n - (a + 1)) = omega arith in ap (range_with_len a) e
 
 module _ {C : Type 0} where
-  -- A seat of the passes from a to n gives up the first of them
+  -- A seat with the passes from a to n gives up the first of them.
   module _ (k : Opening) (a n : ℕ) (below : a < n) (before me own : Me ℕ (List (Knows C))) (was : before ≡ (map (newcomer k) (range_with_len a (n - a)), [])) where
     all_from_a : before ≡ (newcomer k a ∷ map (newcomer k) (range_with_len (a + 1) (n - (a + 1))), [])
     all_from_a = was ∙ ap (λ (l : List ℕ). (map (newcomer k) l, [])) (range-first a n below)

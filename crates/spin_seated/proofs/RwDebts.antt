@@ -14,7 +14,7 @@ use Rattle.spin_seated.specs.Rw.{Locked, Answer, Truth, Value, Call, TryRead, Tr
 use Rattle.spin_seated.proofs.Histories.{after_own}
 use Rattle.spin_seated.proofs.RwSteps.{places, there, Standing, standing, tracked}
 
--- the theorem of the step function: at this word the lock is open to a reader, and new is the word after it
+-- what the step function of a reader ensures: at the word `old` the lock is open to a reader, and `new` is the word after it
 abbrev pub LetsRead : ℕ → ℕ → Type 0
 LetsRead old new =
     (s : Plain) (p : ℕ) → OneOfEach s → s.cap ≡ reader_limit → rw_word s ≡ old → (is_open s (gets p to_read) ≡ true) × (new ≡ rw_word (apply s (gets p to_read)))
@@ -22,7 +22,7 @@ LetsRead old new =
 abbrev pub LetsWrite : ℕ → Type 0
 LetsWrite new = (s : Plain) (p : ℕ) → rw_word s ≡ 0 → (is_open s (gets p to_write) ≡ true) × (new ≡ rw_word (apply s (gets p to_write)))
 
--- a step of a pass, in a given state
+-- A step of a pass in a given state.
 module _ (p : ℕ) (s : Locked) (st : Standing s) where
   abbrev word : ℕ
   word = rw_word s.lock
@@ -33,7 +33,7 @@ module _ (p : ℕ) (s : Locked) (st : Standing s) where
   one : OneOfEach s.lock
   one = one_of_each s.lock st.exclusive
 
-  -- the words after a step that is open, or is not
+  -- the words after a plain step that is made if it is open
   ends : (d : Change) (b : Bool) (n : ℕ) → is_open s.lock d ≡ b → n ≡ rw_word (apply_some s.lock (if b then Some d else None)) → n ∷ s.value ∷ [] ≡ words_if d (is_open s.lock d)
   ends d b n is to = ap (λ (n : ℕ). n ∷ s.value ∷ []) to ∙ sym (ap (words_if d) is)
 
@@ -56,7 +56,7 @@ module _ (p : ℕ) (s : Locked) (st : Standing s) where
       let shut : is_open s.lock (gets p to_write) ≡ false = empty-word s.lock.holders word refl ∙ taken in
       (ap (may_with TryWrite) free, ends (gets p to_write) false word shut refl, ap Truth (sym shut))
 
-  -- what a holder releases is in the plain lock
+  -- if a pass holds, the plain lock has it as a holder of that kind
   stands : (k : SeatedHold) → hold_in p s ≡ Some k → is_holder p (kind_of k) s.lock.holders ≡ true
   stands k has = there p s k (st.one_place p ∙ ap (places p) has)
 
@@ -70,7 +70,7 @@ loads_owed x free log legal has small = looks_at x.pass (found x log) (standing 
 pub acquires_read_owed : (x : Knows) (old new : ℕ) → LetsRead old new → holds x ≡ None → Owes rw x 0 (λ n. either (n == old) new n) (acquires_read old)
 acquires_read_owed x old new lets free log legal has small = comes_at x.pass (found x log) (standing x.opening log legal) old new (rw_word (found x log).lock == old) (has ∙ free) refl lets
 
--- the pass of an open call, now and when the call began
+-- The pass of an open call has the same value now as when the call began.
 module _ {v w : Seated Call} (same : v ≡ w) where
   held_now : holds v.known ≡ holds w.known
   held_now = ap (λ (u : Seated Call). holds u.known) same
@@ -110,7 +110,7 @@ module _ {v w : Seated Call} (same : v ≡ w) where
       let to = rw_turn-gives s.lock v.known.pass writing reading (rw_word s.lock) (omega arith) refl may in let alone = writer-word s.lock v.known.pass st.exclusive mine in
       (ap (may_with Downgrade) (has ∙ (held_now ∙ held)), ends v.known.pass s st (turns v.known.pass writing reading) true _ may (omega (arith, to, alone)), refl)
 
--- a refusal does not change what is held, nor does a step that told nothing
+-- a try that fails does not change what the pass holds, nor does a step that is no call
 pub held_still : (b : Bool) (x y : Knows) → Turned rw (if b then None else Some (TryRead, Truth false)) x y → holds y ≡ holds x
 held_still true x y told = ap holds told
 held_still false x y told = after_own rw tracked x TryRead (Truth false) y told

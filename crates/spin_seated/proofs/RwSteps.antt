@@ -15,7 +15,7 @@ use Rattle.spin_seated.specs.Histories.{state, IsLegal, IsTracked}
 use Rattle.spin_seated.specs.Rw.{Opening, Locked, Answer, Call, TryRead, TryWrite, ReaderCount, WriterCount, Read, Write, UnlockRead, UnlockWrite, Downgrade, SeatedHold, kind_of, held, hold_in, may_with, change, where_open, after_call, plain_answer, held_after, rw}
 use Rattle.spin_seated.proofs.Histories.{always}
 
--- if a call makes a step, it is the pass's own, and open
+-- a step that is made only if it is open is an open step of its party
 opens : (c : Change) (s : Plain) (b : Bool) → is_open s c ≡ b → IsOpenStep s (party_of c) (if b then Some c else None)
 opens c s true is = (refl, is)
 opens c s false is = tt
@@ -38,7 +38,7 @@ others p q c s apart = ap (λ (e : Entries). e.holders) (entries-other s.lock q 
 pub steady : (p q : ℕ) (c : Call) (s : Locked) → q ≢ p → hold_in p (after_call q c s) ≡ hold_in p s
 steady p q c s apart = ap held (others p q c s apart)
 
--- the holders of a pass that holds in this way
+-- the pass's entries among the holders, if it holds this
 abbrev pub places : ℕ → Option SeatedHold → List Holder
 places p None = []
 places p (Some k) = holder p (kind_of k) ∷ []
@@ -48,14 +48,14 @@ held-places p None = refl
 held-places p (Some hold.Read) = refl
 held-places p (Some hold.Write) = refl
 
--- after each legal history nobody holds with a writer, and each pass is at most one holder
+-- after each legal history a writer holds alone, each pass is at most one holder, and the cap is respected
 pub record Standing (s : Locked) : Type 0 where
   pub exclusive : IsExclusive s.lock
   pub cap : s.lock.cap ≡ reader_limit
   pub one_place : (p : ℕ) → own p s ≡ places p (hold_in p s)
 
 module _ (p : ℕ) (s : Locked) where
-  -- the holders of a pass after a step of its own, or none
+  -- the pass's entries among the holders, after a step of its own or none
   abbrev places_after : Option Change → List Holder
   places_after step = (entries_after s.lock step (entries p s.lock)).holders
 

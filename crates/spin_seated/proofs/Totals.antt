@@ -14,13 +14,13 @@ module _ {X : Type 0} where
   total-set f (z ∷ zs) zero x y at = let e : f z ≡ f x = ap f (some-injective z x at) in omega arith
   total-set f (z ∷ zs) (suc i) x y at = omega (arith, total-set f zs i x y at)
 
-  -- one element is at most the sum
+  -- f of one element is at most the sum
   pub at_most : (f : X → ℕ) (xs : List X) (i : ℕ) (x : X) → get_elem? xs i ≡ some x → f x ≤ total f xs
   at_most f [] i x at = absurd (some-ne-none x (sym at))
   at_most f (z ∷ zs) zero x at = let e : f z ≡ f x = ap f (some-injective z x at) in omega arith
   at_most f (z ∷ zs) (suc i) x at = omega (arith, at_most f zs i x at)
 
-  -- so are two elements
+  -- f of two elements is together at most the sum
   pub two_at_most : (f : X → ℕ) (xs : List X) (i j : ℕ) (x y : X) → get_elem? xs i ≡ some x → get_elem? xs j ≡ some y → j ≢ i → f x + f y ≤ total f xs
   two_at_most f [] i j x y at there apart = absurd (some-ne-none x (sym at))
   two_at_most f (z ∷ zs) zero zero x y at there apart = absurd (apart refl)

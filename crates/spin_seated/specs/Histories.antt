@@ -1,4 +1,4 @@
--- One history of all calls of a lock; what each pass knows of it; and what a step tells.
+-- The one history of a lock's calls, what each pass knows of it, and what a step tells.
 use Rattle.std.specs.Prelude.{◌≡◌, ◌≢◌, ℕ, ◌+◌, ◌<◌, ◌≤◌, Bool, true, cond, if◌then◌else◌, ◌==◌, List, [], ◌∷◌, ◌++◌, Option, Some, None, slice_index, slice_set, map}
 use Rattle.std.specs.List.{range_with_len}
 use mathlib.Core.Option.{some}
@@ -7,10 +7,9 @@ use Rattle.atomic_table.specs.Table.{State, Step, Me}
 use Rattle.spin_seated.specs.declared.history.Entry.{Entry}
 use Rattle.spin_seated.specs.declared.history.Known.{Known}
 
--- The plain object. `new` fixes its first state, how many passes there are, and the words of a state.
--- For a pass, a call and a state: whether the pass may make the call, its answer, and the next state.
--- Also what a pass holds in a state, and what it holds after a call of its own, by the answer and what it held
--- before.
+-- The plain object. The arguments of `new` fix its first state and the number of passes. For a pass, a call and a state it says whether the
+-- pass may make the call, the answer, and the next state. `holds` is what a pass holds in a state. `held_after` is what it holds after a
+-- call of its own, by the call's answer and what it held before.
 pub record Machine (K S C A H : Type 0) : Type 0 where
   pub start : K → S
   pub passes : K → ℕ
@@ -61,7 +60,7 @@ module _ {K C A : Type 0} where
   abbrev pub newcomer : K → ℕ → Known K C A
   newcomer k p = record { opening = k; pass = p; seen = [] }
 
-  -- how many elements of the view belong to this pass
+  -- how often this pass is in the view
   abbrev pub names : ℕ → List (Known K C A) → ℕ
   names p v = total (λ x. cond (x.pass == p) 1 0) v
 
@@ -71,7 +70,7 @@ module _ {K S C A H : Type 0} (m : Machine K S C A H) where
   after s [] = s
   after s (e ∷ es) = after (m.next e.pass e.call s) es
 
-  -- one of n passes makes each call, in a state where it may, and gets the answer of the plain lock
+  -- each call is made by one of n passes, in a state where that pass may make it, and has the machine's answer
   abbrev pub IsLegalFrom : ℕ → S → List (Entry C A) → Type 0
   IsLegalFrom n s [] = Unit {0}
   IsLegalFrom n s (e ∷ es) =
@@ -87,14 +86,14 @@ module _ {K S C A H : Type 0} (m : Machine K S C A H) where
   abbrev pub holds : Known K C A → H
   holds x = m.holds x.pass (state x.opening x.seen)
 
-  -- the pass's own calls decide what it holds; calls of others do not change that
+  -- what a pass holds follows from its own calls; calls of other passes do not change it
   pub record IsTracked : Type 0 where
     pub own : (k : K) (log : List (Entry C A)) (p : ℕ) (c : C) → IsLegal k log → m.may p c (state k log) ≡ true
         → m.holds p (m.next p c (state k log)) ≡ m.held_after c (m.answer p c (state k log)) (m.holds p (state k log))
     pub steady : (p q : ℕ) (c : C) (s : S) → q ≢ p → m.holds p (m.next q c s) ≡ m.holds p s
 
-  -- A pass has made a call. The history that it now knows is legal, extends what it knew before, and ends with this
-  -- call and its answer. In between the pass made no other call.
+  -- The pass x made the call c and got the answer a; now it knows what y says. Its history is legal, extends the history of x, and ends
+  -- with this call and its answer. In between the pass made no other call.
   pub record Made (x : Known K C A) (c : C) (a : A) (y : Known K C A) : Type 0 where
     pub opening : y.opening ≡ x.opening
     pub pass : y.pass ≡ x.pass
@@ -103,8 +102,8 @@ module _ {K S C A H : Type 0} (m : Machine K S C A H) where
     pub own : calls_by x.pass y.seen ≡ calls_by x.pass x.seen ++ entry x.pass c a ∷ []
     pub legal : IsLegal x.opening y.seen
 
-  -- A pass now knows this history, which is legal and begins with all that it knew before. The pass made no call in
-  -- between.
+  -- The pass x now knows the history `log`, as y says. This history is legal and begins with the history of x. In between the pass made no
+  -- call.
   pub record Met (x : Known K C A) (log : List (Entry C A)) (y : Known K C A) : Type 0 where
     pub opening : y.opening ≡ x.opening
     pub pass : y.pass ≡ x.pass
@@ -113,7 +112,7 @@ module _ {K S C A H : Type 0} (m : Machine K S C A H) where
     pub own : calls_by x.pass log ≡ calls_by x.pass x.seen
     pub legal : IsLegal x.opening log
 
-  -- what the pass knows agrees with the history of all passes
+  -- What the pass knows agrees with the history of all calls: it is a beginning of that history, and has all calls of the pass.
   pub record Fits (k : K) (log : List (Entry C A)) (x : Known K C A) : Type 0 where
     pub opening : x.opening ≡ k
     pub given : x.pass < m.passes k
@@ -124,8 +123,8 @@ module _ {K S C A H : Type 0} (m : Machine K S C A H) where
   AllFit k log [] = Unit {0}
   AllFit k log (x ∷ xs) = Fits k log x × AllFit k log xs
 
-  -- The rule of the table. There is one legal history, and the words are those of its last state. What each seat
-  -- knows agrees with it, and each pass is in at most one view.
+  -- The rule of the table. There is one legal history, and the words are those of the state after it. What each seat knows agrees with this
+  -- history, and each pass is in at most one seat.
   pub record OneHistory {X : Type 0} (k : K) (table : State X (List (Known K C A))) : Type 0 where
     pub log : List (Entry C A)
     pub words : table.words ≡ m.words (state k log)
@@ -133,21 +132,21 @@ module _ {K S C A H : Type 0} (m : Machine K S C A H) where
     pub fit : (id : ℕ) (v : List (Known K C A)) → get_elem? table.views id ≡ some v → AllFit k log v
     pub once : (p : ℕ) → total (names p) table.views ≤ 1
 
-  -- the view of the first seat: all passes, none of which has made a call
+  -- the view of the first seat: all passes, before any call
   abbrev pub all_passes : K → List (Known K C A)
   all_passes k = map (newcomer k) (range_with_len 0 (m.passes k))
 
-  -- a step is this call with this answer, or no call at all
+  -- what a pass knows before and after a step, which is this call with this answer, or no call
   abbrev pub Turned : Option (C × A) → Known K C A → Known K C A → Type 0
   Turned None x y = y ≡ x
   Turned (Some t) x y = Made x t.0 t.1 y
 
-  -- what a pass holds after such a step
+  -- what a pass holds after a step that is this call, or no call
   abbrev pub held_then : Option (C × A) → H → H
   held_then None h = h
   held_then (Some t) h = m.held_after t.0 t.1 h
 
-  -- what a step of one pass tells: which call it was, by the step's first operand and the word found
+  -- what a step of a seat with one pass tells: which call it was; the step's operand and the word found decide that
   abbrev pub Tells : {X : Type 0} → (ℕ → ℕ → Option (C × A)) → Step X → Me X (List (Known K C A)) → ℕ → Me X (List (Known K C A)) → Type 0
   Tells told step before found after = One (λ x. One (λ y. Turned (told step.first found) x y) after.0) before.0 × (after.1 ≡ before.1)
 
@@ -155,15 +154,14 @@ module _ {K S C A H : Type 0} (m : Machine K S C A H) where
   abbrev pub Shows : {X : Type 0} → Step X → Me X (List (Known K C A)) → ℕ → Me X (List (Known K C A)) → Type 0
   Shows step before found after = Two (λ x y. Two (λ u v. (log : List (Entry C A)) × Met x log u × Met y log v) after.0) before.0 × (after.1 ≡ before.1)
 
-  -- What a lock must show for a step that changes the word i by f, after this history. Either no word changes, and
-  -- there is no call. Or the call may be made, the words become those of the next state, and the answer is the plain
-  -- one.
+  -- What a lock must show for a step that applies f to the word i in the state s. If the step is no call, the words stay the same. If it is
+  -- a call, the pass may make it, the words become those of the next state, and the answer is the machine's.
   abbrev pub Owed : (p i : ℕ) → (ℕ → ℕ) → S → Option (C × A) → Type 0
   Owed p i f s None = slice_set (m.words s) i (f (slice_index (m.words s) i)) ≡ m.words s
   Owed p i f s (Some t) =
       (m.may p t.0 s ≡ true) × (slice_set (m.words s) i (f (slice_index (m.words s) i)) ≡ m.words (m.next p t.0 s)) × (t.1 ≡ m.answer p t.0 s)
 
-  -- the same after each legal history in which the pass holds what it knows
+  -- the lock shows this after each legal history in which the pass holds what it knows to hold
   abbrev pub Owes : Known K C A → (i : ℕ) → (ℕ → ℕ) → (ℕ → Option (C × A)) → Type 0
   Owes x i f told =
       (log : List (Entry C A)) → IsLegal x.opening log → m.holds x.pass (state x.opening log) ≡ holds x → slice_index (m.words (state x.opening log)) i < 18446744073709551616

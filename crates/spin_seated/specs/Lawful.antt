@@ -23,21 +23,22 @@ holds_then TryLock (Truth true) held = true
 holds_then Unlock a held = false
 holds_then c a held = held
 
--- what it holds after these calls of its own
+-- what a pass holds after these calls, which are its own
 abbrev pub holds_by : History → Bool
 holds_by own = hold_after holds_then false own
 
--- which calls a pass may make while it holds, and while it does not
+-- which calls a pass may make while it holds the lock, and while it does not
 abbrev pub MayCall : Call → Bool → Type 0
 MayCall TryLock held = Unit {0}
 MayCall IsLocked held = Unit {0}
 MayCall c held = held ≡ true
 
--- the value that a call writes; the value that a call reads
+-- the value that a call writes, if it writes
 abbrev pub written : Call → Option ℕ
 written (Write w) = Some w
 written _ = None
 
+-- the value that a call reads, if it reads
 abbrev pub read_by : Call → Answer → Option ℕ
 read_by Read (Value v) = Some v
 read_by _ _ = None

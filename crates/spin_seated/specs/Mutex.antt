@@ -14,7 +14,7 @@ use Rattle.spin_seated.specs.Locked.{Locked}
 abbrev pub opened : Opening → Locked
 opened k = record { lock = fresh 1 1 0; value = k.value }
 
--- only the holder may make the other calls
+-- a pass may always call `try_lock` and `is_locked`; only the holder may make the other calls
 abbrev pub may_call : ℕ → Call → Locked → Bool
 may_call p TryLock s = true
 may_call p IsLocked s = true
@@ -62,7 +62,7 @@ Knows = Known Opening Call Answer
 abbrev pub holds : Knows → Bool
 holds x = histories.holds mutex x
 
--- what a step tells, by its operand and the word found
+-- for each kind of step: the call and answer that it tells, by its operand and the word found
 abbrev pub tries : ℕ → ℕ → Option (Call × Answer)
 tries old found = Some (TryLock, Truth (found == 0))
 

@@ -12,7 +12,7 @@ use Rattle.spin_seated.specs.Histories.{newcomer}
 abbrev pub no_table : TableId
 no_table = record { words = 0; slots = 0; views_name = 0; atom = 0; block = 0; offset = 0; slot_names = [] }
 
--- what a pass of a lock with these calls knows
+-- what a pass knows, of a lock with these calls
 abbrev pub Knows : Type 0 → Type 0
 Knows C = Known Opening C Answer
 
@@ -33,17 +33,17 @@ module _ {C : Type 0} where
   seated_of None = record { table = no_table; known = nobody }
   seated_of (Some s) = record { table = s.table_id; known = first_of_view s.me.0 }
 
-  -- there is a seat, and exactly one pass sits there
+  -- the seat exists, and has exactly one pass
   abbrev pub IsOneSeat : Option (Seat ℕ (List (Knows C))) → Type 0
   IsOneSeat None = ⊥
   IsOneSeat (Some s) = s.me ≡ (first_of_view s.me.0 ∷ [], [])
 
-  -- a pass of this table that has made no call and knows of none
+  -- the pass p of this table, before any call
   abbrev pub new_pass : TableId → Opening → ℕ → Seated C
   new_pass table opening p = record { table = table; known = newcomer opening p }
 
 module _ {C A H : Type 0} where
-  -- what the lock was opened with
+  -- the arguments that `new` opened the lock with
   abbrev pub opening_of : SeatedLock C A H → Opening
   opening_of lock = lock.table.shared.key
 
@@ -54,6 +54,6 @@ module _ {C A H : Type 0} where
   abbrev pub pass_of : SeatedLock C A H → ℕ → Seated C
   pass_of lock p = new_pass lock.table.shared.table_id (opening_of lock) p
 
-  -- one pass for each number below the count that `new` was given
+  -- all passes of the lock: one for each number below the count that `new` was given
   abbrev pub all_passes_of : SeatedLock C A H → List (Seated C)
   all_passes_of lock = map (pass_of lock) (range_with_len 0 (opening_of lock).passes)

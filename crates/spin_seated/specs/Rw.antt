@@ -19,7 +19,7 @@ pub use Rattle.spin_seated.specs.Locked.{Locked}
 abbrev pub opened : Opening → Locked
 opened k = record { lock = fresh reader_limit 1 0; value = k.value }
 
--- what a holder of this kind holds; there are no upgradable holders here
+-- what a holder of this kind is to its pass; this lock has no upgradable holders
 abbrev pub hold_of : Kind → SeatedHold
 hold_of writing = hold.Write
 hold_of _ = hold.Read
@@ -28,7 +28,7 @@ abbrev pub kind_of : SeatedHold → Kind
 kind_of hold.Read = reading
 kind_of hold.Write = writing
 
--- the first hold of a pass among its holders
+-- the hold of the first of these holders, if there is one
 abbrev pub held : List Holder → Option SeatedHold
 held [] = None
 held (h ∷ hs) = Some (hold_of h.kind)
@@ -49,7 +49,7 @@ may_with UnlockWrite (Some hold.Write) = true
 may_with Downgrade (Some hold.Write) = true
 may_with _ _ = false
 
--- the plain step of a call
+-- the step of the plain lock that a call asks for
 abbrev pub change : ℕ → Call → Option Change
 change p TryRead = Some (gets p to_read)
 change p TryWrite = Some (gets p to_write)
@@ -58,7 +58,7 @@ change p UnlockWrite = Some (releases p writing)
 change p Downgrade = Some (turns p writing reading)
 change p _ = None
 
--- the step, if it is open
+-- the step, or none if it is not open
 abbrev pub where_open : Plain → Option Change → Option Change
 where_open s None = None
 where_open s (Some c) = if is_open s c then Some c else None
@@ -108,9 +108,9 @@ Knows = Known Opening Call Answer
 abbrev pub holds : Knows → Option SeatedHold
 holds x = histories.holds rw x
 
--- what a step tells, by its operand and the word found
+-- For each kind of step: the call and answer that it tells, by its operand and the word found.
 
--- A `try_read` is refused by a word without room. It succeeds by an exchange that found what it expected.
+-- A `try_read` fails at a word without room. It succeeds by an exchange that finds the word it expects.
 abbrev pub refused_by : ℕ → Option (Call × Answer)
 refused_by found = if has_room reading found reader_limit then None else Some (TryRead, Truth false)
 

@@ -20,7 +20,7 @@ History = List (Entry Call Answer)
 abbrev pub holders : Opening → History → List Holder
 holders k log = (state rw k log).lock.holders
 
--- A pass reads or writes from a try that succeeds until it unlocks. After a downgrade it reads.
+-- A pass holds the lock from a try that succeeds until it unlocks. After a downgrade it holds as a reader.
 abbrev pub holds_then : Call → Answer → Option SeatedHold → Option SeatedHold
 holds_then TryRead (Truth true) held = Some hold.Read
 holds_then TryWrite (Truth true) held = Some hold.Write
@@ -29,11 +29,11 @@ holds_then UnlockWrite a held = None
 holds_then Downgrade a held = Some hold.Read
 holds_then c a held = held
 
--- what it holds after these calls of its own
+-- what a pass holds after these calls, which are its own
 abbrev pub holds_by : History → Option SeatedHold
 holds_by own = hold_after holds_then None own
 
--- the holder that it is, as a list
+-- the plain lock's holders that stand for a pass which holds this
 abbrev pub place_of : ℕ → Option SeatedHold → List Holder
 place_of p None = []
 place_of p (Some hold.Read) = holder p reading ∷ []

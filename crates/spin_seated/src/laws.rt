@@ -1,5 +1,5 @@
-//! Laws of the histories that passes know. Each is the contract of a function that does nothing. A caller calls it to
-//! learn what it states.
+//! Laws of the histories that passes know. Each law is the contract of a function that does nothing. A caller
+//! calls the function to learn what it states.
 ghost use Rattle.std.specs.Prelude.{Bool, not, ◌≡◌, ℕ, ◌≤◌, ◌==◌, true, false, List, [], ◌∷◌, ◌++◌, Some, filter, if◌then◌else◌, length, slice_get};
 ghost use Rattle.spin_step.specs.Plain.{is_empty};
 ghost use Rattle.spin_seated.specs.declared.history.Entry.{Entry};
@@ -25,12 +25,12 @@ pub fn one_pass_holds_at_most()
     ensures { (k : Opening) (log : History) → IsLegal mutex k log → length (holders k log) ≤ 1 }
 {}
 
-/// States that a pass that is granted the lock found it free, and then holds it alone.
+/// States that a pass whose try succeeds found the lock free, and then holds it alone.
 pub fn nobody_is_granted_while_another_holds()
     ensures { (k : Opening) (before after : History) (p : ℕ) → IsLegal mutex k (before ++ entry p TryLock (Truth true) ∷ after) → (holders k before ≡ []) × (holders k (before ++ entry p TryLock (Truth true) ∷ []) ≡ p ∷ []) }
 {}
 
-/// States that a pass that is refused found the lock held by some pass.
+/// States that a pass whose try fails found the lock held by some pass.
 pub fn a_refused_try_found_a_holder()
     ensures { (k : Opening) (before after : History) (p : ℕ) → IsLegal mutex k (before ++ entry p TryLock (Truth false) ∷ after) → (q : ℕ) × (holders k before ≡ q ∷ []) }
 {}
@@ -40,38 +40,38 @@ pub fn a_read_gives_the_last_write()
     ensures { (k : Opening) (before after : History) (p v : ℕ) → IsLegal mutex k (before ++ entry p Read (Value v) ∷ after) → v ≡ last_written k.value before }
 {}
 
-/// States that a pass of either lock reads the opening value and those that were written, in their order. It never
-/// reads an older value than it read before.
+/// States, for either lock, that a pass reads values in the order in which they were written, beginning with
+/// the opening value. It may miss some, but never reads an older value than it read before.
 pub fn a_pass_reads_in_the_order_of_the_writes()
     ensures mutex { (k : Opening) (log : History) (p : ℕ) → IsLegal mutex k log → InOrderOf (k.value ∷ values_written log) (values_read (calls_by p log)) }
     ensures rwlock { (k : Opening) (log : rw_lawful.History) (p : ℕ) → IsLegal rw k log → InOrderOf (k.value ∷ rw_lawful.values_written log) (rw_lawful.values_read (calls_by p log)) }
 {}
 
-/// States that when a history grows, so do the calls of each pass, in the order in which they were made.
+/// States that when a history grows, new calls of a pass come after its former ones.
 pub fn calls_of_a_pass_keep_their_order()
     ensures { (log seen : History) (p : ℕ) → BeginsWith log seen → BeginsWith (calls_by p log) (calls_by p seen) }
 {}
 
-/// States that a pass holds from a try that succeeds until it unlocks, and that the plain lock names it as a holder
-/// exactly then. Only a holder reads, writes and unlocks.
+/// States that a pass holds the lock from a try that succeeds until it unlocks. Exactly then the plain lock
+/// has it as a holder. Only a holder reads, writes and unlocks.
 pub fn a_pass_holds_from_its_try_until_it_unlocks()
     ensures holds { (x : Knows) → IsLegal mutex x.opening x.seen → holds x ≡ holds_by (calls_by x.pass x.seen) }
     ensures stands { (k : Opening) (log : History) (p : ℕ) → IsLegal mutex k log → filter (λ q. q == p) (holders k log) ≡ (if holds_by (calls_by p log) then p ∷ [] else []) }
     ensures calls { (k : Opening) (before after : History) (p : ℕ) (c : Call) (a : Answer) → IsLegal mutex k (before ++ entry p c a ∷ after) → MayCall c (holds_by (calls_by p before)) }
 {}
 
-/// States that two passes that met agree on every answer so far. What either had seen is at the same place in what both
-/// know now.
+/// States that two passes that met agree on every answer so far: each entry that either knew before is at the
+/// same place in the history that both know now.
 pub fn passes_that_met_agree()
     ensures { (a b met_a met_b : Knows) → Met mutex a met_a.seen met_a → Met mutex b met_a.seen met_b → (met_b.seen ≡ met_a.seen) × ((n : ℕ) (e : Entry Call Answer) → slice_get a.seen n ≡ Some e → slice_get met_b.seen n ≡ Some e) × ((n : ℕ) (e : Entry Call Answer) → slice_get b.seen n ≡ Some e → slice_get met_a.seen n ≡ Some e) }
 {}
 
-/// States that a look tells whether a pass holds the lock.
+/// States that `is_locked` tells whether a pass holds the lock.
 pub fn a_look_tells_whether_a_pass_holds()
     ensures { (k : Opening) (before after : History) (p : ℕ) (held : Bool) → IsLegal mutex k (before ++ entry p IsLocked (Truth held) ∷ after) → held ≡ not (is_empty (holders k before)) }
 {}
 
-/// States that a lock has as many passes as were asked for.
+/// States that a lock has as many passes as `new` was asked for.
 pub fn a_lock_has_as_many_passes_as_asked_for<C: Calls, A: Allocator>()
     ensures { (lock : SeatedLock C A C.Hold) → length (all_passes_of lock) ≡ (opening_of lock).passes }
 {}

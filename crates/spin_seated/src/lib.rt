@@ -1,8 +1,9 @@
 //! `SeatedMutex` and `SeatedRwLock`, whose callers can compare what they did: all calls form one history, and callers
 //! that meet know the same one.
 //!
-//! Begin with [`mutex::SeatedMutex`]; [`laws`] has what follows from a history. A *pass* is a place among the callers
-//! of one lock. Each call takes a pass, and contracts see the history that the pass knows.
+//! Begin with [`mutex::SeatedMutex`]; [`laws`] has what follows from a history. A *pass* is the right to call
+//! one lock, under a number of its own. Each call takes a pass, and contracts see the history that the pass
+//! knows.
 #![tactic(auto)]
 
 pub mod history;

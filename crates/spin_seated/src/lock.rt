@@ -1,5 +1,5 @@
-//! A lock on a table of two words, whose calls are in one history. Begin with [`SeatedLock`]. Each lock has a machine
-//! that says which calls may be made and what they answer ([`Calls`]).
+//! A lock on a table of two words, whose calls form one history. Begin with [`SeatedLock`]. For each lock a
+//! machine says which calls a pass may make and what they answer ([`Calls`]).
 ghost use Rattle.std.specs.Prelude.{◌≡◌, ℕ};
 ghost use Rattle.spin_seated.specs.Histories.{Machine};
 ghost use Rattle.spin_seated.specs.Locked.{Locked, IsLock};
@@ -16,7 +16,7 @@ mod steps;
 pub use self::pass::{Pass, Place};
 pub(crate) use self::steps::Tells;
 
-/// What `new` was called with.
+/// The arguments of `new`: the first value, and the number of passes.
 #[derive(Clone, Copy)]
 pub struct Opening {
     pub value: u64,
@@ -31,7 +31,7 @@ pub enum Answer {
     Done,
 }
 
-/// The calls of a lock. They determine what lock it is.
+/// The calls of a lock. The type of its calls says which lock it is.
 pub trait Calls {
     /// What a pass may hold.
     type Hold: Copy;
@@ -39,17 +39,17 @@ pub trait Calls {
     ghost use Rattle.spin_seated.specs.declared.lock.Opening.{Opening};
     ghost use Rattle.spin_seated.specs.declared.lock.Answer.{Answer};
 
-    // The plain lock: which calls a pass may make, their answers, and what a pass holds after them.
+    // The plain lock: which calls a pass may make, what they answer, and what the pass holds afterwards.
     ghost machine: { Machine Opening Locked Self Answer Self.Hold };
 
     /// Returns what a pass holds before its first call.
     ///
     /// # Contract
-    /// It is what each pass holds in the machine's first state.
+    /// The result is what each pass holds in the machine's first state.
     fn nothing() -> Self::Hold
         ensures { (k : Opening) (p : ℕ) → machine.holds p (machine.start k) ≡ result };
 
-    /// Does nothing.
+    /// Does nothing. A caller calls it to learn its contract.
     ///
     /// # Contract
     /// The machine is that of a lock (`IsLock`).
@@ -57,7 +57,8 @@ pub trait Calls {
         ensures { IsLock machine };
 }
 
-/// The rule of the table: its words are those of the plain lock after one legal history. No value of it is made.
+/// The rule of the table: there is one legal history, and the words are those of the plain lock after it. No
+/// program makes a value of this type.
 pub struct Law<C> {
     calls: PhantomData<C>,
 }
@@ -70,7 +71,8 @@ impl<C: Calls> TableRule<u64, View<Opening, C, Answer>, Opening> for Law<C> {
     ghost first = { all_passes C.machine };
 }
 
-/// A lock of one number, whose calls `C` are in one history. The first word is the lock's, the second the value.
+/// A lock that protects one number. All its calls form one history. The first of its two words is the lock's
+/// state, and the second is the value.
 #[derive(Drop)]
 pub struct SeatedLock<C: Calls, A: Allocator = Global> {
     table: Table<u64, View<Opening, C, Answer>, Opening, Law<C>, A>,

@@ -1,4 +1,4 @@
-//! A mutex of one flag and one number, whose callers can prove what happened. Begin with [`SeatedMutex`] and [`Pass`].
+//! A mutex over one number, whose callers can prove what happened. Begin with [`SeatedMutex`] and [`Pass`].
 ghost use Rattle.spin_seated.specs.Mutex.{mutex};
 
 use crate::lock::{self, Calls, SeatedLock};
@@ -9,7 +9,7 @@ mod plays;
 
 pub use crate::lock::{Answer, Opening};
 
-/// A call of a `SeatedMutex`, as it is in a history.
+/// A call of a `SeatedMutex`, as histories record it.
 #[derive(Clone, Copy)]
 pub enum Call {
     TryLock,
@@ -31,7 +31,7 @@ impl Calls for Call {
     fn laws() {}
 }
 
-/// A mutex of one number, whose calls are in one history.
+/// A mutex over one number, whose calls form one history.
 ///
 /// It is like a `Mutex`, but callers can also prove what happened, not only what holds now.
 ///
@@ -52,5 +52,5 @@ impl Calls for Call {
 /// ```
 pub type SeatedMutex<A = Global> = SeatedLock<Call, A>;
 
-/// A place among the callers of one `SeatedMutex`. `holds` says whether the pass holds the lock.
+/// The right to call one `SeatedMutex`. `holds` says whether the pass holds the lock.
 pub type Pass = lock::Pass<Call>;

@@ -1,4 +1,4 @@
-//! A lock of one number for many readers or one writer, whose callers can prove what happened. Begin with
+//! A lock over one number for many readers or one writer, whose callers can prove what happened. Begin with
 //! [`SeatedRwLock`] and [`RwPass`].
 ghost use Rattle.spin_seated.specs.Rw.{rw};
 
@@ -18,7 +18,7 @@ pub enum SeatedHold {
     Write,
 }
 
-/// A call of a `SeatedRwLock`, as it is in a history.
+/// A call of a `SeatedRwLock`, as histories record it.
 #[derive(Clone, Copy)]
 pub enum Call {
     TryRead,
@@ -44,7 +44,7 @@ impl Calls for Call {
     fn laws() {}
 }
 
-/// A lock of one number for many readers or one writer, whose calls are in one history.
+/// A lock over one number for many readers or one writer, whose calls form one history.
 ///
 /// # Examples
 /// ```
@@ -63,5 +63,5 @@ impl Calls for Call {
 /// ```
 pub type SeatedRwLock<A = Global> = SeatedLock<Call, A>;
 
-/// A place among the callers of one `SeatedRwLock`. `holds` says how the pass holds the lock.
+/// The right to call one `SeatedRwLock`. `holds` says how the pass holds the lock.
 pub type RwPass = lock::Pass<Call>;

@@ -1,4 +1,4 @@
--- What passes read and wrote, by their calls, and what that is in one history of all calls.
+-- What each pass read and wrote, as its calls say, and what follows in one history of all calls.
 use Rattle.std.proofs.Common.{◌≡◌, ℕ, zero, suc, ◌<◌, ◌≢◌, ◌==◌, Bool, true, false, if◌then◌else◌, List, [], ◌∷◌, ◌++◌, refl, sym, ap, subst, ◌∙◌, eq-eqb, arith}
 use Rattle.std.proofs.lemmas.Grind.{flat_map-append}
 use Rattle.std.specs.Option.{option_to_list}
@@ -16,7 +16,7 @@ use Rattle.spin_seated.proofs.Histories.{calls_by-append}
 values_written-append : (xs ys : History) → values_written (xs ++ ys) ≡ values_written xs ++ values_written ys
 values_written-append xs ys = flat_map-append (λ (e : Entry Call Answer). option_to_list (written e.call)) xs ys
 
--- if only one pass writes, all that is written is its own
+-- If only one pass writes, all that is written is that pass's own.
 none_after : (xs ys : List ℕ) → xs ++ ys ≡ [] → (xs ≡ []) × (ys ≡ [])
 none_after [] ys none = (refl, none)
 none_after (x ∷ xs) ys none = absurd (cc none)
@@ -42,7 +42,7 @@ one_writes n p s (e ∷ es) legal silent =
     (λ other. silent_now e es (silent e.pass legal.0 (λ same. false≢true (sym other ∙ eq-eqb e.pass p same))))
     (one_writes n p (after_call e.pass e.call s) es legal.3 (λ q below apart. silent_after e (calls_by q es) (e.pass == q) (silent q below apart)))
 
--- values seen in the order of some values are also in the order of those and further ones
+-- if `seen` is in the order of some values, it is also in the order of these and further ones
 longer : (values more seen : List ℕ) → InOrderOf values seen → InOrderOf (values ++ more) seen
 longer _ more _ done = done
 longer _ more _ (looks rest) = looks (longer _ more _ rest)
@@ -54,7 +54,7 @@ others log one two (suc zero) below apart = one
 others log one two (suc (suc zero)) below apart = two
 others log one two (suc (suc (suc q))) below apart = absurd (omega arith)
 
--- two readers meet, and then the writer meets one of them
+-- Two readers meet, and then the writer meets one of them.
 module _ (k : Opening) (w x y met_x met_y met_w met_z : Knows) (three : k.passes ≡ 3) (of_x : x.opening ≡ k) (number_w : w.pass ≡ 0) (number_x : x.pass ≡ 1) (number_y : y.pass ≡ 2)
     (silent_x : values_written (own_calls x) ≡ []) (silent_y : values_written (own_calls y) ≡ [])
     (first : Met rw x met_x.seen met_x) (second : Met rw y met_x.seen met_y) (third : Met rw w met_w.seen met_w) (fourth : Met rw met_x met_w.seen met_z) where

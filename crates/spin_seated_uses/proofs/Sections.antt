@@ -1,4 +1,4 @@
--- Passes that add: the value is the opening value plus one for each write.
+-- Passes that add: the value is the opening value plus the number of writes.
 use Rattle.std.proofs.Common.{◌≡◌, ℕ, zero, suc, ◌+◌, ◌<◌, ◌≢◌, ◌==◌, ◌&&◌, ◌||◌, Bool, true, false, if◌then◌else◌, List, [], ◌∷◌, ◌++◌, Option, Some, None, option_and_then, append_assoc, refl, sym, ap, subst, ◌∙◌, eqb-true, eq-eqb, arith}
 use Rattle.std.proofs.lemmas.Bool.{false≢true}
 use Rattle.spin_step.specs.Plain.{Holder, holder, writing, same_kind, is_holder, is_empty}
@@ -16,7 +16,7 @@ use Rattle.spin_seated.proofs.Totals.{total-append}
 use Rattle.spin_seated.proofs.Holders.{Alone, alone_is, alone_after, alone_state, freed, tried, truth_is, is_held_by, steady, value_tried}
 use Rattle.spin_seated.proofs.Histories.{made_at, none_between}
 
--- one more call of a pass that adds
+-- how far a pass is after one more call
 then_one : (o : Option Section) (w : Section) → o ≡ Some w → option_and_then (λ u. section_from u []) o ≡ Some w
 then_one None w is = absurd (cc is)
 then_one (Some u) w is = is
@@ -40,14 +40,14 @@ module _ (x : Knows) (c : Call) (a : Answer) (y : Knows) (made : Made mutex x c 
   pub writes_grow : writes_in (own_calls y) ≡ writes_in (own_calls x) + is_write c
   writes_grow = let e = ap writes_in own_grows in let t = total-append (λ (e : Entry Call Answer). is_write e.call) (own_calls x) (entry x.pass c a ∷ []) in omega arith
 
--- what holds of the lock while a pass is this far
+-- what holds of the lock while a pass is this far in its section
 abbrev pub Matches : ℕ → Section → Locked → Type 0
 Matches p away s = is_held_by p s ≡ false
 Matches p entered s = is_held_by p s ≡ true
 Matches p (has_read v) s = (is_held_by p s ≡ true) × (s.value ≡ v)
 Matches p has_written s = is_held_by p s ≡ true
 
--- one call: what happens to the value, and to each pass's section
+-- One call: how it changes the value, and each pass's section.
 module _ (n : ℕ) (s : Locked) (alone : Alone n s.lock.holders) where
   only_one : (p q : ℕ) → is_held_by p s ≡ true → is_held_by q s ≡ true → q ≡ p
   only_one p q held too =
@@ -55,7 +55,7 @@ module _ (n : ℕ) (s : Locked) (alone : Alone n s.lock.holders) where
       let h : holder q writing ≡ holder p writing = cc one in
       ap (λ (h : Holder). h.party) h
 
-  -- only the holder writes; so a pass that has read, and is not the writer, does not hold
+  -- only the holder writes; so a call of another pass does not change the value while q holds
   value_stays : (p q : ℕ) (c : Call) → may_call p c s ≡ true → q ≢ p → is_held_by q s ≡ true → (after_call p c s).value ≡ s.value
   value_stays p q TryLock may apart held = value_tried p s (is_empty s.lock.holders)
   value_stays p q IsLocked may apart held = refl
@@ -94,7 +94,7 @@ module _ (n : ℕ) (s : Locked) (alone : Alone n s.lock.holders) where
     own_goes has_written Unlock Done u may is m next = let_go u may next
     own_goes _ _ _ u may is m next = absurd cc
 
--- over a whole history: the value counts the writes, and each pass is as far as its own calls say
+-- Over a whole history: the value counts the writes, and each pass is as far in its section as its own calls say.
 abbrev or_away : Option Section → Section
 or_away None = away
 or_away (Some t) = t
@@ -103,7 +103,7 @@ first_goes : (o : Option Section) (es : List (Entry Call Answer)) (t : Section) 
 first_goes None es t is = absurd (cc is)
 first_goes (Some u) es t is = (refl, is)
 
--- the section of the pass q after a call of the pass p
+-- how far the pass q is after a call of the pass p
 abbrev section_next : ℕ → Call → Answer → ℕ → Section → Section
 section_next p c a q t = if p == q then or_away (next_section t c a) else t
 
@@ -118,7 +118,7 @@ Ends n begin end log = (q : ℕ) → q < n → section_from (begin q) (calls_by 
 abbrev AllMatch : ℕ → (ℕ → Section) → Locked → Type 0
 AllMatch n section s = (q : ℕ) → q < n → Matches q (section q) s
 
--- one call, for all passes
+-- One call, for all passes.
 module _ (n : ℕ) (s : Locked) (alone : Alone n s.lock.holders) (begin end : ℕ → Section) (e : Entry Call Answer) (es : List (Entry Call Answer))
     (given : e.pass < n) (may : may_call e.pass e.call s ≡ true) (is : e.answer ≡ plain_answer e.pass e.call s) (ends : Ends n begin end (e ∷ es)) (match : AllMatch n begin s) where
   abbrev here : Section
@@ -168,7 +168,7 @@ writes_of_two s (e ∷ es) legal =
     two_parts e (writes_in es) (writes_in (calls_by 0 es)) (writes_in (calls_by 1 es)) (e.pass == 0) (e.pass == 1) legal.0 refl refl (calls_by 0 es) (calls_by 1 es) refl refl
     (writes_of_two (after_call e.pass e.call s) es legal.3)
 
--- two passes add; the first is this far, and the second is away
+-- two passes add: the first is this far in its section, and the second is outside
 abbrev first_at : Section → ℕ → Section
 first_at t zero = t
 first_at t (suc q) = away
@@ -186,7 +186,7 @@ counts_two k log t two legal first second =
     let sum = writes_of_two (mutex.start k) log legal2 in let value = all.0 in
     (omega arith, all.1 0 (omega arith), all.1 1 (omega arith))
 
--- a pass that meets keeps its own calls
+-- a pass that meets another has made no new calls of its own
 own_stays : (x : Knows) (log : List (Entry Call Answer)) (y : Knows) → Met mutex x log y → own_calls y ≡ own_calls x
 own_stays x log y met = ap (λ (p : ℕ). calls_by p y.seen) met.pass ∙ (ap (calls_by x.pass) met.history ∙ met.own)
 
@@ -222,7 +222,7 @@ module _ (k : Opening) (a b met_a met_b tried_a : Knows) (granted : Bool) (two :
   number_met_b : met_b.pass ≡ 1
   number_met_b = second.pass ∙ number_b
 
-  -- then they meet again, and the history that both know shows that the try succeeded
+  -- the passes meet again, and the history that both then know shows that the try succeeded
   pub is_granted : (end_a end_b : Knows) → Met mutex tried_a end_a.seen end_a → Met mutex met_b end_a.seen end_b → granted ≡ true
   is_granted end_a end_b third fourth =
       let at = made_at mutex met_a TryLock (Truth granted) tried_a tries in
@@ -240,7 +240,7 @@ module _ (k : Opening) (a b met_a met_b tried_a : Knows) (granted : Bool) (two :
       ap (λ (o : Opening). is_empty (state mutex o at.before).lock.holders) opening_met_a ∙ ap is_empty (nobody (state mutex k at.before).lock.holders alone all.1 all.2) in
       truth_is granted (is_empty (state mutex met_a.opening at.before).lock.holders) at.answer ∙ free
 
-  -- it reads, and they meet again
+  -- the first pass reads, and the passes meet again
   pub sums : (v : ℕ) (read_a end_a end_b : Knows) → granted ≡ true → Made mutex tried_a Read (Value v) read_a → Met mutex read_a end_a.seen end_a → Met mutex met_b end_a.seen end_b
       → v ≡ k.value + (writes_in (own_calls a) + writes_in (own_calls b))
   sums v read_a end_a end_b won reads third fourth =

@@ -1,5 +1,4 @@
--- A pass that adds. Each time it acquires the lock it reads, writes one more than it read or writes nothing, and
--- releases.
+-- A pass that adds. Each time it acquires the lock it reads the value, writes one more or nothing, and releases the lock.
 use Rattle.std.specs.Prelude.{◌≡◌, ℕ, Bool, ◌+◌, ◌==◌, true, false, if◌then◌else◌, List, [], ◌∷◌, Option, Some, None, option_and_then}
 use Rattle.spin_seated.specs.declared.history.Entry.{Entry}
 use Rattle.spin_seated.specs.declared.mutex.Call.{Call}
@@ -11,14 +10,14 @@ use Rattle.spin_seated.specs.declared.lock.SeatedLock.{SeatedLock}
 use Rattle.spin_seated.specs.Mutex.{Knows}
 use Rattle.spin_seated.specs.Passes.{Seated, IsPassOf}
 
--- how far the pass is in its critical section
+-- how far a pass is in its critical section
 pub data Section : Type 0 where
   away : Section
   entered : Section
   has_read : ℕ → Section
   has_written : Section
 
--- how far it is after one more call; None if a pass that adds makes no such call
+-- how far the pass is after one more call; none if a pass that adds does not make this call there
 abbrev pub next_section : Section → Call → Answer → Option Section
 next_section away TryLock (Truth true) = Some entered
 next_section away TryLock (Truth false) = Some away
@@ -44,6 +43,6 @@ abbrev pub writes_in : List (Entry Call Answer) → ℕ
 writes_in log = total (λ e. is_write e.call) log
 
 module _ {A : Type 0} where
-  -- a pass of this mutex that has only added, and has written n times
+  -- the pass of this mutex is outside its critical section, has only added, and has written n times
   abbrev pub HasAdded : SeatedLock Call A Bool → Seated Call → ℕ → Type 0
   HasAdded lock p n = IsPassOf lock p × (section_of p.known ≡ Some away) × (writes_in (own_calls p.known) ≡ n)

@@ -1,7 +1,8 @@
-//! A proved caller: two threads add under one lock, and the value read at the end is the number of their additions.
-//! Begin with [`add_in_two`].
+//! A proved caller: two threads add under one lock, and the value read at the end is the opening value plus
+//! the number of their additions. Begin with [`add_in_two`].
 //!
-//! The proof uses the one history that both passes know once they have met. No call says what another thread did.
+//! The proof uses the one history that both passes know once they have met. No contract of a call says what
+//! another thread did.
 ghost use Rattle.std.specs.Prelude.{◌≡◌, ◌+◌, Some, if◌then◌else◌, IfOk, IfSome};
 ghost use Rattle.spin_seated.specs.Histories.{own_calls};
 ghost use Rattle.spin_seated.specs.Passes.{IsPassOf, opening_of, pass_of};
@@ -11,10 +12,11 @@ use spin_seated::mutex::{Pass, SeatedMutex};
 use std::alloc::{AllocError, Global};
 use std::thread::{Threads, join};
 
-/// Creates a lock for two callers, and their passes. Fails if there is no memory.
+/// Creates a lock for two callers, and their passes. Fails if an allocation fails.
 ///
 /// # Contract
-/// The lock opens with `value` and two passes. These are its first and its second pass, and have made no call.
+/// The lock opens with `value` and two passes. The result has its first pass and its second, which have made
+/// no call.
 pub fn open_for_two(alloc: Global, value: u64) -> Result<(SeatedMutex, Pass, Pass), AllocError>
     ensures opening { IfOk result (λ r. opening_of r.0 ≡ record { value = value; passes = 2 }) }
     ensures passes { IfOk result (λ r. (r.1 ≡ pass_of r.0 0) × (r.2 ≡ pass_of r.0 1)) }
@@ -29,11 +31,12 @@ pub fn open_for_two(alloc: Global, value: u64) -> Result<(SeatedMutex, Pass, Pas
     Ok((lock, first, second))
 }
 
-/// Adds 1 if it acquires the lock and there is room. Returns whether it did.
+/// Tries to acquire the lock, and adds 1 if there is room. Returns `true` if it added.
 ///
 /// # Contract
-/// The pass has to be one of this lock, outside its critical section. Afterwards it is outside again. Its own calls
-/// have one more write if the answer is `true`, otherwise as many as before (`added`).
+/// The pass has to be one of this lock, outside its critical section. Afterwards it is outside again. If the
+/// answer is `true`, the calls of the pass have one more write; otherwise they have as many as before
+/// (`added`).
 pub fn add(lock: &SeatedMutex, pass: &mut Pass) -> bool
     requires own { IsPassOf lock.now pass.old }
     requires section { section_of pass.old.known ≡ Some away }
@@ -55,11 +58,11 @@ pub fn add(lock: &SeatedMutex, pass: &mut Pass) -> bool
     true
 }
 
-/// Tries to add 1, `turns` times. Returns the pass, and how often it added.
+/// Tries to add 1, `turns` times. Returns the pass, and the number of additions made.
 ///
 /// # Contract
-/// The pass has to be one of this lock, outside its critical section, and must not have added yet. Afterwards it has
-/// added as often as the answer says (`HasAdded`).
+/// The pass has to be one of this lock, outside its critical section, and must not have added yet. Afterwards
+/// it has made as many additions as the answer says (`HasAdded`).
 pub fn add_some(lock: &SeatedMutex, mut pass: Pass, turns: u64) -> (Pass, u64)
     requires { HasAdded lock.now pass 0 }
     ensures number { result.0.known.pass ≡ pass.known.pass }
@@ -76,11 +79,12 @@ pub fn add_some(lock: &SeatedMutex, mut pass: Pass, turns: u64) -> (Pass, u64)
 
 /// Reads the lock's value after two passes have added.
 ///
-/// First the passes meet, so the next call of the first pass follows all calls of the second. After that call they meet
-/// again. This shows that no other call was in between. The first pass holds the lock afterwards.
+/// The passes meet before the first pass's next call, so this call comes after all calls of the second pass.
+/// Then they meet again, which shows that no other call was in between. Afterwards the first pass holds the
+/// lock.
 ///
 /// # Contract
-/// The lock has to have two passes: `a` is the first, and `b` is the second. Each has to be outside its critical
+/// The lock has to have two passes: `a` is the first, and `b` the second. Each has to be outside its critical
 /// section. The answer is the opening value plus the additions of both.
 pub fn read_sum(lock: &SeatedMutex, a: &mut Pass, b: &mut Pass) -> u64
     requires own { IsPassOf lock.now a.old × IsPassOf lock.now b.old }
@@ -100,11 +104,11 @@ pub fn read_sum(lock: &SeatedMutex, a: &mut Pass, b: &mut Pass) -> u64
     value
 }
 
-/// Adds from two threads under one lock, each up to `turns` times. Returns the value read at the end, and how often
-/// each thread added.
+/// Adds from two threads under one lock, up to `turns` times each. Returns the value read at the end, and the
+/// number of additions by each thread.
 ///
 /// # Contract
-/// The value read is the sum of both numbers. That a thread adds at all is not promised.
+/// The value read is the sum of the two numbers. Whether a thread adds at all is not promised.
 pub fn add_in_two<R: Threads + Sync>(
     rt: &R,
     alloc: Global,

@@ -1,7 +1,8 @@
-//! A proved caller: one thread publishes values under one lock while two read it. No reader sees an older value than it
-//! saw before. Begin with [`publish_to_two`].
+//! A proved caller: one thread publishes values under one lock while two others read. No reader sees an older
+//! value than it saw before. Begin with [`publish_to_two`].
 //!
-//! The proof uses the one history that all three know once they have met. No call says what another thread did.
+//! The proof uses the one history that all three passes know once they have met. No contract of a call says
+//! what another thread did.
 ghost use Rattle.std.specs.Prelude.{◌≡◌, [], ◌∷◌, None, Some, IfOk, length};
 ghost use Rattle.spin_seated.specs.Histories.{own_calls};
 ghost use Rattle.spin_seated.specs.Locked.{InOrderOf};
@@ -17,10 +18,10 @@ use std::alloc::{AllocError, Global};
 use std::sync::Wait;
 use std::thread::{Threads, join};
 
-/// Creates a lock for three callers, and their passes. Fails if there is no memory.
+/// Creates a lock for three callers, and their passes. Fails if an allocation fails.
 ///
 /// # Contract
-/// The lock opens with `value` and three passes. These are its first, second and third pass, and have made no call.
+/// The lock opens with `value` and three passes. The result has them in order; none has made a call.
 pub fn open_for_three(
     alloc: Global,
     value: u64,
@@ -41,7 +42,7 @@ pub fn open_for_three(
     Ok((lock, first, second, third))
 }
 
-/// Tries until it acquires the lock in this way.
+/// Repeats its try until it holds the lock in this way.
 fn acquire<W: Wait>(rt: &W, lock: &SeatedRwLock, pass: &mut RwPass, hold: SeatedHold)
     requires own { IsPassOf lock.now pass.old }
     requires free { holds pass.old.known ≡ None }
@@ -62,7 +63,7 @@ fn acquire<W: Wait>(rt: &W, lock: &SeatedRwLock, pass: &mut RwPass, hold: Seated
     unreachable!()
 }
 
-/// Publishes a value once it has acquired the lock.
+/// Acquires the lock as the writer, and publishes a value.
 fn publish<W: Wait>(rt: &W, lock: &SeatedRwLock, pass: &mut RwPass, value: u64)
     requires own { IsPassOf lock.now pass.old }
     requires free { holds pass.old.known ≡ None }
@@ -75,7 +76,7 @@ fn publish<W: Wait>(rt: &W, lock: &SeatedRwLock, pass: &mut RwPass, value: u64)
     lock.unlock_write(pass);
 }
 
-/// Reads the value once it has acquired the lock.
+/// Acquires the lock as a reader, and reads the value.
 fn look<W: Wait>(rt: &W, lock: &SeatedRwLock, pass: &mut RwPass) -> u64
     requires own { IsPassOf lock.now pass.old }
     requires free { holds pass.old.known ≡ None }
@@ -148,13 +149,13 @@ fn look_in_two<R: Threads + Wait + Sync>(
     )
 }
 
-/// Compares what two readers saw with what a third pass published, after all have met.
+/// Compares what two readers read with what the third pass wrote, after all three have met.
 ///
-/// The readers meet first, and then one of them meets the writer. So the writer knows all that both readers know.
+/// The readers meet first, and then one of them meets the writer. So the writer knows what both readers know.
 ///
 /// # Contract
-/// The lock has to have three passes, and these have to be all. Neither reader may have written. Each reader read the
-/// opening value and those that the writer wrote, in their order (`InOrderOf`).
+/// The lock has to have three passes, which are these. Neither reader may have written. Each reader has read
+/// the opening value and values that the writer wrote, in the order in which they were written (`InOrderOf`).
 pub fn compare(lock: &SeatedRwLock, writer: &mut RwPass, first: &mut RwPass, second: &mut RwPass)
     requires writer { IsPassOf lock.now writer.old × (writer.old.known.pass ≡ 0) }
     requires first { IsPassOf lock.now first.old × (first.old.known.pass ≡ 1) }
@@ -169,12 +170,12 @@ pub fn compare(lock: &SeatedRwLock, writer: &mut RwPass, first: &mut RwPass, sec
     a_pass_reads_in_the_order_of_the_writes();
 }
 
-/// Publishes values from one thread in their order, while two others read, each `times` times. Returns what the two
-/// read. Each thread waits until it acquires the lock.
+/// Publishes values from one thread, in order, while two others read `times` times each. Returns what the two
+/// read. Each thread tries until it acquires the lock.
 ///
 /// # Contract
-/// Each reader read `times` values: the opening value and those published, in their order, so never an older one than
-/// before. Whether and when the call returns is not promised.
+/// Each reader has read `times` values, each of them the opening value or a published one. They are in the
+/// order of publication, so none is older than one before. Whether and when the call returns is not promised.
 pub fn publish_to_two<R: Threads + Wait + Sync>(
     rt: &R,
     alloc: Global,

@@ -1,4 +1,4 @@
--- What a party knows of its own moves after a step, and after several steps of a call.
+-- What a party knows of its own moves after one step, and after several steps of a call.
 use Rattle.std.proofs.Common.{◌≡◌, ℕ, Bool, true, false, Option, Some, None, List, length, is_some, nat_lt, arith, ◌==◌, if◌then◌else◌, refl, subst}
 use mathlib.Core.Logic.{inr}
 use Rattle.spin_core.specs.Cell.{Ways, Moved}
@@ -40,7 +40,7 @@ module _ (n name : ℕ) (seen : Watch rule.Done) (same : name ≡ seen.name) whe
   pub may_know : MayKnow (IsSeats n name) ways seen
   may_know = inr named
 
-  -- what a step tells a party that knew everything up to its last step
+  -- What a step tells a party that knew all entries up to its last step.
   module _ (view : Option (Numbered View)) (now : Option (Numbered View) × Watch rule.Done) (found : ℕ) (knew : mark_of view ≡ length seen.entries) where
     abbrev Tells : Says → Type 0
     Tells says = Moved (Watches (Named (IsSeats n name) ways seen.name) seen now.1 (Told n says view) found) now.0
@@ -48,7 +48,7 @@ module _ (n name : ℕ) (seen : Watch rule.Done) (same : name ≡ seen.name) whe
     abbrev Steps : Bool → SeatsCall → Ending → View → Type 0
     Steps goes_on c end to = core.Stepped model goes_on c end to (n, view, seen) (n, now.0, now.1)
 
-    -- a play that says this, and perhaps more
+    -- what a step tells if its play says this, and perhaps more
     means : (says : Says) (goes_on : Bool) (c : SeatsCall) (end : ℕ → Ending) (to : ℕ → View) → ((own : List OneMove) (outs : List Ending) (i : ℕ) (v : View) → says own outs i v → step_by goes_on c end to own outs i v) → Tells says → Steps goes_on c (end found) (to found)
     means says goes_on c end to so =
         spots.took model seat_of words_of (n, view, seen) (n, now.0, now.1) refl knew named found says to (λ w. IsStep goes_on c (end w)) so
@@ -59,11 +59,11 @@ module _ (n name : ℕ) (seen : Watch rule.Done) (same : name ≡ seen.name) whe
     pub counted : Tells (counts_by n) → Steps false call.Count (Answered (Count found) None) Idle
     counted = means (counts_by n) false call.Count (λ w. Answered (Count w) None) (λ w. Idle) (λ own outs i v said. said.0)
 
-    -- the look of a `try_enter`, which begins it
+    -- the look of `try_enter`, which begins the call
     pub tried : IsOut (what view) → Tells (looks_by n false (what view)) → Steps false call.TryEnter (met n false found) (at_word n false found)
     tried out moved = subst (λ b. Steps b call.TryEnter (met n false found) (at_word n false found)) (out_begins (what view) out) (stepped (has_begun (what view)) call.TryEnter (met n false) (at_word n false) moved)
 
-    -- an exchange, by whether it found the word that it expected
+    -- an exchange, which found the word that it expected or another
     pub took : (old new : ℕ) (waits b : Bool) → Some new ≡ entered n old → what view ≡ Some (at_word n waits old) → (found == old) ≡ b → Tells (sits_by n old (what view))
         → Steps true (call_of waits) (if b then Answered Granted None else met n waits found) (if b then Seated else at_word n waits found)
     took old new waits b free is same moved =
@@ -72,11 +72,11 @@ module _ (n name : ℕ) (seen : Watch rule.Done) (same : name ≡ seen.name) whe
         (stepped true (call_of waits) (λ w. if w == old then Answered Granted None else met n waits w) (led_to n old waits) (subst (λ o. Tells (takes_by n old (waits_in o))) here moved))
 
 module _ (n : ℕ) (c : SeatsCall) (to : View) (u v : Account n) where
-  -- a step that begins the call and answers it
+  -- a step that begins the call and answers it at once
   pub in_one : (a : Answer (Unit {0})) → Stepped n false c (Answered a None) to u v → Called n c a u v
   in_one a step = spots.in_one model c (known n u) (known n v) a step.0
 
-  -- a further step of a call
+  -- A further step of a call that has begun.
   module _ (w : Account n) (first : IsIn n c u v) where
     pub goes_on : Stepped n true c GoingOn to v w → IsIn n c u w
     goes_on step = spots.stays_in model c (known n u) (known n v) (known n w) first step.0
@@ -84,7 +84,7 @@ module _ (n : ℕ) (c : SeatsCall) (to : View) (u v : Account n) where
     pub is_answered : (a : Answer (Unit {0})) → Stepped n true c (Answered a None) to v w → Called n c a u w
     is_answered a step = spots.is_answered model c (known n u) (known n v) (known n w) first a step.0
 
--- a call that takes a seat, by whether its word has a free one
+-- A call that takes a seat, at a word with a free seat or without.
 module _ (n word : ℕ) where
   pub is_free : (next : ℕ) → Some next ≡ entered n word → nat_lt word (seats n) ≡ true
   is_free next free = grind (arith, free)

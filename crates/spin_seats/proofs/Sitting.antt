@@ -1,5 +1,4 @@
--- The steps of a lock of seats keep its rule. Each is the plain step of its step function, and moves of the lock's
--- model.
+-- The steps of a lock of seats keep its rule. Each is the plain step of its step function, and is moves of the lock's model.
 use Rattle.std.proofs.Common.{◌≡◌, ℕ, ◌+◌, ◌-◌, ◌≤◌, ◌%◌, ◌^◌, ◌==◌, Bool, true, false, if◌then◌else◌, cond, List, [], ◌∷◌, length, filter, Option, Some, None, refl, sym, ap, ◌∙◌, subst, arith}
 use Rattle.std.specs.Prelude.{max, sum_by}
 use Rattle.std.proofs.lemmas.List.Sums.{sum_by-cons}
@@ -36,7 +35,7 @@ use Rattle.spin_seats.proofs.Taken.{leave-gives}
 abbrev ways : Ways (Unit {0}) View (Unit {0})
 ways = (lends, use_of_view, no_fact)
 
--- The holders are the parties that sit, and they read
+-- The holders are the parties that sit, and they read.
 
 ones : {X : Type 0} (xs : List X) → sum_by (λ x. 1) xs ≡ length xs
 ones [] = refl
@@ -90,7 +89,7 @@ lock n = record {
   names_nobody = (flag_word-up, no_word-up);
 }
 
--- The moves of each step
+-- The moves of each step.
 
 abbrev Moves : ℕ → Option View → (ℕ → ℕ) → (ℕ → View → Type 0) → Says → Type 0
 Moves n view f = AreMoves (model n) seat_of words_of view (on_first f) first
@@ -100,7 +99,7 @@ count_moves n None out w value v is = rw is.0 (Begin call.Count ∷ Step ∷ [],
 count_moves n (Some Idle) out w value v is = rw is.0 (Begin call.Count ∷ Step ∷ [], Begun ∷ Answered (Count w) None ∷ [], ((refl, (refl, refl)), is.1), refl, refl, w, value, refl, refl, refl)
 count_moves n (Some _) out w value v is = absurd out
 
--- a look finds a free seat, or none
+-- a look goes on if it finds a free seat; if it finds none, `try_enter` fails and `enter` waits
 try_moves : (n : ℕ) (view : Option View) → IsOut view → Moves n view (λ w. w) (becomes_by (at_word n false) 0 0 view) (looks_by n false view)
 try_moves n None out w value v is = (Begin call.TryEnter ∷ Step ∷ [], Begun ∷ met n false w ∷ [], (is, (refl, refl)), refl, grind arith, w, value, grind (arith, is), grind arith, refl)
 try_moves n (Some Idle) out w value v is = (Begin call.TryEnter ∷ Step ∷ [], Begun ∷ met n false w ∷ [], (is, (refl, refl)), refl, grind arith, w, value, grind (arith, is), grind arith, refl)
@@ -121,14 +120,14 @@ sit_moves n old new false free w value v is =
 leave_moves : (n : ℕ) → Moves n (Some Seated) (λ w. (w + (2 ^ 64 - 1)) % 2 ^ 64) (λ w v. (v ≡ Idle) × (1 ≤ w) × (w ≤ seats n)) gets_up_by
 leave_moves n w value v is = rw is.0 (Begin call.Leave ∷ Step ∷ [], Begun ∷ Answered Done None ∷ [], (refl, (refl, refl)), refl, refl, w - 1, value, refl, refl, let some = is.1 in let few = is.2 in ap (λ k. (k, tt)) (omega (arith, some, few)))
 
--- The steps of the plain lock
+-- The steps of the plain lock.
 
 either_fits : (b : Bool) (x y most : ℕ) → x ≤ most → y ≤ most → either b x y ≤ most
 either_fits true x y most h k = h
 either_fits false x y most h k = k
 
--- A plain lock in order may have a holder even if its cap is 0. So the word of each step is used to show that no more
--- sit than there are seats.
+-- A plain lock in order may have one holder even if its cap is 0. So the word after each step is used to show that no more parties sit than
+-- there are seats.
 within : (n : ℕ) (view : Option View) (f : ℕ → ℕ) (says tells : ℕ → View → Type 0) → ((w : ℕ) → w ≤ seats n → f w ≤ max 1 (seats n) → f w ≤ seats n) → ((w : ℕ) (v : View) → w ≤ seats n → says w v → tells w v)
     → Allows (Holds (lock n)) ways view f says → Allows (IsWord n) ways view f tells
 within n view f says tells few told step id w m vs meets at small =
@@ -138,7 +137,7 @@ within n view f says tells few told step id w m vs meets at small =
 starts : (n : ℕ) → Meets (IsWord n) ways 0 tt []
 starts n = let begun = begins (lock n) 0 0 0 tt (omega arith) refl refl in ((begun.0, omega arith), begun.1)
 
--- a party that looks has nothing afterwards
+-- a party that has only looked holds nothing
 has_none : (n : ℕ) (waits : Bool) (w : ℕ) → part (at_word n waits w) ≡ idle
 has_none n waits w = grind arith
 
@@ -166,7 +165,7 @@ counts_at : (n : ℕ) (view : Option View) → IsOut view → Allows (IsWord n) 
 counts_at n view out = within n view (λ w. w) (becomes Idle 0 0 view) (λ w v. (v ≡ Idle) × (w ≤ seats n)) (λ w few most. few) (λ w v few is. (is, few))
     (plays.looks_at (lock n) view (λ w. Idle) (out_has_none view out) (λ w. refl))
 
--- the lemma of the step function says that a seat is open if it grants one
+-- if the step function grants a seat, its lemma says that the plain lock has one free
 sits_at : (n old new : ℕ) (waits : Bool) → ((s : Plain) (p : ℕ) → AllRead s → s.cap ≡ seats n → seats_word s ≡ old → Decides s (gets p to_read) seats_word (Some new)) → new ≤ seats n
     → Allows (IsWord n) ways (Some (Coming waits old)) (λ w. either (w == old) new w) (becomes_by (led_to n old waits) old new (Some (Coming waits old)))
 sits_at n old new waits plain room = let view = Some (Coming waits old) in let says = becomes_by (led_to n old waits) old new view in
@@ -185,7 +184,7 @@ gets_up_at n = let says : ℕ → View → Type 0 = λ w v. (v ≡ Idle) × (1 �
       (refl, omega (arith, some)),
     )))
 
--- Each step keeps the rule, and appends its moves
+-- Each step keeps the rule, and appends its moves.
 
 abbrev own_ways : Ways (Unit {0}) (Numbered View) (Trace rule.Done (Unit {0}))
 own_ways = (lends, use_of_party, no_fact)
@@ -210,7 +209,7 @@ module _ (n name : ℕ) where
   pub looks : (view : Option (Numbered View)) → MayLook (what view) → Keeps view (λ w. w) (looks_by n true (what view))
   looks view may = let th = becomes_by (at_word n true) 0 0 (what view) in traces view (λ w. w) th (looks_by n true (what view)) (look_moves n (what view) may) (looks_at n true (what view) (may_look (what view) may))
 
-  -- if the step function grants, the call has found a word with a free seat
+  -- if the step function gives a next word, the call has found a word with a free seat
   pub is_coming : (old new : ℕ) (waits : Bool) (view : Option View) → Some new ≡ entered n old → view ≡ Some (at_word n waits old) → view ≡ Some (Coming waits old)
   is_coming old new waits view free is = grind (arith, free, is)
 
@@ -226,7 +225,7 @@ module _ (n name : ℕ) where
   pub gets_up : (view : Option (Numbered View)) → what view ≡ Some Seated → Keeps view (λ w. (w + (2 ^ 64 - 1)) % 2 ^ 64) gets_up_by
   gets_up view is = traces view (λ w. (w + (2 ^ 64 - 1)) % 2 ^ 64) (λ w v. (v ≡ Idle) × (1 ≤ w) × (w ≤ seats n)) gets_up_by (rw is (leave_moves n)) (rw is (gets_up_at n))
 
--- Who may leave
+-- A party that may leave.
 
 also : (n : ℕ) (v : View) → Rests (Holds (lock n)) use_of_view (Some v) → Rests (IsWord n) use_of_view (Some v)
 also n v rest = (rest.0, λ w m before behind is. (rest.1 w m before behind is.0, is.1))
@@ -235,7 +234,7 @@ pub rests : (n name : ℕ) (view : Option (Numbered View)) → stands view ≡ I
 rests n name None is = tt
 rests n name (Some v) is = tie.rests (model n) seat_of words_of (IsWord n) name (Unit {0}) lends use_of_view no_fact v (ap seat_of is) (also n v.0 (plays.idle_rests (lock n) v.0 is))
 
--- What the rule says
+-- What the rule says of the word.
 
 one_sits : (v : View) → reads_of (use_of_view v) ≡ cond (sits v) 1 0
 one_sits Seated = refl

@@ -1,4 +1,4 @@
--- What the step functions of seats are in the plain lock.
+-- The step functions of seats decide as the plain lock does.
 use Rattle.std.proofs.Common.{◌≡◌, ℕ, ◌-◌, ◌≤◌, Some, arith, nat_lt, length-append}
 use Rattle.spin_step.specs.Plain.{Plain, reading, gets, releases, to_read, may_come}
 use Rattle.spin_step.specs.Steps.{Decides, Gives}
@@ -6,7 +6,7 @@ use Rattle.spin_step.proofs.Holders.{length-without_holder}
 use Rattle.spin_step_more.proofs.Readers.{nobody_against}
 use Rattle.spin_seats.specs.Seats.{AllRead, seats, seats_word, entered}
 
--- if all holders read, a seat is open exactly if the word is below the cap
+-- if all holders read, the plain lock has a free seat exactly if the word is below the cap
 pub open_is : (s : Plain) (n w : ℕ) → AllRead s → s.cap ≡ seats n → seats_word s ≡ w → may_come reading s ≡ nat_lt w (seats n)
 open_is s n w all room is = grind (arith, nobody_against s.holders all)
 
@@ -16,6 +16,6 @@ enter-grants s p n w all room is = grind (arith, open_is s n w all room is, leng
 pub leave-gives : (s : Plain) (p w : ℕ) → seats_word s ≡ w → Gives s (releases p reading) seats_word (w - 1)
 leave-gives s p w is = λ found. omega (arith, is, length-without_holder p reading s.holders found)
 
--- a party that sits down finds a seat
+-- after a party has taken a seat, no more are taken than there are
 pub entered-fits : (n w next : ℕ) → Some next ≡ entered n w → next ≤ seats n
 entered-fits n w next is = grind arith

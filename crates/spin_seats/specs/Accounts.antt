@@ -1,4 +1,4 @@
--- What a party knows of its own moves, from one of its steps or calls to a later one.
+-- What a party knows of its own moves, from one of its steps or calls up to a later one.
 use Rattle.std.specs.Prelude.{Bool, ℕ, true, false, nat_lt}
 use Rattle.spin_core.specs.Spots as spots
 use Rattle.spin_model.specs.declared.answer.Answer.{Answer}
@@ -11,23 +11,23 @@ use Rattle.spin_seats.specs.declared.seats.rule.Account.{Account}
 use Rattle.spin_seats.specs.declared.seats.rule.View.{View}
 
 module _ (n : ℕ) where
-  -- how many seats the lock has, the party's view, and what it knows
+  -- an account as a spot: the number of seats, the party's view, and what the party knows
   abbrev pub known : Account n → spots.Spot ℕ View Done
   known account = (n, account.permit.view, account.seen)
 
-  -- since then it has made one step of this call, with this outcome, and now has this view
+  -- from `before` to `now` the party has made one step of this call, with this outcome, and now has this view
   abbrev pub Stepped : Bool → SeatsCall → Ending → View → Account n → Account n → Type 0
   Stepped goes_on call end view before now = spots.Stepped model goes_on call end view (known before) (known now)
 
-  -- it is in this call, which it has begun since
+  -- now the party waits in this call, which it began after `before`
   abbrev pub IsIn : SeatsCall → Account n → Account n → Type 0
   IsIn call before now = spots.IsIn model call (known before) (known now)
 
-  -- it has made exactly this call, with this answer
+  -- from `before` to `now` the party has made exactly this call, with this answer
   abbrev pub Called : SeatsCall → Answer (Unit {0}) → Account n → Account n → Type 0
   Called call answer before now = spots.HasCalled model call answer (known before) (known now)
 
-  -- its `try_enter` found this word: it continues if a seat is free, and is refused if none is
+  -- the party's `try_enter` found a word: if a seat is free there, the call goes on, and otherwise it has failed
   abbrev pub GoesFor : Bool → Account n → Account n → Type 0
   GoesFor true = IsIn TryEnter
   GoesFor false = Called TryEnter Refused

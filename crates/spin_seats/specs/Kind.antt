@@ -5,7 +5,7 @@ use Rattle.spin_model.specs.declared.place.Hold.{Hold}
 use Rattle.spin_model.specs.Calls.{Asked, LockKind, usual}
 use Rattle.spin_model.specs.Asks.{counts_readers, gives_back, is_read, looks_and_tries, waits}
 
--- the plain steps: every holder reads, and at most as many hold as the cap says
+-- every holder reads, and the cap is the number of seats
 abbrev pub seats_plain_steps : Change → Bool
 seats_plain_steps (gets p to_read) = true
 seats_plain_steps (releases p reading) = true

@@ -1,5 +1,5 @@
--- The rule of a lock of seats. Its word is that of a plain lock whose holders are the parties that sit, at most as many
--- as there are seats. Its trace is a schedule of the lock's model, which leads there.
+-- The rule of a lock of seats. Its word is that of a plain lock whose holders are the parties that sit, at most as many as there are seats.
+-- Its trace is a schedule of the lock's model that leads to this word and these parties.
 use Rattle.std.specs.Prelude.{◌≡◌, ℕ, ◌≤◌, ◌==◌, Bool, true, false, if◌then◌else◌, nat_lt, List, Option, Some, None, count_by}
 use Rattle.spin_step.specs.Plain.{reading}
 use Rattle.spin_core.specs.Cell.{Use, lends, no_fact, Ways}
@@ -36,7 +36,7 @@ use_of_view = used_by part
 abbrev pub use_of_party : Numbered View → Use
 use_of_party v = use_of_view v.0
 
--- where a party sits in the model
+-- the seat in the model of a party with this view
 abbrev pub seat_of : View → Seat SeatsCall SeatsPoint
 seat_of Idle = seat.Idle
 seat_of Seated = seat.Holding Read
@@ -47,7 +47,7 @@ seat_of Waiting = seat.Calling call.Enter First None
 abbrev pub model : ℕ → SeatsMachine
 model = seats_machine
 
--- the words of the lock, from those of the model
+-- the lock's words, by the model's word
 abbrev pub words_of : ℕ → ℕ × Unit {0}
 words_of w = (w, tt)
 
@@ -73,35 +73,35 @@ Says = List OneMove → List Ending → ℕ → View → Type 0
 abbrev pub Told : ℕ → Says → Option (Numbered View) → List Done → List Done → ℕ → Numbered View → Type 0
 Told n = Tells (model n) seat_of words_of
 
--- a party that sits counts as a reader, since readers may hold together
+-- parties that sit count as readers, which may hold together
 abbrev pub seat_ways : {X S : Type 0} → Ways X (Numbered View) S
 seat_ways = (lends, use_of_party, no_fact)
 
--- the view of a call that found no free seat: it waits, or is refused
+-- the view of a call that found no free seat: `enter` waits, and `try_enter` has failed
 abbrev pub gone : Bool → View
 gone true = Waiting
 gone false = Idle
 
--- the view after the call has found this word
+-- the view of a call that has found this word: its next step is an exchange if a seat is free
 abbrev pub at_word : ℕ → Bool → ℕ → View
 at_word n waits word = if nat_lt word (seats n) then Coming waits word else gone waits
 
--- a call that takes a seat has found this word
+-- a call that takes a seat has found this word, and has the view for it
 abbrev pub IsAtWord : ℕ → Option View → ℕ → Type 0
 IsAtWord n view word = (waits : Bool) × (view ≡ Some (at_word n waits word))
 
--- The steps: the outcome and the next view of each, by the number found
+-- The outcome and the next view of each step, by the number found.
 
--- the party has begun its `enter`, and looks again
+-- the party waits in `enter`, so its look does not begin a call
 abbrev pub has_begun : Option View → Bool
 has_begun (Some Waiting) = true
 has_begun _ = false
 
--- a look at how many sit: it finds at most as many as there are seats
+-- the load of `count`: it finds at most as many seats taken as there are
 abbrev pub counts_by : ℕ → Says
 counts_by n own outs found v = step_by false call.Count (λ w. Answered (Count w) None) (λ w. Idle) own outs found v × (found ≤ seats n)
 
--- the call that takes a seat: `enter` if it waits for one, else `try_enter`
+-- the call that takes a seat: `enter` if it waits, else `try_enter`
 abbrev pub call_of : Bool → SeatsCall
 call_of true = call.Enter
 call_of false = call.TryEnter
@@ -114,12 +114,12 @@ met n false found = if nat_lt found (seats n) then GoingOn else Answered Refused
 abbrev pub looks_by : ℕ → Bool → Option View → Says
 looks_by n waits view = step_by (has_begun view) (call_of waits) (met n waits) (at_word n waits)
 
--- whether the call of this view waits for a seat
+-- the call of this view waits for a seat: it is `enter`
 abbrev pub waits_in : Option View → Bool
 waits_in (Some (Coming waits word)) = waits
 waits_in _ = true
 
--- its exchange: if it finds the word that it expected, it sits; else it continues at the word that it found
+-- the view after the exchange: if the exchange finds the word that it expects, the party sits; else its call goes on with the word found
 abbrev pub led_to : ℕ → ℕ → Bool → ℕ → View
 led_to n old waits found = if found == old then Seated else at_word n waits found
 
@@ -143,7 +143,7 @@ abbrev pub stands : Option (Numbered View) → View
 stands None = Idle
 stands (Some v) = v.0
 
--- the call has just begun, or looks again
+-- a load may come next: the party is in no call, or waits in `enter`
 abbrev pub MayLook : Option View → Type 0
 MayLook (Some Waiting) = Unit {0}
 MayLook view = IsOut view

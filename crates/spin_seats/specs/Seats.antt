@@ -1,4 +1,4 @@
--- A lock of seats: a plain lock whose holders all read, at most as many as the cap says. Its word is their number.
+-- The plain lock of seats: its holders all read, and its cap is the number of seats. Its word is the number of holders.
 use Rattle.std.specs.Prelude.{◌≡◌, ℕ, ◌+◌, ◌-◌, Option, Some, None, length, min, nat_lt, if◌then◌else◌}
 use Rattle.spin_step.specs.Plain.{Plain, reading, count_kind}
 
@@ -6,7 +6,7 @@ use Rattle.spin_step.specs.Plain.{Plain, reading, count_kind}
 abbrev pub seat_limit : ℕ
 seat_limit = 2305843009213693951
 
--- the cap of a lock that was made for n seats
+-- the number of seats of a lock that was made for n
 abbrev pub seats : ℕ → ℕ
 seats n = min n seat_limit
 
@@ -16,10 +16,10 @@ seats_word s = length s.holders
 abbrev pub AllRead : Plain → Type 0
 AllRead s = count_kind reading s.holders ≡ length s.holders
 
--- the word after one more party has taken a seat, if one is free
+-- the word after a party has taken a seat, if one is free
 abbrev pub entered : ℕ → ℕ → Option ℕ
 entered n w = if nat_lt w (seats n) then Some (w + 1) else None
 
--- the word after a party has left its seat
+-- the word after a party has freed its seat
 abbrev pub left : ℕ → ℕ
 left w = w - 1

@@ -26,11 +26,11 @@ Answered = Next SeatsPoint (Answer (Unit {0}))
 abbrev pub granted : Answered
 granted = Answers Granted (Some Read)
 
--- a call that takes a seat then tries to exchange the word that it found
+-- a call that takes a seat goes on to an exchange that expects the word found
 abbrev pub goes_for : ℕ → Answered
 goes_for w = Continue (Exchange w)
 
--- It looks first. It then repeats its exchange while each word that it finds has a free seat.
+-- A call that takes a seat looks first. Then it repeats its exchange as long as the word found has a free seat.
 abbrev pub comes_by : ℕ → Answered → SeatsPoint → Act ℕ SeatsPoint (Answer (Unit {0}))
 comes_by n missed First = load_for (entered n) (λ p. gets p to_read) goes_for missed
 comes_by n missed (Exchange k) = retry k (entered n) (λ p. gets p to_read) granted goes_for missed

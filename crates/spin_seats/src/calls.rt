@@ -1,4 +1,4 @@
-//! The calls of a lock of seats in the model, and their points. Begin with [`SeatsCall`].
+//! The calls of a lock of seats in the model, and the points between their steps. Begin with [`SeatsCall`].
 ghost use Rattle.std.specs.Prelude.{◌≡◌, ⊤};
 
 use std::alloc::AllocError;
@@ -6,7 +6,7 @@ use std::alloc::AllocError;
 /// A call of the lock in the model.
 #[derive(Copy)]
 pub enum SeatsCall {
-    /// Tries to take a seat. It fails only if all were taken at some moment of the call.
+    /// Tries to take a seat. It fails only if all seats were taken at some moment of the call.
     TryEnter,
     /// Takes a seat, in as many steps as it needs.
     Enter,
@@ -16,12 +16,12 @@ pub enum SeatsCall {
     Leave,
 }
 
-/// The point of a call: which step comes next. Only a call that takes a seat has a second one.
+/// The point of a call: its next step. Only a call that takes a seat has a second point.
 #[derive(Copy)]
 pub enum SeatsPoint {
     /// The first step of any call, and of each further attempt.
     First,
-    /// The exchange of this word, which the call has found.
+    /// The exchange that expects this word, which the call has found.
     Exchange(usize),
 }
 

@@ -1,4 +1,4 @@
-//! Laws of the lock. Each is the contract of a function that does nothing, so none has an example.
+//! Laws of the lock. Each law is the contract of a function that does nothing, so none has an example.
 ghost use Rattle.std.specs.Prelude.{◌≡◌, ◌≤◌, ◌+◌, ◌-◌, ◌%◌, ◌^◌, ℕ, List};
 ghost use Rattle.spin_seats.specs.declared.seats.rule.View.{View};
 ghost use Rattle.spin_step.specs.Plain.{reading};
@@ -8,24 +8,25 @@ ghost use Rattle.spin_core.specs.Own.{Numbered, IsRun};
 ghost use Rattle.spin_core.specs.declared.trace.Trace.{Trace};
 ghost use Rattle.spin_seats.specs.Rule.{Done, IsSeats, IsWord, model, part, seat_of, seated, words_of};
 
-/// States what the rule of a lock of `n` seats says of its word: it is the number of parties that sit, at most `n`.
+/// States what the rule of a lock of `n` seats says of its word: the word is the number of parties that sit,
+/// at most `n`.
 pub fn no_more_sit_than_there_are_seats()
     ensures { (n word : ℕ) (views : List View) → IsWord n word tt views → (word ≡ seated views) × (word ≤ n) }
 {}
 
-/// States that a subtraction is the step function. A thread that frees its seat subtracts without a load of the word.
-/// On each word that the rule allows, the result is that of the step function.
+/// States that a subtraction frees a seat as the step function says, on each word that the rule allows. A thread
+/// that frees its seat subtracts without a load.
 pub fn a_subtraction_is_its_step_function()
     ensures { (n word : ℕ) (views : List View) (p : ℕ) → IsWord n word tt views → part_at part views p ≡ holds reading → (1 ≤ word) × ((word + (2 ^ 64 - 1)) % 2 ^ 64 ≡ left word) }
 {}
 
-/// Each run of a [`Seats`](crate::seats::Seats) on threads is a schedule of its model.
+/// States that each run of a [`Seats`](crate::seats::Seats) on threads is a schedule of its model.
 ///
-/// The lock's cell keeps the list of all moves that threads have made in it: which party, and which move. The list is
+/// The lock's cell keeps the list of all moves that threads have made in it, each with its party. The list is
 /// ghost state, and takes no memory.
 ///
 /// # Contract
-/// The law holds between any two steps of threads (`IsSeats`): no move of the list is skipped in the model. After all
+/// The law holds between any two steps of threads (`IsSeats`). The model skips no move of the list. After all
 /// these moves the model has the lock's word, and each party is where its view says.
 pub fn every_run_of_seats_is_a_schedule()
     ensures { (n name word : ℕ) (trace : Trace Done (Unit {0})) (parties : List (Numbered View)) → IsSeats n name word trace parties → IsRun (model n) seat_of words_of trace.entries (word, trace.word) parties }

@@ -1,6 +1,6 @@
 //! `Seats`: a counting semaphore that spins. It is the example of a new lock of a caller's own.
 //!
-//! Begin with [`seats::Seats`]. [`steps`] has the effect of each call on the word.
+//! Begin with [`seats::Seats`]. [`steps`] says how each call changes the word.
 #![tactic(auto)]
 
 pub mod calls;

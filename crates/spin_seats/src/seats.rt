@@ -16,8 +16,8 @@ mod rule;
 pub use self::pass::Pass;
 pub use self::rule::{Entry, View};
 
-/// A lock of `N` seats, but at most [`MAX_SEATS`](crate::steps::MAX_SEATS). At most this many threads have a guard at
-/// the same time.
+/// A lock of `N` seats, or of [`MAX_SEATS`](crate::steps::MAX_SEATS) if `N` exceeds that. At most as many
+/// threads as it has seats have a guard at the same time.
 ///
 /// Waiting threads may overtake each other.
 ///
@@ -38,7 +38,7 @@ pub struct Seats<const N: usize> {
     cell: Cell<(), Party, SeatsRule<N>>,
 }
 
-/// A seat of a [`Seats`]. Dropping it frees the seat.
+/// The guard of a seat of a [`Seats`]. Dropping it frees the seat.
 #[must_use = "dropping the guard at once gives the seat back: bind it, or write `drop(..)`"]
 pub struct SeatGuard<'a, const N: usize> {
     account: Account<'a, N>,
@@ -66,28 +66,28 @@ impl<const N: usize> Seats<N> {
         self.pass().count().0
     }
 
-    /// Tries to take a seat. Returns `None` if all are taken.
+    /// Tries to take a seat. Returns `None` if all seats are taken.
     ///
-    /// It tries again if another thread changed the word meanwhile.
+    /// It retries as long as other threads change the word and a seat is free.
     ///
     /// # Contract
     /// Whether and when the call returns is not promised.
     #[must_use = "dropping the guard at once gives the seat back: bind the answer, or write `drop(..)`"]
     pub fn try_enter<W: Wait>(&self, rt: &W) -> Option<SeatGuard<'_, N>> {
-        // Not by `Pass::try_enter`: one more call that may wait would cost more.
+        // It does not call `Pass::try_enter`: one more call that may wait costs time.
         match self.pass().try_come().take(rt) {
             Ok(guard) => Some(guard),
             Err(_pass) => None,
         }
     }
 
-    /// Takes a seat, spinning until one is free. The thread backs off: each pause between two tries is longer than the
-    /// last, up to a limit.
+    /// Takes a seat, spinning until one is free. A waiting thread backs off: it pauses before each attempt,
+    /// each time longer, up to a limit.
     ///
     /// # Contract
     /// Whether and when the call returns is not promised.
     pub fn enter<W: Wait>(&self, rt: &W) -> SeatGuard<'_, N> {
-        // Not by `Pass::enter`: one more call that may wait would cost more.
+        // It does not call `Pass::enter`: one more call that may wait costs time.
         match self.pass().come() {
             Ok(guard) => guard,
             Err(entering) => entering.wait(rt),

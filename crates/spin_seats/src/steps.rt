@@ -1,4 +1,4 @@
-//! Step functions of seats in one word: how many are taken. Begin with [`enter`].
+//! Step functions of a lock of seats, whose word is the number of seats taken. Begin with [`enter`].
 //!
 //! # Examples
 //! ```
@@ -13,14 +13,15 @@ ghost use Rattle.spin_step.specs.Plain.{Plain, gets, releases, to_read, reading}
 ghost use Rattle.spin_step.specs.Steps.{Decides, Gives};
 ghost use Rattle.spin_seats.specs.Seats.{AllRead, entered, left, seats, seats_word};
 
-/// The most seats that a lock has, however many it is asked to have.
+/// The most seats of a lock. A lock that is made for more has this many.
 pub const MAX_SEATS: usize = usize::MAX / 8;
 
-/// Returns the word after a thread takes one of `room` seats, or `None` if all are taken. No lock has more than
-/// [`MAX_SEATS`].
+/// Returns the word after a thread takes one of `room` seats, or `None` if all seats are taken. No lock has
+/// more than [`MAX_SEATS`].
 ///
 /// # Contract
-/// The answer is exact. It decides like a plain lock of readers whose cap is the number of seats (`Decides`).
+/// The plain lock here is one of readers, whose cap is the number of seats. The answer is `None` exactly
+/// where this lock refuses the step. Otherwise it is the word of the next state (`Decides`).
 pub fn enter(word: usize, room: usize) -> Option<usize>
     ensures exact { result ≡ entered room word }
     ensures plain { (s : Plain) (party : ℕ) → AllRead s → s.cap ≡ seats room → seats_word s ≡ word → Decides s (gets party to_read) seats_word result }
@@ -35,7 +36,8 @@ pub fn enter(word: usize, room: usize) -> Option<usize>
 /// Returns the word after a thread frees its seat.
 ///
 /// # Contract
-/// A seat has to be taken. The answer is exact, and gives the plain lock's next state (`Gives`).
+/// A seat has to be taken. Where the plain lock allows the step, the answer is the word of the next state
+/// (`Gives`).
 pub fn leave(word: usize) -> usize
     requires { 1 ≤ word }
     ensures exact { result ≡ left word }

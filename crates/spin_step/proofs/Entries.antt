@@ -1,4 +1,4 @@
--- A step changes its own party's entries as it would change them alone, and nobody else's.
+-- A party's step changes the party's entries as if it were alone, and changes nobody else's.
 use Rattle.std.proofs.Common.{◌≡◌, ℕ, ◌==◌, Bool, true, false, cond, Option, Some, None, List, [], ◌∷◌, ◌++◌, filter, arith, refl, sym, ◌∙◌, subst}
 use Rattle.std.specs.Prelude.{◌&&◌, if◌then◌else◌}
 use Rattle.std.proofs.lemmas.List.{append-nil}
@@ -7,13 +7,13 @@ use Rattle.spin_step.specs.Plain.{Plain, Ask, Kind, Holder, holder, same_kind, E
 use Rattle.spin_step.specs.Parties.{party_of, apply_some, IsOpenStep, entries, entries_after}
 use Rattle.spin_step.proofs.Exclusive.{Lets, lets}
 
--- one more at the end of a list
+-- one more element at the end of a list
 filter-more : {X : Type 0} (test : X → Bool) (xs : List X) (x : X) → filter test (xs ++ x ∷ []) ≡ cond (test x) (filter test xs ++ x ∷ []) (filter test xs)
 filter-more test xs x = grind (arith, filter-append test xs (x ∷ []), append-nil (filter test xs))
 
--- Nobody else's entries change
+-- Nobody else's entries change.
 
--- two lists that differ by one holder of another party have the same holders of this one
+-- q has the same holders in two lists that differ by one holder of p
 others-less : (p q : ℕ) (b : Bool) (h : Holder) (hs rest : List Holder) → (p ≡ q → ⊥) → filter (λ i. i.party == q) rest ≡ filter (λ i. i.party == q) hs → filter (λ i. i.party == q) (if (h.party == p) && b then hs else h ∷ rest) ≡ filter (λ i. i.party == q) (h ∷ hs)
 others-less p q b h hs rest ne e = grind arith
 
@@ -35,7 +35,7 @@ others-without_starver p q (r ∷ rs) ne = grind (arith, others-without_starver 
 others-given : (s : Plain) (p : ℕ) (e : Effect) (q : ℕ) → (p ≡ q → ⊥) → Lets s p e → entries q (given s p e) ≡ entries q s
 others-given s p e q ne let_in = grind (arith, filter-more, others-with_kind)
 
--- another party's open step does not change a party's entries
+-- an open step of another party does not change the entries of q
 pub entries-others : (s : Plain) (c : Change) (q : ℕ) → (party_of c ≡ q → ⊥) → is_open s c ≡ true → entries q (apply s c) ≡ entries q s
 entries-others s (gets p ask) q ne may = others-given s p (effect ask) q ne (lets s p ask may)
 entries-others s c q ne may = grind (arith, others-without_holder, others-with_kind, others-without_starver)
@@ -44,7 +44,7 @@ pub entries-other : (s : Plain) (p q : ℕ) (step : Option Change) → (p ≡ q 
 entries-other s p q None ne may = refl
 entries-other s p q (Some c) ne may = entries-others s c q (λ e. ne (sym may.0 ∙ e)) may.1
 
--- Its own entries change as they would alone
+-- The party's own entries change as if it were alone.
 
 cond-ap : (f : List Holder → List Holder) (a : Bool) (xs ys : List Holder) → cond a (f xs) (f ys) ≡ f (cond a xs ys)
 cond-ap f true xs ys = refl
@@ -81,7 +81,7 @@ entries-owns : (s : Plain) (c : Change) → is_open s c ≡ true → entries (pa
 entries-owns s (gets p ask) may = own-given s p ask (lets s p ask may)
 entries-owns s c may = grind (arith, own-without_holder, own-with_kind, own-without_starver)
 
--- a party's own open step changes its entries as it would change them alone
+-- an open step of the party p, or none, changes its entries as if it were alone
 pub entries-own : (s : Plain) (p : ℕ) (step : Option Change) → IsOpenStep s p step → entries p (apply_some s step) ≡ entries_after s step (entries p s)
 entries-own s p None may = refl
 entries-own s p (Some c) may = subst (λ q. entries q (apply s c) ≡ entries_after s (Some c) (entries q s)) may.0 (entries-owns s c may.1)

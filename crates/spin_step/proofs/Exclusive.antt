@@ -1,4 +1,4 @@
--- An open step adds no second holder to a writer, no second one that may upgrade, and no second entered ticket.
+-- Open steps keep a lock exclusive: a writer gets no second holder beside it, and there is no second upgrader and no second entered ticket.
 use Rattle.std.proofs.Common.{◌≡◌, ℕ, ◌+◌, ◌<◌, ◌⊎◌, inl, inr, Bool, true, false, Option, Some, None, List, [], ◌∷◌, ◌++◌, length, refl, ap, arith, length-append}
 use Rattle.std.proofs.lemmas.Bool.{and_parts}
 use Rattle.spin_step.specs.Plain.{Plain, Kind, writing, Holder, Ticket, Ask, Effect, comes, becomes, queues, enters, starves, runs, effect, given, Change, gets, releases, serves, turns, apply, is_open, is_open_to, is_holder, is_only, is_first, is_empty, is_nothing, may_turn, may_come, upgraders, count_against, count_kind, holder, ticket, ticket_limit, without_holder, with_kind, with_first_entered, without_first}
@@ -10,9 +10,9 @@ pub empty_is : {X : Type 0} (xs : List X) → is_empty xs ≡ true → xs ≡ []
 empty_is [] e = refl
 empty_is (x ∷ xs) e = absurd cc
 
--- What openness gives
+-- What follows if a step is open.
 
--- what the lists must allow for a party to change them
+-- what must hold of the lists before a party gets what it asks
 abbrev pub Lets : Plain → ℕ → Effect → Type 0
 Lets s p (comes k) = (is_empty s.holders ≡ true) ⊎ (may_come k s ≡ true)
 Lets s p (becomes j k) = is_only p j s.holders ≡ true
@@ -24,11 +24,11 @@ Lets s p runs = is_nothing s.phase ≡ true
 pub lets : (s : Plain) (p : ℕ) (ask : Ask) → is_open_to s p ask ≡ true → Lets s p (effect ask)
 lets s p ask may = grind arith
 
--- there is room for as many as may hold
+-- if the lock has room for a newcomer, all holders admit it and the cap is not reached
 pub room_to_come : (k : Kind) (s : Plain) → may_come k s ≡ true → (count_against k s.holders ≡ 0) × (length s.holders < s.cap)
 room_to_come k s may = grind arith
 
--- a lock with as many holders of each kind is as exclusive
+-- a lock with the same number of holders of each kind is exclusive too
 pub exclusive-like : (s t : Plain) → ((f : Kind → ℕ) → sum_kinds f t.holders ≡ sum_kinds f s.holders) → first_alone_entered t.tickets ≡ true
     → IsExclusive s → IsExclusive t
 exclusive-like s t same e x =
@@ -41,7 +41,7 @@ exclusive-like s t same e x =
     length_by : (hs : List Holder) → length hs ≡ sum_kinds (λ k. 1) hs
     length_by hs = omega (arith, all_kinds hs, by_kinds (λ k. 1) hs)
 
--- so is a lock without holders and tickets
+-- a lock without holders and tickets is exclusive
 pub exclusive-free : (s : Plain) → s.holders ≡ [] → s.tickets ≡ [] → IsExclusive s
 exclusive-free s none empty =
     record {
@@ -50,11 +50,11 @@ exclusive-free s none empty =
       one_entered = ap first_alone_entered empty;
     }
 
--- one holder alone is exclusive
+-- a lock with one holder is exclusive
 alone : (s : Plain) (hs : List Holder) → IsExclusive s → length hs ≡ 1 → IsExclusive (record s { holders = hs })
 alone s hs x one = record { writer = λ some. one; one_upgradable = omega (arith, by_kinds upgrader hs, all_kinds hs, one); one_entered = x.one_entered }
 
--- every holder admits a party that may hold too
+-- a lock stays exclusive if a party comes that every holder admits
 come : (s : Plain) (k : Kind) (p : ℕ) → IsExclusive s → count_against k s.holders ≡ 0 → IsExclusive (record s { holders = s.holders ++ holder p k ∷ [] })
 come s k p x none =
     let hs = s.holders in let others = by_kinds (against k) hs in

@@ -1,4 +1,4 @@
--- What the flag's step functions are in the plain lock.
+-- The step functions of a flag decide as the plain lock does.
 use Rattle.std.proofs.Common.{◌≡◌, ℕ, Bool, false, arith, length-append}
 use Rattle.std.specs.Option.{option_map}
 use Rattle.spin_step.specs.Plain.{Plain, Kind, gets, releases, to_write, flag_word}
@@ -12,5 +12,5 @@ flag_lock-grants s p w e = grind (arith, length-append)
 pub flag_unlock-gives : (s : Plain) (p : ℕ) (k : Kind) (w : Bool) → flag_word s ≡ bit w → Gives s (releases p k) flag_word (bit false)
 flag_unlock-gives s p k w e found = grind (arith, length-without_holder p k s.holders found)
 
--- what `unlock` cites
+-- the rules that the contract of `unlock` uses
 pub ruleset gives = (length-without_holder)

@@ -19,7 +19,7 @@ within-given s p e within let_in = grind arith
 within-kept : (s : Plain) (c : Change) → s.next ≤ ticket_limit → is_open s c ≡ true → (apply s c).next ≤ ticket_limit
 within-kept s c within may = grind (arith, within-given, lets)
 
--- there are at most as many holders, and starvers, as there is room for
+-- there are not more holders, or starvers, than the cap allows
 abbrev Fits : Plain → Type 0
 Fits s = (length s.holders ≤ max 1 s.cap) × (length s.starvers ≤ s.cap)
 

@@ -1,4 +1,4 @@
--- What the steps of a `Once` are in the plain lock.
+-- The step functions of a `Once` decide as the plain lock does.
 use Rattle.std.proofs.Common.{◌≡◌, ℕ, ◌==◌, true, Option, ap, sym, ◌∙◌, arith}
 use Rattle.spin_step.specs.Plain.{Plain, Phase, nothing, running, complete, Ask, to_begin, Change, gets, apply, is_open, is_nothing, is_complete, once_word}
 use Rattle.spin_step.specs.Parties.{apply_some, IsOpenStep}
@@ -9,7 +9,7 @@ use Rattle.spin_step.specs.Steps.{Decides}
 abbrev pub phase_word : Phase → ℕ
 phase_word phase = elim phase [ nothing ↦ 0 | running p ↦ 1 | complete ↦ 2 ]
 
--- each test of the word is one of the phase
+-- each test of the phase is a test of the word
 pub complete-word : (phase : Phase) (w : ℕ) → phase_word phase ≡ w → is_complete phase ≡ (w == 2)
 complete-word phase w e = grind arith
 
@@ -25,6 +25,6 @@ once_begin-grants s p w is = grind arith
 others_got : (s : Plain) (p q : ℕ) (ask : Ask) → is_open s (gets q ask) ≡ true → s.phase ≡ running p → (apply s (gets q ask)).phase ≡ running p
 others_got s p q ask may is = grind arith
 
--- a party that runs a closure does so until a step of its own
+-- while a party runs a closure, no step of another party changes the phase
 pub runs-others : (s : Plain) (p q : ℕ) (step : Option Change) → (q ≡ p → ⊥) → IsOpenStep s q step → s.phase ≡ running p → (apply_some s step).phase ≡ running p
 runs-others s p q step ne may is = grind (arith, others_got)

@@ -1,4 +1,4 @@
--- Lists of starvers, when a party stops starving.
+-- Lists of starvers, where a party stops starving.
 use Rattle.std.proofs.Common.{◌≡◌, ℕ, ◌+◌, true, List, [], ◌∷◌, length, filter, ◌==◌, arith}
 use Rattle.spin_step.specs.Plain.{is_starver, without_starver}
 

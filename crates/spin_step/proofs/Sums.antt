@@ -8,15 +8,15 @@ use Rattle.spin_step.specs.Plain.{Kind, reading, upgradable, asking, writing, Ho
 abbrev pub sum_kinds : (Kind → ℕ) → List Holder → ℕ
 sum_kinds f hs = sum_by (λ h. f h.kind) hs
 
--- one for a holder of this kind
+-- 1 if k is the kind j, else 0
 abbrev pub one_of : Kind → Kind → ℕ
 one_of j k = cond (same_kind j k) 1 0
 
--- one for a holder that may become the writer
+-- 1 for a holder that may upgrade, else 0
 abbrev pub upgrader : Kind → ℕ
 upgrader k = cond (may_upgrade k) 1 0
 
--- one for a holder of kind j that does not admit one of kind k
+-- 1 for a holder of kind j that does not admit one of kind k, else 0
 abbrev pub against : Kind → Kind → ℕ
 against k j = cond (not (admits j k)) 1 0
 
@@ -30,7 +30,7 @@ cons f h hs = sum_by-cons (λ (h : Holder). f h.kind) h hs
 one_more : (f : Kind → ℕ) (k : Kind) (n : Kind → ℕ) → f k + over_kinds (λ j. f j * n j) ≡ over_kinds (λ j. f j * (one_of j k + n j))
 one_more f k n = grind (arith, mul-suc (f k) (n k))
 
--- each holder has one of the kinds
+-- a sum over holders is a sum over the kinds
 pub by_kinds : (f : Kind → ℕ) (hs : List Holder) → sum_kinds f hs ≡ over_kinds (λ k. f k * count_kind k hs)
 by_kinds f [] = omega arith
 by_kinds f (h ∷ hs) =
@@ -44,7 +44,7 @@ all_kinds hs = omega (arith, by_kinds (λ k. 1) hs, ones hs)
     ones [] = refl
     ones (h ∷ hs) = omega (arith, ones hs, cons (λ k. 1) h hs)
 
--- A sum after a holder was added, was removed, or got another kind
+-- The sum after a holder is added, is removed, or changes its kind.
 
 pub sum-more : (f : Kind → ℕ) (hs : List Holder) (p : ℕ) (k : Kind) → sum_kinds f (hs ++ holder p k ∷ []) ≡ sum_kinds f hs + f k
 sum-more f hs p k = sum_by_push (λ (h : Holder). f h.kind) hs (holder p k)

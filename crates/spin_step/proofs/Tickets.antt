@@ -1,4 +1,4 @@
--- A queue of tickets whose numbers follow one another.
+-- The queue of tickets, whose numbers are consecutive.
 use Rattle.std.proofs.Common.{◌≡◌, ℕ, suc, ◌+◌, ◌-◌, ◌<◌, ◌≤◌, ◌==◌, Bool, true, false, cond, List, [], ◌∷◌, ◌++◌, length, filter, refl, sym, ap, subst, arith, length-append, inl, inr}
 use Rattle.std.specs.Prelude.{◌⊎◌, sum_by}
 use Rattle.std.proofs.lemmas.List.Sums.{sum_by-cons}
@@ -9,7 +9,7 @@ use Rattle.spin_step.specs.Tickets.{numbered_from, Numbered, gone}
 abbrev own : ℕ → List Ticket → List Ticket
 own p ts = filter (λ t. t.party == p) ts
 
--- a party's only ticket has at least the first number
+-- if numbers begin with k, a party's only ticket has a number of at least k
 within : (p n k : ℕ) (ts : List Ticket) → numbered_from k ts → own p ts ≡ ticket p n false ∷ [] → k ≤ n
 within p n k [] numbers e = absurd (cc (e))
 within p n k (t ∷ ts) numbers e = grind (arith, within p n (suc k) ts)
@@ -17,11 +17,11 @@ within p n k (t ∷ ts) numbers e = grind (arith, within p n (suc k) ts)
 turn : (p n k : ℕ) (ts : List Ticket) → numbered_from k ts → own p ts ≡ ticket p n false ∷ [] → is_first p false ts ≡ (k == n)
 turn p n k ts numbers e = grind (arith, within)
 
--- it is a party's turn exactly if its number is served
+-- the plain lock lets a party enter exactly if its number is served
 pub enters_in_turn : (s : Plain) (p k n : ℕ) → Numbered s → serving_word s ≡ k → own p s.tickets ≡ ticket p n false ∷ [] → is_first p false s.tickets ≡ (k == n)
 enters_in_turn s p k n numbers served e = grind (arith, turn)
 
--- How many tickets have a number
+-- How many tickets have a given number.
 abbrev pub one_if : Bool → ℕ
 one_if b = cond b 1 0
 
@@ -41,7 +41,7 @@ count-between n k [] numbers low high = absurd (omega (arith, low, high))
 count-between n k (t ∷ ts) numbers low high =
     grind (arith, sum_by-cons (has_number n) t ts, count-lower n (suc k) ts, count-between n (suc k) ts)
 
--- The plain steps keep the numbers
+-- The plain steps keep the numbers consecutive.
 
 numbered-more : (k : ℕ) (ts : List Ticket) (p n : ℕ) (b : Bool) → numbered_from k ts → n ≡ k + length ts → numbered_from k (ts ++ ticket p n b ∷ [])
 numbered-more k [] p n b numbers e = (omega (arith, e), tt)
@@ -53,7 +53,7 @@ numbered-entered k ts numbers = grind arith
 length-entered : (ts : List Ticket) → length (with_first_entered ts) ≡ length ts
 length-entered ts = grind arith
 
--- a party that has taken the next number is at the end
+-- a party that takes the next number stands at the end of the queue
 numbered-taken : (s : Plain) (p : ℕ) (b : Bool) → Numbered s → Numbered (record s { tickets = s.tickets ++ ticket p s.next b ∷ []; next = s.next + 1 })
 numbered-taken s p b numbered =
     let more = length-append s.tickets (ticket p s.next b ∷ []) in
@@ -72,7 +72,7 @@ serving-entered s = ap (λ n. s.next - n) (length-entered s.tickets)
 numbered-gone : (n : ℕ) (ts : List Ticket) → (length ts ≤ n) × numbered_from (n - length ts) ts → (length (without_first ts) ≤ n) × numbered_from (n - length (without_first ts)) (without_first ts)
 numbered-gone n ts numbered = grind arith
 
--- when the first ticket leaves, the next number is served
+-- when the first ticket leaves, the served number grows by one
 pub serving-gone : (n : ℕ) (ts : List Ticket) → length ts ≤ n → is_empty ts ≡ false → n - length (without_first ts) ≡ (n - length ts) + 1
 serving-gone n ts within some = grind arith
 
@@ -93,13 +93,13 @@ first_stands p b ts e = grind arith
 serving-given : (s : Plain) (p : ℕ) (e : Effect) → Numbered s → serving_word (given s p e) ≡ serving_word s
 serving-given s p e numbered = grind (arith, serving-taken, length-entered)
 
--- the served number grows by one with each ticket that leaves, and otherwise never
+-- the served number grows by one with each ticket that leaves; no other step changes it
 pub serving-moves : (s : Plain) (c : Change) → Numbered s → is_open s c ≡ true → serving_word (apply s c) ≡ serving_word s + gone c
 serving-moves s (gets p ask) numbered may = omega (arith, serving-given s p (effect ask) numbered)
 serving-moves s (serves p) numbered may = serving-gone s.next s.tickets numbered.0 (first_stands p true s.tickets may)
 serving-moves s _ numbered may = omega arith
 
--- the served number stays; or the first ticket leaves, and the next number is served
+-- the served number stays the same; or the first ticket leaves, and it grows by one
 abbrev pub Advances : Plain → Change → Type 0
 Advances s c = (serving_word (apply s c) ≡ serving_word s) ⊎ ((is_empty s.tickets ≡ false) × (serving_word (apply s c) ≡ serving_word s + 1))
 
@@ -108,13 +108,13 @@ serving-advances s (gets p ask) numbered may = inl (serving-given s p (effect as
 serving-advances s (serves p) numbered may = let some = first_stands p true s.tickets may in inr (some, serving-gone s.next s.tickets numbered.0 some)
 serving-advances s _ numbered may = inl refl
 
--- Who has a ticket
+-- Whether anybody has a ticket.
 
--- nobody has one if the next number is served
+-- if the next number is served, nobody has a ticket
 pub nobody_stands : (n : ℕ) (ts : List Ticket) → length ts ≤ n → n ≤ n - length ts → is_empty ts ≡ true
 nobody_stands n ts within all = grind arith
 
--- somebody has one if another number is served
+-- if the next number is not served, somebody has a ticket
 pub somebody_stands : (n : ℕ) (ts : List Ticket) → (n - length ts ≡ n → ⊥) → is_empty ts ≡ false
 somebody_stands n ts other = grind arith
 
@@ -129,7 +129,7 @@ entered p n k ts numbers alone same = grind (arith, none_own)
 pub entered_is_served : (s : Plain) (p n : ℕ) → Numbered s → first_alone_entered s.tickets ≡ true → own p s.tickets ≡ ticket p n true ∷ [] → (is_first p true s.tickets ≡ true) × (serving_word s ≡ n)
 entered_is_served s p n numbered alone same = entered p n (serving_word s) s.tickets numbered.1 alone same
 
--- a party with a ticket is in the queue
+-- if a party has a ticket, the queue is not empty
 pub stands : (p n : ℕ) (b : Bool) (ts : List Ticket) → own p ts ≡ ticket p n b ∷ [] → is_empty ts ≡ false
 stands p n b ts same = grind arith
 

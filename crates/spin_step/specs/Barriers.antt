@@ -8,23 +8,23 @@ pub record IsBarrier (s : Plain) (n count generation : ℕ) : Type 0 where
   pub counts : count_word s ≡ count
   pub generations : generation_word s ≡ generation
 
--- count and generation after one more arrival, and whether that arrival leads
+-- count and generation after one more arrival, and whether this arrival leads its group
 abbrev pub arrived : ℕ → ℕ → ℕ → (ℕ × ℕ) × Bool
 arrived n count generation =
     if nat_lt (count + 1) n then ((count + 1, generation), false) else ((0, (generation + 1) % 2 ^ 64), true)
 
--- the arrival of this number is the last one of its group
+-- the k-th arrival is the last one of its group
 abbrev pub is_leading : Plain → ℕ → Bool
 is_leading s k = (k % max s.group 1) == 0
 
--- the number of the arrival that fills the group of arrival k
+-- which arrival fills the group of the k-th arrival
 abbrev pub filled_by : Plain → ℕ → ℕ
 filled_by s k = ((k - 1) / max s.group 1 + 1) * max s.group 1
 
--- the generation that the party of arrival k finds when it arrives
+-- the generation that the party of the k-th arrival finds when it arrives
 abbrev pub generation_at : Plain → ℕ → ℕ
 generation_at s k = (k / max s.group 1) % 2 ^ 64
 
--- the group of arrival k is full, as far as a generation of 64 bits can tell
+-- the group of the k-th arrival is full, as far as a generation modulo 2^64 can tell
 abbrev pub may_leave : Plain → ℕ → Bool
 may_leave s k = not (((s.arrivals / max s.group 1 - k / max s.group 1) % 2 ^ 64) == 0)

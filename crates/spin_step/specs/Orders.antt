@@ -1,4 +1,4 @@
--- An invariant of every plain lock: open steps keep it.
+-- What holds of every plain lock: it holds at first, and open steps keep it.
 use Rattle.std.specs.Prelude.{◌≤◌, length, max}
 use Rattle.spin_step.specs.Plain.{Plain, ticket_limit}
 use Rattle.spin_step.specs.Parties.{IsExclusive}

@@ -1,4 +1,4 @@
--- What one party has in a plain lock, and what no two parties may have at once.
+-- What one party has in a plain lock, and what parties may not have at the same time.
 use Rattle.std.specs.Prelude.{◌≡◌, ℕ, ◌<◌, ◌≤◌, Bool, true, not, ◌&&◌, Option, Some, None, List, [], ◌∷◌, length, filter, ◌==◌}
 use Rattle.spin_step.specs.Plain.{Plain, writing, upgraders, Holder, Ticket, Change, gets, releases, serves, stops_starving, turns, completes, fails, arrives, apply, is_open, is_empty, count_kind}
 
@@ -13,17 +13,17 @@ party_of (completes p) = p
 party_of (fails p) = p
 party_of (arrives p) = p
 
--- a step, or none
+-- the lock after a step, or after none
 abbrev pub apply_some : Plain → Option Change → Plain
 apply_some s None = s
 apply_some s (Some c) = apply s c
 
--- there is no step, or the step is the party's own and open
+-- there is no step, or it is an open step of the party p
 abbrev pub IsOpenStep : Plain → ℕ → Option Change → Type 0
 IsOpenStep s p None = Unit {0}
 IsOpenStep s p (Some c) = (party_of c ≡ p) × (is_open s c ≡ true)
 
--- all that the lock has of one party
+-- all entries of the lock that belong to one party
 pub record Entries : Type 0 where
   pub holders : List Holder
   pub tickets : List Ticket
@@ -44,13 +44,13 @@ no_entries = record { holders = []; tickets = []; starvers = [] }
 abbrev pub with_entries : Plain → Entries → Plain
 with_entries s e = record s { holders = e.holders; tickets = e.tickets; starvers = e.starvers }
 
--- a party's entries after a step of its own in the state s
+-- a party's entries after a step of its own, made in the state s
 abbrev pub entries_after : Plain → Option Change → Entries → Entries
 entries_after s step e =
     let t = apply_some (with_entries s e) step in
     record { holders = t.holders; tickets = t.tickets; starvers = t.starvers }
 
--- somebody holds the lock, or waits in its queue
+-- some party holds the lock, or waits in its queue
 abbrev pub is_held : Plain → Bool
 is_held s = not (is_empty s.holders && is_empty s.tickets)
 
@@ -58,7 +58,7 @@ abbrev pub none_entered : List Ticket → Bool
 none_entered [] = true
 none_entered (t ∷ ts) = not t.entered && none_entered ts
 
--- no ticket but the first has entered
+-- only the first ticket may have entered
 abbrev pub first_alone_entered : List Ticket → Bool
 first_alone_entered [] = true
 first_alone_entered (t ∷ ts) = none_entered ts

@@ -1,5 +1,5 @@
--- The plain lock: lists of named parties and a few numbers, without a word, a bit or a loop.
--- One record serves every lock here. Each lock uses the fields that it needs, and never changes the others.
+-- The plain lock: lists of numbered parties and a few numbers, without a word, a bit or a loop. One record serves every lock. Each lock
+-- uses the fields that it needs, and never changes the others.
 use Rattle.std.specs.Prelude.{ℕ, ◌+◌, ◌-◌, ◌*◌, ◌/◌, ◌%◌, ◌^◌, Bool, true, false, not, ◌&&◌, ◌||◌, if◌then◌else◌, List, [], ◌∷◌, ◌++◌, length, max, nat_lt, ◌==◌, count_by, sum_by}
 
 -- how a holder holds the lock
@@ -13,7 +13,7 @@ pub record Holder : Type 0 where
   pub party : ℕ
   pub kind : Kind
 
--- A place in the queue. The party of a ticket that has entered holds the lock, and writes.
+-- A place in the queue. If the ticket has entered, its party holds the lock and writes.
 pub record Ticket : Type 0 where
   pub party : ℕ
   pub number : ℕ
@@ -25,7 +25,7 @@ pub data Phase : Type 0 where
   running : ℕ → Phase
   complete : Phase
 
--- The lock itself. The cap limits how many may hold at once, or how many may starve in a fair lock.
+-- The lock itself. In a fair lock the cap limits how many starve; in the others it limits how many hold.
 pub record Plain : Type 0 where
   pub cap : ℕ  -- the most holders, or the most starvers, at a time
   pub group : ℕ  -- how many arrivals make a group at a barrier
@@ -40,25 +40,25 @@ pub record Plain : Type 0 where
 abbrev pub fresh : ℕ → ℕ → ℕ → Plain
 fresh cap group first = record { cap = cap; group = group; holders = []; tickets = []; next = first; starvers = []; phase = nothing; arrivals = 0 }
 
--- every ticket's number is below this, u64::MAX
+-- every ticket's number is below this limit, u64::MAX
 abbrev pub ticket_limit : ℕ
 ticket_limit = 18446744073709551615
 
--- What a party may ask of the lock. `to_lock_starving_alone` asks for the lock on condition that nobody else starves.
+-- What a party may ask of the lock.
 pub data Ask : Type 0 where
   to_read : Ask
   to_read_upgradable : Ask
   to_write : Ask
   to_upgrade : Ask
-  to_upgrade_asked : Ask  -- by a party that has asked already
+  to_upgrade_asked : Ask  -- an upgrade by a party that has asked for it before
   to_take_ticket : Ask
   to_enter : Ask
   to_take_and_enter : Ask  -- the `try_lock` of a ticket lock
-  to_lock_unregistered : Ask  -- of a fair lock, by a party that is no starver
-  to_lock_starving : Ask  -- by a starver
-  to_lock_starving_alone : Ask  -- by a starver, if nobody else starves
+  to_lock_unregistered : Ask  -- the lock, for a party that is no starver
+  to_lock_starving : Ask  -- the lock, for a starver
+  to_lock_starving_alone : Ask  -- the lock, for a starver, if nobody else starves
   to_starve : Ask
-  to_begin : Ask  -- a `Once`'s closure
+  to_begin : Ask  -- to run a `Once`'s closure
 
 abbrev pub same_kind : Kind → Kind → Bool
 same_kind reading reading = true
@@ -116,7 +116,7 @@ is_reader _ = true
 abbrev pub reader_count : List Holder → ℕ
 reader_count hs = count_by (λ h. is_reader h.kind) hs
 
--- a holder of this kind may become the writer
+-- a holder of this kind may upgrade: become the writer
 abbrev pub may_upgrade : Kind → Bool
 may_upgrade upgradable = true
 may_upgrade asking = true
@@ -125,22 +125,22 @@ may_upgrade _ = false
 abbrev pub upgraders : List Holder → ℕ
 upgraders hs = count_by (λ h. may_upgrade h.kind) hs
 
--- a holder of the first kind admits a newcomer of the second
+-- a holder of the first kind lets a newcomer of the second kind hold too
 abbrev pub admits : Kind → Kind → Bool
 admits reading reading = true
 admits reading upgradable = true
 admits upgradable reading = true
 admits _ _ = false
 
--- how many holders do not admit a newcomer of this kind
+-- how many holders do not let a newcomer of this kind hold
 abbrev pub count_against : Kind → List Holder → ℕ
 count_against k hs = count_by (λ h. not (admits h.kind k)) hs
 
--- every holder admits a newcomer of this kind, and fewer parties hold than the cap
+-- every holder lets a newcomer of this kind hold, and fewer hold than the cap
 abbrev pub may_come : Kind → Plain → Bool
 may_come k s = (count_against k s.holders == 0) && nat_lt (length s.holders) s.cap
 
--- what the party asks is open to it
+-- the ask is open to the party: the lock allows the step by which the party gets what it asks
 abbrev pub is_open_to : Plain → ℕ → Ask → Bool
 is_open_to s p to_read = may_come reading s
 is_open_to s p to_read_upgradable = may_come upgradable s
@@ -160,14 +160,14 @@ is_open_to s p to_begin = is_nothing s.phase
 pub data Change : Type 0 where
   gets : ℕ → Ask → Change  -- a party gets what it asks
   releases : ℕ → Kind → Change  -- a holder of this kind releases
-  serves : ℕ → Change  -- the first ticket, which has entered, leaves the queue
+  serves : ℕ → Change  -- the first ticket is this party's and has entered; it leaves the queue
   stops_starving : ℕ → Change
-  turns : ℕ → Kind → Kind → Change  -- a holder gets another kind
+  turns : ℕ → Kind → Kind → Change  -- a holder of the first kind changes to the second
   completes : ℕ → Change
   fails : ℕ → Change
   arrives : ℕ → Change
 
--- a holder of the first kind may become one of the second, whoever else holds
+-- a holder of the first kind may change to the second, whoever else holds
 abbrev pub may_turn : Kind → Kind → Bool
 may_turn writing reading = true
 may_turn writing upgradable = true
@@ -196,7 +196,7 @@ abbrev pub without_holder : ℕ → Kind → List Holder → List Holder
 without_holder p k [] = []
 without_holder p k (h ∷ hs) = if (h.party == p) && same_kind k h.kind then hs else h ∷ without_holder p k hs
 
--- the holders, with that hold turned to another kind
+-- the holders, where the party's first hold of the kind k has become one of the kind l
 abbrev pub with_kind : ℕ → Kind → Kind → List Holder → List Holder
 with_kind p k l [] = []
 with_kind p k l (h ∷ hs) = if (h.party == p) && same_kind k h.kind then holder p l ∷ hs else h ∷ with_kind p k l hs
@@ -205,7 +205,7 @@ abbrev pub without_starver : ℕ → List ℕ → List ℕ
 without_starver p [] = []
 without_starver p (q ∷ qs) = if q == p then qs else q ∷ without_starver p qs
 
--- the tickets, after the first one has entered
+-- the tickets, where the first one has entered
 abbrev pub with_first_entered : List Ticket → List Ticket
 with_first_entered [] = []
 with_first_entered (t ∷ ts) = ticket t.party t.number true ∷ ts
@@ -216,9 +216,9 @@ without_first (t ∷ ts) = ts
 
 -- what changes for a party when it gets what it asks
 pub data Effect : Type 0 where
-  comes : Kind → Effect  -- it is one more holder, of this kind
-  becomes : Kind → Kind → Effect  -- its hold gets another kind
-  queues : Bool → Effect  -- it takes the next ticket, and has or has not entered with it
+  comes : Kind → Effect  -- it becomes a holder of this kind
+  becomes : Kind → Kind → Effect  -- its hold changes from the first kind to the second
+  queues : Bool → Effect  -- it takes the next ticket, and enters with it if this is true
   enters : Effect
   starves : Effect
   runs : Effect  -- its closure runs
@@ -256,7 +256,7 @@ apply s (completes p) = record s { phase = complete }
 apply s (fails p) = record s { phase = nothing }
 apply s (arrives p) = record s { arrivals = s.arrivals + 1 }
 
--- the words, as sums over the parties
+-- the words of each lock, as sums over its parties
 abbrev pub flag_word : Plain → ℕ
 flag_word s = length s.holders
 
@@ -270,7 +270,7 @@ weight writing = 1
 abbrev pub rw_word : Plain → ℕ
 rw_word s = sum_by (λ h. weight h.kind) s.holders
 
--- what the holder adds to a fair lock's word, and what each starver adds
+-- what the holder adds to a fair lock's word; and what each starver adds
 abbrev pub holder_weight : ℕ
 holder_weight = 1
 

@@ -7,12 +7,11 @@ abbrev pub bit : Bool → ℕ
 bit true = 1
 bit false = 0
 
--- On a word that encodes s the function refuses if the step c is not open. If c is open, it returns the word of the
--- next state.
+-- What a step function returns for a word that encodes the state s: none if the step c is not open, otherwise the word of the next state.
 abbrev pub Decides : Plain → Change → (Plain → ℕ) → Option ℕ → Type 0
 Decides s c word None = is_open s c ≡ false
 Decides s c word (Some w) = (is_open s c ≡ true) × (w ≡ word (apply s c))
 
--- the same for a function that never refuses: if c is open, w is the word of the next state
+-- the same for a function that always returns a word: if c is open, w is the word of the next state
 abbrev pub Gives : Plain → Change → (Plain → ℕ) → ℕ → Type 0
 Gives s c word w = is_open s c ≡ true → w ≡ word (apply s c)

@@ -1,4 +1,4 @@
--- The queue of tickets: their numbers follow one another, up to the next number.
+-- The queue of tickets, whose numbers are consecutive up to the next number.
 use Rattle.std.specs.Prelude.{◌≡◌, ℕ, suc, ◌≤◌, ◌+◌, ◌==◌, Bool, false, Option, Some, None, List, [], ◌∷◌, length, filter, if◌then◌else◌, nat_lt}
 use Rattle.spin_step.specs.Plain.{Plain, Ticket, ticket, ticket_limit, Change, gets, serves, to_enter, is_open, serving_word}
 
@@ -6,16 +6,16 @@ abbrev pub numbered_from : ℕ → List Ticket → Type 0
 numbered_from k [] = Unit {0}
 numbered_from k (t ∷ ts) = (t.number ≡ k) × numbered_from (suc k) ts
 
--- the tickets have all numbers from the served one up to the next, each once
+-- the tickets have the numbers from the served one up to the next one, in order and without gaps
 abbrev pub Numbered : Plain → Type 0
 Numbered s = (length s.tickets ≤ s.next) × numbered_from (serving_word s) s.tickets
 
--- it is the turn of the party with this ticket: the served number is its own, so it may enter
+-- while `serving` is the served number, `turn` says whether the plain lock lets the party with this ticket enter
 abbrev pub IsTurn : ℕ → ℕ → Bool → Type 0
 IsTurn serving number turn =
     (s : Plain) (party : ℕ) → Numbered s → serving_word s ≡ serving → filter (λ t. t.party == party) s.tickets ≡ ticket party number false ∷ [] → is_open s (gets party to_enter) ≡ turn
 
--- The results of the step functions
+-- The results of the step functions.
 
 abbrev pub take : ℕ → Option ℕ
 take next = if nat_lt next ticket_limit then Some (next + 1) else None

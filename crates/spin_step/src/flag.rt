@@ -1,4 +1,4 @@
-//! One flag: it is set while a thread holds the lock. Begin with [`lock`].
+//! The lock of one flag, which is set while a thread holds it. Begin with [`lock`].
 //!
 //! # Examples
 //! ```
@@ -17,7 +17,8 @@ ghost use Rattle.spin_step.specs.Steps.{bit, Decides, Gives};
 /// Returns the flag after a thread acquires the lock, or `None` if the lock is held.
 ///
 /// # Contract
-/// The answer is exact, and decides as the plain lock does (`Decides`).
+/// The answer is `None` exactly where the plain lock refuses the step. Otherwise it is the word of the next
+/// state (`Decides`).
 pub fn lock(flag: bool) -> Option<bool>
     ensures exact { result ≡ lock flag }
     ensures plain { (s : Plain) (party : ℕ) → flag_word s ≡ bit flag → Decides s (gets party to_write) flag_word (option_map bit result) }
@@ -28,7 +29,8 @@ pub fn lock(flag: bool) -> Option<bool>
 /// Returns the flag after the holder releases the lock.
 ///
 /// # Contract
-/// The flag has to be set. The answer is exact, and gives the plain lock's next state (`Gives`).
+/// The flag has to be set. Where the plain lock allows the step, the answer is the word of the next state
+/// (`Gives`).
 #[tactic(auto, using(crate::proofs::Flags::gives))]
 pub fn unlock(flag: bool) -> bool
     requires { IsTrue flag }

@@ -1,16 +1,16 @@
 //! Every change of a lock's word, as a pure function from the word before to the word after. Also the plain lock: each
 //! of these functions makes one step of it.
 //!
-//! Begin with [`flag`], the smallest lock. A function that may refuse returns `None` and gives no new word.
+//! Begin with [`flag`], the smallest lock. A function that may fail returns `None` in place of a new word.
 //!
 //! # Contract
-//! The plain lock is a state without words or bits: lists of the threads that hold or wait (`specs/Plain.antt`). Most
-//! Most functions have two clauses:
+//! The plain lock is a state without words or bits: lists of the threads that hold or wait
+//! (`specs/Plain.antt`). Most functions have two clauses:
 //!
 //! - `exact`: the answer is the one of the function's definition in `specs/`.
-//! - `plain`: on the word of a plain state that the lock may be in, the function refuses exactly where the plain lock
-//! refuses the step. Otherwise the answer is the word of the next state (`Decides`). A function that never refuses
-//! gives that word where the plain lock allows the step (`Gives`).
+//! - `plain`: take the word of a plain state that the lock may be in. The function returns `None` exactly where the
+//!   plain lock does not allow the step. Otherwise it returns the word of the next state (`Decides`). A function that
+//!   never fails returns that word wherever the plain lock allows the step (`Gives`).
 #![tactic(auto)]
 
 pub mod flag;

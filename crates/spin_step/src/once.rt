@@ -1,4 +1,4 @@
-//! The state of a `Once`, in one byte: 0 without a value, 1 while a closure runs, 2 with a value. Begin with
+//! The state of a `Once` in one byte: 0 without a value, 1 while a closure runs, 2 with a value. Begin with
 //! [`begin`].
 //!
 //! # Examples
@@ -15,10 +15,12 @@ ghost use Rattle.spin_step.specs.Plain.{Plain, gets, completes, fails, to_begin,
 ghost use Rattle.spin_step.specs.Flags.{begun, completed, failed};
 ghost use Rattle.spin_step.specs.Steps.{Decides, Gives};
 
-/// Returns the state after a thread begins to run its closure. Returns `None` if a closure runs or there is a value.
+/// Returns the state after a thread begins to run its closure. Returns `None` if a closure is running or
+/// there is a value.
 ///
 /// # Contract
-/// The answer is exact, and decides as the plain lock does (`Decides`).
+/// The answer is `None` exactly where the plain lock refuses the step. Otherwise it is the word of the next
+/// state (`Decides`).
 pub fn begin(state: u8) -> Option<u8>
     ensures exact { result ≡ begun state }
     ensures plain { (s : Plain) (party : ℕ) → once_word s ≡ state → Decides s (gets party to_begin) once_word result }
@@ -29,8 +31,8 @@ pub fn begin(state: u8) -> Option<u8>
 /// Returns the state after a closure has given its value.
 ///
 /// # Contract
-/// The state has to be 1, that of a closure that runs. The answer is exact, and gives the plain lock's next state
-/// (`Gives`).
+/// The state has to be 1: a closure is running. Where the plain lock allows the step, the answer is the word
+/// of the next state (`Gives`).
 pub fn complete(state: u8) -> u8
     requires { state ≡ 1 }
     ensures exact { result ≡ completed state }
@@ -39,11 +41,11 @@ pub fn complete(state: u8) -> u8
     state + 1
 }
 
-/// Returns the state after a closure has failed. Then the next one may begin.
+/// Returns the state after a closure has failed. Another closure may then begin.
 ///
 /// # Contract
-/// The state has to be 1, that of a closure that runs. The answer is exact, and gives the plain lock's next state
-/// (`Gives`).
+/// The state has to be 1: a closure is running. Where the plain lock allows the step, the answer is the word
+/// of the next state (`Gives`).
 pub fn fail(state: u8) -> u8
     requires { state ≡ 1 }
     ensures exact { result ≡ failed state }

@@ -1,4 +1,4 @@
-//! Tickets: each thread takes the next number, and enters when its number is served. Begin with [`take`].
+//! Tickets: each thread takes the next number, and enters when that number is served. Begin with [`take`].
 //!
 //! # Examples
 //! ```
@@ -16,11 +16,12 @@ ghost use Rattle.spin_step.specs.Tickets.{IsTurn, take, served};
 
 /// Returns the number of the next ticket after a thread takes ticket `next`, or `None` if no number is left.
 ///
-/// If the queue is empty, the thread enters with the ticket that it takes.
+/// If the queue is empty, the thread also enters by the same step.
 ///
 /// # Contract
-/// The answer is exact, and decides as the plain lock does (`Decides`). If `next` is served, it also decides as a plain
-/// step that takes the ticket and enters at once.
+/// The answer is `None` exactly where the plain lock refuses the step. Otherwise it is the word of the next
+/// state (`Decides`). If number `next` is being served, the same is true of the plain step that takes the
+/// ticket and enters at once.
 pub fn take(next: u64) -> Option<u64>
     ensures exact { result ≡ take next }
     ensures plain { (s : Plain) (party : ℕ) → next_word s ≡ next → Decides s (gets party to_take_ticket) next_word result }
@@ -36,8 +37,8 @@ pub fn take(next: u64) -> Option<u64>
 /// Returns the number that is served after the thread with `ticket` leaves.
 ///
 /// # Contract
-/// The ticket has to be below the limit of tickets. The answer is exact, and gives the plain lock's next state
-/// (`Gives`).
+/// The ticket has to be below the limit of tickets. Where the plain lock allows the step, the answer is the
+/// word of the next state (`Gives`).
 pub fn serve(ticket: u64) -> u64
     requires { ticket < ticket_limit }
     ensures exact { result ≡ served ticket }
@@ -49,7 +50,7 @@ pub fn serve(ticket: u64) -> u64
 /// Returns `true` if the thread with `ticket` may enter while `serving` is served.
 ///
 /// # Contract
-/// The answer is exact: the plain lock lets the thread enter if it is `true`, and only then (`IsTurn`).
+/// The answer is `true` exactly if the plain lock lets the thread enter (`IsTurn`).
 #[tactic(auto, using(crate::proofs::Tickets::enters_in_turn))]
 pub fn is_turn(serving: u64, ticket: u64) -> bool
     ensures exact { result ≡ (serving == ticket) }

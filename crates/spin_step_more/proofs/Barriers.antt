@@ -7,22 +7,22 @@ use Rattle.std.proofs.Math.Nat.{mod-lt, mod-eq_of_lt, mul-add-mod_self_right, su
 use Rattle.spin_step.specs.Plain.{Plain, arrives, apply}
 use Rattle.spin_step.specs.Barriers.{IsBarrier, arrived, is_leading, filled_by, generation_at, may_leave}
 
--- quotient and remainder follow from their sum
+-- if n is q * g + r, and r is below g, then q is the quotient of n by g, and r the remainder
 parts : (n q g r : ℕ) → n ≡ q * g + r → r < g → (n / g ≡ q) × (n % g ≡ r)
 parts n q g r sum less = (ap (λ j. j / g) sum ∙ div-mul-add q g r less, ap (λ j. j % g) sum ∙ (mul-add-mod_self_right q g r ∙ mod-eq_of_lt less))
 
--- the next arrival of a group that is not full afterwards
+-- an arrival that does not fill its group
 within : (k g : ℕ) → k % g + 1 < g → ((k + 1) / g ≡ k / g) × ((k + 1) % g ≡ k % g + 1)
 within k g less = parts (k + 1) (k / g) g (k % g + 1) (omega (arith, div-add-mod' k g)) less
 
--- the arrival that fills its group
+-- an arrival that fills its group
 fills : (k g : ℕ) → k % g + 1 ≡ g → ((k + 1) / g ≡ k / g + 1) × ((k + 1) % g ≡ 0)
 fills k g last = parts (k + 1) (k / g + 1) g 0 (omega (arith, div-add-mod' k g, suc-mul (k / g) g, last)) (omega (arith, last))
 
 some-group : (s : Plain) → 0 < max s.group 1
 some-group s = le-max_right s.group 1
 
--- One more arrival: the words after it, and whether it leads. An arrival that follows finds the generation unchanged.
+-- One more arrival: the words after it, and whether it leads. If it does not lead, the generation stays the same.
 pub record Arrival (s : Plain) (n : ℕ) (a : (ℕ × ℕ) × Bool) (generation : ℕ) : Type 0 where
   pub words : IsBarrier (apply s (arrives 0)) n a.0.0 a.0.1
   pub leads : a.1 ≡ is_leading s (s.arrivals + 1)
@@ -51,7 +51,7 @@ pub barrier_may_leave-tells : (s : Plain) (k n count generation own : ℕ) → I
 barrier_may_leave-tells s k n count generation own is le at =
     grind (arith, quotients-grow k s.arrivals (max s.group 1) (some-group s) le, at, is.generations)
 
--- a party that finds another generation, and did not lead, finds its group full
+-- if a party that does not lead finds another generation, its group is full
 pub barrier_may_leave-full : (s : Plain) (k n count generation own : ℕ) → IsBarrier s n count generation → k ≤ s.arrivals → generation_at s k ≡ own → is_leading s k ≡ false → not (generation == own) ≡ true → filled_by s k ≤ s.arrivals
 barrier_may_leave-full s k n count generation own is le at follows leave =
     let g : ℕ = max s.group 1 in
@@ -64,5 +64,5 @@ barrier_may_leave-full s k n count generation own is le at follows leave =
 pub barrier_count-below : (s : Plain) (n count generation : ℕ) → IsBarrier s n count generation → nat_lt count (max n 1) ≡ true
 barrier_count-below s n count generation is = lt-ltb count (max n 1) (omega (arith, mod-lt s.arrivals (some-group s), is.counts, ap (λ k. max k 1) is.group))
 
--- what `may_leave` cites
+-- the rules that the contract of `may_leave` uses
 pub ruleset leaving = (barrier_may_leave-tells, barrier_may_leave-full)

@@ -1,4 +1,4 @@
--- What the fair lock's step functions are in the plain lock.
+-- The step functions of a fair lock decide as the plain lock does.
 use Rattle.std.proofs.Common.{◌≡◌, ℕ, ◌/◌, ◌%◌, true, [], length, arith, length-append}
 use Rattle.std.specs.Prelude.{min}
 use Rattle.spin_step.specs.Plain.{Plain, Kind, is_starver, gets, releases, stops_starving, to_lock_unregistered, to_lock_starving, to_lock_starving_alone, to_starve, fair_word}
@@ -9,11 +9,11 @@ use Rattle.spin_step.specs.Parties.{OneHolds}
 use Rattle.spin_step.proofs.Holders.{length-without_holder}
 use Rattle.spin_step.proofs.Starvers.{length-without_starver}
 
--- the flag and the starvers apart
+-- the word's lowest bit shows the holder, the rest of it counts the starvers
 pub flag_is : (s : Plain) (w : ℕ) → OneHolds s → fair_word s ≡ w → (length s.holders ≡ w % 2) × (length s.starvers ≡ w / 2)
 flag_is s w one is = (omega (arith, one, is), omega (arith, one, is))
 
--- the step functions
+-- The step functions.
 
 pub fair_lock-grants : (s : Plain) (p w : ℕ) → fair_word s ≡ w → Decides s (gets p to_lock_unregistered) fair_word (lock w)
 fair_lock-grants s p w is = grind (arith, length-append)
@@ -36,5 +36,5 @@ fair_unlock-gives s p k w is = λ found. omega (arith, length-without_holder p k
 pub fair_is_locked-tells : (s : Plain) (w : ℕ) → OneHolds s → s.tickets ≡ [] → fair_word s ≡ w → is_held s ≡ is_set w
 fair_is_locked-tells s w one queue is = grind arith
 
--- what the functions that never refuse cite
+-- the rules that the contracts of functions use that never fail
 pub ruleset gives = (fair_unstarve-gives, fair_unlock-gives)

@@ -1,4 +1,4 @@
--- What the read-write lock's step functions are in the plain lock.
+-- The step functions of a read-write lock decide as the plain lock does.
 use Rattle.std.proofs.Common.{◌≡◌, ℕ, List, [], ◌∷◌, ◌++◌, ◌+◌, ◌≤◌, true, arith}
 use Rattle.std.specs.Prelude.{min}
 use Rattle.spin_step.specs.Plain.{Plain, Kind, upgradable, asking, weight, to_read, to_read_upgradable, to_write, to_upgrade, to_upgrade_asked, Holder, holder, with_kind, gets, releases, turns, is_holder, rw_word}
@@ -35,7 +35,7 @@ rw_release-gives s p k word is = λ found. omega (arith, sum-less weight p k s.h
 pub rw_turn-gives : (s : Plain) (p : ℕ) (j k : Kind) (word : ℕ) → weight j ≤ weight k → rw_word s ≡ word → Gives s (turns p j k) rw_word (turned j k word)
 rw_turn-gives s p j k word more is = λ may. grind (arith, word-turned p j k s.holders)
 
--- What the functions of `rw` cite: those that may refuse, those that never do, and the counts
+-- The rules that the contracts of `rw` use: of functions that may fail, of those that never do, and of the counts.
 
 pub ruleset grants = (read-word, upgradable_read-word, only_upgradable-word, only_asking-word, word-more, word-turned)
 

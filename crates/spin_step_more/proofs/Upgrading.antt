@@ -1,4 +1,4 @@
--- While a reader asks to upgrade readers only leave, and it is alone once all have left.
+-- While a reader asks to upgrade, readers only release; it is alone when all have released.
 use Rattle.std.proofs.Common.{◌≡◌, ℕ, ◌+◌, ◌↔◌, true, false, cond, List, [], ◌∷◌, Some, refl, arith}
 use Rattle.std.proofs.lemmas.List.Sums.{sum_by-cons}
 use Rattle.spin_step.specs.Plain.{Plain, Kind, reading, upgradable, asking, writing, Effect, comes, becomes, effect, given, Change, gets, releases, turns, to_write, to_upgrade_asked, apply, is_open, is_open_to, is_holder, is_only, count_kind, with_kind}
@@ -11,11 +11,11 @@ use Rattle.spin_step.proofs.Holders.{length-without_holder}
 use Rattle.spin_step.proofs.Sums.{against, one_of, by_kinds, all_kinds, sum-less, length-with_kind}
 use Rattle.spin_step_more.proofs.Readers.{beside_asking, only_holds, only-length}
 
--- nobody else may join it
+-- no other party may come to hold
 nobody_comes : (s : Plain) (p q : ℕ) (k : Kind) → IsExclusive s → is_holder p asking s.holders ≡ true → Lets s q (comes k) → ⊥
 nobody_comes s p q k alone found let_in = grind (arith, beside_asking s p alone found, all_kinds s.holders, by_kinds (against k) s.holders)
 
--- a party that gets something does not change the readers, unless it upgrades
+-- if the asking reader still asks afterwards, a party that gets something does not change the number of readers
 readers_stay : (s : Plain) (p q : ℕ) (e : Effect) → IsExclusive s → is_holder p asking s.holders ≡ true → Lets s q e → is_holder p asking (given s q e).holders ≡ true → count_kind reading (given s q e).holders ≡ count_kind reading s.holders
 readers_stay s p q (comes k) alone found let_in stays = absurd (nobody_comes s p q k alone found let_in)
 readers_stay s p q (becomes j k) alone found let_in stays =
@@ -24,7 +24,7 @@ readers_stay s p q (becomes j k) alone found let_in stays =
     grind (arith, only_holds q j s.holders let_in, all_kinds s.holders, beside_asking s p alone found, length-with_kind q j k s.holders, all_kinds after)
 readers_stay s p q _ alone found let_in stays = omega arith
 
--- each step through which it stays does not change the readers, or is a reader's release
+-- as long as the asking reader asks, each step is a release by a reader or does not change the number of readers
 pub readers_only_go : (s : Plain) (p : ℕ) (c : Change) → IsExclusive s → is_holder p asking s.holders ≡ true → is_open s c ≡ true → is_holder p asking (apply s c).holders ≡ true
     → count_kind reading (apply s c).holders + bit (reader_goes c) ≡ count_kind reading s.holders
 readers_only_go s p (gets q ask) alone found may stays = omega (arith, readers_stay s p q (effect ask) alone found (lets s q ask may) stays)
@@ -36,13 +36,13 @@ readers_only_go s p (turns q upgradable k) alone found may stays =
 readers_only_go s p (turns q j k) alone found may stays = grind arith
 readers_only_go s p _ alone found may stays = omega arith
 
--- it is alone exactly when no reader is left
+-- the asking reader is alone exactly when no reader is left
 pub alone_when_gone : (s : Plain) (p : ℕ) → IsExclusive s → is_holder p asking s.holders ≡ true → (is_only p asking s.holders ≡ true) ↔ (count_kind reading s.holders ≡ 0)
 alone_when_gone s p alone found =
     let lone = only-length p asking s.holders found in let beside = beside_asking s p alone found in
     (λ only. grind (arith, all_kinds s.holders), λ none. grind (arith, all_kinds s.holders))
 
--- Over lists of steps
+-- Lists of steps.
 
 pub downgrade_keeps_out : (s : Plain) (p q : ℕ) (k l : Kind) → is_open s (turns p k l) ≡ true → (is_open_to s q to_write ≡ false) × (is_open_to (apply s (turns p k l)) q to_write ≡ false)
 downgrade_keeps_out s p q k l may = grind (arith, length-without_holder p k s.holders, length-with_kind p k l s.holders)

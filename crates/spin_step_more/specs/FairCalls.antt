@@ -28,20 +28,20 @@ starts_at StarverTryLock = SetFlag
 starts_at StarverLock = SetFlag
 starts_at _ = First
 
--- the next point or answer of a call
+-- How a call goes on after a step: its next point or its answer.
 
 abbrev pub granted : {V : Type 0} → Next FairPoint (Answer V)
 granted = Answers Granted (Some Write)
 
--- the reason for which a word refuses a party that is no starver
+-- the answer of a try that fails at this word, with the reason
 abbrev pub rejects : {V : Type 0} → Option Hold → ℕ → Next FairPoint (Answer V)
 rejects h w = Answers (either (w == holder_weight) Locked Starved) h
 
--- `lock` looks again, or has looked often enough to register
+-- `lock` looks once more, or goes on to register if it has looked often enough
 abbrev pub looks_on : {V : Type 0} → ℕ → ℕ → Next FairPoint (Answer V)
 looks_on patience n = either (nat_lt n patience) (Continue (Look (n + 1))) (Continue Load)
 
--- no more starvers fit: `lock` looks again, and `starve` is refused
+-- if the number of starvers is at the cap, `lock` looks again and `starve` fails
 abbrev pub finds_no_room : {V : Type 0} → ℕ → FairCall → Option Hold → Next FairPoint (Answer V)
 finds_no_room patience Lock h = Continue (Look patience)
 finds_no_room patience _ h = Answers Refused h
@@ -50,12 +50,12 @@ abbrev pub registered : {V : Type 0} → FairCall → Next FairPoint (Answer V)
 registered Lock = Continue SetFlag
 registered _ = Answers Granted (Some Starver)
 
--- a starver that finds the flag set waits, or is refused
+-- if the flag is set, a starver waits or its try fails
 abbrev pub finds_flag_set : {V : Type 0} → FairCall → Option Hold → Next FairPoint (Answer V)
 finds_flag_set StarverTryLock h = Answers Refused h
 finds_flag_set _ h = Continue Await
 
--- the calls of one step, and the first step of the fair try
+-- the step of each call that takes one step, and the first step of `StarverTryLockFair`
 abbrev pub act_of_first : {V : Type 0} → FairCall → Option Hold → Act ℕ FairPoint (Answer V)
 act_of_first TryLock h = exchange (swap 0 lock) (λ p. gets p to_lock_unregistered) granted (λ w. Answers Refused h)
 act_of_first TryLockStarver h = exchange (swap 0 lock) (λ p. gets p to_lock_unregistered) granted (rejects h)
@@ -86,7 +86,8 @@ asks_of patience StarverLock h = waits_starving
 asks_of patience StarverDrop h = gives_back is_registered (Some Starver)
 asks_of patience Release h = gives_back is_write (Some Write)
 
--- the fair lock that opens with v and has this cap of starvers; `lock` registers after `patience` looks at a set flag
+-- The table of the fair lock that opens with the value v and this cap of starvers. `lock` registers when more than `patience` of its looks have
+-- found the flag set.
 abbrev pub fair_table : {V : Type 0} → V → ℕ → ℕ → Table ℕ V FairCall FairPoint (Answer V)
 fair_table v cap patience =
     record (usual_table (Some v) fair 0 one_number (λ c h. starts_at c) (act_of cap patience) (asks_of patience)) { cap = min cap most_starvers }

@@ -1,4 +1,4 @@
--- The read-write lock, as its step functions see it.
+-- What a read-write lock's word tells, and the results of its step functions.
 use Rattle.std.specs.Prelude.{ℕ, ◌≤◌, ◌+◌, ◌-◌, ◌/◌, ◌%◌, ◌==◌, ◌&&◌, ◌||◌, Bool, false, not, Option, Some, None, if◌then◌else◌, nat_lt, min}
 use Rattle.spin_step.specs.Plain.{Plain, Kind, reading, upgradable, asking, writing, same_kind, Change, releases, weight, count_kind, upgraders}
 
@@ -10,32 +10,32 @@ reader_limit = 1152921504606846975
 abbrev pub OneOfEach : Plain → Type 0
 OneOfEach s = (upgraders s.holders ≤ 1) × (count_kind writing s.holders ≤ 1)
 
--- What a word tells
+-- What a word tells.
 
--- how many parties read, including the one that may upgrade
+-- how many parties read, including the upgradable one
 abbrev pub readers_in : ℕ → ℕ
 readers_in word = word / weight reading + (word % (weight asking - weight upgradable)) / weight upgradable
 
 abbrev pub writers_in : ℕ → ℕ
 writers_in word = word % weight upgradable
 
--- a party holds with this kind
+-- the word shows a holder of this kind
 abbrev pub tells : Kind → ℕ → Bool
 tells reading word = not (nat_lt word (weight reading))
 tells upgradable word = (word % weight reading) == weight upgradable
 tells asking word = (word % weight reading) == weight asking
 tells writing word = word == weight writing
 
--- every holder admits a newcomer of this kind
+-- every holder lets a newcomer of this kind hold too
 abbrev pub lets_in : Kind → ℕ → Bool
 lets_in reading word = (word % weight reading == 0) || (word % weight reading == weight upgradable)
 lets_in _ word = word % weight reading == 0
 
--- every holder admits it, and the word counts fewer readers than the cap
+-- every holder lets a newcomer of this kind hold too, and fewer read than the cap
 abbrev pub has_room : Kind → ℕ → ℕ → Bool
 has_room k word cap = lets_in k word && nat_lt (readers_in word) (min cap reader_limit)
 
--- The results of the step functions
+-- The results of the step functions.
 
 abbrev pub read : ℕ → ℕ → Option ℕ
 read cap word = if has_room reading word cap then Some (word + weight reading) else None
@@ -52,15 +52,15 @@ upgrade word = if word == weight upgradable then Some (weight writing) else None
 abbrev pub upgrade_asked : ℕ → Option ℕ
 upgrade_asked word = if word == weight asking then Some (weight writing) else None
 
--- the word after a holder of this kind has left
+-- the word after a holder of this kind releases
 abbrev pub released : Kind → ℕ → ℕ
 released k word = word - weight k
 
--- the word after a holder of the first kind has become one of the second
+-- the word after a holder of the first kind changes to the second
 abbrev pub turned : Kind → Kind → ℕ → ℕ
 turned j k word = word + (weight k - weight j)
 
--- the step is a reader's release
+-- the step is a release by a reader
 abbrev pub reader_goes : Change → Bool
 reader_goes (releases p k) = same_kind reading k
 reader_goes _ = false

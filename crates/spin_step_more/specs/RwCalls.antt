@@ -23,17 +23,17 @@ use Rattle.spin_model.specs.Operations.{adds, subtracts}
 abbrev pub granted : {V : Type 0} → Hold → Next RwPoint (Answer V)
 granted held = Answers Granted (Some held)
 
--- a call that looks first then tries to exchange the word that it found
+-- a call that has looked goes on to an exchange that expects the word found
 abbrev pub goes_for : {V : Type 0} → ℕ → Next RwPoint (Answer V)
 goes_for w = Continue (Exchange w)
 
--- A call that looks first. It then repeats its exchange while each word that it finds admits it.
+-- A call that looks first. Then it repeats its exchange as long as the word found has room for it.
 abbrev pub comes_by : {V : Type 0} → (ℕ → Option ℕ) → Ask → Hold → Next RwPoint (Answer V) → RwPoint → Act ℕ RwPoint (Answer V)
 comes_by f ask held missed (Exchange n) = retry n f (λ p. gets p ask) (granted held) goes_for missed
 comes_by f ask held missed _ = load_for f (λ p. gets p ask) goes_for missed
 
--- Each call's steps. The waiting exchanges of `Write` and `Upgrade` are weak. `Upgrade` first asks to upgrade.
--- A conversion and a release add or subtract an amount that depends on what is held.
+-- The steps of each call. `Write` and `Upgrade` wait by weak exchanges; `Upgrade` first asks to upgrade. A conversion or a release adds or
+-- subtracts an amount that depends on what the party holds.
 abbrev pub act_of : {V : Type 0} → ℕ → RwCall → RwPoint → Option Hold → Act ℕ RwPoint (Answer V)
 act_of cap TryRead l h = comes_by (read cap) to_read hold.Read (Answers Refused h) l
 act_of cap Read l h = comes_by (read cap) to_read hold.Read (Continue First) l

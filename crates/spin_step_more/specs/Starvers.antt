@@ -1,4 +1,4 @@
--- The lock of a holder and starvers: what its word tells.
+-- What a fair lock's word tells, and the results of its step functions.
 use Rattle.std.specs.Prelude.{◌≡◌, ℕ, ◌+◌, ◌-◌, ◌/◌, ◌%◌, ◌==◌, Bool, true, false, Option, Some, None, List, codes, if◌then◌else◌, nat_lt, min}
 use Rattle.spin_step.specs.Plain.{Plain, holder_weight, starver_weight, is_empty}
 use Rattle.spin_step_more.specs.declared.fair.LockRejectReason.{LockRejectReason}
@@ -8,16 +8,16 @@ use Rattle.spin_step_more.specs.declared.fair.LockRejectReason.TheVariants.{Lock
 abbrev pub most_starvers : ℕ
 most_starvers = 4611686018427387903
 
--- why a party that is no starver is refused: somebody holds and nobody starves, or somebody starves
+-- why a newcomer's try fails: somebody holds and nobody starves, or somebody starves
 abbrev pub Tells : Plain → LockRejectReason → Type 0
 Tells s Locked = (is_empty s.holders ≡ false) × (is_empty s.starvers ≡ true)
 Tells s Starved = is_empty s.starvers ≡ false
 
--- somebody holds the lock
+-- the word shows a holder
 abbrev pub is_set : ℕ → Bool
 is_set word = word % starver_weight == holder_weight
 
--- The results of the step functions
+-- The results of the step functions.
 
 abbrev pub lock : ℕ → Option ℕ
 lock word = if word == 0 then Some holder_weight else None

@@ -3,7 +3,7 @@ use Rattle.std.specs.Prelude.{◌≡◌, ℕ, true, List, [], ◌∷◌, count_b
 use Rattle.spin_step.specs.Plain.{Plain, asking, Change, apply, is_open, is_holder}
 use Rattle.spin_step_more.specs.Readers.{reader_goes}
 
--- open steps one after another; the party remains the reader that asks to upgrade
+-- these steps are open, one after another; the party p asks to upgrade before and after each of them
 abbrev pub StaysAsking : ℕ → Plain → List Change → Type 0
 StaysAsking p s [] = is_holder p asking s.holders ≡ true
 StaysAsking p s (c ∷ cs) = (is_holder p asking s.holders ≡ true) × (is_open s c ≡ true) × StaysAsking p (apply s c) cs

@@ -1,9 +1,10 @@
-//! Arrivals in groups: the last arrival of each group leads it, and then the others may leave. Begin with [`State`].
+//! Arrivals in groups: the last arrival of a group leads it, and then the other threads of the group may
+//! leave. Begin with [`State`].
 ghost use Rattle.std.specs.Prelude.{◌≡◌, ◌<◌, ◌≤◌, ◌+◌, ◌==◌, ℕ, true, false, not, max};
 ghost use Rattle.spin_step.specs.Plain.{Plain, arrives, apply, fresh};
 ghost use Rattle.spin_step.specs.Barriers.{IsBarrier, arrived, is_leading, filled_by, generation_at, may_leave};
 
-/// The state of a barrier: how many threads of the present group have arrived.
+/// The state of a barrier: the size of its groups, and how many threads have arrived.
 ///
 /// # Examples
 /// ```
@@ -18,11 +19,11 @@ ghost use Rattle.spin_step.specs.Barriers.{IsBarrier, arrived, is_leading, fille
 /// ```
 #[derive(Clone, Copy, Debug, PartialEq, Eq)]
 pub struct State {
-    /// How many arrivals make a group. 0 counts as 1.
+    /// How many arrivals make a group; 0 counts as 1.
     pub n: usize,
     /// How many threads of the present group have arrived.
     pub count: usize,
-    /// How many groups are full so far. It wraps.
+    /// How many groups are full so far, modulo 2^64.
     pub generation: usize,
     pub ghost below: { count < max n 1 },
 }
@@ -31,7 +32,7 @@ impl State {
     /// Creates the state of a barrier at which no thread has arrived.
     ///
     /// # Contract
-    /// It is the state of a fresh plain barrier with groups of `n` (`IsBarrier`).
+    /// The state is that of a fresh plain barrier with groups of `n` (`IsBarrier`).
     pub fn new(n: usize) -> State
         ensures n { result.n ≡ n }
         ensures plain { (cap first : ℕ) → IsBarrier (fresh cap n first) n result.count result.generation }
@@ -43,11 +44,12 @@ impl State {
         }
     }
 
-    /// Counts one more arrival. Returns `true` if that arrival leads: it is the last of its group.
+    /// Counts one more arrival. Returns `true` if this arrival leads its group, that is, fills it.
     ///
     /// # Contract
-    /// The state and the answer are exact. If the state is that of a plain barrier, the new state is that of the same
-    /// barrier after one more arrival (`IsBarrier`). The answer is the plain one (`is_leading`).
+    /// The new state and the answer are those that `arrived` gives. If the old state is that of a plain
+    /// barrier, the new state is that of the same barrier after one more arrival (`IsBarrier`). The plain
+    /// barrier gives the same answer (`is_leading`).
     pub fn arrive(&mut self) -> bool
         ensures n { self.new.n ≡ self.old.n }
         ensures exact { ((self.new.count, self.new.generation), result) ≡ arrived self.old.n self.old.count self.old.generation }
@@ -60,10 +62,11 @@ impl State {
     }
 }
 
-/// Returns the state after one more arrival, and `true` if that arrival leads: it is the last of its group.
+/// Returns the state after one more arrival. Also returns `true` if this arrival leads its group, that is,
+/// fills it.
 ///
 /// # Contract
-/// That of [`State::arrive`].
+/// Like that of [`State::arrive`].
 pub fn arrive(state: State) -> (State, bool)
     ensures n { result.0.n ≡ state.n }
     ensures exact { ((result.0.count, result.0.generation), result.1) ≡ arrived state.n state.count state.generation }
@@ -92,13 +95,14 @@ pub fn arrive(state: State) -> (State, bool)
     }
 }
 
-/// Returns `true` if a thread that arrived in `generation`, and does not lead, may leave.
+/// Returns `true` if a thread that arrived in `generation` may leave. It is asked of threads that do not lead
+/// their group.
 ///
-/// It may leave when its group is full. Exactly a multiple of 2^64 groups later it may not; then it may leave when one
-/// more group is full.
+/// It may leave when its group is full. But the generation wraps: when exactly a multiple of 2^64 further
+/// groups are full, it may not leave until one more is.
 ///
 /// # Contract
-/// The answer is exact, and that of the plain barrier. If it is `true`, the group of that arrival is full.
+/// The plain barrier gives the same answer. If a thread that does not lead gets `true`, its group is full.
 #[tactic(auto, using(crate::proofs::Barriers::leaving))]
 pub fn may_leave(state: State, generation: usize) -> bool
     ensures exact { result ≡ not (state.generation == generation) }

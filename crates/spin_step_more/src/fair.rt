@@ -1,6 +1,7 @@
-//! The holder and the starvers in one word: the sum of what each weighs. Begin with [`lock`] and [`starve`].
+//! The holder and the starvers of a fair lock in one word: the sum of their weights. Begin with [`lock`] and
+//! [`starve`].
 //!
-//! A starver is a thread that has registered in order to go first. All other threads are newcomers.
+//! A starver is a thread that has registered to go before newcomers. All other threads are newcomers.
 //!
 //! # Examples
 //! ```
@@ -41,7 +42,7 @@ pub const MAX_STARVERS: usize = isize::MAX as usize / 2;
 pub enum LockRejectReason {
     /// The lock is held, and no thread starves.
     Locked,
-    /// A thread starves, and goes first.
+    /// A thread starves, and goes before newcomers.
     Starved,
 }
 
@@ -58,10 +59,12 @@ impl Display for LockRejectReason {
 
 impl Error for LockRejectReason {}
 
-/// Returns the word after a thread that is no starver acquires the lock, or `None` if it is held or a thread starves.
+/// Returns the word after a newcomer acquires the lock. Returns `None` if the lock is held or a thread
+/// starves.
 ///
 /// # Contract
-/// The answer is exact, and decides as the plain lock does (`Decides`).
+/// The answer is `None` exactly where the plain lock refuses the step. Otherwise it is the word of the next
+/// state (`Decides`).
 pub fn lock(word: usize) -> Option<usize>
     ensures exact { result ≡ lock word }
     ensures plain { (s : Plain) (party : ℕ) → fair_word s ≡ word → Decides s (gets party to_lock_unregistered) fair_word result }
@@ -69,10 +72,10 @@ pub fn lock(word: usize) -> Option<usize>
     if word == 0 { Some(HOLDER) } else { None }
 }
 
-/// Returns why [`lock`] refuses this word.
+/// Returns the reason why [`lock`] returns `None` for this word.
 ///
 /// # Contract
-/// The word must not be 0. The answer is exact, and true of the plain lock (`Tells`).
+/// The word must not be 0. The answer is true of the plain lock (`Tells`).
 pub fn reject(word: usize) -> LockRejectReason
     requires { word ≢ 0 }
     ensures exact { result ≡ reject word }
@@ -85,11 +88,12 @@ pub fn reject(word: usize) -> LockRejectReason
     }
 }
 
-/// Returns the word after a thread registers as a starver, or `None` if `cap` starvers or [`MAX_STARVERS`] are
-/// registered.
+/// Returns the word after a thread registers as a starver. Returns `None` if `cap` starvers, or
+/// [`MAX_STARVERS`], are registered.
 ///
 /// # Contract
-/// The answer is exact, and decides as the plain lock does (`Decides`).
+/// The answer is `None` exactly where the plain lock refuses the step. Otherwise it is the word of the next
+/// state (`Decides`).
 pub fn starve(word: usize, cap: usize) -> Option<usize>
     ensures exact { result ≡ starve cap word }
     ensures plain { (s : Plain) (party : ℕ) → OneHolds s → s.cap ≡ min cap most_starvers → fair_word s ≡ word → Decides s (gets party to_starve) fair_word result }
@@ -104,7 +108,8 @@ pub fn starve(word: usize, cap: usize) -> Option<usize>
 /// Returns the word after a starver ends its registration.
 ///
 /// # Contract
-/// The word has to count a starver. The answer is exact, and gives the plain lock's next state (`Gives`).
+/// The word has to count a starver. Where the plain lock allows the step, the answer is the word of the next
+/// state (`Gives`).
 #[tactic(auto, using(crate::proofs::FairSteps::gives))]
 pub fn unstarve(word: usize) -> usize
     requires { starver_weight ≤ word }
@@ -114,10 +119,12 @@ pub fn unstarve(word: usize) -> usize
     word - STARVER
 }
 
-/// Returns the word after a starver acquires the lock, or `None` if it is held or another thread starves.
+/// Returns the word after a starver acquires the lock. Returns `None` if the lock is held or another thread
+/// starves.
 ///
 /// # Contract
-/// The answer is exact, and decides as the plain lock does (`Decides`).
+/// The answer is `None` exactly where the plain lock refuses the step. Otherwise it is the word of the next
+/// state (`Decides`).
 pub fn lock_fair(word: usize) -> Option<usize>
     ensures exact { result ≡ lock_fair word }
     ensures plain { (s : Plain) (party : ℕ) → OneHolds s → is_starver party s.starvers ≡ true → fair_word s ≡ word → Decides s (gets party to_lock_starving_alone) fair_word result }
@@ -129,10 +136,11 @@ pub fn lock_fair(word: usize) -> Option<usize>
     }
 }
 
-/// Returns the word after a starver acquires the lock, or `None` if it is held.
+/// Returns the word after a starver acquires the lock. Returns `None` if the lock is held.
 ///
 /// # Contract
-/// The answer is exact, and decides as the plain lock does (`Decides`).
+/// The answer is `None` exactly where the plain lock refuses the step. Otherwise it is the word of the next
+/// state (`Decides`).
 pub fn lock_starved(word: usize) -> Option<usize>
     ensures exact { result ≡ lock_starved word }
     ensures plain { (s : Plain) (party : ℕ) → OneHolds s → is_starver party s.starvers ≡ true → fair_word s ≡ word → Decides s (gets party to_lock_starving) fair_word result }
@@ -147,7 +155,8 @@ pub fn lock_starved(word: usize) -> Option<usize>
 /// Returns the word after the holder releases the lock.
 ///
 /// # Contract
-/// The word has to show a holder. The answer is exact, and gives the plain lock's next state (`Gives`).
+/// The word has to show a holder. Where the plain lock allows the step, the answer is the word of the next
+/// state (`Gives`).
 #[tactic(auto, using(crate::proofs::FairSteps::gives))]
 pub fn unlock(word: usize) -> usize
     requires { is_set word ≡ true }
@@ -160,7 +169,7 @@ pub fn unlock(word: usize) -> usize
 /// Returns `true` if a thread holds the lock.
 ///
 /// # Contract
-/// The answer is exact, and that of the plain lock.
+/// The answer is that of the plain lock.
 pub fn is_locked(word: usize) -> bool
     ensures exact { result ≡ is_set word }
     ensures plain { (s : Plain) → OneHolds s → s.tickets ≡ [] → fair_word s ≡ word → is_held s ≡ result }

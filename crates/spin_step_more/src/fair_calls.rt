@@ -1,28 +1,29 @@
-//! The calls of the fair lock, and their points. Begin with [`FairCall`].
+//! The calls of the fair lock, and the points between their steps. Begin with [`FairCall`].
 ghost use Rattle.std.specs.Prelude.{◌≡◌, ⊤};
 
 use std::alloc::AllocError;
 
-/// A call of a `Fair`. `Fair::new` of `spin_world` promises that each call asks what is said here.
+/// A call of a `Fair`. `Fair::new` of `spin_world` promises that each call does what its comment says.
 #[derive(Copy)]
 pub enum FairCall {
-    /// Acquires the lock, in as many steps as it needs. After too many looks that find the flag set it registers as a
-    /// starver, if the cap allows.
+    /// Acquires the lock, in as many steps as it takes. After too many looks that find the flag set, the call
+    /// registers its party as a starver if the cap allows.
     Lock,
     /// Tries to acquire the lock. It fails if a party holds it or a starver is registered.
     TryLock,
-    /// Like `TryLock`, but its answer says which of the two refused it.
+    /// Like `TryLock`, but if it fails the answer says for which of the two reasons.
     TryLockStarver,
     /// Answers whether a party holds the lock.
     IsLocked,
-    /// Tries to register as a starver. It fails only if the cap was reached at some moment of the call.
+    /// Tries to register as a starver. It fails only if the number of starvers was at the cap at some moment
+    /// of the call.
     Starve,
-    /// Tries to acquire the lock as a starver, and ends the registration. It fails if a party holds the lock or another
-    /// starver is registered. Then the party stays a starver.
+    /// Tries to acquire the lock as a starver, and then ends the registration. It fails if a party holds the
+    /// lock or another starver is registered; then the party stays a starver.
     StarverTryLockFair,
     /// Like `StarverTryLockFair`, but fails only if a party holds the lock.
     StarverTryLock,
-    /// Acquires the lock as a starver, in as many steps as it needs, and ends the registration.
+    /// Acquires the lock as a starver, in as many steps as it takes, and then ends the registration.
     StarverLock,
     /// Ends the registration of a starver.
     StarverDrop,
@@ -30,20 +31,21 @@ pub enum FairCall {
     Release,
 }
 
-/// The point of a call: which step comes next, with what the party has found so far.
+/// The point of a call: its next step, with what the party has found so far.
 #[derive(Copy)]
 pub enum FairPoint {
     /// The only step of a one-step call, or the exchange of `StarverTryLockFair`.
     First,
     /// `Lock` tries to set the flag, after this many looks that found it set.
     Attempt(usize),
-    /// `Lock` looks at the flag, after this many looks that found it set. Past its patience it counts no further.
+    /// `Lock` looks at the flag, after this many looks that found it set. The count stops at the patience of
+    /// the lock.
     Look(usize),
-    /// `Lock` or `Starve` loads the word, to register.
+    /// `Lock` or `Starve` loads the word before it registers.
     Load,
-    /// `Lock` or `Starve` registers by an exchange of this word, which it found.
+    /// `Lock` or `Starve` registers by an exchange that expects this word, which it found.
     Register(usize),
-    /// A starver sets the flag.
+    /// A starver tries to set the flag.
     SetFlag,
     /// A starver looks at the flag.
     Await,

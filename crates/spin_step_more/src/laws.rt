@@ -1,23 +1,24 @@
-//! Laws of the plain read-write lock. Each is the contract of a function that does nothing, so none has an example.
+//! Laws of the plain read-write lock. Each law is the contract of a function that does nothing, so none has
+//! an example.
 ghost use Rattle.std.specs.Prelude.{◌≡◌, ◌+◌, ℕ, List, true, false};
 ghost use Rattle.spin_step.specs.Plain.{Plain, Kind, Change, reading, to_write, to_upgrade_asked, turns, apply, is_open, is_open_to, count_kind};
 ghost use Rattle.spin_step.specs.Parties.{IsExclusive};
 ghost use Rattle.spin_step_more.specs.Upgrading.{StaysAsking, apply_all, reader_releases};
 
-/// States that a downgrade is one step. No thread may begin to write before it or after it, and nothing is in between.
+/// States that a downgrade is one step, before and after which no thread may begin to write.
 pub fn a_downgrade_lets_no_writer_in()
     ensures { (s : Plain) (p q : ℕ) (k l : Kind) → is_open s (turns p k l) ≡ true → (is_open_to s q to_write ≡ false) × (is_open_to (apply s (turns p k l)) q to_write ≡ false) }
 {}
 
-/// States that while a reader asks to upgrade no further reader acquires the lock. Each reader that releases reduces
-/// their number by one.
+/// States that while a reader asks to upgrade no further reader acquires the lock. Each release by a reader
+/// reduces the number of readers by one.
 #[tactic(auto, using(crate::proofs::Upgrading::readers_go))]
 pub fn beside_an_asking_reader_readers_only_go()
     ensures { (s : Plain) (p : ℕ) (cs : List Change) → IsExclusive s → StaysAsking p s cs → count_kind reading (apply_all s cs).holders + reader_releases cs ≡ count_kind reading s.holders }
 {}
 
-/// States when the reader that asks may become the writer: after exactly as many releases of readers as there were
-/// other readers.
+/// States when the asking reader may become the writer: after exactly as many releases by readers as there
+/// were other readers.
 #[tactic(auto, using(crate::proofs::Upgrading::upgrade_opens))]
 pub fn an_upgrade_is_open_when_the_readers_are_gone()
     ensures { (s : Plain) (p : ℕ) (cs : List Change) → IsExclusive s → StaysAsking p s cs →

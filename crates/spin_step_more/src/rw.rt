@@ -1,7 +1,7 @@
-//! A read-write lock in one word, which is the sum of the weights of its holders. They are readers, one of which may
-//! upgrade, or one writer. Begin with [`read`] and [`write`].
+//! A read-write lock in one word: the sum of the weights of its holders. They are readers, of which one may
+//! be upgradable, or one writer. Begin with [`read`] and [`write`].
 //!
-//! The upgradable reader admits other readers until it asks to upgrade. From then on readers only leave.
+//! The upgradable reader admits other readers until it asks to upgrade. From then on readers only release.
 //!
 //! # Examples
 //! ```
@@ -36,7 +36,7 @@ pub const WRITER: usize = 1;
 /// The most readers that may hold the lock at the same time, including the upgradable one.
 pub const MAX_READERS: usize = usize::MAX / READER / 2;
 
-// Returns `true` if the lock admits a reader.
+// Returns `true` if the lock has room for one more reader.
 fn may_read(word: usize, cap: usize) -> bool
     ensures { result ≡ has_room reading word cap }
 {
@@ -44,18 +44,19 @@ fn may_read(word: usize, cap: usize) -> bool
     (low == 0 || low == UPGRADABLE) && readers(word) < cap.min(MAX_READERS)
 }
 
-// Returns `true` if the lock admits an upgradable reader.
+// Returns `true` if the lock has room for an upgradable reader.
 fn may_read_upgradable(word: usize, cap: usize) -> bool
     ensures { result ≡ has_room upgradable word cap }
 {
     word % READER == 0 && readers(word) < cap.min(MAX_READERS)
 }
 
-/// Returns the word after a reader acquires the lock. Returns `None` if a writer or a reader that asks to upgrade holds
-/// it, and at the cap: the smaller of `cap` and [`MAX_READERS`].
+/// Returns the word after a reader acquires the lock. Returns `None` if a writer holds it, if a reader asks
+/// to upgrade, or at the cap. The cap is the smaller of `cap` and [`MAX_READERS`].
 ///
 /// # Contract
-/// The answer is exact, and decides as the plain lock does (`Decides`).
+/// The answer is `None` exactly where the plain lock refuses the step. Otherwise it is the word of the next
+/// state (`Decides`).
 #[tactic(auto, using(crate::proofs::ReaderSteps::grants))]
 pub fn read(word: usize, cap: usize) -> Option<usize>
     ensures exact { result ≡ read cap word }
@@ -68,11 +69,12 @@ pub fn read(word: usize, cap: usize) -> Option<usize>
     }
 }
 
-/// Returns the word after an upgradable reader acquires the lock. Returns `None` if a writer or another upgradable
-/// reader holds it, and at the cap: the smaller of `cap` and [`MAX_READERS`].
+/// Returns the word after an upgradable reader acquires the lock. Returns `None` if a writer or another
+/// upgradable reader holds it, or at the cap. The cap is the smaller of `cap` and [`MAX_READERS`].
 ///
 /// # Contract
-/// The answer is exact, and decides as the plain lock does (`Decides`).
+/// The answer is `None` exactly where the plain lock refuses the step. Otherwise it is the word of the next
+/// state (`Decides`).
 #[tactic(auto, using(crate::proofs::ReaderSteps::grants))]
 pub fn upgradable(word: usize, cap: usize) -> Option<usize>
     ensures exact { result ≡ read_upgradable cap word }
@@ -85,10 +87,11 @@ pub fn upgradable(word: usize, cap: usize) -> Option<usize>
     }
 }
 
-/// Returns the word after a writer acquires the lock, or `None` if anybody holds it.
+/// Returns the word after a writer acquires the lock. Returns `None` if the lock is held.
 ///
 /// # Contract
-/// The answer is exact, and decides as the plain lock does (`Decides`).
+/// The answer is `None` exactly where the plain lock refuses the step. Otherwise it is the word of the next
+/// state (`Decides`).
 pub fn write(word: usize) -> Option<usize>
     ensures exact { result ≡ write word }
     ensures plain { (s : Plain) (party : ℕ) → rw_word s ≡ word → Decides s (gets party to_write) rw_word result }
@@ -96,10 +99,12 @@ pub fn write(word: usize) -> Option<usize>
     if word == 0 { Some(WRITER) } else { None }
 }
 
-/// Returns the word after the upgradable reader becomes the writer, or `None` if anybody else holds the lock.
+/// Returns the word after the upgradable reader becomes the writer. Returns `None` if any other thread holds
+/// the lock.
 ///
 /// # Contract
-/// The answer is exact, and decides as the plain lock does (`Decides`).
+/// The answer is `None` exactly where the plain lock refuses the step. Otherwise it is the word of the next
+/// state (`Decides`).
 #[tactic(auto, using(crate::proofs::ReaderSteps::grants))]
 pub fn upgrade(word: usize) -> Option<usize>
     ensures exact { result ≡ upgrade word }
@@ -115,8 +120,8 @@ pub fn upgrade(word: usize) -> Option<usize>
 /// Returns the word after the upgradable reader asks to upgrade.
 ///
 /// # Contract
-/// The word has to show an upgradable reader that has not asked. The answer is exact, and gives the plain lock's next
-/// state (`Gives`).
+/// The word has to show an upgradable reader that has not asked. Where the plain lock allows the step, the
+/// answer is the word of the next state (`Gives`).
 ///
 /// # Examples
 /// ```
@@ -136,10 +141,12 @@ pub fn ask(word: usize) -> usize
     word + ASKING
 }
 
-/// Returns the word after the reader that asks becomes the writer, or `None` if anybody else holds the lock.
+/// Returns the word after the reader that asks becomes the writer. Returns `None` if any other thread holds
+/// the lock.
 ///
 /// # Contract
-/// The answer is exact, and decides as the plain lock does (`Decides`).
+/// The answer is `None` exactly where the plain lock refuses the step. Otherwise it is the word of the next
+/// state (`Decides`).
 #[tactic(auto, using(crate::proofs::ReaderSteps::grants))]
 pub fn upgrade_asked(word: usize) -> Option<usize>
     ensures exact { result ≡ upgrade_asked word }
@@ -155,7 +162,8 @@ pub fn upgrade_asked(word: usize) -> Option<usize>
 /// Returns the word after a reader releases the lock.
 ///
 /// # Contract
-/// The word has to show a reader. The answer is exact, and gives the plain lock's next state (`Gives`).
+/// The word has to show a reader. Where the plain lock allows the step, the answer is the word of the next
+/// state (`Gives`).
 #[tactic(auto, using(crate::proofs::ReaderSteps::gives))]
 pub fn release_read(word: usize) -> usize
     requires { tells reading word ≡ true }
@@ -168,8 +176,8 @@ pub fn release_read(word: usize) -> usize
 /// Returns the word after the upgradable reader releases the lock.
 ///
 /// # Contract
-/// The word has to show an upgradable reader that has not asked. The answer is exact, and gives the plain lock's next
-/// state (`Gives`).
+/// The word has to show an upgradable reader that has not asked. Where the plain lock allows the step, the
+/// answer is the word of the next state (`Gives`).
 #[tactic(auto, using(crate::proofs::ReaderSteps::gives))]
 pub fn release_upgradable(word: usize) -> usize
     requires { tells upgradable word ≡ true }
@@ -182,7 +190,8 @@ pub fn release_upgradable(word: usize) -> usize
 /// Returns the word after the writer releases the lock.
 ///
 /// # Contract
-/// The word has to show a writer. The answer is exact, and gives the plain lock's next state (`Gives`).
+/// The word has to show a writer. Where the plain lock allows the step, the answer is the word of the next
+/// state (`Gives`).
 #[tactic(auto, using(crate::proofs::ReaderSteps::gives))]
 pub fn release_write(word: usize) -> usize
     requires { tells writing word ≡ true }
@@ -195,7 +204,8 @@ pub fn release_write(word: usize) -> usize
 /// Returns the word after the writer becomes a reader.
 ///
 /// # Contract
-/// The word has to show a writer. The answer is exact, and gives the plain lock's next state (`Gives`).
+/// The word has to show a writer. Where the plain lock allows the step, the answer is the word of the next
+/// state (`Gives`).
 #[tactic(auto, using(crate::proofs::ReaderSteps::gives))]
 pub fn write_to_read(word: usize) -> usize
     requires { tells writing word ≡ true }
@@ -208,7 +218,8 @@ pub fn write_to_read(word: usize) -> usize
 /// Returns the word after the writer becomes the upgradable reader.
 ///
 /// # Contract
-/// The word has to show a writer. The answer is exact, and gives the plain lock's next state (`Gives`).
+/// The word has to show a writer. Where the plain lock allows the step, the answer is the word of the next
+/// state (`Gives`).
 #[tactic(auto, using(crate::proofs::ReaderSteps::gives))]
 pub fn write_to_upgradable(word: usize) -> usize
     requires { tells writing word ≡ true }
@@ -221,8 +232,8 @@ pub fn write_to_upgradable(word: usize) -> usize
 /// Returns the word after the upgradable reader becomes a reader.
 ///
 /// # Contract
-/// The word has to show an upgradable reader that has not asked, and fewer other readers than [`MAX_READERS`]. The
-/// answer is exact, and gives the plain lock's next state (`Gives`).
+/// The word has to show an upgradable reader that has not asked, and fewer other readers than
+/// [`MAX_READERS`]. Where the plain lock allows the step, the answer is the word of the next state (`Gives`).
 #[tactic(auto, using(crate::proofs::ReaderSteps::gives))]
 pub fn upgradable_to_read(word: usize) -> usize
     requires kind { tells upgradable word ≡ true }
@@ -233,10 +244,10 @@ pub fn upgradable_to_read(word: usize) -> usize
     word + (READER - UPGRADABLE)
 }
 
-/// Returns how many threads read, including the upgradable reader, whether or not it asks.
+/// Returns how many threads read. The upgradable reader counts, whether or not it asks.
 ///
 /// # Contract
-/// The answer is exact, and that of the plain lock.
+/// The answer is that of the plain lock.
 #[tactic(auto, using(crate::proofs::ReaderSteps::counts))]
 pub fn readers(word: usize) -> usize
     ensures exact { result ≡ readers_in word }
@@ -248,7 +259,7 @@ pub fn readers(word: usize) -> usize
 /// Returns how many threads write: 0 or 1.
 ///
 /// # Contract
-/// The answer is exact, and that of the plain lock.
+/// The answer is that of the plain lock.
 #[tactic(auto, using(crate::proofs::ReaderSteps::counts))]
 pub fn writers(word: usize) -> usize
     ensures exact { result ≡ writers_in word }

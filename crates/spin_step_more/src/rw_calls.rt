@@ -1,39 +1,40 @@
-//! The calls of the read-write lock, and their points. Begin with [`RwCall`].
+//! The calls of the read-write lock, and the points between their steps. Begin with [`RwCall`].
 ghost use Rattle.std.specs.Prelude.{◌≡◌, ⊤};
 
 use std::alloc::AllocError;
 
-/// A call of an `Rw`. `Rw::new` of `spin_world` promises that each call asks what is said here.
+/// A call of an `Rw`. `Rw::new` of `spin_world` promises that each call does what its comment says.
 ///
-/// A try fails only if, at some moment of the call, what it asks is closed to the party. A weak try may also fail
-/// spuriously.
+/// A try fails only if the lock would not let the party have what it asks at some moment of the call. A weak
+/// try may also fail spuriously.
 #[derive(Copy)]
 pub enum RwCall {
-    /// Tries to acquire shared access. It fails if a writer or a reader that asks to upgrade holds the lock, or at the
-    /// cap.
+    /// Tries to acquire shared access. It fails if a writer holds the lock, if a reader asks to upgrade, or
+    /// at the cap.
     TryRead,
-    /// Acquires shared access, in as many steps as it needs.
+    /// Acquires shared access, in as many steps as it takes.
     Read,
-    /// Tries to acquire shared access with the right to upgrade. It also fails if another party has this right.
+    /// Like `TryRead`, for shared access with the right to upgrade. It also fails if another party has this
+    /// right.
     TryUpgradeableRead,
-    /// Acquires shared access with the right to upgrade, in as many steps as it needs.
+    /// Acquires shared access with the right to upgrade, in as many steps as it takes.
     UpgradeableRead,
-    /// Tries to acquire exclusive access. It fails if anybody holds the lock.
+    /// Tries to acquire exclusive access. It fails if the lock is held.
     TryWrite,
     /// Like `TryWrite`, but makes a weak exchange, which may also fail spuriously.
     TryWriteWeak,
-    /// Acquires exclusive access, in as many steps as it needs.
+    /// Acquires exclusive access, in as many steps as it takes.
     Write,
     /// Counts the readers, including the upgradable one.
     ReaderCount,
     /// Counts the writers.
     WriterCount,
-    /// Tries to turn the upgradable reader into the writer. It fails if another party reads. Then the party stays
-    /// upgradable.
+    /// Tries to turn the upgradable reader into the writer. It fails if another party reads; then the party
+    /// stays upgradable.
     TryUpgrade,
     /// Like `TryUpgrade`, but makes a weak exchange, which may also fail spuriously.
     TryUpgradeWeak,
-    /// Asks to turn the upgradable reader into the writer, and does so in as many steps as it needs.
+    /// Asks to turn the upgradable reader into the writer, and then does so, in as many steps as it takes.
     Upgrade,
     /// Turns the writer or the upgradable reader into a reader, in one step.
     Downgrade,
@@ -43,15 +44,15 @@ pub enum RwCall {
     Release,
 }
 
-/// The point of a call: which step is next. Only a call that acquires shared access, or that waits to upgrade, has a
-/// second one.
+/// The point of a call: its next step. Only a call that acquires shared access, or that waits to upgrade, has
+/// a second point.
 #[derive(Copy)]
 pub enum RwPoint {
     /// The first step of any call, and of each further attempt.
     First,
-    /// The exchange of this word, which the call has found.
+    /// The exchange that expects this word, which the call has found.
     Exchange(usize),
-    /// The exchange of a reader that has asked to upgrade.
+    /// The exchange by which a reader that has asked becomes the writer.
     Asking,
 }
 

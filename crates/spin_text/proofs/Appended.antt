@@ -1,4 +1,4 @@
--- Known bytes that grow twice.
+-- Known bytes that grow in several writes.
 use Rattle.std.proofs.Common.{◌≡◌, ℕ, ◌+◌, ◌-◌, subst, append-nil, length-append, [], List, ◌++◌, length, take, drop, Option}
 use Rattle.std.proofs.Common.{Some, None, sym, ◌∙◌, ap, arith, append_assoc, length-drop}
 use Rattle.std.proofs.Math.Seq.{take-append-add}
@@ -14,26 +14,26 @@ Appends-append (Some s) None c xs ys p q = absurd p
 Appends-append (Some s) (Some t) None xs ys p q = absurd q
 Appends-append (Some s) (Some t) (Some u) xs ys p q = q ∙ (ap (λ w. w ++ ys) p ∙ append_assoc s xs ys)
 
--- a first part of the first bytes of a text is a first part of the text
+-- the first n bytes of the first n + k bytes of a text are its first n bytes
 take-take : (text : List ℕ) (n k : ℕ) → take n (take (n + k) text) ≡ take n text
 take-take text n k = grind (arith, common_steps)
 
--- the first bytes of a text, and then the first of its rest, are the first bytes of the text
+-- the first n bytes of a text, followed by the first k bytes of its rest, are its first n + k bytes
 take_more : (text rest : List ℕ) (n k : ℕ) → rest ≡ drop n text → take n text ++ take k rest ≡ take (n + k) text
 take_more text rest n k is =
     ap (λ w. w ++ take k rest) (sym (take-take text n k)) ∙ (ap (λ w. take n (take (n + k) text) ++ w) (ap (take k) is ∙ sym (drop-take n k text)) ∙ take-append-drop n (take (n + k) text))
 
--- if the first n bytes of a text were written, and then the next k, its first n + k were
+-- if the first n bytes of a text were written, and then the next k, then its first n + k bytes were written
 pub Appends-take : (a b c : Option (List ℕ)) (text rest : List ℕ) (n k : ℕ) → rest ≡ drop n text → Appends a b (take n text) → Appends b c (take k rest) → Appends a c (take (n + k) text)
 Appends-take a b c text rest n k is p q =
     let P : List ℕ → Type 0 = λ w. Appends a c w in
     subst P (take_more text rest n k is) (Appends-append a b c (take n text) (take k rest) p q)
 
--- what is left of the rest of a text is its rest from further on
+-- dropping n bytes of a text, and then k more, drops n + k bytes
 pub drop_more : (text rest : List ℕ) (n k : ℕ) → rest ≡ drop n text → take (length rest - k) (drop k rest) ≡ drop (n + k) text
 drop_more text rest n k is = grind (arith, common_steps, is, drop-drop, length-drop)
 
--- if nothing was written, all is left to write
+-- known bytes that do not change grow by the empty text
 Appends-none : (a : Option (List ℕ)) → Appends a a []
 Appends-none None = tt
 Appends-none (Some s) = sym (append-nil s)
@@ -41,15 +41,15 @@ Appends-none (Some s) = sym (append-nil s)
 pub but_all : (a : Option (List ℕ)) (text piece : List ℕ) → text ≡ piece → AppendsBut a a text piece
 but_all a text piece is = ([], Appends-none a, is)
 
--- if a piece was written, nothing is left to write
+-- if the whole text was written, the piece that is left is empty
 pub but_none : (a b : Option (List ℕ)) (text : List ℕ) → Appends a b text → AppendsBut a b text []
 but_none a b text all = (text, all, sym (append-nil text))
 
--- the text and the piece get one more line
+-- a line added to the text is added to the piece that is left to write
 pub but_line : (a b : Option (List ℕ)) (text piece line : List ℕ) → AppendsBut a b text piece → AppendsBut a b (text ++ line) (piece ++ line)
 but_line a b text piece line so_far = (so_far.0, so_far.1, ap (λ t. t ++ line) so_far.2 ∙ append_assoc so_far.0 piece line)
 
--- what happens to the piece happens to the text
+-- The piece that is left gets written: all but a rest of it, all of it, or a beginning. What follows for the text.
 module _ (a b c : Option (List ℕ)) (text piece : List ℕ) (so_far : AppendsBut a b text piece) where
   pub but_then : (rest : List ℕ) → AppendsBut b c piece rest → AppendsBut a c text rest
   but_then rest next = (
@@ -72,13 +72,13 @@ module _ (a b c : Option (List ℕ)) (text piece : List ℕ) (so_far : AppendsBu
         subst Q (sym (take-append-add so_far.0 piece part.0)) (Appends-append a b c so_far.0 (take part.0 piece) so_far.1 part.2),
       )
 
--- a beginning of a text is one of a longer text
+-- first bytes of a text are first bytes of a longer text that begins with it
 pub beginning_longer : (a b : Option (List ℕ)) (text more all : List ℕ) → all ≡ text ++ more → AppendsBeginning a b text → AppendsBeginning a b all
 beginning_longer a b text more all is part =
     let P : List ℕ → Type 0 = λ t. AppendsBeginning a b t in
     let Q : List ℕ → Type 0 = λ t. Appends a b t in
     subst P (sym is) (part.0, omega (arith, part.1, length-append text more), subst Q (sym (take-append-le part.0 text more part.1)) part.2)
 
--- what the list has from a place on
+-- the bytes of a list from place i up to its end
 pub rest_is : (xs line : List ℕ) (n i : ℕ) → length xs ≡ n → drop i xs ≡ line → take (n - i) (drop i xs) ≡ line
 rest_is xs line n i count is = grind (arith, common_steps, length-drop)

@@ -1,4 +1,4 @@
--- The calls of each object are read as they are spelled.
+-- For each object: reading a call inverts its spelling.
 use Rattle.std.proofs.Common.{◌≡◌, ℕ, ◌<◌, ◌^◌, Bool, true, false, ◌&&◌, Option, Some, List, [], ◌∷◌, codes, decimal, refl, ap, subst, ◌∙◌}
 use Rattle.std.specs.Str.{bytes_eq}
 use Rattle.std.proofs.lemmas.Bool.{ltb-true, lt-ltb}
@@ -33,12 +33,12 @@ module _ {C : Type 0} (calls : Calls C) where
   word_is (v ∷ []) w is = ap (λ x. x ∷ []) (is_text w v is)
   word_is _ w is = absurd (cc)
 
-  -- each row names its call
+  -- each row of the table has the word that spells its call
   abbrev pub are_calls : List (List ℕ × C) → Bool
   are_calls [] = true
   are_calls (row ∷ rows) = (calls.fits row.1 && is_word (calls.words row.1) row.0) && are_calls rows
 
-  -- a word in such a table is the call of its row
+  -- if such a table has an entry for a word, the word spells that call
   pub named_takes : (rows : List (List ℕ × C)) → are_calls rows ≡ true → (w : List ℕ) (c : C) → named rows w ≡ Some c → IsCall (w ∷ []) c
   unfolding named
   named_takes [] each w c = λ is. absurd (cc)
@@ -49,7 +49,7 @@ module _ {C : Type 0} (calls : Calls C) where
       let this = and_true _ _ all.0 in
       subst P (some_is is) (this.0, ap (λ x. x ∷ []) (is_text w row.0 same) ∙ word_is (calls.words row.1) row.0 this.1)) (λ _. named_takes rows all.1 w c)
 
-  -- if all calls have one word
+  -- reading by such a table inverts spelling, if each call has one word
   pub word_reads : (rows : List (List ℕ × C)) → are_calls rows ≡ true
       → ((c : C) → IsReadAgain (only_named rows) c) → ReadsCalls calls (only_named rows)
   unfolding only_named
@@ -64,7 +64,7 @@ module _ {C : Type 0} (calls : Calls C) where
   pub told : (ws : List (List ℕ)) (this c : C) → IsCall ws this → Some this ≡ Some c → IsCall ws c
   told ws this c call is = let P : C → Type 0 = IsCall ws in subst P (some_is is) call
 
-  -- a call with a number at its end
+  -- the words that spell a call with a number as its last word
   pub numbered : (ws all : List (List ℕ)) (this : ℕ → C) (c : C) → ((n : ℕ) → n < 2 ^ 64 → ws ≡ decimal n ∷ [] → IsCall all (this n)) → (last_number ws >>= λ n. Some (this n)) ≡ Some c → IsCall all c
   numbered ws all this c call =
       bound (last_number ws) _ c (IsCall all c) (λ n found.

@@ -14,7 +14,7 @@ Consumes-append (Some s) None c xs ys p q = absurd p
 Consumes-append (Some s) (Some t) None xs ys p q = absurd q
 Consumes-append (Some s) (Some t) (Some u) xs ys p q = p ∙ (ap (λ w. xs ++ w) q ∙ sym (append_assoc xs ys u))
 
--- a read of nothing does not change what was read
+-- a read of no bytes does not change what was read
 pub Consumes-last : (a b c : Option (List ℕ)) (xs chunk : List ℕ) (n : ℕ) → n ≡ 0 → Consumes a b xs → Consumes b c (take n chunk) → Consumes a c xs
 Consumes-last a b c xs chunk n is p q =
     let P : List ℕ → Type 0 = Consumes a c in

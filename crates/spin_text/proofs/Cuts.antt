@@ -11,7 +11,7 @@ use Rattle.memchr.specs.Find.{Nowhere, NoneBefore, Passes, is_byte}
 use Rattle.spin_text.specs.Reading.{is_end, parts_left, lines_left}
 use Rattle.spin_text.specs.Lines.{lines_of, words_of, words_by_line, first_and_further, further_lines}
 
--- how many bytes are left, plus 1 if there is a line
+-- how many bytes are left, plus 1 if anything is left
 abbrev pub bytes_left : Option (Bor (List ℕ)) → ℕ
 bytes_left None = 0
 bytes_left (Some bytes) = length bytes.now + 1
@@ -20,13 +20,12 @@ not_passing : (b : Bool) → ¬ (b ≡ true) → b ≡ false
 not_passing true never = absurd (never refl)
 not_passing false never = refl
 
--- no separator: one part
+-- bytes without a separator are one part
 pub cut_none : (a : ℕ) (bs : List ℕ) → Nowhere (Passes (is_byte a) bs) 0 (length bs) → slice_split (is_byte a) bs ≡ bs ∷ []
 cut_none a bs nowhere =
     slice_split_none (is_byte a) bs (λ k d l. ap (is_byte a) (get_or_default bs k d 0 l) ∙ not_passing _ (nowhere k (omega arith) l))
 
--- The first word of a line, and the words behind it. There is no space before place i, so the word begins at the line's
--- beginning.
+-- The first word of a line and the words after it, if the first i bytes have no space. Then they are the beginning of the first word.
 pub record FirstWord (line : List ℕ) (i : ℕ) : Type 0 where
   pub word : List ℕ
   pub more : List (List ℕ)
@@ -55,7 +54,7 @@ around bs at l = grind (arith, common_steps)
 all_of_rest : (bs : List ℕ) (n : ℕ) → take (length bs - n) (drop n bs) ≡ drop n bs
 all_of_rest bs n = grind (arith, common_steps, length-drop)
 
--- the first separator: the part before it, and the parts behind it
+-- bytes with a first separator at place `at`: the part before it, and the parts of the bytes after it
 pub cut_some : (a : ℕ) (bs : List ℕ) (at : ℕ) → NoneBefore (Passes (is_byte a) bs) 0 (length bs) at → Passes (is_byte a) bs at → slice_split (is_byte a) bs ≡ take at bs ∷ slice_split (is_byte a) (take (length bs - (at + 1)) (drop (at + 1) bs))
 cut_some a bs at first here =
     ap (slice_split (is_byte a)) (around bs at first.high)
@@ -64,7 +63,7 @@ cut_some a bs at first here =
     ap (is_byte a) (get_or-take at bs k d below ∙ get_or_default bs k d 0 (omega (arith, below, first.high))) ∙ not_passing _ (first.before k (omega arith) below)) here
     ∙ ap (λ rest. take at bs ∷ slice_split (is_byte a) rest) (sym (all_of_rest bs (at + 1)))
 
--- if there are bytes behind a line feed, the lines behind it are theirs
+-- if bytes follow a line feed, the further lines are the lines of these bytes
 further_same : (parts : List (List ℕ)) → ((x : List ℕ) → parts ≡ x ∷ [] → 0 < length x) → further_lines parts ≡ first_and_further parts
 further_same [] some = refl
 further_same ([] ∷ []) some = absurd (omega (arith, some [] refl))
@@ -81,12 +80,12 @@ some_word : (ws : List (List ℕ)) → 0 < length ws → false ≡ is_end ws
 some_word [] some = absurd (omega (arith, some))
 some_word (w ∷ ws) some = refl
 
--- the lines behind a first one
+-- the first line, and the lines after it
 pub lines_behind : (bs line : List ℕ) (parts : List (List ℕ)) (further : List (List ℕ)) → slice_split (is_byte 10) bs ≡ line ∷ parts → further_lines parts ≡ further → words_by_line bs ≡ words_of line ∷ map words_of further
 lines_behind bs line parts further is then =
     ap (λ all. map words_of (first_and_further all)) is ∙ ap (λ ls. words_of line ∷ map words_of ls) then
 
--- a line has a word, which may be empty
+-- each line has a word, which may be empty
 pub has_word : (line : List ℕ) → false ≡ is_end (words_of line)
 has_word line = some_word (words_of line) (omega (arith, length-slice_split (is_byte 32) line))
 
@@ -103,7 +102,7 @@ split_after bs line further split true test =
     lines_behind bs line _ [] split (ap (λ b. further_lines (slice_split (is_byte 10) b)) (no_bytes further.now test))
 split_after bs line further split false test = lines_behind bs line _ _ split (further_lines_of further.now (some_bytes further.now test))
 
--- behind the first line there is nothing, if no byte follows the line feed
+-- if no byte follows the first line feed, there is no second line
 pub lines_after : (bs line : List ℕ) (rest : Option (Bor (List ℕ))) (further : Bor (List ℕ)) → slice_split (is_byte 10) bs ≡ line ∷ parts_left 10 rest → rest ≡ Some further
     → (left : Option (Bor (List ℕ))) (over : Bool) → over ≡ (length further.now == 0) → left ≡ cond over None (Some further) → words_by_line bs ≡ words_of line ∷ lines_left left
 lines_after bs line rest further parts is left over test made =
@@ -119,7 +118,7 @@ first_within : (parts : List (List ℕ)) → length (first_and_further parts) �
 first_within [] = omega arith
 first_within (x ∷ more) = omega (arith, further_within more)
 
--- there is at most one line more than bytes
+-- there are at most as many lines as bytes, and one more
 pub lines_within : (bs : List ℕ) → length (words_by_line bs) ≤ length bs + 1
 lines_within bs =
     omega (arith, length-map (lines_of bs) words_of, first_within (slice_split (is_byte 10) bs), length-slice_split (is_byte 10) bs, count_by-le-length (is_byte 10) bs)

@@ -1,4 +1,4 @@
--- The first line is read as it is spelled.
+-- Reading the first line inverts its spelling.
 use Rattle.std.proofs.Common.{◌≡◌, ℕ, ◌^◌, ◌<◌, true, ◌&&◌, nat_le, Option, Some, None, List, [], ◌∷◌, ◌++◌, codes, decimal, cond, arith, refl, sym, ◌∙◌, ap, subst}
 use Rattle.std.specs.Str.{bytes_eq}
 use Rattle.std.proofs.lemmas.Bool.{leb-true, le-leb}
@@ -41,7 +41,7 @@ parties_again n fits = ap last (within_again 1 1000 n [] (omega arith) fits)
 abbrev IsHeader : List ℕ → List (List ℕ) → Header → Type 0
 IsHeader w ws h = HeaderFits h × (w ∷ ws ≡ header_words h)
 
--- After the words `done` a line is read on: a number, and at the end the parties.
+-- The words `done` of a header were read. Next is a number, and at the end the number of parties.
 module _ (w : List ℕ) (h : Header) (done ws : List (List ℕ)) where
   after_number : (k : ℕ × List (List ℕ) → Option Header)
       → ((n : ℕ) (more : List (List ℕ)) → n < 2 ^ 64 → k (n, more) ≡ Some h → IsHeader w (done ++ decimal n ∷ more) h)
@@ -66,7 +66,7 @@ module _ (w : List ℕ) (h : Header) (done ws : List (List ℕ)) where
       let parties = parties_take ws n found in
       subst (λ l. IsHeader w (done ++ l) h) (sym parties.1) (subst (IsHeader w (done ++ decimal n ∷ [])) (some_is is) (then n parties.0)))
 
--- a reader of what is behind the object's name
+-- `read` finds a header only if the words after the object's name spell it
 abbrev Takes : List ℕ → (List (List ℕ) → Option Header) → Type 0
 Takes name read = (w : List ℕ) (ws : List (List ℕ)) (h : Header) → bytes_eq w name ≡ true → read ws ≡ Some h → IsHeader w ws h
 
@@ -120,7 +120,7 @@ header_takes (w ∷ ws) h is =
     chosen (bytes_eq w (codes "barrier")) _ _ h (IsHeader w ws h) (barrier_takes w ws h) (λ _.
     chosen (bytes_eq w (codes "once")) _ _ h (IsHeader w ws h) (once_takes w ws h) (λ _ none. absurd (cc))))))) is
 
--- what follows a number that is spelled so
+-- Reading goes on behind a number that is spelled in decimal.
 
 number_then : (n : ℕ) (ws : List (List ℕ)) (k : ℕ × List (List ℕ) → Option Header) → n < 2 ^ 64 → (number_at (decimal n ∷ ws) >>= k) ≡ k (n, ws)
 number_then n ws k fits = ap (λ o. o >>= k) (number_at_again n ws fits)
@@ -145,7 +145,7 @@ header_again (Fair value cap spins parties) fits =
 header_again (Barrier n parties) fits = number_then n _ _ fits.0 ∙ parties_then parties (Barrier n) fits.1
 header_again (Once parties) fits = parties_then parties Once fits
 
--- how the calls behind a header are read
+-- How the calls in the lines after a header are read.
 
 abbrev pub read_of : (h : Header) → List (List ℕ) → Option (CallOf h)
 read_of (Flag value parties) = read_flag_call

@@ -1,4 +1,4 @@
--- The lines of a transcript, one after another, while the moves are played.
+-- The lines of a transcript, which are written while the moves are played.
 use Rattle.std.proofs.Common.{◌≡◌, ℕ, zero, suc, ◌+◌, ◌<◌, ◌^◌, ◌==◌, ◌&&◌, Bool, true, false, if◌then◌else◌, Option, Some, None, List, [], ◌∷◌, ◌++◌, length, take, drop, get_or, sym, ◌∙◌, ap, refl, subst, arith, append_assoc, append-nil, zero-add, length-take-le}
 use Rattle.std.proofs.lemmas.List.{take-append-drop}
 use Rattle.spin_model.specs.declared.answer.Answer.{Answer}
@@ -13,7 +13,7 @@ use Rattle.spin_world_core.proofs.Playing.{Played, played_next}
 use Rattle.spin_text.specs.Pieces.{HasLine, TellsLine}
 use Rattle.spin_text.specs.Transcripts.{event_line, event_lines, end_line, schedule_lines, transcript_from}
 
--- one more event's line
+-- the lines of some events and of one more
 event_lines_more : {W : Type 0} (numbers : W → List ℕ) (line : ℕ) (es : List (Event W ℕ (Answer ℕ))) (e : Event W ℕ (Answer ℕ))
     → event_lines numbers line (es ++ e ∷ []) ≡ event_lines numbers line es ++ event_line (line + length es) e.party e.outcome (numbers e.words)
 event_lines_more numbers line [] e = ap (λ n. event_line n e.party e.outcome (numbers e.words) ++ []) (omega arith) ∙ append-nil (event_line (line + 0) e.party e.outcome (numbers e.words))
@@ -23,7 +23,7 @@ event_lines_more numbers line (x ∷ es) e =
     ap (λ l. first ++ l) (event_lines_more numbers (line + 1) es e ∙ ap (λ n. event_lines numbers (line + 1) es ++ event_line n e.party e.outcome (numbers e.words)) place)
     ∙ sym (append_assoc first (event_lines numbers (line + 1) es) (event_line (line + suc (length es)) e.party e.outcome (numbers e.words)))
 
--- the beginning is among the events so far
+-- the call began, if it has a beginning here, at one of the first n events
 abbrev IsBelow : ℕ → Option ℕ → Type 0
 IsBelow n None = Unit {0}
 IsBelow n (Some k) = k < n
@@ -43,7 +43,7 @@ begin_below p k found (e ∷ es) below =
     let next = if (e.party == p) && is_begun e.outcome then Some k else found in
     subst (λ n. IsBelow n (last_begin p (k + 1) next es)) place (begin_below p (k + 1) next es (next_below ((e.party == p) && is_begun e.outcome) k found below))
 
--- the first of what is left of a list after its first k
+-- if dropping k elements leaves x in front, x is the element at place k
 pub first_left : {X : Type 0} → (xs : List X) (k : ℕ) (x : X) (rest : List X) → drop k xs ≡ x ∷ rest
     → (k < length xs) × ((d : X) → x ≡ get_or xs k d) × (drop (suc k) xs ≡ rest)
 first_left [] zero x rest is = absurd (cc)
@@ -51,7 +51,7 @@ first_left [] (suc k) x rest is = absurd (cc)
 first_left (y ∷ ys) zero x rest is = (omega arith, λ d. sym (ap (λ l. get_or l 0 y) is), ap (drop 1) is)
 first_left (y ∷ ys) (suc k) x rest is = let next = first_left ys k x rest is in (omega (arith, next.0), next.1, next.2)
 
--- if nothing is left, the front is everything
+-- if dropping k elements leaves nothing, the first k are the whole list
 pub all_in_front : {X : Type 0} → (xs : List X) (k : ℕ) → drop k xs ≡ [] → take k xs ≡ xs
 all_in_front xs k none = sym (append-nil (take k xs)) ∙ ap (λ l. take k xs ++ l) (sym none) ∙ take-append-drop k xs
 
@@ -73,7 +73,7 @@ tells_line began (outcome.Value v) has = tt
 tells_line began outcome.Written has = tt
 tells_line began outcome.Leaked has = tt
 
--- an answer has a line at which its call began
+-- the line of the transcript that an answer names has a number of 64 bits
 pub told_line : {W C L : Type 0} (m : Machine W ℕ C L (Answer ℕ)) (from now : State W ℕ C L) (begins : List (Option ℕ))
     (schedule rest : List (ℕ × Move C ℕ)) (k : ℕ) (entry : ℕ × Move C ℕ) (o o' : Outcome (Answer ℕ) ℕ)
     → PlayedFirst m from now begins schedule k → drop k schedule ≡ entry ∷ rest → k < 2 ^ 64 → o' ≡ with_begin (begin_of begins entry.0) o → TellsLine o'
@@ -134,7 +134,7 @@ lines_begin numbers line (x ∷ xs) ys =
     let first = event_line line x.party x.outcome (numbers x.words) in
     (rest.0, ap (λ l. first ++ l) rest.1 ∙ sym (append_assoc first (event_lines numbers (line + 1) xs) rest.0))
 
--- the lines of the first moves are the first lines
+-- the lines of the first moves are the first lines of all moves
 pub first_lines : {W C L : Type 0} (m : Machine W ℕ C L (Answer ℕ)) (from : State W ℕ C L) (schedule : List (ℕ × Move C ℕ)) (k : ℕ)
     → (more : List ℕ) × (schedule_lines m from schedule ≡ schedule_lines m from (take k schedule) ++ more)
 first_lines m from schedule k =
@@ -149,7 +149,7 @@ first_lines m from schedule k =
           ∙ ap (λ es. event_lines m.numbers 1 es) (with_begins_append [] events further) ∙ lines.1,
     )
 
--- the last line tells what is left
+-- the last line tells the words and the value at the end
 pub last_line : {W C L : Type 0} (m : Machine W ℕ C L (Answer ℕ)) (from now : State W ℕ C L) (schedule : List (ℕ × Move C ℕ)) (words : W)
     (numbers : List ℕ) (value : Option ℕ) → now ≡ after m from schedule → words ≡ now.words → m.numbers words ≡ numbers → value ≡ now.value
     → transcript_from m from schedule ≡ schedule_lines m from schedule ++ end_line numbers value

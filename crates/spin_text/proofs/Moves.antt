@@ -1,4 +1,4 @@
--- An entry is read as it is spelled.
+-- Reading an entry inverts its spelling.
 use Rattle.std.proofs.Common.{◌≡◌, ℕ, true, ◌&&◌, Option, Some, List, [], ◌∷◌, codes, decimal, refl, ◌∙◌, ap, subst}
 use Rattle.std.specs.Str.{bytes_eq}
 use Rattle.std.proofs.lemmas.Slice.Eq.{bytes_eq-Decides}
@@ -13,16 +13,16 @@ use Rattle.spin_text.proofs.Numerals.{number_at_takes, number_at_again, last_num
 pub is_text : (w v : List ℕ) → bytes_eq w v ≡ true → w ≡ v
 is_text w v same = (bytes_eq-Decides w v).0 same
 
--- a word by its name, and what is behind it
+-- a first word that equals a name, followed by more words
 pub front : (w : List ℕ) (ws : List (List ℕ)) (name : List ℕ) (more : List (List ℕ)) → bytes_eq w name ≡ true → ws ≡ more → w ∷ ws ≡ name ∷ more
 front w ws name more same is = ap (λ x. x ∷ ws) (is_text w name same) ∙ ap (λ xs. name ∷ xs) is
 
--- a word by its name, and nothing behind it
+-- a word that equals a name, followed by nothing
 pub ends : (w : List ℕ) (ws : List (List ℕ)) (name : List ℕ) → w ≡ name → is_end ws ≡ true → w ∷ ws ≡ name ∷ []
 ends w [] name is end = ap (λ x. x ∷ []) is
 ends w (x ∷ ws) name is end = absurd (cc)
 
--- one word
+-- a line with one word
 pub last_word_takes : (ws : List (List ℕ)) (w : List ℕ) → last_word ws ≡ Some w → ws ≡ w ∷ []
 unfolding last_word
 last_word_takes [] w is = absurd (cc)

@@ -1,4 +1,4 @@
--- Numbers as words: what is printed is read back, and what is read was printed like this.
+-- Numbers as words: a printed number is read back, and a word that is read as a number is how that number prints.
 use Rattle.std.proofs.Common.{◌≡◌, ℕ, suc, zero, ◌+◌, ◌*◌, ◌<◌, ◌≤◌, ◌^◌, true, ◌&&◌, Option, Some, None, IfSome, IfNone, nat_lt, List, [], ◌∷◌, decimal, length, take, get_or, arith, sym, ◌∙◌, ap, slice_index, subst, refl, cond, length-take, get_or-take, take_all, eqb-true}
 use Rattle.std.specs.Char.{digit_value}
 use Rattle.std.specs.List.{join_with_byte}
@@ -34,7 +34,7 @@ is_number n fits =
     let numeral = decimal_is_IsNumeral n fits in
     record { digits = numeral.0; no_leading_zero = no_leading_zero n fits; value = numeral.1 }
 
--- a printed number is read
+-- reading a printed number gives that number
 read_decimal : (n : ℕ) → n < 2 ^ 64 → read_number (decimal n) ≡ Some n
 unfolding read_number
 read_decimal n fits =
@@ -58,7 +58,7 @@ pub read_number_none : (w : List ℕ) (r : Option ℕ) → r ≡ read_number w �
 read_number_none w None is none = refl
 read_number_none w (Some n) is none = let found = read_number_takes w n (sym is) in absurd (none n found.0 found.1)
 
--- if the first word of a line is no number, the line begins with no number
+-- if the first word spells no number, the line does not begin with a number
 pub no_number_first : (line word : List ℕ) (more : List (List ℕ)) → words_of line ≡ word ∷ more
     → ((n : ℕ) → n < 2 ^ 64 → ¬ (IsNumber word n)) → number_at (words_of line) ≡ None
 unfolding number_at
@@ -67,7 +67,7 @@ no_number_first line word more is none =
     none n fits (subst (λ w. IsNumber w n) (sym prints) (is_number n fits))) in
     ap number_at is ∙ sym (ap (λ r. r >>= λ n. Some (n, more)) unread)
 
--- Digits spell a number, unless there are none, or there are more than one and the first is 0.
+-- Digits spell a number if there is at least one, and the first is 0 only if it is the only one.
 pub number_first : (line word : List ℕ) (more : List (List ℕ)) (n : ℕ) → words_of line ≡ word ∷ more
     → n < 2 ^ 64 → AllDigits 10 word → digits_value 10 word ≡ n → 0 < length word → (slice_index word 0 ≡ 48 → length word ≡ 1)
     → number_at (words_of line) ≡ Some (n, more)
@@ -76,16 +76,16 @@ number_first line word more n is fits digits value some no_zero =
     let number : IsNumber word n = record { digits = (some, digits); no_leading_zero = no_zero; value = value } in
     ap number_at is ∙ ap (λ r. r >>= λ n. Some (n, more)) (read_number_some word n fits (prints_back word n fits number))
 
--- each digit of a number
+-- each byte of a number has a digit value below 10
 digit_value_at : (word : List ℕ) (i : ℕ) → AllDigits 10 word → i < length word → digit_value (get_or word i 0) < 10
 digit_value_at [] i digits lt = absurd (omega (arith, lt))
 digit_value_at (c ∷ word) zero digits lt = digits.0
 digit_value_at (c ∷ word) (suc i) digits lt = digit_value_at word i digits.1 (omega (arith, lt))
 
--- After digits with this value comes a byte that is no digit, or one with which the number exceeds 64 bits.
+-- The first i bytes are digits with this value. The next byte is no digit, or makes a number that exceeds 64 bits.
 module _ (line : List ℕ) (i number : ℕ) (lt : i < length line) (so_far : digits_value 10 (take i line) ≡ number)
     (past : digit_value (get_or line i 0) < 10 → 2 ^ 64 ≤ number * 10 + digit_value (get_or line i 0)) where
-  -- a word with these bytes in front is no number
+  -- a word that begins with these i + 1 bytes spells no number
   stuck : (word : List ℕ) → take (i + 1) word ≡ take (i + 1) line → (n : ℕ) → n < 2 ^ 64 → ¬ (IsNumber word n)
   stuck word begins n fits is =
       let there : i < length word = omega (arith, length-take (i + 1) word, ap length begins, length-take (i + 1) line, lt) in
@@ -103,30 +103,30 @@ module _ (line : List ℕ) (i number : ℕ) (lt : i < length line) (so_far : dig
         fits,
       )
 
-  -- so the line begins with no number
+  -- so the line does not begin with a number
   pub no_number_at : Nowhere (Passes (is_byte 32) line) 0 (i + 1) → number_at (words_of line) ≡ None
   no_number_at none =
       let first = first_word line (i + 1) (omega (arith, lt)) none in
       no_number_first line first.word first.more first.is (stuck first.word first.begins)
 
--- no space is among digits
+-- there is no space among digits
 pub no_space : (line : List ℕ) (i : ℕ) → i ≤ length line → AllDigits 10 (take i line) → Nowhere (Passes (is_byte 32) line) 0 i
 no_space line i there digits k low high here =
     let numerals = numerals_by_value (AllDigits 10) tells_digits in
     not_in_digits numerals (take i line) 32 digits (λ range. absurd (omega (arith, range))) k (omega (arith, high, there, length-take i line))
     (get_or-take i line k 0 high ∙ eqb-true _ _ here)
 
--- so the word of a number is a line of one word
+-- so a number, taken as a line, is a line of one word
 alone : (word : List ℕ) (n : ℕ) → IsNumber word n → words_of word ≡ word ∷ []
 alone word n is =
     let digits = subst (AllDigits 10) (sym (take_all (length word) word (omega arith))) is.digits.1 in
     cut_none 32 word (no_space word (length word) (omega arith) digits)
 
--- the only word of a line has the bytes of the line
+-- a line with one word has the same bytes as the word
 same_bytes : (line word : List ℕ) → words_of line ≡ word ∷ [] → line ≡ word
 same_bytes line word is = sym (join_with_byte-slice_split 32 line) ∙ ap (join_with_byte 32) is
 
--- a number and what is behind it
+-- a number that is read is below 2^64, and the line begins with its decimal text
 pub number_at_takes : (ws : List (List ℕ)) (x : ℕ × List (List ℕ)) → number_at ws ≡ Some x → (x.0 < 2 ^ 64) × (ws ≡ decimal x.0 ∷ x.1)
 unfolding number_at
 number_at_takes [] x is = absurd (cc)
@@ -140,7 +140,7 @@ pub number_at_again : (n : ℕ) (ws : List (List ℕ)) → n < 2 ^ 64 → number
 unfolding number_at
 number_at_again n ws fits = ap (λ o. o >>= λ k. Some (k, ws)) (read_number_some (decimal n) n fits refl)
 
--- one number
+-- A number that is the only word of a line.
 
 pub last_number_takes : (ws : List (List ℕ)) (n : ℕ) → last_number ws ≡ Some n → (n < 2 ^ 64) × (ws ≡ decimal n ∷ [])
 unfolding last_number
@@ -150,7 +150,7 @@ pub last_number_again : (n : ℕ) → n < 2 ^ 64 → last_number (decimal n ∷ 
 unfolding last_number
 last_number_again n fits = ap last (number_at_again n [] fits)
 
--- a word read as a line gives the number that it spells
+-- reading a word as a line gives the number that the word spells
 pub number_alone : (word : List ℕ) (r : Option ℕ) → r ≡ last_number (words_of word) → IfSome r (λ n. IsNumber word n)
 number_alone word None read = tt
 number_alone word (Some n) read =

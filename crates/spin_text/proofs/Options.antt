@@ -1,4 +1,4 @@
--- Steps of reading: a test, or one result after another. And what a result says.
+-- How reading goes on: by a test, or from one result to the next. Also what follows from the result of a call.
 use Rattle.std.proofs.Common.{◌≡◌, ℕ, Bool, true, false, ◌&&◌, Option, Some, None, Result, Ok, Err, OnOk, OnErr, IfErr, IfNone, List, [], ◌∷◌, cond, refl, sym, ap, subst}
 use Rattle.spin_text.specs.declared.text.RunError.{RunError}
 use Rattle.spin_text.specs.declared.text.RunError.TheVariants.{Memory}
@@ -8,12 +8,12 @@ use Rattle.spin_text.specs.Reading.{◌>>=◌, last}
 pub some_is : {A : Type 0} {x y : A} → Some x ≡ Some y → x ≡ y
 some_is is = cc
 
--- a test chooses one of two results
+-- if a test chooses between two results, one of two cases holds
 pub chosen : {A : Type 0} (test : Bool) (this other : Option A) (y : A) (P : Type 0) → (test ≡ true → this ≡ Some y → P) → (test ≡ false → other ≡ Some y → P) → cond test this other ≡ Some y → P
 chosen true this other y P if_so otherwise is = if_so refl is
 chosen false this other y P if_so otherwise is = otherwise refl is
 
--- first a result, and then the next
+-- if a result is read from an earlier one, both were found
 pub bound : {A B : Type 0} (o : Option A) (f : A → Option B) (y : B) (P : Type 0) → ((x : A) → o ≡ Some x → f x ≡ Some y → P) → (o >>= f) ≡ Some y → P
 bound None f y P then is = absurd (cc)
 bound (Some x) f y P then is = then x refl is
@@ -22,13 +22,13 @@ pub and_true : (a b : Bool) → (a && b) ≡ true → (a ≡ true) × (b ≡ tru
 and_true true b is = (refl, is)
 and_true false b is = absurd (cc)
 
--- nothing is behind what was read last
+-- if `last` returns a result, no word is left behind it
 pub last_takes : {A : Type 0} (read : Option (A × List (List ℕ))) (x : A) → last read ≡ Some x → read ≡ Some (x, [])
 last_takes None x is = absurd (cc)
 last_takes (Some (y, [])) x is = ap (λ z. Some (z, [])) (some_is is)
 last_takes (Some (y, w ∷ ws)) x is = absurd (cc)
 
--- what holds of a result, if one property implies the other
+-- A weaker property of a result.
 
 pub on_ok : {X E : Type 0} (r : Result X E) (P Q : Type 0) → (P → Q) → OnOk r P → OnOk r Q
 on_ok (Ok x) P Q then p = then p
@@ -50,7 +50,7 @@ pub none_said : {A : Type 0} (r : Option A) (P : Type 0) → P → IfNone r P
 none_said None P p = p
 none_said (Some x) P p = tt
 
--- no memory: nothing was written
+-- if an allocation failed, nothing was written
 pub refused : {X : Type 0} (r : Result X RunError) (e : RunError) (A W : Type 0) → r ≡ Err e → e ≡ Memory → A → IfErr r (StopsWriting (λ x. x ≡ Memory) A W)
 refused r e A W is memory a =
     let stops = StopsWriting (λ x. x ≡ Memory) A W in

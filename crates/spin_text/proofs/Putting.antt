@@ -1,4 +1,4 @@
--- Texts that are put in front of each other, from the end of a buffer.
+-- Texts that are put in front of each other, beginning at the end of a buffer.
 use Rattle.std.proofs.Common.{◌≡◌, ℕ, List, ◌++◌, length, drop, ap, sym, ◌∙◌, arith, length-append, drop_of_length-le}
 use Rattle.std.proofs.lemmas.List.{append_assoc, append-nil}
 use Rattle.spin_text.specs.Pieces.{PutBefore}
@@ -10,7 +10,7 @@ before_more a b before mid now end middle start second first =
       stands = first.stands ∙ (ap (λ l. a ++ l) second.stands ∙ sym (append_assoc a b (drop end before)));
     }
 
--- a text that ends with the buffer
+-- a text that ends with the buffer is all that the buffer has from `start` on
 pub whole_line : (text before now : List ℕ) (end start : ℕ) → length before ≡ end → PutBefore text before end now start → drop start now ≡ text
 whole_line text before now end start is put =
     put.stands ∙ (ap (λ l. text ++ l) (drop_of_length-le before (omega (arith, is))) ∙ append-nil text)

@@ -1,4 +1,4 @@
--- A whole text is read as it is spelled. So it has one reading, and its first bad line is where reading stops.
+-- Reading a whole text inverts its spelling. So a text has one reading, and its first bad line is where reading stops.
 use Rattle.std.proofs.Common.{◌≡◌, ℕ, suc, Bool, true, false, Result, OnOk, IfErr, ◌+◌, ◌-◌, Option, Some, None, IsSome, List, [], ◌∷◌, ◌++◌, length, map, take, arith, refl, sym, ◌∙◌, ap, subst, length-append, append_assoc, append-nil}
 use Rattle.std.specs.List.{cons_option}
 use Rattle.std.proofs.lemmas.List.{length-map, map-append}
@@ -20,7 +20,7 @@ use Rattle.spin_text.proofs.Options.{some_is, on_ok, if_err}
 use Rattle.spin_text.proofs.Moves.{entry_takes, entry_again}
 use Rattle.spin_text.proofs.Headers.{header_takes, header_again, read_of, reads_of}
 
--- the entries of lines, up to the end
+-- the entries of the lines, if each line spells one
 abbrev pub read_entries : {C : Type 0} → (List (List ℕ) → Option C) → List (List (List ℕ)) → Option (List (ℕ × Move C ℕ))
 read_entries read [] = Some []
 read_entries read (line ∷ lines) = read_entry read line >>= λ e. (read_entries read lines >>= λ es. Some (e ∷ es))
@@ -32,19 +32,19 @@ module _ {C : Type 0} (calls : Calls C) (read : List (List ℕ) → Option C) (r
       ap (λ o. o >>= λ x. (read_entries read (map (entry_words calls) es) >>= λ xs. Some (x ∷ xs))) (entry_again calls read reads e fits.0)
       ∙ ap (λ o. o >>= λ xs. Some (e ∷ xs)) (entries_again es fits.1)
 
-  -- one line that spells no entry is enough to stop
+  -- lines are no entries if a line among them spells none
   pub entries_stop : (es : List (ℕ × Move C ℕ)) (line : List (List ℕ)) → EntriesFit calls es → read_entry read line ≡ None → read_entries read (map (entry_words calls) es ++ (line ∷ [])) ≡ None
   entries_stop [] line fits is = ap (λ o. o >>= λ x. Some (x ∷ [])) is
   entries_stop (e ∷ es) line fits is =
       ap (λ o. o >>= λ x. (read_entries read (map (entry_words calls) es ++ (line ∷ [])) >>= λ xs. Some (x ∷ xs))) (entry_again calls read reads e fits.0)
       ∙ ap (λ o. o >>= λ xs. Some (e ∷ xs)) (entries_stop es line fits.1 is)
 
-  -- one more entry
+  -- entries that fit, with one more that fits
   pub entries_more : (es : List (ℕ × Move C ℕ)) (e : ℕ × Move C ℕ) → EntriesFit calls es → EntryFits calls e → EntriesFit calls (es ++ (e ∷ []))
   entries_more [] e fits fit = (fit, tt)
   entries_more (x ∷ xs) e fits fit = (fits.0, entries_more xs e fits.1 fit)
 
-  -- the next line spells one more entry
+  -- if the next line spells an entry, the entries read so far grow by it
   pub entries_step : (es all_entries : List (ℕ × Move C ℕ)) (e : ℕ × Move C ℕ) (line : List (List ℕ)) (left further all : List (List (List ℕ))) → EntriesFit calls es → map (entry_words calls) es ++ left ≡ all → left ≡ line ∷ further
       → read_entry read line ≡ Some e → all_entries ≡ es ++ (e ∷ []) → EntriesFit calls all_entries × (map (entry_words calls) all_entries ++ further ≡ all)
   entries_step es all_entries e line left further all fits spelled next found is =
@@ -57,24 +57,24 @@ module _ {C : Type 0} (calls : Calls C) (read : List (List ℕ) → Option C) (r
             ∙ ap (λ l. map words es ++ l) (ap (λ w. w ∷ further) (sym entry.1) ∙ sym next) ∙ spelled,
       )
 
--- the first line's entry is the first in the lines
+-- if the first line spells an entry, it is the first entry of the lines
 pub first_entry : {C : Type 0} (read : List (List ℕ) → Option C) (left further : List (List (List ℕ))) (line : List (List ℕ)) (e : ℕ × Move C ℕ) → left ≡ line ∷ further
     → read_entry read line ≡ Some e → entries_in read left ≡ e ∷ entries_in read further
 first_entry read left further line e next found = ap (entries_in read) next ∙ ap (λ o. cons_option o (entries_in read further)) found
 
--- the lines before the remaining ones spell this many entries
+-- the lines before those in `left` spell n entries
 abbrev pub Checked : {C : Type 0} → Calls C → List (List (List ℕ)) → List (List (List ℕ)) → ℕ → Type 0
 Checked {C} calls left all n = (es : List (ℕ × Move C ℕ)) × EntriesFit calls es × (map (entry_words calls) es ++ left ≡ all) × (n ≡ length es)
 
 module _ {C : Type 0} (calls : Calls C) (read : List (List ℕ) → Option C) (reads : ReadsCalls calls read) where
-  -- what is spelled is found
+  -- reading the lines of some entries finds these entries
   entries_found : (es : List (ℕ × Move C ℕ)) → EntriesFit calls es → entries_in read (map (entry_words calls) es) ≡ es
   entries_found [] fits = refl
   entries_found (e ∷ es) fits =
       ap (λ o. cons_option o (entries_in read (map (entry_words calls) es))) (entry_again calls read reads e fits.0)
       ∙ ap (λ l. e ∷ l) (entries_found es fits.1)
 
-  -- and each line is read
+  -- each line that spells an entry is read
   pub all_read : (es : List (ℕ × Move C ℕ)) → EntriesFit calls es → AllRead read (map (entry_words calls) es)
   all_read [] fits = tt
   all_read (e ∷ es) fits = (subst IsSome (sym (entry_again calls read reads e fits.0)) refl, all_read es fits.1)
@@ -110,7 +110,7 @@ pub one_script : (bytes : List ℕ) (s t : Script) → Spells bytes s → Spells
 one_script bytes s t first second =
     some_is (sym (script_again s first.fits) ∙ ap read_script (sym first.words ∙ second.words) ∙ script_again t second.fits)
 
--- lines that cannot be read are no script's
+-- lines that cannot be read are not the lines of a script
 no_script : (lines : List (List (List ℕ))) → read_script lines ≡ None → ¬ AreOfScript lines
 no_script lines none script =
     let found : Some script.0 ≡ None = sym (script_again script.0 script.1) ∙ ap read_script (sym script.2) ∙ none in absurd (cc)
@@ -135,7 +135,7 @@ entry_stops h es line fits each none =
     ap (λ o. o >>= λ k. (read_entries (read_of k) rest >>= λ xs. Some (record { header = k; entries = xs }))) (header_again h fits)
     ∙ ap (λ o. o >>= λ xs. Some (record { header = h; entries = xs })) (entries_stop (calls_of h) (read_of h) (reads_of h) es line each none)
 
--- the first elements of a list, if it is known how many they are
+-- The first elements of a list that is given in two parts.
 
 take_all_before : {X : Type 0} → (xs : List X) (y : X) (ys : List X) → take (length xs) (xs ++ (y ∷ ys)) ≡ xs
 take_all_before [] y ys = refl
@@ -159,12 +159,12 @@ first_bad h es line more fits each none =
       bad = λ script. no_script _ (entry_stops h es line fits each none) (let P : List (List (List ℕ)) → Type 0 = AreOfScript in subst P (ap (λ n. take n all) with_line ∙ ap (λ l. header_words h ∷ l) (take_one_more rest line more)) script);
     }
 
--- the first line is that of the header read from it
+-- if a header is read from the first line, that line spells the header
 pub headed : (line : List (List ℕ)) (all more : List (List (List ℕ))) (h : Header) → all ≡ line ∷ more → read_header line ≡ Some h
     → HeaderFits h × (all ≡ header_words h ∷ more)
 headed line all more h is found = let header = header_takes line h found in (header.0, is ∙ ap (λ w. w ∷ more) header.1)
 
--- if the entries stop, the text stops
+-- an error in the lines after the header is an error of the whole text
 pub bad_entry : (bytes : List ℕ) (h : Header) (rest : List (List (List ℕ))) (e : RunError) → HeaderFits h → words_by_line bytes ≡ header_words h ∷ rest → StopsEntries (calls_of h) (read_of h) rest e → StopsPlaying bytes e
 bad_entry bytes h rest errors.Read fits is stops = absurd stops
 bad_entry bytes h rest errors.Memory fits is stops = tt
@@ -175,13 +175,13 @@ bad_entry bytes h rest (errors.BadLine n) fits is stops =
     let Q : ℕ → Type 0 = IsFirstBad (header_words h ∷ (map (entry_words (calls_of h)) stops.0 ++ (found.0 ∷ found.1))) in
     subst P (sym (is ∙ ap (λ r. header_words h ∷ r) found.2)) (subst Q (sym found.4) (first_bad h stops.0 found.0 found.1 fits stops.1 found.3))
 
--- the result for the entries is the result for the text
+-- the text for the entries after the header is the text for the whole script
 pub whole_text : {W L : Type 0} → (bytes : List ℕ) (h : Header) (rest : List (List (List ℕ))) (m : Machine W ℕ (CallOf h) L (Answer ℕ)) (parties : ℕ) (text : List ℕ) → HeaderFits h → words_by_line bytes ≡ header_words h ∷ rest
     → ((es : List (ℕ × Move (CallOf h) ℕ)) → transcript_text m parties es ≡ played h es) → PlaysLines (calls_of h) m parties rest text → PlaysBytes bytes text
 whole_text bytes h rest m parties text fits is same plays =
     (record { header = h; entries = plays.0 }, record { fits = (fits, plays.1); words = is ∙ ap (λ r. header_words h ∷ r) plays.2 }, plays.3 ∙ same plays.0)
 
--- the same for the answer of a call that writes
+-- The same for the error of a call that writes.
 
 stops_so : (B C : RunError → Type 0) (U P Q : Type 0) → ((e : RunError) → B e → C e) → (P → Q) → (e : RunError) → StopsWriting B U P e → StopsWriting C U Q e
 stops_so B C U P Q before at_write errors.Read stops = (before errors.Read stops.0, stops.1)
@@ -190,7 +190,7 @@ stops_so B C U P Q before at_write (errors.BadLine n) stops = (before (errors.Ba
 stops_so B C U P Q before at_write errors.Write stops = at_write stops
 
 module _ {X : Type 0} (r : Result X RunError) (P Q : List ℕ → Type 0) (each : (text : List ℕ) → P text → Q text) (a b : Option (List ℕ)) where
-  -- if every text of which P holds has the property Q, some text with P is some text with Q
+  -- if P implies Q, and some text with P was written, then some text with Q was written
   pub some_so : OnOk r (AppendsSome P a b) → OnOk r (AppendsSome Q a b)
   some_so = on_ok r _ _ (λ t. (t.0, each t.0 t.1, t.2))
 
@@ -198,7 +198,7 @@ module _ {X : Type 0} (r : Result X RunError) (P Q : List ℕ → Type 0) (each 
       → IfErr r (StopsWriting B U (F × AppendsSomeBeginning P a b)) → IfErr r (StopsWriting C U (F × AppendsSomeBeginning Q a b))
   beginning_so B C U F before = if_err r _ _ (stops_so B C U _ _ before (λ t. (t.0, (t.1.0, each t.1.0 t.1.1, t.1.2))))
 
--- the result for the lines behind the header is the result for the bytes
+-- What holds of the lines after the header holds of all bytes.
 module _ {X W L : Type 0} (r : Result X RunError) (bytes : List ℕ) (h : Header) (m : Machine W ℕ (CallOf h) L (Answer ℕ)) (parties : ℕ)
     (rest : List (List (List ℕ))) (headed_so : HeaderFits h × (words_by_line bytes ≡ header_words h ∷ rest))
     (same : (es : List (ℕ × Move (CallOf h) ℕ)) → transcript_text m parties es ≡ played h es) (a b : Option (List ℕ)) (U F : Type 0) where
@@ -215,7 +215,7 @@ module _ {X W L : Type 0} (r : Result X RunError) (bytes : List ℕ) (h : Header
     beginning_so r _ _ each_text a b _ _ U F (λ e. bad_entry bytes h rest e headed_so.0 headed_so.1) stops,
   )
 
--- the result of playing is the result of the whole call
+-- What holds of playing holds of the whole call.
 module _ {X : Type 0} (r : Result X RunError) (bytes : List ℕ) (left left_after written written_after : Option (List ℕ))
     (source_failed sink_failed : Bool) (reads : ReadsAll left left_after bytes) where
   abbrev streams : Streams

@@ -3,7 +3,7 @@ use Rattle.std.specs.Prelude.{ℕ, List, [], ◌∷◌, map, ◌==◌}
 use Rattle.std.specs.List.{slice_split}
 use Rattle.std.specs.Borrow.{Bor}
 
--- the lines behind a line feed: another line follows only if there are more bytes
+-- the lines after the first one, from the parts between line feeds: an empty last part is no line
 abbrev pub further_lines : List (List ℕ) → List (List ℕ)
 further_lines [] = []
 further_lines ([] ∷ []) = []
@@ -14,12 +14,12 @@ abbrev pub first_and_further : List (List ℕ) → List (List ℕ)
 first_and_further [] = []
 first_and_further (x ∷ more) = x ∷ further_lines more
 
--- Each line ends at a line feed, which may be missing at the end. An empty text has one line, and it is empty.
+-- Each line ends at a line feed, which may be missing at the end. An empty text has one line, which is empty.
 abbrev pub lines_of : List ℕ → List (List ℕ)
 lines_of bytes = first_and_further (slice_split (λ b. b == 10) bytes)
 
--- One space separates two words of a line. Between two spaces is an empty word; so is one before a first space and
--- after a last one.
+-- One space separates two words of a line. So between two spaces in a row there is an empty word, and also before a space at the beginning
+-- and after one at the end.
 abbrev pub words_of : List ℕ → List (List ℕ)
 words_of line = slice_split (λ b. b == 32) line
 

@@ -18,7 +18,7 @@ use Rattle.spin_text.specs.declared.header.Header.{Header}
 use Rattle.spin_text.specs.declared.header.Header.TheVariants.{Flag, Ticket, Rw, Fair, Barrier, Once}
 use Rattle.spin_text.specs.Spelling.{Calls}
 
--- the words of the calls
+-- The words of each object's calls.
 
 abbrev pub flag_call_words : FlagCall → List (List ℕ)
 flag_call_words flag.Lock = codes "lock" ∷ []
@@ -99,7 +99,7 @@ once_call_fits _ = true
 abbrev pub once_calls : Calls (OnceCall ℕ)
 once_calls = record { words = once_call_words; fits = once_call_fits }
 
--- the first line
+-- The first line of a text.
 
 abbrev pub header_words : Header → List (List ℕ)
 header_words (Flag value parties) = codes "flag" ∷ decimal value ∷ decimal parties ∷ []
@@ -124,7 +124,7 @@ HeaderFits (Fair value cap spins parties) = (value < 2 ^ 64) × IsWithin 1 most_
 HeaderFits (Barrier n parties) = (n < 2 ^ 64) × PartiesFit parties
 HeaderFits (Once parties) = PartiesFit parties
 
--- what the header says about the lines behind it, and about their world
+-- What a header fixes for the lines after it, and for their world.
 
 abbrev pub CallOf : Header → Type 0
 CallOf (Flag value parties) = FlagCall

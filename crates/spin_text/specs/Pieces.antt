@@ -4,12 +4,12 @@ use Rattle.spin_model.specs.declared.answer.Answer.{Answer}
 use Rattle.spin_model.specs.declared.schedule.Outcome.{Outcome}
 use Rattle.spin_model.specs.declared.schedule.Outcome.TheVariants as outcome
 
--- the text begins at `start`; behind it follows what the buffer had from `end` on
+-- The buffer now has the text from `start` to `end`, and behind it what it had before.
 pub record PutBefore (text before : List ℕ) (end : ℕ) (now : List ℕ) (start : ℕ) : Type 0 where
   pub begins : start + length text ≡ end
   pub stands : drop start now ≡ text ++ drop end before
 
--- the line at which the call began is a number of 64 bits
+-- the line at which the call began, if there is one, is a number of 64 bits
 abbrev pub HasLine : Option ℕ → Type 0
 HasLine None = Unit {0}
 HasLine (Some began) = began + 1 < 2 ^ 64

@@ -1,4 +1,4 @@
--- A line read from left to right. Laws say that reading finds what is spelled.
+-- A line read from left to right. Laws say that reading a line inverts its spelling.
 use Rattle.std.specs.Prelude.{ℕ, ◌^◌, Bool, true, false, ◌&&◌, nat_lt, nat_le, ◌==◌, List, [], ◌∷◌, Option, Some, None, codes, decimal, map, if◌then◌else◌}
 use Rattle.std.specs.Borrow.{Bor}
 use Rattle.std.specs.List.{slice_split, filter_map}
@@ -25,12 +25,12 @@ abbrev pub ◌>>=◌ : {A B : Type 0} → Option A → (A → Option B) → Opti
 None >>= f = None
 (Some x) >>= f = f x
 
--- the words left of a line; None if there are none
+-- the words of the rest of a line; without a rest there are none
 abbrev pub words_left : Option (Bor (List ℕ)) → List (List ℕ)
 words_left None = []
 words_left (Some bytes) = words_of bytes.now
 
--- the lines left of the bytes; None if there are none
+-- the lines of the rest of all lines; without a rest there are none
 abbrev pub lines_left : Option (Bor (List ℕ)) → List (List (List ℕ))
 lines_left None = []
 lines_left (Some bytes) = words_by_line bytes.now
@@ -39,13 +39,13 @@ abbrev pub is_end : List (List ℕ) → Bool
 is_end [] = true
 is_end (w ∷ ws) = false
 
--- the number of 64 bits that prints as this word, if any
+-- the number below 2^64 whose decimal text is this word, if there is one
 unfoldable pub read_number : List ℕ → Option ℕ
 read_number w =
     let n = digits_value 10 w in
     if bytes_eq w (decimal n) && nat_lt n (2 ^ 64) then Some n else None
 
--- the first word, and those behind it
+-- the first word, and the words after it
 abbrev pub word_at : List (List ℕ) → Option (List ℕ × List (List ℕ))
 word_at [] = None
 word_at (w ∷ ws) = Some (w, ws)
@@ -56,13 +56,13 @@ number_at ws = do
   n ← read_number w.0
   Some (n, w.1)
 
--- a number between `least` and `most`, and the words behind it
+-- the number that the first word spells, if it is between `least` and `most`, and the words after it
 unfoldable pub number_within : ℕ → ℕ → List (List ℕ) → Option (ℕ × List (List ℕ))
 number_within least most ws = do
   n ← number_at ws
   if nat_le least n.0 && nat_le n.0 most then Some n else None
 
--- what was read, if no word is behind it
+-- what was read, if no word is left
 abbrev pub last : {A : Type 0} → Option (A × List (List ℕ)) → Option A
 last read = read >>= λ x. if is_end x.1 then Some x.0 else None
 
@@ -102,11 +102,11 @@ read_entry call ws = do
   move ← read_move call party.1
   Some (party.0, move)
 
--- the entries that lines spell, without the lines that spell none
+-- the entries that the lines spell; lines that spell none are left out
 abbrev pub entries_in : {C : Type 0} → (List (List ℕ) → Option C) → List (List (List ℕ)) → List (ℕ × Move C ℕ)
 entries_in call lines = filter_map (read_entry call) lines
 
--- a constant table of the code, by its words
+-- a constant table of the code, as a list of words and entries
 abbrev pub by_word : {C : Type 0} → List (record { now : List ℕ } × C) → List (List ℕ × C)
 by_word table = map (λ row. (row.0.now, row.1)) table
 
@@ -119,7 +119,7 @@ named (row ∷ rows) w = if bytes_eq w row.0 then Some row.1 else named rows w
 unfoldable pub only_named : {C : Type 0} → List (List ℕ × C) → List (List ℕ) → Option C
 only_named rows ws = last_word ws >>= named rows
 
--- the calls of each object
+-- How the calls of each object are read.
 
 unfoldable pub read_flag_call : List (List ℕ) → Option FlagCall
 read_flag_call ws = only_named (by_word FLAG_CALLS) ws
@@ -136,7 +136,7 @@ read_fair_call ws = only_named (by_word FAIR_CALLS) ws
 unfoldable pub read_barrier_call : List (List ℕ) → Option BarrierCall
 read_barrier_call ws = only_named (by_word BARRIER_CALLS) ws
 
--- a call that may fail, by the words behind its name
+-- a `try_call_once`, read from the words after its name
 unfoldable pub read_try_call_once : List (List ℕ) → Option (OnceCall ℕ)
 read_try_call_once ws = do
   w ← word_at ws
@@ -200,12 +200,12 @@ read_header ws = do
       else if bytes_eq w.0 (codes "barrier") then read_barrier_header w.1
       else if bytes_eq w.0 (codes "once") then read_once_header w.1 else None
 
--- what is left behind a separator; None if there was none
+-- the parts of the rest after a separator; without a rest there are none
 abbrev pub parts_left : ℕ → Option (Bor (List ℕ)) → List (List ℕ)
 parts_left separator None = []
 parts_left separator (Some bytes) = slice_split (λ b. b == separator) bytes.now
 
--- one number or two
+-- one number, or two, as a list
 abbrev pub numbers_of : ℕ × Option ℕ → List ℕ
 numbers_of (n, None) = n ∷ []
 numbers_of (n, Some m) = n ∷ m ∷ []

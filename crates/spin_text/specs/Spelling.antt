@@ -4,7 +4,7 @@ use Rattle.std.specs.List.{AllByRecursion}
 use Rattle.spin_model.specs.declared.schedule.Move.{Move}
 use Rattle.spin_model.specs.declared.schedule.Move.TheVariants.{Begin, Step, Weak, Read, Write, Leak, OwnerGet, OwnerSet}
 
--- how an object's calls are spelled, and which can be spelled: those whose numbers have at most 64 bits
+-- how the calls of an object are spelled (`words`), and which can be: those whose numbers are below 2^64 (`fits`)
 pub record Calls (C : Type 0) : Type 0 where
   pub words : C → List (List ℕ)
   pub fits : C → Bool
@@ -25,7 +25,7 @@ MoveFits calls (Write v) = v < 2 ^ 64
 MoveFits calls (OwnerSet v) = v < 2 ^ 64
 MoveFits calls _ = Unit {0}
 
--- the party's number, and then its move
+-- the party's number, and then the words of its move
 abbrev pub entry_words : {C : Type 0} → Calls C → ℕ × Move C ℕ → List (List ℕ)
 entry_words calls e = decimal e.0 ∷ move_words calls e.1
 

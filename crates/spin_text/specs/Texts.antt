@@ -20,12 +20,12 @@ use Rattle.spin_text.specs.Spelling.{Calls, entry_words, EntriesFit}
 use Rattle.spin_text.specs.Objects.{CallOf, calls_of, header_words, HeaderFits}
 use Rattle.spin_text.specs.Transcripts.{transcript_text}
 
--- what a text says: a header with its entries
+-- what a text says: its header and its entries
 pub record Script : Type 0 where
   pub header : Header
   pub entries : List (ℕ × Move (CallOf header) ℕ)
 
--- its words, line by line
+-- the words of a script, line by line
 abbrev pub script_words : Script → List (List (List ℕ))
 script_words s = header_words s.header ∷ map (entry_words (calls_of s.header)) s.entries
 
@@ -42,8 +42,7 @@ pub record Spells (bytes : List ℕ) (s : Script) : Type 0 where
 abbrev pub AreOfScript : List (List (List ℕ)) → Type 0
 AreOfScript lines = (s : Script) × ScriptFits s × (lines ≡ script_words s)
 
--- Line n, counted from 1, is the first bad one: the lines before it are those of a script, and together with line n
--- they are not.
+-- Line n, counted from 1, is the first bad one: the lines before it are a script, and with line n they are not.
 pub record IsFirstBad (lines : List (List (List ℕ))) (n : ℕ) : Type 0 where
   pub there : (1 ≤ n) × (n ≤ length lines)
   pub before : 1 < n → AreOfScript (take (n - 1) lines)
@@ -54,17 +53,17 @@ abbrev pub played : (h : Header) → List (ℕ × Move (CallOf h) ℕ) → List 
 played (Flag value parties) entries = transcript_text (flag_machine value) parties entries
 played (Ticket value first parties) entries = transcript_text (ticket_machine value first) parties entries
 played (Rw value cap parties) entries = transcript_text (rw_machine value cap) parties entries
--- the patience of a lock with this many spins is one more
+-- a fair lock with this many spins has a patience that is one more
 played (Fair value cap spins parties) entries = transcript_text (fair_machine value cap (spins + 1)) parties entries
 played (Barrier n parties) entries = transcript_text (barrier_machine n) parties entries
 played (Once parties) entries = transcript_text (once_machine None) parties entries
 
--- the source gave these bytes, and has no more
+-- these bytes were read, and the source has no more
 pub record ReadsAll (old new : Option (List ℕ)) (bytes : List ℕ) : Type 0 where
   pub gave : Consumes old new bytes
   pub whole : IsAtEnd new
 
--- what the source and the sink show, before and after
+-- what is known of the source and the sink, before and after a call
 pub record Streams : Type 0 where
   pub left : Option (List ℕ)
   pub left_after : Option (List ℕ)
@@ -73,18 +72,18 @@ pub record Streams : Type 0 where
   pub written_after : Option (List ℕ)
   pub sink_failed : Bool
 
--- the text is what is written for a script with these bytes
+-- the bytes are a text of some script, and `text` is what is written for this script
 abbrev pub PlaysBytes : List ℕ → List ℕ → Type 0
 PlaysBytes bytes text = (s : Script) × Spells bytes s × (text ≡ played s.header s.entries)
 
--- the whole source was read, and its text was written
+-- the whole source was read, and the text for it was written
 abbrev pub Plays : Streams → Type 0
 Plays t =
     (bytes : List ℕ) × (text : List ℕ) × ReadsAll t.left t.left_after bytes × PlaysBytes bytes text × Appends t.written t.written_after text
 
--- Why a run stopped. It wrote nothing, or after a failed write only a beginning of the text. A failed read is always
--- reported as such, whatever else is wrong.
--- A bad line is reported before anything is written. A failed write is reported only if all lines are good.
+-- Why a call stopped with an error. A failed read is always reported as `Read`, whatever else is wrong. A bad line is reported before
+-- anything is written. A failed write is reported only if all lines are good. Then some first bytes of the text were written; otherwise
+-- nothing was.
 abbrev pub Stops : Streams → Type 0 → RunError → Type 0
 Stops t Unwritten errors.Read = (t.source_failed ≡ true) × Unwritten
 Stops t Unwritten errors.Memory = (t.source_failed ≡ false) × Unwritten
@@ -93,7 +92,7 @@ Stops t Unwritten errors.Write =
     (t.source_failed ≡ false) × (t.sink_failed ≡ true)
     × ((bytes : List ℕ) × (text : List ℕ) × ReadsAll t.left t.left_after bytes × PlaysBytes bytes text × AppendsBeginning t.written t.written_after text)
 
--- the same for the reading part of a call
+-- Why the reading part of a call stopped, or the playing part.
 
 abbrev pub StopsReading : Bool → Bool → RunError → Type 0
 StopsReading failed failed_after errors.Read = failed_after ≡ true
@@ -105,14 +104,14 @@ StopsPlaying bytes (errors.BadLine n) = IsFirstBad (words_by_line bytes) n
 StopsPlaying bytes errors.Memory = Unit {0}
 StopsPlaying bytes _ = ⊥
 
--- a call that writes stops before its first write, or at a failed write
+-- the error of a call that writes: it stopped before its first write, or at a failed write
 abbrev pub StopsWriting : (RunError → Type 0) → Type 0 → Type 0 → RunError → Type 0
 StopsWriting Before Unwritten AtWrite errors.Read = Before errors.Read × Unwritten
 StopsWriting Before Unwritten AtWrite errors.Memory = Before errors.Memory × Unwritten
 StopsWriting Before Unwritten AtWrite (errors.BadLine n) = Before (errors.BadLine n) × Unwritten
 StopsWriting Before Unwritten AtWrite errors.Write = AtWrite
 
--- the text is what is written for the entries that the lines spell
+-- the lines spell entries, and `text` is the transcript of these entries
 abbrev pub PlaysLines : {W C L : Type 0} → Calls C → Machine W ℕ C L (Answer ℕ) → ℕ → List (List (List ℕ)) → List ℕ → Type 0
 PlaysLines {C = C} calls m parties lines text =
     (es : List (ℕ × Move C ℕ)) × EntriesFit calls es × (lines ≡ map (entry_words calls) es) × (text ≡ transcript_text m parties es)

@@ -17,7 +17,7 @@ abbrev pub truth_text : Bool → List ℕ
 truth_text true = codes "true"
 truth_text false = codes "false"
 
--- the number, if there is one
+-- the digits of the number, if there is one
 abbrev pub number_text : Option ℕ → List ℕ
 number_text None = []
 number_text (Some n) = decimal n
@@ -36,8 +36,8 @@ answer_text answer.Failed = codes "err"
 answer_text answer.Leader = codes "leader"
 answer_text answer.Follower = codes "follower"
 
--- The line of the transcript at which the call began. The event at place 0 is on line 1. A call of an earlier run has
--- no line.
+-- ` from LINE`, with the line of the transcript at which the call began: the event at place 0 is on line 1. A call that began in an earlier
+-- run has no line.
 abbrev pub from_text : Option ℕ → List ℕ
 from_text None = []
 from_text (Some began) = codes " from " ++ decimal (began + 1)
@@ -51,18 +51,18 @@ outcome_text (outcome.Value v) = codes "value " ++ value_text v
 outcome_text outcome.Written = codes "written"
 outcome_text outcome.Leaked = codes "leaked"
 
--- the numbers, with a space between each two
+-- the numbers, separated by spaces
 abbrev pub numbers_text : List ℕ → List ℕ
 numbers_text [] = []
 numbers_text (n ∷ []) = decimal n
 numbers_text (n ∷ m ∷ more) = decimal n ++ codes " " ++ numbers_text (m ∷ more)
 
--- the line's number, the party, the outcome of its move, and further words
+-- the line of an event: its number, the party, the outcome, and the words after the event
 abbrev pub event_line : ℕ → ℕ → Outcome (Answer ℕ) ℕ → List ℕ → List ℕ
 event_line line party what numbers =
     decimal line ++ codes " " ++ decimal party ++ codes " " ++ outcome_text what ++ codes ": " ++ numbers_text numbers ++ codes "\n"
 
--- the lines of these events; the first one has this number
+-- the lines of these events; the first one has the number `line`
 abbrev pub event_lines : {W : Type 0} → (W → List ℕ) → ℕ → List (Event W ℕ (Answer ℕ)) → List ℕ
 event_lines numbers line [] = []
 event_lines numbers line (e ∷ es) = event_line line e.party e.outcome (numbers e.words) ++ event_lines numbers (line + 1) es
@@ -74,12 +74,12 @@ end_line numbers value = codes "end: " ++ numbers_text numbers ++ codes " value 
 abbrev pub schedule_lines : {W C L : Type 0} → Machine W ℕ C L (Answer ℕ) → State W ℕ C L → List (ℕ × Move C ℕ) → List ℕ
 schedule_lines m first schedule = event_lines m.numbers 1 (with_begins [] (events_of m first schedule))
 
--- those lines, and then the words and the value at the end
+-- the lines of the moves, and then the last line with the words and the value
 abbrev pub transcript_from : {W C L : Type 0} → Machine W ℕ C L (Answer ℕ) → State W ℕ C L → List (ℕ × Move C ℕ) → List ℕ
 transcript_from m first schedule =
     let last = after m first schedule in
     schedule_lines m first schedule ++ end_line (m.numbers last.words) last.value
 
--- the same, in a new world with this many parties
+-- the same for a new world with this many parties
 abbrev pub transcript_text : {W C L : Type 0} → Machine W ℕ C L (Answer ℕ) → ℕ → List (ℕ × Move C ℕ) → List ℕ
 transcript_text m parties schedule = transcript_from m (at_first m parties) schedule

@@ -22,11 +22,12 @@ pub trait Source {
     /// Whether a read has failed.
     ghost failed: { Self → Bool };
 
-    /// Reads bytes into the front of `to`, and returns their number. It is 0 only at the end, or if `to` is empty.
+    /// Reads bytes into the front of `to`, and returns how many. The number is 0 only at the end, or if `to`
+    /// is empty.
     ///
     /// # Contract
-    /// On `Ok` the bytes read are the next of the known ones. A failed read returns no byte, and the source has failed
-    /// from then on.
+    /// On `Ok` the bytes read are the first of the remaining ones, if these are known. A failed read returns
+    /// no byte; from then on the source has failed.
     fn read(&mut self, to: &mut [u8]) -> Result<usize, Failed>
         ensures bound { ReadsAtMost result to.new }
         ensures bytes { ReadConsumes (remaining self.old) (remaining self.new) result to.new }
@@ -52,12 +53,12 @@ pub trait Sink {
     /// Whether a write has failed.
     ghost failed: { Self → Bool };
 
-    /// Writes bytes from the front of `from`, and returns their number. It writes at least one, unless `from` is
+    /// Writes bytes from the front of `from`, and returns how many. It writes at least one, unless `from` is
     /// empty.
     ///
     /// # Contract
-    /// On `Ok` the known bytes grow by those written. A failed write writes no byte, and the sink has failed from
-    /// then on.
+    /// On `Ok` the bytes written follow those written before, if these are known. A failed write writes no
+    /// byte; from then on the sink has failed.
     fn write(&mut self, from: &[u8]) -> Result<usize, Failed>
         ensures bound { WritesAtMost result from.now }
         ensures some { IfOk result (λ n. 0 < length from.now → 0 < n) }
@@ -75,7 +76,8 @@ pub trait Sink {
 
 /// A [`Source`] or [`Sink`] over a reader or writer of `std`.
 ///
-/// Each error of the reader or writer is a failure. So is a write that accepts no byte. It never tries again.
+/// An error of the reader or writer is a failure, and so is a write that accepts no byte. The stream never
+/// retries.
 #[derive(Drop)]
 pub struct OfStd<X> {
     inner: X,
@@ -86,7 +88,7 @@ impl<X> OfStd<X> {
     ghost use Rattle.spin_text.specs.OfStd.{of_std_inner, of_std_failed};
     ghost use Rattle.std.specs.Prelude.{false, IsErr};
 
-    /// Creates a stream over `x`, which has not failed yet.
+    /// Creates a stream over `x`.
     ///
     /// # Contract
     /// The stream is over `x` (`of_std_inner`), and has not failed (`of_std_failed`).
@@ -145,11 +147,11 @@ impl<X: Write> Sink for OfStd<X> {
     }
 }
 
-/// Writes a whole text, in as many writes as that needs.
+/// Writes a whole text, by as many writes as it takes.
 ///
 /// # Contract
-/// On `Ok` the known bytes grow by the text. After an `Err` the sink has failed, and the known bytes grow by a
-/// beginning of the text (`AppendsBeginning`).
+/// On `Ok` the whole text follows the bytes written before, if these are known. After an `Err` the sink has
+/// failed, and only a beginning of the text follows them (`AppendsBeginning`).
 ///
 /// # Examples
 /// ```

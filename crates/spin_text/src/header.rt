@@ -26,8 +26,8 @@ pub enum Header {
         cap: usize,
         parties: usize,
     },
-    /// The line `fair VALUE CAP SPINS PARTIES`. At most `cap` parties starve at a time. A `lock` registers once more
-    /// than `spins` + 1 of its looks have found the flag set.
+    /// The line `fair VALUE CAP SPINS PARTIES`. At most `cap` parties starve at a time. A `lock` call
+    /// registers as a starver when more than `spins` + 1 of its looks have found the flag set.
     Fair {
         value: u64,
         cap: usize,
@@ -54,7 +54,7 @@ const MAX_STARVERS: u64 = fair::MAX_STARVERS as u64;
 /// The largest number of spins of a `Fair`.
 const MAX_SPINS: u64 = 1024;
 
-/// Returns a number from `least` to `most`, and the words behind it.
+/// Returns the first number of a line, if it is at least `least` and at most `most`, and the words after it.
 #[tactic(auto, unfolding(crate::specs::Reading::number_within))]
 fn within(line: Rest, least: u64, most: u64) -> Option<(usize, Rest)>
     ensures { option_map (λ x. (x.0, words_left x.1)) result ≡ number_within least most (words_left line.entry) }
@@ -67,7 +67,7 @@ fn within(line: Rest, least: u64, most: u64) -> Option<(usize, Rest)>
     }
 }
 
-/// Returns the number of parties, which is the last word.
+/// Returns the number of parties, if it is the only word left.
 #[tactic(auto, unfolding(crate::specs::Reading::last_parties))]
 fn parties(line: Rest) -> Option<usize>
     ensures { result ≡ last_parties (words_left line.entry) }
@@ -149,7 +149,7 @@ fn once(line: Rest) -> Option<Header>
     Some(Header::Once { parties })
 }
 
-/// Returns the header that a line spells, or `None` if it spells none.
+/// Returns the header that a line spells, or `None` if the line spells no header.
 ///
 /// # Contract
 /// The header is what the words of the line spell, with each number within its limits (`read_header`).

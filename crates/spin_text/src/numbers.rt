@@ -9,7 +9,7 @@ use crate::words::only_number;
 /// A number is decimal digits without a sign and without leading zeros, at most `u64::MAX`. `0` is allowed.
 ///
 /// # Contract
-/// The digits have this value (`IsNumber`). `None` means that the word is no number below 2^64.
+/// The digits have this value (`IsNumber`). `None` means that the word spells no number below 2^64.
 ///
 /// # Examples
 /// ```

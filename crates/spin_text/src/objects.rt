@@ -18,21 +18,21 @@ pub trait Spelled: Object<Value = u64, Answer = Answer<u64>> {
     /// The call that the words of a line spell.
     ghost read: { List (List ℕ) → Option Self.Call };
 
-    /// Returns the call that the rest of a line spells, or `None` if it spells none.
+    /// Returns the call that the rest of a line spells, or `None` if it spells no call.
     ///
     /// # Contract
-    /// The call is `read` of the words left.
+    /// The call is the one that `read` finds in the words left.
     fn call(line: Rest) -> Option<Self::Call>
         ensures { result ≡ read (words_left line.entry) };
 
     /// Returns the object's words as one number or two.
     ///
     /// # Contract
-    /// They are the `numbers` of the object's machine.
+    /// The result has the `numbers` of the object's machine.
     fn numbers(words: Self::Words) -> (u64, Option<u64>)
         ensures { (object : Self) → (Self.machine object).numbers words ≡ numbers_of result };
 
-    /// States that the calls are read as they are spelled.
+    /// States that reading a call inverts its spelling.
     fn reads_calls()
         ensures { ReadsCalls calls read };
 }
@@ -185,7 +185,7 @@ impl Spelled for BarrierObject {
     }
 }
 
-/// Returns the call whose closure may fail, from the words behind its name.
+/// Returns the call `try_call_once` that the words after its name spell.
 #[tactic(auto, unfolding(crate::specs::Reading::read_try_call_once))]
 fn try_call_once(line: Rest) -> Option<OnceCall<u64>>
     ensures { result ≡ read_try_call_once (words_left line.entry) }

@@ -8,7 +8,7 @@ use std::alloc::{AllocError, Global};
 /// The longest line: six numbers of up to 20 digits, and the words between them.
 pub const LONGEST_LINE: usize = 160;
 
-/// A piece that has more bytes than this is written.
+/// A piece with more bytes than this is written to the sink.
 const FULL: usize = 65_536;
 
 /// The size of the buffer for a piece.
@@ -21,8 +21,8 @@ pub fn buffer(alloc: Global, size: usize) -> Result<Vec<u8>, AllocError>
     vec![in alloc; 0u8; size]
 }
 
-/// Appends a line to a piece of `used` bytes, and writes the piece if it is full. Returns how many bytes the piece then
-/// has.
+/// Appends a line to a piece of `used` bytes, and writes the piece to the sink if it is full. Returns the
+/// number of bytes in the piece afterwards.
 pub fn write_line<K: Sink>(
     line: &[u8],
     piece: &mut [u8],

@@ -1,5 +1,5 @@
-//! What programs over streams share: the words that the process was given, and the line that tells of a failure.
-//! Begin with [`arguments`] and [`tell`].
+//! What programs over streams share: their arguments, and the line that reports a failure. Begin with
+//! [`arguments`] and [`tell`].
 ghost use Rattle.std.specs.Prelude.{◌≡◌, ◌≤◌, ◌+◌, ◌++◌, length, drop, map, false, IfOk};
 ghost use Rattle.spin_text.specs.Failures.{Told, failure_line};
 ghost use Rattle.spin_text.specs.Lines.{texts_of};
@@ -13,7 +13,7 @@ use std::{env, io};
 
 /// Returns the arguments of the process after the program's name, or `None` if one of them is not text.
 ///
-/// It reserves the room first. If an allocation failed, `collect` would try a smaller one and report nothing.
+/// It reserves the room first, since `collect` would not report a failed allocation, but try a smaller one.
 pub fn arguments<R: Env + Alloc>(rt: &R) -> Result<Option<Vec<String<R::A>, R::A>>, AllocError> {
     match env::args(rt) {
         Ok(mut all) => {
@@ -43,7 +43,8 @@ pub fn texts<'a, A: Allocator>(
     Ok(texts)
 }
 
-/// Writes a line up to the end of the buffer: words, and the number behind them if there is one.
+/// Writes a line so that it ends with the buffer. The line has the words, and the number after them if there
+/// is one.
 fn put_line(words: &[u8], number: Option<u64>, buffer: &mut [u8]) -> usize
     requires short { length words.now + 21 ≤ LONGEST_LINE }
     requires room { length buffer.old ≡ LONGEST_LINE }
@@ -58,13 +59,14 @@ fn put_line(words: &[u8], number: Option<u64>, buffer: &mut [u8]) -> usize
     put(words, buffer, end)
 }
 
-/// Writes the line that tells of a failure: words, and the number behind them if there is one.
+/// Writes the line that reports a failure: the words, and the number after them if there is one.
 ///
-/// If this write fails, that does not count as another failure: it changes no status.
+/// If this write fails too, the program's status is the same.
 ///
 /// # Contract
-/// The caller gives words of at most 139 bytes, and a sink that has not failed. If no write fails, the
-/// known bytes grow by the line. Else they grow by a beginning of the line (`Told`).
+/// The caller gives words of at most 139 bytes, and a sink that has not failed. If no write fails, the line
+/// follows the bytes written before, if these are known. Otherwise only a beginning of the line does
+/// (`Told`).
 ///
 /// # Examples
 /// ```

@@ -1,10 +1,11 @@
-//! Text that is made from its end: each piece goes in front of what the buffer has already. Begin with [`put`].
+//! Text that is written from its end to its start: each piece goes in front of the last one. Begin with
+//! [`put`].
 ghost use Rattle.std.specs.Prelude.{◌≡◌, ◌≤◌, ◌+◌, length, decimal};
 ghost use Rattle.spin_text.specs.Pieces.{PutBefore};
 
 use itoa::write_digits;
 
-/// Writes bytes in front of those from `end` on, and returns the place of the first.
+/// Writes `bytes` in front of place `end` of the buffer, and returns the place where they begin.
 #[inline]
 pub fn put(bytes: &[u8], buffer: &mut [u8], end: usize) -> usize
     requires room { length bytes.now ≤ end }
@@ -16,7 +17,8 @@ pub fn put(bytes: &[u8], buffer: &mut [u8], end: usize) -> usize
     start
 }
 
-/// Writes the digits of a number in front of the bytes from `end` on, and returns the place of the first.
+/// Writes the digits of a number in front of place `end` of the buffer, and returns the place where they
+/// begin.
 #[inline]
 pub fn put_number(number: u64, buffer: &mut [u8], end: usize) -> usize
     requires room { 20 ≤ end }

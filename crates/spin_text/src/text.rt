@@ -81,7 +81,7 @@ pub fn read_all<I: Source>(alloc: Global, input: &mut I) -> Result<Vec<u8>, RunE
     read_by(alloc, input, &mut chunk)
 }
 
-/// Plays the lines behind the header, and writes their transcript.
+/// Plays the lines after the header, and writes their transcript.
 fn play_lines<O: Spelled, K: Sink>(
     alloc: Global,
     object: O,
@@ -165,23 +165,24 @@ fn play<K: Sink>(alloc: Global, bytes: &[u8], output: &mut K) -> Result<(), RunE
 /// - `once PARTIES`, which has no value at first
 /// - `barrier N PARTIES`
 ///
-/// Each further line is `PARTY MOVE`: `begin CALL`, `step`, `weak`, `read`, `write VALUE`, `leak`, `owner get` or
-/// `owner set VALUE`. A call without a closure is spelled as its variant in snake case. Those with one are
-/// `call_once VALUE`, `init_from_ref VALUE`, `try_call_once ok VALUE` and `try_call_once err`.
+/// Each further line is `PARTY MOVE`. The moves are `begin CALL`, `step`, `weak`, `read`, `write VALUE`,
+/// `leak`, `owner get` and `owner set VALUE`. A call without a closure is spelled as its variant in snake
+/// case. The calls with a closure are `call_once VALUE`, `init_from_ref VALUE`, `try_call_once ok VALUE` and
+/// `try_call_once err`.
 ///
-/// A line ends at a line feed, which may be missing after the last line. One space separates two words. A number is
-/// decimal digits without a sign and without leading zeros, at most `u64::MAX`. Parties are numbered from 0. A line may
-/// name a party that does not exist: its move is skipped.
+/// A line ends at a line feed, which may be missing after the last line. One space separates two words. A
+/// number is decimal digits without a sign and without leading zeros, at most `u64::MAX`. Parties are
+/// numbered from 0. If a line names a party that does not exist, its move is skipped.
 ///
-/// It writes a line `LINE PARTY OUTCOME: WORDS` for each move, and finally `end: WORDS value VALUE`. An answer ends
-/// with ` from LINE`, the line at which its call began.
+/// The call writes a line `LINE PARTY OUTCOME: WORDS` for each move, and finally `end: WORDS value VALUE`. An
+/// answer ends with ` from LINE`, the line at which its call began.
 ///
 /// # Contract
-/// The caller gives streams that have not failed. On `Ok` neither has failed, the source is at its end, and the known
-/// output grows by the transcript of what was read (`Plays`).
+/// The caller gives streams that have not failed. On `Ok` neither stream has failed, and the source is at its
+/// end. The transcript of what was read follows the bytes written before, if these are known (`Plays`).
 ///
-/// The call reads and checks all lines before the world runs, and allocates all memory before the first write. So an
-/// `Err` other than `Write` leaves the output unchanged, and `Write` leaves a beginning of the text (`Stops`).
+/// The call reads and checks all lines before the world runs, and allocates all memory before the first
+/// write. So only the error `Write` leaves something written: a beginning of the text (`Stops`).
 ///
 /// # Examples
 /// ```

@@ -1,4 +1,5 @@
-//! The text of a transcript. Begin with [`write_transcript`]. It makes each line from its end, in a buffer.
+//! The text of a transcript. Begin with [`write_transcript`]. A buffer gets each line from its end to its
+//! start.
 ghost use Rattle.std.specs.Prelude.{◌≡◌, ◌≤◌, ◌<◌, ◌++◌, ◌+◌, ◌^◌, OnOk, OnErr, IfOk, IfErr, ℕ, None, true, take, drop, length};
 ghost use Rattle.std.specs.Io.KnownBytes.{Appends};
 ghost use Rattle.spin_model.specs.Schedules.{after, begin_of};
@@ -33,7 +34,7 @@ fn put_value(value: Option<u64>, buffer: &mut [u8], end: usize) -> usize
     }
 }
 
-/// Returns the words at the beginning of an answer's text, and the number behind them.
+/// Returns the words that begin an answer's text, and the number after them if there is one.
 fn parts_of(answer: Answer<u64>) -> (&'static [u8], Option<u64>)
     ensures parts { result.0.now ++ number_text result.1 ≡ answer_text answer }
     ensures short { length result.0.now ≤ 8 }
@@ -71,7 +72,8 @@ fn put_answer(answer: Answer<u64>, buffer: &mut [u8], end: usize) -> usize
     }
 }
 
-/// Writes at which line of the transcript a call began. Places are counted from 0, and lines from 1.
+/// Writes the line of the transcript at which a call began. It is one more than the place, which is counted
+/// from 0.
 fn put_from(began: Option<usize>, buffer: &mut [u8], end: usize) -> usize
     requires line { HasLine began }
     requires room { 26 ≤ end }
@@ -129,7 +131,7 @@ fn put_numbers(numbers: (u64, Option<u64>), buffer: &mut [u8], end: usize) -> us
     }
 }
 
-/// Writes the line of an event, up to the end of the buffer.
+/// Writes the line of an event so that it ends with the buffer.
 fn put_event(
     line: usize,
     party: usize,
@@ -152,7 +154,7 @@ fn put_event(
     put_number(line as u64, buffer, end)
 }
 
-/// Writes the last line, up to the end of the buffer.
+/// Writes the last line so that it ends with the buffer.
 fn put_end(numbers: (u64, Option<u64>), value: Option<u64>, buffer: &mut [u8]) -> usize
     requires room { length buffer.old ≡ LONGEST_LINE }
     ensures line { drop result buffer.new ≡ end_line (numbers_of numbers) value }
@@ -165,7 +167,8 @@ fn put_end(numbers: (u64, Option<u64>), value: Option<u64>, buffer: &mut [u8]) -
     put(b"end: ", buffer, end)
 }
 
-/// Plays the entries in lines, and writes a line for each event. Returns how many bytes the piece then has.
+/// Plays the entries that the lines spell, and writes a line for each event. Returns the number of bytes in
+/// the piece afterwards.
 fn write_events<O: Spelled, K: Sink>(
     world: &mut World<O>,
     begins: &mut [Option<usize>],
@@ -207,7 +210,7 @@ fn write_events<O: Spelled, K: Sink>(
     Ok(used)
 }
 
-/// Writes the last line behind a piece of `used` bytes.
+/// Appends the last line to a piece of `used` bytes, and writes the piece.
 fn write_end<K: Sink>(
     numbers: (u64, Option<u64>),
     value: Option<u64>,
@@ -230,7 +233,7 @@ fn write_end<K: Sink>(
     write_whole(output, &piece[..used])
 }
 
-/// Plays the entries in lines, and writes the transcript.
+/// Plays the entries that the lines spell, and writes the transcript.
 fn play<O: Spelled, K: Sink>(
     world: &mut World<O>,
     begins: &mut [Option<usize>],
@@ -260,10 +263,10 @@ fn play<O: Spelled, K: Sink>(
     )
 }
 
-/// Plays the entries in lines in a world of their own, and writes the text of the transcript.
+/// Plays the entries that the lines spell, in a world of their own, and writes the transcript as text.
 ///
-/// It reads each entry, plays it and writes its line, without a list of entries or events. All memory is there before
-/// that.
+/// It reads an entry, plays it and writes its line before the next one, so it needs no list of entries or
+/// events. It allocates nothing after the first of them.
 ///
 /// # Contract
 /// The caller has checked that each line spells an entry (`AllRead`).

@@ -10,13 +10,14 @@ ghost use Rattle.spin_text.specs.Reading.{words_left, lines_left, is_end, read_n
 
 use memchr::memchr;
 
-/// The rest of a line, or of all lines. `None` means that nothing is left, not even an empty word or line.
+/// The rest of a line, or of all lines. `None` means that nothing is left. `Some` of no bytes is one empty
+/// word, or line.
 pub type Rest<'a> = Option<&'a [u8]>;
 
-/// From how many bytes on [`memchr`] is quicker than a loop, since it compares several at once.
+/// For this many bytes or more [`memchr`] is faster than a loop, since it compares several bytes at once.
 const WIDE: usize = 32;
 
-/// Returns the place of the first such byte. Most lines are short, but the rest of all lines is long.
+/// Returns the place of the first separator. It searches few bytes, such as those of a line, by a loop.
 #[inline(always)]
 fn first_place(separator: u8, bytes: &[u8]) -> Option<usize>
     ensures { IsFirstByte (is_byte separator) bytes.now result }
@@ -32,7 +33,7 @@ fn first_place(separator: u8, bytes: &[u8]) -> Option<usize>
     None
 }
 
-/// Returns the bytes before the first separator, and those behind it.
+/// Returns the bytes before the first separator, and the bytes after it.
 #[inline(always)]
 fn cut(separator: u8, bytes: &[u8]) -> (&[u8], Rest<'_>)
     ensures parts { slice_split (λ b. b == separator) bytes.now ≡ result.0.now ∷ parts_left separator result.1 }
@@ -44,11 +45,11 @@ fn cut(separator: u8, bytes: &[u8]) -> (&[u8], Rest<'_>)
     }
 }
 
-/// Returns the first line of the bytes, and the lines behind it. The line has no line feed.
+/// Returns the first line of the bytes without its line feed, and the lines after it.
 ///
 /// # Contract
-/// The words of the line, and the lines left, are those of the bytes line by line (`words_by_line`). A rest is shorter
-/// than the bytes.
+/// The first line and the lines left are together the lines of the bytes (`words_by_line`). The rest is
+/// shorter than the bytes.
 pub fn first_line(bytes: &[u8]) -> (&[u8], Rest<'_>)
     ensures lines { words_by_line bytes.now ≡ words_of result.0.now ∷ lines_left result.1 }
     ensures shorter { IfSome result.1 (λ rest. length rest.now < length bytes.now) }
@@ -60,7 +61,7 @@ pub fn first_line(bytes: &[u8]) -> (&[u8], Rest<'_>)
     }
 }
 
-/// Returns the first word of a line, and the words behind it.
+/// Returns the first word of a line, and the words after it.
 pub fn word(line: Rest) -> Option<(&[u8], Rest)>
     ensures { option_map (λ x. (x.0.now, words_left x.1)) result ≡ word_at (words_left line.entry) }
 {
@@ -72,7 +73,8 @@ pub fn word(line: Rest) -> Option<(&[u8], Rest)>
 pub fn is_word(word: &[u8], name: &[u8]) -> bool
     ensures { result ≡ bytes_eq word.now name.now }
 {
-    // If the name is known, `starts_with` compares in place. `==` calls a function for more than four bytes.
+    // If the name is a constant, `starts_with` compares in place. `==` calls a function for more than four
+    // bytes.
     word.len() == name.len() && name.starts_with(word)
 }
 
@@ -86,7 +88,7 @@ pub fn is_over(line: Rest) -> bool
     }
 }
 
-/// Returns the number with one more digit, or `None` if it exceeds `u64::MAX`.
+/// Returns `number` with one more digit, or `None` if that exceeds `u64::MAX`.
 fn with_digit(number: u64, digit: u8) -> Option<u64>
     requires digit { digit_value digit < 10 }
     ensures fits { IfSome result (λ n. n < 2 ^ 64) }
@@ -96,8 +98,8 @@ fn with_digit(number: u64, digit: u8) -> Option<u64>
     number.checked_mul(10)?.checked_add((digit - b'0') as u64)
 }
 
-/// Returns the number that the digits before the first space spell, these digits, and the words behind them. Returns
-/// `None` if the line does not begin with a number.
+/// Returns the number that a line begins with, its digits, and the words after it. Returns `None` if the line
+/// does not begin with a number.
 fn digits(line: &[u8]) -> Option<(u64, &[u8], Rest<'_>)>
     ensures fits { IfSome result (λ x. x.0 < 2 ^ 64) }
     ensures digits { IfSome result (λ x. AllDigits 10 x.1.now) }
@@ -119,7 +121,7 @@ fn digits(line: &[u8]) -> Option<(u64, &[u8], Rest<'_>)>
     Some((number, line, None))
 }
 
-/// Returns the number that the first word spells, and the words behind it.
+/// Returns the number that the first word spells, and the words after it.
 pub fn number_then(line: Rest) -> Option<(u64, Rest)>
     ensures { option_map (λ x. (x.0, words_left x.1)) result ≡ number_at (words_left line.entry) }
 {
@@ -131,7 +133,7 @@ pub fn number_then(line: Rest) -> Option<(u64, Rest)>
     Some((number, rest))
 }
 
-/// Returns the only word of a line, or `None` if the line has another.
+/// Returns the only word of a line, or `None` if the line has more words or none.
 #[tactic(auto, unfolding(crate::specs::Reading::last_word))]
 fn only_word(line: Rest) -> Option<&[u8]>
     ensures { option_map (λ x. x.now) result ≡ last_word (words_left line.entry) }

@@ -1,4 +1,4 @@
--- One line more: what the lines set, and which lines are left.
+-- The lines of a text while they are read one by one: what those so far set, and which are left.
 use Rattle.std.proofs.Common.{◌≡◌, ◌∙◌, ℕ, ◌+◌, ap, sym, subst, refl, arith, List, [], ◌∷◌, ◌++◌, Option, Some, None, unwrap_or, length, Bor, false}
 use Rattle.std.specs.Iterator.{AlwaysYields}
 use Rattle.std.specs.Str.Iter.{lines_steps, lines_rest}
@@ -12,7 +12,7 @@ use Rattle.spin_uses.specs.declared.settings.Setting.{Setting}
 use Rattle.spin_uses.specs.declared.settings.Settings.{Settings}
 use Rattle.spin_uses.specs.Settings.{Sets, SetsNothing, SetInOrder, last_set, AreAfter, AreSettingsOf, IsFirstBad, port_of, workers_of, verbose_of}
 
--- the lines that the iterator has left
+-- the lines that the iterator still has
 abbrev LeftAt : Lines → List (List ℕ) → Type 0
 LeftAt s ls = AlwaysYields lines_steps (λ x. x.now) s ls
 
@@ -38,7 +38,7 @@ last_of_more : {V : Type 0} (value_of : Setting → Option V) (d : V) (ss : List
 last_of_more value_of d [] s = refl
 last_of_more value_of d (u ∷ ss) s = last_of_more value_of (unwrap_or (value_of u) d) ss s
 
--- the settings after one more line
+-- the settings `new` after one more line, which sets s
 abbrev IsWith : Setting → Settings → Settings → Type 0
 IsWith s old new = (new.port ≡ unwrap_or (port_of s) old.port) × (new.workers ≡ unwrap_or (workers_of s) old.workers) × (new.verbose ≡ unwrap_or (verbose_of s) old.verbose)
 
@@ -55,7 +55,7 @@ with_line ls line s old new are sets is =
       ),
     )
 
--- some lines were read, and the iterator has the others left
+-- The lines read so far made these settings, and the iterator has the others.
 pub record Midway (ls : List (List ℕ)) (it : Enumerate Lines) (settings : Settings) : Type 0 where
   pub read : List (List ℕ)
   pub left : List (List ℕ)

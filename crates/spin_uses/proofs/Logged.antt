@@ -17,7 +17,7 @@ module _ {K V : Type 0} where
         | false ↦ λ f. longer test es fs v f
       ] e
 
-  -- an answer that was seen stays the answer
+  -- an answer in a log stays the answer when the log grows
   pub stays : (test : K → Bool) (seen log : List (K × V)) (v : V) → IsPrefix seen log → lookup test seen ≡ Some v → lookup test log ≡ Some v
   stays test seen log v p e = subst (λ (l : List (K × V)). lookup test l ≡ Some v) p.1 (longer test seen p.0 v e)
 
@@ -38,11 +38,11 @@ module _ {K V : Type 0} where
     for_equal k q y [] = refl
     for_equal k q y (p ∷ es) = λ i. cond (laws.congr k q p.0 y i) (Some p.1) (for_equal k q y es i)
 
-    -- the first answer for a key is what a look-up finds
+    -- an entry added for a key without an answer is what a look-up of this key finds
     pub found : (es : List (K × V)) (k : K) (v : V) → lookup (eq k) es ≡ None → lookup (eq k) (es ++ (k, v) ∷ []) ≡ Some v
     found es k v e = first_for (eq k) es k v e ∙ ap (λ b. cond b (Some v) None) (laws.refl k)
 
-    -- a map with one more key, and the log with the entry for it
+    -- if a map agrees with a log, so do the map with one more key and the log with its entry
     pub tells_more : (m n : K → Option V) (es : List (K × V)) (k : K) (v : V) → ((q : K) → m q ≡ lookup (eq q) es) → lookup (eq k) es ≡ None
         → ((q : K) → n q ≡ cond (eq k q) (Some v) (m q)) → (q : K) → n q ≡ lookup (eq q) (es ++ (k, v) ∷ [])
     tells_more m n es k v told fresh added q = by_answer (eq k q)

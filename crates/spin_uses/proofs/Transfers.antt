@@ -1,4 +1,4 @@
--- What a transfer keeps, and how a journal grows.
+-- What a transfer does not change, and how a journal grows.
 use Rattle.std.proofs.Common.{◌≡◌, ◌<◌, ◌≤◌, ◌+◌, ◌-◌, ℕ, List, [], ◌∷◌, ◌++◌, Some, None, true, false, cond, if◌then◌else◌, ◌==◌, eq-eqb, length, sum, slice_index, ap, sym, subst, refl, arith}
 use Rattle.std.proofs.lemmas.Grind.{common_steps}
 use Rattle.std.proofs.lemmas.List.{length-set, get_or-set_same, get_or-set_other}
@@ -9,7 +9,7 @@ use Rattle.std.proofs.lemmas.List.Sums.{sum_by-cons, sum_by-set, get_or-le-sum_b
 use Rattle.spin_uses.specs.declared.ledger.Transfer.{Transfer}
 use Rattle.spin_uses.specs.Ledger.{after, can_make, takes, gives, paid_in, paid_out, replayed}
 
--- what it means that a transfer can be made
+-- if a transfer can be made, its accounts exist, and the paying one has the amount
 pub possible : (t : Transfer) (xs : List ℕ) → can_make t xs ≡ true → (t.from < length xs) × (t.to < length xs) × (t.amount ≤ slice_index xs t.from)
 possible t xs h = (grind (arith, common_steps), grind (arith, common_steps), grind (arith, common_steps))
 
@@ -39,7 +39,7 @@ keeps_total t xs h =
     let s = sum_by-set (λ x. x) ys t.to (slice_index ys t.to + t.amount) 0 there in
     omega (arith, takes_sum t xs h)
 
--- a journal with one more transfer
+-- the replay of a journal with one more transfer
 pub replays_more : (t : Transfer) (ts : List Transfer) (xs ys : List ℕ) → replayed xs ts ≡ Some ys → can_make t ys ≡ true → replayed xs (ts ++ t ∷ []) ≡ Some (after t ys)
 replays_more t [] xs ys e h = grind (arith, common_steps)
 replays_more t (u ∷ ts) xs ys e h =
@@ -48,7 +48,7 @@ replays_more t (u ∷ ts) xs ys e h =
       | false ↦ λ f. cc
     ] e
 
--- An account's balance
+-- The balance of one account.
 
 takes_from : (account amount : ℕ) (xs : List ℕ) (i : ℕ) → account < length xs → amount ≤ slice_index xs account → slice_index (takes account amount xs) i + (if account == i then amount else 0) ≡ slice_index xs i
 takes_from account amount xs i there enough = dite (ℕ_discrete account i)

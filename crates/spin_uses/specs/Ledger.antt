@@ -21,23 +21,23 @@ takes account amount xs = slice_set xs account (slice_index xs account - amount)
 abbrev pub gives : ℕ → ℕ → List ℕ → List ℕ
 gives account amount xs = slice_set xs account (slice_index xs account + amount)
 
--- the balances after a transfer: first one account loses the amount, then the other gains it
+-- the balances after a transfer: the paying account loses the amount, then the paid one gains it
 abbrev pub after : Transfer → List ℕ → List ℕ
 after t xs = gives t.to t.amount (takes t.from t.amount xs)
 
--- the balances after all transfers of a journal; None if one could not be made in its turn
+-- the balances after all transfers of a journal, or none if some transfer could not be made in its turn
 abbrev pub replayed : List ℕ → List Transfer → Option (List ℕ)
 replayed xs [] = Some xs
 replayed xs (t ∷ ts) = if can_make t xs then replayed (after t xs) ts else None
 
--- how much the transfers of a journal take from an account; `paid_in`: how much they bring to it
+-- how much a journal's transfers take from an account; in `paid_in`, how much they bring to it
 abbrev pub paid_out : ℕ → List Transfer → ℕ
 paid_out account ts = sum_by (λ t. if t.from == account then t.amount else 0) ts
 
 abbrev pub paid_in : ℕ → List Transfer → ℕ
 paid_in account ts = sum_by (λ t. if t.to == account then t.amount else 0) ts
 
--- why a transfer is refused
+-- why a transfer fails
 abbrev pub RefusedFor : Refused → Transfer → List ℕ → Type 0
 RefusedFor NoSuchAccount t xs = has_accounts t xs ≡ false
 RefusedFor TooLittle t xs = (has_accounts t xs ≡ true) × (has_enough t xs ≡ false)

@@ -7,7 +7,7 @@ use Rattle.spin_uses.specs.declared.settings.Setting.TheVariants.{Port, Workers,
 use Rattle.spin_uses.specs.declared.settings.Settings.{Settings}
 use Rattle.spin_uses.specs.declared.settings.BadLine.{BadLine}
 
--- decimal digits of a number with at most so many bits; a plus sign may come first
+-- the value is decimal digits of a number below 2^bits; a plus sign may come first
 abbrev pub IsNumber : ℕ → List ℕ → ℕ → Type 0
 IsNumber bits value n = let digits = without_leading_plus value in IsNumeral 10 digits × (digits_value 10 digits ≡ n) × (n < 2 ^ bits)
 
@@ -20,7 +20,7 @@ Sets line (Verbose b) = line ≡ codes "verbose = " ++ (if b then codes "true" e
 abbrev pub SetsNothing : List ℕ → Type 0
 SetsNothing line = (s : Setting) → ¬ (Sets line s)
 
--- the settings that the lines set, one by one
+-- the settings that the lines set, line by line
 abbrev pub SetInOrder : List (List ℕ) → List Setting → Type 0
 SetInOrder [] [] = Unit {0}
 SetInOrder (line ∷ more) (s ∷ ss) = Sets line s × SetInOrder more ss
@@ -56,7 +56,7 @@ AreAfter ss settings = (settings.port ≡ last_set port_of 8080 ss) × (settings
 abbrev pub AreSettingsOf : List (List ℕ) → Settings → Type 0
 AreSettingsOf ls settings = (ss : List Setting) × SetInOrder ls ss × AreAfter ss settings
 
--- Each line before line n sets something, and line n sets nothing. The first line has the number 1.
+-- Line n, counted from 1, is the first bad one: each line before it sets something, and line n sets nothing.
 abbrev pub IsFirstBad : List (List ℕ) → ℕ → Type 0
 IsFirstBad ls n = (before : List (List ℕ)) × (line : List ℕ) × (after : List (List ℕ)) × (ls ≡ before ++ line ∷ after) × (n ≡ length before + 1)
     × ((ss : List Setting) × SetInOrder before ss) × SetsNothing line

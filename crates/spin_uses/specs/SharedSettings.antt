@@ -1,4 +1,4 @@
--- The text that shared settings are made from.
+-- The text from which shared settings are read.
 use Rattle.std.specs.Prelude.{ℕ, List}
 use Rattle.spin_once.specs.Lazy.{promise}
 use Rattle.spin_uses.specs.declared.settings.SharedSettings.{SharedSettings}

@@ -1,5 +1,5 @@
-//! A cache that threads share: a table under an `RwLock`, filled by the one reader that may upgrade. Begin with
-//! [`Answers`] and [`Cache::answer`].
+//! A cache that threads share: a table under an `RwLock`, to which the one reader that may upgrade adds
+//! answers. Begin with [`Answers`] and [`Cache::answer`].
 ghost use Rattle.std.specs.Prelude.{Bool, Ok, IsTrue, IfOk};
 ghost use Rattle.std.specs.Fn.{FnOnceTakesAt, FnOnceReturnsAt};
 
@@ -30,10 +30,11 @@ pub trait Answers {
     ghost respects_clone: { (k : Self.Key) (v w : Self.Value) → Self.Value.is_clone v w → IsTrue (may k v) → IsTrue (may k w) };
 }
 
-/// Answers by key. Each is made once and kept.
+/// A cache of answers by key. Each answer is made once and kept.
 ///
-/// A reader finds an answer that exists, with other readers. If there is none, the one reader that may upgrade makes
-/// it. Meanwhile other readers may read the existing answers. It becomes the writer only to add the new one.
+/// A call looks for the answer as a reader, beside other readers. If there is none, the one upgradable reader
+/// makes it, while other readers may read the existing answers. It becomes the writer only to add the new
+/// answer.
 #[derive(Drop)]
 pub struct Cache<C: Answers, A: Allocator = Global, R = Spin> {
     table: RwLock<Table<C, A>, R>,
@@ -47,8 +48,8 @@ impl<C: Answers, A: Allocator + Clone, R: RelaxStrategy> Cache<C, A, R> {
         }
     }
 
-    /// Acquires shared access to the existing answers, spinning until it succeeds. The guard shows the answers in
-    /// place, and no answer is added while it lives.
+    /// Acquires shared access to the existing answers, spinning until it succeeds. No answer is added while
+    /// the guard lives.
     ///
     /// # Contract
     /// Whether and when the call returns is not promised.
@@ -56,15 +57,15 @@ impl<C: Answers, A: Allocator + Clone, R: RelaxStrategy> Cache<C, A, R> {
         self.table.read(rt)
     }
 
-    /// Returns the answer for `key`, and makes it first by calling `make` if there is none.
+    /// Returns the answer for `key`. If there is none yet, the call makes it by `make`.
     ///
-    /// It fails if `make` fails, or if there is no memory. Then no answer is added. `make` may read this cache. The
-    /// call never returns if `make` asks the cache for an answer that does not exist.
+    /// It fails if `make` fails, or if an allocation fails. Then no answer is added. `make` may read this
+    /// cache, but the call never returns if `make` asks the cache for an answer that does not exist.
     ///
     /// # Contract
-    /// `make` has to be callable with `key`, and each answer that it may return has to be right for this key (`may`).
-    /// The call returns a right answer for this key, whoever made it. Whether and when the call returns is not
-    /// promised.
+    /// `make` has to be callable with `key`, and each answer that it may return has to be right for this key
+    /// (`may`). The call returns a right answer for this key, whichever thread made it. Whether and when the
+    /// call returns is not promised.
     pub fn answer<W: Wait, E: From<AllocError>, F: FnOnce(&C::Key) -> Result<C::Value, E>>(
         &self,
         rt: &W,
@@ -99,7 +100,7 @@ impl<C: Answers, A: Allocator + Clone, R: RelaxStrategy> Cache<C, A, R> {
         }
         let value = make(&key)?;
         let answer = value.clone()?;
-        // It never released the lock, so the key still has no answer.
+        // The call never released the lock, so the key still has no answer.
         let mut guard = guard.upgrade(rt);
         guard.add(key, value)?;
         Ok(answer)

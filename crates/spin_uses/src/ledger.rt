@@ -1,4 +1,5 @@
-//! A ledger: transfers between accounts under one lock, with a journal of all transfers made. Begin with [`Accounts`].
+//! A ledger: transfers between accounts under one lock, with a journal of all transfers. Begin with
+//! [`Accounts`].
 ghost use Rattle.std.specs.Prelude.{◌≡◌, ◌≢◌, ◌<◌, ◌^◌, ◌++◌, ◌∷◌, [], true, false, List, ℕ, Some, None, IfOk, IfErr, OnOk, OnErr, MatchResult, slice_get, slice_index, sum, ◌+◌};
 ghost use Rattle.spin_uses.specs.Ledger.{after, can_make, paid_in, paid_out, replayed, RefusedFor};
 ghost use Rattle.spin_uses.specs.declared.ledger.Transfer.{Transfer};
@@ -16,19 +17,19 @@ pub struct Transfer {
     pub amount: u64,
 }
 
-/// Why a transfer or a replay fails.
+/// The reason why a transfer or a replay fails.
 #[derive(Clone, Copy, Debug, PartialEq, Eq)]
 pub enum Refused {
     /// One of the two accounts does not exist.
     NoSuchAccount,
     /// The account that pays has less than the amount.
     TooLittle,
-    /// There is no memory for the journal's entry, or for the replay.
+    /// Allocating memory for the journal's entry, or for the replay, failed.
     OutOfMemory,
 }
 
-/// The opening balances of a ledger. Only proofs know them, by a type of the ledger's own. So proofs know that what
-/// they find belongs to this ledger.
+/// The opening balances of one ledger, as a type that only proofs use. By this type proofs know to which
+/// ledger a value belongs.
 pub trait Opening {
     ghost balances: { List ℕ };
 }
@@ -37,7 +38,7 @@ impl Opening for Brand {
     ghost balances = { [] };
 }
 
-/// The accounts, and every transfer made, in order.
+/// The accounts, and all transfers made so far, in order.
 #[derive(Drop)]
 pub struct Accounts<O: Opening, A: Allocator = Global> {
     balances: Vec<u64, A>,
@@ -48,7 +49,7 @@ pub struct Accounts<O: Opening, A: Allocator = Global> {
     ghost fits: { sum O.balances < 2 ^ 64 },
 }
 
-/// Accounts that threads share. A thread that locks them may use the invariant of `Accounts`.
+/// Accounts that threads share. A thread that locks them can use the invariant of `Accounts`.
 pub type Ledger<O, A = Global> = Mutex<Accounts<O, A>>;
 
 impl<O: Opening, A: Allocator> Accounts<O, A> {
@@ -72,8 +73,9 @@ impl<O: Opening, A: Allocator> Accounts<O, A> {
     /// Makes a transfer, or fails and changes nothing.
     ///
     /// # Contract
-    /// `Ok` exactly if the transfer can be made and there is memory. Then the balances are those after it, and the
-    /// journal ends with it. `Err` says why (`RefusedFor`), and balances and journal do not change.
+    /// The answer is `Ok` exactly if the transfer can be made and no allocation fails. Then the balances are
+    /// those after the transfer, and the journal ends with it. `Err` says why (`RefusedFor`), and balances
+    /// and journal do not change.
     pub fn transfer(&mut self, transfer: Transfer) -> Result<(), Refused>
         ensures why { MatchResult result (λ _. can_make transfer self.old.balances.items ≡ true) (λ e. RefusedFor e transfer self.old.balances.items) }
         ensures balances { OnOk result (self.new.balances.items ≡ after transfer self.old.balances.items) }
@@ -97,7 +99,7 @@ impl<O: Opening, A: Allocator> Accounts<O, A> {
     /// Returns the balance of an account, or `None` if it does not exist.
     ///
     /// # Contract
-    /// The answer is exact.
+    /// The answer is the account's present balance.
     pub fn balance(&self, account: usize) -> Option<u64>
         ensures { result ≡ slice_get self.now.balances.items account }
     {
@@ -107,7 +109,7 @@ impl<O: Opening, A: Allocator> Accounts<O, A> {
     /// Returns the sum of all balances.
     ///
     /// # Contract
-    /// It is always the sum of the opening balances.
+    /// The sum is always that of the opening balances.
     pub fn total(&self) -> u64
         ensures { result ≡ sum O.balances }
     {
@@ -117,7 +119,7 @@ impl<O: Opening, A: Allocator> Accounts<O, A> {
     /// Returns the transfers made, in order.
     ///
     /// # Contract
-    /// Their replay from the opening balances gives the balances.
+    /// The replay of these transfers from the opening balances gives the present balances.
     pub fn journal(&self) -> &[Transfer]
         ensures journal { result.now ≡ self.now.journal.items }
         ensures replays { replayed O.balances result.now ≡ Some self.now.balances.items }
@@ -126,7 +128,7 @@ impl<O: Opening, A: Allocator> Accounts<O, A> {
     }
 }
 
-/// Checks that a transfer can be made, or says why not.
+/// Checks that a transfer can be made. `Err` says why it cannot.
 fn may_make(balances: &[u64], transfer: &Transfer) -> Result<(), Refused>
     ensures possible { OnOk result (can_make transfer.now balances.now ≡ true) }
     ensures why { IfErr result (λ e. (can_make transfer.now balances.now ≡ false) × RefusedFor e transfer.now balances.now) }
@@ -151,11 +153,12 @@ fn make(balances: &mut [u64], transfer: &Transfer)
     balances[transfer.to] += transfer.amount;
 }
 
-/// Returns the balances after all transfers of a journal, in its order. Fails at the first that cannot be made.
+/// Returns the balances after all transfers of a journal, in its order. Fails at the first transfer that
+/// cannot be made.
 ///
 /// # Contract
-/// The sum of the opening balances has to fit a `u64`. `Ok` has the balances of the replay (`replayed`). `Err` says
-/// that no replay exists, unless the reason is memory.
+/// The sum of the opening balances has to fit a `u64`. `Ok` has the balances of the replay (`replayed`).
+/// After `Err` there is no replay, unless an allocation failed.
 pub fn replay<A: Allocator>(
     alloc: A,
     opening: &[u64],
@@ -175,8 +178,8 @@ pub fn replay<A: Allocator>(
     Ok(balances)
 }
 
-/// States what each replay results in. An account's balance plus what was paid out of it is its opening balance plus
-/// what was paid into it. A ledger's journal is such a replay.
+/// States, for each replay, that an account's balance plus what was paid out of it is its opening balance
+/// plus what was paid into it. A ledger's journal is such a replay.
 pub fn a_balance_is_what_came_less_what_went()
     ensures { (opening balances : List ℕ) (journal : List Transfer) (account : ℕ) → replayed opening journal ≡ Some balances → slice_index balances account + paid_out account journal ≡ slice_index opening account + paid_in account journal }
 {}
@@ -184,7 +187,7 @@ pub fn a_balance_is_what_came_less_what_went()
 /// Acquires the lock, and returns the sum of all balances.
 ///
 /// # Contract
-/// It is the sum of the opening balances. Whether and when the call returns is not promised.
+/// The answer is the sum of the opening balances. Whether and when the call returns is not promised.
 pub fn total<O: Opening, A: Allocator, W: Wait>(rt: &W, ledger: &Ledger<O, A>) -> u64
     ensures { result ≡ sum O.balances }
 {

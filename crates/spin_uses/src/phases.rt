@@ -1,8 +1,9 @@
-//! Rounds of workers over a barrier. In each round every worker adds its gain to the round's result. The leader folds
-//! that result into the total before the next round begins. Begin with [`run_phases`].
+//! Rounds of workers over a barrier. In each round every worker adds its gain to the round's result. The
+//! leader of the round adds that result to the total before the next round begins. Begin with [`run_phases`].
 //!
-//! The total is proved to be exact: a book under the lock counts what is still to be added, and each worker has a share
-//! of it. A test shows that a leader folds a round only when it is complete, and that a round has one leader.
+//! The total is proved to be exact: a ghost book under the lock counts what is still to be added, and each
+//! worker has a share of it. A test shows that each round has one leader, which adds the result only when the
+//! round is complete.
 ghost use Rattle.std.specs.Prelude.{◌≡◌, ℕ, ◌+◌, ◌*◌, ◌^◌, ◌<◌, ◌≤◌, true, IfOk, vec_capacity, vec_len};
 ghost use Rattle.spin_uses.specs.Phases.{IsSpent};
 
@@ -20,10 +21,10 @@ use std::thread::{JoinHandle, Scope, Threads};
 /// The most workers of one run.
 pub const MAX_WORKERS: usize = 64;
 
-/// Why there is no total.
+/// The reason why there is no total.
 #[derive(Clone, Copy, Debug, PartialEq, Eq)]
 pub enum PhasesError {
-    /// A thread, or memory for it, was refused.
+    /// Starting a thread failed, or allocating memory for it.
     Refused,
 }
 
@@ -38,13 +39,13 @@ impl From<AllocError> for PhasesError {
 pub struct Folded {
     /// The sum of all that was added.
     pub total: u64,
-    /// How many rounds were folded.
+    /// How many rounds are in the total.
     pub rounds: u64,
-    /// The smallest result of a round, or `u64::MAX` if none was folded.
+    /// The smallest result of a round, or `u64::MAX` if there was no round.
     pub smallest: u64,
 }
 
-/// The numbers that all parts of one run share.
+/// The numbers that all parts of one run have in common.
 trait Plan: Ledger {
     /// The gains of all workers in all rounds.
     ghost all: { ℕ };
@@ -54,7 +55,8 @@ impl Plan for Brand {
     ghost all = { 0 };
 }
 
-/// What is folded so far, the result of the present round, and the book of the gains that are still to be added.
+/// The results so far, the result of the present round, and the ghost book of the gains that are still to be
+/// added.
 #[derive(Drop)]
 struct Results<P: Plan> {
     folded: Folded,
@@ -64,7 +66,7 @@ struct Results<P: Plan> {
     ghost fits: { P.all < 2 ^ 64 },
 }
 
-/// What a worker returns: its part of the book. If it has worked, it has nothing left to add.
+/// What a worker returns: its part of the book. If the worker has worked, it has nothing left to add.
 #[derive(Drop)]
 struct Done<P: Plan> {
     share: Share<P>,
@@ -110,7 +112,7 @@ impl<P: Plan> Results<P> {
 struct Team<'a, P: Plan, G, R> {
     rt: &'a R,
     gate: &'a G,
-    // Held while workers are started. They begin when it says that all are started.
+    // Locked while workers are started. The workers begin if this is then `true`: all were started.
     begins: Mutex<bool, Yield>,
     barrier: Barrier<Yield>,
     results: Mutex<Results<P>, Yield>,
@@ -145,8 +147,8 @@ impl<P: Plan + Send + Sync, G: Gate + Sync, R: Threads + Wait + Sync> Team<'_, P
         }
     }
 
-    /// Joins the workers, and takes their parts of the book back. Returns `true` if all of them have worked. Then they
-    /// have nothing left to add.
+    /// Joins the workers, and takes their parts of the book back. Returns `true` if all of them have worked,
+    /// so that they have nothing left to add.
     fn join_all<A: Allocator>(
         &self,
         mut running: Vec<JoinHandle<Done<P>>, A>,
@@ -180,7 +182,7 @@ impl<P: Plan + Send + Sync, G: Gate + Sync, R: Threads + Wait + Sync> Team<'_, P
         scope.spawn(job).ok()
     }
 
-    /// Starts a thread for each worker. Returns `true` if none was refused.
+    /// Starts a thread for each worker. Returns `true` if every start succeeded.
     fn start_each<'s, E, A: Allocator>(
         &'s self,
         scope: &Scope<'s, E>,
@@ -206,7 +208,8 @@ impl<P: Plan + Send + Sync, G: Gate + Sync, R: Threads + Wait + Sync> Team<'_, P
         true
     }
 
-    /// Starts all workers. If one is refused, it joins those that were started, which have not begun to work.
+    /// Starts all workers. If a start fails, it joins the workers started before, which have not begun to
+    /// work.
     fn start_all<'s, E, A: Allocator>(
         &'s self,
         scope: &Scope<'s, E>,
@@ -261,7 +264,7 @@ impl<P: Plan + Send + Sync, G: Gate + Sync, R: Threads + Wait + Sync> Team<'_, P
     }
 }
 
-/// Runs all rounds, over a book with a part for each worker and one for the caller.
+/// Runs all rounds, with a book that has one part for each worker and one for the caller.
 fn run_by<'a, P: Plan + Send + Sync, G: Gate + Sync, R: Threads + Wait + Sync, A: Allocator>(
     rt: &'a R,
     alloc: A,
@@ -302,14 +305,15 @@ fn run_by<'a, P: Plan + Send + Sync, G: Gate + Sync, R: Threads + Wait + Sync, A
     team.run(alloc, workers, mine)
 }
 
-/// Runs `rounds` rounds with `workers` threads. In each round every worker adds `gain`. Each worker passes the gate
-/// once, before its first round. All threads are joined before the call returns.
+/// Runs `rounds` rounds with `workers` threads. In each round every worker adds `gain`. Each worker passes
+/// the gate once, before its first round. The call joins all threads before it returns.
 ///
-/// If a thread or its memory is refused, there is no total, and no worker adds anything.
+/// If starting a thread or allocating memory for it fails, there is no total, and no worker adds anything.
 ///
 /// # Contract
-/// There may be at most [`MAX_WORKERS`], and all that they add has to fit a `u64`. The total is exact. That workers run
-/// at the same time is not promised. Whether and when the call returns is not promised.
+/// There may be at most [`MAX_WORKERS`] workers, and the sum of all that they add has to fit a `u64`. The
+/// total is exact. Whether workers run at the same time is not promised. Whether and when the call returns is
+/// not promised.
 ///
 /// # Examples
 /// ```

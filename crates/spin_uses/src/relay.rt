@@ -7,11 +7,11 @@ use spin_core::relax::RelaxStrategy;
 use spin_flag::spin::{Pass, SpinMutex};
 use std::sync::Wait;
 
-/// Writes a value under one pass, and then reads it under another one.
+/// Writes a value by one pass, and then reads it by another pass.
 ///
 /// # Contract
-/// Each pass has acquired the lock and released it, once, and is returned in its place (`wrote`, `read`). `value` is
-/// the last one in the history that the first pass knows (`left`). The value that is returned is the last one in the
+/// Each pass has acquired the lock and released it, once, and is returned (`wrote`, `read`). `value` is the
+/// last one in the history that the first pass knows (`left`). The returned value is the last one in the
 /// history that the second pass knows (`found`).
 pub fn relay<'a, T: Copy, R: RelaxStrategy, W: Wait>(
     rt: &W,

@@ -1,4 +1,4 @@
-//! Settings that threads share. They are made once, from a text, when a thread first asks. Begin with
+//! Settings that threads share. They are read from a text once, when a thread first asks for them. Begin with
 //! [`SharedSettings`].
 ghost use Rattle.std.specs.Prelude.{◌≡◌, [], IfSome, IfNone, IfOk, IfErr, unwrap_or};
 ghost use Rattle.std.specs.Str.Lines.{lines};
@@ -22,10 +22,10 @@ pub enum Setting {
 }
 
 impl Setting {
-    /// Returns what the line sets, or `None` if it sets nothing.
+    /// Returns what the line sets, or `None` if it is no setting.
     ///
     /// # Contract
-    /// `Some` is what the line sets (`Sets`). `None` says that it sets nothing (`SetsNothing`).
+    /// `Some` is what the line sets (`Sets`). After `None` the line sets nothing (`SetsNothing`).
     pub fn of_line(line: &str) -> Option<Setting>
         ensures some { IfSome result (Sets line.now) }
         ensures none { IfNone result (SetsNothing line.now) }
@@ -103,7 +103,7 @@ impl FromStr for Settings {
     }
 }
 
-/// The promise that an answer is right for this text.
+/// The promise of the lazy lock: its answer is right for this text.
 #[derive(Clone, Copy)]
 struct AnswerFor<'t>(&'t str);
 
@@ -111,7 +111,7 @@ impl Promise<Answer> for AnswerFor<'_> {
     ghost keeps = { λ it answer. IsAnswerFor it.0.now answer };
 }
 
-/// The initialiser that reads the text.
+/// The initialiser, which reads the text.
 #[derive(Drop)]
 struct ReadSettings;
 
@@ -128,10 +128,10 @@ pub struct SharedSettings<'t, R = Spin> {
 }
 
 impl<'t, R: RelaxStrategy> SharedSettings<'t, R> {
-    /// Creates shared settings.
+    /// Creates the shared settings of `text`.
     ///
     /// # Contract
-    /// They are those of `text` (`text_of`).
+    /// The result remembers `text` (`text_of`).
     pub fn new(text: &'t str) -> Self
         ensures { text_of result ≡ text.now }
     {

@@ -26,7 +26,7 @@ impl<L: Lock<u64> + Drop> Case for Adds<L> {
     }
 }
 
-/// Like [`Adds`] of a `SpinMutex`, but each worker has a pass.
+/// Like [`Adds`] of a `SpinMutex`, but each worker calls by a pass.
 #[derive(Drop)]
 pub struct PassAdds(pub SpinMutex<u64>);
 
@@ -48,7 +48,7 @@ impl Case for PassAdds {
     }
 }
 
-/// A lock with a 1 that every worker only reads.
+/// A lock that holds 1, which every worker reads.
 #[derive(Drop)]
 pub struct Readers(pub RwLock<u64>);
 
@@ -63,7 +63,7 @@ impl Call for Readers {
     }
 }
 
-/// Like [`Readers`], but each worker has a pass.
+/// Like [`Readers`], but each worker calls by a pass.
 #[derive(Drop)]
 pub struct PassReaders(pub RwLock<u64>);
 
@@ -84,8 +84,8 @@ impl Case for PassReaders {
     }
 }
 
-/// A lock that the first worker writes and the others read. Its number is odd: the writer adds 2, and a reader
-/// returns the lowest bit.
+/// A lock that the first worker writes and the other workers read. Its number is odd: the writer adds 2, and
+/// a reader returns the lowest bit, which is 1.
 #[derive(Drop)]
 pub struct OneWriter(pub RwLock<u64>);
 
@@ -106,7 +106,7 @@ impl Call for OneWriter {
     }
 }
 
-/// A lock that an upgradable reader acquires; it then becomes a reader, and reads the 1.
+/// A lock that holds 1. A call acquires it as an upgradable reader, becomes a reader, and reads the 1.
 #[derive(Drop)]
 pub struct Upgrades(pub RwLock<u64>);
 
@@ -121,7 +121,7 @@ impl Call for Upgrades {
     }
 }
 
-/// A lock that a worker acquires by starving and trying once, and then releases.
+/// A lock that a worker acquires as a starver, by one try, and then releases.
 #[derive(Drop)]
 pub struct Starvers(pub FairMutex<u64>);
 

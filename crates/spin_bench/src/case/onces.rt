@@ -5,14 +5,14 @@ use spin_once::lazylock::LazyLock;
 use spin_once::once::Once;
 use std::sync::Wait;
 
-/// A `Once` that has its value, a 1.
+/// Returns a `Once` that holds 1.
 pub fn complete<W: Wait>(rt: &W) -> Once<u64> {
     let once = Once::new();
     let _seen = once.call_once(rt, || 1);
     once
 }
 
-/// A `Once` that has its value, a 1, which each call reads.
+/// A `Once` that holds 1, which each call reads.
 #[derive(Drop)]
 pub struct Gets(pub Once<u64>);
 
@@ -27,8 +27,9 @@ impl Call for Gets {
     }
 }
 
-/// The same, called with a closure that never runs. The loop is here, because the compiler tests a byte after each
-/// call that may wait. The `call` of a [`Call`] would add one such test.
+/// A `Once` that holds 1. Each call passes a closure, which never runs. The loop is here, not in [`Calls`]:
+/// the compiler tests a byte after each call that may wait, and the `call` of a [`Call`] would add one such
+/// test.
 #[derive(Drop)]
 pub struct LateCalls(pub Once<u64>);
 
@@ -47,12 +48,13 @@ impl Case for LateCalls {
     }
 }
 
-/// Each call makes a `Once`, asks for its value for the first time, and drops it.
+/// Calls that make a `Once`, ask for its value for the first time, and drop it.
 #[derive(Drop)]
 pub struct FirstCalls;
 
 impl Call for FirstCalls {
-    // Only one worker does it. The value depends on its number, so that the compiler does not know the value.
+    // Only one worker makes these calls. The value depends on its number, so that the compiler does not know
+    // it.
     #[inline(always)]
     fn call<W: Wait>(&self, rt: &W, worker: usize) -> u64 {
         let once: Once<u64> = Once::new();
@@ -64,15 +66,16 @@ impl Call for FirstCalls {
     }
 }
 
-/// A `LazyLock` that has its value, a 1, which each call asks for. Each loop of calls makes a `LazyLock` of its own,
-/// because a caller has to know the initialiser.
+/// A `LazyLock` that holds 1, which each call asks for. Each loop makes a `LazyLock` of its own, since a
+/// caller has to know its initialiser.
 #[derive(Drop)]
 pub struct Forces;
 
 impl Case for Forces {
     #[inline(never)]
     fn repeat<W: Wait>(&self, rt: &W, worker: usize, calls: u64) -> u64 {
-        // Only one worker does it. The value depends on its number, so that the compiler does not know the value.
+        // Only one worker makes these calls. The value depends on its number, so that the compiler does not
+        // know it.
         let lazy: LazyLock<u64, _> = LazyLock::new(|| (worker as u64).wrapping_add(1));
         let mut seen = 0u64;
         for _ in 0..calls {
@@ -86,7 +89,7 @@ impl Case for Forces {
     }
 }
 
-/// A barrier whose groups are one thread, which leads.
+/// A barrier for groups of one thread, which leads its group.
 #[derive(Drop)]
 pub struct Alone(pub Barrier);
 

@@ -4,7 +4,7 @@ use spin_barrier::barrier::Barrier;
 use std::sync::Wait;
 use std::sync::atomic::{AtomicBool, Ordering};
 
-/// A barrier whose group is all threads of the case. A call is one wait of one thread.
+/// A barrier for one group of all threads of the case. A call is one wait by one thread.
 #[derive(Drop)]
 pub struct Rounds {
     barrier: Barrier,
@@ -23,7 +23,7 @@ impl Rounds {
 }
 
 impl Case for Rounds {
-    /// The leader of a group has seen one wait of each thread.
+    /// The leader of a group adds one wait for each thread of the group.
     #[inline(never)]
     fn repeat<W: Wait>(&self, rt: &W, _worker: usize, calls: u64) -> u64 {
         let mut seen = 0u64;
@@ -35,8 +35,8 @@ impl Case for Rounds {
         seen
     }
 
-    /// All threads end together: a thread that went on waiting would wait for threads that have ended. So one of them
-    /// checks for all, while the others wait.
+    /// All threads have to stop together, since a thread in `wait` would wait for threads that have stopped.
+    /// So one thread checks for all of them, while the others wait.
     fn is_to_stop<W: Wait>(&self, rt: &W, told: &AtomicBool) -> bool {
         if self.barrier.wait(rt).is_leader() {
             self.stops

@@ -1,4 +1,4 @@
-//! A lock whose only caller knows what it did.
+//! A seated lock with one caller. The contracts say what this caller did.
 ghost use Rattle.std.specs.Prelude.{◌≡◌, Some};
 ghost use Rattle.spin_seated.specs.Passes.{IsPassOf};
 ghost use Rattle.spin_seated_uses.specs.Sections.{away, section_of};

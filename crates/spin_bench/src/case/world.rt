@@ -1,13 +1,13 @@
-//! A long schedule, played in a new world each time.
+//! A long schedule that is played in a new world each time.
 use super::Case;
 use spin_world::{Flag, FlagCall, Move, Outcome, Transcript, World};
 use std::alloc::{AllocError, Global};
 use std::sync::Wait;
 
-/// How many parties share the flag, one after another.
+/// How many parties take turns at the flag.
 const PARTIES: usize = 4;
 
-/// One party's whole turn while no other party is in its turn: it acquires the lock, writes and releases.
+/// The moves of one party's turn, in which no other party moves: it acquires the lock, writes, and releases.
 const TURN: [Move<FlagCall, u64>; 6] = [
     Move::Begin(FlagCall::Lock),
     Move::Step,
@@ -23,7 +23,7 @@ const TURNS: usize = 10_000;
 /// How many events the transcript of a schedule has.
 pub const EVENTS: u64 = (TURNS * TURN.len()) as u64;
 
-/// A schedule of turns at one flag. A call is an event of its transcript.
+/// A schedule of turns at one flag. Each event of its transcript counts as a call.
 #[derive(Drop)]
 pub struct Plays {
     alloc: Global,
@@ -31,7 +31,7 @@ pub struct Plays {
 }
 
 impl Plays {
-    /// Creates turns one after another. The parties take turns in order, again and again.
+    /// Creates a schedule of turns. The parties take them in order, again and again.
     pub fn new(alloc: Global) -> Result<Plays, AllocError> {
         let mut schedule = Vec::new(alloc);
         for taken in 0..TURNS {
@@ -42,7 +42,7 @@ impl Plays {
         Ok(Plays { alloc, schedule })
     }
 
-    /// Plays this many entries of the schedule.
+    /// Plays the first `entries` entries of the schedule in a new world.
     fn play(&self, entries: usize) -> Result<Transcript<Flag<u64>>, AllocError> {
         let mut world: World<Flag<u64>> = World::new(self.alloc, Flag::new(0), PARTIES)?;
         world.run(self.schedule.get(..entries).unwrap_or(&[]))
@@ -50,7 +50,7 @@ impl Plays {
 }
 
 impl Case for Plays {
-    /// If memory is refused, nothing was seen.
+    /// If an allocation fails, the sum is 0.
     #[inline(never)]
     fn repeat<W: Wait>(&self, _rt: &W, _worker: usize, calls: u64) -> u64 {
         match self.play(calls as usize) {
@@ -59,7 +59,7 @@ impl Case for Plays {
         }
     }
 
-    /// Returns 0 minus the moves that one more play skips.
+    /// Plays the schedule once more. Returns 0 minus the number of moves that were skipped.
     fn added(self) -> u64 {
         let Ok(transcript) = self.play(self.schedule.len()) else {
             return 1;

@@ -1,4 +1,4 @@
-//! Steps that end the permit of a party that does not get what it asked. Begin with [`Permit::attempt`].
+//! Steps that end the permit of a party whose request fails. Begin with [`Permit::attempt`].
 ghost use Rattle.std.specs.Prelude.{◌≡◌, ◌≢◌, ◌==◌, ℕ, List, Some, IfOk, IfErr};
 ghost use prog.Atomic.{either};
 ghost use Rattle.spin_core.specs.Cell.{Rests, Moved, Keeps};
@@ -11,8 +11,8 @@ impl<'a, T, V, E, S, P: Rule<T, V, Second = Trace<E, S>>> Permit<'a, T, V, P> {
     /// Loads the first word, and ends the permit. Returns the word, and what is then known of the trace.
     ///
     /// # Contract
-    /// After the step the party has to be at rest (`rests`), whatever the `Play` tells. The `Play` holds of the
-    /// result.
+    /// The party has to be at rest after the step, whatever the `Play` tells (`rests`). The `Play` holds of
+    /// the result.
     pub fn look<M: Play<P::Key, V, E>>(self, seen: Watch<E>) -> (u64, Watch<E>)
         requires step { MayKnow (P.holds self.key) (P.ways self.key) seen × Traces (P.holds self.key) (P.ways self.key) self.view self.value (λ n. n) (M.told self.key 0 0 self.view) }
         requires rests { (log es : List E) (found : ℕ) (after : V) → M.told self.key 0 0 self.view log es found after → Rests (P.holds self.key) (P.ways self.key).1 (Some after) }
@@ -23,12 +23,13 @@ impl<'a, T, V, E, S, P: Rule<T, V, Second = Trace<E, S>>> Permit<'a, T, V, P> {
         (found, seen)
     }
 
-    /// Stores `new` in the first word if that is `old`. If it finds another word, it ends the permit and returns that
-    /// word. In both cases it returns what is then known of the trace.
+    /// Stores `new` in the first word if that is `old`. If the step finds another word, it ends the permit
+    /// and returns that word. In both cases the step returns what is then known of the trace.
     ///
     /// # Contract
-    /// After a step that finds another word the party has to be at rest (`rests`). `Ok` is the permit after a step that
-    /// found `old`, and `Err` a word other than `old`. The `Play` holds of either (`moved`, `left`).
+    /// If the step finds another word, it has to leave the party at rest (`rests`). `Ok` has the permit after a
+    /// step that found `old`. `Err` has the other word. In both cases the `Play` holds of the step (`moved`,
+    /// `left`).
     pub fn attempt<M: Play<P::Key, V, E>>(
         self,
         old: u64,

@@ -1,9 +1,9 @@
-//! What a cell lends its owner if the value has to stay as it is. Begin with [`Stabilizes`].
+//! Mutable access to the value of a cell, for an owner that has to keep it stable. Begin with [`Stabilizes`].
 ghost use Rattle.std.specs.Prelude.{◌≡◌, Bool, true};
 
 use super::{Cell, Rule};
 
-/// A type some of whose values are stable: they have to stay so.
+/// A type with a notion of stable values. A stable value may be replaced only by a stable one.
 pub trait Stabilizes {
     // Whether a value is stable.
     ghost stable: { Self → Bool };
@@ -28,8 +28,9 @@ impl<T: Stabilizes, V, P: Rule<MaybeStable<T>, V>> Cell<MaybeStable<T>, V, P> {
     /// Returns a mutable reference to the value if the first word is `first`. The borrow shows that there is no permit.
     ///
     /// # Contract
-    /// The key becomes the one that the rule names (`lent`). Under it the rule has to hold as before (`Lends`), and
-    /// where it holds of that word the value has to be stable (`StableAt`). It stays so.
+    /// The cell gets the key that the rule names (`lent`). Under that key the rule has to hold as before
+    /// (`Lends`). Where the rule holds of the word `first`, the value has to be stable (`StableAt`). It stays
+    /// stable.
     pub fn get_stable(&mut self, first: u64) -> Option<&mut Stable<T>>
         requires stable { StableAt (P.holds (P.lent self.old)) (P.ways (P.lent self.old)) T.stable first }
         requires lends { Lends (P.holds self.old) (P.ways self.old) (P.holds (P.lent self.old)) (P.ways (P.lent self.old)) }

@@ -11,29 +11,31 @@ use std::marker::{Brand, PhantomData};
 use std::sync::atomic::Ordering::SeqCst;
 use std::sync::atomic::raw;
 
-/// A kind of step: what it appends to the trace, and what it tells its caller.
+/// A kind of step: what the step appends to the trace, and what it tells its caller.
 pub trait Play<K, V, E> {
-    // The arguments: the rule's key, the operands (0 if there is none), the view and the trace before, what the step
-    // appended, the number found, and the view after.
+    // What the step tells. The arguments in order: the rule's key, the two operands (0 if absent), the view
+    // and the trace before, the appended entries, the number found, and the view after.
     ghost told: { K → ℕ → ℕ → Option V → List E → List E → ℕ → V → Type 0 };
 }
 
 /// Steps on the first word.
 ///
-/// Each is one atomic operation. The party gets a new view, and appends entries to the trace, as the step's `Play`
-/// says. A value that is shown before and after the step is the same (`Keeps`).
+/// Each step is one atomic operation. The party gets a new view and appends entries to the trace, as the
+/// step's `Play` says. A value that the party may use before and after the step is the same (`Keeps`).
 ///
-/// Each call takes what its caller knows of the trace. It returns what is known after the step: the trace as it was
-/// before the step, and what the step appended. A caller that knows nothing passes [`Watch::nothing`].
+/// Each call takes a watch: what its caller knows of the trace. It returns what is known after the step: the
+/// trace before the step, and the entries that the step appended. A caller that knows nothing passes
+/// [`Watch::nothing`].
 ///
 /// # Contract
-/// Whatever the words, the trace and the other views are, a next view and entries have to exist that satisfy the `Play`
-/// and keep the rule (`Traces`). The watch has to be of the cell's trace, or to know nothing (`MayKnow`). After the
-/// step the `Play` holds (`Moved`), of the trace as the watch tells it (`Watches`).
+/// For all words, traces and views of other parties, there have to be a next view and entries that satisfy
+/// the `Play` and keep the rule (`Traces`). The watch has to be of the cell's trace, or to know nothing
+/// (`MayKnow`). After the step the `Play` holds of the trace that the returned watch knows (`Moved`,
+/// `Watches`).
 ///
-/// Where the rule knows a fact of a value that nobody writes, the step has to keep it (`Carrying`). A party that has
-/// written leaves the fact of what it was shown, and the trace then. One that comes to use the value, reads on or
-/// leaves it is told the fact of what it is shown (`Found`).
+/// The rule may know a fact of a value that nobody writes. Then the step has to keep this fact (`Carrying`).
+/// A party that stops writing has to show the fact of the value that it leaves. A party that begins to use
+/// the value, reads on or stops using it learns the fact of its value (`Found`).
 impl<'a, T, V, E, S, P: Rule<T, V, Second = Trace<E, S>>> Permit<'a, T, V, P> {
     /// Loads the first word.
     pub fn load<M: Play<P::Key, V, E>>(self, seen: Watch<E>) -> (u64, Permit<'a, T, V, P>, Watch<E>)
@@ -55,7 +57,7 @@ impl<'a, T, V, E, S, P: Rule<T, V, Second = Trace<E, S>>> Permit<'a, T, V, P> {
         )
     }
 
-    /// Stores `new` in the first word if that is `old`, and returns the word found.
+    /// Stores `new` in the first word if that is `old`. Returns the word found.
     pub fn exchange<M: Play<P::Key, V, E>>(
         self,
         old: u64,
@@ -103,7 +105,7 @@ impl<'a, T, V, E, S, P: Rule<T, V, Second = Trace<E, S>>> Permit<'a, T, V, P> {
         )
     }
 
-    /// Adds `by` to the first word, modulo 2^64, and returns the word found.
+    /// Adds `by` to the first word, modulo 2^64. Returns the word found.
     pub fn add<M: Play<P::Key, V, E>>(
         self,
         by: u64,
@@ -127,7 +129,7 @@ impl<'a, T, V, E, S, P: Rule<T, V, Second = Trace<E, S>>> Permit<'a, T, V, P> {
         )
     }
 
-    /// Subtracts `by` from the first word, modulo 2^64, and returns the word found.
+    /// Subtracts `by` from the first word, modulo 2^64. Returns the word found.
     pub fn subtract<M: Play<P::Key, V, E>>(
         self,
         by: u64,
@@ -151,7 +153,7 @@ impl<'a, T, V, E, S, P: Rule<T, V, Second = Trace<E, S>>> Permit<'a, T, V, P> {
         )
     }
 
-    /// Sets the bits of `mask` in the first word, and returns the word found.
+    /// Sets the bits of `mask` in the first word. Returns the word found.
     pub fn set_bits<M: Play<P::Key, V, E>>(
         self,
         mask: u64,
@@ -179,7 +181,7 @@ impl<'a, T, V, E, S, P: Rule<T, V, Second = Trace<E, S>>> Permit<'a, T, V, P> {
 /// Steps on the second word, which is next to the trace.
 ///
 /// # Contract
-/// That of a step on the first word (`TracesSecond`).
+/// Like that of a step on the first word, with `TracesSecond` in place of `Traces`.
 impl<'a, T, V, E, P: Rule<T, V, Second = Trace<E, u64>>> Permit<'a, T, V, P> {
     /// Loads the second word.
     pub fn load_second<M: Play<P::Key, V, E>>(

@@ -1,4 +1,4 @@
-//! The calls of a latch in the model, and their points.
+//! The calls of a latch in the model, and the points between their steps.
 ghost use Rattle.std.specs.Prelude.{◌≡◌, ⊤};
 
 use std::alloc::AllocError;
@@ -14,11 +14,11 @@ pub enum LatchCall {
     ReleaseWrite,
 }
 
-/// The point of a call: which step comes next.
+/// The point of a call: its next step.
 #[derive(Clone, Copy)]
 pub enum LatchPoint {
     /// The first step of any call, and of each further attempt.
     First,
-    /// The exchange of this word, which the call has found.
+    /// The exchange that expects this word, which the call has found.
     Exchange(usize),
 }

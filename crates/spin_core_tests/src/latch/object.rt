@@ -17,7 +17,7 @@ impl LatchObject {
     /// Creates a latch that nobody holds.
     ///
     /// # Contract
-    /// Its machine is that of a latch (`IsLatch`): each call asks what its name says.
+    /// Its machine is that of a latch (`IsLatch`): each call does what its name says.
     pub fn new() -> LatchObject
         ensures { IsLatch (⟦<LatchObject as Object>⟧.machine result) }
     {

@@ -1,5 +1,5 @@
-//! The rule of a latch: what each party is to it ([`View`]), what its word and its trace say of all parties, and each
-//! kind of step.
+//! The rule of a latch: what its word and its trace say of all parties, and what each kind of step does. A
+//! [`View`] is what one party is to the latch.
 ghost use Rattle.std.specs.Prelude.{true, false, refl};
 ghost use Rattle.spin_core.specs.Cell.{use_of};
 ghost use Rattle.spin_core.specs.Own.{what};
@@ -12,13 +12,14 @@ use spin_core::guard::{Release, Uses};
 use spin_core::tie;
 use spin_core::trace::{Trace, Watch};
 
-/// What a party (one call, and the guard that it returns) is to the latch.
+/// What a party is to the latch. A party is one call, and then the guard that the call returns.
 #[derive(Clone, Copy)]
 pub enum View {
     Idle,
     Reading,
     Writing,
-    /// It is in `read` if the flag is true, else in `try_read`. Its next step is the exchange of this word.
+    /// It is in `read` if the flag is true, else in `try_read`. Its next step is the exchange that expects
+    /// this word.
     Coming(bool, usize),
     /// It is in `read`, and its next step is a look.
     WaitingToRead,
@@ -32,13 +33,14 @@ pub type Party = tie::Numbered<View>;
 /// An entry of the latch's trace.
 pub type Entry = tie::Entry<LatchCall>;
 
-/// The rule of a latch over a `T`, which several parties may read at once. No value of this type is made.
+/// The rule of a latch over a `T`, which several parties may read at once. No program makes a value of this
+/// type.
 pub struct LatchRule<T> {
     never: T,
 }
 
 impl<T> Rule<T, Party> for LatchRule<T> {
-    // What is known of the trace at first: its name.
+    // The name of the trace, by a watch that knows no entries.
     type Key = Watch<Entry>;
 
     type Second = Trace<Entry>;
@@ -66,7 +68,7 @@ impl Play<Watch<Entry>, Party, Entry> for Looks {
     ghost told = { λ key old new before. Leads (at_word true) before };
 }
 
-// The exchange of a call that wants to read.
+// The exchange of a call that acquires shared access.
 pub(super) struct Comes;
 
 impl Play<Watch<Entry>, Party, Entry> for Comes {
@@ -87,7 +89,7 @@ impl Play<Watch<Entry>, Party, Entry> for Writes {
     ghost told = { λ key old new before. Leads (either_at old Writing WaitingToWrite) before };
 }
 
-// The subtraction of a holder that leaves.
+// The subtraction of a holder that releases.
 pub(super) struct Leaves;
 
 impl Play<Watch<Entry>, Party, Entry> for Leaves {

@@ -1,14 +1,15 @@
-//! Step functions of a latch in one word, in which the writer is 1 and each reader 2.
+//! Step functions of a latch, whose word is 1 for the writer and 2 for each reader.
 ghost use Rattle.std.specs.Prelude.{◌≡◌, ℕ};
 ghost use Rattle.spin_step.specs.Plain.{Plain, gets, to_read, to_write};
 ghost use Rattle.spin_step.specs.Parties.{IsExclusive};
 ghost use Rattle.spin_step.specs.Steps.{Decides};
 ghost use Rattle.spin_core_tests.specs.Latch.{latch_limit, latch_word, let_in, taken};
 
-/// The most readers that a latch admits.
+/// The most readers that may hold a latch at the same time.
 pub const MAX_READERS: usize = 4_294_967_295;
 
-/// Returns the word after one more reader, or `None` if a writer holds or the limit is reached.
+/// Returns the word after a reader acquires the latch. Returns `None` if a writer holds it, or at the limit
+/// of readers.
 pub fn read(word: usize) -> Option<usize>
     ensures exact { result ≡ let_in word }
     ensures plain { (s : Plain) (party : ℕ) → IsExclusive s → s.cap ≡ latch_limit → latch_word s ≡ word → Decides s (gets party to_read) latch_word result }
@@ -20,7 +21,7 @@ pub fn read(word: usize) -> Option<usize>
     }
 }
 
-/// Returns the word after a writer acquires the latch, or `None` if anybody holds it.
+/// Returns the word after a writer acquires the latch. Returns `None` if the latch is held.
 pub fn write(word: usize) -> Option<usize>
     ensures exact { result ≡ taken word }
     ensures plain { (s : Plain) (party : ℕ) → latch_word s ≡ word → Decides s (gets party to_write) latch_word result }

@@ -1,5 +1,5 @@
-//! `Debug` of a `Mutex`, and `Debug` and `Display` of its guard. Begin at `Debug` of the lock. A guard prints its
-//! value.
+//! `Debug` of a `Mutex`, and `Debug` and `Display` of its guard, which print the guard's value. Begin at
+//! `Debug` of the lock.
 ghost use Rattle.std.specs.Prelude.{Option};
 ghost use Rattle.std.specs.Fmt.{DisplaysOnOk};
 ghost use Rattle.spin_mutex.specs.MutexGuard.{value_of};

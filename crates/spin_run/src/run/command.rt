@@ -1,4 +1,4 @@
-//! The command line: what words ask for, what a run writes, and its status. Begin with [`program`].
+//! The command line: what words ask for, what a run writes, and its exit status. Begin with [`program`].
 ghost use Rattle.std.specs.Prelude.{◌≡◌, ◌≤◌, ◌<◌, ℕ, true, false, OnOk, IfErr, IfSome, IfNone};
 ghost use Rattle.std.specs.Io.KnownBytes.{Appends};
 ghost use Rattle.spin_run.specs.declared.run.faults.Fault.{Fault};
@@ -22,7 +22,7 @@ struct Count {
     times: u64,
 }
 
-/// Returns the count that the words ask for, or `None` if they ask for none.
+/// Returns the count that the words ask for, or `None` if they ask for no count.
 fn count_of(words: &[&str]) -> Option<Count>
     ensures some { IfSome result (λ c. AsksCount (texts_of words.now) c.workers c.times) }
     ensures none { IfNone result ((workers times : ℕ) → ¬ (AsksCount (texts_of words.now) workers times)) }
@@ -110,21 +110,21 @@ fn run<I: Source, O: Sink, R: AllocGlobal + Threads + Wait + Sync, A: Allocator>
 
 /// Runs the program on these words and streams, and returns the status of the process.
 ///
-/// The words `count WORKERS TIMES` ask for a total and a line feed on `output`. The word `world` asks for a schedule
-/// to be read from `input` and its transcript to be written: see [`world_text`]. A run that fails writes one line
-/// with the reason on `errors`; a failure of that write changes no status. A count takes its memory from `alloc`, a
-/// world from `rt`.
+/// The words `count WORKERS TIMES` ask for a count, whose total and a line feed are written to `output`. The
+/// word `world` asks for a world: a schedule is read from `input`, and its transcript is written
+/// ([`world_text`]). A run that fails writes one line with the reason to `errors`; if this write fails too,
+/// the status is the same. A count allocates from `alloc`, a world from `rt`.
 ///
 /// # Contract
 /// The caller gives streams that have not failed. The status is one of these:
 ///
-/// - 0: the run did what the words ask for, no read or write failed, and `errors` is as before (`Does`).
-/// - 1: a thread or memory was refused, or a read or a write failed. Only a failed write leaves a beginning of the
+/// - 0: the run did what the words ask for, no read or write failed, and `errors` is unchanged (`Does`).
+/// - 1: starting a thread failed, or an allocation, a read or a write. Only a failed write leaves a beginning of the
 ///   text on `output`.
-/// - 2: the words are those of no command, or a line of the schedule is wrong. Then `output` is as before.
+/// - 2: the words are no command, or a line of the schedule is wrong. Then `output` is unchanged.
 ///
-/// With 1 or 2 the fault has this status (`status_of`), the run stopped as that fault says (`Stops`), and its line is
-/// on `errors`. If that write failed, a beginning of the line is there (`Told`).
+/// Status 1 or 2 is that of a fault (`status_of`). The run stopped as the fault says (`Stops`), and the
+/// fault's line is on `errors`. If that write failed, a beginning of the line is there (`Told`).
 pub fn program<I: Source, O: Sink, E: Sink, R: AllocGlobal + Threads + Wait + Sync, A: Allocator>(
     rt: &R,
     alloc: A,
@@ -161,7 +161,7 @@ pub fn program<I: Source, O: Sink, E: Sink, R: AllocGlobal + Threads + Wait + Sy
         }) fault
         × Told (E.failed errors.new) (E.written errors.old) (E.written errors.new) (line_of fault) }
 
-    // If the words ask for nothing that the program does.
+    // If the words are no command.
     ensures usage { AsksNothing (texts_of words.now) → (result ≡ 2)
         × Told (E.failed errors.new) (E.written errors.old) (E.written errors.new) usage_line }
     ensures nothing_written { result ≡ 2 → output.new ≡ output.old }

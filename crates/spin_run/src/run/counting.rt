@@ -20,7 +20,7 @@ pub const MAX_TIMES: u64 = 1_000_000;
 /// The reason why a count has no total.
 #[derive(Clone, Copy, Debug, PartialEq, Eq)]
 pub enum CountError {
-    /// A thread was refused, or memory for the threads.
+    /// Starting a thread failed, or allocating memory for it.
     Refused,
 }
 
@@ -30,9 +30,9 @@ impl From<AllocError> for CountError {
     }
 }
 
-/// The numbers that all parts of one count share.
+/// The numbers that all parts of one count have in common.
 trait Plan: Ledger {
-    /// The additions of all workers.
+    /// How many additions all workers make.
     ghost all: { ℕ };
 }
 
@@ -40,7 +40,7 @@ impl Plan for Brand {
     ghost all = { 0 };
 }
 
-/// The number under the lock, with the book of the additions that remain.
+/// The number under the lock, and the ghost book of the additions that are still to be made.
 #[derive(Drop)]
 struct Counter<P: Plan> {
     count: u64,
@@ -49,7 +49,7 @@ struct Counter<P: Plan> {
     ghost fits: { P.all < 2 ^ 64 },
 }
 
-/// What a worker returns: its part of the book, with no additions left.
+/// What a worker returns: its part of the book, on which no additions are left.
 #[derive(Drop)]
 struct Done<P: Plan> {
     share: Share<P>,
@@ -88,7 +88,7 @@ struct Team<'a, P: Plan, G, R> {
 }
 
 impl<P: Plan + Send + Sync, G: Gate + Sync, R: Threads + Wait + Sync> Team<'_, P, G, R> {
-    /// Does the work of one worker: it passes the gate, then makes its additions.
+    /// Does the work of one worker: it passes the gate, and then makes its additions.
     fn work(&self, worker: usize, share: Share<P>) -> Done<P>
         requires one_part { share.parts ≡ 1 }
         requires additions { share.amount ≡ self.now.times }
@@ -119,7 +119,7 @@ impl<P: Plan + Send + Sync, G: Gate + Sync, R: Threads + Wait + Sync> Team<'_, P
         }
     }
 
-    /// Starts a thread for each worker. If one is refused, it joins those already started.
+    /// Starts a thread for each worker. If a start fails, it joins the threads started before.
     fn start_all<'s, E, A: Allocator>(
         &'s self,
         scope: &Scope<'s, E>,
@@ -175,7 +175,7 @@ impl<P: Plan + Send + Sync, G: Gate + Sync, R: Threads + Wait + Sync> Team<'_, P
     }
 }
 
-/// Counts with a book that has a part for each worker and one for the caller.
+/// Counts with a book that has one part for each worker and one for the caller.
 fn count_by<'a, P: Plan + Send + Sync, G: Gate + Sync, R: Threads + Wait + Sync, A: Allocator>(
     rt: &'a R,
     alloc: A,
@@ -203,11 +203,12 @@ fn count_by<'a, P: Plan + Send + Sync, G: Gate + Sync, R: Threads + Wait + Sync,
     team.count(alloc, workers, mine)
 }
 
-/// Counts in threads, and returns the total.
+/// Counts by several threads, and returns the total.
 ///
-/// Each worker from 0 to `workers - 1` is a thread of its own. It passes the gate once, even if `times` is 0. Then it
-/// adds 1 to one number under one lock, `times` times. The call joins all threads before it returns. If a thread or
-/// memory for the threads is refused, it joins those already started, and returns an error.
+/// Each worker from 0 to `workers - 1` is a thread of its own. It passes the gate once, even if `times` is 0.
+/// Then it acquires one lock `times` times, and adds 1 to the number under it each time. The call joins all
+/// threads before it returns. If starting a thread or allocating memory for it fails, the call joins the
+/// threads started before and returns an error.
 ///
 /// # Contract
 /// There are at most `MAX_WORKERS` workers, with at most `MAX_TIMES` additions each. On `Ok` the total is exactly

@@ -15,7 +15,7 @@ use std::alloc::AllocError;
 pub(crate) enum Fault {
     /// The words are no command.
     Usage,
-    /// A thread was refused, or memory for the threads.
+    /// Starting a thread failed, or allocating memory for it.
     Refused,
     /// Another allocation failed.
     Memory,
@@ -28,7 +28,7 @@ pub(crate) enum Fault {
 }
 
 impl Fault {
-    /// Returns the status of the process.
+    /// Returns the exit status of the process for this fault.
     pub(crate) fn status(self) -> u8
         ensures { result ≡ status_of self }
     {
@@ -38,7 +38,7 @@ impl Fault {
         }
     }
 
-    /// Returns the words of the fault's line, and the number behind them if there is one.
+    /// Returns the words of the fault's line, and the number after them if there is one.
     fn line(self) -> (&'static [u8], Option<u64>)
         ensures line { failure_line result.0.now result.1 ≡ line_of self }
         ensures short { length result.0.now ≤ 64 }
@@ -57,7 +57,7 @@ impl Fault {
     }
 }
 
-/// Writes the line of the fault, and returns its status. A failed write changes no status.
+/// Writes the line of the fault, and returns its status. If the write fails, the status is the same.
 pub(crate) fn report<E: Sink>(fault: Fault, errors: &mut E) -> u8
     requires { E.failed errors.old ≡ false }
     ensures status { result ≡ status_of fault }

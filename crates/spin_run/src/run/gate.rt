@@ -2,11 +2,11 @@
 use spin_barrier::gate::Gate;
 use std::sync::Wait;
 
-/// The proof that a worker has passed its gate. Only [`pass`] makes one, and the additions need one. So a worker passes
-/// the gate first.
+/// The proof that a worker has passed its gate. Only [`pass`] makes one, and a worker needs one to begin its
+/// additions. So each worker passes the gate first.
 #[derive(Drop)]
 pub(super) struct Passed {
-    /// Other modules cannot name the field, so they cannot make the struct.
+    /// This private field keeps other modules from making the struct.
     made_here: (),
 }
 

@@ -15,13 +15,13 @@ use std::thread::Threads;
 
 /// Runs [`program`] on the arguments of the process.
 ///
-/// Arguments that are not text are treated as no command. If there is no memory for the arguments, the call only writes
-/// a line about it on `errors`.
+/// If an argument is not text, the arguments are treated as no command. If allocating the arguments fails,
+/// the call only writes a line about it to `errors`.
 ///
 /// # Contract
-/// The caller gives streams that have not failed. The status is 0, 1 or 2. Either it means what it means for `program`,
-/// for some words. Or the run failed before the words were known, by wrong usage or for lack of memory. Then `input`
-/// and `output` are unchanged (`IsWordless`).
+/// The caller gives streams that have not failed. The status is 0, 1 or 2. Either it means what it means for
+/// [`program`], for some words. Or the run failed before the words were known: an argument was not text, or
+/// an allocation failed (`IsWordless`). Then `input` and `output` are unchanged.
 pub fn program_over_arguments<
     I: Source,
     O: Sink,

@@ -8,11 +8,11 @@ use atomic_table::Table;
 use std::alloc::{AllocError, Allocator};
 
 impl<C: Calls, A: Allocator> SeatedLock<C, A> {
-    /// Creates a lock that no pass holds, and its passes, numbered from 0. Fails if there is no memory.
+    /// Creates a lock that no pass holds, and its passes, numbered from 0. Fails if an allocation fails.
     ///
     /// # Contract
-    /// There has to be at least one pass. The lock opens with `value` and so many passes. These are all its passes, and
-    /// none has made a call.
+    /// There has to be at least one pass. The lock opens with this value and this number of passes. The
+    /// result has the lock and all its passes, none of which has made a call.
     pub fn new(
         alloc: A,
         value: u64,

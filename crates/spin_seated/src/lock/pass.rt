@@ -1,4 +1,4 @@
-//! Passes, which callers use to make calls. Begin with [`Pass`].
+//! Passes, by which callers make calls. Begin with [`Pass`].
 ghost use Rattle.std.specs.Prelude.{◌≡◌};
 ghost use Rattle.spin_seated.specs.Histories.{holds};
 ghost use Rattle.spin_seated.specs.Passes.{Seated, seated_of, IsOneSeat};
@@ -22,9 +22,10 @@ impl<C> Model for Place<C> {
     ghost invariant = { λ p. IsOneSeat p.seat };
 }
 
-/// A place among the callers of one lock. Contracts see what it knows: a history with all calls made with it.
+/// The right to call one lock, under a number of its own. Contracts see the history that the pass knows; it
+/// has all calls that the pass made.
 ///
-/// It cannot be copied, but can be sent. If a pass is dropped while it holds the lock, the lock stays held.
+/// A pass is `Send`, but cannot be copied. If it is dropped while it holds the lock, the lock stays held.
 #[derive(Drop)]
 #[must_use = "only a pass makes calls: bind it"]
 pub struct Pass<C: Calls> {
@@ -44,7 +45,7 @@ impl<C: Calls> Pass<C> {
     /// Returns what the pass holds.
     ///
     /// # Contract
-    /// It is what the pass holds at the end of the history that it knows.
+    /// The result is what the pass holds at the end of the history that it knows.
     pub fn holds(&self) -> C::Hold
         ensures { result ≡ holds C.machine self.now.known }
     {

@@ -1,7 +1,7 @@
-//! The steps on the table. Begin with [`SeatedLock::meet`]; the others are private to the locks.
+//! The steps on the table. Begin with [`SeatedLock::meet`]; the other steps are private to the locks.
 //!
-//! Each step tells which call it is, if it is one. For such a step the lock shows three facts: the call may be made,
-//! the words become those of the next state, and its answer is the plain one.
+//! A step is a call, a part of a call, or none. If it is a call, the lock shows three facts: the pass may
+//! make the call, the words become those of the machine's next state, and the answer is the machine's.
 ghost use Rattle.std.specs.Prelude.{◌≡◌, ℕ, ◌<◌, ◌+◌, ◌-◌, ◌%◌, ◌^◌, ◌==◌, Option};
 ghost use prog.Atomic.{either};
 ghost use Rattle.spin_seated.specs.Histories.{Owes, Turned, Met, holds, held_then};
@@ -13,11 +13,12 @@ use atomic_table::Play;
 use std::alloc::Allocator;
 use std::marker::PhantomData;
 
-/// Which call a kind of step is, and its answer. It is `None` if the step is no call.
+/// Which call a kind of step is, with its answer; or `None` for a step that is no call.
 pub(crate) trait Tells<C> {
     ghost use Rattle.spin_seated.specs.declared.lock.Answer.{Answer};
 
-    // By the operand (0 if there is none) and the word found; for an exchange, by the word that it expects.
+    // The arguments: an operand, and the word found. The operand of an exchange is the word that it expects.
+    // It is 0 for a load.
     ghost told: { ℕ → ℕ → Option (C × Answer) };
 }
 
@@ -74,7 +75,7 @@ impl<C: Calls, A: Allocator> SeatedLock<C, A> {
         self.table.shared.store::<Told<C, T>>(seat, word, new);
     }
 
-    /// Stores `new` in a word if that is `old`, and returns the word found.
+    /// Stores `new` in a word if that is `old`. Returns the word found.
     pub(crate) fn exchange<T: Tells<C>>(
         &self,
         place: &mut Place<C>,
@@ -98,7 +99,7 @@ impl<C: Calls, A: Allocator> SeatedLock<C, A> {
             .compare_exchange::<Told<C, T>>(seat, word, old, new)
     }
 
-    /// Adds `by` to a word, modulo 2^64, and returns the word found.
+    /// Adds `by` to a word, modulo 2^64. Returns the word found.
     pub(crate) fn add<T: Tells<C>>(&self, place: &mut Place<C>, word: usize, by: u64) -> u64
         requires own { IsPassOf self.now place.old }
         requires word { word < 2 }
@@ -114,7 +115,7 @@ impl<C: Calls, A: Allocator> SeatedLock<C, A> {
         self.table.shared.fetch_add::<Told<C, T>>(seat, word, by)
     }
 
-    /// Subtracts `by` from a word, modulo 2^64, and returns the word found.
+    /// Subtracts `by` from a word, modulo 2^64. Returns the word found.
     pub(crate) fn subtract<T: Tells<C>>(&self, place: &mut Place<C>, word: usize, by: u64) -> u64
         requires own { IsPassOf self.now place.old }
         requires word { word < 2 }
@@ -130,11 +131,12 @@ impl<C: Calls, A: Allocator> SeatedLock<C, A> {
         self.table.shared.fetch_sub::<Told<C, T>>(seat, word, by)
     }
 
-    /// Brings two passes to one history. It makes three loads of the first word and ignores their results.
+    /// Lets two passes know the same history. It makes three loads of the first word and ignores their
+    /// results.
     ///
     /// # Contract
-    /// Both have to be passes of this lock. Afterwards both know the same history (`Met`). It extends what each knew,
-    /// and contains of each pass's own calls exactly those that it knew. What they hold does not change.
+    /// Both have to be passes of this lock. Afterwards both know the same history (`Met`). It extends what
+    /// each pass knew, without a further call of either. What the passes hold does not change.
     pub fn meet(&self, a: &mut Pass<C>, b: &mut Pass<C>)
         requires first { IsPassOf self.now a.old }
         requires second { IsPassOf self.now b.old }

@@ -28,8 +28,8 @@ impl<A: Allocator> SeatedLock<Call, A> {
     /// Tries to acquire the lock, by one exchange. Returns `false` if it is held.
     ///
     /// # Contract
-    /// The pass has to be one of this lock. The history that it then knows ends with the call and its answer (`Made`).
-    /// The pass then holds the lock if it held it before or the answer is `true`.
+    /// The pass has to be one of this lock. The history that it then knows ends with the call and its answer
+    /// (`Made`). Afterwards the pass holds the lock exactly if it held it before or the answer is `true`.
     #[must_use = "the answer tells whether the pass holds the lock"]
     pub fn try_lock(&self, pass: &mut Pass) -> bool
         requires { IsPassOf self.now pass.old }
@@ -47,8 +47,8 @@ impl<A: Allocator> SeatedLock<Call, A> {
         granted
     }
 
-    /// Returns `true` if the lock was held at the moment of its one load. By the time the caller reads the answer it
-    /// may be out of date.
+    /// Returns `true` if its one load found the lock held. By the time the caller reads the answer it may be
+    /// out of date.
     ///
     /// # Contract
     /// The pass has to be one of this lock. The history that it then knows ends with the call and its answer (`Made`).

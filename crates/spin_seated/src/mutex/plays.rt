@@ -1,4 +1,4 @@
-//! What each step on the table tells: which call it is, and its answer.
+//! For each step on the table: which call it is, with its answer.
 ghost use Rattle.spin_seated.specs.Mutex.{tries, loads, reads, writes, frees};
 
 use super::Call;

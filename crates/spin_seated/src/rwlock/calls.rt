@@ -22,14 +22,16 @@ const WORD: usize = 0;
 const VALUE: usize = 1;
 
 impl<A: Allocator> SeatedLock<Call, A> {
-    /// Tries to acquire the lock as a reader. Returns `false` if a writer holds it, or at the cap of readers.
+    /// Tries to acquire the lock as a reader. Returns `false` if a writer holds it, or if the number of
+    /// readers is at the cap.
     ///
-    /// It makes a load. Then it repeats its exchange until it succeeds or the lock refuses the word found.
+    /// It makes one load. Then it repeats its exchange until that succeeds, or until the word found has no
+    /// room for a reader.
     ///
     /// # Contract
-    /// The pass has to be one of this lock, and to hold nothing. The history that it then knows ends with the call and
-    /// its answer (`Made`). If the answer is `true` it then holds as a reader. Whether and when the call returns is not
-    /// promised.
+    /// The pass has to be one of this lock, and to hold nothing. The history that it then knows ends with the
+    /// call and its answer (`Made`). If the answer is `true`, the pass holds as a reader. Whether and when
+    /// the call returns is not promised.
     #[must_use = "the answer tells whether the pass holds the lock"]
     pub fn try_read<W: Wait>(&self, rt: &W, pass: &mut RwPass) -> bool
         requires own { IsPassOf self.now pass.old }
@@ -69,8 +71,8 @@ impl<A: Allocator> SeatedLock<Call, A> {
     /// Tries to acquire the lock as the writer, by one exchange. Returns `false` if any pass holds it.
     ///
     /// # Contract
-    /// The pass has to be one of this lock, and to hold nothing. The history that it then knows ends with the call and
-    /// its answer (`Made`). If the answer is `true` it then holds as the writer.
+    /// The pass has to be one of this lock, and to hold nothing. The history that it then knows ends with the
+    /// call and its answer (`Made`). If the answer is `true`, the pass holds as the writer.
     #[must_use = "the answer tells whether the pass holds the lock"]
     pub fn try_write(&self, pass: &mut RwPass) -> bool
         requires own { IsPassOf self.now pass.old }
@@ -146,7 +148,7 @@ impl<A: Allocator> SeatedLock<Call, A> {
         self.store::<WriteValue>(&mut pass.place, VALUE, value);
     }
 
-    /// Releases the lock of a reader, by one subtraction.
+    /// Releases a reader's hold, by one subtraction.
     ///
     /// # Contract
     /// The pass has to be one of this lock, and to hold it as a reader. The history that it then knows ends with the
@@ -162,7 +164,7 @@ impl<A: Allocator> SeatedLock<Call, A> {
         pass.holding = None;
     }
 
-    /// Releases the lock of the writer, by one subtraction.
+    /// Releases the writer's hold, by one subtraction.
     ///
     /// # Contract
     /// The pass has to be one of this lock, and to hold it as the writer. The history that it then knows ends with the

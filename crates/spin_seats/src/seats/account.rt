@@ -12,7 +12,7 @@ ghost use Rattle.spin_seats.specs.declared.seats.rule.View.TheVariants.{Idle, Se
 use super::rule::{Account, Counts, GetsUp, Looks, SitsDown, Tries};
 
 impl<'a, const N: usize> Account<'a, N> {
-    // The load of `count`.
+    // Makes the load of `count`.
     pub(super) fn count(self) -> (usize, Account<'a, N>)
         requires { stands self.permit.view ≡ Idle }
         ensures step { Stepped N false Count (Answered (Counted result.0) None) Idle self.entry result.1 }
@@ -23,7 +23,7 @@ impl<'a, const N: usize> Account<'a, N> {
         (found as usize, Account { permit, seen })
     }
 
-    // The load of `try_enter`.
+    // Makes the load of `try_enter`.
     pub(super) fn try_look(self) -> (usize, Account<'a, N>)
         requires { stands self.permit.view ≡ Idle }
         ensures { Stepped N false TryEnter (met N false result.0) (at_word N false result.0) self.entry result.1 }
@@ -33,7 +33,7 @@ impl<'a, const N: usize> Account<'a, N> {
         (found as usize, Account { permit, seen })
     }
 
-    // The load of `enter`.
+    // Makes the load of `enter`.
     pub(super) fn look(self) -> (usize, Account<'a, N>)
         requires { MayLook (what self.permit.view) }
         ensures { Stepped N (has_begun (what self.entry.permit.view)) Enter GoingOn (at_word N true result.0) self.entry result.1 }
@@ -43,8 +43,8 @@ impl<'a, const N: usize> Account<'a, N> {
         (found as usize, Account { permit, seen })
     }
 
-    // Exchanges the word that a call found for `next`, as the step function says. Returns the word found if that is
-    // another.
+    // Tries to take a seat: exchanges `word`, which the call found, for the step function's `next`. If the
+    // exchange finds another word, it returns that one.
     pub(super) fn sit(
         self,
         word: usize,
@@ -62,7 +62,7 @@ impl<'a, const N: usize> Account<'a, N> {
         Err((found as usize, Account { permit, seen }))
     }
 
-    // The subtraction of a party that leaves its seat.
+    // Frees the party's seat, by a subtraction.
     pub(super) fn get_up(self) -> Account<'a, N>
         requires { what self.permit.view ≡ Some Seated }
         ensures { Stepped N false Leave (Answered Left None) Idle self.entry result }

@@ -1,4 +1,4 @@
-//! The calls of a [`Seats`] by a thread that keeps track of them. Begin with [`Seats::pass`].
+//! The calls of a [`Seats`] by a thread that can prove which calls it made. Begin with [`Seats::pass`].
 ghost use Rattle.std.specs.Prelude.{◌≡◌, ◌≤◌, ◌⊎◌, Some, None, [], IfOk, IfErr, true, false};
 ghost use mathlib.Core.List.{IsPrefix};
 ghost use Rattle.spin_core.specs.Own.{what};
@@ -16,16 +16,16 @@ use crate::steps;
 use spin_core::relax::{MAX_HINTS, RelaxStrategy, Spin};
 use std::sync::Wait;
 
-/// A thread's record of its calls of a [`Seats`].
+/// A thread's account of its calls of a [`Seats`].
 ///
-/// The lock's cell keeps the list of all moves that threads have made in it (its history). A pass knows which of these
-/// moves are its own, and the whole list up to its own last move. It is as large as a reference to the lock, can be
-/// sent, and a lock can have any number of passes.
+/// The lock's cell keeps the list of all moves that threads have made in it: its history. A pass knows the
+/// history up to its own last move, and which moves are its own. A pass is as large as a reference to the
+/// lock, and is `Send`. A lock can have any number of passes.
 ///
 /// # Contract
-/// Each call takes the pass, and ensures `Called`: among the new moves of the history, those of this pass are exactly
-/// one call with the returned answer. In the lock's model that call gets this answer, at its place among the moves of
-/// all threads. No move of the history is skipped.
+/// Each call takes the pass, and ensures `Called`: the history has grown, and among the new moves those of
+/// this pass are exactly one call with the returned answer. The lock's model gives the same answer to this
+/// call, at its place among the moves of all threads. The model skips no move of the history.
 ///
 /// # Examples
 /// ```
@@ -46,10 +46,10 @@ pub struct Pass<'a, const N: usize> {
 }
 
 impl<const N: usize> Seats<N> {
-    /// Returns a pass that has made no call. It makes no operation on the lock.
+    /// Returns a pass that has made no call. It does not touch the lock's word.
     ///
     /// # Contract
-    /// The pass is of this lock, and knows nothing of its history yet (`new`).
+    /// The pass is of this lock, and knows nothing of the lock's history yet (`new`).
     pub fn pass(&self) -> Pass<'_, N>
         ensures new { (result.account.permit.view ≡ None) × (result.account.seen.entries ≡ []) × (result.account.seen.name ≡ self.now.cell.name) }
     {
@@ -66,8 +66,8 @@ impl<'a, const N: usize> Pass<'a, N> {
     /// Takes a seat as [`Seats::enter`] does.
     ///
     /// # Contract
-    /// The call is one `Enter` with the answer `Granted`, however often it looked and tried. Whether and when it
-    /// returns is not promised.
+    /// The pass has made one call `Enter` with the answer `Granted`, however often it looked and tried.
+    /// Whether and when the call returns is not promised.
     pub fn enter<W: Wait>(self, rt: &W) -> SeatGuard<'a, N>
         ensures { Called N Enter Granted self.entry.account result.account }
     {
@@ -77,11 +77,11 @@ impl<'a, const N: usize> Pass<'a, N> {
         }
     }
 
-    /// Tries to take a seat as [`Seats::try_enter`] does. Returns the pass if all are taken.
+    /// Tries to take a seat as [`Seats::try_enter`] does. Returns the pass if all seats are taken.
     ///
     /// # Contract
-    /// The call is one `TryEnter`. Its answer is `Granted` with a guard (`granted`), else `Refused` (`refused`).
-    /// Whether and when it returns is not promised.
+    /// The pass has made one call `TryEnter`. With a guard its answer is `Granted` (`granted`), otherwise
+    /// `Refused` (`refused`). Whether and when the call returns is not promised.
     pub fn try_enter<W: Wait>(self, rt: &W) -> Result<SeatGuard<'a, N>, Pass<'a, N>>
         ensures granted { IfOk result (λ guard. Called N TryEnter Granted self.entry.account guard.account) }
         ensures refused { IfErr result (λ pass. Called N TryEnter Refused self.entry.account pass.account) }
@@ -92,7 +92,7 @@ impl<'a, const N: usize> Pass<'a, N> {
     /// Returns how many seats were taken at some moment during this call, as [`Seats::count`] does.
     ///
     /// # Contract
-    /// The call is one `Count`, with the returned answer (`made`).
+    /// The pass has made one call `Count`, with the returned answer (`made`).
     pub fn count(self) -> (usize, Pass<'a, N>)
         ensures made { Called N Count (Counted result.0) self.entry.account result.1.account }
         ensures few { result.0 ≤ seats N }
@@ -102,7 +102,7 @@ impl<'a, const N: usize> Pass<'a, N> {
         (taken, Pass { account })
     }
 
-    // The first look of `enter`, and its exchange if a seat is free.
+    // Makes the first look of `enter`, and its exchange if a seat is free.
     pub(super) fn come(self) -> Result<SeatGuard<'a, N>, Entering<'a, N>>
         ensures { IfOk result (λ guard. Called N Enter Granted self.entry.account guard.account) × IfErr result (λ entering. IsIn N Enter self.entry.account entering.account) }
     {
@@ -111,7 +111,7 @@ impl<'a, const N: usize> Pass<'a, N> {
         Entering { word, account }.attempt()
     }
 
-    // The look of `try_enter`.
+    // Makes the look of `try_enter`.
     pub(super) fn try_come(self) -> Trying<'a, N>
         ensures { IsTrying N result.word self.entry.account result.account }
     {
@@ -120,10 +120,10 @@ impl<'a, const N: usize> Pass<'a, N> {
         Trying { word, account }
     }
 
-    /// Compares what two passes of one lock know. It does nothing when it runs.
+    /// Compares what two passes of one lock know. It does nothing at run time.
     ///
     /// # Contract
-    /// One of them knows a prefix of the history that the other knows.
+    /// What one of them knows is a prefix of the history that the other knows.
     pub fn compare(&self, other: &Pass<'_, N>)
         requires { self.now.account.seen.name ≡ other.now.account.seen.name }
         ensures { IsPrefix self.now.account.seen.entries other.now.account.seen.entries ⊎ IsPrefix other.now.account.seen.entries self.now.account.seen.entries }
@@ -133,10 +133,11 @@ impl<'a, const N: usize> Pass<'a, N> {
 }
 
 impl<'a, const N: usize> SeatGuard<'a, N> {
-    /// Frees the seat, and returns the pass by which it was taken. A guard that is dropped ends its pass.
+    /// Frees the seat, and returns the pass that took it. Dropping the guard frees the seat too, but ends the
+    /// pass.
     ///
     /// # Contract
-    /// The call is one `Leave`.
+    /// The pass has made one call `Leave`.
     pub fn leave(self) -> Pass<'a, N>
         ensures { Called N Leave Left self.entry.account result.account }
     {
@@ -147,7 +148,7 @@ impl<'a, const N: usize> SeatGuard<'a, N> {
     }
 }
 
-// A call of `try_enter`, with the word that it found.
+// A call of `try_enter` that has found this word.
 pub(super) struct Trying<'a, const N: usize> {
     word: usize,
     account: Account<'a, N>,
@@ -155,7 +156,7 @@ pub(super) struct Trying<'a, const N: usize> {
 }
 
 impl<'a, const N: usize> Trying<'a, N> {
-    // Tries to take a seat at each word that it finds, while one is free.
+    // Tries to take a seat at each word that it finds, as long as one is free there.
     pub(super) fn take<W: Wait>(self, rt: &W) -> Result<SeatGuard<'a, N>, Pass<'a, N>>
         ensures { (before : TheAccount N) → IsTrying N self.entry.word before self.entry.account → IfOk result (λ guard. Called N TryEnter Granted before guard.account) × IfErr result (λ pass. Called N TryEnter Refused before pass.account) }
     {
@@ -169,7 +170,7 @@ impl<'a, const N: usize> Trying<'a, N> {
         unreachable!()
     }
 
-    // Tries to take a seat at its word. If no seat is free there, the call fails.
+    // Tries to take a seat at the word found. If no seat is free there, the call of `try_enter` fails.
     fn attempt(self) -> Result<Result<SeatGuard<'a, N>, Pass<'a, N>>, Trying<'a, N>>
         ensures { (before : TheAccount N) → IsTrying N self.entry.word before self.entry.account → IfOk result (λ answer. IfOk answer (λ guard. Called N TryEnter Granted before guard.account) × IfErr answer (λ pass. Called N TryEnter Refused before pass.account)) × IfErr result (λ further. IsTrying N further.word before further.account) }
     {
@@ -184,7 +185,7 @@ impl<'a, const N: usize> Trying<'a, N> {
     }
 }
 
-// A call of `enter`, with the word that it found.
+// A call of `enter` that has found this word.
 pub(super) struct Entering<'a, const N: usize> {
     word: usize,
     account: Account<'a, N>,
@@ -192,7 +193,8 @@ pub(super) struct Entering<'a, const N: usize> {
 }
 
 impl<'a, const N: usize> Entering<'a, N> {
-    // Does what `back_off` of the strategies does. The borrow checker does not accept its closure here.
+    // Waits as `back_off` of the strategies does. The borrow checker does not accept that call's closure
+    // here.
     pub(super) fn wait<W: Wait>(self, rt: &W) -> SeatGuard<'a, N>
         ensures { (before : TheAccount N) → IsIn N Enter before self.entry.account → Called N Enter Granted before result.account }
     {
@@ -209,7 +211,7 @@ impl<'a, const N: usize> Entering<'a, N> {
         unreachable!()
     }
 
-    // Tries to take a seat at its word, if one is free there.
+    // Tries to take a seat at the word found, if one is free there.
     fn attempt(self) -> Result<SeatGuard<'a, N>, Entering<'a, N>>
         ensures { (before : TheAccount N) → IsIn N Enter before self.entry.account → IfOk result (λ guard. Called N Enter Granted before guard.account) × IfErr result (λ further. IsIn N Enter before further.account) }
     {
@@ -223,7 +225,7 @@ impl<'a, const N: usize> Entering<'a, N> {
         }
     }
 
-    // The same, but it looks first if its word has no free seat.
+    // Tries to take a seat, like `attempt`, but looks first if the word found has no free seat.
     fn again(self) -> Result<SeatGuard<'a, N>, Entering<'a, N>>
         ensures { (before : TheAccount N) → IsIn N Enter before self.entry.account → IfOk result (λ guard. Called N Enter Granted before guard.account) × IfErr result (λ further. IsIn N Enter before further.account) }
     {

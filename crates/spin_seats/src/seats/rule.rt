@@ -1,5 +1,6 @@
-//! The rule of a lock of seats: what each party is to it ([`View`]), what its word and its trace say of all parties,
-//! and each kind of step. Also what a party keeps between its steps ([`Account`]).
+//! The rule of a lock of seats: what its word and its trace say of all parties, and what each kind of step
+//! does. A [`View`] is what one party is to the lock. An [`Account`] is what the party keeps between its
+//! steps.
 ghost use Rattle.spin_core.specs.Own.{what};
 ghost use Rattle.spin_core.specs.Passes.{mark_of};
 ghost use Rattle.spin_seats.specs.Rule.{IsSeats, Told, counts_by, gets_up_by, looks_by, seat_ways, sits_by};
@@ -10,12 +11,13 @@ use spin_core::cell::{Permit, Play, Rule};
 use spin_core::tie;
 use spin_core::trace::{Trace, Watch};
 
-/// What a party (one call, and the guard that it returns) is to the lock.
+/// What a party is to the lock. A party is one call, and then the guard that the call returns.
 #[derive(Clone, Copy)]
 pub enum View {
     Idle,
     Seated,
-    /// It is in `enter` if the flag is true, else in `try_enter`. Its next step is the exchange of this word.
+    /// It is in `enter` if the flag is true, else in `try_enter`. Its next step is the exchange that expects
+    /// this word.
     Coming(bool, usize),
     /// It is in `enter`, and its next step is a look.
     Waiting,
@@ -27,12 +29,12 @@ pub type Party = tie::Numbered<View>;
 /// An entry of the lock's trace.
 pub type Entry = tie::Entry<SeatsCall>;
 
-/// The rule: the word is the number of parties that sit, at most `N`. The trace is a schedule of the lock's model,
-/// which leads to this word and to each party's view.
+/// The rule: the word is the number of parties that sit, at most `N`. The trace is a schedule of the lock's
+/// model that leads to this word and to each party's view.
 pub struct SeatsRule<const N: usize>;
 
 impl<const N: usize> Rule<(), Party> for SeatsRule<N> {
-    // What is known of the trace at first: its name.
+    // The name of the trace, by a watch that knows no entries.
     type Key = Watch<Entry>;
 
     type Second = Trace<Entry>;
@@ -65,7 +67,7 @@ impl<const N: usize> Play<Watch<Entry>, Party, Entry> for Looks<N> {
     ghost told = { λ key old new before. Told N (looks_by N true (what before)) before };
 }
 
-/// The exchange of a call that takes a seat. The party sits if it finds the word that it expects.
+/// The exchange of a call that takes a seat. If it finds the word that it expects, the party sits.
 pub(super) struct SitsDown<const N: usize>;
 
 impl<const N: usize> Play<Watch<Entry>, Party, Entry> for SitsDown<N> {
@@ -79,7 +81,7 @@ impl<const N: usize> Play<Watch<Entry>, Party, Entry> for GetsUp<N> {
     ghost told = { λ key old new before. Told N gets_up_by before };
 }
 
-/// A party's permit, and what it knows of the lock's history: all moves up to its own last one.
+/// A party's permit, and what the party knows of the lock's history: all moves up to its own last one.
 pub struct Account<'a, const N: usize> {
     pub(super) permit: Permit<'a, (), Party, SeatsRule<N>>,
     pub(super) seen: Watch<Entry>,

@@ -1,5 +1,5 @@
-//! A cache with a log of its answers. Once a caller's snapshot has an answer for a key, each later call with that key
-//! and snapshot returns a clone of that answer, or fails. Begin with [`LoggedCache::answer`].
+//! A cache with a log of its answers. If a caller's snapshot has an answer for a key, each later call with
+//! this key and snapshot returns a clone of that answer, or fails. Begin with [`LoggedCache::answer`].
 ghost use Rattle.std.specs.Prelude.{◌≡◌, [], Some, None, Ok, IsTrue, IfSome, IfOk, OnOk, OnErr};
 ghost use Rattle.std.specs.Fn.{FnOnceTakesAt, FnOnceReturnsAt};
 ghost use Rattle.std.specs.Option.{ForSome, option_copied};
@@ -14,7 +14,7 @@ use spin_rwlock::rwlock::{RwLock, RwLockReadGuard};
 use std::alloc::{AllocError, Allocator, Global};
 use std::sync::Wait;
 
-/// The answers made so far, by their keys, and their log.
+/// The answers made so far, by key, and their log.
 #[derive(Drop)]
 pub struct LoggedTable<C: Answers, A: Allocator, H: History> {
     table: Table<C, A>,
@@ -35,8 +35,9 @@ impl<C: Answers, A: Allocator, H: History> LoggedTable<C, A, H> {
     /// Returns the answer for `key`, or `None` if none was made, and brings `seen` up to date.
     ///
     /// # Contract
-    /// Afterwards `seen` has the whole log (`exact`). The answer is the one in it (`known`), and right for this key
-    /// (`may`). If `seen` had an answer before, it is that one (`same`). `seen` keeps all that it had (`later`).
+    /// Afterwards `seen` has the whole log (`exact`). The answer is the one that the log has for the key
+    /// (`known`), and is right for this key (`may`). If `seen` had an answer for the key before, the answer
+    /// is the same one (`same`). `seen` keeps all entries that it had (`later`).
     pub fn answer(
         &self,
         key: &C::Key,
@@ -52,7 +53,7 @@ impl<C: Answers, A: Allocator, H: History> LoggedTable<C, A, H> {
         self.table.answer(key)
     }
 
-    /// Adds an answer for a key that has none. Fails if there is no memory for it. The other answers do not change.
+    /// Adds an answer for a key that has none. Fails if an allocation fails. The other answers do not change.
     fn add(
         &mut self,
         key: C::Key,
@@ -72,17 +73,17 @@ impl<C: Answers, A: Allocator, H: History> LoggedTable<C, A, H> {
         let entry = (key, value);
         log.append(&entry);
         let (key, value) = entry;
-        // There is room for it.
+        // There is room for the answer.
         table.add(key, value)?;
         log.observe(seen);
         Ok(())
     }
 }
 
-/// A [`Cache`](super::Cache) for callers that need an answer to stay the same.
+/// A [`Cache`](super::Cache) for callers that rely on an answer to stay the same.
 ///
-/// Each caller has a [`Snapshot`] of the log: the answers that it has seen, and all earlier ones. A call brings it up
-/// to date. The log is ghost state: it takes no memory and no steps.
+/// Each caller has a [`Snapshot`] of the log: the answers that it has seen, and all earlier ones. A call
+/// brings the snapshot up to date. The log is ghost state: it takes no memory and no time.
 #[derive(Drop)]
 pub struct LoggedCache<C: Answers, H: History, A: Allocator = Global, R = Spin> {
     table: RwLock<LoggedTable<C, A, H>, R>,
@@ -109,14 +110,14 @@ impl<C: Answers, H: History, A: Allocator + Clone, R: RelaxStrategy> LoggedCache
         self.table.read(rt)
     }
 
-    /// Returns the answer for `key`, and makes it first by calling `make` if there is none, as
+    /// Returns the answer for `key`, and makes it if there is none yet, as
     /// [`Cache::answer`](super::Cache::answer) does. Brings `seen` up to date.
     ///
     /// # Contract
-    /// `make` has to satisfy what [`Cache::answer`](super::Cache::answer) asks of it. On `Ok` the answer is right for
-    /// this key (`may`), and is a clone of the one that `seen` then has (`known`). If `seen` had an answer before, it
-    /// is a clone of that one (`same`). `seen` keeps all that it had, also on `Err` (`later`). Whether and when the
-    /// call returns is not promised.
+    /// `make` has to satisfy what [`Cache::answer`](super::Cache::answer) asks of it. On `Ok` the answer is
+    /// right for this key (`may`), and is a clone of the one that `seen` then has for it (`known`). If `seen`
+    /// had an answer for the key before, the answer is a clone of that one (`same`). `seen` keeps all entries
+    /// that it had, also on `Err` (`later`). Whether and when the call returns is not promised.
     pub fn answer<W: Wait, E: From<AllocError>, F: FnOnce(&C::Key) -> Result<C::Value, E>>(
         &self,
         rt: &W,
@@ -159,7 +160,7 @@ impl<C: Answers, H: History, A: Allocator + Clone, R: RelaxStrategy> LoggedCache
         }
         let value = make(&key)?;
         let answer = value.clone()?;
-        // It never released the lock, so the key still has no answer.
+        // The call never released the lock, so the key still has no answer.
         let mut guard = guard.upgrade(rt);
         guard.add(key, value, seen)?;
         Ok(answer)

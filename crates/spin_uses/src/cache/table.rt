@@ -9,7 +9,7 @@ use std::collections::HashMap;
 use std::hash::{BuildHasherDefault, FoldHasher};
 use std::marker::PhantomData;
 
-/// The answers made so far, by their keys.
+/// The answers made so far, by key.
 #[derive(Drop)]
 pub struct Table<C: Answers, A: Allocator> {
     map: HashMap<C::Key, C::Value, BuildHasherDefault<FoldHasher>, A>,
@@ -30,7 +30,7 @@ impl<C: Answers, A: Allocator> Table<C, A> {
     /// Returns the answer for `key`, or `None` if none was made.
     ///
     /// # Contract
-    /// The answer is exact, and right for this key (`may`).
+    /// The answer is the one in the table (`exact`), and is right for this key (`may`).
     pub fn answer(&self, key: &C::Key) -> Option<&C::Value>
         ensures exact { option_copied result ≡ get C.Key.eq self.now.map key.now }
         ensures may { IfSome result (λ value. IsTrue (C.may key.now value.now)) }
@@ -38,7 +38,7 @@ impl<C: Answers, A: Allocator> Table<C, A> {
         self.map.get(key)
     }
 
-    /// Makes room for one more answer. Fails if there is no memory for it.
+    /// Makes room for one more answer. Fails if an allocation fails.
     pub(super) fn reserve(&mut self) -> Result<(), AllocError>
     where
         A: Clone,
@@ -48,7 +48,7 @@ impl<C: Answers, A: Allocator> Table<C, A> {
         self.map.reserve(1)
     }
 
-    /// Adds an answer for a key that has none. Fails if there is no memory for it. The other answers do not change.
+    /// Adds an answer for a key that has none. Fails if an allocation fails. The other answers do not change.
     pub(super) fn add(&mut self, key: C::Key, value: C::Value) -> Result<(), AllocError>
     where
         A: Clone,

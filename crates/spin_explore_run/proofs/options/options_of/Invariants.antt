@@ -1,4 +1,4 @@
--- all words ask for what the rest of the words adds to the options so far
+-- the options so far, with those that the remaining words add, are what all words ask for
 use Rattle.std.proofs.Common.{◌≡◌, length, map}
 use Rattle.spin_explore_run.specs.Options.{no_options, options_from}
 use Rattle.spin_explore_run.proofs.options.options_of.Given as goal

@@ -1,4 +1,4 @@
--- In the read-write lock only `Read` reads, and it writes nothing.
+-- In the read-write lock only `Read` reads the value, and it writes nothing.
 use Rattle.std.proofs.Common.{◌≡◌, ℕ, refl}
 use Rattle.std.specs.Option.{unwrap_or}
 use Rattle.spin_seated.specs.Mutex.{mutex}

@@ -1,4 +1,4 @@
--- a pass whose try failed is as before
+-- a pass whose tries failed holds nothing, and has read and written nothing new
 use Rattle.std.proofs.Common.{◌≡◌, [], None}
 use Rattle.spin_seated.specs.Passes.{IsPassOf}
 use Rattle.spin_seated.specs.Rw.{holds}

@@ -1,4 +1,4 @@
--- the first bytes of the text were written, and the others are left to write
+-- the bytes of the text before `rest` were written; `rest` is left to write
 use Rattle.std.proofs.Common.{◌≡◌, ◌≤◌, length, ℕ, take, drop}
 use Rattle.std.specs.Io.KnownBytes.{Appends}
 use Rattle.spin_text.proofs.ends.write_whole.Given as goal

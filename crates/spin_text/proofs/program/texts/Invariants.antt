@@ -1,4 +1,4 @@
--- the other arguments are still to be taken
+-- the texts taken so far and those of `rest` are together the texts of all arguments
 use Rattle.std.proofs.Common.{◌≡◌, ◌++◌, length, map}
 use Rattle.spin_text.specs.Lines.{texts_of}
 use Rattle.spin_text.proofs.program.texts.Given as goal

@@ -13,7 +13,7 @@ use Rattle.spin_text.proofs.transcript.write_events.Given.{Over}
 use Rattle.spin_text.proofs.transcript.write_events.Goals.{After-write_line}
 use Rattle.spin_text.proofs.transcript.write_events.Goals as goal
 
--- the first line that is left is read as an entry
+-- the first of the lines left is read as an entry
 pub unwrap-party-requires : goal.unwrap-party-requires
 unwrap-party-requires g c =
     let next = ap lines_left c.in-Some.is ∙ c.first_line.ensures.lines in
@@ -28,7 +28,7 @@ put_event-start-requires-clause-line g c =
     (entries_in read (lines_left c.args.lines)) _ c.loop-rest.place c.unwrap-party.result c.act.result c.with_begin-outcome.result
     c.loop-rest.invariant.told (c.loop-rest.invariant.left ∙ first) (omega (arith, c.loop-rest.invariant.counted, c.requires.counted)) c.with_begin-outcome.ensures.outcome
 
--- one move more was played, and its line is still to be written
+-- one more move was played, and its line is still to be written
 next : (g : Over) (c : After-write_line g) → let m = g.O.Object.machine c.args.world.now.object in
     let from = c.args.world.now.state in
     let schedule = entries_in g.O.Spelled.read (lines_left c.args.lines) in

@@ -1,4 +1,4 @@
--- the first moves were played, and their lines were written except for a piece
+-- the moves so far were played; their lines were written, except for the last piece
 use Rattle.std.proofs.Common.{◌≡◌, ◌≤◌, ◌+◌, length, take, drop}
 use Rattle.spin_text.specs.declared.piece.TheConstants.{LONGEST_LINE, PIECE}
 use Rattle.spin_text.specs.Ends.{AppendsBut}

@@ -1,4 +1,4 @@
--- the bytes so far are digits, and the number is their value
+-- all bytes so far are digits, and the number is their value
 use Rattle.std.proofs.Common.{◌≡◌, ◌<◌, ◌^◌, take}
 use Rattle.std.specs.Str.Parse.{AllDigits, digits_value}
 use Rattle.spin_text.proofs.words.digits.Given as goal

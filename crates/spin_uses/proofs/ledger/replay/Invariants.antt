@@ -1,4 +1,4 @@
--- the rest of the journal leads from the balances so far to those of the whole
+-- the rest of the journal turns the balances so far into those after the whole journal
 use Rattle.std.proofs.Common.{◌≡◌, sum, drop}
 use Rattle.spin_uses.specs.Ledger.{replayed}
 use Rattle.spin_uses.proofs.ledger.replay.Given as goal

@@ -41,7 +41,7 @@ get_mut_spec 𝓤 𝓛 𝓜 𝓡 wired X U P K S L _ _ _ LS g d _ =
     enter ! _ _ _ _ _ $ alloc_all ! (λ l. pass_all ! refl ((tt, tt), tt) $ open_ref ! tt (in_memory Ty) $ use1 𝓛 (‵ Cell) (rekeyed 𝓛 m ms V Y Kr g old key b o same) $
     use1 𝓛 (some (λ (z : Knows 𝓛 m ms V Y Kr g key b o × All 𝓛 m ms V Y Kr g key b o). ‵ (words (z.1.0, z.1.1)) ⊛ ‵ (Lies z.1.2) ⊛ ‵ (said (Rule 𝓛 m ms V Y Kr g key b o z.1)) ⊛ raw Joined)) (fields_out 𝓛 m ms V Y Kr g key b o Lw Ls Cell out back) $
     pick ! (λ z. let n = z.1.0 in let k = z.1.1 in let x = z.1.2 in split ! $ move ! (1 ∷ []) $ split3 ! $ move ! (1 ∷ []) $ fpick ! (λ rule. drop ! $
-    -- [the value; the way back; the words; the open borrow; its two names; the tokens]
+    -- context: [the value; the way back; the words; the open borrow; its two names; the tokens]
     move ! (2 ∷ 1 ∷ []) $ join ! $ move ! (2 ∷ 3 ∷ 4 ∷ 1 ∷ 0 ∷ []) $ group ! 5 $
     use1 𝓛 (later (some (λ (δ : GName). ‵ (Lent.own_val (record { ref_ptr = (b, e); ghost_name = δ; now = x }) (at ∷ [])) ⊛ ‵ (flft κ q) ⊛ ‵ (follows Ty R γ δ (λ _. key)))))
     (lends_Part 𝓛 Ty R (λ _. key) (named 0) κ q b o b e γ (sep 𝓤 (sem 𝓛 (words (n, k))) Joined) (λ v. rejoined 𝓛 m ms V Y Kr g key b o Lw Ls Cell out back (n, k, v) (restarts (g.holds key) (g.ways key) n k x v free rule)) (K.coded.code old) (K.coded.code old) x) $ await ! tt $ pick ! (λ δ. split3 ! $

@@ -1,4 +1,4 @@
--- A `&` to a permit holds what its reader sees. Assumes `Logic`.
+-- A `&` to a permit owns the shared value if the permit's party reads. Assumes `Logic`.
 use mathlib.Core.List.{[], ◌++◌}
 use base.Fml.{Incl-trans}
 use contract.BorrowLft.{meet_⊑_left, meet_⊑_right}

@@ -1,4 +1,4 @@
--- `see` gives up a party's part of the value for the rest of the cell's borrow.
+-- `see` gives up a reader's part of the value, and lends the value for the rest of the cell's borrow.
 use Rattle.spin_core.proofs.WalkNames.{Some, some, pick, heard, hidden_shr, param_laws, ◌≡◌, sym, ◌+◌, List, [], ◌∷◌, refl, ap, dcons, dnil, Val, vptr, inst_fn, Fml, flft, ‵, raw, ◌⊛◌, given, later, at_ret, ◌$◌, ◌∵◌, !, qed, by, move, keep, split, join, fsplit, fjoin, learn, use1, await, feq_i, stop, fld, addr, of_opd, first, blocks, exec, returns, enter, alloc_all, pass_all, free_all, look_at, get, get_in, through, sets, sets_last, is, env, sub, whole, tables, fact, owns, types_at, named_lft, Ptr, ptr_val, block_of, count_of, at_block, nothing, param, bounded, walk_of, tail, proved, leaves, says, lies_at}
 use Rattle.spin_core.proofs.WalkSteps.{others, all_dropped, all_go}
 use Rattle.spin_core.specs.CellMemory.{offset, permit_owns}

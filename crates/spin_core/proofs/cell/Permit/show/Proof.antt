@@ -1,4 +1,4 @@
--- `show` gives up a part of the party's part of the value for the rest of the cell's borrow, and keeps the rest.
+-- `show` splits a reader's part of the value: it gives up one half for the rest of the cell's borrow, and keeps the other.
 use Rattle.spin_core.proofs.WalkNames.{Some, some, pick, heard, hidden_shr, param_laws, ◌≡◌, sym, ◌+◌, List, [], ◌∷◌, ◌++◌, refl, ap, dcons, dnil, Val, vptr, inst_fn, Fml, flft, ‵, raw, ◌⊛◌, given, later, at_ret, ◌$◌, ◌∵◌, !, qed, by, move, keep, split, join, fsplit, fjoin, learn, use0, use1, await, feq_i, stop, fld, addr, of_opd, no_more, and_then, agg, first, blocks, exec, returns, enter, alloc_all, pass_all, free_all, look_at, get, get_in, through, sets, sets_last, is, env, sub, whole, tables, fact, owns, types_at, named_lft, Ptr, ptr_val, block_of, count_of, at_block, block_ptr, nothing, named, param, bounded, walk_of, tail, proved, leaves, says, lies_at}
 use base.Fml.{fsep, feq}
 use mir.Val.{vstruct, vcons, vnil, of_list}

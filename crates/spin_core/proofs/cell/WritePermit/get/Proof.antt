@@ -1,4 +1,4 @@
--- `get` shows the value for as long as the permit is borrowed.
+-- `get` lends the value for as long as the write permit is borrowed.
 use Rattle.spin_core.proofs.WalkNames.{◌≡◌, ◌+◌, List, [], ◌∷◌, ◌++◌, refl, ap, dcons, dnil, named, Val, vptr, inst_fn, Fml, flft, Incl-refl, ‵, raw, ◌⊛◌, at_ret, ◌$◌, ◌∵◌, !, qed, by, move, keep, split, join, fsplit, fjoin, use1, rewrite, feq_i, stop, fld, addr, of_opd, first, blocks, exec, returns, enter, alloc_all, pass_all, free_all, look_at, get, through, sets, sets_last, env, sub, whole, tables, owns, types_at, named_lft, Ptr, block_ptr, block_of, count_of, at_block, nothing, param, bounded, param_laws, walk_of, tail, proved, leaves, shr_vals, shr_Tells, unhide, hop, look_in, lent_out, shortens, ⊑_meet, hidden_shr, cell_at, looks, peeks, shuts, Is, shows, ◌∙◌, sym, fhide, says, lies_at}
 use Rattle.core.specs.contracts.marker.PhantomData as marker
 use Rattle.spin_core.proofs.WalkSteps.{others, all_dropped, all_go}

@@ -1,4 +1,4 @@
--- `get_mut` lends the value, and the permit follows it. Assumes `Logic`.
+-- `get_mut` lends the value, and the permit then has the value that was written. Assumes `Logic`.
 use Rattle.spin_core.proofs.WalkNames.{◌≡◌, ℕ, ◌+◌, List, [], ◌∷◌, refl, sym, ap, ◌∙◌, named, dcons, dnil, Val, vptr, inst_fn, full_share, SProp, ent, wand, apply∗, Lft, Share, Fml, fsep, flft, before, Logic, sem, split3, ‵, raw, ◌⊛◌, at_ret, ◌$◌, ◌∵◌, !, qed, by, move, keep, split, join, fsplit, fsplit3, fjoin, use1, use2, use3, later, some, await, pick, fpick, fpack, rewrite, stop, addr, of_opd, first, blocks, exec, returns, enter, fld, hop, alloc_all, pass_all, free_all, look_at, get, through, sets, sets_last, env, sub, whole, look_in, tables, RattleType, owns, Is, shows, types_at, named_lft, nothing, peeks, param, bounded, cell_at, part_at, Ptr, block_ptr, block_of, count_of, at_block, walk_of, tail, proved, leaves, says, lies}
 use seplogic.Ra.Ura.{Ura}
 use base.Logic.{ex, all, all_e}

@@ -1,4 +1,4 @@
--- A `&` to a `ClosedLog` owns what it knows, which may be copied. Assumes `Logic`.
+-- A `&` to a `ClosedLog` owns what the closed log knows, which may be copied. Assumes `Logic`.
 use mathlib.Core.List.{[], ◌∷◌}
 use base.Logic.{snd∗}
 use base.Before.{before}

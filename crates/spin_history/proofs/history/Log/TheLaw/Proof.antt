@@ -1,4 +1,4 @@
--- A `&` to a log owns a share of the right to say what its entries are. Assumes `Logic`.
+-- A `&` to a log owns a share of the right to append. The share says what the entries are. Assumes `Logic`.
 use mathlib.Core.List.{[], ◌∷◌}
 use denote.RattleType.{RattleType}
 use denote.Param.Laws.{Laws}

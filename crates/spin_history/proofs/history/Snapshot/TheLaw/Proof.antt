@@ -1,4 +1,4 @@
--- A `&` to a `Snapshot` owns what it knows, which may be copied. Assumes `Logic`.
+-- A `&` to a `Snapshot` owns what the snapshot knows, which may be copied. Assumes `Logic`.
 use mathlib.Core.List.{[], ◌∷◌}
 use base.Logic.{snd∗}
 use base.Before.{before}

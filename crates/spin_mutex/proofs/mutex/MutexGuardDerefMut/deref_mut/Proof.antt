@@ -1,5 +1,4 @@
--- `deref_mut` lends the inner guard to its own `deref_mut`, and the guard follows what the inner guard follows. Assumes
--- `Logic`.
+-- `deref_mut` lends the inner guard to that guard's `deref_mut`; the guard then has what the inner guard has. Assumes `Logic`.
 use Rattle.spin_core.proofs.WalkNames.{◌≡◌, ℕ, ◌+◌, List, [], ◌∷◌, refl, sym, ap, a_type, named, Val, vptr, vunit, inst_fn, full_share, SProp, emp, id⊢, Lft, Share, Fml, ftrue, fsep, flft, fbor, Logic, ‵, raw, ◌⊛◌, ◌$◌, ◌∵◌, !, qed, by, move, keep, drop, split, split3, join, fsplit, fsplit3, fjoin, fjoin3, feq_i, feq_l, use0, use1, use2, use3, later, some, await, pick, stop, addr, no_more, and_then, returns, enter, fld, alloc_all, pass_all, free_all, look_at, get, through, sets, tables, fact, fact_i, yes, no, RattleType, owns, types_at, plain, named_lft, RefMutOf, nothing, param, layout, param_laws, Stays, stay_dropped, walk_of, proved, leaves}
 use seplogic.Ra.Ura.{Ura}
 use mir.Raw.{raw as raw_type}
@@ -92,18 +91,18 @@ deref_mut_spec {M} 𝓤 𝓛 𝓜 𝓡 wired T S LT LS =
     (callee.spec X W Y Z U N (release.ghosts X) (release.dict X) (rule.ghosts X) (rule.dict X) uses.ghosts uses.dict 𝓛 𝓜.mem 𝓡.returns) in
     qed 𝓛 (((‵ (flft κ q) ⊛ (‵ β ⊛ (‵ τ ⊛ (‵ u ⊛ ‵ ftrue)))) ⊛ ‵ (owns (types_at En.signature.params κs) a y.0.4)) ∷ raw (fact 𝓤 (Incl κs.1.1.0 T.lives)) ∷ raw (fact 𝓤 (Incl κs.1.1.1.0 S.lives)) ∷ ‵ ftrue ∷ []) ∵
     split ! $ split ! $ move ! (1 ∷ []) $ split3 ! $ move ! (2 ∷ []) $ split ! $ move ! (5 ∷ []) $ fsplit ! $ fsplit3 ! $
-    -- [its place; its value; its borrow; nothing; u; nothing; β; τ; κ; T lives; S lives; ..]
+    -- context: [its place; its value; its borrow; nothing; u; nothing; β; τ; κ; T lives; S lives; ..]
     keep ! (1 ∷ 2 ∷ 8 ∷ 6 ∷ 7 ∷ 4 ∷ 9 ∷ 10 ∷ []) $
     enter ! 𝓣.C 𝓣.Λ fn (vptr b o ∷ []) Post $ alloc_all ! (λ l. pass_all ! refl ((tt, tt), tt) $
     use3 𝓛 (later (some (λ (δ : GName). ‵ (fobs δ (P.coded.code h.inner)) ⊛ ‵ (fbor κ (Body (in_memory P) b (o + 0) δ)) ⊛ ‵ (flft κ q) ⊛ ‵ (follows G P γ δ (put ℓ T S LT LS h))))) (hands ℓ T S LT LS 𝓛 h κ q γ b o) $ await ! tt $ pick ! (λ δ. split ! $ move ! (1 ∷ []) $ split3 ! $
     let m' : MutBor P.Denot = record { ref_ptr = (b, o + 0); ghost_name = δ; now = h.inner } in
     let yc : C.Ghost = ((κs', qs', (bounds.0, (bounds.1.0, (⊑_static κ, (⊑_static κ, (bounds.1.1.0, (bounds.1.1.1.0, tt)))))), (m', tt), (vptr b (o + 0) ∷ [], tt)), tt) in
     move ! (3 ∷ 0 ∷ []) $ feq_i ! (List Val) (mut_vals m') (mut_vals m') refl $ fjoin3 ! $ nothing ! $ move ! (1 ∷ 0 ∷ []) $ fjoin ! $
-    -- [the argument; κ; what follows; β; τ; u; T lives; S lives; ..]: the lifetime of the values is asked for the key and for the second word too
+    -- context: [the argument; κ; what follows; β; τ; u; T lives; S lives; ..]: the lifetime of the values is asked for the key and for the second word too
     move ! (4 ∷ []) $ use1 𝓛 (‵ here ⊛ ‵ rest) (𝓛.lfts.lft_split life part) $ split ! $ move ! (1 ∷ []) $ use1 𝓛 (‵ its_key ⊛ ‵ its_second) (𝓛.lfts.lft_split life (other part)) $ split ! $
     nothing ! $ move ! (2 ∷ 0 ∷ []) $ fjoin ! $ move ! (1 ∷ 0 ∷ []) $ fjoin ! $ move ! (6 ∷ 0 ∷ []) $ fjoin ! $ use0 𝓛 (‵ σ) (𝓛.lfts.lft-nil full_share) $ fjoin ! $ use0 𝓛 (‵ σ) (𝓛.lfts.lft-nil full_share) $ fjoin ! $
     move ! (1 ∷ 0 ∷ []) $ fjoin ! $ move ! (4 ∷ 0 ∷ []) $ fjoin ! $ move ! (2 ∷ 0 ∷ []) $ fjoin ! $ join ! $
-    -- [tokens and argument; what follows; T lives; S lives; ..]
+    -- context: [tokens and argument; what follows; T lives; S lives; ..]
     move ! (2 ∷ []) $ heard ! (Incl life T.lives) (λ lives.
     nothing ! $ use0 𝓛 (raw (fact 𝓤 (Incl life N.lives))) (fact_i 𝓤 (Incl life N.lives) (emp 𝓤) (trace_within life T.lives lives)) $ join ! $ use0 𝓛 (raw (fact 𝓤 (Incl life U.lives))) (fact_i 𝓤 (Incl life U.lives) (emp 𝓤) (key_within life T.lives lives)) $ join ! $ move ! (3 ∷ 0 ∷ []) $ join ! $
     use0 𝓛 (raw (fact 𝓤 (Incl [] Y.lives))) (fact_i 𝓤 (Incl [] Y.lives) (emp 𝓤) (⊑_static [])) $ join ! $ use0 𝓛 (raw (fact 𝓤 (Incl [] W.lives))) (fact_i 𝓤 (Incl [] W.lives) (emp 𝓤) (⊑_static [])) $ join ! $
@@ -114,7 +113,7 @@ deref_mut_spec {M} 𝓤 𝓛 𝓜 𝓡 wired T S LT LS =
     some (λ (ws : Unit {0} × Unit {0}). ‵ (fsep ftrue ftrue) ⊛ (‵ (follows P R δ r.ghost_name (guard_with h.inner)) ⊛ raw (fact 𝓤 (r.now ≡ guard_value h.inner))))))) (id⊢ 𝓤 (C.post yc v)) $
     await ! tt $ pick ! (λ r. split ! $ split ! $ move ! (1 ∷ []) $ fsplit3 ! $ feq_l ! (λ e. move ! (3 ∷ []) $ pick ! (λ ws. split3 ! $ drop ! $ move ! (5 ∷ 0 ∷ []) $
     use2 𝓛 (‵ (follows G R γ r.ghost_name (with_value h))) (follows_then 𝓛 G P R (put ℓ T S LT LS h) (guard_with h.inner) γ δ r.ghost_name) $
-    -- [what follows; the value; its place; its borrow; the tokens; ..]
+    -- context: [what follows; the value; its place; its borrow; the tokens; ..]
     move ! (4 ∷ []) $ split3 ! $ move ! (2 ∷ []) $ split3 ! $ move ! (2 ∷ []) $ split3 ! $ move ! (2 ∷ []) $ split ! $ move ! (1 ∷ []) $ fsplit ! $
     move ! (2 ∷ 0 ∷ []) $ use2 𝓛 (‵ rest) (𝓛.lfts.lft_join life (other part)) $ move ! (4 ∷ 0 ∷ []) $ use2 𝓛 (‵ τ) (𝓛.lfts.lft_join life part) $ move ! (3 ∷ 1 ∷ []) $ join ! $
     move ! (1 ∷ 0 ∷ []) $ join ! $ move ! (4 ∷ 0 ∷ []) $ join ! $ move ! (3 ∷ 0 ∷ []) $ join ! $

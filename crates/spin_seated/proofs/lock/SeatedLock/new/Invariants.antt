@@ -4,7 +4,7 @@ use Rattle.spin_seated.specs.Histories.{newcomer}
 use Rattle.spin_seated.specs.Passes.{new_pass}
 use Rattle.spin_seated.proofs.lock.SeatedLock.new.Given as goal
 
--- the passes below the counter were given out, and the seat has the others
+-- the passes with numbers below the counter were given out; the seat has the others
 abbrev pub invariant-loop : goal.invariant-loop
 invariant-loop g l =
     record {

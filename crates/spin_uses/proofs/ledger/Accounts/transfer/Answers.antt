@@ -1,4 +1,4 @@
--- the journal with its new entry leads to the new balances, and the total is unchanged
+-- the journal with its new entry gives the new balances; their sum is unchanged
 use Rattle.std.proofs.Common.{◌∙◌, ap, sym, Some, sum}
 use Rattle.std.proofs.lemmas.List.{with_items_is}
 use Rattle.spin_uses.proofs.Transfers.{replays_more, keeps_total}

@@ -1,4 +1,4 @@
--- each worker that was started took one part, and its gains
+-- each started worker took one part of the book, and its gains
 use Rattle.std.proofs.Common.{◌≡◌, ◌+◌, ◌*◌, ◌≤◌, vec_len, vec_capacity}
 use Rattle.spin_uses.proofs.phases.Team.start_each.Given as goal
 

@@ -1,4 +1,4 @@
--- the share has what the worker still has to add
+-- the worker's share counts the gains that the worker still has to add
 use Rattle.std.proofs.Common.{◌≡◌, ◌+◌, ◌*◌}
 use Rattle.spin_uses.proofs.phases.Team.work.Given as goal
 

@@ -1,4 +1,4 @@
--- after each turn of the loop the pass is of this lock, outside its critical section
+-- at each turn of the loop the pass is one of this lock, outside its critical section
 use Rattle.std.proofs.Common.{◌≡◌, Some}
 use Rattle.spin_seated.specs.Passes.{IsPassOf}
 use Rattle.spin_seated_uses.specs.Sections.{away, section_of}

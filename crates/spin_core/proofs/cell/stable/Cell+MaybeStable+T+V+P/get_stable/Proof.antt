@@ -1,4 +1,4 @@
--- `get_stable` reads the first word, and lends the value where that is the number asked for. Assumes `Logic`.
+-- `get_stable` loads the first word, and lends the value if that is the number asked for. Assumes `Logic`.
 use Rattle.spin_core.proofs.WalkNames.{◌≡◌, ℕ, ◌+◌, [], ◌∷◌, sym, refl, subst, lit<, w64, dcons, dnil, named, vint, vptr, vcons, vnil, inst_fn, full_share, SProp, ent, sep, Fml, flft, sem, ‵, raw, ◌⊛◌, some, later, at_ret, ◌$◌, ◌∵◌, !, qed, by, move, keep, drop, use0, use1, use2, split, split3, join, pick, await, rewrite, fsplit, fsplit3, fjoin, fpick, stop, fld, addr, load, lit, of_opd, and_then, no_more, first, blocks, exec, returns, enter, agg, alloc_all, pass_all, free_all, look_at, get, through, sets, sets_last, env, tables, fact, RattleType, owns, types_at, uint_vals, uint_Tells, part_at, param, layout, bounded, param_laws, nothing, heard, walk_of, proved, leaves}
 use Rattle.std.proofs.Common.{eqb→eq, w8}
 use mir.Syntax.{Body, seq, assign, place, rv_opd, copy, aggregate, int}
@@ -36,7 +36,7 @@ use Rattle.spin_core.proofs.cell.stable.Cell+MaybeStable+T+V+P.get_stable.Code a
 abbrev wraps : Body
 wraps = seq (assign (place 7 []) (rv_opd (copy (place 8 [])))) (assign (place 6 []) (aggregate (int w8 1 ∷ copy (place 7 []) ∷ [])))
 
--- a stable value lies as a maybe_stable one does
+-- a `Stable` value has the same layout as a `MaybeStable` one
 lies : (X : RattleType) (g : Ghosts X.Denot) (w : (stable.the_row X g).Denot) (b e : ℕ) → part_at (stable.the_row X g) full_share w b e ≡ part_at (maybe_stable.the_row X) full_share (record { value = w.value }) b e
 unfolding part_of
 lies X g w b e = refl
@@ -69,7 +69,7 @@ get_stable_spec 𝓤 𝓛 𝓜 𝓡 wired X U P K N L _ _ _ LN s d' g d _ _ =
     (fields_out 𝓛 m ms V Y Kr g key b o Lw Ls (Row 𝓛 m ms V Y Kr g key b o) (row_out 𝓛 m ms V Y Kr g key b o) (row_in 𝓛 m ms V Y Kr g key b o)) $
     pick ! (λ z. let n = z.1.0 in let k = z.1.1 in let x = z.1.2 in
     split ! $ fsplit ! $ move ! (2 ∷ []) $ split3 ! $ move ! (1 ∷ []) $ fpick ! (λ rule. drop ! $ move ! (2 ∷ []) $
-    -- [the first word; the value; the way back; the second word; the open borrow; its two names; the tokens]
+    -- context: [the first word; the value; the way back; the second word; the open borrow; its two names; the tokens]
     well_typed ! (λ good. sets ! (of_opd ! (load ! (through ! refl (fld ! refl (stop !))) (look ! 0 refl))) refl (tt, record { fits = good.1.fits }) $ sets ! (of_opd ! (get ! refl)) refl (tt, record { fits = are.1.0.1 }) $
     sets ! (bin ! (get ! refl) (get ! refl) tt) refl (tt, tt) $ first ! $ branches ! (get ! refl)
     (λ same. let is = eqb→eq n wanted same in let may = ok k x.value (subst (λ (j : ℕ). Starts (g.holds key) (g.ways key) j k x) is rule) in

@@ -1,4 +1,4 @@
--- `LatchRule` meets `Release`, by `released`.
+-- `LatchRule` implements `Release` as its trait asks, by `released`.
 use Rattle.std.proofs.Common.{[], ◌∷◌, refl}
 use mir.Syntax.{a_type, method}
 use contract.Running.{within}

@@ -1,4 +1,4 @@
--- the share has what the worker still has to add
+-- the worker's share counts the additions that the worker still has to make
 use Rattle.std.proofs.Common.{◌≡◌, ◌+◌}
 use Rattle.spin_run.proofs.run.counting.Team.add_all.Given as goal
 

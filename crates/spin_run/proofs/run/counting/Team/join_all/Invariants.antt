@@ -1,4 +1,4 @@
--- each worker that was joined gave its one part back
+-- each joined worker gave its one part of the book back
 use Rattle.std.proofs.Common.{◌≡◌, ◌+◌, vec_len}
 use Rattle.spin_run.proofs.run.counting.Team.join_all.Given as goal
 

@@ -1,4 +1,4 @@
--- each worker that was started took one part, and its additions
+-- each started worker took one part of the book, and its additions
 use Rattle.std.proofs.Common.{◌≡◌, ◌+◌, ◌*◌, ◌≤◌, vec_len, vec_capacity}
 use Rattle.spin_run.proofs.run.counting.Team.start_all.Given as goal
 

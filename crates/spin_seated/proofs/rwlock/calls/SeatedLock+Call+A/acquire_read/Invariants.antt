@@ -3,7 +3,7 @@ use Rattle.spin_seated.specs.Passes.{IsPassOf}
 use Rattle.spin_seated.specs.Rw.{rw, refused_by}
 use Rattle.spin_seated.proofs.rwlock.calls.SeatedLock+Call+A.acquire_read.Given as goal
 
--- the word found last refused, or nothing is told yet
+-- if the word found last has no room for a reader, the step that found it was the call, which fails
 abbrev pub invariant-loop : goal.invariant-loop
 invariant-loop g l =
     record {

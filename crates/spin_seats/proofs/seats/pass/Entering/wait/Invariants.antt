@@ -3,7 +3,7 @@ use Rattle.spin_seats.specs.declared.calls.SeatsCall.TheVariants.{Enter}
 use Rattle.spin_seats.specs.declared.seats.rule.Account.{Account}
 use Rattle.spin_seats.proofs.seats.pass.Entering.wait.Given as goal
 
--- it is still in the call in which it began to wait
+-- the party is still in the call in which it began to wait
 abbrev pub invariant-loop : goal.invariant-loop
 invariant-loop g l =
     (goal.iterator-loop g).can_next l.iterator' × (goal.iterator-loop g).is_finite l.iterator'

@@ -2,7 +2,7 @@ use Rattle.spin_seats.specs.Accounts.{IsTrying}
 use Rattle.spin_seats.specs.declared.seats.rule.Account.{Account}
 use Rattle.spin_seats.proofs.seats.pass.Trying.take.Given as goal
 
--- it is still in the call that it began
+-- the party is still in the call that it began
 abbrev pub invariant-loop : goal.invariant-loop
 invariant-loop g l =
     (goal.iterator-loop g).can_next l.iterator' × (goal.iterator-loop g).is_finite l.iterator'
