@@ -24,24 +24,24 @@ pub fn add_from_two<R: Threads + Wait + Sync>(rt: &R) -> u64 {
     total.into_inner()
 }
 
-/// Acquires the lock without a guard. The hold is a value, and dropping it releases nothing.
+/// Acquires the lock without a guard. The result is a hold: dropping it does not release the lock.
 pub fn take<'a, W: Wait>(rt: &W, lock: &'a SpinMutex<u64>) -> Held<'a, u64> {
     SpinMutexGuard::hold(lock.lock(rt))
 }
 
-/// Releases the lock. It consumes the hold, so no thread releases it twice.
+/// Releases the lock. The call consumes the hold, so no thread can release the lock twice.
 pub fn give_back(held: Held<'_, u64>) {
     SpinMutex::force_unlock(held);
 }
 
-/// Returns twice the value of a lazy lock, which its first caller makes.
+/// Returns twice the value of a lazy lock. The lock's first caller makes the value.
 pub fn doubled<W: Wait, F: FnOnce() -> u64>(rt: &W, lazy: &LazyLock<u64, F>) -> u64
     requires { F.pre (initialiser lazy.now) }
 {
     LazyLock::force(lazy, rt).wrapping_mul(2)
 }
 
-/// Starves for the lock, or waits as a newcomer if no more threads may starve.
+/// Acquires the lock as a starver, or as a newcomer if no more threads may starve.
 pub fn add_starving<W: Wait>(rt: &W, total: &FairMutex<u64>) {
     let mut guard = match total.starve(rt) {
         Some(place) => place.lock(rt),
@@ -50,7 +50,7 @@ pub fn add_starving<W: Wait>(rt: &W, total: &FairMutex<u64>) {
     *guard = guard.wrapping_add(1);
 }
 
-/// Acquires the lock, and lets another thread write and release it.
+/// Acquires the lock, and lets another thread write the value and release the lock.
 pub fn set_elsewhere<R: Threads + Wait + Sync>(rt: &R, total: &Mutex<u64>, value: u64) {
     let mut guard = total.lock(rt);
     let write = move || {
@@ -59,7 +59,8 @@ pub fn set_elsewhere<R: Threads + Wait + Sync>(rt: &R, total: &Mutex<u64>, value
     thread::join(rt, write, || ());
 }
 
-/// Raises a limit that is too low. No thread writes between the look and the change, or between that and the answer.
+/// Raises a limit that is too low. No other thread writes between the read and the change, or between the change
+/// and the answer.
 pub fn raise<W: Wait>(rt: &W, limit: &RwLock<u64>, least: u64) -> u64
     ensures { least ≤ result }
 {
@@ -72,7 +73,7 @@ pub fn raise<W: Wait>(rt: &W, limit: &RwLock<u64>, least: u64) -> u64
     *guard.downgrade()
 }
 
-/// Returns the port that the text names. If it names none there is no value still, and another caller may try.
+/// Returns the port that the text names. If the text names none, the `Once` stays empty, and another caller may try.
 pub fn port_of<'a, W: Wait>(
     rt: &W,
     port: &'a Once<u16>,

@@ -1,5 +1,5 @@
-//! Every change of a lock's word, as a pure function from the word before to the word after. Also the plain lock: each
-//! of these functions makes one step of it.
+//! Every change of a lock's word, as a pure function from the word before to the word after. Each function makes one
+//! step of the plain lock, which is defined here too.
 //!
 //! Begin with [`flag`], the smallest lock. A function that may fail returns `None` in place of a new word.
 //!

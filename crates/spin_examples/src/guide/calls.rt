@@ -12,7 +12,7 @@ use std::thread::{Threads, join};
 
 type Pass<'a> = spin::mutex::spin::Pass<'a, u64, Spin>;
 
-/// Adds one. The calls that this adds to the pass are a `lock` and its release.
+/// Adds 1. The new calls of the pass are one `lock` and its release.
 pub fn add<'a, W: Wait>(rt: &W, pass: Pass<'a>) -> Pass<'a>
     ensures made { HeldOnce pass.entry result }
     ensures lock { lock_of result ≡ lock_of pass.entry }
@@ -22,7 +22,8 @@ pub fn add<'a, W: Wait>(rt: &W, pass: Pass<'a>) -> Pass<'a>
     SpinMutex::unlock(guard, seen)
 }
 
-/// Adds from two threads. The history that one of them knows begins with all that the other one knows.
+/// Adds 1 in each of two threads. The history that one pass knows is a prefix of the history that the other pass
+/// knows.
 pub fn add_both<'a, R: Threads + Wait + Sync>(
     rt: &R,
     lock: &'a SpinMutex<u64>,

@@ -1,4 +1,4 @@
-//! A table that several threads read at once. A thread that misses an entry inserts it.
+//! A table that several threads read at once. A thread that finds no entry inserts one.
 #![tactic(auto)]
 
 use spin::RwLock;
@@ -6,7 +6,7 @@ use std::alloc::AllocFailed;
 use std::collections::BTreeMap;
 use std::sync::Wait;
 
-/// Returns the port of a host. If it has none, `port` becomes its port.
+/// Returns the port of a host. A host without one gets `port`.
 pub fn port_of<W: Wait>(
     rt: &W,
     ports: &RwLock<BTreeMap<u64, u16>>,

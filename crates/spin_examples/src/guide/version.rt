@@ -21,7 +21,7 @@ pub fn raise<H: History, W: Wait>(rt: &W, version: &Version<H>, seen: &mut Seen<
     register::update(rt, version, next, seen);
 }
 
-/// Reads twice. The second number is not below the first, whoever raised the version meanwhile.
+/// Reads twice. The second number is not below the first, whichever thread raised the version in between.
 pub fn watch<H: History, W: Wait>(rt: &W, version: &Version<H>, seen: &mut Seen<H>) -> (u64, u64)
     ensures { result.0 ≤ result.1 }
 {
