@@ -1,6 +1,6 @@
 -- The result of an event: its move is skipped, or is open and does what it is for. What holds in each of these cases
 -- holds of every event.
-use Rattle.spin_world_core.proofs.Names.{◌≡◌, ℕ, Bool, true, false, Option, Some, None, is_some, slice_get, refl, ap, Hold, Seat, Idle, Calling, Holding, Leaked, Next, Move, Begin, Step, Weak, Read, Write, Leak, OwnerGet, OwnerSet, StepKind, plain, weak, Machine, Happened, skipped, begun, goes_on, refuses, resting, read_by, written_by, may_read, may_write, is_owners, owner_gets, owner_sets, Seen, Scene, scene, scene_at, scene_of, is_open_move}
+use Rattle.spin_world_core.proofs.Names.{seat_of, ◌≡◌, ℕ, Bool, true, false, Option, Some, None, is_some, refl, ap, Hold, Seat, Idle, Calling, Holding, Leaked, Next, Move, Begin, Step, Weak, Read, Write, Leak, OwnerGet, OwnerSet, StepKind, plain, weak, Machine, Happened, skipped, begun, goes_on, refuses, resting, read_by, written_by, may_read, may_write, is_owners, owner_gets, owner_sets, Seen, Scene, scene, scene_at, scene_of, is_open_move}
 
 -- the seat of a party with this hold, which it still holds or has leaked
 abbrev pub seat_with : {C L : Type 0} → Bool → Hold → Seat C L
@@ -9,7 +9,7 @@ seat_with false h = Leaked h
 
 module _ {W V C L A : Type 0} (m : Machine W V C L A) (seen : Seen W V C L) (p : ℕ) where
   abbrev pub SitsAt : Option (Seat C L) → Type 0
-  SitsAt o = slice_get seen.state.seats p ≡ o
+  SitsAt o = seat_of seen p ≡ o
 
   -- what has to be shown of an event of this party
   pub record OfEach (P : Scene W V C L A → Type 0) : Type 0 where
@@ -66,4 +66,4 @@ module _ {W V C L A : Type 0} (m : Machine W V C L A) (seen : Seen W V C L) (p :
 
     -- then it holds of every event
     pub of_event : (move : Move C V) → P (scene m seen p move)
-    of_event move = at_seat move (slice_get seen.state.seats p) refl
+    of_event move = at_seat move (seat_of seen p) refl

@@ -26,7 +26,7 @@ pub use Rattle.spin_model.specs.Machines.{Machine, opening_phase, opening_plain}
 pub use Rattle.spin_model.specs.StepKinds.{StepKind, again, by_step, is_again, is_look, is_weak, look, plain, weak}
 pub use Rattle.spin_model.specs.Operations.{IsOneOperation, Operation, Performs, RefusesAsLost, Stepwise, exchanges, performed, sets_lowest_bit}
 pub use Rattle.spin_world_core.specs.Order.{Gets, GetsWhenDue, LooksElse, MayTryOn, TriesOn, Way, always, by_looks, is_due, is_due_by, past_looks, way_of, goes_of, tries_of}
-pub use Rattle.spin_world_core.specs.Runs.{AfterAnyPast, CanAlways, CanStep, ComesTo, CountsAll, EndsWithin, Every, ContinuesWithin, InItsCall, InTime, IsBeginning, IsCounted, IsInTime, IsOwners, IsReached, IsRight, IsWeakCall, Keeps, KeepsAll, LeavesCalls, MaySkip, MayTouch, MomentsAll, OwnSteps, RegistersInTime, RightAnswer, RightBy, Scene, Seen, StandsFor, StepLeaves, YieldsToOwner, asked, changes, entries_held, entries_of, entries_so_far, failures, held_at, if_completed, is_in_place, is_open_move, is_reader, is_writer, mark_of, opening, own, own_count, scene, scene_at, scene_of}
+pub use Rattle.spin_world_core.specs.Runs.{AfterAnyPast, CanAlways, CanStep, ComesTo, CountsAll, EndsWithin, Every, ContinuesWithin, InItsCall, InTime, IsBeginning, IsCounted, IsInTime, IsOwners, IsReached, IsRight, IsWeakCall, Keeps, KeepsAll, LeavesCalls, MaySkip, MayTouch, MomentsAll, OwnSteps, RegistersInTime, RightAnswer, RightBy, Scene, Seen, StandsFor, StepLeaves, YieldsToOwner, asked, changes, entries_held, entries_of, entries_so_far, failures, held_at, if_completed, is_in_place, is_open_move, is_reader, is_writer, mark_of, opening, own, own_count, scene, scene_at, scene_of, seat_of}
 pub use Rattle.spin_model.specs.Schedules.{Happened, State, after, at_first, begins_after, begun, events_of, goes_on, happens, is_begun, is_owners, last_begin, let_go, may_read, may_write, moves_at, owner_gets, owner_sets, owner_writes, skipped, placed, read_by, refuses, resting, seated, seen_by_owner, with_begin, with_begins, written_by, yields_to_owner}
 pub use Rattle.spin_world_core.specs.Sharing.{has_leaked, shares}
 pub use Rattle.spin_world_core.specs.Transcripts.{EachTells, PlaceSays, SaysAfterAnyPast, Stage, StandsAt, TellsAfterAnyPast, at_rest, in_call, is_gone, let_go_stage, scenes, stage_after, stage_by_own, stage_by_owner, without_begin}

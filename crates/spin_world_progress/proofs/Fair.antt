@@ -3,7 +3,7 @@
 -- by its next step.
 use Rattle.spin_world_progress.proofs.Names.{cases_eq, Next, suc, Bool, entries, entries-other, empty_is, if◌then◌else◌, ◌-◌, resting, ◌≡◌, ℕ, ◌==◌, true, false, Option, Some, None, List, [], ◌∷◌, length, refl, ap, ◌∙◌, arith, not, ◌≤◌, ◌⊎◌, inl, inr, ⊎_elim, Plain, Kind, writing, Holder, is_empty, is_holder, is_starver, without_holder, holder, IsOpenStep, is_set, Hold, filter, slice_get, subst, Answer, Seat, Calling, Holding, Move, Step, Machine, after, at_first, get-set_same, Seen, Scene, scene_at, opening, seen_after, eqb_self, Notes, Plays, Invariant, in_call, row_tells, calls_so, StandsSo, fair_table, fair_machine}
 use Rattle.spin_world.proofs.FairNames.{fair, fair_is_locked-tells, Write, Starver, FairCall, Lock, StarverLock, Release, FairPoint, First, SetFlag, Await, Unregister, asks_of}
-use Rattle.spin_world.proofs.FairOwed.{fair_notes, fair_keeping, fair_facts}
+use Rattle.spin_world.proofs.FairOwed.{fair_notes, fair_facts}
 use Rattle.spin_world_progress.specs.Fair.{grants_lock, LocksInFive, StarversAreDeadlockFree}
 use Rattle.spin_world_progress.proofs.Endless.{at_last}
 use Rattle.spin_world_progress.proofs.Progress.{holds_lock, is_busy}
@@ -70,10 +70,7 @@ module _ {V : Type 0} (v : V) (cap patience : ℕ) where
   abbrev m : Machine ℕ V FairCall FairPoint (Answer V)
   m = fair_machine v cap patience
 
-  abbrev k : Notes (fair_table v cap patience)
-  k = fair_keeping v cap patience
-
-  abbrev f : Plays m k
+  abbrev f : Plays m (fair_notes v cap patience)
   f = fair_facts v cap patience
 
   abbrev World : Type 0
@@ -89,7 +86,7 @@ module _ {V : Type 0} (v : V) (cap patience : ℕ) where
     abbrev sc : World → ℕ → FairCall → FairPoint → Option Hold → Scene ℕ V FairCall FairPoint (Answer V)
     sc seen q d i j = scene_at m seen q Step (Some (Calling d i j))
 
-    module _ (seen : World) (good : Invariant m k seen) (l : FairPoint) where
+    module _ (seen : World) (good : Invariant f seen) (l : FairPoint) where
       abbrev s : Plain
       s = seen.plain
 
@@ -108,7 +105,7 @@ module _ {V : Type 0} (v : V) (cap patience : ℕ) where
         abbrev y : Scene ℕ V FairCall FairPoint (Answer V)
         y = sc seen p c l h
 
-        granted : l ≡ Unregister → walk.Reaches m k f x y
+        granted : l ≡ Unregister → walk.Reaches f x y
         granted is = grind (arith, is, get-set_same seen.state.seats p (Holding Write) _ there)
 
         goes_clear : its_point l → (l ≡ Unregister → ⊥) → s.holders ≡ [] → is_set seen.state.words ≡ false
@@ -118,7 +115,7 @@ module _ {V : Type 0} (v : V) (cap patience : ℕ) where
         goes_set : its_point l → (l ≡ Unregister → ⊥) → is_set seen.state.words ≡ true → (slice_get y.after.state.seats p ≡ Some (Calling c Await h)) × (y.after.plain ≡ s)
         goes_set at ne set = grind (arith, waits, at, ne, set, get-set_same seen.state.seats p (Calling c Await h) _ there)
 
-        own : (n : ℕ) → walk.Within m k f x seen l (suc n) → IsOpenStep s p y.change → its_point l → (l ≡ Unregister → ⊥) → (b : Bool) → is_empty s.holders ≡ b → walk.Own m k f x seen l n y
+        own : (n : ℕ) → walk.Within f x seen l (suc n) → IsOpenStep s p y.change → its_point l → (l ≡ Unregister → ⊥) → (b : Bool) → is_empty s.holders ≡ b → walk.Own f x seen l n y
         own n within opens at ne true is =
             ⊎_elim
             (λ on. inr (Unregister, on.0, tt, rw on.1 (grind (arith, within.mine, is, on.2)), λ o other not_its. omega (arith, others_same p o c l h opens not_its)))
@@ -126,12 +123,12 @@ module _ {V : Type 0} (v : V) (cap patience : ℕ) where
             (goes_clear at ne (empty_is s.holders is) (flag ∙ ap not is))
         own n within opens at ne false is = let on = goes_set at ne (flag ∙ ap not is) in inr (Await, on.0, tt, rw (on.1, is) (omega arith), λ o other not_its. omega (arith, others_same p o c l h opens not_its))
 
-        own_by : (n : ℕ) → walk.Within m k f x seen l (suc n) → IsOpenStep s p y.change → its_point l → walk.Own m k f x seen l n y
+        own_by : (n : ℕ) → walk.Within f x seen l (suc n) → IsOpenStep s p y.change → its_point l → walk.Own f x seen l n y
         own_by n within opens at = ⊎_elim (λ (is : l ≡ Unregister). inl (granted is)) (λ (ne : l ≡ Unregister → ⊥). own n within opens at ne (is_empty s.holders) refl) (point_cases l)
 
       some_starve : slice_get seen.state.seats p ≡ Some (Calling c l h) → its_point l → is_empty s.starvers ≡ false
       some_starve there at =
-          own_some p s.starvers (row_tells (fair_notes v cap patience) c l h p s (seen.span p) (λ e. not (is_empty e.starvers)) _ (in_call m k seen p c l h good there).knows (grind (arith, waits, at)))
+          own_some p s.starvers (row_tells (fair_notes v cap patience) c l h p s (seen.span p) (λ e. not (is_empty e.starvers)) _ (in_call f p good there).knows (grind (arith, waits, at)))
 
       -- another party's step, which may set a clear flag
       takes_clear : (q : ℕ) (d : FairCall) (i : FairPoint) (j : Option Hold) → s.holders ≡ [] → is_set seen.state.words ≡ false → is_empty s.starvers ≡ false → slice_get seen.state.seats q ≡ Some (Calling d i j) → let y = sc seen q d i j in IsOpenStep s q y.change
@@ -142,23 +139,23 @@ module _ {V : Type 0} (v : V) (cap patience : ℕ) where
       takes_none q d i j set so = grind (arith, set, so)
 
       -- a holder leaves, or is granted
-      holder_steps : (n q : ℕ) (d : FairCall) (i : FairPoint) (j : Option Hold) → slice_get seen.state.seats q ≡ Some (Calling d i j) → Sits q (Some (Calling d i j)) → walk.After m k f x seen q (sc seen q d i j) → theirs_by true (Some (Calling d i j)) ≤ suc n
-          → walk.Reaches m k f x (sc seen q d i j) ⊎ walk.Falls m k f x seen l q (sc seen q d i j) n
+      holder_steps : (n q : ℕ) (d : FairCall) (i : FairPoint) (j : Option Hold) → slice_get seen.state.seats q ≡ Some (Calling d i j) → Sits q (Some (Calling d i j)) → walk.After f x seen q (sc seen q d i j) → theirs_by true (Some (Calling d i j)) ≤ suc n
+          → walk.Reaches f x (sc seen q d i j) ⊎ walk.Falls f x seen l q (sc seen q d i j) n
       holder_steps n q Release First (Some Write) seat so made few =
           let none : (sc seen q Release First (Some Write)).after.plain.holders ≡ [] = one_gone writing q s.holders good.shape.one made.opens.1 in
           inr (record { his = rw none (omega arith); mine = rw none (grind (arith, few)); others = λ o other not_his. omega (arith, others_same q o Release First (Some Write) made.opens not_his) })
       holder_steps n q d Unregister j seat so made few = inl (rw (get-set_same seen.state.seats q (Holding Write) _ seat) refl)
       holder_steps n q d i j seat so made few = absurd (grind (arith, so))
 
-      module _ (n : ℕ) (within : walk.Within m k f x seen l (suc n)) (there : slice_get seen.state.seats p ≡ Some (Calling c l h)) (at : its_point l) (q : ℕ) (d : FairCall) (i : FairPoint) (j : Option Hold) (ne : q ≡ p → ⊥) (seat : slice_get seen.state.seats q ≡ Some (Calling d i j)) (made : walk.After m k f x seen q (sc seen q d i j)) where
+      module _ (n : ℕ) (within : walk.Within f x seen l (suc n)) (there : slice_get seen.state.seats p ≡ Some (Calling c l h)) (at : its_point l) (q : ℕ) (d : FairCall) (i : FairPoint) (j : Option Hold) (ne : q ≡ p → ⊥) (seat : slice_get seen.state.seats q ≡ Some (Calling d i j)) (made : walk.After f x seen q (sc seen q d i j)) where
         abbrev falls : Type 0
-        falls = walk.Reaches m k f x (sc seen q d i j) ⊎ walk.Falls m k f x seen l q (sc seen q d i j) n
+        falls = walk.Reaches f x (sc seen q d i j) ⊎ walk.Falls f x seen l q (sc seen q d i j) n
 
         one_left : is_empty s.holders ≡ true → 1 ≤ n
         one_left is = grind (arith, at, within.mine, is)
 
         -- nobody else begins to hold, or it sets a clear flag
-        other_steps : holds_lock (entries q s) ≡ false → (b : Bool) → is_empty s.holders ≡ b → walk.Falls m k f x seen l q (sc seen q d i j) n
+        other_steps : holds_lock (entries q s) ≡ false → (b : Bool) → is_empty s.holders ≡ b → walk.Falls f x seen l q (sc seen q d i j) n
         other_steps none true is =
             ⊎_elim
             (λ (still : (sc seen q d i j).after.plain.holders ≡ []).
@@ -191,7 +188,7 @@ module _ {V : Type 0} (v : V) (cap patience : ℕ) where
       busy q true found some = walk.busy_so (fair_notes v cap patience) holds_lock q _ refl (λ h so. grind (arith, so)) (his_sits q found)
       busy q false found some = absurd (omega (arith, some))
 
-      some : slice_get seen.state.seats p ≡ Some (Calling c l h) → its_point l → walk.Within m k f x seen l 0 → ⊥
+      some : slice_get seen.state.seats p ≡ Some (Calling c l h) → its_point l → walk.Within f x seen l 0 → ⊥
       some there at none = by s.holders refl
         where
           by : (hs : List Holder) → s.holders ≡ hs → ⊥
@@ -206,7 +203,7 @@ module _ {V : Type 0} (v : V) (cap patience : ℕ) where
       strong q d i j next seat may true found o = absurd (grind (arith, may, subst (Sits q) seat (his_sits q found)))
       strong q d i j next seat may false none o = omega arith
 
-    walks : walk.Walks m k f x
+    walks : walk.Walks f x
     walks =
         record {
           fine = λ seen q move good fine. tt;
@@ -228,7 +225,7 @@ module _ {V : Type 0} (v : V) (cap patience : ℕ) where
   locks_in_five n past rounds p c l h there asks with_it are few =
       let seen = seen_after m (opening m n) past in
       let at = its_call_is p c l h asks (calls_so (fair_machine v cap patience) (fair_notes v cap patience) f n past (λ e. not (is_empty e.starvers)) p c l h there (starves_own p seen.plain.starvers with_it)) in
-      walk.ends m k f (x p c h at.0) (walks p c h at.0) n past rounds l there at.1 tt tt are
+      walk.ends f (x p c h at.0) (walks p c h at.0) n past rounds l there at.1 tt tt are
       (λ w. let fit = λ (b : Bool) (his : Option FairSeat). loads_fit (is_empty seen.plain.holders) b l his in record { mine = omega (arith, few, (fit true None).0); theirs = λ q ne. omega (arith, few, (fit (holds_lock (entries q seen.plain)) (slice_get seen.state.seats q)).1) })
 
   pub deadlock_free : (n : ℕ) (past : List (ℕ × Move FairCall V)) (schedule : ℕ → ℕ × Move FairCall V) → StarversAreDeadlockFree m n past schedule

@@ -5,7 +5,7 @@ use Rattle.spin_model.specs.declared.flag.FlagCall.{FlagCall}
 use Rattle.spin_model.specs.declared.flag.FlagCall.TheVariants.{Lock, Release}
 use Rattle.spin_model.specs.declared.flag.FlagPoint.{FlagPoint}
 use Rattle.spin_model.specs.declared.flag.FlagPoint.TheVariants.{First, Second}
-use Rattle.spin_world.proofs.FlagOwed.{flag_notes, flag_keeping, flag_facts}
+use Rattle.spin_world.proofs.FlagOwed.{flag_notes, flag_facts}
 use Rattle.spin_world_progress.specs.Flag.{LocksInFour, IsDeadlockFree}
 use Rattle.spin_world_progress.proofs.Endless.{at_last}
 use Rattle.spin_world_progress.proofs.Progress.{holds_lock}
@@ -35,7 +35,7 @@ module _ {V : Type 0} (v : V) where
     Nobody seen = (q : ℕ) → holds_lock (entries q seen.plain) ≡ false
 
     -- its own step
-    own : (seen : World) (l : FlagPoint) → Invariant m (flag_keeping v) seen → slice_get seen.state.seats p ≡ Some (Calling Lock l h) → (b : Bool) → seen.state.words ≡ b → let x = scene_at m seen p Step (Some (Calling Lock l h)) in
+    own : (seen : World) (l : FlagPoint) → Invariant (flag_facts v) seen → slice_get seen.state.seats p ≡ Some (Calling Lock l h) → (b : Bool) → seen.state.words ≡ b → let x = scene_at m seen p Step (Some (Calling Lock l h)) in
         (goal p Step x.outcome (slice_get x.after.state.seats p) ≡ true) ⊎ ((i : FlagPoint) × (slice_get x.after.state.seats p ≡ Some (Calling Lock i h)) × Unit {0} × (Nobody seen → rank_by i ≤ rank_by l - 1))
     own seen First good there false is = inl (rw is refl)
     own seen Second good there false is = inr (First, rw is (get-set_same seen.state.seats p (Calling Lock First h) _ there), tt, λ none. omega arith)

@@ -35,10 +35,10 @@ module _ {W V C L A : Type 0} (t : Table W V C L A) (n : Notes t) (f : Plays (ma
   x = record { goal = goal; party = p; call = c; hold = h; At = At; Known = λ seen. Unit {0}; Fine = λ seen. Unit {0}; mine = λ s l. rank l; theirs = λ s l q his. load_by bound (test (entries q s)) his }
 
   abbrev pub Waits : World → L → Type 0
-  Waits = walk.Waits m k f x
+  Waits = walk.Waits f x
 
   abbrev pub Reaches : Scene W V C L A → Type 0
-  Reaches = walk.Reaches m k f x
+  Reaches = walk.Reaches f x
 
   abbrev holds : ℕ → World → Bool
   holds q seen = test (entries q seen.plain)
@@ -53,7 +53,7 @@ module _ {W V C L A : Type 0} (t : Table W V C L A) (n : Notes t) (f : Plays (ma
     pub not_its : (l : L) → At l → StandsSo n test p c l h → ⊥
     pub reads : (q : ℕ) (h : Hold) → test (entries_of q h) ≡ true → may_read h ≡ true
     -- its own step, which lowers its rank if nobody holds, and a spurious failure
-    pub own : (seen : World) (l : L) → Invariant m k seen → slice_get seen.state.seats p ≡ Some (Calling c l h) → At l
+    pub own : (seen : World) (l : L) → Invariant f seen → slice_get seen.state.seats p ≡ Some (Calling c l h) → At l
         → let sc = scene_at m seen p Step (Some (Calling c l h)) in Reaches sc ⊎ ((i : L) × (slice_get sc.after.state.seats p ≡ Some (Calling c i h)) × At i × (Nobody seen → rank i ≤ rank l - 1))
     pub weak : (seen : World) (l : L) (next : Next L A) → At l → m.refuse c l h ≡ Some next → let x = goes_on seen.state p c h next in goal p Weak x.outcome (slice_get x.next.seats p) ≡ true
     -- a step makes nobody a holder, unless it reaches the goal
@@ -66,12 +66,12 @@ module _ {W V C L A : Type 0} (t : Table W V C L A) (n : Notes t) (f : Plays (ma
     pub some : (l : L) → 1 ≤ rank l
 
   module _ (leaves : Leaves) where
-    sits : (seen : World) → Invariant m k seen → (q : ℕ) → holds q seen ≡ true → walk.SitsSo n test q (slice_get seen.state.seats q)
+    sits : (seen : World) → Invariant f seen → (q : ℕ) → holds q seen ≡ true → walk.SitsSo n test q (slice_get seen.state.seats q)
     sits seen good q found = walk.sits_so n test seen good q found
 
     -- the party that steps no longer holds; or it begins to hold, which is the goal
     gone : (seen : World) (l : L) (q : ℕ) (d : C) (i : L) (j : Option Hold) → Waits seen l → slice_get seen.state.seats q ≡ Some (Calling d i j)
-        → let sc = scene_at m seen q Step (Some (Calling d i j)) in walk.After m k f x seen q sc → Reaches sc ⊎ (holds q sc.after ≡ false)
+        → let sc = scene_at m seen q Step (Some (Calling d i j)) in walk.After f x seen q sc → Reaches sc ⊎ (holds q sc.after ≡ false)
     gone seen l q d i j w there made = by (holds q seen) refl
       where
         by : (b : Bool) → holds q seen ≡ b → let sc = scene_at m seen q Step (Some (Calling d i j)) in Reaches sc ⊎ (holds q sc.after ≡ false)
@@ -85,7 +85,7 @@ module _ {W V C L A : Type 0} (t : Table W V C L A) (n : Notes t) (f : Plays (ma
             let sc = scene_at m seen q Step (Some (Calling d i j)) in
             subst (λ e. Reaches sc ⊎ (test e ≡ false)) (sym (entries-own seen.plain q sc.change made.opens)) (leaves.comes seen l q d i j w there none made.opens)
 
-    strong_there : (seen : World) → Invariant m k seen → (q : ℕ) (d : C) (i : L) (j : Option Hold) (next : Next L A) → slice_get seen.state.seats q ≡ Some (Calling d i j) → m.refuse d i j ≡ Some next → holds q seen ≡ false
+    strong_there : (seen : World) → Invariant f seen → (q : ℕ) (d : C) (i : L) (j : Option Hold) (next : Next L A) → slice_get seen.state.seats q ≡ Some (Calling d i j) → m.refuse d i j ≡ Some next → holds q seen ≡ false
     strong_there seen good q d i j next there may = by (holds q seen) refl
       where
         by : (b : Bool) → holds q seen ≡ b → b ≡ false
@@ -99,14 +99,14 @@ module _ {W V C L A : Type 0} (t : Table W V C L A) (n : Notes t) (f : Plays (ma
         by true found = absurd (leaves.not_its l w.1 (subst (walk.SitsSo n test p) w.0 (sits seen w.3 p found)))
         by false none = refl
 
-    busy : (seen : World) → Invariant m k seen → (q : ℕ) (b : Bool) → holds q seen ≡ b → 1 ≤ load_by bound b (slice_get seen.state.seats q) → is_busy (slice_get seen.state.seats q) ≡ true
+    busy : (seen : World) → Invariant f seen → (q : ℕ) (b : Bool) → holds q seen ≡ b → 1 ≤ load_by bound b (slice_get seen.state.seats q) → is_busy (slice_get seen.state.seats q) ≡ true
     busy seen good q true found some = walk.busy_so n test q _ leaves.none (λ h. leaves.reads q h) (sits seen good q found)
     busy seen good q false found some = absurd (omega (arith, some))
 
     same_load : (seen : World) (q o : ℕ) (sc : Scene W V C L A) → (q ≡ o → ⊥) → IsOpenStep seen.plain q sc.change → sc.after.plain ≡ apply_some seen.plain sc.change → load_by bound (test (entries o sc.after.plain)) (slice_get seen.state.seats o) ≤ load_by bound (holds o seen) (slice_get seen.state.seats o)
     same_load seen q o sc ne opens plain = omega (arith, ap (λ e. load_by bound (test e) (slice_get seen.state.seats o)) (ap (entries o) plain ∙ entries-other seen.plain q o sc.change ne opens))
 
-    own : (seen : World) (l : L) (r : ℕ) → Waits seen l → walk.Within m k f x seen l (suc r) → let sc = scene_at m seen p Step (Some (Calling c l h)) in walk.After m k f x seen p sc → walk.Own m k f x seen l r sc
+    own : (seen : World) (l : L) (r : ℕ) → Waits seen l → walk.Within f x seen l (suc r) → let sc = scene_at m seen p Step (Some (Calling c l h)) in walk.After f x seen p sc → walk.Own f x seen l r sc
     own seen l r w within made =
         let sc = scene_at m seen p Step (Some (Calling c l h)) in
         ⊎_elim inl
@@ -121,7 +121,7 @@ module _ {W V C L A : Type 0} (t : Table W V C L A) (n : Notes t) (f : Plays (ma
             omega (arith, within.mine, on (λ q. ⊎_elim (λ (is : q ≡ p). ap (λ i. holds i seen) is ∙ not_mine seen l w) (λ (ne : q ≡ p → ⊥). load_none bound r (holds q seen) (slice_get seen.state.seats q) (within.theirs q ne) less) (cases_eq q p))))
             (λ (no_less : bound ≤ r). omega (arith, leaves.few i, no_less)) (cases_lt r bound)
 
-    walks : walk.Walks m k f x
+    walks : walk.Walks f x
     walks =
         record {
           fine = λ seen q move good fine. tt;
@@ -145,5 +145,5 @@ module _ {W V C L A : Type 0} (t : Table W V C L A) (n : Notes t) (f : Plays (ma
     pub two_rounds : (number : ℕ) (past : List (ℕ × Move C V)) (rounds : List (List (ℕ × Move C V))) (l : L) → let s = after m (at_first m number) past in slice_get s.seats p ≡ Some (Calling c l h) → At l
         → AreRounds m s rounds → 2 + bound ≤ length rounds → occurs m goal s (joined rounds) ≡ true
     two_rounds number past rounds l there at are long =
-        walk.ends m k f x walks number past rounds l there at tt tt are
+        walk.ends f x walks number past rounds l there at tt tt are
         (λ w. record { mine = omega (arith, leaves.few l, long); theirs = λ q ne. omega (arith, long, load_few bound (test (entries q (seen_after m (opening m number) past).plain)) (slice_get (seen_after m (opening m number) past).state.seats q)) })

@@ -32,7 +32,7 @@ module _ {W V C L A : Type 0} {t : Table W V C L A} (n : Notes t) (test : Entrie
   sits_by p s span (Some Idle) stands knows has = sym (ap test stands) ∙ has
   sits_by p s span None stands knows has = sym (ap test stands) ∙ has
 
-  pub sits_so : (seen : Seen W V C L) → Invariant (machine_of t) n seen → (p : ℕ) → test (entries p seen.plain) ≡ true → SitsSo p (slice_get seen.state.seats p)
+  pub sits_so : {f : Plays (machine_of t) n} (seen : Seen W V C L) → Invariant f seen → (p : ℕ) → test (entries p seen.plain) ≡ true → SitsSo p (slice_get seen.state.seats p)
   sits_so seen good p has = sits_by p seen.plain (seen.span p) _ (good.parties p).stands (good.parties p).knows has
 
   -- so others may wait for it
@@ -53,7 +53,7 @@ pub record Wait (W V C L A : Type 0) : Type 1 where
   pub mine : Plain → L → ℕ
   pub theirs : Plain → L → ℕ → Option (Seat C L) → ℕ
 
-module _ {W V C L A B : Type 0} {t : Table W V C L B} (given : Machine W V C L A) (k : Notes t) (f : Plays given k) (x : Wait W V C L A) where
+module _ {W V C L A B : Type 0} {t : Table W V C L B} {given : Machine W V C L A} {k : Notes t} (f : Plays given k) (x : Wait W V C L A) where
   abbrev m : Machine W V C L A
   m = played t given
 
@@ -74,7 +74,7 @@ module _ {W V C L A B : Type 0} {t : Table W V C L B} (given : Machine W V C L A
   Sits seen l = slice_get seen.state.seats p ≡ Some (Calling x.call l x.hold)
 
   abbrev pub Waits : World → L → Type 0
-  Waits seen l = Sits seen l × x.At l × x.Known seen × Invariant given k seen
+  Waits seen l = Sits seen l × x.At l × x.Known seen × Invariant f seen
 
   abbrev pub theirs : World → L → ℕ → ℕ
   theirs seen l q = x.theirs seen.plain l q (slice_get seen.state.seats q)
@@ -103,7 +103,7 @@ module _ {W V C L A B : Type 0} {t : Table W V C L B} (given : Machine W V C L A
   -- what holds after an event of the party q
   pub record After (seen : World) (q : ℕ) (sc : Event) : Type 0 where
     pub others : (d : ℕ) → (q ≡ d → ⊥) → slice_get sc.after.state.seats d ≡ slice_get seen.state.seats d
-    pub good : Invariant given k sc.after
+    pub good : Invariant f sc.after
     pub opens : IsOpenStep seen.plain q sc.change
     pub belongs : BelongsTo m.lock_kind sc.change
     pub known : x.Known sc.after
@@ -117,7 +117,7 @@ module _ {W V C L A B : Type 0} {t : Table W V C L B} (given : Machine W V C L A
   Own seen l n sc = Reaches sc ⊎ ((i : L) × Sits sc.after i × x.At i × (x.mine sc.after.plain i ≤ n) × Others seen l p sc i n)
 
   pub record Walks : Type 0 where
-    pub fine : (seen : World) (q : ℕ) (move : Move C V) → Invariant given k seen → x.Fine (scene m seen q move).after → x.Fine seen
+    pub fine : (seen : World) (q : ℕ) (move : Move C V) → Invariant f seen → x.Fine (scene m seen q move).after → x.Fine seen
     -- what is known stays true at each event that does not reach the goal
     pub keeps : (seen : World) (q : ℕ) (move : Move C V) (l : L) → Waits seen l → let sc = scene m seen q move in Reaches sc ⊎ x.Known sc.after
     -- its own step, and another party's
@@ -153,7 +153,7 @@ module _ {W V C L A B : Type 0} {t : Table W V C L B} (given : Machine W V C L A
         gets = λ y at may. absurd (no_owner m seen p x.call l x.hold w.0 may);
         sets = λ v y at may. absurd (no_owner m seen p x.call l x.hold w.0 may);
       })
-      move (kept given k f seen q move w.3).keeps.opens
+      move (kept f seen q move w.3).keeps.opens
 
   -- The walk over all moves
 
@@ -344,7 +344,7 @@ module _ {W V C L A B : Type 0} {t : Table W V C L B} (given : Machine W V C L A
     goes : (q : ℕ) (move : Move C V) → x.Fine (scene m seen q move).after → Goes (scene m seen q move)
     goes q move fine pays =
         let sc = scene m seen q move in
-        let keeps = kept given k f seen q move w.3 in
+        let keeps = kept f seen q move w.3 in
         ⊎_elim inl
         (λ (known : x.Known sc.after).
         let after : After seen q sc = record {
@@ -361,9 +361,9 @@ module _ {W V C L A B : Type 0} {t : Table W V C L B} (given : Machine W V C L A
   -- The rounds
 
   module _ (walks : Walks) where
-    fine_before : (seen : World) (es : Turn) → Invariant given k seen → x.Fine (seen_after m seen es) → x.Fine seen
+    fine_before : (seen : World) (es : Turn) → Invariant f seen → x.Fine (seen_after m seen es) → x.Fine seen
     fine_before seen [] good is = is
-    fine_before seen (e ∷ es) good is = walks.fine seen e.0 e.1 good (fine_before (scene m seen e.0 e.1).after es (kept given k f seen e.0 e.1 good).good is)
+    fine_before seen (e ∷ es) good is = walks.fine seen e.0 e.1 good (fine_before (scene m seen e.0 e.1).after es (kept f seen e.0 e.1 good).good is)
 
     -- the call still waits, and no load is above this one
     abbrev Waiting : World → ℕ → Type 0
@@ -377,7 +377,7 @@ module _ {W V C L A B : Type 0} {t : Table W V C L B} (given : Machine W V C L A
         let sc = scene m seen e.0 e.1 in
         ⊎_elim (λ (r : Reaches sc). inl (or_left _ _ r))
         (λ (on : On walks seen l w n es sc). ⊎_elim (λ (r : occurs m x.goal sc.after.state es ≡ true). inl (or_right _ _ r)) inr (through sc.after on.point n es on.waits fine on.pays))
-        (goes walks seen l w n es e.0 e.1 (fine_before sc.after es (kept given k f seen e.0 e.1 w.3).good fine) pays)
+        (goes walks seen l w n es e.0 e.1 (fine_before sc.after es (kept f seen e.0 e.1 w.3).good fine) pays)
 
     -- a round lowers the highest loads
     one_round : (seen : World) (l : L) (n : ℕ) (es : Turn) → Waits seen l → x.Fine (seen_after m seen es) → Within seen l (suc n) → IsRound m seen.state es → (occurs m x.goal seen.state es ≡ true) ⊎ Waiting (seen_after m seen es) n
@@ -404,7 +404,7 @@ module _ {W V C L A B : Type 0} {t : Table W V C L B} (given : Machine W V C L A
         ⊎_elim (λ (r : occurs m x.goal seen.state es ≡ true). or_left _ _ r)
         (λ (y : Waiting next (length rounds)).
         or_right _ _ (subst (λ s. occurs m x.goal s (joined rounds) ≡ true) at (in_rounds rounds next y.0 y.1 fine_there (subst (λ s. AreRounds m s rounds) (sym at) are.1) y.2)))
-        (one_round seen l (length rounds) es w (fine_before next (joined rounds) (good_after given k f seen es w.3) fine_there) within are.0)
+        (one_round seen l (length rounds) es w (fine_before next (joined rounds) (good_after f seen es w.3) fine_there) within are.0)
 
     -- this holds after any schedule
     pub ends : (n : ℕ) (past : Turn) (rounds : List Turn) (l : L)
@@ -413,6 +413,6 @@ module _ {W V C L A B : Type 0} {t : Table W V C L B} (given : Machine W V C L A
         → occurs m x.goal s (joined rounds) ≡ true
     ends n past rounds l there at known fine are enough =
         let seen = seen_after m (opening m n) past in
-        let same = state_is given k f n past in
-        let w : Waits seen l = (seat_is given k f n past p _ there, at, known, reached.good given k f n past) in
+        let same = state_is f n past in
+        let w : Waits seen l = (seat_is f n past p _ there, at, known, reached.good f n past) in
         subst (λ s. occurs m x.goal s (joined rounds) ≡ true) same (in_rounds rounds seen l w fine (subst (λ s. AreRounds m s rounds) (sym same) are) (enough w))

@@ -8,7 +8,7 @@ pub use Rattle.spin_step.specs.Plain.{comes, complete, given, is_starver, once_w
 pub use Rattle.spin_world.proofs.FairNames.{fair_machine, fair_table, is_set, min, most_starvers}
 pub use Rattle.spin_world.proofs.OnceNames.{Invariant, OnceMachine, in_call, once_machine, placed_at}
 pub use Rattle.spin_world_core.proofs.Every.{good_after, good_first, kept, state-seen_after}
-pub use Rattle.spin_world.proofs.RwOwed.{holder_by, rw_facts, rw_keeping, rw_notes}
+pub use Rattle.spin_world.proofs.RwOwed.{holder_by, rw_facts, rw_notes}
 pub use Rattle.spin_seats.specs.Table.{SeatsMachine, seats_machine, seats_table}
 pub use Rattle.spin_model.specs.Flag.{flag_machine, flag_table}
 pub use Rattle.spin_step.proofs.Exclusive.{Lets, lets}
@@ -21,7 +21,8 @@ pub use Rattle.spin_model.proofs.Lists.{get-set_same}
 pub use Rattle.spin_model.specs.declared.answer.Answer.TheVariants.{Done}
 pub use Rattle.spin_seats.specs.Seats.{seats}
 pub use Rattle.spin_step.specs.Parties.{no_entries}
-pub use Rattle.spin_world_core.proofs.Steps.{Knows, KnowsAt}
+pub use Rattle.spin_world_core.proofs.Steps.{KnowsAt}
+pub use Rattle.spin_world_core.proofs.Shapes.{Knows}
 pub use Rattle.std.specs.List.{list_any}
 pub use Rattle.spin_world_progress.specs.Rounds.{AreRounds, IsFair, IsRound, MovesOn, Test, grants, grants_any, is_awaited, is_step, occurs, refuses_weakly, stretch}
 pub use Rattle.spin_world_progress.specs.Rw.{GrantsSomebody, RwIsDeadlockFree, UpgradesAtLast, UpgradesInThree, refuses_any, leading, rounds_by, rounds_beside}

@@ -1,7 +1,7 @@
 -- A party that has asked to upgrade gets its upgrade in three rounds. The other readers leave at the same time, each in
 -- two.
 use Rattle.spin_step.specs.Plain.{to_read_upgradable, to_write, to_lock_unregistered, to_lock_starving, to_lock_starving_alone, to_upgrade, to_upgrade_asked}
-use Rattle.spin_world_progress.proofs.Names.{◌≡◌, ℕ, ◌≤◌, ◌==◌, Bool, true, false, Option, Some, None, List, [], ◌∷◌, slice_get, refl, ap, sym, ◌∙◌, arith, Plain, Kind, reading, upgradable, asking, writing, Holder, Change, gets, releases, turns, is_holder, with_kind, count_kind, weight, rw_word, entries, apply_some, IsOpenStep, IsExclusive, ◌-◌, ◌⊎◌, ◌||◌, filter, inl, inr, ⊎_elim, sum_by-cons, list_any, same_kind, without_holder, comes, effect, apply, is_open, is_open_to, given, Ask, to_read, entries_after, entries-own, Lets, lets, against, one_of, by_kinds, all_kinds, sum-less, Answer, Done, Hold, Seat, Calling, Next, Continue, Answers, Move, Step, Weak, Machine, after, at_first, goes_on, Seen, Scene, scene_at, opening, seen_after, get-set_same, eqb_self, Invariant, in_call, StandsSo, calls_so, RwCall, Upgrade, RwPoint, Asking, rw_table, rw_machine, rw_notes, rw_keeping, rw_facts, holder_by, Test, grants, refuses_weakly, UpgradesInThree, UpgradesAtLast}
+use Rattle.spin_world_progress.proofs.Names.{◌≡◌, ℕ, ◌≤◌, ◌==◌, Bool, true, false, Option, Some, None, List, [], ◌∷◌, slice_get, refl, ap, sym, ◌∙◌, arith, Plain, Kind, reading, upgradable, asking, writing, Holder, Change, gets, releases, turns, is_holder, with_kind, count_kind, weight, rw_word, entries, apply_some, IsOpenStep, IsExclusive, ◌-◌, ◌⊎◌, ◌||◌, filter, inl, inr, ⊎_elim, sum_by-cons, list_any, same_kind, without_holder, comes, effect, apply, is_open, is_open_to, given, Ask, to_read, entries_after, entries-own, Lets, lets, against, one_of, by_kinds, all_kinds, sum-less, Answer, Done, Hold, Seat, Calling, Next, Continue, Answers, Move, Step, Weak, Machine, after, at_first, goes_on, Seen, Scene, scene_at, opening, seen_after, get-set_same, eqb_self, Invariant, in_call, StandsSo, calls_so, RwCall, Upgrade, RwPoint, Asking, rw_table, rw_machine, rw_notes, rw_facts, holder_by, Test, grants, refuses_weakly, UpgradesInThree, UpgradesAtLast}
 use Rattle.spin_world.proofs.RwNames.{Entries, one_of_each, only_asking-word, Release}
 use Rattle.spin_step_more.proofs.Readers.{beside_asking}
 use Rattle.spin_step_more.proofs.Upgrading.{alone_when_gone}
@@ -82,7 +82,7 @@ module _ {V : Type 0} (v : V) (cap : ℕ) where
     abbrev its : Option (Seat RwCall RwPoint)
     its = Some (Calling Upgrade Asking (Some hold.Upgradable))
 
-    module _ (seen : World) (good : Invariant m (rw_keeping v cap) seen) (there : slice_get seen.state.seats p ≡ its) where
+    module _ (seen : World) (good : Invariant (rw_facts v cap) seen) (there : slice_get seen.state.seats p ≡ its) where
       abbrev x : Scene ℕ V RwCall RwPoint (Answer V)
       x = scene_at m seen p Step its
 
@@ -91,7 +91,7 @@ module _ {V : Type 0} (v : V) (cap : ℕ) where
       own false is = inr (rw is (get-set_same seen.state.seats p (Calling Upgrade Asking (Some hold.Upgradable)) _ there), refl)
 
       asks : is_holder p asking seen.plain.holders ≡ true
-      asks = holder_by p asking seen.plain (in_call m (rw_keeping v cap) seen p Upgrade Asking (Some hold.Upgradable) good there).knows.0.stand
+      asks = holder_by p asking seen.plain (in_call (rw_facts v cap) p good there).knows.0.stand
 
       -- nobody begins to read
       no_reader : (q : ℕ) (step : Option Change) → any_of reading (entries q seen.plain) ≡ false → IsOpenStep seen.plain q step → any_of reading (entries_after seen.plain step (entries q seen.plain)) ≡ false
@@ -122,7 +122,7 @@ module _ {V : Type 0} (v : V) (cap : ℕ) where
           some = λ l. omega arith;
         }
       where
-        own_at : (seen : World) (l : RwPoint) → Invariant m (rw_keeping v cap) seen → slice_get seen.state.seats p ≡ Some (Calling Upgrade l (Some hold.Upgradable)) → at_upgrade l → let x = scene_at m seen p Step (Some (Calling Upgrade l (Some hold.Upgradable))) in
+        own_at : (seen : World) (l : RwPoint) → Invariant (rw_facts v cap) seen → slice_get seen.state.seats p ≡ Some (Calling Upgrade l (Some hold.Upgradable)) → at_upgrade l → let x = scene_at m seen p Step (Some (Calling Upgrade l (Some hold.Upgradable))) in
             (goal p Step x.outcome (slice_get x.after.state.seats p) ≡ true) ⊎ ((i : RwPoint) × (slice_get x.after.state.seats p ≡ Some (Calling Upgrade i (Some hold.Upgradable))) × at_upgrade i × (((q : ℕ) → any_of reading (entries q seen.plain) ≡ false) → 1 ≤ 1 - 1))
         own_at seen Asking good there at =
             ⊎_elim inl (λ on. inr (Asking, on.0, tt, λ none. absurd (true≢false (sym (open_now seen good there none) ∙ on.1)))) (own seen good there (seen.state.words == weight asking) refl)

@@ -1,6 +1,6 @@
 -- A read-write lock is free of deadlock. The readers leave in the same two rounds. A holder that does more than read is
 -- then alone, and each round takes a move from it.
-use Rattle.spin_world_progress.proofs.Names.{Knows, good, cases_eq, scene, eqb-true, empty_is, ◌<◌, one_of, eq-eqb, row_tells, in_call, StandsFor, ne_eqb, entries-other, Holding, Upgrade, Asking, max, suc, not, resting, ◌≡◌, ℕ, ◌+◌, ◌≤◌, ◌==◌, Bool, true, false, Option, Some, None, List, [], ◌∷◌, length, slice_get, refl, ap, sym, ◌∙◌, arith, Plain, Kind, reading, upgradable, asking, writing, Holder, Change, releases, turns, count_kind, weight, rw_word, apply_some, IsOpenStep, IsExclusive, ◌-◌, ◌⊎◌, ◌||◌, ◌&&◌, subst, inl, inr, ⊎_elim, nat_lt, min, if◌then◌else◌, lt-ltb, sum_by-cons, same_kind, may_turn, upgrader, all_kinds, by_kinds, read, read_upgradable, reader_limit, Answer, Hold, Seat, Idle, Calling, Next, Continue, Answers, Move, Step, Weak, Mark, Machine, after, at_first, goes_on, get-set_same, Seen, Scene, scene_at, opening, seen_after, eqb_self, Notes, Plays, Invariant, calls, RwCall, Read, UpgradeableRead, RwPoint, rw_table, rw_machine, rw_notes, rw_keeping, rw_facts, Test, grants_any, refuses_any, leading, rounds_by, rounds_beside, GrantsSomebody, RwIsDeadlockFree, without_holder, with_kind, filter, list_any, list_all, entries, is_empty}
+use Rattle.spin_world_progress.proofs.Names.{Knows, good, cases_eq, scene, eqb-true, empty_is, ◌<◌, one_of, eq-eqb, row_tells, in_call, StandsFor, ne_eqb, entries-other, Holding, Upgrade, Asking, max, suc, not, resting, ◌≡◌, ℕ, ◌+◌, ◌≤◌, ◌==◌, Bool, true, false, Option, Some, None, List, [], ◌∷◌, length, slice_get, refl, ap, sym, ◌∙◌, arith, Plain, Kind, reading, upgradable, asking, writing, Holder, Change, releases, turns, count_kind, weight, rw_word, apply_some, IsOpenStep, IsExclusive, ◌-◌, ◌⊎◌, ◌||◌, ◌&&◌, subst, inl, inr, ⊎_elim, nat_lt, min, if◌then◌else◌, lt-ltb, sum_by-cons, same_kind, may_turn, upgrader, all_kinds, by_kinds, read, read_upgradable, reader_limit, Answer, Hold, Seat, Idle, Calling, Next, Continue, Answers, Move, Step, Weak, Mark, Machine, after, at_first, goes_on, get-set_same, Seen, Scene, scene_at, opening, seen_after, eqb_self, Notes, Plays, Invariant, calls, RwCall, Read, UpgradeableRead, RwPoint, rw_table, rw_machine, rw_notes, rw_facts, Test, grants_any, refuses_any, leading, rounds_by, rounds_beside, GrantsSomebody, RwIsDeadlockFree, without_holder, with_kind, filter, list_any, list_all, entries, is_empty}
 use Rattle.spin_world.proofs.RwNames.{Write, Exchange, Release, Entries}
 use Rattle.spin_model.specs.declared.place.Hold.TheVariants as hold
 use Rattle.spin_step_more.specs.RwCalls.{asks_of}
@@ -325,10 +325,7 @@ module _ {V : Type 0} (v : V) (cap : ℕ) (some : 1 ≤ cap) where
   abbrev m : Machine ℕ V RwCall RwPoint (Answer V)
   m = rw_machine v cap
 
-  abbrev k : Notes (rw_table v cap)
-  k = rw_keeping v cap
-
-  abbrev f : Plays m k
+  abbrev f : Plays m (rw_notes v cap)
   f = rw_facts v cap
 
   abbrev World : Type 0
@@ -389,7 +386,7 @@ module _ {V : Type 0} (v : V) (cap : ℕ) (some : 1 ≤ cap) where
     abbrev x : Wait ℕ V RwCall RwPoint (Answer V)
     x = record { goal = goal; party = p; call = c; hold = None; At = λ l. Unit {0}; Known = Known; Fine = λ seen. Unit {0}; mine = λ s. mine_by c room u s.holders; theirs = λ s l. theirs_by (is_write c) room u s.holders }
 
-    module _ (seen : World) (good : Invariant m k seen) where
+    module _ (seen : World) (good : Invariant f seen) where
       abbrev s : Plain
       s = seen.plain
 
@@ -415,7 +412,7 @@ module _ {V : Type 0} (v : V) (cap : ℕ) (some : 1 ≤ cap) where
 
       -- the waiting party holds nothing, so somebody else reads with it
       nothing_mine : (l : RwPoint) → slice_get seen.state.seats p ≡ Some (Calling c l None) → is_empty (its p s.holders) ≡ true
-      nothing_mine l mine_at = row_tells (rw_notes v cap) c l None p s (seen.span p) (λ e. is_empty e.holders) _ (in_call m k seen p c l None good mine_at).knows (grind (arith, comes))
+      nothing_mine l mine_at = row_tells (rw_notes v cap) c l None p s (seen.span p) (λ e. is_empty e.holders) _ (in_call f p good mine_at).knows (grind (arith, comes))
 
       reader_beside : {l : RwPoint} → Known seen → slice_get seen.state.seats p ≡ Some (Calling c l None) → b ≡ true → (q : ℕ) × (q ≡ u → ⊥) × (q ≡ p → ⊥) × (reads (its q s.holders) ≡ true)
       reader_beside {l} known mine_at some =
@@ -424,7 +421,7 @@ module _ {V : Type 0} (v : V) (cap : ℕ) (some : 1 ≤ cap) where
 
       -- a step of a reader, or of a newcomer
 
-      module _ (l : RwPoint) (n : ℕ) (within : walk.Within m k f x seen l (suc n)) (known : Known seen) (q : ℕ) (d : RwCall) (i : RwPoint) (j : Option Hold) (ne : q ≡ p → ⊥) (at : slice_get seen.state.seats q ≡ Some (Calling d i j)) (made : walk.After m k f x seen q (sc seen q d i j)) (mine_at : slice_get seen.state.seats p ≡ Some (Calling c l None)) where
+      module _ (l : RwPoint) (n : ℕ) (within : walk.Within f x seen l (suc n)) (known : Known seen) (q : ℕ) (d : RwCall) (i : RwPoint) (j : Option Hold) (ne : q ≡ p → ⊥) (at : slice_get seen.state.seats q ≡ Some (Calling d i j)) (made : walk.After f x seen q (sc seen q d i j)) (mine_at : slice_get seen.state.seats p ≡ Some (Calling c l None)) where
         abbrev y : Scene ℕ V RwCall RwPoint (Answer V)
         y = sc seen q d i j
 
@@ -433,7 +430,7 @@ module _ {V : Type 0} (v : V) (cap : ℕ) (some : 1 ≤ cap) where
         before = subst (λ o. theirs_by (is_write c) room u s.holders q o ≤ suc n) at (within.theirs q ne)
 
         -- a step that does not change the plain lock changes nobody else's load
-        unchanged : y.change ≡ None → theirs_by (is_write c) room u s.holders q (slice_get y.after.state.seats q) ≤ n → walk.Falls m k f x seen l q y n
+        unchanged : y.change ≡ None → theirs_by (is_write c) room u s.holders q (slice_get y.after.state.seats q) ≤ n → walk.Falls f x seen l q y n
         unchanged none his =
             let same : y.after.plain ≡ s = ap (apply_some s) none in
             record {
@@ -446,7 +443,7 @@ module _ {V : Type 0} (v : V) (cap : ℕ) (some : 1 ≤ cap) where
         its_same o not_his = ap (λ (e : Entries). e.holders) (entries-other s q o y.change not_his made.opens)
 
         module _ (other : q ≡ u → ⊥) where
-          reader_gone : y.change ≡ Some (releases q reading) → reads (its q s.holders) ≡ true → leaves (Some (Calling d i j)) ≡ true → slice_get y.after.state.seats q ≡ Some Idle → walk.Falls m k f x seen l q y n
+          reader_gone : y.change ≡ Some (releases q reading) → reads (its q s.holders) ≡ true → leaves (Some (Calling d i j)) ≡ true → slice_get y.after.state.seats q ≡ Some Idle → walk.Falls f x seen l q y n
           reader_gone gone reader out idle =
               let after : y.after.plain.holders ≡ without_holder q reading s.holders = ap (λ c. (apply_some s c).holders) gone in
               let none : its q y.after.plain.holders ≡ [] = ap (λ (e : Entries). e.holders) (subst (StandsFor y.after.plain q (y.after.span q)) idle (made.good.parties q).stands) in
@@ -468,7 +465,7 @@ module _ {V : Type 0} (v : V) (cap : ℕ) (some : 1 ≤ cap) where
                   by false not_so many = not_so
                   by true writes many = absurd (writes_alone a s.holders writes (kind_counts u a s.holders is) good.exclusive.writer many)
 
-          reader_steps : walk.Reaches m k f x y ⊎ walk.Falls m k f x seen l q y n
+          reader_steps : walk.Reaches f x y ⊎ walk.Falls f x seen l q y n
           reader_steps =
               let reader = reads (its q s.holders) in
               ⊎_elim inl
@@ -491,12 +488,12 @@ module _ {V : Type 0} (v : V) (cap : ℕ) (some : 1 ≤ cap) where
           so : Sits (λ e. same_kinds kind (kind_in e.holders)) q (Some (Calling d i j))
           so = subst (Sits (λ e. same_kinds kind (kind_in e.holders)) q) at (sits (λ e. same_kinds kind (kind_in e.holders)) q (subst (λ z. same_kinds kind (kind_of z s.holders) ≡ true) (sym is) (same_self kind)))
 
-          its_idles : y.change ≡ None → (ko : Option Kind) → kind ≡ ko → (z : Bool) → b ≡ z → walk.Reaches m k f x y ⊎ walk.Falls m k f x seen l q y n
+          its_idles : y.change ≡ None → (ko : Option Kind) → kind ≡ ko → (z : Bool) → b ≡ z → walk.Reaches f x y ⊎ walk.Falls f x seen l q y n
           its_idles none None kind_is z b_is = inr (unchanged none (rw (eq-eqb q u is, kind_is) (grind arith)))
           its_idles none (Some k0) kind_is false b_is = inl (its_step_alone seen q d i j k0 (word_is b_is ∙ one_word k0 (its u s.holders) one kind_is) (subst (λ o. Sits (λ e. same_kinds o (kind_in e.holders)) q (Some (Calling d i j))) kind_is so) none)
           its_idles none (Some k0) kind_is true b_is = inr (unchanged none (rw (eq-eqb q u is, b_is) (grind (arith, kind_is, beside_long b_is))))
 
-          out_falls : (ch : Option Change) → y.change ≡ ch → same_kinds kind (from ch) ≡ true → is_out ch ≡ true → is_asking kind ≡ false → leaves (Some (Calling d i j)) ≡ true → slice_get y.after.state.seats q ≡ Some Idle → walk.Falls m k f x seen l q y n
+          out_falls : (ch : Option Change) → y.change ≡ ch → same_kinds kind (from ch) ≡ true → is_out ch ≡ true → is_asking kind ≡ false → leaves (Some (Calling d i j)) ≡ true → slice_get y.after.state.seats q ≡ Some Idle → walk.Falls f x seen l q y n
           out_falls (Some (releases r k0)) ch kind_is out asks leaving idle =
               let after : y.after.plain.holders ≡ without_holder r k0 s.holders = ap (λ c. (apply_some s c).holders) ch in
               let his : r ≡ u = (subst (IsOpenStep s q) ch made.opens).0 ∙ is in
@@ -510,7 +507,7 @@ module _ {V : Type 0} (v : V) (cap : ℕ) (some : 1 ≤ cap) where
               }
           out_falls ch is_ch kind_is out asks leaving idle = absurd (grind (arith, out))
 
-          turn_falls : (ch : Option Change) → y.change ≡ ch → same_kinds kind (from ch) ≡ true → is_turn ch ≡ true → leaves (Some (Calling d i j)) ≡ false → leaves (slice_get y.after.state.seats q) ≡ false → walk.Falls m k f x seen l q y n
+          turn_falls : (ch : Option Change) → y.change ≡ ch → same_kinds kind (from ch) ≡ true → is_turn ch ≡ true → leaves (Some (Calling d i j)) ≡ false → leaves (slice_get y.after.state.seats q) ≡ false → walk.Falls f x seen l q y n
           turn_falls (Some (turns r j0 k0)) ch kind_is may before_out after_out =
               let after : y.after.plain.holders ≡ with_kind r j0 k0 s.holders = ap (λ c. (apply_some s c).holders) ch in
               let his : r ≡ u = (subst (IsOpenStep s q) ch made.opens).0 ∙ is in
@@ -534,7 +531,7 @@ module _ {V : Type 0} (v : V) (cap : ℕ) (some : 1 ≤ cap) where
           abbrev Moves : Type 0
           Moves = Leaves ⊎ Turns
 
-          its_steps : walk.Reaches m k f x y ⊎ walk.Falls m k f x seen l q y n
+          its_steps : walk.Reaches f x y ⊎ walk.Falls f x seen l q y n
           its_steps =
               ⊎_elim inl
               (λ (z : (y.change ≡ None) ⊎ ((same_kinds kind (from y.change) ≡ true) × Moves)).
@@ -545,7 +542,7 @@ module _ {V : Type 0} (v : V) (cap : ℕ) (some : 1 ≤ cap) where
 
       -- its own step
 
-      module _ (l : RwPoint) (n : ℕ) (within : walk.Within m k f x seen l (suc n)) (there : slice_get seen.state.seats p ≡ Some (Calling c l None)) where
+      module _ (l : RwPoint) (n : ℕ) (within : walk.Within f x seen l (suc n)) (there : slice_get seen.state.seats p ≡ Some (Calling c l None)) where
         abbrev mine_sc : Scene ℕ V RwCall RwPoint (Answer V)
         mine_sc = sc seen p c l None
 
@@ -566,10 +563,10 @@ module _ {V : Type 0} (v : V) (cap : ℕ) (some : 1 ≤ cap) where
         goes_beside : seen.state.words ≡ weight reading → is_write c ≡ false → room ≡ true → Grants seen p c l None ⊎ (GoesTo (Exchange (weight reading)) × (reading_rank (Exchange (weight reading)) ≤ reading_rank l - 1))
         goes_beside alone not_write more = let big : nat_lt 1 (min cap reader_limit) ≡ true = grind (arith, more) in grind (arith, comes, alone, not_write, big, get-set_same seen.state.seats p (Calling c (Exchange (weight reading)) None) _ there)
 
-        on : (e : RwPoint) → GoesTo e → mine_by c room u s.holders e ≤ n → walk.Own m k f x seen l n mine_sc
+        on : (e : RwPoint) → GoesTo e → mine_by c room u s.holders e ≤ n → walk.Own f x seen l n mine_sc
         on e goes low = inr (e, goes.0, tt, rw goes.1 low, rw goes.1 (λ o not_its other. omega arith))
 
-        own : (ko : Option Kind) → kind ≡ ko → (z : Bool) → b ≡ z → walk.Own m k f x seen l n mine_sc
+        own : (ko : Option Kind) → kind ≡ ko → (z : Bool) → b ≡ z → walk.Own f x seen l n mine_sc
         own ko kind_is true b_is = let o = lets cap c seen.state.words in ⊎_elim inl (λ (g : GoesTo (onward o)). on (onward o) g (rw b_is (omega arith))) (goes o refl)
         own None kind_is false b_is =
             ⊎_elim inl (λ (g : GoesTo (Exchange 0) × (own_rank c (Exchange 0) ≤ own_rank c l - 1)). on (Exchange 0) g.0 (rw (b_is, kind_is) (omega (arith, g.1, before_none))))
@@ -582,10 +579,10 @@ module _ {V : Type 0} (v : V) (cap : ℕ) (some : 1 ≤ cap) where
             before_one : mine_of c room l (Some reading) false ≤ suc n
             before_one = subst (λ z. mine_of c room l (Some reading) z ≤ suc n) b_is (subst (λ o. mine_of c room l o b ≤ suc n) kind_is within.mine)
 
-            stays : mine_of c room First (Some reading) false ≡ 0 → ((e : RwPoint) → mine_of c room e (Some reading) false ≡ mine_of c room First (Some reading) false) → walk.Own m k f x seen l n mine_sc
+            stays : mine_of c room First (Some reading) false ≡ 0 → ((e : RwPoint) → mine_of c room e (Some reading) false ≡ mine_of c room First (Some reading) false) → walk.Own f x seen l n mine_sc
             stays zero same = let o = lets cap c seen.state.words in ⊎_elim inl (λ (g : GoesTo (onward o)). on (onward o) g (rw (b_is, kind_is) (omega (arith, same (onward o), zero)))) (goes o refl)
 
-            by : (w : Bool) → is_write c ≡ w → (two : Bool) → room ≡ two → walk.Own m k f x seen l n mine_sc
+            by : (w : Bool) → is_write c ≡ w → (two : Bool) → room ≡ two → walk.Own f x seen l n mine_sc
             by true writes two two_is = stays (rw writes refl) (λ e. rw writes refl)
             by false writes false two_is = stays (rw (writes, two_is) refl) (λ e. rw (writes, two_is) refl)
             by false writes true two_is =
@@ -604,7 +601,7 @@ module _ {V : Type 0} (v : V) (cap : ℕ) (some : 1 ≤ cap) where
         by true is = rw (is, ap kind_in (ap (λ i. its i hs) (sym (eqb-true q u is)) ∙ none)) (grind arith)
         by false other = rw (other, ap reads none) refl
 
-    busy_by : (seen : World) → Invariant m k seen → (l : RwPoint) (q : ℕ) → 1 ≤ walk.theirs m k f x seen l q → is_busy (slice_get seen.state.seats q) ≡ true
+    busy_by : (seen : World) → Invariant f seen → (l : RwPoint) (q : ℕ) → 1 ≤ walk.theirs f x seen l q → is_busy (slice_get seen.state.seats q) ≡ true
     busy_by seen good l q long = by (is_empty (its q seen.plain.holders)) refl
       where
         by : (z : Bool) → is_empty (its q seen.plain.holders) ≡ z → is_busy (slice_get seen.state.seats q) ≡ true
@@ -612,7 +609,7 @@ module _ {V : Type 0} (v : V) (cap : ℕ) (some : 1 ≤ cap) where
         by false some = walk.busy_so (rw_notes v cap) holds_lock q _ refl (λ h so. grind (arith, so)) (walk.sits_so (rw_notes v cap) holds_lock seen good q (ap not some))
 
     -- a party that rests asks nothing
-    asks_not : (seen : World) → Invariant m k seen → (q : ℕ) (j : Option Hold) → slice_get seen.state.seats q ≡ Some (resting j) → (q == u) ≡ true → is_asking (kind_of u seen.plain.holders) ≡ false
+    asks_not : (seen : World) → Invariant f seen → (q : ℕ) (j : Option Hold) → slice_get seen.state.seats q ≡ Some (resting j) → (q == u) ≡ true → is_asking (kind_of u seen.plain.holders) ≡ false
     asks_not seen good q j at is = by (is_asking (kind_of u seen.plain.holders)) refl
       where
         by : (z : Bool) → is_asking (kind_of u seen.plain.holders) ≡ z → z ≡ false
@@ -626,8 +623,8 @@ module _ {V : Type 0} (v : V) (cap : ℕ) (some : 1 ≤ cap) where
     release_leaves : (d : RwCall) (i : RwPoint) (j : Option Hold) → is_release (asks_of d j) ≡ true → leaves (Some (Calling d i j)) ≡ true
     release_leaves d i j is = grind (arith, is)
 
-    begins_by : (seen : World) → Invariant m k seen → (l : RwPoint) (q : ℕ) (d : RwCall) (i : RwPoint) (j : Option Hold) → slice_get seen.state.seats q ≡ Some (resting j)
-        → (x.theirs seen.plain l q (Some (Calling d i j)) ≤ walk.theirs m k f x seen l q) × (is_release (m.asks d j) ≡ true → x.theirs seen.plain l q (Some (Calling d i j)) ≤ walk.theirs m k f x seen l q - 1)
+    begins_by : (seen : World) → Invariant f seen → (l : RwPoint) (q : ℕ) (d : RwCall) (i : RwPoint) (j : Option Hold) → slice_get seen.state.seats q ≡ Some (resting j)
+        → (x.theirs seen.plain l q (Some (Calling d i j)) ≤ walk.theirs f x seen l q) × (is_release (m.asks d j) ≡ true → x.theirs seen.plain l q (Some (Calling d i j)) ≤ walk.theirs f x seen l q - 1)
     begins_by seen good l q d i j at =
         let hs = seen.plain.holders in
         rw (ap leaves at ∙ rests_in j) (
@@ -635,9 +632,9 @@ module _ {V : Type 0} (v : V) (cap : ℕ) (some : 1 ≤ cap) where
           λ is. rw (release_leaves d i j is) (theirs_leaving (is_write c) room (kind_of u hs) (beside u hs) (q == u) (reads (its q hs)) (asks_not seen good q j at)),
         )
 
-    known_after : (seen : World) (q : ℕ) (move : Move RwCall V) (l : RwPoint) → walk.Waits m k f x seen l → walk.Reaches m k f x (scene m seen q move) ⊎ Known (scene m seen q move).after
+    known_after : (seen : World) (q : ℕ) (move : Move RwCall V) (l : RwPoint) → walk.Waits f x seen l → walk.Reaches f x (scene m seen q move) ⊎ Known (scene m seen q move).after
     known_after seen q move l w =
-        walk.plain_kept m k f x (λ s. (o : ℕ) → (o ≡ u → ⊥) → only_read (its o s.holders) ≡ true) seen l w q w.2
+        walk.plain_kept f x (λ s. (o : ℕ) → (o ≡ u → ⊥) → only_read (its o s.holders) ≡ true) seen l w q w.2
         (λ d i j at opens. ⊎_elim (λ (is : q ≡ u). inr (λ o other. ap only_read (same d i j opens o (λ e. other (sym e ∙ is))) ∙ w.2 o other))
         (λ (ne : q ≡ u → ⊥).
         let reader = reads (its q seen.plain.holders) in
@@ -654,7 +651,7 @@ module _ {V : Type 0} (v : V) (cap : ℕ) (some : 1 ≤ cap) where
         same d i j opens o ne = ap (λ (e : Entries). e.holders) (entries-other seen.plain q o (sc seen q d i j).change ne opens)
 
     -- somebody has a load
-    some_load : (seen : World) (l : RwPoint) → walk.Waits m k f x seen l → walk.Within m k f x seen l 0 → ⊥
+    some_load : (seen : World) (l : RwPoint) → walk.Waits f x seen l → walk.Within f x seen l 0 → ⊥
     some_load seen l w none = by (beside u hs) refl (kind_of u hs) refl
       where
         hs : List Holder
@@ -675,7 +672,7 @@ module _ {V : Type 0} (v : V) (cap : ℕ) (some : 1 ≤ cap) where
             (subst (λ o. theirs_of (is_write c) room o (beside u hs) true (reads (its u hs)) (leaves (slice_get seen.state.seats u)) ≤ 0) kind_is
             (subst (λ z. theirs_of (is_write c) room (kind_of u hs) (beside u hs) z (reads (its u hs)) (leaves (slice_get seen.state.seats u)) ≤ 0) (eqb_self u) (none.theirs u (λ e. no_kind (its u hs) a (ap (λ i. is_empty (its i hs)) e ∙ nothing_mine seen w.3 l w.0) kind_is)))))
 
-    walks : walk.Walks m k f x
+    walks : walk.Walks f x
     walks =
         record {
           fine = λ seen q move good fine. tt;
@@ -692,7 +689,7 @@ module _ {V : Type 0} (v : V) (cap : ℕ) (some : 1 ≤ cap) where
         }
 
   -- an upgrade holds
-  come_at : (c : RwCall) (l : RwPoint) (p : ℕ) (s : Plain) (span : List Mark) → (asks_of c None).waits ≡ true → Knows k c l None p s span → at_come c
+  come_at : (c : RwCall) (l : RwPoint) (p : ℕ) (s : Plain) (span : List Mark) → (asks_of c None).waits ≡ true → Knows (rw_notes v cap) c l None p s span → at_come c
   come_at c l p s span asks knows = grind (arith, asks, knows)
 
   pub grants_somebody : (n : ℕ) (past : List (ℕ × Move RwCall V)) (rounds : List (List (ℕ × Move RwCall V))) → GrantsSomebody m n past rounds
@@ -700,9 +697,9 @@ module _ {V : Type 0} (v : V) (cap : ℕ) (some : 1 ≤ cap) where
       let seen = seen_after m (opening m n) past in
       let hs = seen.plain.holders in
       let u = lead p hs in
-      let at = come_at c l p seen.plain (seen.span p) asks (calls m k f n past p c l None there).knows in
-      let known : Known p u c at seen = λ q ne. others_read p q hs (one_leads seen.plain (good m k f n past).exclusive) ne in
-      walk.ends m k f (x p u c at) (walks p u c at) n past rounds l there tt known tt are
+      let at = come_at c l p seen.plain (seen.span p) asks (calls f n past p there).knows in
+      let known : Known p u c at seen = λ q ne. others_read p q hs (one_leads seen.plain (good f n past).exclusive) ne in
+      walk.ends f (x p u c at) (walks p u c at) n past rounds l there tt known tt are
       (λ w.
       let none : same_kind reading (leading hs) ≡ true → kind_of u hs ≡ None = λ is. ap kind_in (ap (λ i. its i hs) (lead_none p hs is) ∙ empty_is (its p hs) (nothing_mine p u c at seen w.3 l w.0)) in
       let leads : same_kind reading (leading hs) ≡ false → kind_of u hs ≡ Some (leading hs) = λ is. lead_kind p hs is (one p u c at seen w.3) in

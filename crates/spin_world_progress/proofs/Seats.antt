@@ -5,7 +5,7 @@ use Rattle.spin_seats.specs.declared.calls.SeatsCall.{SeatsCall}
 use Rattle.spin_seats.specs.declared.calls.SeatsCall.TheVariants.{Enter, Leave}
 use Rattle.spin_seats.specs.declared.calls.SeatsPoint.{SeatsPoint}
 use Rattle.spin_seats.specs.declared.calls.SeatsPoint.TheVariants.{First, Exchange}
-use Rattle.spin_world_seats.proofs.Owed.{seats_notes, seats_keeping, seats_facts}
+use Rattle.spin_world_seats.proofs.Owed.{seats_notes, seats_facts}
 use Rattle.spin_world_progress.specs.Seats.{SeatsSomebodyInFour, SeatsAreDeadlockFree}
 use Rattle.spin_world_progress.proofs.Endless.{at_last}
 use Rattle.spin_world_progress.proofs.Flag.{nobody_holds}
@@ -48,7 +48,7 @@ module _ (n : ℕ) (some : 1 ≤ n) where
     step seen l there is = grind (arith, is, room, get-set_same seen.state.seats p (Calling Enter (Exchange 0) h) _ there)
 
     -- its own step
-    own : (seen : World) (l : SeatsPoint) → Invariant m (seats_keeping n) seen → slice_get seen.state.seats p ≡ Some (Calling Enter l h) → let x = scene_at m seen p Step (Some (Calling Enter l h)) in
+    own : (seen : World) (l : SeatsPoint) → Invariant (seats_facts n) seen → slice_get seen.state.seats p ≡ Some (Calling Enter l h) → let x = scene_at m seen p Step (Some (Calling Enter l h)) in
         (goal p Step x.outcome (slice_get x.after.state.seats p) ≡ true) ⊎ ((i : SeatsPoint) × (slice_get x.after.state.seats p ≡ Some (Calling Enter i h)) × Unit {0} × (Nobody seen → rank_by i ≤ rank_by l - 1))
     own seen l good there =
         let b = nat_lt seen.state.words (seats n) in
