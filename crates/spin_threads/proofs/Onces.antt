@@ -37,7 +37,7 @@ use Rattle.spin_once.proofs.Named.{Object, seat_named, object, renamed, t, m, na
 use Rattle.spin_once.proofs.Resting.{World}
 use Rattle.spin_world.proofs.Keeping.{a_value_stays}
 use Rattle.spin_world.proofs.Unread.{looks_where_complete}
-use Rattle.spin_world_core.specs.Runs.{Seen, opening}
+use Rattle.spin_world_core.specs.Runs.{seat_of, Seen, opening}
 use Rattle.spin_world_core.specs.Users.{seen_after}
 use Rattle.spin_world_core.specs.Values.{GivesAt}
 use Rattle.spin_world_core.proofs.Preserved.{Invariant}
@@ -293,7 +293,7 @@ module _ (given : Option (Unit {0})) where
         last = it.past;
         behind = it.known;
         before = it.before;
-        in_call = (it.point, call.held, subst (λ (z : Seen ℕ (Unit {0}) (OnceCall (Unit {0})) OncePoint). slice_get z.state.seats p ≡ Some (Calling c it.point call.held)) it.leads it.there);
+        in_call = (it.point, call.held, subst (λ (z : Seen ℕ (Unit {0}) (OnceCall (Unit {0})) OncePoint). seat_of z p ≡ Some (Calling c it.point call.held)) it.leads it.there);
         answers = subst (λ (z : Seen ℕ (Unit {0}) (OnceCall (Unit {0})) OncePoint). (happens (t given) z.state p Step).outcome ≡ Answered (Value tt) None) it.leads it.comes;
         so = subst (λ (z : Seen ℕ (Unit {0}) (OnceCall (Unit {0})) OncePoint). is_complete z.plain.phase ≡ true)
             (ap (λ z. (event (once_facts given) z (p, Step)).after) it.leads ∙ sym (one_more (once_facts given) start it.past (p, Step)))

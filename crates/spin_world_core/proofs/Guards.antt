@@ -1,5 +1,6 @@
 -- What a party finds under one guard does not change.
-use Rattle.spin_world_core.proofs.Names.{seat_of, slice_get_within, ◌≡◌, ℕ, ◌==◌, ◌||◌, Bool, true, false, not, Option, Some, None, List, [], ◌∷◌, ◌++◌, map, slice_get, slice_set, refl, arith, ap, sym, ◌∙◌, subst, list_all, option_map, and_parts, true≢false, false≢true, slice_get-map, Plain, Change, completes, entries, is_held, Hold, Seat, Calling, Holding, Leaked, Gone, Next, Continue, Answers, Move, Step, Weak, Read, OwnerSet, StepKind, plain, weak, by_step, Mark, Machine, State, moves_at, goes_on, placed, resting, may_read, may_write, yields_to_owner, seen_by_owner, owner_writes, Seen, Scene, scene, scene_at, scene_of, if_completed, StandsFor, is_reader, is_writer, opening, seen_after, is_quiet_move, is_quiet, ReadsAgreeAcross, ReadsAgree, Table}
+use Rattle.spin_world_core.proofs.Names.{seat_of, slice_get_within, ◌≡◌, ℕ, ◌==◌, ◌||◌, Bool, true, false, not, Option, Some, None, List, [], ◌∷◌, ◌++◌, map, slice_get, slice_set, refl, arith, ap, sym, ◌∙◌, subst, list_all, option_map, and_parts, true≢false, false≢true, slice_get-map, Plain, Change, completes, entries, is_held, Hold, Seat, Calling, Holding, Leaked, Gone, Next, Continue, Answers, Move, Step, Weak, Read, OwnerSet, StepKind, plain, weak, by_step, Mark, Machine, State, happens, moves_at, goes_on, placed, resting, may_read, may_write, yields_to_owner, seen_by_owner, owner_writes, Seen, Scene, scene, scene_at, scene_of, if_completed, StandsFor, is_reader, is_writer, opening, seen_after, Table}
+use Rattle.spin_world_core.specs.Users.{ReadsAgree, ReadsAgreeAcross, is_quiet, is_quiet_move}
 use Rattle.spin_model.specs.declared.schedule.Outcome.TheVariants as outcome
 use Rattle.spin_world_core.proofs.Lists.{eqb_self, get-set}
 use Rattle.spin_world_core.proofs.Steps.{played, KnowsAt, Plays}
@@ -8,7 +9,8 @@ use Rattle.spin_world_core.proofs.Shapes.{Notes, Knows}
 use Rattle.spin_world_core.proofs.Events.{seat_with, of_event}
 use Rattle.spin_world_core.proofs.Preserved.{Invariant, in_call, with_hold, reader_of, writer_of}
 use Rattle.spin_world_core.proofs.Owners.{all-get}
-use Rattle.spin_world_core.proofs.Every.{kept, good_first, state-seen_after, good_after}
+use Rattle.spin_world_core.proofs.Every.{kept}
+use Rattle.spin_world_core.proofs.Reached as reached
 use Rattle.spin_world_core.proofs.Writers.{one_toucher, touched}
 pub use Rattle.spin_world_core.proofs.Schedules.{seen_after-append}
 
@@ -24,7 +26,7 @@ ReadsOn (Answers a None) = ⊥
 ReadsOn (Answers a (Some h)) = may_read h ≡ true
 
 -- a party in a call that keeps its guard reads, and still does after each step of the call
-pub record KeepsGuard {W V C L A B : Type 0} {t : Table W V C L A} (m : Machine W V C L B) (n : Notes t) (keeps : C → Bool) : Type 0 where
+pub record KeepsGuard {W V C L A B : Type 0} {t : Table W V C L A} {m : Machine W V C L B} {n : Notes t} (f : Plays m n) (keeps : C → Bool) : Type 0 where
   pub reads : (p : ℕ) (c : C) (l : L) (h : Hold) (s : Plain) (span : List Mark) → keeps c ≡ true → may_read h ≡ true → Knows n c l (Some h) p s span
       → is_reader (entries p s) ≡ true
   pub steps : (c : C) (l : L) (h : Hold) (w : W) (v : Option V) → keeps c ≡ true → may_read h ≡ true → ReadsOn (m.step w v c l (Some h)).next
@@ -62,7 +64,7 @@ module _ {W V C L A B : Type 0} {t : Table W V C L A} {by : Machine W V C L B} {
   abbrev m : Machine W V C L B
   m = played t by
 
-  module _ (r : GuardedRead C V) (g : KeepsGuard by n r.keeps) where
+  module _ (r : GuardedRead C V) (g : KeepsGuard f r.keeps) where
     reads_at : (w : Option V) (s : Plain) (p : ℕ) (span : List Mark) (o : Option (Seat C L)) → StandsFor s p span o → KnowsAt n s p span o → Guard r w o
         → ReaderOrGone s p o
     reads_at w s p span (Some (Calling c l (Some h))) stands knows guard = g.reads p c l h s span guard.0 guard.1 knows
@@ -149,7 +151,7 @@ module _ {W V C L A B : Type 0} {t : Table W V C L A} {by : Machine W V C L B} {
             writes = λ v b h there may quiet. written v b h there may (λ e. true≢false (sym (quiet e)));
             leaks = λ h there quiet. sits seen.written (Leaked h) (Holding h) there (λ e is. is) guard;
             gets = λ y there may quiet. let_go_all;
-            sets = λ v y there may quiet. owner_wrote v y seen.state.value (and_parts m.owned (list_all yields_to_owner seen.state.seats) may).1;
+            sets = λ v y there may quiet. owner_wrote v y seen.state.value (and_parts _ _ may).1;
           })
           move quiet
 
@@ -171,22 +173,21 @@ module _ {W V C L A B : Type 0} {t : Table W V C L A} {by : Machine W V C L B} {
         → t ≡ r.value
     found_again r w t o same guard e = grind arith
 
-  pub reads_agree_across : (keeps : C → Bool) → KeepsGuard by n keeps → (parties : ℕ) (past : List (ℕ × Move C V)) → ReadsAgreeAcross keeps m parties past
+  pub reads_agree_across : (keeps : C → Bool) → KeepsGuard f keeps → (parties : ℕ) (past : List (ℕ × Move C V)) → ReadsAgreeAcross keeps m parties past
   reads_agree_across keeps g parties past p between found t quiet first second =
       let r : GuardedRead C V = record { keeps = keeps; value = found } in
       let es = (p, Read) ∷ between in
-      let before = seen_after m (opening m parties) past in
-      let later = seen_after m (opening m parties) (past ++ es) in
-      let good = good_after f (opening m parties) past (good_first f parties) in
-      let good_later = good_after f (opening m parties) (past ++ es) (good_first f parties) in
-      let ReaderOrGone : Option V → State W V C L → Type 0 = λ x s. (moves_at m s p Read (slice_get s.seats p)).outcome ≡ outcome.Value x in
-      let first_there = subst (ReaderOrGone found) (sym (state-seen_after m (opening m parties) past)) first in
-      let second_there = subst (ReaderOrGone t) (sym (state-seen_after m (opening m parties) (past ++ es))) second in
+      let before = reached.seen f parties past in
+      let later = reached.seen f parties (past ++ es) in
+      let good = reached.good f parties past in
+      let Finds : Option V → State W V C L → Type 0 = λ x s. (happens m s p Read).outcome ≡ outcome.Value x in
+      let first_there = subst (Finds found) (sym (reached.state_is f parties past)) first in
+      let second_there = subst (Finds t) (sym (reached.state_is f parties (past ++ es))) second in
       let guard = guarded before.state p r before.written (seat_of before p) good.written first_there in
       let guard_later = guard_through r g before p es good (rw (eqb_self p) quiet) guard in
       let guard_there = subst (λ (seen : Seen W V C L). Guard r seen.written (seat_of seen p))
       (sym (seen_after-append m (opening m parties) past es)) guard_later in
-      found_again later.state p r later.written t (seat_of later p) good_later.written guard_there second_there
+      found_again later.state p r later.written t (seat_of later p) (reached.good f parties (past ++ es)).written guard_there second_there
 
   -- no call keeps its guard
   pub reads_agree : (parties : ℕ) (past : List (ℕ × Move C V)) → ReadsAgree m parties past

@@ -60,25 +60,25 @@ module _ {W V C L A B : Type 0} {t : Table W V C L A} {by : Machine W V C L B} {
     owns : is_owners m seen.state ≡ true → IsOwners seen
     owns may = λ q.
         yields_at seen.plain q (seen.span q) (seat_of seen q) (good.parties q).stands
-        (λ x e. all-get yields_to_owner seen.state.seats q x (and_parts m.owned (list_all yields_to_owner seen.state.seats) may).1 e)
+        (λ x e. all-get yields_to_owner seen.state.seats q x (and_parts _ _ may).1 e)
 
     pub owner_get_kept : (y : Seat C L) → is_owners m seen.state ≡ true
         → Preserved f (scene_of seen p OwnerGet (Some y) (owner_gets seen.state true) None step_kind.plain None)
     owner_get_kept y may =
         happened_kept f _ (good_let_go seen.state.value seen.written good.phase good.written) (search)
         (λ r e. cc (e, good.written)) (owns may)
-        (λ e. cc (e)) may (and_parts m.owned (list_all yields_to_owner seen.state.seats) may).0 (refl, refl) tt (leaves_calls seen.state.seats)
+        (λ e. cc (e)) may (and_parts _ _ may).0 (refl, refl) tt (leaves_calls seen.state.seats)
 
     owner_writes_kept : (v : V) (y : Seat C L) (o : Option V) → is_owners m seen.state ≡ true → seen.state.value ≡ o
         → Preserved f (scene_of seen p (OwnerSet v) (Some y) (owner_writes seen.state v o) None step_kind.plain None)
     owner_writes_kept v y None may found =
         happened_kept f _ (good_let_go seen.state.value seen.written good.phase good.written) (search)
         (λ r e. cc (e, good.written, found)) (owns may)
-        (λ e. cc (e)) may (and_parts m.owned (list_all yields_to_owner seen.state.seats) may).0 (subst (λ old. ComesTo {C = C} {A = B} (OwnerSet v) None old seen.state.value (outcome.Value None)) (sym found)
+        (λ e. cc (e)) may (and_parts _ _ may).0 (subst (λ old. ComesTo {C = C} {A = B} (OwnerSet v) None old seen.state.value (outcome.Value None)) (sym found)
         (refl, found)) tt (leaves_calls seen.state.seats)
     owner_writes_kept v y (Some old) may found =
         happened_kept f _ (good_let_go (Some v) (Some v) (phase_set _ _ old v (subst (HasPhase t.lock_kind.makes_value seen.plain.phase) found good.phase)) refl)
-        (search) (λ r e. absurd (cc (e))) (owns may) (λ e. cc (e)) may (and_parts m.owned (list_all yields_to_owner seen.state.seats) may).0
+        (search) (λ r e. absurd (cc (e))) (owns may) (λ e. cc (e)) may (and_parts _ _ may).0
         (subst (λ o. ComesTo {C = C} {A = B} (OwnerSet v) None o (Some v) outcome.Written) (sym found) (refl, refl)) tt (leaves_calls seen.state.seats)
 
     pub owner_set_kept : (v : V) (y : Seat C L) → is_owners m seen.state ≡ true

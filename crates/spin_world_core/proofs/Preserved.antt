@@ -1,5 +1,7 @@
 -- One event keeps all that is promised, for any machine that plays a table which pays.
-use Rattle.spin_world_core.proofs.Names.{seat_of, slice_get_within, ◌≡◌, ℕ, ◌≤◌, ◌==◌, Bool, true, false, Option, Some, None, List, [], ◌∷◌, ◌++◌, suc, if◌then◌else◌, is_some, slice_get, slice_set, refl, ap, sym, ◌∙◌, subst, arith, ne_eqb, true≢false, Plain, Ask, Change, apply_some, IsOpenStep, Entries, entries, IsExclusive, entries-other, entries-own, exclusive-kept, Hold, Seat, Calling, Holding, Leaked, Next, Continue, Answers, Move, Begin, Step, Weak, Read, Write, Leak, StepKind, is_weak, by_step, encoded, BelongsTo, Mark, Machine, skipped, seated, begun, goes_on, placed, resting, read_by, written_by, may_read, may_write, InItsCall, LeavesCalls, Seen, Scene, scene_at, scene_of, mark_of, own, own_count, failures, changes, if_completed, is_open_move, entries_of, entries_held, entries_so_far, StandsFor, is_reader, is_writer, MayTouch, MaySkip, is_in_place, ComesTo, IsWeakCall, StepLeaves, OwnSteps, asked, Keeps, IsRight, InTime, IsCounted, IsInTime, UndisturbedTakes, AnsweredSoon, Gets, GetsWhenDue, TriesOn, tries_of, Table, Phase, HasPhase}
+use Rattle.spin_world_core.proofs.Names.{seat_of, slice_get_within, ◌≡◌, ℕ, ◌≤◌, ◌==◌, Bool, true, false, Option, Some, None, List, [], ◌∷◌, ◌++◌, suc, if◌then◌else◌, is_some, slice_get, slice_set, refl, ap, sym, ◌∙◌, subst, arith, ne_eqb, true≢false, Plain, Ask, Change, apply_some, IsOpenStep, Entries, entries, IsExclusive, entries-other, entries-own, Hold, Seat, Calling, Holding, Leaked, Next, Continue, Answers, Move, Begin, Step, Weak, Read, Write, Leak, StepKind, is_weak, by_step, encoded, BelongsTo, Mark, Machine, skipped, seated, begun, goes_on, placed, resting, read_by, written_by, may_read, may_write, Seen, Scene, scene_at, scene_of, mark_of, own, own_count, failures, changes, if_completed, is_open_move, entries_of, entries_held, StandsFor, is_reader, is_writer, MaySkip, ComesTo, Keeps, IsRight, IsInTime, UndisturbedTakes, AnsweredSoon, Gets, GetsWhenDue, TriesOn, tries_of, Table, Phase, HasPhase}
+use Rattle.spin_world_core.specs.Runs.{InItsCall, InTime, IsCounted, IsWeakCall, LeavesCalls, MayTouch, OwnSteps, StepLeaves, asked, entries_so_far, is_in_place}
+use Rattle.spin_step.proofs.Exclusive.{exclusive-kept}
 use Rattle.spin_model.specs.declared.schedule.Outcome.TheVariants as outcome
 use Rattle.spin_model.specs.StepKinds as step_kind
 use Rattle.spin_model.proofs.Lists.{get-set_same}

@@ -1,9 +1,10 @@
 -- A transcript tells the scenes, and a place tells what its party's moves and entries say.
-use Rattle.spin_world_core.proofs.Names.{seat_of, eq-eqb, ne_eqb, ◌≡◌, ℕ, ◌<◌, ◌≤◌, ◌==◌, Bool, Option, Some, None, List, [], ◌∷◌, ◌++◌, length, map, slice_get, slice_set, if◌then◌else◌, refl, ap, sym, ◌∙◌, subst, arith, option_map, length-replicate, slice_get-map, slice_get_within, slice_get_cases, Plain, Hold, Place, Seat, Idle, Calling, Holding, Leaked, Gone, Next, Continue, Answers, Move, Step, Weak, Outcome, Event, Mark, Machine, opening_plain, State, happens, goes_on, resting, seen_by_owner, events_of, with_begins, Seen, Scene, scene, scene_of, Every, Keeps, KeepsAll, StandsFor, opening, seen_after, scenes, without_begin, EachTells, TellsAfterAnyPast, Stage, at_rest, in_call, is_gone, stage_by_own, stage_by_owner, let_go_stage, stage_after, StandsAt, PlaceSays, SaysAfterAnyPast}
+use Rattle.spin_world_core.proofs.Names.{seat_of, eq-eqb, ne_eqb, ◌≡◌, ℕ, ◌<◌, ◌≤◌, ◌==◌, Bool, Option, Some, None, List, [], ◌∷◌, ◌++◌, length, map, slice_get, slice_set, if◌then◌else◌, refl, ap, sym, ◌∙◌, subst, arith, option_map, length-replicate, slice_get-map, slice_get_within, slice_get_cases, Plain, Hold, Seat, Idle, Calling, Holding, Leaked, Gone, Next, Continue, Answers, Move, Step, Weak, Outcome, Event, Mark, Machine, opening_plain, State, happens, goes_on, resting, seen_by_owner, events_of, with_begins, Seen, Scene, scene, scene_of, Every, Keeps, KeepsAll, StandsFor, opening, seen_after, scenes, EachTells, TellsAfterAnyPast}
+use Rattle.spin_model.specs.declared.place.Place.{Place}
 use Rattle.spin_model.specs.declared.schedule.Outcome.TheVariants as outcome
 use Rattle.spin_model.specs.StepKinds as step_kind
 use Rattle.spin_model.specs.Schedules.{place_of}
-use Rattle.spin_world_core.specs.Transcripts.{has_leaked}
+use Rattle.spin_world_core.specs.Transcripts.{has_leaked, PlaceSays, SaysAfterAnyPast, Stage, StandsAt, at_rest, in_call, is_gone, let_go_stage, stage_after, stage_by_own, stage_by_owner, without_begin}
 use Rattle.spin_world_core.proofs.Lists.{get-set, get-replicate}
 use Rattle.spin_world_core.proofs.Events.{of_event}
 use Rattle.spin_world_core.proofs.Every.{state-seen_after}

@@ -1,5 +1,5 @@
 -- The names of the libraries and of the definitions that the proofs use, in one place.
-pub use Rattle.spin_world_core.proofs.Names.{Answer, Answers, Ask, Begin, BelongsTo, Bool, Calling, Change, Continue, Every, Gone, Hold, Holder, Holding, Idle, IsExclusive, IsInTime, IsOpenStep, Keeps, Leaked, List, Machine, Mark, Move, Next, None, Option, Outcome, OwnerSet, Phase, Plain, Scene, Seat, Seen, Some, StandsFor, State, Step, Table, Weak, [], after, and_from, and_parts, ap, apply, apply_some, arith, at_first, cases_eq, cases_lt, encoded, entries, entries-other, entries-own, entries_after, entries_held, entries_of, eq-eqb, eqb-true, false, false≢true, gets, goes_on, happens, if◌then◌else◌, inl, inr, is_empty, is_open, is_open_to, is_owners, is_running, joined, length, list_all, lt-ltb, machine_of, mark_of, may_read, nat_lt, ne_eqb, not, nothing, opening, owner_writes, refl, resting, running, scene, scene_at, scene_of, seen_after, seen_by_owner, slice_get, slice_get-map, slice_get_past, slice_get_within, subst, suc, sum_by-cons, sym, to_enter, to_lock_starving, to_read, true, turns, upgradable, writing, yields_to_owner, zero, ℕ, ⊎_elim, ◌&&◌, ◌++◌, ◌+◌, ◌<◌, ◌==◌, ◌||◌, ◌∙◌, ◌∷◌, ◌≡◌, ◌≤◌, ◌⊎◌}
+pub use Rattle.spin_world_core.proofs.Names.{Answer, Answers, Ask, Begin, BelongsTo, Bool, Calling, Change, Continue, Every, Gone, Hold, Holder, Holding, Idle, IsExclusive, IsInTime, IsOpenStep, Keeps, Leaked, List, Machine, Mark, Move, Next, None, Option, Outcome, OwnerSet, Phase, Plain, Scene, Seat, Seen, Some, StandsFor, State, Step, Table, Weak, [], after, and_from, and_parts, ap, apply, apply_some, arith, at_first, cases_eq, cases_lt, encoded, entries, entries-other, entries-own, entries_after, entries_held, entries_of, eq-eqb, eqb-true, false, false≢true, gets, goes_on, happens, if◌then◌else◌, inl, inr, is_empty, is_open, is_open_to, is_owners, is_running, joined, length, list_all, lt-ltb, machine_of, mark_of, may_read, nat_lt, ne_eqb, not, nothing, opening, owner_writes, refl, resting, running, scene, scene_at, scene_of, seen_after, seen_by_owner, slice_get, slice_get-map, slice_get_past, slice_get_within, subst, suc, sum_by-cons, sym, to_enter, to_lock_starving, to_read, true, turns, upgradable, writing, yields_to_owner, zero, ℕ, ⊎_elim, ◌&&◌, ◌++◌, ◌+◌, ◌<◌, ◌==◌, ◌||◌, ◌∙◌, ◌∷◌, ◌≡◌, ◌≤◌, ◌⊎◌, seat_of}
 pub use Rattle.spin_world.proofs.RwNames.{Asking, Kind, Notes, Read, RwCall, RwPoint, Upgrade, UpgradeableRead, asking, count_kind, empty_is, holder, is_holder, may_turn, read, read_upgradable, reader_limit, reading, releases, rw_word, to_read_upgradable, to_write, weight, with_kind}
 pub use Rattle.spin_world.proofs.TicketNames.{LoadNext, Plays, Serve, Take, TicketCall, TicketPoint, TicketWords, effect, filter, is_first, serving_word, ticket_limit, ticket_machine, ticket_table, ◌-◌}
 pub use Rattle.spin_world_core.proofs.Reached.{StandsSo, calls, calls_so, good, numbers_are, row_passes, row_tells, seat_is, state_is}

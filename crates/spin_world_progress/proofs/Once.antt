@@ -1,5 +1,5 @@
 -- A call with a closure is answered in four rounds, if no closure fails.
-use Rattle.spin_world_progress.proofs.Names.{Bool, suc, eqb-true, eq-eqb, Seat, Outcome, ◌≡◌, ℕ, ◌≤◌, ◌⊎◌, ◌==◌, true, false, Option, Some, None, List, [], ◌∷◌, slice_get, if◌then◌else◌, refl, ap, sym, ◌∙◌, subst, arith, inl, inr, ⊎_elim, cases_eq, ne_eqb, Plain, Phase, nothing, running, complete, Change, is_running, once_word, apply_some, IsOpenStep, Answer, Hold, Calling, Next, Move, Step, BelongsTo, Seen, Scene, scene, scene_at, opening, State, seen_after, OnceMachine, once_machine, eqb_self, get-set_same, Notes, Plays, of_event, Invariant, in_call, kept, good_first, state_is, numbers_are}
+use Rattle.spin_world_progress.proofs.Names.{seat_of, Bool, suc, eqb-true, eq-eqb, Seat, Outcome, ◌≡◌, ℕ, ◌≤◌, ◌⊎◌, ◌==◌, true, false, Option, Some, None, List, [], ◌∷◌, slice_get, if◌then◌else◌, refl, ap, sym, ◌∙◌, subst, arith, inl, inr, ⊎_elim, cases_eq, ne_eqb, Plain, Phase, nothing, running, complete, Change, is_running, once_word, apply_some, IsOpenStep, Answer, Hold, Calling, Next, Move, Step, BelongsTo, Seen, Scene, scene, scene_at, opening, State, seen_after, OnceMachine, once_machine, eqb_self, get-set_same, Notes, Plays, of_event, Invariant, in_call, kept, good_first, state_is, numbers_are}
 use Rattle.spin_world.proofs.OnceNames.{OnceCall, CallOnce, TryCallOnceOk, TryCallOnceErr, InitFromRef, OncePoint, Look, TryBegin, Await, Run, asks_of, Entries, once_after, has_closure}
 use Rattle.spin_model.specs.Once.{once_table}
 use Rattle.spin_world.proofs.OnceOwed.{once_notes, once_facts}
@@ -86,8 +86,8 @@ module _ {V : Type 0} (value : Option V) where
   word_is : (seen : World) → Invariant f seen → seen.state.words ≡ once_word seen.plain
   word_is seen good = cc (good.encodes)
 
-  told_by : (seen : World) (p : ℕ) (c : OnceCall V) (l : OncePoint) (h : Option Hold) → Invariant f seen → slice_get seen.state.seats p ≡ Some (Calling c l h) → seen.plain.phase ≡ complete
-      → let sc = scene_at m seen p Step (Some (Calling c l h)) in answers p p Step sc.outcome (slice_get sc.after.state.seats p) ≡ true
+  told_by : (seen : World) (p : ℕ) (c : OnceCall V) (l : OncePoint) (h : Option Hold) → Invariant f seen → seat_of seen p ≡ Some (Calling c l h) → seen.plain.phase ≡ complete
+      → let sc = scene_at m seen p Step (Some (Calling c l h)) in answers p p Step sc.outcome (seat_of sc.after p) ≡ true
   told_by seen p c l h good there is = grind (arith, word_is seen good, is, eqb_self p, (in_call f p good there).knows)
 
   -- whether or not closures may fail, an answer is an answer
@@ -97,26 +97,26 @@ module _ {V : Type 0} (value : Option V) where
   -- The party that runs its closure is in its call
 
   abbrev Runs : World → ℕ → Type 0
-  Runs seen q = (c : OnceCall V) × (h : Option Hold) × (slice_get seen.state.seats q ≡ Some (Calling c Run h))
+  Runs seen q = (c : OnceCall V) × (h : Option Hold) × (seat_of seen q ≡ Some (Calling c Run h))
 
   abbrev RunnerIn : World → Type 0
   RunnerIn seen = (q : ℕ) → seen.plain.phase ≡ running q → Runs seen q
 
   module _ (seen : World) (good : Invariant f seen) (runner : RunnerIn seen) where
-    module _ (q : ℕ) (c : OnceCall V) (l : OncePoint) (h : Option Hold) (there : slice_get seen.state.seats q ≡ Some (Calling c l h)) where
+    module _ (q : ℕ) (c : OnceCall V) (l : OncePoint) (h : Option Hold) (there : seat_of seen q ≡ Some (Calling c l h)) where
       abbrev y : Event
       y = scene_at m seen q Step (Some (Calling c l h))
 
       ends : l ≡ Run → y.after.plain.phase ≡ running q → ⊥
       ends e is = grind (arith, e, (in_call f q good there).knows, is)
 
-      begins_run : y.after.plain.phase ≡ running q → (seen.plain.phase ≡ running q) ⊎ (slice_get y.after.state.seats q ≡ Some (Calling c Run h))
+      begins_run : y.after.plain.phase ≡ running q → (seen.plain.phase ≡ running q) ⊎ (seat_of y.after q ≡ Some (Calling c Run h))
       begins_run is = grind (arith, is, get-set_same seen.state.seats q (Calling c Run h) _ there)
 
       steps_on : y.after.plain.phase ≡ running q → Runs y.after q
       steps_on is =
           ⊎_elim (λ (before : seen.plain.phase ≡ running q). let at = runner q before in absurd (ends (same_point c l h at.0 at.1 (sym there ∙ at.2)) is))
-          (λ (seat : slice_get y.after.state.seats q ≡ Some (Calling c Run h)). (c, h, seat)) (begins_run is)
+          (λ (seat : seat_of y.after q ≡ Some (Calling c Run h)). (c, h, seat)) (begins_run is)
 
     own_kept : (q : ℕ) (move : Move (OnceCall V) V) → (scene m seen q move).after.plain.phase ≡ running q → Runs (scene m seen q move).after q
     own_kept q move =
@@ -166,7 +166,7 @@ module _ {V : Type 0} (value : Option V) where
       ended : l ≡ Run → walk.Reaches f x sc
       ended is = grind (arith, is, closure, eqb_self p)
 
-      goes : (phase : Phase) → s.phase ≡ phase → (phase ≡ complete → ⊥) → (l ≡ Run → ⊥) → (slice_get sc.after.state.seats p ≡ Some (Calling c (onward phase p l).0 h)) × (sc.after.plain.phase ≡ (onward phase p l).1)
+      goes : (phase : Phase) → s.phase ≡ phase → (phase ≡ complete → ⊥) → (l ≡ Run → ⊥) → (seat_of sc.after p ≡ Some (Calling c (onward phase p l).0 h)) × (sc.after.plain.phase ≡ (onward phase p l).1)
       goes phase is unmade ne = grind (arith, word_is seen w.3, is, unmade, ne, closure, get-set_same seen.state.seats p (Calling c (onward phase p l).0 h) _ w.0)
 
       own_at : (n : ℕ) → walk.Within f x seen l (suc n) → (phase : Phase) → s.phase ≡ phase → (l ≡ Run → ⊥) → walk.Own f x seen l n sc
@@ -184,7 +184,7 @@ module _ {V : Type 0} (value : Option V) where
       own n within = ⊎_elim (λ (is : l ≡ Run). inl (ended is)) (own_at n within s.phase refl) (point_cases l)
 
       -- the last step of another party's closure
-      run_ends : (q : ℕ) (d : OnceCall V) (i : OncePoint) (j : Option Hold) → slice_get seen.state.seats q ≡ Some (Calling d i j) → i ≡ Run
+      run_ends : (q : ℕ) (d : OnceCall V) (i : OncePoint) (j : Option Hold) → seat_of seen q ≡ Some (Calling d i j) → i ≡ Run
           → let y = scene_at m seen q Step (Some (Calling d i j)) in walk.Reaches f x y ⊎ (y.after.plain.phase ≡ complete)
       run_ends q (CallOnce u) Run j at e = inr refl
       run_ends q (TryCallOnceOk u) Run j at e = inr refl
@@ -194,7 +194,7 @@ module _ {V : Type 0} (value : Option V) where
       run_ends q d i j at e = absurd (grind (arith, e))
 
       -- another party's step: its closure ends, or one begins, or the phase does not change
-      steps : (n : ℕ) → walk.Within f x seen l (suc n) → (q : ℕ) (d : OnceCall V) (i : OncePoint) (j : Option Hold) → (q ≡ p → ⊥) → slice_get seen.state.seats q ≡ Some (Calling d i j)
+      steps : (n : ℕ) → walk.Within f x seen l (suc n) → (q : ℕ) (d : OnceCall V) (i : OncePoint) (j : Option Hold) → (q ≡ p → ⊥) → seat_of seen q ≡ Some (Calling d i j)
           → let y = scene_at m seen q Step (Some (Calling d i j)) in walk.After f x seen q y → walk.Reaches f x y ⊎ walk.Falls f x seen l q y n
       steps n within q d i j ne at made = by (is_running q s.phase) refl
         where
@@ -215,7 +215,7 @@ module _ {V : Type 0} (value : Option V) where
               inr (record { his = rw began.1 (low q).0; mine = rw began.1 (omega (arith, (low q).1)); others = rw began.1 (λ o other not_his. omega (arith, (low o).2 not_his)) }))
               (phase_beside s q y.change made.opens made.belongs rests)
 
-      busy : (q : ℕ) → 1 ≤ theirs_by s.phase q → is_busy (slice_get seen.state.seats q) ≡ true
+      busy : (q : ℕ) → 1 ≤ theirs_by s.phase q → is_busy (seat_of seen q) ≡ true
       busy q some = ap is_busy (w.2 q (theirs_run s.phase q some)).2
 
       some : walk.Within f x seen l 0 → ⊥
