@@ -43,7 +43,7 @@ use Rattle.spin_world_core.specs.Values.{GivesAt}
 use Rattle.spin_world_core.proofs.Preserved.{Invariant}
 use Rattle.spin_world_core.proofs.Reached.{numbers_are}
 use Rattle.spin_world_core.proofs.Values.{keeps_value}
-use Rattle.spin_world.proofs.OnceOwed.{once_notes, once_facts}
+use Rattle.spin_world.proofs.OnceOwed.{once_facts}
 use Rattle.spin_threads.specs.Moments.{AtAMoment, AsAnswered}
 use Rattle.spin_threads.specs.Onces.{foretold_till, Called, has_value, FoundOnce, GaveOnce}
 use Rattle.spin_threads.proofs.Calls.{event, one_more, call_of}

@@ -1,6 +1,6 @@
 -- A starver that has set the flag is at a point where its next step is granted. A starver that waits is at a point
 -- where its step sets a clear flag.
-use Rattle.spin_world.proofs.FairNames.{◌≡◌, ℕ, ◌+◌, ◌%◌, ◌==◌, ◌⊎◌, Bool, true, not, ◌&&◌, Option, Some, List, refl, ap, sym, ◌∙◌, arith, inl, inr, ⊎_elim, eq-eqb, and_from, is_empty, fair_word, Entries, Hold, Continue, Answer, opening, entries_at, row_of, FairCall, FairPoint, SetFlag, Await, Unregister, asks_of, fair_table, fair_machine, IsGrantedNext, SetsAClearFlag, GoesForAClearFlag}
+use Rattle.spin_world.proofs.FairNames.{◌≡◌, ℕ, ◌+◌, ◌%◌, ◌==◌, ◌⊎◌, Bool, true, not, ◌&&◌, Option, Some, List, refl, ap, sym, ◌∙◌, arith, inl, inr, ⊎_elim, eq-eqb, and_from, is_empty, fair_word, Entries, Hold, Continue, Answer, opening, entries_at, row_of, FairCall, FairPoint, SetFlag, Await, Unregister, asks_of, fair_machine, IsGrantedNext, SetsAClearFlag, GoesForAClearFlag}
 use Rattle.spin_model.specs.declared.place.Seat.TheVariants.{Calling}
 use Rattle.spin_model.specs.declared.schedule.Move.{Move}
 use Rattle.spin_model.specs.declared.schedule.Move.TheVariants.{Step}

@@ -1,5 +1,5 @@
 -- What users of a ticket lock may rely on.
-use Rattle.spin_world.proofs.TicketNames.{◌≡◌, ℕ, ◌+◌, Option, Some, List, ◌∷◌, ◌++◌, slice_get, ap, arith, Plain, Change, serving_word, apply_some, IsOpenStep, Entries, bit, Numbered, serving-moves, entered_is_served, Answer, Holding, Move, TicketCall, TicketPoint, TicketWords, after, at_first, Seen, scene, opening, ticket_machine, seen_after, Plays, passes, serves_one, tickets_gone, InOrder, InTurn, Notes, ticket_table, []}
+use Rattle.spin_world.proofs.TicketNames.{◌≡◌, ℕ, ◌+◌, Option, Some, List, ◌∷◌, ◌++◌, slice_get, ap, arith, Plain, Change, serving_word, apply_some, IsOpenStep, Entries, bit, Numbered, serving-moves, entered_is_served, Answer, Holding, Move, TicketCall, TicketPoint, TicketWords, after, at_first, Seen, scene, opening, ticket_machine, seen_after, Plays, passes, serves_one, tickets_gone, InOrder, InTurn, []}
 use Rattle.spin_model.specs.declared.place.Hold.TheVariants as hold
 use Rattle.spin_model.specs.Machines.{Machine}
 use Rattle.spin_world.proofs.TicketOwed.{ticket_notes, ticket_facts}

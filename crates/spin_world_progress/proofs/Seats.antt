@@ -1,6 +1,6 @@
 -- A seat is granted within four rounds: parties that sit leave within two, and a waiting party takes two to look and
 -- make its exchange.
-use Rattle.spin_world_progress.proofs.Names.{seat_of, cases_eq, ◌≡◌, ℕ, ◌≤◌, ◌⊎◌, ◌==◌, Bool, true, false, Option, Some, None, List, nat_lt, slice_get, refl, arith, inl, inr, entries, Hold, Calling, Answers, Answer, Move, Step, after, at_first, Seen, scene_at, ◌-◌, ⊎_elim, if◌then◌else◌, entries_after, empty_is, seats, lt-ltb, Done, SeatsMachine, seats_table, seats_machine, get-set_same, Invariant, StandsSo, Test, grants_any}
+use Rattle.spin_world_progress.proofs.Names.{seat_of, cases_eq, ◌≡◌, ℕ, ◌≤◌, ◌⊎◌, ◌==◌, Bool, true, false, Option, Some, None, List, nat_lt, refl, arith, inl, inr, entries, Hold, Calling, Answers, Answer, Move, Step, after, at_first, Seen, scene_at, ◌-◌, ⊎_elim, if◌then◌else◌, entries_after, empty_is, seats, lt-ltb, Done, SeatsMachine, seats_machine, get-set_same, Invariant, StandsSo, Test, grants_any}
 use Rattle.spin_seats.specs.declared.calls.SeatsCall.{SeatsCall}
 use Rattle.spin_seats.specs.declared.calls.SeatsCall.TheVariants.{Enter, Leave}
 use Rattle.spin_seats.specs.declared.calls.SeatsPoint.{SeatsPoint}

@@ -2,8 +2,7 @@ use Rattle.std.proofs.Common.{refl, ◌==◌}
 use Rattle.std.proofs.lemmas.Bool.{eqb-true}
 use Rattle.spin_model.specs.Calls.{readers, writers}
 use Rattle.spin_step_more.specs.Readers.{reader_limit}
-use Rattle.spin_rwlock.specs.Rw.{model}
-use Rattle.spin_world.proofs.RwOwed.{rw_notes, rw_facts}
+use Rattle.spin_world.proofs.RwOwed.{rw_facts}
 use Rattle.spin_threads.proofs.Moments.{found}
 use Rattle.spin_threads.proofs.answers.a_count_of_a_rwlock_was_so_at_a_moment.Goals as goal
 

@@ -1,8 +1,7 @@
 use Rattle.std.proofs.Common.{refl, ◌==◌}
 use Rattle.std.proofs.lemmas.Bool.{eqb-true}
 use Rattle.spin_model.specs.Calls.{readers}
-use Rattle.spin_seats.specs.Rule.{model}
-use Rattle.spin_world_seats.proofs.Owed.{seats_notes, seats_facts}
+use Rattle.spin_world_seats.proofs.Owed.{seats_facts}
 use Rattle.spin_threads.proofs.Moments.{found}
 use Rattle.spin_threads.proofs.answers.a_count_of_seats_was_so_at_a_moment.Goals as goal
 

@@ -1,8 +1,8 @@
 use Rattle.std.proofs.Common.{◌≡◌, ◌≤◌, ℕ, length, arith, not, refl, true}
 use Rattle.spin_step.specs.Plain.{Plain, is_open_to, to_starve}
-use Rattle.spin_fair.specs.Fair.{model, patience}
+use Rattle.spin_fair.specs.Fair.{patience}
 use Rattle.spin_step_more.specs.Starvers.{most_starvers}
-use Rattle.spin_world.proofs.FairOwed.{fair_notes, fair_facts}
+use Rattle.spin_world.proofs.FairOwed.{fair_facts}
 use Rattle.spin_threads.proofs.Moments.{found}
 use Rattle.spin_threads.proofs.answers.a_refused_starve_found_as_many_as_may_starve.Goals as goal
 

@@ -9,7 +9,7 @@ use Rattle.spin_step_more.specs.declared.fair_calls.FairPoint.{FairPoint}
 use Rattle.spin_world_core.specs.Runs.{Seen}
 use Rattle.spin_world_core.proofs.Shapes.{InCall}
 use Rattle.spin_world.proofs.FairKnowledge.{is_starving, is_starving_still}
-use Rattle.spin_fair.specs.Fair.{model, patience}
+use Rattle.spin_fair.specs.Fair.{patience}
 use Rattle.spin_step_more.specs.Starvers.{most_starvers}
 use Rattle.spin_world.proofs.FairOwed.{fair_notes, fair_facts}
 use Rattle.spin_threads.proofs.Moments.{found}

@@ -1,9 +1,8 @@
 use Rattle.std.proofs.Common.{◌≡◌, ℕ, length, refl, arith, not, true}
 use Rattle.spin_step.specs.Plain.{Plain, is_open_to, to_read}
-use Rattle.spin_seats.specs.Rule.{model}
 use Rattle.spin_seats.specs.Seats.{seats}
 use Rattle.spin_seats.proofs.Taken.{open_is}
-use Rattle.spin_world_seats.proofs.Owed.{Seating, seats_notes, seats_facts}
+use Rattle.spin_world_seats.proofs.Owed.{Seating, seats_facts}
 use Rattle.spin_threads.proofs.Moments.{found}
 use Rattle.spin_threads.proofs.answers.a_refused_try_found_all_seats_taken.Goals as goal
 

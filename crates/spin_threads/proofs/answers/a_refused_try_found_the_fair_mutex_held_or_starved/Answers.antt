@@ -2,9 +2,9 @@ use Rattle.std.proofs.Common.{◌≡◌, ◌⊎◌, ℕ, true, arith, not, refl}
 use Rattle.spin_step.specs.Plain.{Plain, is_open_to, to_lock_unregistered}
 use Rattle.spin_step.specs.Parties.{is_held}
 use Rattle.spin_model.specs.Calls.{is_starved}
-use Rattle.spin_fair.specs.Fair.{model, patience}
+use Rattle.spin_fair.specs.Fair.{patience}
 use Rattle.spin_step_more.specs.Starvers.{most_starvers}
-use Rattle.spin_world.proofs.FairOwed.{fair_notes, fair_facts}
+use Rattle.spin_world.proofs.FairOwed.{fair_facts}
 use Rattle.spin_threads.proofs.Moments.{found}
 use Rattle.spin_threads.proofs.answers.a_refused_try_found_the_fair_mutex_held_or_starved.Goals as goal
 

@@ -1,7 +1,6 @@
 use Rattle.std.proofs.Common.{arith, not, refl}
 use Rattle.spin_step.specs.Plain.{is_open_to, to_write}
-use Rattle.spin_flag.specs.Flag.{model}
-use Rattle.spin_world.proofs.FlagOwed.{flag_notes, flag_facts}
+use Rattle.spin_world.proofs.FlagOwed.{flag_facts}
 use Rattle.spin_threads.proofs.Moments.{found}
 use Rattle.spin_threads.proofs.answers.a_refused_try_found_the_spin_mutex_held.Goals as goal
 

@@ -9,7 +9,6 @@ use Rattle.spin_step_more.specs.declared.rw_calls.RwPoint.{RwPoint}
 use Rattle.spin_world_core.specs.Runs.{Seen}
 use Rattle.spin_world_core.proofs.Shapes.{InCall}
 use Rattle.spin_step_more.specs.Readers.{reader_limit}
-use Rattle.spin_rwlock.specs.Rw.{model}
 use Rattle.spin_world_core.proofs.Stands.{holds, entries_at}
 use Rattle.spin_world.proofs.RwOwed.{holder_by, rw_notes, rw_facts}
 use Rattle.spin_threads.proofs.Moments.{found}

@@ -2,9 +2,9 @@ use Rattle.std.proofs.Common.{◌≡◌, ◌&&◌, true, false, arith, refl}
 use Rattle.spin_step.specs.Plain.{Plain, is_empty}
 use Rattle.spin_step.specs.Parties.{is_held}
 use Rattle.spin_model.specs.Calls.{is_starved}
-use Rattle.spin_fair.specs.Fair.{model, patience}
+use Rattle.spin_fair.specs.Fair.{patience}
 use Rattle.spin_step_more.specs.Starvers.{most_starvers}
-use Rattle.spin_world.proofs.FairOwed.{fair_notes, fair_facts}
+use Rattle.spin_world.proofs.FairOwed.{fair_facts}
 use Rattle.spin_threads.proofs.Moments.{found}
 use Rattle.spin_threads.proofs.answers.the_reason_for_a_refusal_was_so_at_a_moment.Goals as goal
 

@@ -1,6 +1,6 @@
 use Rattle.spin_step_more.specs.Starvers.{most_starvers}
-use Rattle.spin_fair.specs.Fair.{model, patience, seat_of, words_of}
-use Rattle.spin_world.proofs.FairOwed.{fair_notes, fair_facts}
+use Rattle.spin_fair.specs.Fair.{patience, seat_of, words_of}
+use Rattle.spin_world.proofs.FairOwed.{fair_facts}
 use Rattle.spin_threads.proofs.Between.{between}
 use Rattle.spin_threads.proofs.laws.between_any_two_steps_of_a_fair_mutex.Goals as goal
 

@@ -4,7 +4,7 @@ use Rattle.spin_once.specs.Foretold.{foretold, counted, place_of}
 use Rattle.spin_once.specs.Once.{words_of, IsOnce}
 use Rattle.spin_once.specs.OnceValues.{bare, given_of}
 use Rattle.spin_once.proofs.Foretold.{is_run}
-use Rattle.spin_world.proofs.OnceOwed.{once_notes, once_facts}
+use Rattle.spin_world.proofs.OnceOwed.{once_facts}
 use Rattle.spin_threads.proofs.Between.{between, of_counted}
 use Rattle.spin_threads.proofs.laws.between_any_two_steps_of_a_once.Goals as goal
 

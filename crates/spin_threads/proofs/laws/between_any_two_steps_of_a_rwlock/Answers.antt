@@ -1,6 +1,6 @@
 use Rattle.spin_step_more.specs.Readers.{reader_limit}
-use Rattle.spin_rwlock.specs.Rw.{model, seat_of, words_of}
-use Rattle.spin_world.proofs.RwOwed.{rw_notes, rw_facts}
+use Rattle.spin_rwlock.specs.Rw.{seat_of, words_of}
+use Rattle.spin_world.proofs.RwOwed.{rw_facts}
 use Rattle.spin_threads.proofs.Between.{between}
 use Rattle.spin_threads.proofs.laws.between_any_two_steps_of_a_rwlock.Goals as goal
 

@@ -1,5 +1,5 @@
-use Rattle.spin_flag.specs.Flag.{model, seat_of, words_of}
-use Rattle.spin_world.proofs.FlagOwed.{flag_notes, flag_facts}
+use Rattle.spin_flag.specs.Flag.{seat_of, words_of}
+use Rattle.spin_world.proofs.FlagOwed.{flag_facts}
 use Rattle.spin_threads.proofs.Between.{between}
 use Rattle.spin_threads.proofs.laws.between_any_two_steps_of_a_spin_mutex.Goals as goal
 

@@ -1,5 +1,5 @@
-use Rattle.spin_ticket.specs.Queue.{model, seat_of, words_of}
-use Rattle.spin_world.proofs.TicketOwed.{ticket_notes, ticket_facts}
+use Rattle.spin_ticket.specs.Queue.{seat_of, words_of}
+use Rattle.spin_world.proofs.TicketOwed.{ticket_facts}
 use Rattle.spin_threads.proofs.Between.{between}
 use Rattle.spin_threads.proofs.laws.between_any_two_steps_of_a_ticket_mutex.Goals as goal
 

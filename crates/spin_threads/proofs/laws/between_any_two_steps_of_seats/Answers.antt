@@ -1,5 +1,5 @@
-use Rattle.spin_seats.specs.Rule.{model, seat_of, words_of}
-use Rattle.spin_world_seats.proofs.Owed.{seats_notes, seats_facts}
+use Rattle.spin_seats.specs.Rule.{seat_of, words_of}
+use Rattle.spin_world_seats.proofs.Owed.{seats_facts}
 use Rattle.spin_threads.proofs.Between.{between}
 use Rattle.spin_threads.proofs.laws.between_any_two_steps_of_seats.Goals as goal
 

@@ -1,6 +1,5 @@
 use Rattle.spin_step_more.specs.Readers.{reader_limit}
-use Rattle.spin_rwlock.specs.Rw.{model}
-use Rattle.spin_world.proofs.RwOwed.{rw_notes, rw_facts}
+use Rattle.spin_world.proofs.RwOwed.{rw_facts}
 use Rattle.spin_threads.proofs.Counts.{keeps_limits}
 use Rattle.spin_threads.proofs.limits.a_call_of_a_rwlock_keeps_its_limit.Goals as goal
 

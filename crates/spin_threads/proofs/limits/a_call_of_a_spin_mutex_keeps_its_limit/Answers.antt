@@ -1,5 +1,4 @@
-use Rattle.spin_flag.specs.Flag.{model}
-use Rattle.spin_world.proofs.FlagOwed.{flag_notes, flag_facts}
+use Rattle.spin_world.proofs.FlagOwed.{flag_facts}
 use Rattle.spin_threads.proofs.Counts.{keeps_limits}
 use Rattle.spin_threads.proofs.limits.a_call_of_a_spin_mutex_keeps_its_limit.Goals as goal
 

@@ -1,5 +1,4 @@
-use Rattle.spin_ticket.specs.Queue.{model}
-use Rattle.spin_world.proofs.TicketOwed.{ticket_notes, ticket_facts}
+use Rattle.spin_world.proofs.TicketOwed.{ticket_facts}
 use Rattle.spin_threads.proofs.Counts.{keeps_limits}
 use Rattle.spin_threads.proofs.limits.a_call_of_a_ticket_mutex_keeps_its_limit.Goals as goal
 

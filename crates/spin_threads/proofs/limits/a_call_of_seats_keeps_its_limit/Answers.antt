@@ -1,5 +1,4 @@
-use Rattle.spin_seats.specs.Rule.{model}
-use Rattle.spin_world_seats.proofs.Owed.{seats_notes, seats_facts}
+use Rattle.spin_world_seats.proofs.Owed.{seats_facts}
 use Rattle.spin_threads.proofs.Counts.{keeps_limits}
 use Rattle.spin_threads.proofs.limits.a_call_of_seats_keeps_its_limit.Goals as goal
 

@@ -1,7 +1,6 @@
 use Rattle.std.proofs.Common.{arith}
 use Rattle.spin_world_core.proofs.Reached.{good, numbers_are}
-use Rattle.spin_seats.specs.Table.{seats_machine}
-use Rattle.spin_world_seats.proofs.Owed.{seats_notes, seats_facts}
+use Rattle.spin_world_seats.proofs.Owed.{seats_facts}
 use Rattle.spin_world_seats.proofs.laws.no_more_sit_than_there_are_seats.Goals as goal
 
 pub returns : goal.returns

@@ -1,6 +1,5 @@
-use Rattle.spin_world.specs.BarrierTable.{barrier_machine}
 use Rattle.spin_world_core.proofs.Lawful.{laws_of}
-use Rattle.spin_world.proofs.BarrierOwed.{barrier_notes, barrier_facts}
+use Rattle.spin_world.proofs.BarrierOwed.{barrier_facts}
 use Rattle.spin_world.proofs.barrier.BarrierObjectObject.laws.Goals as goal
 
 pub returns : goal.returns

@@ -1,6 +1,5 @@
-use Rattle.spin_step_more.specs.FairCalls.{fair_machine}
 use Rattle.spin_world_core.proofs.Lawful.{laws_of}
-use Rattle.spin_world.proofs.FairOwed.{fair_notes, fair_facts}
+use Rattle.spin_world.proofs.FairOwed.{fair_facts}
 use Rattle.spin_world.proofs.fair.FairObject.laws.Goals as goal
 
 pub returns : goal.returns

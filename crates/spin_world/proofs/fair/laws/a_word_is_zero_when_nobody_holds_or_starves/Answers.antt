@@ -3,7 +3,7 @@ use Rattle.spin_world_core.specs.Users.{seen_after}
 use Rattle.spin_world_core.proofs.Reached.{numbers_are}
 use Rattle.spin_step_more.specs.FairCalls.{fair_machine}
 use Rattle.spin_world.proofs.Fairness.{free_when_zero, zero_when_free}
-use Rattle.spin_world.proofs.FairOwed.{fair_notes, fair_facts}
+use Rattle.spin_world.proofs.FairOwed.{fair_facts}
 use Rattle.spin_world.proofs.fair.laws.a_word_is_zero_when_nobody_holds_or_starves.Goals as goal
 
 pub returns : goal.returns

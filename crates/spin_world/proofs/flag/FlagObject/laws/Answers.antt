@@ -1,6 +1,5 @@
-use Rattle.spin_model.specs.Flag.{flag_machine}
 use Rattle.spin_world_core.proofs.Lawful.{laws_of}
-use Rattle.spin_world.proofs.FlagOwed.{flag_notes, flag_facts}
+use Rattle.spin_world.proofs.FlagOwed.{flag_facts}
 use Rattle.spin_world.proofs.flag.FlagObject.laws.Goals as goal
 
 pub returns : goal.returns

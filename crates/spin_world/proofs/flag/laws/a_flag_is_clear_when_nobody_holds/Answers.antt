@@ -4,8 +4,7 @@ use Rattle.spin_step.specs.Steps.{bit}
 use Rattle.spin_step.proofs.Exclusive.{empty_is}
 use Rattle.spin_step.proofs.Holders.{is_empty-none}
 use Rattle.spin_world_core.proofs.Reached.{numbers_are}
-use Rattle.spin_model.specs.Flag.{flag_machine}
-use Rattle.spin_world.proofs.FlagOwed.{flag_notes, flag_facts}
+use Rattle.spin_world.proofs.FlagOwed.{flag_facts}
 use Rattle.spin_world.proofs.flag.laws.a_flag_is_clear_when_nobody_holds.Goals as goal
 
 clear_when_empty : (w : Bool) (hs : List Holder) → bit w ∷ [] ≡ length hs ∷ [] → w ≡ false → hs ≡ []

@@ -1,6 +1,5 @@
-use Rattle.spin_model.specs.Once.{once_machine}
 use Rattle.spin_world_core.proofs.Lawful.{laws_of}
-use Rattle.spin_world.proofs.OnceOwed.{once_notes, once_facts}
+use Rattle.spin_world.proofs.OnceOwed.{once_facts}
 use Rattle.spin_world.proofs.once.OnceObjectObject.laws.Goals as goal
 
 pub returns : goal.returns

@@ -1,6 +1,5 @@
-use Rattle.spin_step_more.specs.RwCalls.{rw_machine}
 use Rattle.spin_world_core.proofs.Lawful.{laws_of}
-use Rattle.spin_world.proofs.RwOwed.{rw_notes, rw_facts}
+use Rattle.spin_world.proofs.RwOwed.{rw_facts}
 use Rattle.spin_world.proofs.rw.RwObject.laws.Goals as goal
 
 pub returns : goal.returns

@@ -1,6 +1,5 @@
-use Rattle.spin_model.specs.Ticket.{ticket_machine}
 use Rattle.spin_world_core.proofs.Lawful.{laws_of}
-use Rattle.spin_world.proofs.TicketOwed.{ticket_notes, ticket_facts}
+use Rattle.spin_world.proofs.TicketOwed.{ticket_facts}
 use Rattle.spin_world.proofs.ticket.TicketObject.laws.Goals as goal
 
 pub returns : goal.returns

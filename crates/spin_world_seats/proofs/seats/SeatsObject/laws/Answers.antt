@@ -1,6 +1,5 @@
-use Rattle.spin_seats.specs.Table.{seats_machine}
 use Rattle.spin_world_core.proofs.Lawful.{laws_of}
-use Rattle.spin_world_seats.proofs.Owed.{seats_notes, seats_facts}
+use Rattle.spin_world_seats.proofs.Owed.{seats_facts}
 use Rattle.spin_world_seats.proofs.seats.SeatsObject.laws.Goals as goal
 
 pub returns : goal.returns

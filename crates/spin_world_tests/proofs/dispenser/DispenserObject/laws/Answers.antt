@@ -1,6 +1,5 @@
-use Rattle.spin_world_tests.specs.Dispenser.{dispenser_machine}
 use Rattle.spin_world_core.proofs.Lawful.{laws_of}
-use Rattle.spin_world_tests.proofs.Dispensing.{dispenser_notes, dispenser_facts}
+use Rattle.spin_world_tests.proofs.Dispensing.{dispenser_facts}
 use Rattle.spin_world_tests.proofs.dispenser.DispenserObject.laws.Goals as goal
 
 pub returns : goal.returns
