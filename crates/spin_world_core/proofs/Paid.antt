@@ -110,7 +110,8 @@ module _ {W V C L A B : Type 0} {t : Table W V C L A} {m : Machine W V C L B} {n
     made_now : (step : Option Change) (r : StepKind) (cs : List Change) → row.made p ++ option_to_list step ≡ cs → own p (spanned step r) ≡ cs
     made_now step r cs is = own-mine p step r s span ∙ (ap (λ ds. ds ++ option_to_list step) known.made ∙ is)
 
-    goes_to : (step : Option Change) (r : StepKind) (branch : Branch) (j : L) (o : Option Row) → IsOpenStep s p step → Branched branch s step r → (is_again r ≡ true → step ≡ None → failures p span < changes kind p span)
+    goes_to : (step : Option Change) (r : StepKind) (branch : Branch) (j : L) (o : Option Row) → IsOpenStep s p step
+        → Branched branch s step r → (is_again r ≡ true → step ≡ None → failures p span < changes kind p span)
         → IsSound kind what p o → ComesRow step r branch j o
         → KnowsRow n (call_of n c) j h p (apply_some s step) (spanned step r) o
         × ((said : Said) × AnyOf (λ steps. IsBeginning (own p (spanned step r)) steps) (own_steps (what.answers said) p))
@@ -141,7 +142,8 @@ module _ {W V C L A B : Type 0} {t : Table W V C L A} {m : Machine W V C L B} {n
           goes_within limited kind branch (to.made p) row.spent to.spent p (spanned step r) made sound.0 retries spends spent,
         )
 
-    followed : (weakly : Bool) (step : Option Change) (r : StepKind) (branch : Branch) (next : Next L A) → IsOpenStep s p step → Branched branch s step r → (is_again r ≡ true → step ≡ None → failures p span < changes kind p span)
+    followed : (weakly : Bool) (step : Option Change) (r : StepKind) (branch : Branch) (next : Next L A) → IsOpenStep s p step
+        → Branched branch s step r → (is_again r ≡ true → step ≡ None → failures p span < changes kind p span)
         → Comes weakly step r branch next → NextIs n (move_of weakly) p c h (apply_some s step) (spanned step r) (told t.says next)
     followed weakly step r branch (Continue j) may branched lost follows =
         let there = goes_to step r branch j (row_of n c j h) may branched lost (sound_here p c j h) follows in
@@ -293,7 +295,8 @@ module _ {W V C L A B : Type 0} {t : Table W V C L A} {m : Machine W V C L B} {n
     done i (retry k f step won found missed) own expects owes =
         let same = eqb-true (number 0) k in
         made_again (put_at 0) (number 0 == k) (f (number 0)) (step p) won _ missed _ (own (step p) refl) (λ is. ap (λ j. is_some (f j)) (same is) ∙ expects.1)
-        (subst (λ x. failures p span + bit (not (x == k)) ≤ changes kind p span) (sym (first_is w s at.encodes)) expects.0) owes.0 (λ is. owes.1 (same is)) owes.2 owes.3
+        (subst (λ x. failures p span + bit (not (x == k)) ≤ changes kind p span) (sym (first_is w s at.encodes)) expects.0)
+        owes.0 (λ is. owes.1 (same is)) owes.2 owes.3
     done i (store can operation step next) own expects owes =
         exchanged (put_at i) plain (Some (performed operation (number i))) (step p) next next (λ u. Some (step p)) (λ u e is. is) refl
         (own (step p) refl) owes.1 owes.2

@@ -46,7 +46,8 @@ module _ {W V C L A : Type 0} {t : Table W V C L A} (n : Notes t) where
   NextIs move p c h s span (Answers said after) = Ends t.lock_kind (t.asks c h) move p s span said after
 
   -- what a step or a spurious failure shows: it makes this plain step, if any, leaves these words, and continues like this
-  pub record Moves (move : Move C V) (p : ℕ) (c : C) (h : Option Hold) (s : Plain) (span : List Mark) (step : Option Change) (r : StepKind) (w : W) (next : Next L Said) : Type 0 where
+  pub record Moves (move : Move C V) (p : ℕ) (c : C) (h : Option Hold) (s : Plain) (span : List Mark)
+      (step : Option Change) (r : StepKind) (w : W) (next : Next L Said) : Type 0 where
     pub opens : IsOpenStep s p step
     pub belongs : BelongsTo t.lock_kind step
     pub encodes : t.memory.numbers w ≡ encoded t.lock_kind (apply_some s step)
