@@ -78,8 +78,5 @@ latch_pays =
       soon = soon;
     }
 
-abbrev pub latch_keeping : Notes latch_table
-latch_keeping = latch_notes
-
-pub latch_facts : Plays latch_machine latch_keeping
+pub latch_facts : Plays latch_machine latch_notes
 latch_facts = plays_of latch_pays refl

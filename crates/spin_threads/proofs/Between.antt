@@ -47,15 +47,15 @@ module _ {W V C L A X S : Type 0} (m : Machine W V C L A) (seat_of : X → Seat 
       each P so (v ∷ vs) all =
           All-cons P v vs (so v (All-head P (v.0, v.1, marks v) (map (λ v. (v.0, v.1, marks v)) vs) all)) (each P so vs (All-tail P (v.0, v.1, marks v) (map (λ v. (v.0, v.1, marks v)) vs) all))
 
-module _ {W V C L A B X S : Type 0} {t : Table W V C L B} (by : Machine W V C L A) (seat_of : X → Seat C L) (words_of : W → ℕ × S) (k : Notes t) (f : Plays by k) where
+module _ {W V C L A B X S : Type 0} {t : Table W V C L B} {by : Machine W V C L A} {k : Notes t} (seat_of : X → Seat C L) (words_of : W → ℕ × S) (f : Plays by k) where
   abbrev m : Machine W V C L A
   m = played t by
 
   pub between : (log : List (Entry C V)) (words : ℕ × S) (parties : List (Numbered X)) → IsRun m seat_of words_of log words parties → Between m seat_of words_of log words parties
   between log words parties (came, w, value, is, words_is, led, played, rested) =
       let n : ℕ = length (map kind came) in let seen : Seen W V C L = seen_after m (opening m n) log in
-      let good = reached.good by k f n log in let Stand : Numbered X → Type 0 = λ v. StandsFor seen.plain v.1 (seen.span v.1) (Some (seat_of v.0)) in
-      let state : seen.state ≡ record { words = w; value = value; seats = seats m seat_of words_of came ++ [] } = reached.state_is by k f n log ∙ ap (λ j. after m (at_first m j) log) (let e : n ≡ n + 0 = omega arith in e) ∙ led 0 in
+      let good = reached.good f n log in let Stand : Numbered X → Type 0 = λ v. StandsFor seen.plain v.1 (seen.span v.1) (Some (seat_of v.0)) in
+      let state : seen.state ≡ record { words = w; value = value; seats = seats m seat_of words_of came ++ [] } = reached.state_is f n log ∙ ap (λ j. after m (at_first m j) log) (let e : n ≡ n + 0 = omega arith in e) ∙ led 0 in
       record {
         came = n;
         seen = seen;
@@ -64,5 +64,5 @@ module _ {W V C L A B X S : Type 0} {t : Table W V C L B} (by : Machine W V C L 
         words_are = words_is ∙ ap (λ (s : State W V C L). words_of s.words) (sym state);
         exclusive = good.exclusive;
         stand = All-same Stand parties (present_from 0 came) is (sit m seat_of words_of Stand 0 [] came refl (λ v at.
-            reached.stands by k f n log v.1 (seat_of v.0) (ap (λ (s : State W V C L). slice_get s.seats v.1) (sym (reached.state_is by k f n log) ∙ state) ∙ ap (λ l. slice_get l v.1) (append-nil (seats m seat_of words_of came)) ∙ at)));
+            reached.stands f n log v.1 (ap (λ (s : State W V C L). slice_get s.seats v.1) (sym (reached.state_is f n log) ∙ state) ∙ ap (λ l. slice_get l v.1) (append-nil (seats m seat_of words_of came)) ∙ at)));
       }

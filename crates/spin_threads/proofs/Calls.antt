@@ -20,7 +20,7 @@ use Rattle.spin_model.specs.declared.schedule.Outcome.TheVariants.{Begun, GoingO
 use Rattle.spin_model.specs.Acts.{Table}
 use Rattle.spin_model.specs.Machines.{Machine}
 use Rattle.spin_model.specs.Schedules.{Entry, after, at_first}
-use Rattle.spin_world_core.specs.Runs.{Seen, Scene, scene, opening, span_after, own_count, held_at, InItsCall}
+use Rattle.spin_world_core.specs.Runs.{seat_of, Seen, Scene, scene, opening, span_after, own_count, held_at, InItsCall}
 use Rattle.spin_world_core.specs.Users.{seen_after}
 use Rattle.spin_world_core.proofs.Shapes.{Notes}
 use Rattle.spin_world_core.proofs.Steps.{played, Plays}
@@ -28,7 +28,7 @@ use Rattle.spin_world_core.proofs.Preserved.{Invariant, Preserved}
 use Rattle.spin_world_core.proofs.Every.{state-seen_after, kept}
 use Rattle.spin_world_core.proofs.Reached.{good}
 
-module _ {W V C L A B : Type 0} {t : Table W V C L B} (by : Machine W V C L A) (k : Notes t) (facts : Plays by k) where
+module _ {W V C L A B : Type 0} {t : Table W V C L B} {by : Machine W V C L A} {k : Notes t} (facts : Plays by k) where
   abbrev m : Machine W V C L A
   m = played t by
 
@@ -54,7 +54,7 @@ module _ {W V C L A B : Type 0} {t : Table W V C L B} (by : Machine W V C L A) (
     -- the step was made after a prefix of `new` that has `old` as a prefix, and the party was then in this call
     abbrev pub IsBetween : C → Option Hold → Mark → Type 0
     IsBetween c h mark =
-        (past : Schedule) × IsPrefix old past × IsPrefix past new × (mark.before ≡ (seen_after m start past).plain) × ((l : L) × (slice_get (seen_after m start past).state.seats p ≡ Some (Calling c l h)))
+        (past : Schedule) × IsPrefix old past × IsPrefix past new × (mark.before ≡ (seen_after m start past).plain) × ((l : L) × (seat_of (seen_after m start past) p ≡ Some (Calling c l h)))
 
     -- The call gets this answer by a step of the party after a prefix of `new`. Its span has n steps of its own.
     pub record IsAnswered (c : C) (h : Option Hold) (a : A) (n : ℕ) : Type 0 where
@@ -63,9 +63,9 @@ module _ {W V C L A B : Type 0} {t : Table W V C L B} (by : Machine W V C L A) (
       pub leads : seen ≡ seen_after m start past
       pub known : IsPrefix old past
       pub before : IsPrefix (past ++ (p, Step) ∷ []) new
-      pub fine : Invariant by k seen
+      pub fine : Invariant facts seen
       pub point : L
-      pub there : slice_get seen.state.seats p ≡ Some (Calling c point h)
+      pub there : seat_of seen p ≡ Some (Calling c point h)
       pub comes : (event seen (p, Step)).outcome ≡ Answered a None
       pub span : All (IsBetween c h) (span_of p seen)
       pub count : own_count p (span_of p seen) ≡ n
@@ -115,7 +115,7 @@ module _ {W V C L A B : Type 0} {t : Table W V C L B} (by : Machine W V C L A) (
       leads : seen ≡ seen_after m start xs
       known : IsPrefix old xs
       whole : xs ++ es ≡ new
-      fine : Invariant by k seen
+      fine : Invariant facts seen
 
     on_by : (x : Entry C V) (es xs : Schedule) (seen : Seen W V C L) → IsAt xs (x ∷ es) seen → IsAt (xs ++ x ∷ []) es (event seen x).after
     on_by x es xs seen at =
@@ -123,13 +123,13 @@ module _ {W V C L A B : Type 0} {t : Table W V C L B} (by : Machine W V C L A) (
           leads = ap (λ z. (event z x).after) at.leads ∙ sym (one_more start xs x);
           known = longer old xs x at.known;
           whole = append_assoc xs (x ∷ []) es ∙ at.whole;
-          fine = (kept by k facts seen x.0 x.1 at.fine).good;
+          fine = (kept facts seen x.0 x.1 at.fine).good;
         }
 
     -- From here on, for a party that is in its call
     abbrev Walks : Schedule → Type 0
     Walks es =
-        (xs : Schedule) (seen : Seen W V C L) → IsAt xs es seen → (c : C) (l : L) (h : Option Hold) → slice_get seen.state.seats p ≡ Some (Calling c l h) → All (IsBetween c h) (seen.span p)
+        (xs : Schedule) (seen : Seen W V C L) → IsAt xs es seen → (c : C) (l : L) (h : Option Hold) → seat_of seen p ≡ Some (Calling c l h) → All (IsBetween c h) (seen.span p)
         → (i : ℕ) (a : A) → entries_by p es ≡ by_party p (to_make i) → outcomes_by m p seen.state es ≡ to_come i a → IsAnswered c h a (own_count p (seen.span p) + suc i)
 
     one_event : (x : Entry C V) (es : Schedule) → Walks es → Walks (x ∷ es)
@@ -137,19 +137,19 @@ module _ {W V C L A B : Type 0} {t : Table W V C L B} (by : Machine W V C L A) (
       s : Scene W V C L A
       s = event seen x
 
-      promised : Preserved by k s
-      promised = kept by k facts seen x.0 x.1 at.fine
+      promised : Preserved facts s
+      promised = kept facts seen x.0 x.1 at.fine
 
       mark : Mark
       mark = record { party = x.0; change = s.change; step_kind = s.step_kind; before = seen.plain; after = s.after.plain }
 
       here : IsBetween c h mark
-      here = (xs, at.known, (x ∷ es, at.whole), ap (λ (z : Seen W V C L). z.plain) at.leads, (l, subst (λ (z : Seen W V C L). slice_get z.state.seats p ≡ Some (Calling c l h)) at.leads there))
+      here = (xs, at.known, (x ∷ es, at.whole), ap (λ (z : Seen W V C L). z.plain) at.leads, (l, subst (λ (z : Seen W V C L). seat_of z p ≡ Some (Calling c l h)) at.leads there))
 
       all : All (IsBetween c h) (s.after.span p)
       all = span_kept (IsBetween c h) s.outcome mark seen.span here span
 
-      on : (next : L) → slice_get s.after.state.seats p ≡ Some (Calling c next h) → (j : ℕ) → own_count p (s.after.span p) + suc j ≡ own_count p (seen.span p) + suc i
+      on : (next : L) → seat_of s.after p ≡ Some (Calling c next h) → (j : ℕ) → own_count p (s.after.span p) + suc j ≡ own_count p (seen.span p) + suc i
           → entries_by p es ≡ by_party p (to_make j) → outcomes_by m p s.after.state es ≡ to_come j a → IsAnswered c h a (own_count p (seen.span p) + suc i)
       on next stays j counts made' came' = subst (IsAnswered c h a) counts (walks (xs ++ x ∷ []) s.after (on_by x es xs seen at) c next h stays all j a made' came')
 
@@ -171,7 +171,7 @@ module _ {W V C L A B : Type 0} {t : Table W V C L B} (by : Machine W V C L A) (
           }
       by_own (suc j) so made' came' =
           let x_is : x ≡ (p, Step) = cc (made') in let comes : s.outcome ≡ GoingOn = cc (came') in let own : Scene W V C L A = event seen (p, Step) in
-          let stays = stays_by c l h own.outcome own.seat (slice_get own.after.state.seats p) there (subst (λ y. (event seen y).outcome ≡ GoingOn) x_is comes) (kept by k facts seen p Step at.fine).keeps.in_call in
+          let stays = stays_by c l h own.outcome own.seat (seat_of own.after p) there (subst (λ y. (event seen y).outcome ≡ GoingOn) x_is comes) (kept facts seen p Step at.fine).keeps.in_call in
           on stays.0 (subst (λ y. slice_get (event seen y).after.state.seats p ≡ Some (Calling c stays.0 h)) (sym x_is) stays.1) j (let c = count_mine a s.outcome mark seen.span (ap (λ y. y.0) x_is) (inl comes) in omega (arith, c, so)) (cc (made')) (cc (came'))
 
       by_turn : (b : Bool) → (x.0 == p) ≡ b → (if b then x ∷ entries_by p es else entries_by p es) ≡ by_party p (to_make i) → (if b then s.outcome ∷ outcomes_by m p s.after.state es else outcomes_by m p s.after.state es) ≡ to_come i a
@@ -198,7 +198,7 @@ module _ {W V C L A B : Type 0} {t : Table W V C L B} (by : Machine W V C L A) (
       by_own made' came' =
           let x_is : x ≡ (p, Begin c) = cc (made') in let comes : s.outcome ≡ Begun = cc (came') in let own : Scene W V C L A = event seen (p, Begin c) in
           let begun : own.outcome ≡ Begun = subst (λ y. (event seen y).outcome ≡ Begun) x_is comes in
-          let begins = begins_by c own.outcome own.seat (slice_get own.after.state.seats p) begun (kept by k facts seen p (Begin c) at.fine).keeps.in_call in
+          let begins = begins_by c own.outcome own.seat (seat_of own.after p) begun (kept facts seen p (Begin c) at.fine).keeps.in_call in
           let mark : Mark = record { party = p; change = own.change; step_kind = own.step_kind; before = seen.plain; after = own.after.plain } in
           let cleared : own.after.span p ≡ [] = ap (λ o. span_after o mark seen.span p) begun ∙ ap (λ b. if b then [] else seen.span p) (eq-eqb p p refl) in
           let none : s.after.span p ≡ [] = subst (λ y. (event seen y).after.span p ≡ []) (sym x_is) cleared in (
@@ -235,7 +235,7 @@ module _ {W V C L A B : Type 0} {t : Table W V C L B} (by : Machine W V C L A) (
   call_of c a view now old new (p, may, is, own, outs, (more, least, new_is, mine, played, came), (rest, comes, own_is, outs_is, (i, rest_is, comes_are))) =
       let seen = seen_after m (opening m least) old in
       let own_are : own ≡ Begin c ∷ (replicate i Step ++ Step ∷ []) = own_is ∙ ap (λ l. Begin c ∷ l) rest_is in
-      let (h, answered) = starts p (opening m least) old new more old seen (record { leads = refl; known = ([], append-nil old); whole = sym new_is; fine = good by k facts least old }) c i a (mine ∙ ap (by_party p) own_are)
+      let (h, answered) = starts p (opening m least) old new more old seen (record { leads = refl; known = ([], append-nil old); whole = sym new_is; fine = good facts least old }) c i a (mine ∙ ap (by_party p) own_are)
       (ap (λ s. outcomes_by m p s more) (state-seen_after m (opening m least) old) ∙ ap (λ n. outcomes_by m p (after m (at_first m n) old) more) (let e : least ≡ least + 0 = omega arith in e) ∙ came 0 ∙ outs_is ∙ ap (λ l. Begun ∷ l) comes_are) in
       record {
         party = p;

@@ -21,7 +21,8 @@ use Rattle.spin_model.specs.Schedules.{Entry}
 use Rattle.spin_world_core.specs.Runs.{Seen, opening, RightAnswer, asked}
 use Rattle.spin_world_core.specs.Users.{seen_after}
 use Rattle.spin_world_core.proofs.Shapes.{Notes}
-use Rattle.spin_world_core.proofs.Steps.{played, InCall, Plays}
+use Rattle.spin_world_core.proofs.Steps.{played, Plays}
+use Rattle.spin_world_core.proofs.Shapes.{InCall}
 use Rattle.spin_world_core.proofs.Preserved.{in_call}
 use Rattle.spin_world_core.proofs.Every.{kept}
 use Rattle.spin_world_core.proofs.Reached.{good}
@@ -45,7 +46,7 @@ pick test Q [] all some = absurd (false≢true some)
 pick test Q (x ∷ xs) all some =
     pick_by test Q x (list_any test xs) (test x) refl (All-head Q x xs all) (λ more. pick test Q xs (All-tail Q x xs all) more) some
 
-module _ {W V C L A B : Type 0} {t : Table W V C L B} (by : Machine W V C L A) (k : Notes t) (facts : Plays by k) where
+module _ {W V C L A B : Type 0} {t : Table W V C L B} {by : Machine W V C L A} {k : Notes t} (facts : Plays by k) where
   abbrev m : Machine W V C L A
   m = played t by
 
@@ -53,8 +54,8 @@ module _ {W V C L A B : Type 0} {t : Table W V C L B} (by : Machine W V C L A) (
     right_by : (p : ℕ) (l : L) (h : Option Hold) (span : List Mark) (o : Outcome A V) (seat : Option (Seat C L)) → seat ≡ Some (Calling c l h) → o ≡ Answered a None → RightAnswer m p span o (asked m seat) Step → HasMoment (m.asks c h) (m.says a) p span
     right_by p l h span o seat there comes right = subst (λ r. RightAnswer m p span r (Some (m.asks c h)) Step) comes (subst (λ y. RightAnswer m p span o (asked m y) Step) there right)
 
-    right : (p : ℕ) (start : Seen W V C L) (old new : List (Entry C V)) (h : Option Hold) (n : ℕ) (it : IsAnswered by k facts p start old new c h a n) → HasMoment (m.asks c h) (m.says a) p (span_of by k facts p it.seen)
-    right p start old new h n it = right_by p it.point h (span_of by k facts p it.seen) (event by k facts it.seen (p, Step)).outcome (event by k facts it.seen (p, Step)).seat it.there it.comes (kept by k facts it.seen p Step it.fine).right
+    right : (p : ℕ) (start : Seen W V C L) (old new : List (Entry C V)) (h : Option Hold) (n : ℕ) (it : IsAnswered facts p start old new c h a n) → HasMoment (m.asks c h) (m.says a) p (span_of facts p it.seen)
+    right p start old new h n it = right_by p it.point h (span_of facts p it.seen) (event facts it.seen (p, Step)).outcome (event facts it.seen (p, Step)).seat it.there it.comes (kept facts it.seen p Step it.fine).right
 
     -- Such an answer says that a state passed this test, so one did at a moment; and so was Q, where it follows for the party in its call
     module _ (test : ℕ → Plain → Bool) (says : (h : Option Hold) → (m.asks c h).answers (m.says a) ≡ meaning.found test) where
@@ -62,12 +63,12 @@ module _ {W V C L A B : Type 0} {t : Table W V C L B} (by : Machine W V C L A) (
       right_so p h span is = subst (λ what. moment what p span ≡ true) (says h) is
 
       module _ {Q : Plain → Type 0}
-          (so : (p : ℕ) (l : L) (h : Option Hold) (seen : Seen W V C L) → InCall k p c l h seen.plain seen.state.value seen.state.words (seen.span p)
+          (so : (p : ℕ) (l : L) (h : Option Hold) (seen : Seen W V C L) → InCall k p c l h seen.plain seen.state.words (seen.span p)
           → test p seen.plain ≡ true → Q seen.plain) where
-        of_call : {X : Type 0} (view : Option (Numbered X)) (old new : List (Entry C V)) → Call by k facts c a view old new → AtAMoment m c view old new Q
+        of_call : {X : Type 0} (view : Option (Numbered X)) (old new : List (Entry C V)) → Call facts c a view old new → AtAMoment m c view old new Q
         of_call view old new call =
             let it = call.answered in let p = call.party in let h = call.held in let start = opening m call.parties in
-            let (mark, found, (past, from, to, before, (l, there))) = pick (λ mark. test p mark.before) (IsBetween by k facts p start old new c h) (span_of by k facts p it.seen) it.span (right_so p h (span_of by k facts p it.seen) (right p start old new h call.steps it)) in
+            let (mark, found, (past, from, to, before, (l, there))) = pick (λ mark. test p mark.before) (IsBetween facts p start old new c h) (span_of facts p it.seen) it.span (right_so p h (span_of facts p it.seen) (right p start old new h call.steps it)) in
             record {
               party = p;
               is_number = call.is_number;
@@ -77,8 +78,8 @@ module _ {W V C L A B : Type 0} {t : Table W V C L B} (by : Machine W V C L A) (
               behind = from;
               before = to;
               in_call = (l, h, there);
-              so = so p l h (seen_after m start past) (in_call by k (seen_after m start past) p c l h (good by k facts call.parties past) there) (subst (λ s. test p s ≡ true) before found);
+              so = so p l h (seen_after m start past) (in_call facts p (good facts call.parties past) there) (subst (λ s. test p s ≡ true) before found);
             }
 
         pub found : {X : Type 0} → Found m X c a Q
-        found view now old new made = of_call now old new (call_of by k facts c a view now old new made)
+        found view now old new made = of_call now old new (call_of facts c a view now old new made)

@@ -37,13 +37,13 @@ use Rattle.spin_once.proofs.Named.{Object, seat_named, object, renamed, t, m, na
 use Rattle.spin_once.proofs.Resting.{World}
 use Rattle.spin_world.proofs.Keeping.{a_value_stays}
 use Rattle.spin_world.proofs.Unread.{looks_where_complete}
-use Rattle.spin_world_core.specs.Runs.{Seen, opening}
+use Rattle.spin_world_core.specs.Runs.{seat_of, Seen, opening}
 use Rattle.spin_world_core.specs.Users.{seen_after}
 use Rattle.spin_world_core.specs.Values.{GivesAt}
 use Rattle.spin_world_core.proofs.Preserved.{Invariant}
 use Rattle.spin_world_core.proofs.Reached.{numbers_are}
 use Rattle.spin_world_core.proofs.Values.{keeps_value}
-use Rattle.spin_world.proofs.OnceOwed.{once_keeping, once_facts}
+use Rattle.spin_world.proofs.OnceOwed.{once_facts}
 use Rattle.spin_threads.specs.Moments.{AtAMoment, AsAnswered}
 use Rattle.spin_threads.specs.Onces.{foretold_till, Called, has_value, FoundOnce, GaveOnce}
 use Rattle.spin_threads.proofs.Calls.{event, one_more, call_of}
@@ -216,7 +216,7 @@ module _ (given : Option (Unit {0})) where
   told_there : (n : ℕ) (past : List Made) → (after (t given) (at_first (t given) n) past).words ≡ 2 → (after (t given) (at_first (t given) n) past).value ≡ Some tt
   told_there n past is =
       let plain : Plain = (seen_after (t given) (opening (t given) n) past).plain in
-      let word : (after (t given) (at_first (t given) n) past).words ≡ once_word plain = cc (numbers_are (t given) (once_keeping given) (once_facts given) n past) in
+      let word : (after (t given) (at_first (t given) n) past).words ≡ once_word plain = cc (numbers_are (once_facts given) n past) in
       lies (after (t given) (at_first (t given) n) past).value (sym (a_value_stays given n past []).complete ∙ complete_by plain (sym word ∙ is))
 
   has_it : (n : ℕ) (es : List Made) → list_all is_played (outcomes (m given) (From n) es) ≡ true → HasIt (after (m given) (From n) es)
@@ -271,19 +271,19 @@ module _ (given : Option (Unit {0})) where
   pub found_in : (c : OnceCall (Unit {0})) (a : Answer (Unit {0})) (test : Plain → Bool) (P : Plain → Type 0) → ((h : Option Hold) → ((t given).asks c h).answers ((t given).says a) ≡ meaning.found (λ p s. test s)) → ((s : Plain) → test s ≡ true → P s)
       → (before now : Option (Numbered View)) (old new : List Made) → Called given c a before old now new → AtAMoment (t given) c now (foretold_till old new) (foretold new) P
   found_in c a test P says so before now old new made =
-      found (t given) (once_keeping given) (once_facts given) (λ p s. test s) says (λ p l h seen call is. so seen.plain is) before now (foretold_till old new) (foretold new) (called c a before now old new made)
+      found (once_facts given) (λ p s. test s) says (λ p l h seen call is. so seen.plain is) before now (foretold_till old new) (foretold new) (called c a before now old new made)
 
   -- after a step that gives a value there is one
-  given_there : (seen : Seen ℕ (Unit {0}) (OnceCall (Unit {0})) OncePoint) (p : ℕ) → Invariant (t given) (once_keeping given) seen → (event (t given) (once_keeping given) (once_facts given) seen (p, Step)).outcome ≡ Answered (Value tt) None
-      → is_complete (event (t given) (once_keeping given) (once_facts given) seen (p, Step)).after.plain.phase ≡ true
+  given_there : (seen : Seen ℕ (Unit {0}) (OnceCall (Unit {0})) OncePoint) (p : ℕ) → Invariant (once_facts given) seen → (event (once_facts given) seen (p, Step)).outcome ≡ Answered (Value tt) None
+      → is_complete (event (once_facts given) seen (p, Step)).after.plain.phase ≡ true
   given_there seen p good comes =
-      let s = event (t given) (once_keeping given) (once_facts given) seen (p, Step) in let keeps = keeps_value (t given) (once_keeping given) (once_facts given) seen p Step good in
+      let s = event (once_facts given) seen (p, Step) in let keeps = keeps_value (once_facts given) seen p Step good in
       let lies : s.after.state.value ≡ Some tt = subst (λ o. GivesAt (t given) Step o s.after.state.value) comes keeps.gives in
       keeps.phase ∙ ap is_some lies
 
   gave_in : (c : OnceCall (Unit {0})) (before now : Option (Numbered View)) (old new : List Made) → Called given c (Value tt) before old now new → AsAnswered (t given) c (Value tt) now (foretold_till old new) (foretold new) (λ s. has_value s ≡ true)
   gave_in c before now old new made =
-      let call = call_of (t given) (once_keeping given) (once_facts given) c (Value tt) before now (foretold_till old new) (foretold new) (called c (Value tt) before now old new made) in
+      let call = call_of (once_facts given) c (Value tt) before now (foretold_till old new) (foretold new) (called c (Value tt) before now old new made) in
       let it = call.answered in let p = call.party in let start = opening (t given) call.parties in
       record {
         party = p;
@@ -293,10 +293,10 @@ module _ (given : Option (Unit {0})) where
         last = it.past;
         behind = it.known;
         before = it.before;
-        in_call = (it.point, call.held, subst (λ (z : Seen ℕ (Unit {0}) (OnceCall (Unit {0})) OncePoint). slice_get z.state.seats p ≡ Some (Calling c it.point call.held)) it.leads it.there);
+        in_call = (it.point, call.held, subst (λ (z : Seen ℕ (Unit {0}) (OnceCall (Unit {0})) OncePoint). seat_of z p ≡ Some (Calling c it.point call.held)) it.leads it.there);
         answers = subst (λ (z : Seen ℕ (Unit {0}) (OnceCall (Unit {0})) OncePoint). (happens (t given) z.state p Step).outcome ≡ Answered (Value tt) None) it.leads it.comes;
         so = subst (λ (z : Seen ℕ (Unit {0}) (OnceCall (Unit {0})) OncePoint). is_complete z.plain.phase ≡ true)
-            (ap (λ z. (event (t given) (once_keeping given) (once_facts given) z (p, Step)).after) it.leads ∙ sym (one_more (t given) (once_keeping given) (once_facts given) start it.past (p, Step)))
+            (ap (λ z. (event (once_facts given) z (p, Step)).after) it.leads ∙ sym (one_more (once_facts given) start it.past (p, Step)))
             (given_there it.seen p it.fine it.comes);
       }
 

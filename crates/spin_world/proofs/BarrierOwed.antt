@@ -95,9 +95,9 @@ module _ (n : ℕ) where
       grind (arith, is_barrier s w, below, after, waits_from p s plain span)
   owes p c (Leave g) None s w span = λ at.
       let full = barrier_may_leave-full s (arrived p span) n w.count w.generation g (is_barrier s w at.encodes at.shape) in
-      let waits = waits-on g p p s None look span (and-false (p == p)) tt at.knows in
-      let right = follows_right p (arrived p span) (mark_of p None look s ∷ span) span at.knows.made in
-      grind (arith, full, at.knows, waits, right)
+      let waits = waits-on g p p s None look span (and-false (p == p)) tt at.knows.1 in
+      let right = follows_right p (arrived p span) (mark_of p None look s ∷ span) span at.knows.1.made in
+      grind (arith, full, at.knows.1, waits, right)
   owes p c (Leave g) (Some h) s w span = tt
 
   soon : SoonAll (barrier_notes n)
@@ -125,8 +125,5 @@ module _ (n : ℕ) where
         soon = soon;
       }
 
-abbrev pub barrier_keeping : (n : ℕ) → Notes (barrier_table n)
-barrier_keeping n = barrier_notes n
-
-pub barrier_facts : (n : ℕ) → Plays (barrier_machine n) (barrier_keeping n)
+pub barrier_facts : (n : ℕ) → Plays (barrier_machine n) (barrier_notes n)
 barrier_facts n = plays_of (barrier_pays n) refl

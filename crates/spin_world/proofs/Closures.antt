@@ -2,7 +2,7 @@
 use Rattle.spin_world.proofs.OnceNames.{◌≡◌, ℕ, true, Option, Some, ◌∷◌, ◌++◌, slice_get, refl, arith, ap, ◌∙◌, ◌⊎◌, Hold, Calling, Step, to_begin, gets, Seen, step_at, happens, at_first, OnceCall, OncePoint, Look, TryBegin, Await, Run, asks_of, OnceMachine, once_machine, Entries, once_after, RunsClosure, seen_at, has_just_looked, has_closure, MayRunAgain, LooksFirst, after-append, Invariant, in_call, []}
 use Rattle.spin_model.specs.declared.place.Seat.{Seat}
 use Rattle.spin_model.proofs.Lists.{get-set_same}
-use Rattle.spin_world.proofs.OnceOwed.{once_keeping}
+use Rattle.spin_world.proofs.OnceOwed.{once_facts}
 use Rattle.spin_world.proofs.Keeping.{OnceState, good, not_at_run, run_here}
 
 module _ {V : Type 0} (value : Option V) where
@@ -50,9 +50,9 @@ module _ {V : Type 0} (value : Option V) where
       }
 
   -- a closure begins only by the exchange, which follows a look
-  looks_at : (seen : Seen ℕ V (OnceCall V) OncePoint) (p : ℕ) (o : Option (Seat (OnceCall V) OncePoint)) → Invariant m (once_keeping value) seen → slice_get seen.state.seats p ≡ o → step_at m seen.state p Step o ≡ Some (gets p to_begin)
+  looks_at : (seen : Seen ℕ V (OnceCall V) OncePoint) (p : ℕ) (o : Option (Seat (OnceCall V) OncePoint)) → Invariant (once_facts value) seen → slice_get seen.state.seats p ≡ o → step_at m seen.state p Step o ≡ Some (gets p to_begin)
       → has_just_looked p (seen.span p) ≡ true
-  looks_at seen p (Some (Calling c l h)) good there e = grind (arith, (in_call m (once_keeping value) seen p c l h good there).knows)
+  looks_at seen p (Some (Calling c l h)) good there e = grind (arith, (in_call (once_facts value) p good there).knows)
   looks_at seen p _ good there e = absurd (cc (e))
 
   pub looks_first : (n : ℕ) (past : Entries V) → LooksFirst m n past

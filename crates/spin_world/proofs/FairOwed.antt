@@ -107,39 +107,39 @@ module _ {V : Type 0} (v : V) (cap patience : ℕ) where
 
   owes : OwesAll (fair_notes v cap patience)
   owes p Lock (Attempt n) None s w span = λ at.
-      let won = goes_on patience p s span (Some (gets p to_lock_unregistered)) plain refl (λ is. cc (is)) refl at.knows.0.in_time in
-      let lost = missed patience p s span n plain refl at.knows.1 at.knows.0 in
-      let refused = missed patience p s span n weak refl at.knows.1 at.knows.0 in
+      let won = goes_on patience p s span (Some (gets p to_lock_unregistered)) plain refl (λ is. cc (is)) refl at.knows.1.0.in_time in
+      let lost = missed patience p s span n plain refl at.knows.1.1 at.knows.1.0 in
+      let refused = missed patience p s span n weak refl at.knows.1.1 at.knows.1.0 in
       grind (arith, lock_means p s w, won, lost, nothing_left p _ lost.in_time, refused, nothing_left p _ refused.in_time)
   owes p Lock (Look n) None s w span = λ at.
       let held_on = looked_held patience p s span n in
       let late = looked_late patience p s span n in
       let free = looked_free patience p s span n in (
-        (λ set. grind (arith, held p s w, set, at.knows, held_on, late, nothing_left p, loads_in_time p, blind_after_late patience p s span)),
-        (λ clear. grind (arith, held p s w, clear, at.knows, free, nothing_left p, blind_after_free patience p s span)),
+        (λ set. grind (arith, held p s w, set, at.knows.1, held_on, late, nothing_left p, loads_in_time p, blind_after_late patience p s span)),
+        (λ clear. grind (arith, held p s w, clear, at.knows.1, free, nothing_left p, blind_after_free patience p s span)),
       )
   owes p Lock Load None s w span = λ at.
-      let next = loaded patience p s span w (cc (at.encodes)) at.knows.1 at.knows.0 in
-      let looks = full patience p s span (few_to_load p) plain refl (allowed patience p s span None plain at.knows.1) in
-      grind (arith, starve_means p s w, at.knows, next, registers_in_time w p s _ next, looks, nothing_left p)
+      let next = loaded patience p s span w (cc (at.encodes)) at.knows.1.1 at.knows.1.0 in
+      let looks = full patience p s span (few_to_load p) plain refl (allowed patience p s span None plain at.knows.1.1) in
+      grind (arith, starve_means p s w, at.knows.1, next, registers_in_time w p s _ next, looks, nothing_left p)
   owes p Lock (Register n) None s w span = λ at.
-      let won = registered patience p s span n at.knows in
-      let next = λ (other : (w == n) ≡ false). retried patience p s span n w (cc (at.encodes)) other at.knows in
+      let won = registered patience p s span n at.knows.1 in
+      let next = λ (other : (w == n) ≡ false). retried patience p s span n w (cc (at.encodes)) other at.knows.1 in
       let looks = full patience p s span (few_to_register p s n) again refl refl in (
         starve_means p s w (cc (at.encodes)) at.shape,
         (λ is. grind (arith, won, nothing_left p, blind_after_step patience p (gets p to_starve) again s span)),
         (λ found. grind (arith, found, next, registers_in_time w p s)),
-        (λ closed. grind (arith, closed, at.knows, looks, nothing_left p)),
+        (λ closed. grind (arith, closed, at.knows.1, looks, nothing_left p)),
       )
   owes p Lock SetFlag None s w span = λ at.
-      let won = goes_on patience p s span (Some (gets p to_lock_starving)) plain refl (λ is. cc (is)) refl at.knows.0 in
-      let lost = goes_on patience p s span None plain refl (λ is. cc (is)) (allowed patience p s span None plain at.knows.1) at.knows.0 in
+      let won = goes_on patience p s span (Some (gets p to_lock_starving)) plain refl (λ is. cc (is)) refl at.knows.1.0 in
+      let lost = goes_on patience p s span None plain refl (λ is. cc (is)) (allowed patience p s span None plain at.knows.1.1) at.knows.1.0 in
       grind (arith, lock_starved_means p s w, won, nothing_left p _ won, lost, nothing_left p _ lost)
   owes p Lock Await None s w span = λ at.
-      let next = looked_starving patience p s span at.known.made at.knows in
+      let next = looked_starving patience p s span at.knows.0.made at.knows.1 in
       grind (arith, held p s w, next, nothing_left p _ next, blind_after_free patience p s span)
   owes p Lock Unregister None s w span = λ at.
-      let next = goes_on patience p s span (Some (stops_starving p)) plain refl (λ is. cc (is)) refl at.knows in
+      let next = goes_on patience p s span (Some (stops_starving p)) plain refl (λ is. cc (is)) refl at.knows.1 in
       grind (arith, unstarve_means p s w, is_starving_still p s, next)
   owes p TryLock l h s w span = grind (arith, lock_means p s w)
   owes p TryLockStarver l h s w span = grind (arith, lock_means p s w, eqb-true w 1, word_locked w s, word_starved w s)
@@ -185,8 +185,5 @@ module _ {V : Type 0} (v : V) (cap patience : ℕ) where
         soon = soon;
       }
 
-abbrev pub fair_keeping : {V : Type 0} (v : V) (cap patience : ℕ) → Notes (fair_table v cap patience)
-fair_keeping v cap patience = fair_notes v cap patience
-
-pub fair_facts : {V : Type 0} (v : V) (cap patience : ℕ) → Plays (fair_machine v cap patience) (fair_keeping v cap patience)
+pub fair_facts : {V : Type 0} (v : V) (cap patience : ℕ) → Plays (fair_machine v cap patience) (fair_notes v cap patience)
 fair_facts v cap patience = plays_of (fair_pays v cap patience) refl

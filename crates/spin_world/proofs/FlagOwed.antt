@@ -50,8 +50,5 @@ module _ {V : Type 0} (v : V) where
         soon = soon;
       }
 
-abbrev pub flag_keeping : {V : Type 0} (v : V) → Notes (flag_table v)
-flag_keeping v = flag_notes v
-
-pub flag_facts : {V : Type 0} (v : V) → Plays (flag_machine v) (flag_keeping v)
+pub flag_facts : {V : Type 0} (v : V) → Plays (flag_machine v) (flag_notes v)
 flag_facts v = plays_of (flag_pays v) refl

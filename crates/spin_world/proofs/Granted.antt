@@ -1,6 +1,6 @@
 -- A starver that has set the flag is at a point where its next step is granted. A starver that waits is at a point
 -- where its step sets a clear flag.
-use Rattle.spin_world.proofs.FairNames.{◌≡◌, ℕ, ◌+◌, ◌%◌, ◌==◌, ◌⊎◌, Bool, true, not, ◌&&◌, Option, Some, List, refl, ap, sym, ◌∙◌, arith, inl, inr, ⊎_elim, eq-eqb, and_from, is_empty, fair_word, Entries, Hold, Continue, Answer, opening, entries_at, row_of, FairCall, FairPoint, SetFlag, Await, Unregister, asks_of, fair_table, fair_machine, IsGrantedNext, SetsAClearFlag, GoesForAClearFlag}
+use Rattle.spin_world.proofs.FairNames.{◌≡◌, ℕ, ◌+◌, ◌%◌, ◌==◌, ◌⊎◌, Bool, true, not, ◌&&◌, Option, Some, List, refl, ap, sym, ◌∙◌, arith, inl, inr, ⊎_elim, eq-eqb, and_from, is_empty, fair_word, Entries, Hold, Continue, Answer, opening, entries_at, row_of, FairCall, FairPoint, SetFlag, Await, Unregister, asks_of, fair_machine, IsGrantedNext, SetsAClearFlag, GoesForAClearFlag}
 use Rattle.spin_model.specs.declared.place.Seat.TheVariants.{Calling}
 use Rattle.spin_model.specs.declared.schedule.Move.{Move}
 use Rattle.spin_model.specs.declared.schedule.Move.TheVariants.{Step}
@@ -9,7 +9,7 @@ use Rattle.spin_model.specs.Schedules.{moves_at, after, at_first}
 use Rattle.spin_world_core.specs.Users.{seen_after}
 use Rattle.spin_world_core.proofs.Reached.{numbers_are, passes_some, StandsSo, calls_so}
 use Rattle.spin_world.proofs.FairKnowledge.{flag_clear}
-use Rattle.spin_world.proofs.FairOwed.{fair_notes, fair_keeping, fair_facts}
+use Rattle.spin_world.proofs.FairOwed.{fair_notes, fair_facts}
 
 abbrev holds_starving : Entries → Bool
 holds_starving e = not (is_empty e.holders) && not (is_empty e.starvers)
@@ -28,8 +28,7 @@ module _ {V : Type 0} (v : V) (cap patience : ℕ) where
 
   pub granted_next : (n : ℕ) (past : List (ℕ × Move FairCall V)) → IsGrantedNext m n past
   granted_next n past p c l h there is =
-      let both = calls_so (fair_machine v cap patience) (fair_notes v cap patience) (fair_facts v cap patience) n past holds_starving p c l h
-      there (ap holds_starving is) in
+      let both = calls_so (fair_facts v cap patience) n past holds_starving p there (ap holds_starving is) in
       ap (λ o. (moves_at m (after m (at_first m n) past) p Step o).outcome) (there ∙ ap (λ l. Some (Calling c l h)) (leaves_at p c l h both))
 
   -- a waiting starver is at a point where it sets the flag, or looks at it
@@ -54,9 +53,8 @@ module _ {V : Type 0} (v : V) (cap patience : ℕ) where
   pub goes_for_flag : (n : ℕ) (past : List (ℕ × Move FairCall V)) → GoesForAClearFlag m n past
   goes_for_flag n past p c l h there waits is free =
       let now = after m (at_first m n) past in
-      let alone = calls_so (fair_machine v cap patience) (fair_notes v cap patience) (fair_facts v cap patience) n past starves_alone p c l h
-      there (ap starves_alone is) in
+      let alone = calls_so (fair_facts v cap patience) n past starves_alone p there (ap starves_alone is) in
       let plain = (seen_after m (opening m n) past).plain in
-      let word : now.words ≡ fair_word plain = cc (numbers_are m (fair_keeping v cap patience) (fair_facts v cap patience) n past) in
+      let word : now.words ≡ fair_word plain = cc (numbers_are (fair_facts v cap patience) n past) in
       let clear = flag_clear now.words plain (sym word) (ap is_empty free) in
       ⊎_elim (λ set. inl (set now.value)) (λ goes. inr (goes.0, goes.1 now.value, goes.2)) (goes_for p now.words clear c l h (and_from _ _ alone waits))

@@ -5,9 +5,10 @@ use Rattle.spin_model.specs.declared.place.Seat.TheVariants.{Calling}
 use Rattle.spin_model.specs.declared.schedule.Move.TheVariants.{Step}
 use Rattle.spin_model.specs.declared.schedule.Outcome.TheVariants.{Answered}
 use Rattle.spin_model.specs.Schedules.{State, happens, moves_at, after, at_first}
+use Rattle.spin_world_core.proofs.Steps.{Plays}
 use Rattle.spin_world_core.proofs.Preserved.{Invariant, in_call}
 use Rattle.spin_world_core.proofs.Every.{kept, good_first, good_after, state-seen_after}
-use Rattle.spin_world.proofs.BarrierOwed.{barrier_keeping, barrier_facts, is_barrier, one_more}
+use Rattle.spin_world.proofs.BarrierOwed.{barrier_notes, barrier_facts, is_barrier, one_more}
 
 abbrev BarrierState : Type 0
 BarrierState = State BarrierWords ℕ BarrierCall BarrierPoint
@@ -16,16 +17,19 @@ module _ (n : ℕ) where
   abbrev m : BarrierMachine
   m = barrier_machine n
 
+  abbrev f : Plays m (barrier_notes n)
+  f = barrier_facts n
+
   abbrev Good : Seen BarrierWords ℕ BarrierCall BarrierPoint → Type 0
-  Good seen = Invariant m (barrier_keeping n) seen
+  Good seen = Invariant f seen
 
   good_at : (parties : ℕ) (past : Entries) → Good (seen_at m parties past)
-  good_at parties past = good_after m (barrier_keeping n) (barrier_facts n) (opening m parties) past (good_first m (barrier_keeping n) (barrier_facts n) parties)
+  good_at parties past = good_after f (opening m parties) past (good_first f parties)
 
   counted : (seen : Seen BarrierWords ℕ BarrierCall BarrierPoint) (es : Entries) → Good seen → (seen_after m seen es).plain.arrivals ≡ seen.plain.arrivals + steps_made is_arrival m seen es
   counted seen [] good = omega arith
   counted seen (e ∷ es) good =
-      let here = kept m (barrier_keeping n) (barrier_facts n) seen e.0 e.1 good in
+      let here = kept f seen e.0 e.1 good in
       omega (arith, one_more seen.plain (scene m seen e.0 e.1).change here.keeps.belongs, counted (scene m seen e.0 e.1).after es here.good)
 
   -- by the party's seat: the number is that of the next arrival in its group, or 0
@@ -39,7 +43,7 @@ module _ (n : ℕ) where
       let seen = seen_at m parties past in
       let state = state-seen_after m (opening m parties) past in
       let is = is_barrier n seen.plain seen.state.words good.encodes good.shape in
-      let many : seen.plain.arrivals ≡ arrivals m parties past = omega (arith, counted (opening m parties) past (good_first m (barrier_keeping n) (barrier_facts n) parties)) in
+      let many : seen.plain.arrivals ≡ arrivals m parties past = omega (arith, counted (opening m parties) past (good_first f parties)) in
       let group : max seen.plain.group 1 ≡ max n 1 = ap (λ k. max k 1) is.group in
       let words : (after m (at_first m parties) past).words ≡ seen.state.words = ap (λ (s : BarrierState). s.words) (sym state) in
       let leading : leads n seen.state.words ≡ (((arrivals m parties past + 1) % max n 1) == 0) =
@@ -57,7 +61,7 @@ module _ (n : ℕ) where
       → ((happens m seen.state p Step).outcome ≡ Answered Follower None) ↔ (may_leave seen.plain (arrived p (seen.span p)) ≡ true)
   leaves_at seen p c l h good there has =
       let is = is_barrier n seen.plain seen.state.words good.encodes good.shape in
-      let knows = (in_call m (barrier_keeping n) seen p c l h good there).knows in
+      let knows = (in_call f p good there).knows in
       let tells = λ (g : ℕ). barrier_may_leave-tells seen.plain (arrived p (seen.span p)) n seen.state.words.count seen.state.words.generation g is in
       grind (arith, there, knows, tells)
 

@@ -1,5 +1,5 @@
 -- What users of a `Once` may rely on: one closure at a time, and one value.
-use Rattle.spin_world.proofs.OnceNames.{◌≡◌, ℕ, ◌==◌, true, false, is_some, Option, Some, None, ◌∷◌, ◌++◌, slice_get, refl, arith, ap, sym, ◌∙◌, subst, and_parts, running, Change, once_word, IsOpenStep, Answer, Value, Hold, Calling, Step, State, happens, after, at_first, Seen, scene, opening, last_written, placed_at, MayTouch, OnceCall, Get, OncePoint, Run, runs, asks_of, OnceMachine, once_machine, Entries, once_after, seen_at, keeps_value, is_shared, ValueStays, RunsClosure, OneRuns, wants_value, AnswersAtOnce, GetAgrees, after-append, InCall, Invariant, []}
+use Rattle.spin_world.proofs.OnceNames.{Plays, ◌≡◌, ℕ, ◌==◌, true, false, is_some, Option, Some, None, ◌∷◌, ◌++◌, slice_get, refl, arith, ap, sym, ◌∙◌, subst, and_parts, running, Change, once_word, IsOpenStep, Answer, Value, Hold, Calling, Step, State, happens, after, at_first, Seen, scene, opening, last_written, placed_at, MayTouch, OnceCall, Get, OncePoint, Run, runs, asks_of, OnceMachine, once_machine, Entries, once_after, seen_at, keeps_value, is_shared, ValueStays, RunsClosure, OneRuns, wants_value, AnswersAtOnce, GetAgrees, after-append, InCall, Invariant, []}
 use Rattle.spin_model.specs.declared.schedule.Move.{Move}
 use Rattle.spin_model.specs.declared.schedule.Outcome.{Outcome}
 use Rattle.spin_model.specs.declared.schedule.Outcome.TheVariants as outcome
@@ -10,7 +10,7 @@ use Rattle.spin_world_core.proofs.Reached as reached
 use Rattle.spin_world_core.proofs.Reached.{numbers_are, calls}
 use Rattle.spin_world_core.proofs.Filled.{uncompleted}
 use Rattle.spin_world_core.proofs.Values as values
-use Rattle.spin_world.proofs.OnceOwed.{once_keeping, once_facts}
+use Rattle.spin_world.proofs.OnceOwed.{once_notes, once_facts}
 
 abbrev pub OnceState : Type 0 → Type 0
 OnceState V = State ℕ V (OnceCall V) OncePoint
@@ -22,11 +22,14 @@ module _ {V : Type 0} (value : Option V) where
   abbrev m : OnceMachine V
   m = once_machine value
 
+  abbrev f : Plays m (once_notes value)
+  f = once_facts value
+
   abbrev Good : OnceSeen V → Type 0
-  Good seen = Invariant m (once_keeping value) seen
+  Good seen = Invariant f seen
 
   pub good : (n : ℕ) (past : Entries V) → Good (seen_at m n past)
-  good n past = reached.good m (once_keeping value) (once_facts value) n past
+  good n past = reached.good f n past
 
   -- an event does not change the value last written, if there is one
   written_stays : (seen : OnceSeen V) (p : ℕ) (v : V) (o : Outcome (Answer V) V) (move : Move (OnceCall V) V) (put : Option V) (step : Option Change)
@@ -37,7 +40,7 @@ module _ {V : Type 0} (value : Option V) where
   stays_one : (seen : OnceSeen V) (p : ℕ) (move : Move (OnceCall V) V) (v : V) → Good seen → keeps_value move ≡ true → seen.state.value ≡ Some v → (scene m seen p move).after.state.value ≡ Some v
   stays_one seen p move v good keeps is =
       let s = scene m seen p move in
-      let here = kept m (once_keeping value) (once_facts value) seen p move good in
+      let here = kept f seen p move good in
       let put = placed_at m seen.state move (slice_get seen.state.seats p) in
       here.keeps.value_is ∙ written_stays seen p v s.outcome move put s.change good here.keeps.touches here.keeps.opens keeps is
 
@@ -45,7 +48,7 @@ module _ {V : Type 0} (value : Option V) where
   stays_on seen [] v good shared is = is
   stays_on seen (e ∷ es) v good shared is =
       let parts = and_parts (keeps_value e.1) (is_shared es) shared in
-      stays_on (scene m seen e.0 e.1).after es v (kept m (once_keeping value) (once_facts value) seen e.0 e.1 good).good parts.1 (stays_one seen e.0 e.1 v good parts.0 is)
+      stays_on (scene m seen e.0 e.1).after es v (kept f seen e.0 e.1 good).good parts.1 (stays_one seen e.0 e.1 v good parts.0 is)
 
   pub a_value_stays : (n : ℕ) (past further : Entries V) → ValueStays m n past further
   a_value_stays n past further =
@@ -59,13 +62,13 @@ module _ {V : Type 0} (value : Option V) where
       }
 
   word_at : (n : ℕ) (past : Entries V) → (once_after m n past).words ≡ once_word (seen_at m n past).plain
-  word_at n past = cc (numbers_are m (once_keeping value) (once_facts value) n past)
+  word_at n past = cc (numbers_are f n past)
 
   -- a party at the end of a closure runs it, and nobody else runs one
 
   module _ (n : ℕ) (past : Entries V) (p : ℕ) (c : OnceCall V) (l : OncePoint) (h : Option Hold) (there : slice_get (once_after m n past).seats p ≡ Some (Calling c l h)) where
-    in_call_at : InCall (once_keeping value) p c l h (seen_at m n past).plain (seen_at m n past).state.value (seen_at m n past).state.words ((seen_at m n past).span p)
-    in_call_at = calls m (once_keeping value) (once_facts value) n past p c l h there
+    in_call_at : InCall (once_notes value) p c l h (seen_at m n past).plain (seen_at m n past).state.words ((seen_at m n past).span p)
+    in_call_at = calls f n past p there
 
     -- if the word is not 1, no closure runs
     pub not_at_run : (w : ℕ) → (w == 1) ≡ false → (once_after m n past).words ≡ w → l ≡ Run → ⊥
@@ -113,7 +116,7 @@ module _ {V : Type 0} (value : Option V) where
   answered_value : (seen : OnceSeen V) (p : ℕ) (v : V) → Good seen → (happens m seen.state p Step).outcome ≡ outcome.Answered (Value v) None → (scene m seen p Step).after.state.value ≡ Some v
   answered_value seen p v good is =
       let s = scene m seen p Step in
-      subst (λ o. GivesAt m Step o s.after.state.value) is (values.keeps_value m (once_keeping value) (once_facts value) seen p Step good).gives
+      subst (λ o. GivesAt m Step o s.after.state.value) is (values.keeps_value f seen p Step good).gives
 
   pub a_later_get_agrees : (n : ℕ) (past further : Entries V) → GetAgrees m n past further
   a_later_get_agrees n past further = λ p q v l h is shared at.
@@ -125,5 +128,5 @@ module _ {V : Type 0} (value : Option V) where
       let now : (once_after m n all).value ≡ Some v =
       ap (λ (s : OnceState V). s.value) (after-append m (at_first m n) past ((p, Step) ∷ further))
       ∙ subst (λ (s : OnceState V). (after m (happens m s p Step).next further).value ≡ Some v) state
-      (stays_on (scene m seen p Step).after further v (kept m (once_keeping value) (once_facts value) seen p Step good).good shared told) in
+      (stays_on (scene m seen p Step).after further v (kept f seen p Step good).good shared told) in
       value_told n all q v Get l h now at refl

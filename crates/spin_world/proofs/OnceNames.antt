@@ -20,7 +20,8 @@ pub use Rattle.spin_model.proofs.Schedules.{after-append}
 pub use Rattle.spin_world_core.proofs.Preserved.{Invariant, in_call}
 pub use Rattle.spin_step.specs.Parties.{IsOpenStep}
 pub use Rattle.spin_step.proofs.Onces.{runs-others}
-pub use Rattle.spin_world_core.proofs.Steps.{InCall, Plays}
+pub use Rattle.spin_world_core.proofs.Steps.{Plays}
+pub use Rattle.spin_world_core.proofs.Shapes.{InCall}
 pub use Rattle.spin_world_core.proofs.Rows.{Point, nowhere, looked, onward}
 pub use Rattle.spin_world_core.proofs.Shapes.{Notes}
 pub use Rattle.spin_world_core.proofs.Usual.{no_holders}

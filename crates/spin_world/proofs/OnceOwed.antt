@@ -63,8 +63,5 @@ module _ {V : Type 0} (value : Option V) where
         tells = λ p c l h s w e. grind arith;
       }
 
-abbrev pub once_keeping : {V : Type 0} (value : Option V) → Notes (once_table value)
-once_keeping value = once_notes value
-
-pub once_facts : {V : Type 0} (value : Option V) → Plays (once_machine value) (once_keeping value)
+pub once_facts : {V : Type 0} (value : Option V) → Plays (once_machine value) (once_notes value)
 once_facts value = plays_with (once_pays value)

@@ -1,8 +1,8 @@
 -- What users of a ticket lock may rely on.
-use Rattle.spin_world.proofs.TicketNames.{◌≡◌, ℕ, ◌+◌, Option, Some, List, ◌∷◌, ◌++◌, slice_get, ap, arith, Plain, Change, serving_word, apply_some, IsOpenStep, Entries, bit, Numbered, serving-moves, entered_is_served, Answer, Holding, Move, TicketCall, TicketPoint, TicketWords, after, at_first, Seen, scene, opening, ticket_machine, seen_after, passes, serves_one, tickets_gone, InOrder, InTurn, Notes, ticket_table, []}
+use Rattle.spin_world.proofs.TicketNames.{◌≡◌, ℕ, ◌+◌, Option, Some, List, ◌∷◌, ◌++◌, slice_get, ap, arith, Plain, Change, serving_word, apply_some, IsOpenStep, Entries, bit, Numbered, serving-moves, entered_is_served, Answer, Holding, Move, TicketCall, TicketPoint, TicketWords, after, at_first, Seen, scene, opening, ticket_machine, seen_after, Plays, passes, serves_one, tickets_gone, InOrder, InTurn, []}
 use Rattle.spin_model.specs.declared.place.Hold.TheVariants as hold
 use Rattle.spin_model.specs.Machines.{Machine}
-use Rattle.spin_world.proofs.TicketOwed.{ticket_keeping, ticket_facts}
+use Rattle.spin_world.proofs.TicketOwed.{ticket_notes, ticket_facts}
 use Rattle.spin_world_core.proofs.Preserved.{Invariant}
 use Rattle.spin_world_core.proofs.Every.{kept}
 use Rattle.spin_world_core.proofs.Guards.{seen_after-append}
@@ -15,20 +15,20 @@ module _ {V : Type 0} (v : V) (first : ℕ) where
   abbrev m : Machine TicketWords V TicketCall TicketPoint (Answer V)
   m = ticket_machine v first
 
-  abbrev k : Notes (ticket_table v first)
-  k = ticket_keeping v first
+  abbrev f : Plays m (ticket_notes v first)
+  f = ticket_facts v first
 
-  served : (seen : Seen TicketWords V TicketCall TicketPoint) (es : List (ℕ × Move TicketCall V)) → Invariant m k seen
+  served : (seen : Seen TicketWords V TicketCall TicketPoint) (es : List (ℕ × Move TicketCall V)) → Invariant f seen
       → serving_word (seen_after m seen es).plain ≡ serving_word seen.plain + tickets_gone m seen es
   served seen [] good = omega arith
   served seen (e ∷ es) good =
-      let here = kept m k (ticket_facts v first) seen e.0 e.1 good in
+      let here = kept f seen e.0 e.1 good in
       omega (arith, moves_some seen.plain e.0 (scene m seen e.0 e.1).change good.shape.numbered here.keeps.opens, served (scene m seen e.0 e.1).after es here.good)
 
   pub in_order : (n : ℕ) (past : List (ℕ × Move TicketCall V)) → InOrder (after m (at_first m n) past).words (seen_after m (opening m n) past).plain
   in_order n past =
-      let numbers = numbers_are m k (ticket_facts v first) n past in
-      let g = good m k (ticket_facts v first) n past in
+      let numbers = numbers_are f n past in
+      let g = good f n past in
       record { next = cc (numbers); serving = cc (numbers); numbered = g.shape.numbered; one_entered = g.exclusive.one_entered }
 
   -- a party that holds has the served ticket
@@ -36,7 +36,7 @@ module _ {V : Type 0} (v : V) (first : ℕ) where
       → serving_word (seen_after m (opening m n) past).plain ≡ t
   holds_served n p t past there =
       let order = in_order n past in
-      let has = ap (λ (e : Entries). e.tickets) (stands m k (ticket_facts v first) n past p (Holding (hold.Ticket t)) there) in
+      let has = ap (λ (e : Entries). e.tickets) (stands f n past p there) in
       (entered_is_served (seen_after m (opening m n) past).plain p t order.numbered order.one_entered has).1
 
   -- the served number after further entries
@@ -45,14 +45,14 @@ module _ {V : Type 0} (v : V) (first : ℕ) where
       ≡ (after m (at_first m n) past).words.serving + tickets_gone m (seen_after m (opening m n) past) further
   served_later n past further =
       let at_end = ap (λ (s : Seen TicketWords V TicketCall TicketPoint). serving_word s.plain) (seen_after-append m (opening m n) past further) in
-      omega (arith, (in_order n past).serving, served (seen_after m (opening m n) past) further (good m k (ticket_facts v first) n past), at_end)
+      omega (arith, (in_order n past).serving, served (seen_after m (opening m n) past) further (good f n past), at_end)
 
   pub in_turn : (n : ℕ) (past further : List (ℕ × Move TicketCall V)) → InTurn m n past further
   in_turn n past further =
       let all = past ++ further in
       record {
         enters = λ p t c l h there waits.
-            let knows = (calls m k (ticket_facts v first) n all p c l h there).knows in
+            let knows = (calls f n all p there).knows in
             grind (arith, there, waits, knows, (in_order n all).serving, served_later n past further);
         holds = λ p t there. omega (arith, served_later n past further, holds_served n p t all there);
       }

@@ -152,8 +152,5 @@ module _ {V : Type 0} (v : V) (cap : ℕ) where
         soon = soon;
       }
 
-abbrev pub rw_keeping : {V : Type 0} (v : V) (cap : ℕ) → Notes (rw_table v cap)
-rw_keeping v cap = rw_notes v cap
-
-pub rw_facts : {V : Type 0} (v : V) (cap : ℕ) → Plays (rw_machine v cap) (rw_keeping v cap)
+pub rw_facts : {V : Type 0} (v : V) (cap : ℕ) → Plays (rw_machine v cap) (rw_notes v cap)
 rw_facts v cap = plays_of (rw_pays v cap) refl

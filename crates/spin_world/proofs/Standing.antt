@@ -7,12 +7,13 @@ use Rattle.spin_model.specs.declared.schedule.Move.{Move}
 use Rattle.spin_model.specs.declared.schedule.Move.TheVariants.{Step}
 use Rattle.spin_model.specs.declared.schedule.Outcome.TheVariants.{Answered}
 use Rattle.spin_model.specs.Schedules.{State, moves_at, after, at_first}
-use Rattle.spin_world_core.proofs.Steps.{Knows}
+use Rattle.spin_world_core.proofs.Shapes.{Knows}
+use Rattle.spin_world_core.proofs.Steps.{Plays}
 use Rattle.spin_world_core.specs.Runs.{Seen, scene, opening, entries_of, is_reader}
 use Rattle.spin_world_core.specs.Users.{seen_after, passes, ReadsAgreeAcross}
-use Rattle.spin_step_more.specs.RwCalls.{rw_table, rw_machine}
+use Rattle.spin_step_more.specs.RwCalls.{rw_machine}
 use Rattle.spin_world.specs.Standing.{StandTogether, KeepsWritersOut, less, Downgrades, readers_gone, StaysAsking, Opens, converts}
-use Rattle.spin_world.proofs.RwOwed.{holder_by, rw_notes, rw_keeping, rw_facts}
+use Rattle.spin_world.proofs.RwOwed.{holder_by, rw_notes, rw_facts}
 use Rattle.spin_model.specs.Machines.{Machine}
 use Rattle.spin_world_core.proofs.Reached.{good, numbers_are, stands, calls, passes_some, passes_all, row_passes, row_tells}
 use Rattle.spin_model.proofs.Lists.{get-set_same}
@@ -56,13 +57,16 @@ module _ {V : Type 0} (v : V) (cap : ℕ) where
   abbrev m : Machine ℕ V RwCall RwPoint (Answer V)
   m = rw_machine v cap
 
+  abbrev f : Plays m (rw_notes v cap)
+  f = rw_facts v cap
+
   words_are : (n : ℕ) (past : List (ℕ × Move RwCall V)) → (after m (at_first m n) past).words ≡ rw_word (seen_after m (opening m n) past).plain
-  words_are n past = cc (numbers_are m (rw_keeping v cap) (rw_facts v cap) n past)
+  words_are n past = cc (numbers_are f n past)
 
   pub stand_together : (n : ℕ) (past : List (ℕ × Move RwCall V))
       → StandTogether cap (after m (at_first m n) past).words (seen_after m (opening m n) past).plain
   stand_together n past =
-      let here = good m (rw_keeping v cap) (rw_facts v cap) n past in
+      let here = good f n past in
       record { word = words_are n past; writer = here.exclusive.writer; one_upgradable = here.exclusive.one_upgradable; within = omega (arith, here.shape.few, here.shape.room) }
 
   pub zero_when_free : (n : ℕ) (past : List (ℕ × Move RwCall V))
@@ -75,13 +79,13 @@ module _ {V : Type 0} (v : V) (cap : ℕ) where
   stays_now p seen [] stays = stays
   stays_now p seen (e ∷ es) stays = stays.0
 
-  gone_through : (p : ℕ) (seen : Seen ℕ V RwCall RwPoint) (es : List (ℕ × Move RwCall V)) → Invariant m (rw_keeping v cap) seen → StaysAsking p m seen es
+  gone_through : (p : ℕ) (seen : Seen ℕ V RwCall RwPoint) (es : List (ℕ × Move RwCall V)) → Invariant f seen → StaysAsking p m seen es
       → (count_kind reading (seen_after m seen es).plain.holders + readers_gone m seen es ≡ count_kind reading seen.plain.holders)
       × (is_holder p asking (seen_after m seen es).plain.holders ≡ true)
   gone_through p seen [] here stays = (omega arith, stays)
   gone_through p seen (e ∷ es) here stays =
       let sc = scene m seen e.0 e.1 in
-      let is = kept m (rw_keeping v cap) (rw_facts v cap) seen e.0 e.1 here in
+      let is = kept f seen e.0 e.1 here in
       let rest = gone_through p sc.after es is.good stays.1 in
       let one = goes_some seen.plain p e.0 sc.change here.exclusive stays.0 is.keeps.opens (stays_now p sc.after es stays.1) in
       (omega (arith, rest.0, one), rest.1)
@@ -91,12 +95,12 @@ module _ {V : Type 0} (v : V) (cap : ℕ) where
       let all = past ++ further in
       let before = seen_after m (opening m n) past in
       let later = seen_after m (opening m n) all in
-      let gone = gone_through p before further (good m (rw_keeping v cap) (rw_facts v cap) n past) stays in
+      let gone = gone_through p before further (good f n past) stays in
       let joined = seen_after-append m (opening m n) past further in
       let readers : count_kind reading later.plain.holders + readers_gone m before further ≡ count_kind reading before.plain.holders =
       ap (λ (s : Seen ℕ V RwCall RwPoint). count_kind reading s.plain.holders + readers_gone m before further) joined ∙ gone.0 in
       let found : is_holder p asking later.plain.holders ≡ true = ap (λ (s : Seen ℕ V RwCall RwPoint). is_holder p asking s.plain.holders) joined ∙ gone.1 in
-      let here = good m (rw_keeping v cap) (rw_facts v cap) n all in
+      let here = good f n all in
       let alone = alone_when_gone later.plain p here.exclusive found in
       let left : (is_only p asking later.plain.holders ≡ true) ↔ (readers_gone m before further ≡ count_kind reading before.plain.holders) =
       (λ only. let none = alone.0 only in omega (arith, readers, none), λ all_gone. alone.1 (omega (arith, readers, all_gone))) in
@@ -106,7 +110,7 @@ module _ {V : Type 0} (v : V) (cap : ℕ) where
         readers = readers;
         opens = left;
         granted = λ c l h there.
-            let knows = (calls m (rw_keeping v cap) (rw_facts v cap) n all p c l h there).knows in
+            let knows = (calls f n all p there).knows in
             let asks = row_passes (rw_notes v cap) c l h p _ _ (λ row. may_ask row.stand)
             (λ row is made. asks_by p later.plain row.stand found is) _ knows in
             let step = upgraded now p c l h asks in
@@ -122,7 +126,7 @@ module _ {V : Type 0} (v : V) (cap : ℕ) where
   downgraded s p c l h held is there = grind (arith, λ (now : Hold). get-set_same s.seats p (Holding now) (Calling c l h) there)
 
   -- a party that is in such a call holds
-  holds_there : (p : ℕ) (c : RwCall) (l : RwPoint) (h : Option Hold) (held : Hold) (s : Plain) (span : List Mark) → less c ≡ Some held → Knows (rw_keeping v cap) c l h p s span → KeepsWritersOut p s
+  holds_there : (p : ℕ) (c : RwCall) (l : RwPoint) (h : Option Hold) (held : Hold) (s : Plain) (span : List Mark) → less c ≡ Some held → Knows (rw_notes v cap) c l h p s span → KeepsWritersOut p s
   holds_there p c l h held s span is knows =
       grind (arith, knows, holder_by p writing s, holder_by p upgradable s, keeps_writers_out p writing s, keeps_writers_out p upgradable s)
 
@@ -142,10 +146,10 @@ module _ {V : Type 0} (v : V) (cap : ℕ) where
       let seat : slice_get (after m (at_first m n) all).seats p ≡ Some (Holding held) =
       ap (λ (s : State ℕ V RwCall RwPoint). slice_get s.seats p) (after-append m (at_first m n) past ((p, Step) ∷ [])) ∙ (ap (λ o. slice_get (moves_at m now p Step o).next.seats p) there ∙ step.1) in
       record {
-        before = holds_there p c l h held before.plain (before.span p) is (calls m (rw_keeping v cap) (rw_facts v cap) n past p c l h there).knows;
+        before = holds_there p c l h held before.plain (before.span p) is (calls f n past p there).knows;
         done = at ∙ step.0;
         holds = seat;
-        later = holds_after p held c later.plain is (stands m (rw_keeping v cap) (rw_facts v cap) n all p (Holding held) seat);
+        later = holds_after p held c later.plain is (stands f n all p seat);
       }
 
   -- Reads across conversions
@@ -155,7 +159,7 @@ module _ {V : Type 0} (v : V) (cap : ℕ) where
 
   pub looks_agree : (n : ℕ) (past : List (ℕ × Move RwCall V)) → ReadsAgreeAcross converts m n past
   looks_agree n past =
-      reads_agree_across m (rw_keeping v cap) (rw_facts v cap) converts
+      reads_agree_across f converts
       (record {
         reads = λ p c l h s span is may knows. row_tells (rw_notes v cap) c l (Some h) p s span is_reader _ knows (grind (arith, is));
         steps = λ c l h w value is may. grind (arith, is, may);

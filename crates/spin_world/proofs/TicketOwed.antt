@@ -104,8 +104,5 @@ module _ {V : Type 0} (v : V) (first : ℕ) where
         soon = soon;
       }
 
-abbrev pub ticket_keeping : {V : Type 0} (v : V) (first : ℕ) → Notes (ticket_table v first)
-ticket_keeping v first = ticket_notes v first
-
-pub ticket_facts : {V : Type 0} (v : V) (first : ℕ) → Plays (ticket_machine v first) (ticket_keeping v first)
+pub ticket_facts : {V : Type 0} (v : V) (first : ℕ) → Plays (ticket_machine v first) (ticket_notes v first)
 ticket_facts v first = plays_of (ticket_pays v first) refl

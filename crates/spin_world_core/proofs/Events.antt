@@ -1,6 +1,6 @@
 -- The result of an event: its move is skipped, or is open and does what it is for. What holds in each of these cases
 -- holds of every event.
-use Rattle.spin_world_core.proofs.Names.{◌≡◌, ℕ, Bool, true, false, Option, Some, None, is_some, slice_get, refl, ap, Hold, Seat, Idle, Calling, Holding, Leaked, Next, Move, Begin, Step, Weak, Read, Write, Leak, OwnerGet, OwnerSet, StepKind, plain, weak, Machine, Happened, skipped, begun, goes_on, refuses, resting, read_by, written_by, may_read, may_write, is_owners, owner_gets, owner_sets, Seen, Scene, scene, scene_at, scene_of, is_open_move}
+use Rattle.spin_world_core.proofs.Names.{seat_of, ◌≡◌, ℕ, Bool, true, false, Option, Some, None, is_some, refl, ap, Hold, Seat, Idle, Calling, Holding, Leaked, Next, Move, Begin, Step, Weak, Read, Write, Leak, OwnerGet, OwnerSet, StepKind, plain, weak, Machine, Happened, skipped, begun, goes_on, refuses, resting, read_by, written_by, may_read, may_write, is_owners, owner_gets, owner_sets, Seen, Scene, scene, scene_at, scene_of, is_open_move}
 
 -- the seat of a party with this hold, which it still holds or has leaked
 abbrev pub seat_with : {C L : Type 0} → Bool → Hold → Seat C L
@@ -9,26 +9,42 @@ seat_with false h = Leaked h
 
 module _ {W V C L A : Type 0} (m : Machine W V C L A) (seen : Seen W V C L) (p : ℕ) where
   abbrev pub SitsAt : Option (Seat C L) → Type 0
-  SitsAt o = slice_get seen.state.seats p ≡ o
+  SitsAt o = seat_of seen p ≡ o
 
-  -- what has to be shown of an event of this party
-  pub record OfEach (P : Scene W V C L A → Type 0) : Type 0 where
-    pub passes : (move : Move C V) (o : Option (Seat C L)) (r : StepKind) → SitsAt o → is_open_move m seen.state move o ≡ false
-        → P (scene_of seen p move o (skipped seen.state) None r None)
-    pub begins : (c : C) (l : L) (h : Option Hold) → SitsAt (Some (resting h)) → m.begin c h ≡ Some l
+  -- what has to be shown of an event of this party, case by case
+  module _ (P : Scene W V C L A → Type 0) where
+    abbrev pub OfBegin : Type 0
+    OfBegin = (c : C) (l : L) (h : Option Hold) → SitsAt (Some (resting h)) → m.begin c h ≡ Some l
         → P (scene_of seen p (Begin c) (Some (resting h)) (begun seen.state p c h (Some l)) None plain None)
-    pub steps : (c : C) (l : L) (h : Option Hold) → SitsAt (Some (Calling c l h)) → P (scene_at m seen p Step (Some (Calling c l h)))
-    pub refuses : (c : C) (l : L) (h : Option Hold) (next : Next L A) → SitsAt (Some (Calling c l h)) → m.refuse c l h ≡ Some next
-        → P (scene_of seen p Weak (Some (Calling c l h)) (goes_on seen.state p c h next) None weak None)
-    pub reads : (b : Bool) (h : Hold) → SitsAt (Some (seat_with b h)) → may_read h ≡ true
+
+    abbrev pub OfRead : Type 0
+    OfRead = (b : Bool) (h : Hold) → SitsAt (Some (seat_with b h)) → may_read h ≡ true
         → P (scene_of seen p Read (Some (seat_with b h)) (read_by seen.state true) None plain None)
-    pub writes : (v : V) (b : Bool) (h : Hold) → SitsAt (Some (seat_with b h)) → may_write h ≡ true
+
+    abbrev pub OfWrite : Type 0
+    OfWrite = (v : V) (b : Bool) (h : Hold) → SitsAt (Some (seat_with b h)) → may_write h ≡ true
         → P (scene_of seen p (Write v) (Some (seat_with b h)) (written_by seen.state v true) None plain None)
-    pub leaks : (h : Hold) → SitsAt (Some (Holding h)) → P (scene_at m seen p Leak (Some (Holding h)))
-    pub gets : (y : Seat C L) → SitsAt (Some y) → is_owners m seen.state ≡ true
+
+    abbrev pub OfGet : Type 0
+    OfGet = (y : Seat C L) → SitsAt (Some y) → is_owners m seen.state ≡ true
         → P (scene_of seen p OwnerGet (Some y) (owner_gets seen.state true) None plain None)
-    pub sets : (v : V) (y : Seat C L) → SitsAt (Some y) → is_owners m seen.state ≡ true
+
+    abbrev pub OfSet : Type 0
+    OfSet = (v : V) (y : Seat C L) → SitsAt (Some y) → is_owners m seen.state ≡ true
         → P (scene_of seen p (OwnerSet v) (Some y) (owner_sets seen.state v true) None plain None)
+
+    pub record OfEach : Type 0 where
+      pub passes : (move : Move C V) (o : Option (Seat C L)) (r : StepKind) → SitsAt o → is_open_move m seen.state move o ≡ false
+          → P (scene_of seen p move o (skipped seen.state) None r None)
+      pub begins : OfBegin
+      pub steps : (c : C) (l : L) (h : Option Hold) → SitsAt (Some (Calling c l h)) → P (scene_at m seen p Step (Some (Calling c l h)))
+      pub refuses : (c : C) (l : L) (h : Option Hold) (next : Next L A) → SitsAt (Some (Calling c l h)) → m.refuse c l h ≡ Some next
+          → P (scene_of seen p Weak (Some (Calling c l h)) (goes_on seen.state p c h next) None weak None)
+      pub reads : OfRead
+      pub writes : OfWrite
+      pub leaks : (h : Hold) → SitsAt (Some (Holding h)) → P (scene_at m seen p Leak (Some (Holding h)))
+      pub gets : OfGet
+      pub sets : OfSet
 
   module _ (P : Scene W V C L A → Type 0) (each : OfEach P) where
     begun_so : (c : C) (h : Option Hold) (o : Option L) → SitsAt (Some (resting h)) → m.begin c h ≡ o
@@ -66,4 +82,4 @@ module _ {W V C L A : Type 0} (m : Machine W V C L A) (seen : Seen W V C L) (p :
 
     -- then it holds of every event
     pub of_event : (move : Move C V) → P (scene m seen p move)
-    of_event move = at_seat move (slice_get seen.state.seats p) refl
+    of_event move = at_seat move (seat_of seen p) refl

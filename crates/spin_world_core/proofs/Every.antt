@@ -20,7 +20,7 @@ module _ {W V C L A : Type 0} (m : Machine W V C L A) where
   state-seen_after seen [] = refl
   state-seen_after seen (e ∷ es) = state-seen_after (scene m seen e.0 e.1).after es
 
-module _ {W V C L A B : Type 0} {t : Table W V C L A} (by : Machine W V C L B) (n : Notes t) (f : Plays by n) where
+module _ {W V C L A B : Type 0} {t : Table W V C L A} {by : Machine W V C L B} {n : Notes t} (f : Plays by n) where
   abbrev m : Machine W V C L B
   m = played t by
 
@@ -30,31 +30,31 @@ module _ {W V C L A B : Type 0} {t : Table W V C L A} (by : Machine W V C L B) (
   may_pass seen p move o stands closed = grind (arith, f.stepwise.begins, reader_of p, writer_of p, none_owns m seen)
 
   -- one event
-  pub kept : (seen : Seen W V C L) (p : ℕ) (move : Move C V) → Invariant by n seen → Preserved by n (scene m seen p move)
+  pub kept : (seen : Seen W V C L) (p : ℕ) (move : Move C V) → Invariant f seen → Preserved f (scene m seen p move)
   kept seen p move good =
-      of_event m seen p (Preserved by n)
+      of_event m seen p (Preserved f)
       (record {
         passes =
-            λ move o r there closed. skip_kept by n f seen p move o r good closed
+            λ move o r there closed. skip_kept f seen p move o r good closed
             (may_pass seen p move o (subst (StandsFor seen.plain p (seen.span p)) there (good.parties p).stands) closed);
-        begins = begun_kept by n f seen p good;
-        steps = step_kept by n f seen p good;
-        refuses = λ c l h next there. refusal_kept by n f seen p good c l h there next;
-        reads = read_kept by n f seen p good;
-        writes = write_kept by n f seen p good;
-        leaks = leak_kept by n f seen p good;
-        gets = λ y there. owner_get_kept by n f seen p good y;
-        sets = λ v y there. owner_set_kept by n f seen p good v y;
+        begins = begun_kept f seen p good;
+        steps = step_kept f seen p good;
+        refuses = λ c l h next there. refusal_kept f seen p good c l h there next;
+        reads = read_kept f seen p good;
+        writes = write_kept f seen p good;
+        leaks = leak_kept f seen p good;
+        gets = owner_get_kept f seen p good;
+        sets = owner_set_kept f seen p good;
       })
       move
 
   -- what holds of each event holds of all
-  pub every : (R : Scene W V C L B → Type 0) → ((seen : Seen W V C L) (p : ℕ) (move : Move C V) → Invariant by n seen → R (scene m seen p move))
-      → (seen : Seen W V C L) (es : List (ℕ × Move C V)) → Invariant by n seen → Every R m seen es
+  pub every : (R : Scene W V C L B → Type 0) → ((seen : Seen W V C L) (p : ℕ) (move : Move C V) → Invariant f seen → R (scene m seen p move))
+      → (seen : Seen W V C L) (es : List (ℕ × Move C V)) → Invariant f seen → Every R m seen es
   every R each seen [] good = tt
   every R each seen (e ∷ es) good = (each seen e.0 e.1 good, every R each (scene m seen e.0 e.1).after es (kept seen e.0 e.1 good).good)
 
-  pub good_first : (parties : ℕ) → Invariant by n (opening m parties)
+  pub good_first : (parties : ℕ) → Invariant f (opening m parties)
   good_first parties =
       record {
         encodes = f.pays.first;
@@ -63,12 +63,12 @@ module _ {W V C L A B : Type 0} {t : Table W V C L A} (by : Machine W V C L B) (
         exclusive = exclusive-free (opening_plain m) refl refl;
         written = refl;
         parties =
-            λ q. get-replicate (OfParty by n m.words (opening_plain m) q []) Idle parties q
+            λ q. get-replicate (OfParty f m.words (opening_plain m) q []) Idle parties q
             (record { stands = refl; knows = tt; retries = omega arith; undisturbed = tt })
             (record { stands = refl; knows = tt; retries = omega arith; undisturbed = tt });
       }
 
-  pub good_after : (seen : Seen W V C L) (es : List (ℕ × Move C V)) → Invariant by n seen → Invariant by n (seen_after m seen es)
+  pub good_after : (seen : Seen W V C L) (es : List (ℕ × Move C V)) → Invariant f seen → Invariant f (seen_after m seen es)
   good_after seen [] good = good
   good_after seen (e ∷ es) good = good_after (scene m seen e.0 e.1).after es (kept seen e.0 e.1 good).good
 
@@ -76,9 +76,8 @@ module _ {W V C L A B : Type 0} {t : Table W V C L A} (by : Machine W V C L B) (
   module _ (parties : ℕ) (es : List (ℕ × Move C V)) where
     pub can_of : CanStep m (after m (at_first m parties) es)
     can_of =
-        let there = seen_after m (opening m parties) es in
         subst (CanStep m) (state-seen_after m (opening m parties) es)
-        (λ p c l h at. (at_step by n f p c l h _ _ _ _ (in_call by n there p c l h (good_after (opening m parties) es (good_first parties)) at)).can)
+        (λ p c l h at. let good = good_after (opening m parties) es (good_first parties) in (at_step f _ (in_call f p good at) good.phase).can)
 
     pub keeps_of : KeepsAll m parties es
     keeps_of =

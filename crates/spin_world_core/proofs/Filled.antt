@@ -1,5 +1,6 @@
 -- The machines that play a table: that of an object which makes no value, and that of an object whose closures make its value.
-use Rattle.spin_world_core.proofs.Names.{◌≡◌, ℕ, Bool, true, false, is_some, Option, Some, None, refl, ap, sym, ◌∙◌, subst, arith, true≢false, false≢true, Plain, Phase, Change, completes, is_complete, apply_some, IsOpenStep, entries, is_held, Answer, Hold, Next, Continue, Answers, encoded, says_of, placed, HasPhase, if_completed, is_writer, Memory, Act, store, step_by, change_at, change_by, makes_by, is_completion, Table, machine_of, completes_by, brought, filled, machine_with}
+use Rattle.spin_world_core.proofs.Names.{◌≡◌, ℕ, Bool, true, false, is_some, Option, Some, None, refl, ap, sym, ◌∙◌, subst, arith, true≢false, false≢true, Plain, Phase, Change, completes, is_complete, apply_some, IsOpenStep, entries, is_held, Answer, Hold, Next, Continue, Answers, encoded, says_of, placed, HasPhase, if_completed, is_writer, Memory, Act, store, step_by, change_at, change_by, makes_by, Table, machine_of, completes_by, brought, filled, machine_with}
+use Rattle.spin_model.specs.Asks.{is_completion}
 use Rattle.spin_model.specs.declared.answer.Answer.TheVariants.{Value}
 use Rattle.spin_world_core.proofs.Operating.{change_is, fits_change, stepwise_of, stepwise_with}
 use Rattle.spin_world_core.proofs.Shapes.{Notes, Pays}

@@ -1,14 +1,16 @@
 -- What a party finds under one guard does not change.
-use Rattle.spin_world_core.proofs.Names.{slice_get_within, ◌≡◌, ℕ, ◌==◌, ◌||◌, Bool, true, false, not, Option, Some, None, List, [], ◌∷◌, ◌++◌, map, slice_get, slice_set, refl, arith, ap, sym, ◌∙◌, subst, list_all, option_map, and_parts, true≢false, false≢true, slice_get-map, Plain, Change, completes, entries, is_held, Hold, Seat, Calling, Holding, Leaked, Gone, Next, Continue, Answers, Move, Step, Weak, Read, OwnerSet, StepKind, plain, weak, by_step, Mark, Machine, State, moves_at, goes_on, placed, resting, may_read, may_write, yields_to_owner, seen_by_owner, owner_writes, Seen, Scene, scene, scene_at, scene_of, if_completed, StandsFor, is_reader, is_writer, opening, seen_after, is_quiet_move, is_quiet, ReadsAgreeAcross, ReadsAgree, Table}
+use Rattle.spin_world_core.proofs.Names.{seat_of, slice_get_within, ◌≡◌, ℕ, ◌==◌, ◌||◌, Bool, true, false, not, Option, Some, None, List, [], ◌∷◌, ◌++◌, map, slice_get, slice_set, refl, arith, ap, sym, ◌∙◌, subst, list_all, option_map, and_parts, true≢false, false≢true, slice_get-map, Plain, Change, completes, entries, is_held, Hold, Seat, Calling, Holding, Leaked, Gone, Next, Continue, Answers, Move, Step, Weak, Read, OwnerSet, StepKind, plain, weak, by_step, Mark, Machine, State, happens, moves_at, goes_on, placed, resting, may_read, may_write, yields_to_owner, seen_by_owner, owner_writes, Seen, Scene, scene, scene_at, scene_of, if_completed, StandsFor, is_reader, is_writer, opening, seen_after, Table}
+use Rattle.spin_world_core.specs.Users.{ReadsAgree, ReadsAgreeAcross, is_quiet, is_quiet_move}
 use Rattle.spin_model.specs.declared.schedule.Outcome.TheVariants as outcome
 use Rattle.spin_world_core.proofs.Lists.{eqb_self, get-set}
-use Rattle.spin_world_core.proofs.Steps.{played, Knows, KnowsAt, Plays}
+use Rattle.spin_world_core.proofs.Steps.{played, KnowsAt, Plays}
 use Rattle.spin_world_core.proofs.Paid.{at_step}
-use Rattle.spin_world_core.proofs.Shapes.{Notes}
+use Rattle.spin_world_core.proofs.Shapes.{Notes, Knows}
 use Rattle.spin_world_core.proofs.Events.{seat_with, of_event}
 use Rattle.spin_world_core.proofs.Preserved.{Invariant, in_call, with_hold, reader_of, writer_of}
 use Rattle.spin_world_core.proofs.Owners.{all-get}
-use Rattle.spin_world_core.proofs.Every.{kept, good_first, state-seen_after, good_after}
+use Rattle.spin_world_core.proofs.Every.{kept}
+use Rattle.spin_world_core.proofs.Reached as reached
 use Rattle.spin_world_core.proofs.Writers.{one_toucher, touched}
 pub use Rattle.spin_world_core.proofs.Schedules.{seen_after-append}
 
@@ -24,7 +26,7 @@ ReadsOn (Answers a None) = ⊥
 ReadsOn (Answers a (Some h)) = may_read h ≡ true
 
 -- a party in a call that keeps its guard reads, and still does after each step of the call
-pub record KeepsGuard {W V C L A B : Type 0} {t : Table W V C L A} (m : Machine W V C L B) (n : Notes t) (keeps : C → Bool) : Type 0 where
+pub record KeepsGuard {W V C L A B : Type 0} {t : Table W V C L A} {m : Machine W V C L B} {n : Notes t} (f : Plays m n) (keeps : C → Bool) : Type 0 where
   pub reads : (p : ℕ) (c : C) (l : L) (h : Hold) (s : Plain) (span : List Mark) → keeps c ≡ true → may_read h ≡ true → Knows n c l (Some h) p s span
       → is_reader (entries p s) ≡ true
   pub steps : (c : C) (l : L) (h : Hold) (w : W) (v : Option V) → keeps c ≡ true → may_read h ≡ true → ReadsOn (m.step w v c l (Some h)).next
@@ -58,11 +60,11 @@ module _ {V C L : Type 0} (r : GuardedRead C V) (w v : Option V) where
   gone_for None away guard = guard
   gone_for (Some x) away guard = grind (arith, away x refl)
 
-module _ {W V C L A B : Type 0} {t : Table W V C L A} (by : Machine W V C L B) (n : Notes t) (f : Plays by n) where
+module _ {W V C L A B : Type 0} {t : Table W V C L A} {by : Machine W V C L B} {n : Notes t} (f : Plays by n) where
   abbrev m : Machine W V C L B
   m = played t by
 
-  module _ (r : GuardedRead C V) (g : KeepsGuard by n r.keeps) where
+  module _ (r : GuardedRead C V) (g : KeepsGuard f r.keeps) where
     reads_at : (w : Option V) (s : Plain) (p : ℕ) (span : List Mark) (o : Option (Seat C L)) → StandsFor s p span o → KnowsAt n s p span o → Guard r w o
         → ReaderOrGone s p o
     reads_at w s p span (Some (Calling c l (Some h))) stands knows guard = g.reads p c l h s span guard.0 guard.1 knows
@@ -72,16 +74,16 @@ module _ {W V C L A B : Type 0} {t : Table W V C L A} (by : Machine W V C L B) (
     reads_at w s p span _ stands knows guard = absurd guard
 
     -- the party p has a guard, and q moves
-    module _ (seen : Seen W V C L) (p q : ℕ) (good : Invariant by n seen) (guard : Guard r seen.written (slice_get seen.state.seats p)) where
-      reads : ReaderOrGone seen.plain p (slice_get seen.state.seats p)
-      reads = reads_at seen.written seen.plain p (seen.span p) (slice_get seen.state.seats p) (good.parties p).stands (good.parties p).knows guard
+    module _ (seen : Seen W V C L) (p q : ℕ) (good : Invariant f seen) (guard : Guard r seen.written (seat_of seen p)) where
+      reads : ReaderOrGone seen.plain p (seat_of seen p)
+      reads = reads_at seen.written seen.plain p (seen.span p) (seat_of seen p) (good.parties p).stands (good.parties p).knows guard
 
       -- q takes the seat x
-      sits : (w : Option V) (x y : Seat C L) → slice_get seen.state.seats q ≡ Some y → (q ≡ p → Guard r w (Some y) → Guard r w (Some x))
-          → Guard r w (slice_get seen.state.seats p) → Guard r w (slice_get (slice_set seen.state.seats q x) p)
+      sits : (w : Option V) (x y : Seat C L) → seat_of seen q ≡ Some y → (q ≡ p → Guard r w (Some y) → Guard r w (Some x))
+          → Guard r w (seat_of seen p) → Guard r w (slice_get (slice_set seen.state.seats q x) p)
       sits w x y there own held =
           get-set (Guard r w) seen.state.seats q p x (slice_get_within seen.state.seats q y there)
-          (λ e. own e (subst (Guard r w) (ap (slice_get seen.state.seats) (sym e) ∙ there) held)) (λ ne. held)
+          (λ e. own e (subst (Guard r w) (ap (seat_of seen) (sym e) ∙ there) held)) (λ ne. held)
 
       begun : (c : C) (l : L) (h : Option Hold) → r.keeps c ≡ true → Guard {L = L} r seen.written (Some (resting h))
           → Guard r seen.written (Some (Calling c l h))
@@ -95,11 +97,11 @@ module _ {W V C L A B : Type 0} {t : Table W V C L A} (by : Machine W V C L B) (
 
       -- after an event
       abbrev After : Scene W V C L B → Type 0
-      After sc = Guard r sc.after.written (slice_get sc.after.state.seats p)
+      After sc = Guard r sc.after.written (seat_of sc.after p)
 
       went : (move : Move C V) (step : Option Change) (step_kind : StepKind) (value v : Option V) (u : W) (c : C) (l : L) (h : Option Hold) (next : Next L B)
-          → slice_get seen.state.seats q ≡ Some (Calling c l h) → ((j : Hold) → h ≡ Some j → r.keeps c ≡ true → may_read j ≡ true → ReadsOn next)
-          → Guard r (if_completed seen.written value step) (slice_get seen.state.seats p)
+          → seat_of seen q ≡ Some (Calling c l h) → ((j : Hold) → h ≡ Some j → r.keeps c ≡ true → may_read j ≡ true → ReadsOn next)
+          → Guard r (if_completed seen.written value step) (seat_of seen p)
           → After (scene_of seen q move (Some (Calling c l h)) (goes_on (record seen.state { words = u; value = v }) q c h next) step step_kind value)
       went move step step_kind value v u c l h (Continue i) there on held =
           sits (if_completed seen.written value step) (Calling c i h) (Calling c l h) there (λ e is. is) held
@@ -115,24 +117,24 @@ module _ {W V C L A B : Type 0} {t : Table W V C L A} (by : Machine W V C L B) (
       owner_wrote v y None away = let_go_all
       owner_wrote v y (Some old) away =
           rw (slice_get-map seen_by_owner seen.state.seats p)
-          (gone_for r seen.written (Some v) (slice_get seen.state.seats p) (λ x e. all-get yields_to_owner seen.state.seats p x away e) guard)
+          (gone_for r seen.written (Some v) (seat_of seen p) (λ x e. all-get yields_to_owner seen.state.seats p x away e) guard)
 
-      stepped : (c : C) (l : L) (h : Option Hold) → slice_get seen.state.seats q ≡ Some (Calling c l h) → After (scene_at m seen q Step (Some (Calling c l h)))
+      stepped : (c : C) (l : L) (h : Option Hold) → seat_of seen q ≡ Some (Calling c l h) → After (scene_at m seen q Step (Some (Calling c l h)))
       stepped c l h there =
           let st = m.step seen.state.words seen.state.value c l h in
           let step = m.change q seen.state.words c l h in
           went Step step (by_step (m.step_kind c l h)) st.placed (placed st.placed seen.state.value) st.words c l h st.next there
           (λ j e keeps may. subst (λ o. ReadsOn (m.step seen.state.words seen.state.value c l o).next) (sym e)
           (g.steps c l j seen.state.words seen.state.value keeps may))
-          (completed r seen.written st.placed seen.plain p (slice_get seen.state.seats p) step reads
-          (at_step by n f q c l h _ _ _ _ (in_call by n seen q c l h good there)).values.completes_alone guard)
+          (completed r seen.written st.placed seen.plain p (seat_of seen p) step reads
+          (at_step f _ (in_call f q good there) good.phase).values.completes_alone guard)
 
       -- nobody else writes while the party has the guard
-      written : (v : V) (b : Bool) (h : Hold) → slice_get seen.state.seats q ≡ Some (seat_with b h) → may_write h ≡ true → (q ≡ p → ⊥)
-          → Guard r (Some v) (slice_get seen.state.seats p)
+      written : (v : V) (b : Bool) (h : Hold) → seat_of seen q ≡ Some (seat_with b h) → may_write h ≡ true → (q ≡ p → ⊥)
+          → Guard r (Some v) (seat_of seen p)
       written v b h there may ne =
-          let writes = ap is_writer (with_hold by n seen q b h good there) ∙ (writer_of q h ∙ may) in
-          no_reader r seen.written (Some v) seen.plain p (slice_get seen.state.seats p) reads
+          let writes = ap is_writer (with_hold f q b h good there) ∙ (writer_of q h ∙ may) in
+          no_reader r seen.written (Some v) seen.plain p (seat_of seen p) reads
           (λ reads. ne (one_toucher seen.plain p q good.exclusive (f.pays.one_list seen.plain good.shape) reads writes)) guard
 
       guard_kept : (move : Move C V) → (q ≡ p → is_quiet_move r.keeps move ≡ true) → After (scene m seen q move)
@@ -149,16 +151,16 @@ module _ {W V C L A B : Type 0} {t : Table W V C L A} (by : Machine W V C L B) (
             writes = λ v b h there may quiet. written v b h there may (λ e. true≢false (sym (quiet e)));
             leaks = λ h there quiet. sits seen.written (Leaked h) (Holding h) there (λ e is. is) guard;
             gets = λ y there may quiet. let_go_all;
-            sets = λ v y there may quiet. owner_wrote v y seen.state.value (and_parts m.owned (list_all yields_to_owner seen.state.seats) may).1;
+            sets = λ v y there may quiet. owner_wrote v y seen.state.value (and_parts _ _ may).1;
           })
           move quiet
 
-    guard_through : (seen : Seen W V C L) (p : ℕ) (es : List (ℕ × Move C V)) → Invariant by n seen → is_quiet r.keeps p es ≡ true
-        → Guard r seen.written (slice_get seen.state.seats p)
-        → Guard r (seen_after m seen es).written (slice_get (seen_after m seen es).state.seats p)
+    guard_through : (seen : Seen W V C L) (p : ℕ) (es : List (ℕ × Move C V)) → Invariant f seen → is_quiet r.keeps p es ≡ true
+        → Guard r seen.written (seat_of seen p)
+        → Guard r (seen_after m seen es).written (seat_of (seen_after m seen es) p)
     guard_through seen p [] good quiet guard = guard
     guard_through seen p (e ∷ es) good quiet guard =
-        guard_through (scene m seen e.0 e.1).after p es (kept by n f seen e.0 e.1 good).good
+        guard_through (scene m seen e.0 e.1).after p es (kept f seen e.0 e.1 good).good
         (and_parts (not (e.0 == p) || is_quiet_move r.keeps e.1) (is_quiet r.keeps p es) quiet).1
         (guard_kept seen p e.0 good guard e.1 (λ is. grind arith))
 
@@ -171,22 +173,21 @@ module _ {W V C L A B : Type 0} {t : Table W V C L A} (by : Machine W V C L B) (
         → t ≡ r.value
     found_again r w t o same guard e = grind arith
 
-  pub reads_agree_across : (keeps : C → Bool) → KeepsGuard by n keeps → (parties : ℕ) (past : List (ℕ × Move C V)) → ReadsAgreeAcross keeps m parties past
+  pub reads_agree_across : (keeps : C → Bool) → KeepsGuard f keeps → (parties : ℕ) (past : List (ℕ × Move C V)) → ReadsAgreeAcross keeps m parties past
   reads_agree_across keeps g parties past p between found t quiet first second =
       let r : GuardedRead C V = record { keeps = keeps; value = found } in
       let es = (p, Read) ∷ between in
-      let before = seen_after m (opening m parties) past in
-      let later = seen_after m (opening m parties) (past ++ es) in
-      let good = good_after by n f (opening m parties) past (good_first by n f parties) in
-      let good_later = good_after by n f (opening m parties) (past ++ es) (good_first by n f parties) in
-      let ReaderOrGone : Option V → State W V C L → Type 0 = λ x s. (moves_at m s p Read (slice_get s.seats p)).outcome ≡ outcome.Value x in
-      let first_there = subst (ReaderOrGone found) (sym (state-seen_after m (opening m parties) past)) first in
-      let second_there = subst (ReaderOrGone t) (sym (state-seen_after m (opening m parties) (past ++ es))) second in
-      let guard = guarded before.state p r before.written (slice_get before.state.seats p) good.written first_there in
+      let before = reached.seen f parties past in
+      let later = reached.seen f parties (past ++ es) in
+      let good = reached.good f parties past in
+      let Finds : Option V → State W V C L → Type 0 = λ x s. (happens m s p Read).outcome ≡ outcome.Value x in
+      let first_there = subst (Finds found) (sym (reached.state_is f parties past)) first in
+      let second_there = subst (Finds t) (sym (reached.state_is f parties (past ++ es))) second in
+      let guard = guarded before.state p r before.written (seat_of before p) good.written first_there in
       let guard_later = guard_through r g before p es good (rw (eqb_self p) quiet) guard in
-      let guard_there = subst (λ (seen : Seen W V C L). Guard r seen.written (slice_get seen.state.seats p))
+      let guard_there = subst (λ (seen : Seen W V C L). Guard r seen.written (seat_of seen p))
       (sym (seen_after-append m (opening m parties) past es)) guard_later in
-      found_again later.state p r later.written t (slice_get later.state.seats p) good_later.written guard_there second_there
+      found_again later.state p r later.written t (seat_of later p) (reached.good f parties (past ++ es)).written guard_there second_there
 
   -- no call keeps its guard
   pub reads_agree : (parties : ℕ) (past : List (ℕ × Move C V)) → ReadsAgree m parties past

@@ -1,49 +1,38 @@
 -- The names of the libraries and of this crate's definitions that the proofs use, in one place.
-pub use Rattle.std.proofs.Common.{Bool, List, None, Option, Some, Vec, [], ap, append_assoc, arith, drop, false, get_or, if◌then◌else◌, inl, inr, is_some, length, length-set, length-take-le, map, nat_lt, not, option_to_list, refl, slice_get, slice_set, subst, suc, sym, take, true, unwrap_or, zero, zero-add, ℕ, ⊎_elim, ◌%◌, ◌&&◌, ◌++◌, ◌+◌, ◌<◌, ◌==◌, ◌||◌, ◌∙◌, ◌∷◌, ◌≡◌, ◌≤◌, ◌⊎◌}
-pub use Rattle.std.proofs.Math.Bool.{Bool-set}
+pub use Rattle.std.proofs.Common.{Bool, List, None, Option, Some, Vec, [], ap, append_assoc, arith, drop, false, get_or, if◌then◌else◌, inl, inr, is_some, length, length-set, length-take-le, map, nat_lt, not, option_to_list, refl, slice_get, slice_set, subst, suc, sym, take, true, unwrap_or, zero, zero-add, ℕ, ⊎_elim, ◌&&◌, ◌++◌, ◌+◌, ◌<◌, ◌==◌, ◌||◌, ◌∙◌, ◌∷◌, ◌≡◌, ◌≤◌, ◌⊎◌}
 pub use Rattle.std.proofs.Math.Logic.{∥∥₁_elim, ∥∥₁_map}
-pub use Rattle.std.proofs.Math.Seq.{drop-append_seam, take-append_seam}
-pub use Rattle.std.proofs.lemmas.Bool.{and_from, and_parts, cases_eq, cases_lt, eq-eqb, eqb-true, false≢true, le-ltb, lt-ltb, ltb-true, ne_eqb, true≢false}
-pub use Rattle.std.proofs.lemmas.Bool.Decides.{eqb_tells}
+pub use Rattle.std.proofs.lemmas.Bool.{and_from, and_parts, cases_eq, cases_lt, eq-eqb, eqb-true, false≢true, lt-ltb, ne_eqb, true≢false}
 pub use Rattle.std.proofs.lemmas.List.{append-nil, length-append, length-map, length-replicate, take-append-drop, take_all, with_items_is}
 pub use Rattle.std.proofs.lemmas.List.Sums.{sum_by-cons}
 pub use Rattle.std.proofs.lemmas.Option.{slice_get-map, slice_get_cases, slice_get_past, slice_get_within}
 pub use Rattle.std.specs.List.{count_by, list_all, list_any}
 pub use Rattle.std.specs.Option.{option_map}
-pub use Rattle.std.specs.Vec.{with_items}
-pub use mathlib.Core.Bool.{cond}
 pub use Rattle.spin_step.proofs.Entries.{entries-other, entries-own}
-pub use Rattle.spin_step.proofs.Exclusive.{exclusive-kept}
-pub use Rattle.spin_step.specs.Parties.{Entries, IsExclusive, IsOpenStep, apply_some, entries, entries_after, is_held, party_of}
-pub use Rattle.spin_step.specs.Plain.{Ask, Change, Holder, Phase, Plain, Ticket, apply, arrives, completes, fails, gets, is_complete, is_empty, is_nothing, is_open, is_open_to, is_running, nothing, running, to_begin, to_enter, to_lock_starving, to_lock_unregistered, to_read, to_take_and_enter, to_upgrade_asked, turns, upgradable, writing}
-pub use Rattle.spin_step.specs.Steps.{Decides, bit}
-pub use Rattle.spin_model.specs.Acts.{Act, Memory, Table, attempt, becomes, begin_of, brought, can_by, change_at, change_by, completes_by, either, enter, exchange, filled, gives_of, guessed, is_section, load, load_for, load_if, look_kind, machine_by, machine_of, machine_with, made_if, makes_by, step_kind_by, number_at, one_number, operation_by, passing, place_of, refusal_by, retried, retry, section, stays, step_at, step_by, store, swap, tried, weak_exchange, with_value}
-pub use Rattle.spin_model.specs.Calls.{AnyOf, limit, Asked, BelongsTo, FindsClosed, Limit, LockKind, Mark, Said, changes_within, encoded, first_word, gets_within, grant, granted, is_step_of, own_steps, registers_after, says_of, unlimited, within, within_changes, Meaning, got, grants, same_ask}
-pub use Rattle.spin_model.specs.Asks.{is_completion}
-pub use Rattle.spin_world_core.specs.Joined.{IsCut, Promised, RunsAreOne, after_runs, began_from, event_from, joined, outcome_from, transcripts_of}
+pub use Rattle.spin_step.specs.Parties.{Entries, IsExclusive, IsOpenStep, apply_some, entries, entries_after, is_held}
+pub use Rattle.spin_step.specs.Plain.{Ask, Change, Holder, Phase, Plain, apply, completes, gets, is_complete, is_empty, is_open, is_open_to, is_running, nothing, running, to_enter, to_lock_starving, to_read, turns, upgradable, writing}
+pub use Rattle.spin_step.specs.Steps.{bit}
+pub use Rattle.spin_model.specs.Acts.{Act, Memory, Table, attempt, becomes, begin_of, brought, can_by, change_at, change_by, completes_by, either, enter, exchange, filled, guessed, is_section, load, load_for, load_if, look_kind, machine_by, machine_of, machine_with, made_if, makes_by, step_kind_by, number_at, one_number, operation_by, passing, place_of, refusal_by, retried, retry, section, stays, step_by, store, swap, tried, weak_exchange}
+pub use Rattle.spin_model.specs.Calls.{AnyOf, limit, Asked, BelongsTo, Limit, LockKind, Mark, Said, encoded, first_word, is_step_of, own_steps, registers_after, says_of}
+pub use Rattle.spin_world_core.specs.Joined.{joined}
 pub use Rattle.spin_world_core.specs.Lawful.{Lawful}
 pub use Rattle.spin_model.specs.Machines.{Machine, opening_phase, opening_plain}
 pub use Rattle.spin_model.specs.StepKinds.{StepKind, again, by_step, is_again, is_look, is_weak, look, plain, weak}
-pub use Rattle.spin_model.specs.Operations.{IsOneOperation, Operation, Performs, RefusesAsLost, Stepwise, exchanges, performed, sets_lowest_bit}
-pub use Rattle.spin_world_core.specs.Order.{Gets, GetsWhenDue, LooksElse, MayTryOn, TriesOn, Way, always, by_looks, is_due, is_due_by, past_looks, way_of, goes_of, tries_of}
-pub use Rattle.spin_world_core.specs.Runs.{AfterAnyPast, CanAlways, CanStep, ComesTo, CountsAll, EndsWithin, Every, ContinuesWithin, InItsCall, InTime, IsBeginning, IsCounted, IsInTime, IsOwners, IsReached, IsRight, IsWeakCall, Keeps, KeepsAll, LeavesCalls, MaySkip, MayTouch, MomentsAll, OwnSteps, RegistersInTime, RightAnswer, RightBy, Scene, Seen, StandsFor, StepLeaves, YieldsToOwner, asked, changes, entries_held, entries_of, entries_so_far, failures, held_at, if_completed, is_in_place, is_open_move, is_reader, is_writer, mark_of, opening, own, own_count, scene, scene_at, scene_of}
-pub use Rattle.spin_model.specs.Schedules.{Happened, State, after, at_first, begins_after, begun, events_of, goes_on, happens, is_begun, is_owners, last_begin, let_go, may_read, may_write, moves_at, owner_gets, owner_sets, owner_writes, skipped, placed, read_by, refuses, resting, seated, seen_by_owner, with_begin, with_begins, written_by, yields_to_owner}
-pub use Rattle.spin_world_core.specs.Sharing.{has_leaked, shares}
-pub use Rattle.spin_world_core.specs.Transcripts.{EachTells, PlaceSays, SaysAfterAnyPast, Stage, StandsAt, TellsAfterAnyPast, at_rest, in_call, is_gone, let_go_stage, scenes, stage_after, stage_by_own, stage_by_owner, without_begin}
+pub use Rattle.spin_model.specs.Operations.{IsOneOperation, Performs, RefusesAsLost, Stepwise, performed}
+pub use Rattle.spin_world_core.specs.Order.{Gets, GetsWhenDue, LooksElse, MayTryOn, TriesOn, Way, by_looks, is_due, is_due_by, past_looks, way_of, goes_of, tries_of}
+pub use Rattle.spin_world_core.specs.Runs.{AfterAnyPast, CanAlways, CanStep, ComesTo, CountsAll, EndsWithin, Every, ContinuesWithin, IsBeginning, IsInTime, IsOwners, IsReached, IsRight, Keeps, KeepsAll, MaySkip, MomentsAll, RightBy, Scene, Seen, StandsFor, YieldsToOwner, changes, entries_held, entries_of, failures, if_completed, is_open_move, is_reader, is_writer, mark_of, opening, own, own_count, scene, scene_at, scene_of, seat_of}
+pub use Rattle.spin_model.specs.Schedules.{Happened, State, after, at_first, begun, events_of, goes_on, happens, is_begun, is_owners, last_begin, let_go, may_read, may_write, moves_at, owner_gets, owner_sets, owner_writes, skipped, placed, read_by, refuses, resting, seated, seen_by_owner, with_begins, written_by, yields_to_owner}
+pub use Rattle.spin_world_core.specs.Transcripts.{EachTells, TellsAfterAnyPast, scenes}
 pub use Rattle.spin_world_core.specs.Undisturbed.{AllOf, AnsweredSoon, Leaves, arrived, is_open_now, steps_alone, UndisturbedTakes}
-pub use Rattle.spin_world_core.specs.Users.{FindsLastWritten, ReadsAgree, ReadsAgreeAcross, RunsJoin, is_quiet, is_quiet_move, seen_after}
+pub use Rattle.spin_world_core.specs.Users.{FindsLastWritten, RunsJoin, seen_after}
 pub use Rattle.spin_world_core.specs.Values.{Brings, Gives, GivesAt, HasPhase, KeepsValue, ValuesAll}
 pub use Rattle.spin_model.specs.declared.answer.Answer.{Answer}
 pub use Rattle.spin_model.specs.declared.step.Next.{Next}
 pub use Rattle.spin_model.specs.declared.step.Next.TheVariants.{Answers, Continue}
 pub use Rattle.spin_model.specs.declared.step.Stepped.{Stepped}
 pub use Rattle.spin_model.specs.declared.place.Hold.{Hold}
-pub use Rattle.spin_model.specs.declared.place.Hold.TheVariants.{Upgradable}
-pub use Rattle.spin_model.specs.declared.place.Place.{Place}
 pub use Rattle.spin_model.specs.declared.place.Seat.{Seat}
 pub use Rattle.spin_model.specs.declared.place.Seat.TheVariants.{Calling, Gone, Holding, Idle, Leaked}
 pub use Rattle.spin_model.specs.declared.schedule.Event.{Event}
 pub use Rattle.spin_model.specs.declared.schedule.Move.{Move}
 pub use Rattle.spin_model.specs.declared.schedule.Move.TheVariants.{Begin, Leak, OwnerGet, OwnerSet, Read, Step, Weak, Write}
 pub use Rattle.spin_model.specs.declared.schedule.Outcome.{Outcome}
-pub use Rattle.spin_model.specs.declared.schedule.Outcome.TheVariants.{Value}

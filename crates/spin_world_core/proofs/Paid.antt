@@ -1,11 +1,11 @@
 -- What holds at a step of a party, from what its table pays.
-use Rattle.spin_world_core.proofs.Names.{◌≡◌, ℕ, zero, suc, ◌+◌, ◌<◌, ◌≤◌, ◌==◌, Bool, true, false, not, is_some, Option, Some, None, List, [], ◌∷◌, ◌++◌, option_to_list, get_or, if◌then◌else◌, refl, ap, sym, ◌∙◌, subst, arith, and_parts, false≢true, true≢false, eqb-true, Plain, is_empty, Ask, Change, gets, is_open, is_open_to, apply_some, IsOpenStep, entries, bit, Hold, Next, Continue, Answers, Stepped, Move, Step, Weak, StepKind, plain, again, look, weak, is_again, by_step, Asked, encoded, is_step_of, BelongsTo, Said, own_steps, AnyOf, Mark, first_word, Limit, arrived, is_open_now, steps_alone, Way, way_of, is_due_by, LooksElse, Gets, mark_of, Machine, entries_held, own, failures, changes, IsBeginning, RightBy, ContinuesWithin, number_at, Act, load, load_if, load_for, enter, exchange, weak_exchange, attempt, retry, store, section, swap, tried, guessed, either, stays, passing, becomes, retried, step_by, made_if, change_by, can_by, refusal_by, makes_by, look_kind, step_kind_by, Table, begin_of, performed, HasPhase, tries_of, goes_of, limit}
-use Rattle.spin_world_core.proofs.Steps.{told, played, GoesOnOpen, ContinuesCounted, Knows, InCall, NextIs, AnswersWithin, AtStep, Plays}
+use Rattle.spin_world_core.proofs.Names.{LockKind, ◌≡◌, ℕ, zero, suc, ◌+◌, ◌<◌, ◌≤◌, ◌==◌, Bool, true, false, not, is_some, Option, Some, None, List, [], ◌∷◌, ◌++◌, option_to_list, get_or, if◌then◌else◌, refl, ap, sym, ◌∙◌, subst, arith, and_parts, false≢true, true≢false, eqb-true, Plain, is_empty, Ask, Change, gets, is_open, is_open_to, apply_some, IsOpenStep, entries, bit, Hold, Next, Continue, Answers, Stepped, Move, Step, Weak, StepKind, plain, again, look, weak, is_again, by_step, Asked, encoded, is_step_of, BelongsTo, Said, own_steps, AnyOf, Mark, first_word, Limit, arrived, is_open_now, steps_alone, Way, way_of, is_due_by, LooksElse, Gets, mark_of, Machine, entries_held, own, failures, changes, IsBeginning, RightBy, ContinuesWithin, number_at, Act, load, load_if, load_for, enter, exchange, weak_exchange, attempt, retry, store, section, swap, tried, guessed, either, stays, passing, becomes, retried, step_by, made_if, change_by, can_by, refusal_by, makes_by, look_kind, step_kind_by, Table, begin_of, performed, HasPhase, tries_of, goes_of, limit}
+use Rattle.spin_world_core.proofs.Steps.{told, played, GoesOnOpen, ContinuesCounted, Moves, NextIs, AnswersWithin, AtStep, Plays}
 use Rattle.spin_world_core.proofs.Operating.{made_named, fits_made}
 use Rattle.spin_world_core.proofs.Spans.{own-mine, retries-mine}
 use Rattle.spin_world_core.proofs.Stands.{entries_at, stand_of, held_at, stand-mine}
-use Rattle.spin_world_core.proofs.Rows.{Opened, OwesRight, Branch, goes, finds_open, loses, misses, Branched, may_spend, tries_open, need, need_of, Needs, rests, peeks, needs-mine, needs_first, spent-mine, goes_within, ends_within, any_map, moment_of, weakly_right, Row, IsSound, sound_at, Expects, expects-mine, none_spent, none_expected, known-other}
-use Rattle.spin_world_core.proofs.Shapes.{Notes, is_answer, row_of, KnowsRow, call_of, At, Means, FindsAnother, FollowsRow, Follows, Owes, OwesRow, goes_by, answers_by, AnswersRow, BeginsRow, BeginsAt, sure_by, aim_by, aim_of, aimed, aimed_at, Pays}
+use Rattle.spin_world_core.proofs.Rows.{Known, Opened, OwesRight, Branch, goes, finds_open, loses, misses, Branched, may_spend, tries_open, need, need_of, Needs, rests, peeks, needs-mine, needs_first, spent-mine, goes_within, ends_within, any_map, moment_of, weakly_right, Row, IsSound, sound_at, Expects, expects-mine, none_spent, none_expected, known-other}
+use Rattle.spin_world_core.proofs.Shapes.{Notes, is_answer, row_of, KnowsRow, Knows, call_of, AtPoint, InCall, Means, FindsAnother, FollowsRow, Follows, Owes, OwesRow, goes_by, answers_by, AnswersRow, BeginsRow, BeginsAt, sure_by, aim_by, aim_of, aimed, aimed_at, Pays}
 
 abbrev Aimed : {W L A : Type 0} → Option Ask → Option Ask → Act W L A → List Change → ℕ → Type 0
 Aimed tries due act made p = aim_by tries act p ≡ aimed p (aim_of tries due made) (aim_by tries act p)
@@ -45,11 +45,14 @@ Aims branch Open = Unit {0}
 aims_any : (branch : Branch) (Open : Type 0) → Open → Aims branch Open
 aims_any branch Open is = grind (arith, is)
 
-module _ {W V C L A B : Type 0} {t : Table W V C L A} (m : Machine W V C L B) (n : Notes t) (f : Plays m n) where
+module _ {W V C L A B : Type 0} {t : Table W V C L A} {m : Machine W V C L B} {n : Notes t} (f : Plays m n) where
   abbrev pays : Pays n
   pays = f.pays
 
-  first_is : (w : W) (s : Plain) → t.memory.numbers w ≡ encoded t.lock_kind s → number_at t.memory 0 w ≡ first_word t.lock_kind s
+  abbrev kind : LockKind
+  kind = t.lock_kind
+
+  first_is : (w : W) (s : Plain) → t.memory.numbers w ≡ encoded kind s → number_at t.memory 0 w ≡ first_word kind s
   first_is w s encodes = ap (λ numbers. get_or numbers 0 0) encodes
 
   right_by : (weakly : Bool) (what : Asked) (said : Said) (p : ℕ) (span : List Mark) → Opened span
@@ -65,11 +68,18 @@ module _ {W V C L A B : Type 0} {t : Table W V C L A} (m : Machine W V C L B) (n
       let left = subst (λ next. goes_by next true (λ l. answers_by t k now c l h) ≡ true) (f.continues w v c l h j is) soon in
       subst (λ u. AnswersWithin (played t m) k u c j h) (sym (f.words w v c l h)) (answers_within k now c j h left)
 
-  sound_here : (p : ℕ) (c : C) (l : L) (h : Option Hold) → IsSound t.lock_kind (t.asks c h) p (row_of n c l h)
-  sound_here p c l h = sound_at t.lock_kind (t.asks c h) h p (n.point c l h) (pays.sound p c l h)
+  sound_here : (p : ℕ) (c : C) (l : L) (h : Option Hold) → IsSound kind (t.asks c h) p (row_of n c l h)
+  sound_here p c l h = sound_at kind (t.asks c h) h p (n.point c l h) (pays.sound p c l h)
 
   -- a step of the call, at the row of its point
-  module _ (p : ℕ) (c : C) (l : L) (h : Option Hold) (s : Plain) (w : W) (span : List Mark) (row : Row) (at : At n p c l h s w span row) (sound : IsSound t.lock_kind (t.asks c h) p (Some row)) where
+  module _ (p : ℕ) (c : C) (l : L) (h : Option Hold) (s : Plain) (w : W) (span : List Mark) (row : Row)
+      (at : AtPoint n p (call_of n c) l h s w span (Some row)) (sound : IsSound kind (t.asks c h) p (Some row)) where
+    abbrev what : Asked
+    what = t.asks c h
+
+    abbrev known : Known kind what (t.act c l h) row p s span
+    known = at.knows.0
+
     abbrev Comes : Bool → Option Change → StepKind → Branch → Next L A → Type 0
     Comes = Follows n p (call_of n c) h s w span row
 
@@ -86,10 +96,10 @@ module _ {W V C L A B : Type 0} {t : Table W V C L A} (m : Machine W V C L B) (n
     spanned step r = mark_of p step r s ∷ span
 
     abbrev limited : Limit
-    limited = limit t.lock_kind (t.asks c h)
+    limited = limit kind what
 
     abbrev looking : StepKind
-    looking = by_step (look_kind (t.asks c h))
+    looking = by_step (look_kind what)
 
     abbrev put_at : ℕ → ℕ → W
     put_at i k = t.memory.put i k w
@@ -98,179 +108,181 @@ module _ {W V C L A B : Type 0} {t : Table W V C L A} (m : Machine W V C L B) (n
     number i = number_at t.memory i w
 
     made_now : (step : Option Change) (r : StepKind) (cs : List Change) → row.made p ++ option_to_list step ≡ cs → own p (spanned step r) ≡ cs
-    made_now step r cs is = own-mine p step r s span ∙ (ap (λ ds. ds ++ option_to_list step) at.known.made ∙ is)
+    made_now step r cs is = own-mine p step r s span ∙ (ap (λ ds. ds ++ option_to_list step) known.made ∙ is)
 
-    goes_to : (step : Option Change) (r : StepKind) (branch : Branch) (j : L) (o : Option Row) → IsOpenStep s p step → Branched branch s step r → (is_again r ≡ true → step ≡ None → failures p span < changes t.lock_kind p span)
-        → IsSound t.lock_kind (t.asks c h) p o → ComesRow step r branch j o
-        → KnowsRow n c j h p (apply_some s step) (spanned step r) o
-        × ((said : Said) × AnyOf (λ steps. IsBeginning (own p (spanned step r)) steps) (own_steps ((t.asks c h).answers said) p))
-        × ContinuesWithin limited t.lock_kind p (spanned step r)
+    goes_to : (step : Option Change) (r : StepKind) (branch : Branch) (j : L) (o : Option Row) → IsOpenStep s p step
+        → Branched branch s step r → (is_again r ≡ true → step ≡ None → failures p span < changes kind p span)
+        → IsSound kind what p o → ComesRow step r branch j o
+        → KnowsRow n (call_of n c) j h p (apply_some s step) (spanned step r) o
+        × ((said : Said) × AnyOf (λ steps. IsBeginning (own p (spanned step r)) steps) (own_steps (what.answers said) p))
+        × ContinuesWithin limited kind p (spanned step r)
     goes_to step r branch j None may branched lost sound follows = absurd follows
     goes_to step r branch j (Some to) may branched lost sound follows =
-        let retries = retries-mine t.lock_kind p step r s span at.retries lost in
-        let spends = may_spend (tries_of (t.asks c h)) branch step p s span _ follows.spends in
-        let found = needs-mine p s step r span (need_of t.lock_kind (t.asks c h) (to.made p) (t.act c j h)) _ follows.finds in
+        let retries = retries-mine kind p step r s span at.retries lost in
+        let spends = may_spend (tries_of what) branch step p s span _ follows.spends in
+        let found = needs-mine p s step r span (need_of kind what (to.made p) (t.act c j h)) _ follows.finds in
         let made = made_now step r (to.made p) follows.made in
-        let spent = spent-mine p s step r span limited t.lock_kind branch (to.made p) row.spent to.spent branched made spends at.known.spent in (
+        let spent = spent-mine p s step r span limited kind branch (to.made p) row.spent to.spent branched made spends known.spent in (
           (
             record {
-              stand = stand-mine s p step row.stand to.stand may at.known.stand follows.stands;
+              stand = stand-mine s p step row.stand to.stand may known.stand follows.stands;
               made = made;
               spent = spent;
-              expects = expects-mine p s step r span t.lock_kind (t.act c j h) (number 0) (first_is w s at.encodes) retries found.1;
+              expects = expects-mine p s step r span kind (t.act c j h) (number 0) (first_is w s at.encodes) retries found.1;
               needs = found.0;
-              opened = (may, at.known.opened);
+              opened = (may, known.opened);
             },
             follows.knows,
           ),
           (
             to.said,
-            any_map (λ steps. to.made p ++ to.rest p ≡ steps) (λ steps. IsBeginning (own p (spanned step r)) steps) (own_steps ((t.asks c h).answers to.said) p)
+            any_map (λ steps. to.made p ++ to.rest p ≡ steps) (λ steps. IsBeginning (own p (spanned step r)) steps) (own_steps (what.answers to.said) p)
                 (λ steps e. (to.rest p, ap (λ cs. cs ++ to.rest p) made ∙ e)) sound.1,
           ),
-          goes_within limited t.lock_kind branch (to.made p) row.spent to.spent p (spanned step r) made sound.0 retries spends spent,
+          goes_within limited kind branch (to.made p) row.spent to.spent p (spanned step r) made sound.0 retries spends spent,
         )
 
-    followed : (weakly : Bool) (step : Option Change) (r : StepKind) (branch : Branch) (next : Next L A) → IsOpenStep s p step → Branched branch s step r → (is_again r ≡ true → step ≡ None → failures p span < changes t.lock_kind p span)
+    followed : (weakly : Bool) (step : Option Change) (r : StepKind) (branch : Branch) (next : Next L A) → IsOpenStep s p step
+        → Branched branch s step r → (is_again r ≡ true → step ≡ None → failures p span < changes kind p span)
         → Comes weakly step r branch next → NextIs n (move_of weakly) p c h (apply_some s step) (spanned step r) (told t.says next)
     followed weakly step r branch (Continue j) may branched lost follows =
         let there = goes_to step r branch j (row_of n c j h) may branched lost (sound_here p c j h) follows in
         record { knows = there.0; own_so_far = there.1; in_time = there.2 }
     followed weakly step r branch (Answers a after) may branched lost follows =
         let made = any_map (λ steps. row.made p ++ option_to_list step ≡ steps) (λ steps. own p (spanned step r) ≡ steps)
-        (own_steps ((t.asks c h).answers (t.says a)) p) (λ steps e. made_now step r steps e) follows.made in
+        (own_steps (what.answers (t.says a)) p) (λ steps e. made_now step r steps e) follows.made in
         record {
-          stands = stand-mine s p step row.stand (stand_of after) may at.known.stand follows.stands ∙ sym (held_at p after);
+          stands = stand-mine s p step row.stand (stand_of after) may known.stand follows.stands ∙ sym (held_at p after);
           own_steps_are = made;
-          right = right_by weakly (t.asks c h) (t.says a) p (spanned step r) (may, at.known.opened) made follows.right;
+          right = right_by weakly what (t.says a) p (spanned step r) (may, known.opened) made follows.right;
           in_time =
-              ends_within limited t.lock_kind (row.made p) row.spent p s step r span sound.0 at.retries at.known.spent
+              ends_within limited kind (row.made p) row.spent p s step r span sound.0 at.retries known.spent
               follows.in_time;
         }
 
-    -- What is shown of a step. Its plain step by the words is `change`; `sure` is the one that it makes whenever that
-    -- is open; and `aim` is the one of a try.
-    record Done (st : Stepped W V L A) (step : Option Change) (r : StepKind) (change : W → Option Change) (sure : Option Change)
-        (aim : Ask → Option Change) : Type 0 where
-      opens : IsOpenStep s p step
-      belongs : BelongsTo t.lock_kind step
-      encodes : t.memory.numbers st.words ≡ encoded t.lock_kind (apply_some s step)
-      shape : n.Shape (apply_some s step)
-      next : NextIs n Step p c h (apply_some s step) (spanned step r) (told t.says st.next)
-      fails : is_again r ≡ true → step ≡ None → failures p span < changes t.lock_kind p span
+    abbrev Takes : Option Change → StepKind → W → Next L A → Type 0
+    Takes step r u next = Moves n Step p c h s span step r u (told t.says next)
+
+    -- What is shown of a step. Its plain step by the words is `change`, and `aim` is the one of a try.
+    record Done (st : Stepped W V L A) (step : Option Change) (r : StepKind) (change : W → Option Change) (aim : Ask → Option Change) : Type 0 where
+      takes : Takes step r st.words st.next
       counted : ContinuesCounted change s (told t.says st.next) step r
-      got : (e : Change) → sure ≡ Some e → is_open s e ≡ true → step ≡ Some e
-      tried : (ask : Ask) → tries_of (t.asks c h) ≡ Some ask → aim ask ≡ aimed p (Some ask) (aim ask) → GoesOnOpen ask p span s (told t.says st.next) step
+      tried : (ask : Ask) → tries_of what ≡ Some ask → aim ask ≡ aimed p (Some ask) (aim ask) → GoesOnOpen ask p span s (told t.says st.next) step
 
     unretried : {b : Bool} {X : Type 0} → b ≡ false → b ≡ true → X
     unretried single made = absurd (false≢true (sym single ∙ made))
 
     -- a try continues only if it may
-    tried_on : (ask : Ask) (r : StepKind) (branch : Branch) (next : Next L A) → tries_of (t.asks c h) ≡ Some ask → Aims branch (is_open_to s p ask ≡ true)
+    tried_on : (ask : Ask) (r : StepKind) (branch : Branch) (next : Next L A) → tries_of what ≡ Some ask → Aims branch (is_open_to s p ask ≡ true)
         → Comes false None r branch next → GoesOnOpen ask p span s (told t.says next) None
     tried_on ask r branch next is shows follows = grind (arith, is, tries_open ask p span s)
 
-    -- the words do not change
-    stay : (r : StepKind) (branch : Branch) (next : Next L A) (change : W → Option Change) (sure : Option Change) (aim : Ask → Option Change)
-        → Branched branch s None r → (is_again r ≡ true → failures p span < changes t.lock_kind p span) → Comes false None r branch next
-        → ContinuesCounted change s (told t.says next) None r → ((e : Change) → sure ≡ Some e → is_open s e ≡ true → ⊥)
-        → ((ask : Ask) → aim ask ≡ aimed p (Some ask) (aim ask) → Aims branch (is_open_to s p ask ≡ true)) → Done (stays w next) None r change sure aim
-    stay r branch next change sure aim branched lost follows counted closed shows =
+    -- a step that changes no word
+    stood : (weakly : Bool) (r : StepKind) (branch : Branch) (next : Next L A) → Branched branch s None r
+        → (is_again r ≡ true → failures p span < changes kind p span) → Comes weakly None r branch next
+        → Moves n (move_of weakly) p c h s span None r w (told t.says next)
+    stood weakly r branch next branched lost follows =
         record {
           opens = tt;
           belongs = tt;
           encodes = at.encodes;
           shape = at.shape;
-          next = followed false None r branch next tt branched (λ e none. lost e) follows;
+          goes_on = followed weakly None r branch next tt branched (λ e none. lost e) follows;
           fails = λ e none. lost e;
+        }
+
+    stay : (r : StepKind) (branch : Branch) (next : Next L A) (change : W → Option Change) (aim : Ask → Option Change)
+        → Branched branch s None r → (is_again r ≡ true → failures p span < changes kind p span) → Comes false None r branch next
+        → ContinuesCounted change s (told t.says next) None r
+        → ((ask : Ask) → aim ask ≡ aimed p (Some ask) (aim ask) → Aims branch (is_open_to s p ask ≡ true)) → Done (stays w next) None r change aim
+    stay r branch next change aim branched lost follows counted shows =
+        record {
+          takes = stood false r branch next branched lost follows;
           counted = counted;
-          got = λ e is may. absurd (closed e is may);
           tried = λ ask is aim. tried_on ask r branch next is (shows ask aim) follows;
         }
 
     -- new words, and a plain step
-    make : {X : Type 0} (put : X → W) (r : StepKind) (x : X) (d : Change) (next : Next L A) (change : W → Option Change) (sure : Option Change)
-        → is_step_of t.lock_kind d ≡ true → MeansHere d put (Some x) → Comes false (Some d) r goes next → ((e : Change) → sure ≡ Some e → Some d ≡ Some e)
-        → Done (stays (put x) next) (Some d) r change sure (λ ask. Some d)
-    make put r x d next change sure own means follows got =
+    make : {X : Type 0} (put : X → W) (r : StepKind) (x : X) (d : Change) (next : Next L A) (change : W → Option Change)
+        → is_step_of kind d ≡ true → MeansHere d put (Some x) → Comes false (Some d) r goes next → Done (stays (put x) next) (Some d) r change (λ ask. Some d)
+    make put r x d next change own means follows =
         record {
-          opens = means.0;
-          belongs = own;
-          encodes = means.1;
-          shape = means.2;
-          next = followed false (Some d) r goes next means.0 tt (λ e none. absurd (cc (none))) follows;
-          fails = λ e none. absurd (cc (none));
+          takes = record {
+            opens = means.0;
+            belongs = own;
+            encodes = means.1;
+            shape = means.2;
+            goes_on = followed false (Some d) r goes next means.0 tt (λ e none. absurd (cc (none))) follows;
+            fails = λ e none. absurd (cc (none));
+          };
           counted = counted_of change s (told t.says next) (Some d) r (λ u e is may none. absurd (cc (none)));
-          got = λ e is may. got e is;
           tried = λ ask is aim. grind arith;
         }
 
-    stayed : (r : StepKind) (next : Next L A) → is_again r ≡ false → Comes false None r goes next → Done (stays w next) None r (λ u. None) None (λ ask. None)
+    stayed : (r : StepKind) (next : Next L A) → is_again r ≡ false → Comes false None r goes next → Done (stays w next) None r (λ u. None) (λ ask. None)
     stayed r next single follows =
-        stay r goes next (λ u. None) None (λ ask. None) tt (unretried single) follows
-        (counted_of _ s _ None r (λ u d is may none. absurd (cc (is)))) (λ e is may. cc (is)) (λ ask aim. tt)
+        stay r goes next (λ u. None) (λ ask. None) tt (unretried single) follows
+        (counted_of _ s _ None r (λ u d is may none. absurd (cc (is)))) (λ ask aim. tt)
 
     tested : (r : StepKind) (b : Bool) (x y : Next L A) → is_again r ≡ false → (b ≡ true → Comes false None r goes x) → (b ≡ false → Comes false None r goes y)
-        → Done (stays w (either b x y)) None r (λ u. None) None (λ ask. None)
+        → Done (stays w (either b x y)) None r (λ u. None) (λ ask. None)
     tested r true x y single f g = stayed r x single (f refl)
     tested r false x y single f g = stayed r y single (g refl)
 
     looked : {X : Type 0} (put : X → W) (r : StepKind) (branch : Branch) (o : Option X) (d : Change) (found missed : Next L A) (change : W → Option Change)
-        → Branched branch s None r → (is_again r ≡ true → failures p span < changes t.lock_kind p span) → MeansHere d put o
+        → Branched branch s None r → (is_again r ≡ true → failures p span < changes kind p span) → MeansHere d put o
         → (is_some o ≡ true → Comes false None r branch found) → (is_open s d ≡ false → Comes false None r (misses d) missed)
-        → ((next : Next L Said) → ContinuesCounted change s next None r) → Done (stays w (either (is_some o) found missed)) None r change None (λ ask. Some d)
+        → ((next : Next L Said) → ContinuesCounted change s next None r) → Done (stays w (either (is_some o) found missed)) None r change (λ ask. Some d)
     looked put r branch None d found missed change branched lost means f g counts =
-        stay r (misses d) missed change None _ means lost (g means) (counts _) (λ e is may. cc (is)) (λ ask aim. tt)
+        stay r (misses d) missed change _ means lost (g means) (counts _) (λ ask aim. tt)
     looked put r branch (Some x) d found missed change branched lost means f g counts =
-        stay r branch found change None _ branched lost (f refl) (counts _) (λ e is may. cc (is))
+        stay r branch found change _ branched lost (f refl) (counts _)
         (λ ask aim. let same : d ≡ gets p ask = cc (aim) in aims_any branch _ (subst (λ e. is_open s e ≡ true) same means.0.1))
 
     exchanged : {X : Type 0} (put : X → W) (r : StepKind) (o : Option X) (d : Change) (won lost : Next L A) (change : W → Option Change)
-        → ((u : W) (e : Change) → change u ≡ Some e → Some d ≡ Some e) → is_again r ≡ false → is_step_of t.lock_kind d ≡ true → MeansHere d put o
+        → ((u : W) (e : Change) → change u ≡ Some e → Some d ≡ Some e) → is_again r ≡ false → is_step_of kind d ≡ true → MeansHere d put o
         → Comes false (Some d) r goes won → (is_open s d ≡ false → Comes false None r (misses d) lost)
-        → Done (becomes put w o won lost) (made_if o d) r change (Some d) (λ ask. Some d)
+        → Done (becomes put w o won lost) (made_if o d) r change (λ ask. Some d)
     exchanged put r None d won lost change names single own means f g =
         let closed : (e : Change) → Some d ≡ Some e → is_open s e ≡ true → ⊥ = λ e is may. grind arith in
-        stay r (misses d) lost change (Some d) _ means (unretried single) (g means)
-        (counted_of change s _ None r (λ u e is may none. absurd (closed e (names u e is) may))) closed (λ ask aim. tt)
-    exchanged put r (Some x) d won lost change names single own means f g = make put r x d won change (Some d) own means f (λ e is. is)
+        stay r (misses d) lost change _ means (unretried single) (g means)
+        (counted_of change s _ None r (λ u e is may none. absurd (closed e (names u e is) may))) (λ ask aim. tt)
+    exchanged put r (Some x) d won lost change names single own means f g = make put r x d won change own means f
 
-    attempted : (put : ℕ → W) (o : Option ℕ) (d : Change) (won lost : Next L A) (change : W → Option Change) → is_step_of t.lock_kind d ≡ true
+    attempted : (put : ℕ → W) (o : Option ℕ) (d : Change) (won lost : Next L A) (change : W → Option Change) → is_step_of kind d ≡ true
         → ((to : ℕ) → o ≡ Some to → MeansHere d put (Some to) × Comes false (Some d) plain goes won) → (o ≡ None → Comes false None plain goes lost)
-        → is_answer lost ≡ true → Done (becomes put w o won lost) (made_if o d) plain change None (λ ask. Some d)
+        → is_answer lost ≡ true → Done (becomes put w o won lost) (made_if o d) plain change (λ ask. Some d)
     attempted put None d won (Continue j) change own f g last = absurd (false≢true last)
     attempted put None d won (Answers a after) change own f g last =
-        stay plain goes (Answers a after) change None _ tt (unretried refl) (g refl) tt (λ e is may. cc (is)) (λ ask aim. tt)
+        stay plain goes (Answers a after) change _ tt (unretried refl) (g refl) tt (λ ask aim. tt)
     attempted put (Some to) d won lost change own f g last =
-        let both = f to refl in make put plain to d won change None own both.0 both.1 (λ e is. absurd (cc (is)))
+        let both = f to refl in make put plain to d won change own both.0 both.1
 
     -- the number is as it was found, or another party has changed it since
     made_again : (put : ℕ → W) (b : Bool) (o : Option ℕ) (d : Change) (won found missed : Next L A) (change : W → Option Change)
-        → is_step_of t.lock_kind d ≡ true
-        → (b ≡ true → is_some o ≡ true) → failures p span + bit (not b) ≤ changes t.lock_kind p span → MeansHere d put o
+        → is_step_of kind d ≡ true
+        → (b ≡ true → is_some o ≡ true) → failures p span + bit (not b) ≤ changes kind p span → MeansHere d put o
         → (b ≡ true → Comes false (Some d) again goes won)
         → (FindsAnother limited b (is_some o) → Comes false None again loses found) → (is_open s d ≡ false → Comes false None again (misses d) missed)
-        → Done (retried put b w o won found missed) (made_if (if b then o else None) d) again change None (λ ask. Some d)
+        → Done (retried put b w o won found missed) (made_if (if b then o else None) d) again change (λ ask. Some d)
     made_again put true None d won found missed change own some le means f g h = absurd (false≢true (some refl))
-    made_again put true (Some to) d won found missed change own some le means f g h =
-        make put again to d won change None own means (f refl) (λ e is. absurd (cc (is)))
+    made_again put true (Some to) d won found missed change own some le means f g h = make put again to d won change own means (f refl)
     made_again put false o d won found missed change own some le means f g h =
         looked put again loses o d found missed change (refl, refl) (λ e. omega (arith, le)) means (λ some. g (finds_another limited (is_some o) some)) h
         (λ next. counted_of change s next None again (λ u e is may none. refl))
 
-    done : (i : ℕ) (act : Act W L A) → ((d : Change) → makes_by act p ≡ Some d → is_step_of t.lock_kind d ≡ true) → Expects t.lock_kind act p s span
+    done : (i : ℕ) (act : Act W L A) → ((d : Change) → makes_by act p ≡ Some d → is_step_of kind d ≡ true) → Expects kind act p s span
         → OwesHere i act
-        → Done (step_by t.memory i act w) (change_by t.memory i act p w) (by_step (step_kind_by (t.asks c h) act)) (λ u. change_by t.memory i act p u)
-        (sure_by act p)
+        → Done (step_by t.memory i act w) (change_by t.memory i act p w) (by_step (step_kind_by what act)) (λ u. change_by t.memory i act p u)
         (λ ask. aim_by (Some ask) act p)
     done i (load next) own expects owes = stayed plain (next (number i)) refl owes
-    done i (load_if test a b) own expects owes = tested looking (test (number i)) _ _ (no_retry ((t.asks c h).waits)) owes.0 owes.1
+    done i (load_if test a b) own expects owes = tested looking (test (number i)) _ _ (no_retry (what.waits)) owes.0 owes.1
     done i (load_for f step found missed) own expects owes =
         looked (put_at i) plain finds_open (f (number i)) (step p) _ missed (λ u. None) tt (unretried refl) owes.0 owes.1 owes.2
         (λ next. counted_of _ s next None plain (λ u e is may none. absurd (cc (is))))
     done i (enter test step won lost) own expects owes =
         exchanged (λ k. w) looking (passing (test (number i)) (number i)) (step p) won lost _ (λ u e is. made_named _ (step p) e is)
-        (no_retry ((t.asks c h).waits))
+        (no_retry (what.waits))
         (own (step p) refl) owes.0 owes.1 owes.2
     done i (exchange operation step won lost) own expects owes =
         exchanged (put_at i) plain (tried operation (number i)) (step p) won _ _ (λ u e is. made_named _ (step p) e is) refl
@@ -283,7 +295,8 @@ module _ {W V C L A B : Type 0} {t : Table W V C L A} (m : Machine W V C L B) (n
     done i (retry k f step won found missed) own expects owes =
         let same = eqb-true (number 0) k in
         made_again (put_at 0) (number 0 == k) (f (number 0)) (step p) won _ missed _ (own (step p) refl) (λ is. ap (λ j. is_some (f j)) (same is) ∙ expects.1)
-        (subst (λ x. failures p span + bit (not (x == k)) ≤ changes t.lock_kind p span) (sym (first_is w s at.encodes)) expects.0) owes.0 (λ is. owes.1 (same is)) owes.2 owes.3
+        (subst (λ x. failures p span + bit (not (x == k)) ≤ changes kind p span) (sym (first_is w s at.encodes)) expects.0)
+        owes.0 (λ is. owes.1 (same is)) owes.2 owes.3
     done i (store can operation step next) own expects owes =
         exchanged (put_at i) plain (Some (performed operation (number i))) (step p) next next (λ u. Some (step p)) (λ u e is. is) refl
         (own (step p) refl) owes.1 owes.2
@@ -294,15 +307,18 @@ module _ {W V C L A B : Type 0} {t : Table W V C L A} (m : Machine W V C L B) (n
     can_is : (i : ℕ) (act : Act W L A) → OwesHere i act → can_by t.memory i act w ≡ true
     can_is i act owes = grind arith
 
+    -- the plain step that it makes whenever that is open
+    got_is : (i : ℕ) (act : Act W L A) (e : Change) → OwesHere i act → sure_by act p ≡ Some e → is_open s e ≡ true → change_by t.memory i act p w ≡ Some e
+    got_is i act e owes is may = grind arith
+
     -- a weak exchange is its call's first plain step
     refusal_is : (i : ℕ) (act : Act W L A) (next : Next L A) → OwesHere i act → refusal_by act ≡ Some next
-        → NextIs n Weak p c h s (mark_of p None weak s ∷ span) (told t.says next) × ((t.asks c h).is_weak ≡ true) × (own p span ≡ (t.asks c h).before_weakly p)
+        → Moves n Weak p c h s span None weak w (told t.says next) × (what.is_weak ≡ true) × (own p span ≡ what.before_weakly p)
     refusal_is i (weak_exchange k f step won lost) next owes is =
         let same : lost ≡ next = cc (is) in (
-          subst (λ x. NextIs n Weak p c h s (mark_of p None weak s ∷ span) (told t.says x)) same
-              (followed true None weak goes lost tt tt (λ e none. unretried refl e) owes.3),
+          subst (λ x. Moves n Weak p c h s span None weak w (told t.says x)) same (stood true weak goes lost tt (λ e. unretried refl e) owes.3),
           owes.4,
-          at.known.made ∙ owes.5,
+          known.made ∙ owes.5,
         )
     refusal_is i _ next owes is = absurd (cc (is))
 
@@ -317,107 +333,92 @@ module _ {W V C L A B : Type 0} {t : Table W V C L A} (m : Machine W V C L B) (n
     looks_else act what ask way waiting needs = grind arith
 
     abbrev Soon : Option Row → Type 0
-    Soon o = AnswersRow n p (call_of n c) l h s w span (answers_by t (steps_alone (t.asks c h)) w c l h) ((t.asks c h).waits) o
+    Soon o = AnswersRow n p (call_of n c) l h s w span (answers_by t (steps_alone what) w c l h) (what.waits) o
 
-    soon_is : Soon (Some row) → is_open_now p (t.asks c h) span s ≡ true → answers_by t (steps_alone (t.asks c h)) w c l h ≡ true
+    soon_is : Soon (Some row) → is_open_now p what span s ≡ true → answers_by t (steps_alone what) w c l h ≡ true
     soon_is soon may =
         let waits = and_parts _ _ may in
-        let owed = subst (λ b. AnswersRow n p (call_of n c) l h s w span (answers_by t (steps_alone (t.asks c h)) w c l h) b (Some row)) waits.0 soon in
-        owed at (subst (λ (cs : List Change). (t.asks c h).is_open_next (is_empty cs) (arrived p span) p s ≡ true) at.known.made waits.1)
+        let owed = subst (λ b. AnswersRow n p (call_of n c) l h s w span (answers_by t (steps_alone what) w c l h) b (Some row)) waits.0 soon in
+        owed at (subst (λ (cs : List Change). what.is_open_next (is_empty cs) (arrived p span) p s ≡ true) known.made waits.1)
 
-    due_at : Aimed (tries_of (t.asks c h)) (goes_of (t.asks c h) (row.made p)) (t.act c l h) (row.made p) p → (step : Option Change)
+    due_at : Aimed (tries_of what) (goes_of what (row.made p)) (t.act c l h) (row.made p) p → (step : Option Change)
         → ((e : Change) → sure_by (t.act c l h) p ≡ Some e → is_open s e ≡ true → step ≡ Some e)
-        → Gets t.lock_kind p (t.asks c h) span s step (by_step (step_kind_by (t.asks c h) (t.act c l h)))
+        → Gets kind p what span s step (by_step (step_kind_by what (t.act c l h)))
     due_at aims step got ask aim =
         let act = t.act c l h in
-        let is = subst (λ cs. goes_of (t.asks c h) cs ≡ Some ask) at.known.made aim in
-        let waits = goes_waiting (t.asks c h) (row.made p) ask is in
-        let way = way_of t.lock_kind (t.asks c h) (row.made p) in
-        let needs = subst (λ o. Needs (need o way (rests act) (peeks act)) p span) is at.known.needs in
-        subst (λ cs. let way = way_of t.lock_kind (t.asks c h) cs in (is_due_by way p span ≡ true → is_open_to s p ask ≡ true → step ≡ Some (gets p ask))
-        × LooksElse way p span (by_step (step_kind_by (t.asks c h) act))) (sym at.known.made) (
-          due_is act ask way step needs (aims_sure (tries_of (t.asks c h)) _ act (row.made p) ask p waits.1 is aims) got,
-          looks_else act (t.asks c h) ask way waits.0 needs,
+        let is = subst (λ cs. goes_of what cs ≡ Some ask) known.made aim in
+        let waits = goes_waiting what (row.made p) ask is in
+        let way = way_of kind what (row.made p) in
+        let needs = subst (λ o. Needs (need o way (rests act) (peeks act)) p span) is known.needs in
+        subst (λ cs. let way = way_of kind what cs in (is_due_by way p span ≡ true → is_open_to s p ask ≡ true → step ≡ Some (gets p ask))
+        × LooksElse way p span (by_step (step_kind_by what act))) (sym known.made) (
+          due_is act ask way step needs (aims_sure (tries_of what) _ act (row.made p) ask p waits.1 is aims) got,
+          looks_else act what ask way waits.0 needs,
         )
 
-    at_row : ((d : Change) → makes_by (t.act c l h) p ≡ Some d → is_step_of t.lock_kind d ≡ true) → OwesHere (t.word l) (t.act c l h)
-        → Aimed (tries_of (t.asks c h)) (goes_of (t.asks c h) (row.made p)) (t.act c l h) (row.made p) p → Soon (Some row)
-        → (v : Option V) → HasPhase t.lock_kind.makes_value s.phase v → AtStep m n p c l h s v w span
+    at_row : ((d : Change) → makes_by (t.act c l h) p ≡ Some d → is_step_of kind d ≡ true) → OwesHere (t.word l) (t.act c l h)
+        → Aimed (tries_of what) (goes_of what (row.made p)) (t.act c l h) (row.made p) p → Soon (Some row)
+        → (v : Option V) → HasPhase kind.makes_value s.phase v → AtStep m n p c l h s v w span
     at_row fits owes aims soon v phase =
-        let is = done (t.word l) (t.act c l h) fits at.known.expects owes in
-        let values = f.values p c l h s v w at.encodes at.shape phase is.opens in
+        let is = done (t.word l) (t.act c l h) fits known.expects owes in
+        let values = f.values p c l h s v w at.encodes at.shape phase is.takes.opens in
         let step = change_by t.memory (t.word l) (t.act c l h) p w in
-        let r = by_step (step_kind_by (t.asks c h) (t.act c l h)) in
+        let r = by_step (step_kind_by what (t.act c l h)) in
         record {
           can = can_is (t.word l) (t.act c l h) owes;
-          opens = is.opens;
-          belongs = is.belongs;
-          encodes = ap t.memory.numbers (f.words w v c l h) ∙ is.encodes;
-          shape = is.shape;
-          next = subst (NextIs n Step p c h (apply_some s step) (spanned step r)) (sym values.tells) is.next;
-          fails = is.fails;
-          counted =
-              subst (λ next. ContinuesCounted (λ u. change_by t.memory (t.word l) (t.act c l h) p u) s next step r) (sym values.tells) is.counted;
-          due = due_at aims _ is.got;
-          tries_on = λ ask asks none. subst (λ next. GoesOnOpen ask p span s next step) (sym values.tells) (is.tried ask asks
-              (aims_try (tries_of (t.asks c h)) _ (t.act c l h) (row.made p) ask p asks (sym at.known.made ∙ none) aims));
-          undisturbed = λ may. answers_within (steps_alone (t.asks c h)) w c l h (soon_is soon may);
+          steps = rw (f.words w v c l h, values.tells) is.takes;
+          counted = rw values.tells is.counted;
+          due = due_at aims _ (λ e. got_is (t.word l) (t.act c l h) e owes);
+          tries_on = λ ask asks none. rw values.tells
+              (is.tried ask asks (aims_try (tries_of what) _ (t.act c l h) (row.made p) ask p asks (sym known.made ∙ none) aims));
+          undisturbed = λ may. answers_within (steps_alone what) w c l h (soon_is soon may);
           refuses = λ next refused.
-              let other = f.refuses c l h next refused in
-              subst (NextIs n Weak p c h s (spanned None weak)) (sym other.2) (refusal_is (t.word l) (t.act c l h) other.0 owes other.1).0;
+              let other = f.refuses c l h next refused in rw other.2 (refusal_is (t.word l) (t.act c l h) other.0 owes other.1).0;
           weakly = λ next refused.
               let other = f.refuses c l h next refused in
               let may = refusal_is (t.word l) (t.act c l h) other.0 owes other.1 in (may.1, may.2);
           values = values;
         }
 
-  module _ (p : ℕ) (c : C) (l : L) (h : Option Hold) (s : Plain) where
-    -- a party in a call takes its next step
-    module _ (v : Option V) (w : W) (span : List Mark) (here : InCall n p c l h s v w span) where
-      at_any : (o : Option Row) → KnowsRow n c l h p s span o → IsSound t.lock_kind (t.asks c h) p o → OwesRow n p (call_of n c) l h s w span o
+  -- a party in a call takes its next step
+  pub at_step : {p : ℕ} {c : C} {l : L} {h : Option Hold} {s : Plain} {w : W} {span : List Mark} (v : Option V) → InCall n p c l h s w span
+      → HasPhase kind.makes_value s.phase v → AtStep m n p c l h s v w span
+  at_step {p} {c} {l} {h} {s} {w} {span} v here phase = by (row_of n c l h) here (sound_here p c l h) (pays.owes p c l h s w span) (pays.aims p c l h)
+      (pays.soon p c l h s w span)
+    where
+      by : (o : Option Row) → AtPoint n p (call_of n c) l h s w span o → IsSound kind (t.asks c h) p o → OwesRow n p (call_of n c) l h s w span o
           → aim_by (tries_of (t.asks c h)) (t.act c l h) p ≡ aimed_at p (t.asks c h) o (aim_by (tries_of (t.asks c h)) (t.act c l h) p)
           → AnswersRow n p (call_of n c) l h s w span (answers_by t (steps_alone (t.asks c h)) w c l h) ((t.asks c h).waits) o
           → AtStep m n p c l h s v w span
-      at_any None knows sound owes aims soon = absurd knows
-      at_any (Some row) knows sound owes aims soon =
-          let at : At n p c l h s w span row = record {
-            encodes = here.encodes;
-            shape = here.shape;
-            exclusive = here.exclusive;
-            known = knows.0;
-            knows = knows.1;
-            retries = here.retries;
-          } in
-          at_row p c l h s w span row at sound (λ d is. (fits_made t.lock_kind (t.asks c h) _ _ d (and_parts _ _ (pays.fits p c l h)).0 is).0)
-          (owes at) aims soon v here.phase
+      by None at sound owes aims soon = absurd at.knows
+      by (Some row) at sound owes aims soon =
+          at_row p c l h s w span row at sound (λ d is. (fits_made kind (t.asks c h) _ _ d (and_parts _ _ (pays.fits p c l h)).0 is).0)
+          (owes at) aims soon v phase
 
-      pub at_step : AtStep m n p c l h s v w span
-      at_step =
-          at_any (row_of n c l h) here.knows (sound_here p c l h) (pays.owes p c l h s w span) (pays.aims p c l h) (pays.soon p c l h s w span)
-
+  module _ (p : ℕ) (c : C) (l : L) (h : Option Hold) (s : Plain) where
     -- another party's step keeps what the party knows
     others_at : (q : ℕ) (step : Option Change) (r : StepKind) (span : List Mark) (o : Option Row) → (q ≡ p → ⊥) → IsOpenStep s q step
-        → (n.Knows c l h p s span → n.Knows c l h p (apply_some s step) (mark_of q step r s ∷ span)) → KnowsRow n c l h p s span o
-        → KnowsRow n c l h p (apply_some s step) (mark_of q step r s ∷ span) o
+        → (n.Knows c l h p s span → n.Knows c l h p (apply_some s step) (mark_of q step r s ∷ span)) → KnowsRow n (call_of n c) l h p s span o
+        → KnowsRow n (call_of n c) l h p (apply_some s step) (mark_of q step r s ∷ span) o
     others_at q step r span None ne may stays knows = absurd knows
     others_at q step r span (Some row) ne may stays knows =
-        (known-other p q s step r span ne t.lock_kind (t.asks c h) (t.act c l h) row may knows.0, stays knows.1)
+        (known-other p q s step r span ne kind (t.asks c h) (t.act c l h) row may knows.0, stays knows.1)
 
     pub knows_beside : (span : List Mark) (q : ℕ) (step : Option Change) (r : StepKind) → (q ≡ p → ⊥) → n.Shape s → IsOpenStep s q step
-        → BelongsTo t.lock_kind step → Knows n c l h p s span → Knows n c l h p (apply_some s step) (mark_of q step r s ∷ span)
+        → BelongsTo kind step → Knows n c l h p s span → Knows n c l h p (apply_some s step) (mark_of q step r s ∷ span)
     knows_beside span q step r ne shape may belongs knows =
         others_at q step r span (row_of n c l h) ne may (pays.others p q c l h s step r span ne shape may belongs) knows
 
     -- and this it knows when its call begins
-    begins_at : (o : Option Row) → entries p s ≡ entries_held p h → BeginsRow n c l h p s o → KnowsRow n c l h p s [] o
+    begins_at : (o : Option Row) → entries p s ≡ entries_held p h → BeginsRow n c l h p s o → KnowsRow n (call_of n c) l h p s [] o
     begins_at None mine begins = absurd begins
     begins_at (Some row) mine begins =
-        let first = needs_first (need_of t.lock_kind (t.asks c h) (row.made p) (t.act c l h)) _ p begins.2 in (
+        let first = needs_first (need_of kind (t.asks c h) (row.made p) (t.act c l h)) _ p begins.2 in (
           record {
             stand = mine ∙ (held_at p h ∙ ap (entries_at p) (sym begins.0));
             made = sym begins.1;
-            spent = none_spent (limit t.lock_kind (t.asks c h)) row.spent p;
-            expects = none_expected t.lock_kind (t.act c l h) p s first.1;
+            spent = none_spent (limit kind (t.asks c h)) row.spent p;
+            expects = none_expected kind (t.act c l h) p s first.1;
             needs = first.0;
             opened = tt;
           },

@@ -9,50 +9,16 @@ use Rattle.spin_model.specs.declared.schedule.Move.{Move}
 use Rattle.spin_model.specs.Calls.{Mark, encoded}
 use Rattle.spin_model.specs.Machines.{Machine}
 use Rattle.spin_model.specs.Schedules.{State, after, at_first}
-use Rattle.spin_world_core.specs.Runs.{Seen, StandsFor, opening, own}
+use Rattle.spin_world_core.specs.Runs.{Seen, StandsFor, opening, own, seat_of}
 use Rattle.spin_model.specs.Acts.{Table}
 use Rattle.spin_world_core.specs.Users.{seen_after}
-use Rattle.spin_world_core.proofs.Steps.{played, InCall, Plays}
+use Rattle.spin_world_core.proofs.Steps.{played, Plays}
 use Rattle.spin_world_core.proofs.Shapes.{Notes}
 use Rattle.spin_world_core.proofs.Stands.{entries_at}
 use Rattle.spin_world_core.proofs.Rows.{Row}
-use Rattle.spin_world_core.proofs.Shapes.{KnowsRow, row_of}
+use Rattle.spin_world_core.proofs.Shapes.{InCall, KnowsRow, call_of, row_of}
 use Rattle.spin_world_core.proofs.Preserved.{Invariant, standing, in_call}
 use Rattle.spin_world_core.proofs.Every.{good_first, good_after, state-seen_after}
-
--- The state after these entries
-
-module _ {W V C L A B : Type 0} {t : Table W V C L A} (by : Machine W V C L B) (n : Notes t) (f : Plays by n) (parties : ℕ) (past : List (ℕ × Move C V)) where
-  abbrev m : Machine W V C L B
-  m = played t by
-
-  abbrev now : State W V C L
-  now = after m (at_first m parties) past
-
-  abbrev seen : Seen W V C L
-  seen = seen_after m (opening m parties) past
-
-  pub good : Invariant by n seen
-  good = good_after by n f (opening m parties) past (good_first by n f parties)
-
-  pub state_is : seen.state ≡ now
-  state_is = state-seen_after m (opening m parties) past
-
-  pub words_are : seen.state.words ≡ now.words
-  words_are = ap (λ (s : State W V C L). s.words) state_is
-
-  pub numbers_are : m.numbers now.words ≡ encoded m.lock_kind seen.plain
-  numbers_are = ap m.numbers (sym words_are) ∙ good.encodes
-
-  pub seat_is : (p : ℕ) (y : Option (Seat C L)) → slice_get now.seats p ≡ y → slice_get seen.state.seats p ≡ y
-  seat_is p y there = ap (λ (s : State W V C L). slice_get s.seats p) state_is ∙ there
-
-  pub stands : (p : ℕ) (y : Seat C L) → slice_get now.seats p ≡ Some y → StandsFor seen.plain p (seen.span p) (Some y)
-  stands p y there = standing by n seen p y good (seat_is p (Some y) there)
-
-  pub calls : (p : ℕ) (c : C) (l : L) (h : Option Hold) → slice_get now.seats p ≡ Some (Calling c l h)
-      → InCall n p c l h seen.plain seen.state.value seen.state.words (seen.span p)
-  calls p c l h there = in_call by n seen p c l h good (seat_is p (Some (Calling c l h)) there)
 
 -- The row of a call says what its party has there, and which plain steps the call has made
 
@@ -68,11 +34,11 @@ passes_all test (Some row) = test row
 -- if the entries and plain steps of a party pass a test, a row of its call passes it
 module _ {W V C L A : Type 0} {t : Table W V C L A} (n : Notes t) (c : C) (l : L) (h : Option Hold) (p : ℕ) (s : Plain) (span : List Mark) where
   pub row_passes : (test : Row → Bool) → ((row : Row) → entries p s ≡ entries_at p row.stand → own p span ≡ row.made p → test row ≡ true) → (o : Option Row)
-      → KnowsRow n c l h p s span o → passes_some test o ≡ true
+      → KnowsRow n (call_of n c) l h p s span o → passes_some test o ≡ true
   row_passes test is (Some row) knows = is row knows.0.stand knows.0.made
   row_passes test is None knows = absurd knows
 
-  pub row_tells : (test : Entries → Bool) (o : Option Row) → KnowsRow n c l h p s span o → passes_all (λ row. test (entries_at p row.stand)) o ≡ true
+  pub row_tells : (test : Entries → Bool) (o : Option Row) → KnowsRow n (call_of n c) l h p s span o → passes_all (λ row. test (entries_at p row.stand)) o ≡ true
       → test (entries p s) ≡ true
   row_tells test (Some row) knows is = ap test knows.0.stand ∙ is
   row_tells test None knows is = absurd knows
@@ -81,10 +47,41 @@ module _ {W V C L A : Type 0} {t : Table W V C L A} (n : Notes t) (c : C) (l : L
 abbrev pub StandsSo : {W V C L A : Type 0} {t : Table W V C L A} → Notes t → (Entries → Bool) → ℕ → C → L → Option Hold → Type 0
 StandsSo n test p c l h = passes_some (λ row. test (entries_at p row.stand)) (row_of n c l h) ≡ true
 
-module _ {W V C L A B : Type 0} {t : Table W V C L A} (by : Machine W V C L B) (n : Notes t) (f : Plays by n) (parties : ℕ) (past : List (ℕ × Move C V)) where
-  pub calls_so : (test : Entries → Bool) (p : ℕ) (c : C) (l : L) (h : Option Hold)
-      → slice_get (after (played t by) (at_first (played t by) parties) past).seats p ≡ Some (Calling c l h)
-      → test (entries p (seen_after (played t by) (opening (played t by) parties) past).plain) ≡ true → StandsSo n test p c l h
-  calls_so test p c l h there is =
-      row_passes n c l h p _ _ (λ row. test (entries_at p row.stand)) (λ row stand made. ap test (sym stand) ∙ is) _
-      (calls by n f parties past p c l h there).knows
+-- The state after these entries
+
+module _ {W V C L A B : Type 0} {t : Table W V C L A} {by : Machine W V C L B} {n : Notes t} (f : Plays by n) (parties : ℕ) (past : List (ℕ × Move C V)) where
+  abbrev m : Machine W V C L B
+  m = played t by
+
+  abbrev now : State W V C L
+  now = after m (at_first m parties) past
+
+  abbrev pub seen : Seen W V C L
+  seen = seen_after m (opening m parties) past
+
+  pub good : Invariant f seen
+  good = good_after f (opening m parties) past (good_first f parties)
+
+  pub state_is : seen.state ≡ now
+  state_is = state-seen_after m (opening m parties) past
+
+  pub words_are : seen.state.words ≡ now.words
+  words_are = ap (λ (s : State W V C L). s.words) state_is
+
+  pub numbers_are : m.numbers now.words ≡ encoded m.lock_kind seen.plain
+  numbers_are = ap m.numbers (sym words_are) ∙ good.encodes
+
+  pub seat_is : (p : ℕ) (y : Option (Seat C L)) → slice_get now.seats p ≡ y → seat_of seen p ≡ y
+  seat_is p y there = ap (λ (s : State W V C L). slice_get s.seats p) state_is ∙ there
+
+  pub stands : (p : ℕ) {y : Seat C L} → slice_get now.seats p ≡ Some y → StandsFor seen.plain p (seen.span p) (Some y)
+  stands p {y} there = standing f p good (seat_is p (Some y) there)
+
+  pub calls : (p : ℕ) {c : C} {l : L} {h : Option Hold} → slice_get now.seats p ≡ Some (Calling c l h)
+      → InCall n p c l h seen.plain seen.state.words (seen.span p)
+  calls p {c} {l} {h} there = in_call f p good (seat_is p (Some (Calling c l h)) there)
+
+  pub calls_so : (test : Entries → Bool) (p : ℕ) {c : C} {l : L} {h : Option Hold} → slice_get now.seats p ≡ Some (Calling c l h)
+      → test (entries p seen.plain) ≡ true → StandsSo n test p c l h
+  calls_so test p {c} {l} {h} there is =
+      row_passes n c l h p _ _ (λ row. test (entries_at p row.stand)) (λ row stand made. ap test (sym stand) ∙ is) _ (calls p there).knows

@@ -1,11 +1,11 @@
 -- What a party in a call knows of itself and of its span, and how its own steps and those of others keep it.
-use Rattle.spin_world_core.proofs.Names.{◌≡◌, ℕ, suc, ◌+◌, ◌≤◌, ◌⊎◌, ◌==◌, Bool, true, false, not, ◌&&◌, ◌||◌, is_some, Option, Some, None, List, [], ◌∷◌, ◌++◌, option_to_list, nat_lt, if◌then◌else◌, refl, ◌∙◌, arith, inl, inr, ⊎_elim, Plain, Ask, Change, gets, is_open, is_open_to, apply_some, IsOpenStep, entries, is_held, bit, entries-other, Hold, StepKind, is_again, is_look, LockKind, Asked, Said, grant, Mark, AnyOf, FindsClosed, first_word, Limit, within, within_changes, gets_within, changes_within, registers_after, mark_of, own, own_count, failures, changes, EndsWithin, ContinuesWithin, is_due, Way, by_looks, past_looks, way_of, MayTryOn, Act, load, load_if, load_for, attempt, retry, true≢false, Meaning, got, ap, list_any, grants, same_ask, goes_of}
+use Rattle.spin_world_core.proofs.Names.{◌≡◌, ℕ, suc, ◌+◌, ◌≤◌, ◌⊎◌, ◌==◌, Bool, true, false, not, ◌&&◌, ◌||◌, is_some, Option, Some, None, List, [], ◌∷◌, ◌++◌, option_to_list, nat_lt, if◌then◌else◌, refl, ◌∙◌, arith, inl, inr, ⊎_elim, Plain, Ask, Change, gets, is_open, is_open_to, apply_some, IsOpenStep, entries, is_held, bit, entries-other, Hold, StepKind, is_again, is_look, LockKind, Asked, Said, Mark, AnyOf, first_word, Limit, registers_after, mark_of, own, own_count, failures, changes, EndsWithin, ContinuesWithin, is_due, Way, by_looks, past_looks, way_of, MayTryOn, Act, load, load_if, load_for, attempt, retry, true≢false, ap, list_any, goes_of}
 use Rattle.spin_world_core.proofs.Lists.{eqb_self}
 use Rattle.spin_world_core.proofs.Stands.{Stand, entries_at, stand_of}
 use Rattle.spin_world_core.proofs.Spans.{nil_left, own-mine, own-other, own_count-mine, own_count-other, failures-mine, failures-other, changes-mine, changes-other}
 use Rattle.std.proofs.lemmas.Bool.{or_right}
 use Rattle.spin_step.specs.Plain.{is_empty}
-use Rattle.spin_model.specs.Calls.{got_or_starved, means, moment, own_steps, limit}
+use Rattle.spin_model.specs.Calls.{got_or_starved, means, moment, own_steps, limit, FindsClosed, changes_within, gets_within, grant, within, within_changes, Meaning, got, grants, same_ask}
 use Rattle.spin_model.specs.Calls as meaning
 
 -- The count of its steps

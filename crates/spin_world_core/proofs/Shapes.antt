@@ -75,24 +75,27 @@ module _ {W V C L A : Type 0} {t : Table W V C L A} (n : Notes t) where
   abbrev pub row_of : C → L → Option Hold → Option Row
   row_of c l h = row_at (t.asks c h) h (n.point c l h)
 
-  abbrev pub KnowsRow : C → L → Option Hold → ℕ → Plain → List Mark → Option Row → Type 0
-  KnowsRow c l h p s span None = ⊥
-  KnowsRow c l h p s span (Some row) = Known t.lock_kind (t.asks c h) (t.act c l h) row p s span × n.Knows c l h p s span
-
   abbrev pub call_of : C → CallOf W L A
   call_of c = record { asks = λ h. t.asks c h; act = λ l h. t.act c l h; point = λ l h. n.point c l h; Knows = λ l h p s span. n.Knows c l h p s span }
 
+  -- what a party in a call knows, by the row of its point
+  abbrev pub KnowsRow : CallOf W L A → L → Option Hold → ℕ → Plain → List Mark → Option Row → Type 0
+  KnowsRow k l h p s span None = ⊥
+  KnowsRow k l h p s span (Some row) = Known t.lock_kind (k.asks h) (k.act l h) row p s span × k.Knows l h p s span
+
+  abbrev pub Knows : C → L → Option Hold → ℕ → Plain → List Mark → Type 0
+  Knows c l h p s span = KnowsRow (call_of c) l h p s span (row_of c l h)
+
   -- what holds when a party is about to step
-  pub record AtPoint (p : ℕ) (k : CallOf W L A) (l : L) (h : Option Hold) (s : Plain) (w : W) (span : List Mark) (row : Row) : Type 0 where
+  pub record AtPoint (p : ℕ) (k : CallOf W L A) (l : L) (h : Option Hold) (s : Plain) (w : W) (span : List Mark) (o : Option Row) : Type 0 where
     pub encodes : t.memory.numbers w ≡ encoded t.lock_kind s
     pub shape : n.Shape s
     pub exclusive : IsExclusive s
-    pub known : Known t.lock_kind (k.asks h) (k.act l h) row p s span
-    pub knows : k.Knows l h p s span
+    pub knows : KnowsRow k l h p s span o
     pub retries : failures p span ≤ changes t.lock_kind p span
 
-  abbrev pub At : ℕ → C → L → Option Hold → Plain → W → List Mark → Row → Type 0
-  At p c l h s w span row = AtPoint p (call_of c) l h s w span row
+  abbrev pub InCall : ℕ → C → L → Option Hold → Plain → W → List Mark → Type 0
+  InCall p c l h s w span = AtPoint p (call_of c) l h s w span (row_of c l h)
 
   -- What has to be shown
 
@@ -166,7 +169,7 @@ module _ {W V C L A : Type 0} {t : Table W V C L A} (n : Notes t) where
 
   abbrev pub OwesRow : ℕ → CallOf W L A → L → Option Hold → Plain → W → List Mark → Option Row → Type 0
   OwesRow p k l h s w span None = Unit {0}
-  OwesRow p k l h s w span (Some row) = AtPoint p k l h s w span row → Owes p k h s w span row (t.word l) (k.act l h)
+  OwesRow p k l h s w span (Some row) = AtPoint p k l h s w span (Some row) → Owes p k h s w span row (t.word l) (k.act l h)
 
   abbrev pub OwesAt : ℕ → C → L → Option Hold → Plain → W → List Mark → Type 0
   OwesAt p c l h s w span = OwesRow p (call_of c) l h s w span (row_of c l h)
@@ -174,7 +177,7 @@ module _ {W V C L A : Type 0} {t : Table W V C L A} (n : Notes t) where
   -- a call that may wait is answered in so many steps, if what it asks is open and nobody else steps in between
   abbrev pub AnswersRow : ℕ → CallOf W L A → L → Option Hold → Plain → W → List Mark → Bool → Bool → Option Row → Type 0
   AnswersRow p k l h s w span soon true (Some row) =
-      AtPoint p k l h s w span row → (k.asks h).is_open_next (is_empty (row.made p)) (arrived p span) p s ≡ true → soon ≡ true
+      AtPoint p k l h s w span (Some row) → (k.asks h).is_open_next (is_empty (row.made p)) (arrived p span) p s ≡ true → soon ≡ true
   AnswersRow p k l h s w span soon _ _ = Unit {0}
 
   abbrev pub OwesSoon : ℕ → C → L → Option Hold → Plain → W → List Mark → Type 0

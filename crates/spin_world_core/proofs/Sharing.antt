@@ -1,5 +1,8 @@
 -- How many parties share the value, and how many have leaked, when seats change.
-use Rattle.spin_world_core.proofs.Names.{◌≡◌, ◌+◌, Bool, List, [], ◌∷◌, length, map, Vec, refl, ap, sym, ◌∙◌, subst, arith, cond, count_by, length-map, with_items_is, sum_by-cons, with_items, Seat, State, seen_by_owner, let_go, shares, has_leaked}
+use Rattle.spin_world_core.proofs.Names.{◌≡◌, ◌+◌, Bool, List, [], ◌∷◌, length, map, Vec, refl, ap, sym, ◌∙◌, subst, arith, count_by, length-map, with_items_is, sum_by-cons, Seat, State, seen_by_owner, let_go}
+use mathlib.Core.Bool.{cond}
+use Rattle.std.specs.Vec.{with_items}
+use Rattle.spin_world_core.specs.Sharing.{has_leaked, shares}
 
 count_by-cons : {X : Type 0} (f : X → Bool) (x : X) (xs : List X) → count_by f (x ∷ xs) ≡ cond (f x) 1 0 + count_by f xs
 count_by-cons f x xs = sum_by-cons (λ y. cond (f y) 1 0) x xs

@@ -1,8 +1,8 @@
 -- What holds when a party in a call is about to step, what its step then leads to, and what a machine has to add to its table for
 -- that.
-use Rattle.spin_world_core.proofs.Names.{◌≡◌, ℕ, zero, suc, ◌<◌, ◌≤◌, true, false, Option, Some, None, List, [], ◌∷◌, Plain, Ask, Change, completes, is_open, apply_some, IsOpenStep, entries, is_held, IsExclusive, Hold, Seat, Calling, Next, Continue, Answers, Stepped, Move, Step, Weak, StepKind, is_again, by_step, encoded, BelongsTo, Said, own_steps, Mark, AnyOf, Gets, MayTryOn, is_open_now, steps_alone, Machine, placed, HasPhase, Gives, mark_of, if_completed, entries_held, is_writer, own, failures, changes, IsBeginning, RightBy, EndsWithin, ContinuesWithin, tries_of, limit, Stepwise, Table, machine_by, step_by, change_by, refusal_by, LockKind, Asked}
+use Rattle.spin_world_core.proofs.Names.{◌≡◌, ℕ, zero, suc, ◌<◌, true, false, Option, Some, None, List, [], ◌∷◌, Plain, Ask, Change, completes, is_open, apply_some, IsOpenStep, entries, is_held, Hold, Seat, Calling, Next, Continue, Answers, Stepped, Move, Step, Weak, StepKind, is_again, by_step, encoded, BelongsTo, Said, own_steps, Mark, AnyOf, Gets, MayTryOn, is_open_now, steps_alone, Machine, placed, HasPhase, Gives, mark_of, if_completed, entries_held, is_writer, own, failures, changes, IsBeginning, RightBy, EndsWithin, ContinuesWithin, tries_of, limit, Stepwise, Table, machine_by, step_by, change_by, refusal_by, step_kind_by, LockKind, Asked}
 use Rattle.spin_model.specs.StepKinds as step_kind
-use Rattle.spin_world_core.proofs.Shapes.{Notes, row_of, KnowsRow, Pays}
+use Rattle.spin_world_core.proofs.Shapes.{Notes, Knows, Pays}
 
 -- the machine of a table, with the steps of m
 abbrev pub played : {W V C L A B : Type 0} → Table W V C L A → Machine W V C L B → Machine W V C L B
@@ -31,32 +31,30 @@ pub record Ends {C V : Type 0} (kind : LockKind) (what : Asked) (move : Move C V
   pub in_time : EndsWithin (limit kind what) kind p span
 
 module _ {W V C L A : Type 0} {t : Table W V C L A} (n : Notes t) where
-  -- what a party in a call knows
-  abbrev pub Knows : C → L → Option Hold → ℕ → Plain → List Mark → Type 0
-  Knows c l h p s span = KnowsRow n c l h p s span (row_of n c l h)
-
   abbrev pub KnowsAt : Plain → ℕ → List Mark → Option (Seat C L) → Type 0
-  KnowsAt s p span (Some (Calling c l h)) = Knows c l h p s span
+  KnowsAt s p span (Some (Calling c l h)) = Knows n c l h p s span
   KnowsAt s p span _ = Unit {0}
-
-  -- a party in a call that is about to step
-  pub record InCall (p : ℕ) (c : C) (l : L) (h : Option Hold) (s : Plain) (v : Option V) (w : W) (span : List Mark) : Type 0 where
-    pub encodes : t.memory.numbers w ≡ encoded t.lock_kind s
-    pub shape : n.Shape s
-    pub phase : HasPhase t.lock_kind.makes_value s.phase v
-    pub exclusive : IsExclusive s
-    pub knows : Knows c l h p s span
-    pub retries : failures p span ≤ changes t.lock_kind p span
 
   -- how a call continues, by this step of its span
   pub record Continues (p : ℕ) (c : C) (l : L) (h : Option Hold) (s : Plain) (span : List Mark) : Type 0 where
-    pub knows : Knows c l h p s span
+    pub knows : Knows n c l h p s span
     pub own_so_far : (said : Said) × AnyOf (λ steps. IsBeginning (own p span) steps) (own_steps ((t.asks c h).answers said) p)
     pub in_time : ContinuesWithin (limit t.lock_kind (t.asks c h)) t.lock_kind p span
 
   abbrev pub NextIs : Move C V → ℕ → C → Option Hold → Plain → List Mark → Next L Said → Type 0
   NextIs move p c h s span (Continue l) = Continues p c l h s span
   NextIs move p c h s span (Answers said after) = Ends t.lock_kind (t.asks c h) move p s span said after
+
+  -- what a step or a spurious failure shows: it makes this plain step, if any, leaves these words, and continues like this
+  pub record Moves (move : Move C V) (p : ℕ) (c : C) (h : Option Hold) (s : Plain) (span : List Mark)
+      (step : Option Change) (r : StepKind) (w : W) (next : Next L Said) : Type 0 where
+    pub opens : IsOpenStep s p step
+    pub belongs : BelongsTo t.lock_kind step
+    pub encodes : t.memory.numbers w ≡ encoded t.lock_kind (apply_some s step)
+    pub shape : n.Shape (apply_some s step)
+    pub goes_on : NextIs move p c h (apply_some s step) (mark_of p step r s ∷ span) next
+    -- a repeated exchange fails only by another party's change
+    pub fails : is_again r ≡ true → step ≡ None → failures p span < changes t.lock_kind p span
 
 module _ {W V C L B : Type 0} (m : Machine W V C L B) where
   -- from these words, at this point, the call is answered by its k-th step, if no other party steps in between
@@ -77,6 +75,9 @@ module _ {W V C L A B : Type 0} {t : Table W V C L A} (m : Machine W V C L B) (n
     abbrev made : Option Change
     made = change_by t.memory (t.word l) (t.act c l h) p w
 
+    abbrev kind : StepKind
+    kind = by_step (step_kind_by (t.asks c h) (t.act c l h))
+
     -- the value that a step leaves, and what its answer gives
     pub record Values : Type 0 where
       pub tells : told m.says stepped.next ≡ told t.says (step_by {V = V} t.memory (t.word l) (t.act c l h) w).next
@@ -90,22 +91,16 @@ module _ {W V C L A B : Type 0} {t : Table W V C L A} (m : Machine W V C L B) (n
     -- what holds at such a step
     pub record AtStep (span : List Mark) : Type 0 where
       pub can : (played t m).can w c l h ≡ true
-      pub opens : IsOpenStep s p made
-      pub belongs : BelongsTo t.lock_kind made
-      pub encodes : t.memory.numbers stepped.words ≡ encoded t.lock_kind (apply_some s made)
-      pub shape : n.Shape (apply_some s made)
-      pub next : NextIs n Step p c h (apply_some s made) (mark_of p made (by_step ((played t m).step_kind c l h)) s ∷ span) (told m.says stepped.next)
-      -- a repeated exchange fails only by another party's change
-      pub fails : is_again (by_step ((played t m).step_kind c l h)) ≡ true → made ≡ None → failures p span < changes t.lock_kind p span
-      pub counted : ContinuesCounted (λ u. (played t m).change p u c l h) s (told m.says stepped.next) made (by_step ((played t m).step_kind c l h))
+      pub steps : Moves n Step p c h s span made kind stepped.words (told m.says stepped.next)
+      pub counted : ContinuesCounted (λ u. (played t m).change p u c l h) s (told m.says stepped.next) made kind
       -- a call whose next step is due gets what it tries for, if that is open
-      pub due : Gets t.lock_kind p (t.asks c h) span s made (by_step ((played t m).step_kind c l h))
+      pub due : Gets t.lock_kind p (t.asks c h) span s made kind
       -- a try continues only if it may
       pub tries_on : (ask : Ask) → tries_of (t.asks c h) ≡ Some ask → own p span ≡ [] → GoesOnOpen ask p span s (told m.says stepped.next) made
       -- if what a call that may wait asks is open, it is answered in so many steps, if no other party steps in between
       pub undisturbed : is_open_now p (t.asks c h) span s ≡ true → AnswersWithin (played t m) (steps_alone (t.asks c h)) w c l h
       -- a weak exchange that fails makes no plain step; only a call that may be weak makes one, before its first plain step
-      pub refuses : (next : Next L B) → m.refuse c l h ≡ Some next → NextIs n Weak p c h s (mark_of p None step_kind.weak s ∷ span) (told m.says next)
+      pub refuses : (next : Next L B) → m.refuse c l h ≡ Some next → Moves n Weak p c h s span None step_kind.weak w (told m.says next)
       pub weakly : (next : Next L B) → m.refuse c l h ≡ Some next → ((t.asks c h).is_weak ≡ true) × (own p span ≡ (t.asks c h).before_weakly p)
       pub values : Values
 

@@ -1,9 +1,10 @@
 -- A transcript tells the scenes, and a place tells what its party's moves and entries say.
-use Rattle.spin_world_core.proofs.Names.{eq-eqb, ne_eqb, ◌≡◌, ℕ, ◌<◌, ◌≤◌, ◌==◌, Bool, Option, Some, None, List, [], ◌∷◌, ◌++◌, length, map, slice_get, slice_set, if◌then◌else◌, refl, ap, sym, ◌∙◌, subst, arith, option_map, length-replicate, slice_get-map, slice_get_within, slice_get_cases, Plain, Hold, Place, Seat, Idle, Calling, Holding, Leaked, Gone, Next, Continue, Answers, Move, Step, Weak, Outcome, Event, Mark, Machine, opening_plain, State, happens, goes_on, resting, seen_by_owner, events_of, with_begins, Seen, Scene, scene, scene_of, Every, Keeps, KeepsAll, StandsFor, opening, seen_after, scenes, without_begin, EachTells, TellsAfterAnyPast, Stage, at_rest, in_call, is_gone, stage_by_own, stage_by_owner, let_go_stage, stage_after, StandsAt, PlaceSays, SaysAfterAnyPast}
+use Rattle.spin_world_core.proofs.Names.{seat_of, eq-eqb, ne_eqb, ◌≡◌, ℕ, ◌<◌, ◌≤◌, ◌==◌, Bool, Option, Some, None, List, [], ◌∷◌, ◌++◌, length, map, slice_get, slice_set, if◌then◌else◌, refl, ap, sym, ◌∙◌, subst, arith, option_map, length-replicate, slice_get-map, slice_get_within, slice_get_cases, Plain, Hold, Seat, Idle, Calling, Holding, Leaked, Gone, Next, Continue, Answers, Move, Step, Weak, Outcome, Event, Mark, Machine, opening_plain, State, happens, goes_on, resting, seen_by_owner, events_of, with_begins, Seen, Scene, scene, scene_of, Every, Keeps, KeepsAll, StandsFor, opening, seen_after, scenes, EachTells, TellsAfterAnyPast}
+use Rattle.spin_model.specs.declared.place.Place.{Place}
 use Rattle.spin_model.specs.declared.schedule.Outcome.TheVariants as outcome
 use Rattle.spin_model.specs.StepKinds as step_kind
 use Rattle.spin_model.specs.Schedules.{place_of}
-use Rattle.spin_world_core.specs.Transcripts.{has_leaked}
+use Rattle.spin_world_core.specs.Transcripts.{has_leaked, PlaceSays, SaysAfterAnyPast, Stage, StandsAt, at_rest, in_call, is_gone, let_go_stage, stage_after, stage_by_own, stage_by_owner, without_begin}
 use Rattle.spin_world_core.proofs.Lists.{get-set, get-replicate}
 use Rattle.spin_world_core.proofs.Events.{of_event}
 use Rattle.spin_world_core.proofs.Every.{state-seen_after}
@@ -74,27 +75,27 @@ module _ {W V C L A : Type 0} (m : Machine W V C L A) where
   -- an event brings every party p to the stage of its seat
   abbrev Brings : ℕ → Scene W V C L A → Type 0
   Brings p sc =
-      let before = stage_of (slice_get sc.before.state.seats p) in
-      stage_of (slice_get sc.after.state.seats p) ≡ stage_by_owner sc.outcome sc.move (if sc.party == p then stage_by_own sc.outcome before else before)
+      let before = stage_of (seat_of sc.before p) in
+      stage_of (seat_of sc.after p) ≡ stage_by_owner sc.outcome sc.move (if sc.party == p then stage_by_own sc.outcome before else before)
 
   module _ (seen : Seen W V C L) (p q : ℕ) where
     abbrev stage_now : Stage
-    stage_now = stage_of (slice_get seen.state.seats p)
+    stage_now = stage_of (seat_of seen p)
 
     stays : stage_now ≡ (if q == p then stage_now else stage_now)
     stays = grind arith
 
     -- the party q takes the seat x
-    moved : (x y : Seat C L) (o : Outcome A V) → slice_get seen.state.seats q ≡ Some y → stage_of (Some x) ≡ stage_by_own o (stage_of (Some y))
+    moved : (x y : Seat C L) (o : Outcome A V) → seat_of seen q ≡ Some y → stage_of (Some x) ≡ stage_by_own o (stage_of (Some y))
         → stage_of (slice_get (slice_set seen.state.seats q x) p) ≡ (if q == p then stage_by_own o stage_now else stage_now)
     moved x y o there is =
         get-set (λ z. stage_of z ≡ (if q == p then stage_by_own o stage_now else stage_now)) seen.state.seats q p x (slice_get_within seen.state.seats q y there)
-        (λ e. rw (eq-eqb q p e) (is ∙ ap (λ z. stage_by_own o (stage_of z)) (sym there ∙ ap (slice_get seen.state.seats) e))) (λ ne. rw (ne_eqb q p ne) refl)
+        (λ e. rw (eq-eqb q p e) (is ∙ ap (λ z. stage_by_own o (stage_of z)) (sym there ∙ ap (seat_of seen) e))) (λ ne. rw (ne_eqb q p ne) refl)
 
     went_on : (move : Move C V) (c : C) (l : L) (h : Option Hold) (w : W) (v : Option V) (next : Next L A)
         → ((stage : Stage) → stage_by_owner {A = A} outcome.GoingOn move stage ≡ stage)
         → ((a : A) (stage : Stage) → stage_by_owner (outcome.Answered a None) move stage ≡ stage)
-        → slice_get seen.state.seats q ≡ Some (Calling c l h)
+        → seat_of seen q ≡ Some (Calling c l h)
         → Brings p (scene_of seen q move (Some (Calling c l h)) (goes_on (record seen.state { words = w; value = v }) q c h next) None step_kind.plain None)
     went_on move c l h w v (Continue k) goes answers there = moved (Calling c k h) (Calling c l h) outcome.GoingOn there refl ∙ sym (goes _)
     went_on move c l h w v (Answers a rest) goes answers there =
@@ -117,7 +118,7 @@ module _ {W V C L A : Type 0} (m : Machine W V C L A) where
         move
 
   stage-seen_after : (seen : Seen W V C L) (p : ℕ) (es : List (ℕ × Move C V))
-      → stage_of (slice_get (seen_after m seen es).state.seats p) ≡ stage_after p (stage_of (slice_get seen.state.seats p)) (scenes m seen es)
+      → stage_of (seat_of (seen_after m seen es) p) ≡ stage_after p (stage_of (seat_of seen p)) (scenes m seen es)
   stage-seen_after seen p [] = refl
   stage-seen_after seen p (e ∷ es) =
       stage-seen_after (scene m seen e.0 e.1).after p es ∙ ap (λ stage. stage_after p stage (scenes m (scene m seen e.0 e.1).after es)) (brought seen p e.0 e.1)
@@ -128,22 +129,22 @@ module _ {W V C L A : Type 0} (m : Machine W V C L A) where
 
   -- what every place implies, after any schedule
   stand_after : (seen : Seen W V C L) (es : List (ℕ × Move C V)) → Every (Keeps m) m seen es
-      → ((q : ℕ) → StandsFor seen.plain q (seen.span q) (slice_get seen.state.seats q))
-      → (q : ℕ) → StandsFor (seen_after m seen es).plain q ((seen_after m seen es).span q) (slice_get (seen_after m seen es).state.seats q)
+      → ((q : ℕ) → StandsFor seen.plain q (seen.span q) (seat_of seen q))
+      → (q : ℕ) → StandsFor (seen_after m seen es).plain q ((seen_after m seen es).span q) (seat_of (seen_after m seen es) q)
   stand_after seen [] all stand = stand
   stand_after seen (e ∷ es) all stand = stand_after (scene m seen e.0 e.1).after es all.1 all.0.places
 
   says_seen : (p n : ℕ) (past : List (ℕ × Move C V)) → KeepsAll m n past
       → let seen = seen_after m (opening m n) past in PlaceSays (stage_after p at_rest (scenes m (opening m n) past)) n seen.plain p (seen.span p)
-      (option_map place_of (slice_get seen.state.seats p))
+      (option_map place_of (seat_of seen p))
   says_seen p n past keeps =
       let seen = seen_after m (opening m n) past in
       let stage = stage-seen_after (opening m n) p past ∙ ap (λ st. stage_after p st (scenes m (opening m n) past))
       (get-replicate (λ (o : Option (Seat C L)). stage_of o ≡ at_rest) Idle n p refl refl) in
       let count = length-seen_after (opening m n) past ∙ length-replicate n Idle in
       let stands = stand_after (opening m n) past keeps.each (λ q. get-replicate (StandsFor {C = C} {L = L} (opening_plain m) q []) Idle n q refl refl) p in
-      subst (λ st. PlaceSays st n seen.plain p (seen.span p) (option_map place_of (slice_get seen.state.seats p))) stage
-      (says_at n p seen.plain (seen.span p) (slice_get seen.state.seats p) (λ e. grind (arith, count, slice_get_cases))
+      subst (λ st. PlaceSays st n seen.plain p (seen.span p) (option_map place_of (seat_of seen p))) stage
+      (says_at n p seen.plain (seen.span p) (seat_of seen p) (λ e. grind (arith, count, slice_get_cases))
       (λ x e. omega (arith, count, slice_get_within seen.state.seats p x e)) stands)
 
   pub says_after : (s : State W V C L) (p : ℕ) → ((n : ℕ) (past : List (ℕ × Move C V)) → KeepsAll m n past) → (told : Option Place)

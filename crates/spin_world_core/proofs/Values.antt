@@ -1,5 +1,5 @@
 -- Every event keeps what is promised of values that closures make.
-use Rattle.spin_world_core.proofs.Names.{arith, ◌≡◌, ℕ, Option, Some, List, slice_get, refl, ◌∙◌, Change, completes, Hold, Seat, Calling, Next, Answers, Move, Step, Weak, Machine, State, goes_on, refuses, placed, Seen, Scene, scene_at, scene, opening, Brings, GivesAt, KeepsValue, ValuesAll, Table}
+use Rattle.spin_world_core.proofs.Names.{seat_of, arith, ◌≡◌, ℕ, Option, Some, List, refl, ◌∙◌, Change, completes, Hold, Seat, Calling, Next, Answers, Move, Step, Weak, Machine, State, goes_on, refuses, placed, Seen, Scene, scene_at, scene, opening, Brings, GivesAt, KeepsValue, ValuesAll, Table}
 use Rattle.spin_world_core.proofs.Steps.{played, NextGives, Plays}
 use Rattle.spin_world_core.proofs.Paid.{at_step}
 use Rattle.spin_world_core.proofs.Shapes.{Notes}
@@ -22,21 +22,21 @@ module _ {W V C L A : Type 0} (m : Machine W V C L A) where
   brings-by : (c : C) (l : L) (h : Option Hold) (step : Option Change) (value : Option V) → ((q : ℕ) → step ≡ Some (completes q) → value ≡ m.brings c) → Brings m step (Some (Calling c l h)) value
   brings-by c l h step value brings = grind (arith, brings)
 
-module _ {W V C L A B : Type 0} {t : Table W V C L A} (by : Machine W V C L B) (n : Notes t) (f : Plays by n) where
+module _ {W V C L A B : Type 0} {t : Table W V C L A} {by : Machine W V C L B} {n : Notes t} (f : Plays by n) where
   abbrev m : Machine W V C L B
   m = played t by
 
   -- an event that is no step of a call
-  still : (s : Scene W V C L B) → Invariant by n s.after → Brings m s.change s.seat s.after.state.value → GivesAt m s.move s.outcome s.after.state.value
+  still : (s : Scene W V C L B) → Invariant f s.after → Brings m s.change s.seat s.after.state.value → GivesAt m s.move s.outcome s.after.state.value
       → KeepsValue m s
   still s after brings gives = record { phase = after.phase; brings = brings; gives = gives }
 
-  keeps_at : (seen : Seen W V C L) (p : ℕ) (move : Move C V) (o : Option (Seat C L)) → Invariant by n seen → slice_get seen.state.seats p ≡ o
-      → Invariant by n (scene_at m seen p move o).after → KeepsValue m (scene_at m seen p move o)
+  keeps_at : (seen : Seen W V C L) (p : ℕ) (move : Move C V) (o : Option (Seat C L)) → Invariant f seen → seat_of seen p ≡ o
+      → Invariant f (scene_at m seen p move o).after → KeepsValue m (scene_at m seen p move o)
   keeps_at seen p Step (Some (Calling c l h)) good there after =
       let st = m.step seen.state.words seen.state.value c l h in
       let now : State W V C L = record seen.state { words = st.words; value = placed st.placed seen.state.value } in
-      let is = (at_step by n f p c l h _ _ _ _ (in_call by n seen p c l h good there)).values in
+      let is = (at_step f _ (in_call f p good there) good.phase).values in
       still _ after (brings-by m c l h (m.change p seen.state.words c l h) _ (λ q e. value-goes_on m now p c h st.next ∙ is.brings q e))
       (gives-step m now p c h st.next is.gives)
   keeps_at seen p Weak (Some (Calling c l h)) good there after =
@@ -44,10 +44,10 @@ module _ {W V C L A B : Type 0} {t : Table W V C L A} (by : Machine W V C L B) (
   keeps_at seen p _ _ good there after = still _ after tt tt
 
   -- one event
-  pub keeps_value : (seen : Seen W V C L) (p : ℕ) (move : Move C V) → Invariant by n seen → KeepsValue m (scene m seen p move)
-  keeps_value seen p move good = keeps_at seen p move (slice_get seen.state.seats p) good refl (kept by n f seen p move good).good
+  pub keeps_value : (seen : Seen W V C L) (p : ℕ) (move : Move C V) → Invariant f seen → KeepsValue m (scene m seen p move)
+  keeps_value seen p move good = keeps_at seen p move (seat_of seen p) good refl (kept f seen p move good).good
 
   pub values_of : (parties : ℕ) (es : List (ℕ × Move C V)) → ValuesAll m parties es
   values_of parties es =
-      let first = good_first by n f parties in
-      record { first = first.phase; each = every by n f (KeepsValue m) keeps_value (opening m parties) es first }
+      let first = good_first f parties in
+      record { first = first.phase; each = every f (KeepsValue m) keeps_value (opening m parties) es first }

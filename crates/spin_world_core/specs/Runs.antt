@@ -30,6 +30,9 @@ pub record Seen (W V C L : Type 0) : Type 0 where
   pub span : ℕ → List Mark
   pub written : Option V
 
+abbrev pub seat_of : {W V C L : Type 0} → Seen W V C L → ℕ → Option (Seat C L)
+seat_of seen p = slice_get seen.state.seats p
+
 -- one event: its party's seat, its plain step, and what was before it and is after it
 pub record Scene (W V C L A : Type 0) : Type 0 where
   pub before : Seen W V C L
@@ -99,7 +102,7 @@ abbrev pub scene_at : {W V C L A : Type 0} → Machine W V C L A → Seen W V C 
 scene_at m seen p move seat = scene_of seen p move seat (moves_at m seen.state p move seat) (step_at m seen.state p move seat) (step_kind_at m move seat) (placed_at m seen.state move seat)
 
 abbrev pub scene : {W V C L A : Type 0} → Machine W V C L A → Seen W V C L → ℕ → Move C V → Scene W V C L A
-scene m seen p move = scene_at m seen p move (slice_get seen.state.seats p)
+scene m seen p move = scene_at m seen p move (seat_of seen p)
 
 -- it holds of each event of a schedule
 abbrev pub Every : {W V C L A : Type 0} → (Scene W V C L A → Type 0) → Machine W V C L A → Seen W V C L → List (ℕ × Move C V) → Type 0
@@ -173,7 +176,7 @@ YieldsToOwner s p (Some (Leaked h)) = Unit {0}
 YieldsToOwner s p (Some (Gone h)) = Unit {0}
 
 abbrev pub IsOwners : {W V C L : Type 0} → Seen W V C L → Type 0
-IsOwners seen = (q : ℕ) → YieldsToOwner seen.plain q (slice_get seen.state.seats q)
+IsOwners seen = (q : ℕ) → YieldsToOwner seen.plain q (seat_of seen q)
 
 abbrev pub MayTouch : {W V C L A : Type 0} → Seen W V C L → ℕ → Outcome A V → Move C V → Type 0
 MayTouch seen p (outcome.Value r) Read = is_reader (entries p seen.plain) ≡ true
@@ -275,7 +278,7 @@ InItsCall _ move before after = Unit {0}
 -- another party that is in a call stays at its point of the call
 abbrev pub LeavesCalls : {W V C L : Type 0} → ℕ → Seen W V C L → Seen W V C L → Type 0
 LeavesCalls {C = C} {L = L} p before after =
-    (q : ℕ) (c : C) (l : L) (h : Option Hold) → (p ≡ q → ⊥) → slice_get before.state.seats q ≡ Some (Calling c l h) → slice_get after.state.seats q ≡ Some (Calling c l h)
+    (q : ℕ) (c : C) (l : L) (h : Option Hold) → (p ≡ q → ⊥) → seat_of before q ≡ Some (Calling c l h) → seat_of after q ≡ Some (Calling c l h)
 
 -- What is promised of an event
 
@@ -287,7 +290,7 @@ pub record Keeps {W V C L A : Type 0} (m : Machine W V C L A) (s : Scene W V C L
   -- the words after it are the encoding
   pub encodes : m.numbers s.after.state.words ≡ encoded m.lock_kind s.after.plain
   -- every party's entries are those that its seat implies
-  pub places : (q : ℕ) → StandsFor s.after.plain q (s.after.span q) (slice_get s.after.state.seats q)
+  pub places : (q : ℕ) → StandsFor s.after.plain q (s.after.span q) (seat_of s.after q)
   -- a writer is the only holder, and at most one ticket has entered
   pub exclusive : IsExclusive s.after.plain
   -- and no lock has both holders and tickets
@@ -315,7 +318,7 @@ pub record Keeps {W V C L A : Type 0} (m : Machine W V C L A) (s : Scene W V C L
   -- leak. Once it is gone it makes none.
   pub in_place : (s.outcome ≡ outcome.Skipped → ⊥) → is_in_place m.owned s.move s.seat ≡ true
   -- a party stays in its call until that is answered, and no other party's move changes its point
-  pub in_call : InItsCall s.outcome s.move s.seat (slice_get s.after.state.seats s.party)
+  pub in_call : InItsCall s.outcome s.move s.seat (seat_of s.after s.party)
   pub calls : LeavesCalls s.party s.before s.after
 
 -- An answer is right at some moment of the call. Only a weak try may fail spuriously, by its weak exchange.

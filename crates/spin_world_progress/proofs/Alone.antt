@@ -1,6 +1,6 @@
 -- A call whose ask is open is answered in so many rounds, or another party changes a word.
-use Rattle.spin_world_progress.proofs.Names.{◌≡◌, ℕ, ◌+◌, ◌-◌, ◌<◌, ◌≤◌, ◌⊎◌, ◌==◌, ◌&&◌, ◌||◌, Bool, true, false, not, Option, Some, None, List, [], ◌∷◌, ◌++◌, length, slice_get, if◌then◌else◌, refl, ap, sym, ◌∙◌, subst, arith, inl, inr, ⊎_elim, cases_eq, cases_lt, eqb-true, ne_eqb, false≢true, and_from, Plain, Change, Hold, Seat, Calling, Next, Continue, Answers, Move, Step, Weak, Outcome, Mark, encoded, joined, Machine, Seen, Scene, Every, Keeps, IsInTime, mark_of, scene, scene_at, scene_of, opening, State, happens, after, at_first, goes_on, seen_after, eqb_self, get-set_same, of_event, state-seen_after, Test, occurs, MovesOn, AreRounds, is_step, placed_at, OwnerSet, owner_writes}
-use Rattle.spin_world_core.proofs.Names.{StepKind, by_step, AllOf, Leaves, UndisturbedTakes, is_open_now, steps_alone, Lawful}
+use Rattle.spin_world_progress.proofs.Names.{seat_of, ◌≡◌, ℕ, ◌+◌, ◌-◌, ◌<◌, ◌≤◌, ◌⊎◌, ◌==◌, ◌&&◌, ◌||◌, Bool, true, false, not, Option, Some, None, List, [], ◌∷◌, ◌++◌, length, slice_get, if◌then◌else◌, refl, ap, sym, ◌∙◌, subst, arith, inl, inr, ⊎_elim, cases_eq, cases_lt, eqb-true, ne_eqb, false≢true, Plain, Change, Hold, Seat, Calling, Next, Continue, Answers, Move, Step, Weak, Outcome, Mark, joined, Machine, Seen, Scene, scene, scene_at, opening, State, happens, after, at_first, goes_on, seen_after, eqb_self, get-set_same, of_event, state-seen_after, Test, occurs, MovesOn, AreRounds, is_step, placed_at, owner_writes}
+use Rattle.spin_world_core.proofs.Names.{StepKind, by_step, AllOf, Leaves, UndisturbedTakes, is_open_now, steps_alone, Lawful, Every, IsInTime, Keeps, OwnerSet, and_from, encoded, mark_of, scene_of}
 use Rattle.spin_world_core.specs.Spans.{own_count}
 use Rattle.spin_world_progress.specs.Alone.{same_numbers, disturbs, ends_or_fails, AnsweredOrDisturbed}
 use Rattle.spin_world_progress.proofs.Progress.{calls_not, same_beside, holds_not, no_owner, or_left, or_right, occurs-append}
@@ -66,7 +66,7 @@ module _ {W V C L A : Type 0} (m : Machine W V C L A) (p : ℕ) (c : C) (h : Opt
     -- since then the call continues, and nobody has disturbed it
     record Quiet (seen : Seen W V C L) (taken : ℕ) : Type 0 where
       point : L
-      at : slice_get seen.state.seats p ≡ Some (Calling c point h)
+      at : seat_of seen p ≡ Some (Calling c point h)
       marks : Marks seen.plain (seen.span p) taken
       few : taken ≤ most - 1
       encodes : m.numbers seen.state.words ≡ encoded m.lock_kind seen.plain
@@ -76,7 +76,7 @@ module _ {W V C L A : Type 0} (m : Machine W V C L A) (p : ℕ) (c : C) (h : Opt
       now r o = if (r == p) && is_step o then taken + 1 else taken
 
       abbrev Comes : Scene W V C L A → Type 0
-      Comes sc = (stop sc.party sc.move sc.outcome (slice_get sc.after.state.seats sc.party) ≡ true) ⊎ ((disturbs_at sc.party seen.state sc.after.state ≡ true) ⊎ Quiet sc.after (now sc.party sc.outcome))
+      Comes sc = (stop sc.party sc.move sc.outcome (seat_of sc.after sc.party) ≡ true) ⊎ ((disturbs_at sc.party seen.state sc.after.state ≡ true) ⊎ Quiet sc.after (now sc.party sc.outcome))
 
       module _ (r : ℕ) (ne : r ≡ p → ⊥) where
         -- what another party's event does not change, and its mark
@@ -181,7 +181,7 @@ module _ {W V C L A : Type 0} (m : Machine W V C L A) (p : ℕ) (c : C) (h : Opt
         let sc = scene m seen e.0 e.1 in
         let b = (e.0 == p) && is_step sc.outcome in
         let done = if b then taken + 1 else taken in
-        ⊎_elim (λ (stops : stop e.0 e.1 sc.outcome (slice_get sc.after.state.seats e.0) ≡ true). inl (inl (or_left _ _ stops)))
+        ⊎_elim (λ (stops : stop e.0 e.1 sc.outcome (seat_of sc.after e.0) ≡ true). inl (inl (or_left _ _ stops)))
         (λ (others : (disturbs_at e.0 seen.state sc.after.state ≡ true) ⊎ Quiet sc.after done).
         ⊎_elim (λ (d : disturbs_at e.0 seen.state sc.after.state ≡ true). inl (inr (or_left _ _ d)))
         (λ (next : Quiet sc.after done).

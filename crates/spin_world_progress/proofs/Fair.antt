@@ -1,9 +1,9 @@
 -- While a starver waits, a fair lock is granted within five rounds. Its holder leaves within two. The starver takes
 -- three: it finds the flag clear, sets it, and stops starving. A party that sets the flag before it is granted the lock
 -- by its next step.
-use Rattle.spin_world_progress.proofs.Names.{cases_eq, Next, suc, Bool, entries, entries-other, empty_is, if◌then◌else◌, ◌-◌, resting, ◌≡◌, ℕ, ◌==◌, true, false, Option, Some, None, List, [], ◌∷◌, length, refl, ap, ◌∙◌, arith, not, ◌≤◌, ◌⊎◌, inl, inr, ⊎_elim, Plain, Kind, writing, Holder, is_empty, is_holder, is_starver, without_holder, holder, IsOpenStep, is_set, Hold, filter, slice_get, subst, Answer, Seat, Calling, Holding, Move, Step, Machine, after, at_first, get-set_same, Seen, Scene, scene_at, opening, seen_after, eqb_self, Notes, Plays, Invariant, in_call, row_tells, calls_so, StandsSo, fair_table, fair_machine}
-use Rattle.spin_world.proofs.FairNames.{fair, fair_is_locked-tells, Write, Starver, FairCall, Lock, StarverLock, Release, FairPoint, First, SetFlag, Await, Unregister, asks_of}
-use Rattle.spin_world.proofs.FairOwed.{fair_notes, fair_keeping, fair_facts}
+use Rattle.spin_world_progress.proofs.Names.{seat_of, cases_eq, Next, suc, Bool, entries, entries-other, empty_is, if◌then◌else◌, ◌-◌, resting, ◌≡◌, ℕ, ◌==◌, true, false, Option, Some, None, List, [], ◌∷◌, length, refl, ap, ◌∙◌, arith, not, ◌≤◌, ◌⊎◌, inl, inr, ⊎_elim, Plain, Kind, writing, Holder, is_empty, is_holder, is_starver, without_holder, holder, IsOpenStep, Hold, filter, subst, Answer, Seat, Calling, Holding, Move, Step, Machine, after, at_first, get-set_same, Seen, Scene, scene_at, opening, seen_after, eqb_self, Plays, Invariant, in_call, row_tells, calls_so, StandsSo, fair_machine}
+use Rattle.spin_world.proofs.FairNames.{fair, fair_is_locked-tells, Write, Starver, FairCall, Lock, StarverLock, Release, FairPoint, First, SetFlag, Await, Unregister, asks_of, is_set}
+use Rattle.spin_world.proofs.FairOwed.{fair_notes, fair_facts}
 use Rattle.spin_world_progress.specs.Fair.{grants_lock, LocksInFive, StarversAreDeadlockFree}
 use Rattle.spin_world_progress.proofs.Endless.{at_last}
 use Rattle.spin_world_progress.proofs.Progress.{holds_lock, is_busy}
@@ -70,10 +70,7 @@ module _ {V : Type 0} (v : V) (cap patience : ℕ) where
   abbrev m : Machine ℕ V FairCall FairPoint (Answer V)
   m = fair_machine v cap patience
 
-  abbrev k : Notes (fair_table v cap patience)
-  k = fair_keeping v cap patience
-
-  abbrev f : Plays m k
+  abbrev f : Plays m (fair_notes v cap patience)
   f = fair_facts v cap patience
 
   abbrev World : Type 0
@@ -89,7 +86,7 @@ module _ {V : Type 0} (v : V) (cap patience : ℕ) where
     abbrev sc : World → ℕ → FairCall → FairPoint → Option Hold → Scene ℕ V FairCall FairPoint (Answer V)
     sc seen q d i j = scene_at m seen q Step (Some (Calling d i j))
 
-    module _ (seen : World) (good : Invariant m k seen) (l : FairPoint) where
+    module _ (seen : World) (good : Invariant f seen) (l : FairPoint) where
       abbrev s : Plain
       s = seen.plain
 
@@ -97,28 +94,28 @@ module _ {V : Type 0} (v : V) (cap patience : ℕ) where
       flag : is_set seen.state.words ≡ not (is_empty s.holders)
       flag = grind (arith, fair_is_locked-tells s seen.state.words good.shape.one good.shape.queue (cc (good.encodes)), good.shape.queue)
 
-      his_sits : (q : ℕ) → holds_lock (entries q s) ≡ true → Sits q (slice_get seen.state.seats q)
+      his_sits : (q : ℕ) → holds_lock (entries q s) ≡ true → Sits q (seat_of seen q)
       his_sits q found = walk.sits_so (fair_notes v cap patience) holds_lock seen good q found
 
-      others_same : (q o : ℕ) (d : FairCall) (i : FairPoint) (j : Option Hold) → IsOpenStep s q (sc seen q d i j).change → (q ≡ o → ⊥) → theirs_by (holds_lock (entries o (sc seen q d i j).after.plain)) (slice_get seen.state.seats o) ≤ theirs_by (holds_lock (entries o s)) (slice_get seen.state.seats o)
-      others_same q o d i j opens ne = omega (arith, ap (λ e. theirs_by (holds_lock e) (slice_get seen.state.seats o)) (entries-other s q o (sc seen q d i j).change ne opens))
+      others_same : (q o : ℕ) (d : FairCall) (i : FairPoint) (j : Option Hold) → IsOpenStep s q (sc seen q d i j).change → (q ≡ o → ⊥) → theirs_by (holds_lock (entries o (sc seen q d i j).after.plain)) (seat_of seen o) ≤ theirs_by (holds_lock (entries o s)) (seat_of seen o)
+      others_same q o d i j opens ne = omega (arith, ap (λ e. theirs_by (holds_lock e) (seat_of seen o)) (entries-other s q o (sc seen q d i j).change ne opens))
 
       -- its own step
-      module _ (there : slice_get seen.state.seats p ≡ Some (Calling c l h)) where
+      module _ (there : seat_of seen p ≡ Some (Calling c l h)) where
         abbrev y : Scene ℕ V FairCall FairPoint (Answer V)
         y = sc seen p c l h
 
-        granted : l ≡ Unregister → walk.Reaches m k f x y
+        granted : l ≡ Unregister → walk.Reaches f x y
         granted is = grind (arith, is, get-set_same seen.state.seats p (Holding Write) _ there)
 
         goes_clear : its_point l → (l ≡ Unregister → ⊥) → s.holders ≡ [] → is_set seen.state.words ≡ false
-            → ((slice_get y.after.state.seats p ≡ Some (Calling c Unregister h)) × (is_empty y.after.plain.holders ≡ false) × (l ≡ SetFlag)) ⊎ ((slice_get y.after.state.seats p ≡ Some (Calling c SetFlag h)) × (is_empty y.after.plain.holders ≡ true) × (l ≡ Await))
+            → ((seat_of y.after p ≡ Some (Calling c Unregister h)) × (is_empty y.after.plain.holders ≡ false) × (l ≡ SetFlag)) ⊎ ((seat_of y.after p ≡ Some (Calling c SetFlag h)) × (is_empty y.after.plain.holders ≡ true) × (l ≡ Await))
         goes_clear at ne none clear = grind (arith, at, ne, none, clear, get-set_same seen.state.seats p (Calling c Unregister h) _ there, get-set_same seen.state.seats p (Calling c SetFlag h) _ there)
 
-        goes_set : its_point l → (l ≡ Unregister → ⊥) → is_set seen.state.words ≡ true → (slice_get y.after.state.seats p ≡ Some (Calling c Await h)) × (y.after.plain ≡ s)
+        goes_set : its_point l → (l ≡ Unregister → ⊥) → is_set seen.state.words ≡ true → (seat_of y.after p ≡ Some (Calling c Await h)) × (y.after.plain ≡ s)
         goes_set at ne set = grind (arith, waits, at, ne, set, get-set_same seen.state.seats p (Calling c Await h) _ there)
 
-        own : (n : ℕ) → walk.Within m k f x seen l (suc n) → IsOpenStep s p y.change → its_point l → (l ≡ Unregister → ⊥) → (b : Bool) → is_empty s.holders ≡ b → walk.Own m k f x seen l n y
+        own : (n : ℕ) → walk.Within f x seen l (suc n) → IsOpenStep s p y.change → its_point l → (l ≡ Unregister → ⊥) → (b : Bool) → is_empty s.holders ≡ b → walk.Own f x seen l n y
         own n within opens at ne true is =
             ⊎_elim
             (λ on. inr (Unregister, on.0, tt, rw on.1 (grind (arith, within.mine, is, on.2)), λ o other not_its. omega (arith, others_same p o c l h opens not_its)))
@@ -126,39 +123,39 @@ module _ {V : Type 0} (v : V) (cap patience : ℕ) where
             (goes_clear at ne (empty_is s.holders is) (flag ∙ ap not is))
         own n within opens at ne false is = let on = goes_set at ne (flag ∙ ap not is) in inr (Await, on.0, tt, rw (on.1, is) (omega arith), λ o other not_its. omega (arith, others_same p o c l h opens not_its))
 
-        own_by : (n : ℕ) → walk.Within m k f x seen l (suc n) → IsOpenStep s p y.change → its_point l → walk.Own m k f x seen l n y
+        own_by : (n : ℕ) → walk.Within f x seen l (suc n) → IsOpenStep s p y.change → its_point l → walk.Own f x seen l n y
         own_by n within opens at = ⊎_elim (λ (is : l ≡ Unregister). inl (granted is)) (λ (ne : l ≡ Unregister → ⊥). own n within opens at ne (is_empty s.holders) refl) (point_cases l)
 
-      some_starve : slice_get seen.state.seats p ≡ Some (Calling c l h) → its_point l → is_empty s.starvers ≡ false
+      some_starve : seat_of seen p ≡ Some (Calling c l h) → its_point l → is_empty s.starvers ≡ false
       some_starve there at =
-          own_some p s.starvers (row_tells (fair_notes v cap patience) c l h p s (seen.span p) (λ e. not (is_empty e.starvers)) _ (in_call m k seen p c l h good there).knows (grind (arith, waits, at)))
+          own_some p s.starvers (row_tells (fair_notes v cap patience) c l h p s (seen.span p) (λ e. not (is_empty e.starvers)) _ (in_call f p good there).knows (grind (arith, waits, at)))
 
       -- another party's step, which may set a clear flag
-      takes_clear : (q : ℕ) (d : FairCall) (i : FairPoint) (j : Option Hold) → s.holders ≡ [] → is_set seen.state.words ≡ false → is_empty s.starvers ≡ false → slice_get seen.state.seats q ≡ Some (Calling d i j) → let y = sc seen q d i j in IsOpenStep s q y.change
-          → (y.after.plain.holders ≡ []) ⊎ ((y.after.plain.holders ≡ holder q writing ∷ []) × (slice_get y.after.state.seats q ≡ Some (Calling d Unregister j)))
+      takes_clear : (q : ℕ) (d : FairCall) (i : FairPoint) (j : Option Hold) → s.holders ≡ [] → is_set seen.state.words ≡ false → is_empty s.starvers ≡ false → seat_of seen q ≡ Some (Calling d i j) → let y = sc seen q d i j in IsOpenStep s q y.change
+          → (y.after.plain.holders ≡ []) ⊎ ((y.after.plain.holders ≡ holder q writing ∷ []) × (seat_of y.after q ≡ Some (Calling d Unregister j)))
       takes_clear q d i j none clear some at opens = grind (arith, none, clear, some, opens, get-set_same seen.state.seats q (Calling d Unregister j) _ at)
 
       takes_none : (q : ℕ) (d : FairCall) (i : FairPoint) (j : Option Hold) → is_set seen.state.words ≡ true → walk.SitsSo (fair_notes v cap patience) (λ e. not (holds_lock e)) q (Some (Calling d i j)) → (sc seen q d i j).after.plain.holders ≡ s.holders
       takes_none q d i j set so = grind (arith, set, so)
 
       -- a holder leaves, or is granted
-      holder_steps : (n q : ℕ) (d : FairCall) (i : FairPoint) (j : Option Hold) → slice_get seen.state.seats q ≡ Some (Calling d i j) → Sits q (Some (Calling d i j)) → walk.After m k f x seen q (sc seen q d i j) → theirs_by true (Some (Calling d i j)) ≤ suc n
-          → walk.Reaches m k f x (sc seen q d i j) ⊎ walk.Falls m k f x seen l q (sc seen q d i j) n
+      holder_steps : (n q : ℕ) (d : FairCall) (i : FairPoint) (j : Option Hold) → seat_of seen q ≡ Some (Calling d i j) → Sits q (Some (Calling d i j)) → walk.After f x seen q (sc seen q d i j) → theirs_by true (Some (Calling d i j)) ≤ suc n
+          → walk.Reaches f x (sc seen q d i j) ⊎ walk.Falls f x seen l q (sc seen q d i j) n
       holder_steps n q Release First (Some Write) seat so made few =
           let none : (sc seen q Release First (Some Write)).after.plain.holders ≡ [] = one_gone writing q s.holders good.shape.one made.opens.1 in
           inr (record { his = rw none (omega arith); mine = rw none (grind (arith, few)); others = λ o other not_his. omega (arith, others_same q o Release First (Some Write) made.opens not_his) })
       holder_steps n q d Unregister j seat so made few = inl (rw (get-set_same seen.state.seats q (Holding Write) _ seat) refl)
       holder_steps n q d i j seat so made few = absurd (grind (arith, so))
 
-      module _ (n : ℕ) (within : walk.Within m k f x seen l (suc n)) (there : slice_get seen.state.seats p ≡ Some (Calling c l h)) (at : its_point l) (q : ℕ) (d : FairCall) (i : FairPoint) (j : Option Hold) (ne : q ≡ p → ⊥) (seat : slice_get seen.state.seats q ≡ Some (Calling d i j)) (made : walk.After m k f x seen q (sc seen q d i j)) where
+      module _ (n : ℕ) (within : walk.Within f x seen l (suc n)) (there : seat_of seen p ≡ Some (Calling c l h)) (at : its_point l) (q : ℕ) (d : FairCall) (i : FairPoint) (j : Option Hold) (ne : q ≡ p → ⊥) (seat : seat_of seen q ≡ Some (Calling d i j)) (made : walk.After f x seen q (sc seen q d i j)) where
         abbrev falls : Type 0
-        falls = walk.Reaches m k f x (sc seen q d i j) ⊎ walk.Falls m k f x seen l q (sc seen q d i j) n
+        falls = walk.Reaches f x (sc seen q d i j) ⊎ walk.Falls f x seen l q (sc seen q d i j) n
 
         one_left : is_empty s.holders ≡ true → 1 ≤ n
         one_left is = grind (arith, at, within.mine, is)
 
         -- nobody else begins to hold, or it sets a clear flag
-        other_steps : holds_lock (entries q s) ≡ false → (b : Bool) → is_empty s.holders ≡ b → walk.Falls m k f x seen l q (sc seen q d i j) n
+        other_steps : holds_lock (entries q s) ≡ false → (b : Bool) → is_empty s.holders ≡ b → walk.Falls f x seen l q (sc seen q d i j) n
         other_steps none true is =
             ⊎_elim
             (λ (still : (sc seen q d i j).after.plain.holders ≡ []).
@@ -167,7 +164,7 @@ module _ {V : Type 0} (v : V) (cap patience : ℕ) where
               mine = rw (still, is) (omega arith);
               others = λ o other not_his. omega (arith, others_same q o d i j made.opens not_his);
             })
-            (λ (took : ((sc seen q d i j).after.plain.holders ≡ holder q writing ∷ []) × (slice_get (sc seen q d i j).after.state.seats q ≡ Some (Calling d Unregister j))).
+            (λ (took : ((sc seen q d i j).after.plain.holders ≡ holder q writing ∷ []) × (seat_of (sc seen q d i j).after q ≡ Some (Calling d Unregister j))).
             record {
               his = rw (took.0, took.1) (grind (arith, one_left is));
               mine = rw (took.0, is) (grind (arith, one_left is));
@@ -184,14 +181,14 @@ module _ {V : Type 0} (v : V) (cap patience : ℕ) where
             }
 
         steps : (b : Bool) → holds_lock (entries q s) ≡ b → falls
-        steps true found = holder_steps n q d i j seat (subst (Sits q) seat (his_sits q found)) made (subst (λ o. theirs_by true o ≤ suc n) seat (subst (λ b. theirs_by b (slice_get seen.state.seats q) ≤ suc n) found (within.theirs q ne)))
+        steps true found = holder_steps n q d i j seat (subst (Sits q) seat (his_sits q found)) made (subst (λ o. theirs_by true o ≤ suc n) seat (subst (λ b. theirs_by b (seat_of seen q) ≤ suc n) found (within.theirs q ne)))
         steps false none = inr (other_steps none (is_empty s.holders) refl)
 
-      busy : (q : ℕ) (b : Bool) → holds_lock (entries q s) ≡ b → 1 ≤ theirs_by b (slice_get seen.state.seats q) → is_busy (slice_get seen.state.seats q) ≡ true
+      busy : (q : ℕ) (b : Bool) → holds_lock (entries q s) ≡ b → 1 ≤ theirs_by b (seat_of seen q) → is_busy (seat_of seen q) ≡ true
       busy q true found some = walk.busy_so (fair_notes v cap patience) holds_lock q _ refl (λ h so. grind (arith, so)) (his_sits q found)
       busy q false found some = absurd (omega (arith, some))
 
-      some : slice_get seen.state.seats p ≡ Some (Calling c l h) → its_point l → walk.Within m k f x seen l 0 → ⊥
+      some : seat_of seen p ≡ Some (Calling c l h) → its_point l → walk.Within f x seen l 0 → ⊥
       some there at none = by s.holders refl
         where
           by : (hs : List Holder) → s.holders ≡ hs → ⊥
@@ -200,13 +197,13 @@ module _ {V : Type 0} (v : V) (cap patience : ℕ) where
               let found : holds_lock (entries i.party s) ≡ true = ap (λ hs. not (is_empty (filter (λ z. z.party == i.party) hs))) is ∙ first_holds i hs in
               ⊎_elim
               (λ (same : i.party ≡ p). grind (arith, waits, at, none.mine, is, subst (Sits p) there (his_sits p (subst (λ q. holds_lock (entries q s) ≡ true) same found))))
-              (λ (ne : i.party ≡ p → ⊥). absurd (omega (arith, theirs_some (slice_get seen.state.seats i.party), subst (λ b. theirs_by b (slice_get seen.state.seats i.party) ≤ 0) found (none.theirs i.party ne)))) (cases_eq i.party p)
+              (λ (ne : i.party ≡ p → ⊥). absurd (omega (arith, theirs_some (seat_of seen i.party), subst (λ b. theirs_by b (seat_of seen i.party) ≤ 0) found (none.theirs i.party ne)))) (cases_eq i.party p)
 
-      strong : (q : ℕ) (d : FairCall) (i : FairPoint) (j : Option Hold) (next : Next FairPoint (Answer V)) → slice_get seen.state.seats q ≡ Some (Calling d i j) → m.refuse d i j ≡ Some next → (b : Bool) → holds_lock (entries q s) ≡ b → (o : Option FairSeat) → theirs_by b o ≤ 0
+      strong : (q : ℕ) (d : FairCall) (i : FairPoint) (j : Option Hold) (next : Next FairPoint (Answer V)) → seat_of seen q ≡ Some (Calling d i j) → m.refuse d i j ≡ Some next → (b : Bool) → holds_lock (entries q s) ≡ b → (o : Option FairSeat) → theirs_by b o ≤ 0
       strong q d i j next seat may true found o = absurd (grind (arith, may, subst (Sits q) seat (his_sits q found)))
       strong q d i j next seat may false none o = omega arith
 
-    walks : walk.Walks m k f x
+    walks : walk.Walks f x
     walks =
         record {
           fine = λ seen q move good fine. tt;
@@ -227,9 +224,9 @@ module _ {V : Type 0} (v : V) (cap patience : ℕ) where
   pub locks_in_five : (n : ℕ) (past : List (ℕ × Move FairCall V)) (rounds : List (List (ℕ × Move FairCall V))) → LocksInFive m n past rounds
   locks_in_five n past rounds p c l h there asks with_it are few =
       let seen = seen_after m (opening m n) past in
-      let at = its_call_is p c l h asks (calls_so (fair_machine v cap patience) (fair_notes v cap patience) f n past (λ e. not (is_empty e.starvers)) p c l h there (starves_own p seen.plain.starvers with_it)) in
-      walk.ends m k f (x p c h at.0) (walks p c h at.0) n past rounds l there at.1 tt tt are
-      (λ w. let fit = λ (b : Bool) (his : Option FairSeat). loads_fit (is_empty seen.plain.holders) b l his in record { mine = omega (arith, few, (fit true None).0); theirs = λ q ne. omega (arith, few, (fit (holds_lock (entries q seen.plain)) (slice_get seen.state.seats q)).1) })
+      let at = its_call_is p c l h asks (calls_so f n past (λ e. not (is_empty e.starvers)) p there (starves_own p seen.plain.starvers with_it)) in
+      walk.ends f (x p c h at.0) (walks p c h at.0) n past rounds l there at.1 tt tt are
+      (λ w. let fit = λ (b : Bool) (his : Option FairSeat). loads_fit (is_empty seen.plain.holders) b l his in record { mine = omega (arith, few, (fit true None).0); theirs = λ q ne. omega (arith, few, (fit (holds_lock (entries q seen.plain)) (seat_of seen q)).1) })
 
   pub deadlock_free : (n : ℕ) (past : List (ℕ × Move FairCall V)) (schedule : ℕ → ℕ × Move FairCall V) → StarversAreDeadlockFree m n past schedule
   deadlock_free n past schedule p c l h there asks with_it fair =

@@ -1,11 +1,11 @@
 -- A flag is granted within four rounds: its holder leaves within two, and a waiting party takes two to make its
 -- exchange.
-use Rattle.spin_world_progress.proofs.Names.{◌≡◌, ℕ, ◌≤◌, ◌⊎◌, ◌||◌, Bool, true, false, Option, Some, None, List, [], ◌∷◌, slice_get, refl, arith, inl, inr, ◌==◌, Holder, is_empty, entries, Hold, Calling, Next, Continue, Answers, Answer, Move, Step, Weak, Machine, goes_on, after, at_first, Seen, scene_at, entries_after, empty_is, ◌-◌, filter, not, Done, flag_table, flag_machine, get-set_same, eqb_self, Invariant, StandsSo, Test, grants_any, refuses_weakly}
+use Rattle.spin_world_progress.proofs.Names.{seat_of, ◌≡◌, ℕ, ◌≤◌, ◌⊎◌, ◌||◌, Bool, true, false, Option, Some, None, List, [], ◌∷◌, slice_get, refl, arith, inl, inr, ◌==◌, Holder, is_empty, entries, Hold, Calling, Next, Continue, Answers, Answer, Move, Step, Weak, Machine, goes_on, after, at_first, Seen, scene_at, entries_after, empty_is, ◌-◌, filter, not, Done, flag_machine, get-set_same, eqb_self, Invariant, StandsSo, Test, grants_any, refuses_weakly}
 use Rattle.spin_model.specs.declared.flag.FlagCall.{FlagCall}
 use Rattle.spin_model.specs.declared.flag.FlagCall.TheVariants.{Lock, Release}
 use Rattle.spin_model.specs.declared.flag.FlagPoint.{FlagPoint}
 use Rattle.spin_model.specs.declared.flag.FlagPoint.TheVariants.{First, Second}
-use Rattle.spin_world.proofs.FlagOwed.{flag_notes, flag_keeping, flag_facts}
+use Rattle.spin_world.proofs.FlagOwed.{flag_notes, flag_facts}
 use Rattle.spin_world_progress.specs.Flag.{LocksInFour, IsDeadlockFree}
 use Rattle.spin_world_progress.proofs.Endless.{at_last}
 use Rattle.spin_world_progress.proofs.Progress.{holds_lock}
@@ -35,15 +35,15 @@ module _ {V : Type 0} (v : V) where
     Nobody seen = (q : ℕ) → holds_lock (entries q seen.plain) ≡ false
 
     -- its own step
-    own : (seen : World) (l : FlagPoint) → Invariant m (flag_keeping v) seen → slice_get seen.state.seats p ≡ Some (Calling Lock l h) → (b : Bool) → seen.state.words ≡ b → let x = scene_at m seen p Step (Some (Calling Lock l h)) in
-        (goal p Step x.outcome (slice_get x.after.state.seats p) ≡ true) ⊎ ((i : FlagPoint) × (slice_get x.after.state.seats p ≡ Some (Calling Lock i h)) × Unit {0} × (Nobody seen → rank_by i ≤ rank_by l - 1))
+    own : (seen : World) (l : FlagPoint) → Invariant (flag_facts v) seen → seat_of seen p ≡ Some (Calling Lock l h) → (b : Bool) → seen.state.words ≡ b → let x = scene_at m seen p Step (Some (Calling Lock l h)) in
+        (goal p Step x.outcome (seat_of x.after p) ≡ true) ⊎ ((i : FlagPoint) × (seat_of x.after p ≡ Some (Calling Lock i h)) × Unit {0} × (Nobody seen → rank_by i ≤ rank_by l - 1))
     own seen First good there false is = inl (rw is refl)
     own seen Second good there false is = inr (First, rw is (get-set_same seen.state.seats p (Calling Lock First h) _ there), tt, λ none. omega arith)
     own seen l good there true is = inr (Second, grind (arith, is, get-set_same seen.state.seats p (Calling Lock Second h) _ there), tt, λ none. absurd (grind (arith, is, good.encodes, nobody_holds seen.plain.holders none)))
 
     -- a step that makes its party a holder is a grant
     comes : (seen : World) (q : ℕ) (c : FlagCall) (l : FlagPoint) (h : Option Hold) (b : Bool) → seen.state.words ≡ b → holds_lock (entries q seen.plain) ≡ false
-        → let x = scene_at m seen q Step (Some (Calling c l h)) in (goal q Step x.outcome (slice_get x.after.state.seats q) ≡ true) ⊎ (holds_lock (entries_after seen.plain x.change (entries q seen.plain)) ≡ false)
+        → let x = scene_at m seen q Step (Some (Calling c l h)) in (goal q Step x.outcome (seat_of x.after q) ≡ true) ⊎ (holds_lock (entries_after seen.plain x.change (entries q seen.plain)) ≡ false)
     comes seen q c l h b is none = grind (arith, is, none, empty_is (entries q seen.plain).holders)
 
     releases : (q : ℕ) (c : FlagCall) (l : FlagPoint) (h : Option Hold) (w : Bool) (u : Option V) → StandsSo (flag_notes v) holds_lock q c l h → (a : Answer V) × ((m.step w u c l h).next ≡ Answers a None)
@@ -54,7 +54,7 @@ module _ {V : Type 0} (v : V) where
     weak seen l (Continue i) = rw (eqb_self p) refl
     weak seen l (Answers a rest) = grind (arith, eqb_self p)
 
-    leaves : leaving.Leaves (flag_table v) (flag_notes v) (flag_facts v) goal p Lock h (λ l. Unit {0}) holds_lock rank_by 2
+    leaves : leaving.Leaves (flag_facts v) goal p Lock h (λ l. Unit {0}) holds_lock rank_by 2
     leaves =
         record {
           none = refl;
@@ -70,7 +70,7 @@ module _ {V : Type 0} (v : V) where
         }
 
   pub locks_in_four : (n : ℕ) (past : List (ℕ × Move FlagCall V)) (rounds : List (List (ℕ × Move FlagCall V))) → LocksInFour m n past rounds
-  locks_in_four n past rounds p Lock l h there asks are few = leaving.two_rounds (flag_table v) (flag_notes v) (flag_facts v) (goal p h) p Lock h (λ l. Unit {0}) holds_lock rank_by 2 (leaves p h) n past rounds l there tt are few
+  locks_in_four n past rounds p Lock l h there asks are few = leaving.two_rounds (flag_facts v) (goal p h) p Lock h (λ l. Unit {0}) holds_lock rank_by 2 (leaves p h) n past rounds l there tt are few
   locks_in_four n past rounds p c l h there asks are few = absurd (grind (arith, asks))
 
   pub deadlock_free : (n : ℕ) (past : List (ℕ × Move FlagCall V)) (schedule : ℕ → ℕ × Move FlagCall V) → IsDeadlockFree m n past schedule

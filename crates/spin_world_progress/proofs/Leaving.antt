@@ -1,6 +1,6 @@
 -- A walk that several locks share. If holders of a kind only release, they leave within two rounds, all at once. Then
 -- the waiting party can continue.
-use Rattle.spin_world_progress.proofs.Names.{apply_some, seen_after, opening, cases_eq, suc, ◌<◌, cases_lt, ◌≡◌, ℕ, ◌≤◌, ◌⊎◌, ◌+◌, Bool, true, false, Option, Some, None, List, length, slice_get, refl, ap, sym, ◌∙◌, subst, arith, inl, inr, ⊎_elim, IsOpenStep, entries, entries-other, entries-own, Hold, Seat, Idle, Calling, Next, Answers, Move, Step, Weak, Machine, goes_on, resting, may_read, after, at_first, Seen, Scene, scene_at, joined, entries_of, StandsFor, Table, machine_of, ◌-◌, no_entries, entries_after, get-set_same, Plays, Invariant, Notes, StandsSo, Test, occurs, AreRounds}
+use Rattle.spin_world_progress.proofs.Names.{seat_of, apply_some, seen_after, opening, cases_eq, suc, ◌<◌, cases_lt, ◌≡◌, ℕ, ◌≤◌, ◌⊎◌, ◌+◌, Bool, true, false, Option, Some, None, List, length, slice_get, refl, ap, sym, ◌∙◌, subst, arith, inl, inr, ⊎_elim, IsOpenStep, entries, entries-other, entries-own, Hold, Seat, Idle, Calling, Next, Answers, Move, Step, Weak, Machine, goes_on, resting, may_read, after, at_first, Seen, Scene, scene_at, joined, entries_of, StandsFor, Table, machine_of, ◌-◌, no_entries, entries_after, get-set_same, Plays, Invariant, Notes, StandsSo, Test, occurs, AreRounds}
 use Rattle.spin_step.specs.Parties.{Entries}
 use Rattle.spin_world_progress.proofs.Progress.{is_busy}
 use Rattle.spin_world_progress.proofs.Loads.{Wait}
@@ -21,12 +21,9 @@ load_begun bound b c l i h = grind arith
 load_none : {C L : Type 0} (bound n : ℕ) (b : Bool) (o : Option (Seat C L)) → load_by bound b o ≤ suc n → n < bound → b ≡ false
 load_none bound n b o few less = grind (arith, few, less)
 
-module _ {W V C L A : Type 0} (t : Table W V C L A) (n : Notes t) (f : Plays (machine_of t) n) (goal : Test V C L A) (p : ℕ) (c : C) (h : Option Hold) (At : L → Type 0) (test : Entries → Bool) (rank : L → ℕ) (bound : ℕ) where
+module _ {W V C L A : Type 0} {t : Table W V C L A} {n : Notes t} (f : Plays (machine_of t) n) (goal : Test V C L A) (p : ℕ) (c : C) (h : Option Hold) (At : L → Type 0) (test : Entries → Bool) (rank : L → ℕ) (bound : ℕ) where
   abbrev m : Machine W V C L A
   m = machine_of t
-
-  abbrev k : Notes t
-  k = n
 
   abbrev World : Type 0
   World = Seen W V C L
@@ -35,10 +32,10 @@ module _ {W V C L A : Type 0} (t : Table W V C L A) (n : Notes t) (f : Plays (ma
   x = record { goal = goal; party = p; call = c; hold = h; At = At; Known = λ seen. Unit {0}; Fine = λ seen. Unit {0}; mine = λ s l. rank l; theirs = λ s l q his. load_by bound (test (entries q s)) his }
 
   abbrev pub Waits : World → L → Type 0
-  Waits = walk.Waits m k f x
+  Waits = walk.Waits f x
 
   abbrev pub Reaches : Scene W V C L A → Type 0
-  Reaches = walk.Reaches m k f x
+  Reaches = walk.Reaches f x
 
   abbrev holds : ℕ → World → Bool
   holds q seen = test (entries q seen.plain)
@@ -53,11 +50,11 @@ module _ {W V C L A : Type 0} (t : Table W V C L A) (n : Notes t) (f : Plays (ma
     pub not_its : (l : L) → At l → StandsSo n test p c l h → ⊥
     pub reads : (q : ℕ) (h : Hold) → test (entries_of q h) ≡ true → may_read h ≡ true
     -- its own step, which lowers its rank if nobody holds, and a spurious failure
-    pub own : (seen : World) (l : L) → Invariant m k seen → slice_get seen.state.seats p ≡ Some (Calling c l h) → At l
-        → let sc = scene_at m seen p Step (Some (Calling c l h)) in Reaches sc ⊎ ((i : L) × (slice_get sc.after.state.seats p ≡ Some (Calling c i h)) × At i × (Nobody seen → rank i ≤ rank l - 1))
+    pub own : (seen : World) (l : L) → Invariant f seen → seat_of seen p ≡ Some (Calling c l h) → At l
+        → let sc = scene_at m seen p Step (Some (Calling c l h)) in Reaches sc ⊎ ((i : L) × (seat_of sc.after p ≡ Some (Calling c i h)) × At i × (Nobody seen → rank i ≤ rank l - 1))
     pub weak : (seen : World) (l : L) (next : Next L A) → At l → m.refuse c l h ≡ Some next → let x = goes_on seen.state p c h next in goal p Weak x.outcome (slice_get x.next.seats p) ≡ true
     -- a step makes nobody a holder, unless it reaches the goal
-    pub comes : (seen : World) (l : L) (q : ℕ) (d : C) (i : L) (j : Option Hold) → Waits seen l → slice_get seen.state.seats q ≡ Some (Calling d i j) → holds q seen ≡ false
+    pub comes : (seen : World) (l : L) (q : ℕ) (d : C) (i : L) (j : Option Hold) → Waits seen l → seat_of seen q ≡ Some (Calling d i j) → holds q seen ≡ false
         → let sc = scene_at m seen q Step (Some (Calling d i j)) in IsOpenStep seen.plain q sc.change → Reaches sc ⊎ (test (entries_after seen.plain sc.change (entries q seen.plain)) ≡ false)
     -- a holder's call releases by its next step, which does not fail
     pub releases : (q : ℕ) (d : C) (i : L) (j : Option Hold) (w : W) (v : Option V) → StandsSo n test q d i j → (a : A) × ((m.step w v d i j).next ≡ Answers a None)
@@ -66,26 +63,26 @@ module _ {W V C L A : Type 0} (t : Table W V C L A) (n : Notes t) (f : Plays (ma
     pub some : (l : L) → 1 ≤ rank l
 
   module _ (leaves : Leaves) where
-    sits : (seen : World) → Invariant m k seen → (q : ℕ) → holds q seen ≡ true → walk.SitsSo n test q (slice_get seen.state.seats q)
+    sits : (seen : World) → Invariant f seen → (q : ℕ) → holds q seen ≡ true → walk.SitsSo n test q (seat_of seen q)
     sits seen good q found = walk.sits_so n test seen good q found
 
     -- the party that steps no longer holds; or it begins to hold, which is the goal
-    gone : (seen : World) (l : L) (q : ℕ) (d : C) (i : L) (j : Option Hold) → Waits seen l → slice_get seen.state.seats q ≡ Some (Calling d i j)
-        → let sc = scene_at m seen q Step (Some (Calling d i j)) in walk.After m k f x seen q sc → Reaches sc ⊎ (holds q sc.after ≡ false)
+    gone : (seen : World) (l : L) (q : ℕ) (d : C) (i : L) (j : Option Hold) → Waits seen l → seat_of seen q ≡ Some (Calling d i j)
+        → let sc = scene_at m seen q Step (Some (Calling d i j)) in walk.After f x seen q sc → Reaches sc ⊎ (holds q sc.after ≡ false)
     gone seen l q d i j w there made = by (holds q seen) refl
       where
         by : (b : Bool) → holds q seen ≡ b → let sc = scene_at m seen q Step (Some (Calling d i j)) in Reaches sc ⊎ (holds q sc.after ≡ false)
         by true found =
             let sc = scene_at m seen q Step (Some (Calling d i j)) in
             let ends = leaves.releases q d i j seen.state.words seen.state.value (subst (walk.SitsSo n test q) there (sits seen w.3 q found)) in
-            let idle : slice_get sc.after.state.seats q ≡ Some Idle = rw ends.1 (get-set_same seen.state.seats q Idle _ there) in
+            let idle : seat_of sc.after q ≡ Some Idle = rw ends.1 (get-set_same seen.state.seats q Idle _ there) in
             let none : entries q sc.after.plain ≡ no_entries = subst (StandsFor sc.after.plain q (sc.after.span q)) idle (made.good.parties q).stands in
             inr (ap test none ∙ leaves.none)
         by false none =
             let sc = scene_at m seen q Step (Some (Calling d i j)) in
             subst (λ e. Reaches sc ⊎ (test e ≡ false)) (sym (entries-own seen.plain q sc.change made.opens)) (leaves.comes seen l q d i j w there none made.opens)
 
-    strong_there : (seen : World) → Invariant m k seen → (q : ℕ) (d : C) (i : L) (j : Option Hold) (next : Next L A) → slice_get seen.state.seats q ≡ Some (Calling d i j) → m.refuse d i j ≡ Some next → holds q seen ≡ false
+    strong_there : (seen : World) → Invariant f seen → (q : ℕ) (d : C) (i : L) (j : Option Hold) (next : Next L A) → seat_of seen q ≡ Some (Calling d i j) → m.refuse d i j ≡ Some next → holds q seen ≡ false
     strong_there seen good q d i j next there may = by (holds q seen) refl
       where
         by : (b : Bool) → holds q seen ≡ b → b ≡ false
@@ -99,18 +96,18 @@ module _ {W V C L A : Type 0} (t : Table W V C L A) (n : Notes t) (f : Plays (ma
         by true found = absurd (leaves.not_its l w.1 (subst (walk.SitsSo n test p) w.0 (sits seen w.3 p found)))
         by false none = refl
 
-    busy : (seen : World) → Invariant m k seen → (q : ℕ) (b : Bool) → holds q seen ≡ b → 1 ≤ load_by bound b (slice_get seen.state.seats q) → is_busy (slice_get seen.state.seats q) ≡ true
+    busy : (seen : World) → Invariant f seen → (q : ℕ) (b : Bool) → holds q seen ≡ b → 1 ≤ load_by bound b (seat_of seen q) → is_busy (seat_of seen q) ≡ true
     busy seen good q true found some = walk.busy_so n test q _ leaves.none (λ h. leaves.reads q h) (sits seen good q found)
     busy seen good q false found some = absurd (omega (arith, some))
 
-    same_load : (seen : World) (q o : ℕ) (sc : Scene W V C L A) → (q ≡ o → ⊥) → IsOpenStep seen.plain q sc.change → sc.after.plain ≡ apply_some seen.plain sc.change → load_by bound (test (entries o sc.after.plain)) (slice_get seen.state.seats o) ≤ load_by bound (holds o seen) (slice_get seen.state.seats o)
-    same_load seen q o sc ne opens plain = omega (arith, ap (λ e. load_by bound (test e) (slice_get seen.state.seats o)) (ap (entries o) plain ∙ entries-other seen.plain q o sc.change ne opens))
+    same_load : (seen : World) (q o : ℕ) (sc : Scene W V C L A) → (q ≡ o → ⊥) → IsOpenStep seen.plain q sc.change → sc.after.plain ≡ apply_some seen.plain sc.change → load_by bound (test (entries o sc.after.plain)) (seat_of seen o) ≤ load_by bound (holds o seen) (seat_of seen o)
+    same_load seen q o sc ne opens plain = omega (arith, ap (λ e. load_by bound (test e) (seat_of seen o)) (ap (entries o) plain ∙ entries-other seen.plain q o sc.change ne opens))
 
-    own : (seen : World) (l : L) (r : ℕ) → Waits seen l → walk.Within m k f x seen l (suc r) → let sc = scene_at m seen p Step (Some (Calling c l h)) in walk.After m k f x seen p sc → walk.Own m k f x seen l r sc
+    own : (seen : World) (l : L) (r : ℕ) → Waits seen l → walk.Within f x seen l (suc r) → let sc = scene_at m seen p Step (Some (Calling c l h)) in walk.After f x seen p sc → walk.Own f x seen l r sc
     own seen l r w within made =
         let sc = scene_at m seen p Step (Some (Calling c l h)) in
         ⊎_elim inl
-        (λ (on : (i : L) × (slice_get sc.after.state.seats p ≡ Some (Calling c i h)) × At i × (Nobody seen → rank i ≤ rank l - 1)).
+        (λ (on : (i : L) × (seat_of sc.after p ≡ Some (Calling c i h)) × At i × (Nobody seen → rank i ≤ rank l - 1)).
         inr (on.0, on.1, on.2, low on.0 on.3, λ o other not_its. omega (arith, same_load seen p o sc not_its made.opens refl)))
         (leaves.own seen l w.3 w.0 w.1)
       where
@@ -118,10 +115,10 @@ module _ {W V C L A : Type 0} (t : Table W V C L A) (n : Notes t) (f : Plays (ma
         low i on =
             ⊎_elim
             (λ (less : r < bound).
-            omega (arith, within.mine, on (λ q. ⊎_elim (λ (is : q ≡ p). ap (λ i. holds i seen) is ∙ not_mine seen l w) (λ (ne : q ≡ p → ⊥). load_none bound r (holds q seen) (slice_get seen.state.seats q) (within.theirs q ne) less) (cases_eq q p))))
+            omega (arith, within.mine, on (λ q. ⊎_elim (λ (is : q ≡ p). ap (λ i. holds i seen) is ∙ not_mine seen l w) (λ (ne : q ≡ p → ⊥). load_none bound r (holds q seen) (seat_of seen q) (within.theirs q ne) less) (cases_eq q p))))
             (λ (no_less : bound ≤ r). omega (arith, leaves.few i, no_less)) (cases_lt r bound)
 
-    walks : walk.Walks m k f x
+    walks : walk.Walks f x
     walks =
         record {
           fine = λ seen q move good fine. tt;
@@ -145,5 +142,5 @@ module _ {W V C L A : Type 0} (t : Table W V C L A) (n : Notes t) (f : Plays (ma
     pub two_rounds : (number : ℕ) (past : List (ℕ × Move C V)) (rounds : List (List (ℕ × Move C V))) (l : L) → let s = after m (at_first m number) past in slice_get s.seats p ≡ Some (Calling c l h) → At l
         → AreRounds m s rounds → 2 + bound ≤ length rounds → occurs m goal s (joined rounds) ≡ true
     two_rounds number past rounds l there at are long =
-        walk.ends m k f x walks number past rounds l there at tt tt are
+        walk.ends f x walks number past rounds l there at tt tt are
         (λ w. record { mine = omega (arith, leaves.few l, long); theirs = λ q ne. omega (arith, long, load_few bound (test (entries q (seen_after m (opening m number) past).plain)) (slice_get (seen_after m (opening m number) past).state.seats q)) })

@@ -2,15 +2,15 @@
 -- the others continue.
 -- A round lowers the highest loads by one, or reaches the goal. Below is what a step of each party has to show. All
 -- other moves are alike in every object.
-use Rattle.spin_world_progress.proofs.Names.{suc, max, if◌then◌else◌, eqb_self, ne_eqb, eq-eqb, entries, Idle, Gone, may_read, entries_of, Table, machine_of, StandsFor, entries_held, Mark, KnowsAt, Notes, StandsSo, row_passes, ◌≡◌, ℕ, ◌<◌, ◌≤◌, ◌⊎◌, ◌==◌, ◌||◌, Bool, true, false, Option, Some, None, List, [], ◌∷◌, length, slice_get, refl, ap, sym, ◌∙◌, subst, arith, inl, inr, ⊎_elim, cases_eq, cases_lt, false≢true, Plain, IsOpenStep, Hold, Seat, Calling, Holding, Leaked, Next, Move, Begin, Step, Weak, BelongsTo, Machine, goes_on, resting, is_owners, Seen, Scene, scene, scene_at, opening, joined, seen_after, after, at_first, ◌-◌, get-set_same, of_event, Plays, Invariant, kept, good_after, state-seen_after, seen_after-append, state_is, seat_is, Test, occurs, IsRound, AreRounds}
+use Rattle.spin_world_progress.proofs.Names.{suc, max, if◌then◌else◌, eqb_self, ne_eqb, eq-eqb, entries, Idle, Gone, may_read, entries_of, Table, machine_of, StandsFor, entries_held, Mark, Notes, StandsSo, row_passes, ◌≡◌, ℕ, ◌<◌, ◌≤◌, ◌⊎◌, ◌==◌, ◌||◌, Bool, true, false, Option, Some, None, List, [], ◌∷◌, length, slice_get, refl, ap, sym, ◌∙◌, subst, arith, inl, inr, ⊎_elim, cases_eq, cases_lt, false≢true, Plain, IsOpenStep, Hold, Seat, Calling, Holding, Leaked, Next, Move, Begin, Step, Weak, BelongsTo, Machine, goes_on, resting, is_owners, Seen, Scene, scene, scene_at, opening, joined, seen_after, after, at_first, ◌-◌, get-set_same, of_event, Plays, Invariant, kept, good_after, state-seen_after, seen_after-append, state_is, seat_is, Test, occurs, IsRound, AreRounds}
 use Rattle.spin_world_progress.specs.Rounds.{is_release}
 use Rattle.spin_world_progress.proofs.Progress.{or_left, or_right, or_rest, has_left, is_busy, is_idle, calls_not, holds_not, unawaited, awaited_of, same_beside, no_owner, left_never, moves_on, occurs-append, step_first}
 use Rattle.spin_world.proofs.FairNames.{Entries, entries_at}
 use Rattle.spin_model.specs.Schedules.{begun}
 use Rattle.spin_model.specs.declared.schedule.Move.TheVariants.{Leak}
 use Rattle.spin_model.specs.StepKinds as step_kind
-use Rattle.spin_world_core.specs.Runs.{scene_of}
-use Rattle.spin_world_core.proofs.Steps.{played}
+use Rattle.spin_world_core.specs.Runs.{seat_of, scene_of}
+use Rattle.spin_world_core.proofs.Steps.{played, KnowsAt}
 use Rattle.spin_world_core.proofs.Reached as reached
 
 -- the party sits with entries that pass this test
@@ -32,7 +32,7 @@ module _ {W V C L A : Type 0} {t : Table W V C L A} (n : Notes t) (test : Entrie
   sits_by p s span (Some Idle) stands knows has = sym (ap test stands) ∙ has
   sits_by p s span None stands knows has = sym (ap test stands) ∙ has
 
-  pub sits_so : (seen : Seen W V C L) → Invariant (machine_of t) n seen → (p : ℕ) → test (entries p seen.plain) ≡ true → SitsSo p (slice_get seen.state.seats p)
+  pub sits_so : {f : Plays (machine_of t) n} (seen : Seen W V C L) → Invariant f seen → (p : ℕ) → test (entries p seen.plain) ≡ true → SitsSo p (seat_of seen p)
   sits_so seen good p has = sits_by p seen.plain (seen.span p) _ (good.parties p).stands (good.parties p).knows has
 
   -- so others may wait for it
@@ -53,7 +53,7 @@ pub record Wait (W V C L A : Type 0) : Type 1 where
   pub mine : Plain → L → ℕ
   pub theirs : Plain → L → ℕ → Option (Seat C L) → ℕ
 
-module _ {W V C L A B : Type 0} {t : Table W V C L B} (given : Machine W V C L A) (k : Notes t) (f : Plays given k) (x : Wait W V C L A) where
+module _ {W V C L A B : Type 0} {t : Table W V C L B} {given : Machine W V C L A} {k : Notes t} (f : Plays given k) (x : Wait W V C L A) where
   abbrev m : Machine W V C L A
   m = played t given
 
@@ -71,28 +71,28 @@ module _ {W V C L A B : Type 0} {t : Table W V C L B} (given : Machine W V C L A
 
   -- it waits at this point
   abbrev pub Sits : World → L → Type 0
-  Sits seen l = slice_get seen.state.seats p ≡ Some (Calling x.call l x.hold)
+  Sits seen l = seat_of seen p ≡ Some (Calling x.call l x.hold)
 
   abbrev pub Waits : World → L → Type 0
-  Waits seen l = Sits seen l × x.At l × x.Known seen × Invariant given k seen
+  Waits seen l = Sits seen l × x.At l × x.Known seen × Invariant f seen
 
   abbrev pub theirs : World → L → ℕ → ℕ
-  theirs seen l q = x.theirs seen.plain l q (slice_get seen.state.seats q)
+  theirs seen l q = x.theirs seen.plain l q (seat_of seen q)
 
   -- no load is above this one
   pub record Within (seen : World) (l : L) (n : ℕ) : Type 0 where
     pub mine : x.mine seen.plain l ≤ n
-    pub theirs : (q : ℕ) → (q ≡ p → ⊥) → x.theirs seen.plain l q (slice_get seen.state.seats q) ≤ n
+    pub theirs : (q : ℕ) → (q ≡ p → ⊥) → x.theirs seen.plain l q (seat_of seen q) ≤ n
 
   abbrev seat_after : Event → Option (Seat C L)
-  seat_after sc = slice_get sc.after.state.seats sc.party
+  seat_after sc = seat_of sc.after sc.party
 
   abbrev pub Reaches : Event → Type 0
   Reaches sc = x.goal sc.party sc.move sc.outcome (seat_after sc) ≡ true
 
   -- no other party's load has risen above this one
   abbrev pub Others : World → L → ℕ → Event → L → ℕ → Type 0
-  Others seen l q sc i n = (o : ℕ) → (o ≡ p → ⊥) → (q ≡ o → ⊥) → x.theirs sc.after.plain i o (slice_get seen.state.seats o) ≤ max (theirs seen l o) n
+  Others seen l q sc i n = (o : ℕ) → (o ≡ p → ⊥) → (q ≡ o → ⊥) → x.theirs sc.after.plain i o (seat_of seen o) ≤ max (theirs seen l o) n
 
   -- after a step of another party its load is at most n, and no load has risen above that
   pub record Falls (seen : World) (l : L) (q : ℕ) (sc : Event) (n : ℕ) : Type 0 where
@@ -102,8 +102,8 @@ module _ {W V C L A B : Type 0} {t : Table W V C L B} (given : Machine W V C L A
 
   -- what holds after an event of the party q
   pub record After (seen : World) (q : ℕ) (sc : Event) : Type 0 where
-    pub others : (d : ℕ) → (q ≡ d → ⊥) → slice_get sc.after.state.seats d ≡ slice_get seen.state.seats d
-    pub good : Invariant given k sc.after
+    pub others : (d : ℕ) → (q ≡ d → ⊥) → seat_of sc.after d ≡ seat_of seen d
+    pub good : Invariant f sc.after
     pub opens : IsOpenStep seen.plain q sc.change
     pub belongs : BelongsTo m.lock_kind sc.change
     pub known : x.Known sc.after
@@ -117,28 +117,28 @@ module _ {W V C L A B : Type 0} {t : Table W V C L B} (given : Machine W V C L A
   Own seen l n sc = Reaches sc ⊎ ((i : L) × Sits sc.after i × x.At i × (x.mine sc.after.plain i ≤ n) × Others seen l p sc i n)
 
   pub record Walks : Type 0 where
-    pub fine : (seen : World) (q : ℕ) (move : Move C V) → Invariant given k seen → x.Fine (scene m seen q move).after → x.Fine seen
+    pub fine : (seen : World) (q : ℕ) (move : Move C V) → Invariant f seen → x.Fine (scene m seen q move).after → x.Fine seen
     -- what is known stays true at each event that does not reach the goal
     pub keeps : (seen : World) (q : ℕ) (move : Move C V) (l : L) → Waits seen l → let sc = scene m seen q move in Reaches sc ⊎ x.Known sc.after
     -- its own step, and another party's
     pub own : (seen : World) (l : L) (n : ℕ) → Waits seen l → Within seen l (suc n) → let sc = scene_at m seen p Step (Some (Calling x.call l x.hold)) in After seen p sc → Own seen l n sc
-    pub steps : (seen : World) (l : L) (n : ℕ) → Waits seen l → Within seen l (suc n) → (q : ℕ) (d : C) (i : L) (j : Option Hold) → (q ≡ p → ⊥) → slice_get seen.state.seats q ≡ Some (Calling d i j)
+    pub steps : (seen : World) (l : L) (n : ℕ) → Waits seen l → Within seen l (suc n) → (q : ℕ) (d : C) (i : L) (j : Option Hold) → (q ≡ p → ⊥) → seat_of seen q ≡ Some (Calling d i j)
         → let sc = scene_at m seen q Step (Some (Calling d i j)) in After seen q sc → Reaches sc ⊎ Falls seen l q sc n
     -- a spurious failure
     pub weak : (seen : World) (l : L) (next : Next L A) → x.At l → m.refuse x.call l x.hold ≡ Some next → Refuses seen p x.call x.hold next
-    pub refuses : (seen : World) (l : L) → Waits seen l → (q : ℕ) (d : C) (i : L) (j : Option Hold) (next : Next L A) → (q ≡ p → ⊥) → slice_get seen.state.seats q ≡ Some (Calling d i j) → m.refuse d i j ≡ Some next
+    pub refuses : (seen : World) (l : L) → Waits seen l → (q : ℕ) (d : C) (i : L) (j : Option Hold) (next : Next L A) → (q ≡ p → ⊥) → seat_of seen q ≡ Some (Calling d i j) → m.refuse d i j ≡ Some next
         → Refuses seen q d j next ⊎ ((o : Option (Seat C L)) → x.theirs seen.plain l q o ≤ theirs seen l q - 1)
     -- a beginning, in particular of a release
-    pub begins : (seen : World) (l : L) → Waits seen l → (q : ℕ) (d : C) (i : L) (j : Option Hold) → (q ≡ p → ⊥) → slice_get seen.state.seats q ≡ Some (resting j) → m.begin d j ≡ Some i
+    pub begins : (seen : World) (l : L) → Waits seen l → (q : ℕ) (d : C) (i : L) (j : Option Hold) → (q ≡ p → ⊥) → seat_of seen q ≡ Some (resting j) → m.begin d j ≡ Some i
         → (x.theirs seen.plain l q (Some (Calling d i j)) ≤ theirs seen l q) × (is_release (m.asks d j) ≡ true → x.theirs seen.plain l q (Some (Calling d i j)) ≤ theirs seen l q - 1)
     pub leaks : (s : Plain) (l : L) (q : ℕ) (h : Hold) → x.theirs s l q (Some (Leaked h)) ≤ x.theirs s l q (Some (Holding h))
     -- others may wait for each party with a load, and some party has one
-    pub busy : (seen : World) (l : L) (q : ℕ) → Waits seen l → (q ≡ p → ⊥) → 1 ≤ theirs seen l q → is_busy (slice_get seen.state.seats q) ≡ true
+    pub busy : (seen : World) (l : L) (q : ℕ) → Waits seen l → (q ≡ p → ⊥) → 1 ≤ theirs seen l q → is_busy (seat_of seen q) ≡ true
     pub some : (seen : World) (l : L) → Waits seen l → Within seen l 0 → ⊥
 
   -- what holds of the plain lock stays true if the parties' steps keep it, since no other event changes that lock
   pub plain_kept : (P : Plain → Type 0) (seen : World) (l : L) → Waits seen l → (q : ℕ) → P seen.plain
-      → ((d : C) (i : L) (j : Option Hold) → slice_get seen.state.seats q ≡ Some (Calling d i j) → let sc = scene_at m seen q Step (Some (Calling d i j)) in IsOpenStep seen.plain q sc.change → Reaches sc ⊎ P sc.after.plain)
+      → ((d : C) (i : L) (j : Option Hold) → seat_of seen q ≡ Some (Calling d i j) → let sc = scene_at m seen q Step (Some (Calling d i j)) in IsOpenStep seen.plain q sc.change → Reaches sc ⊎ P sc.after.plain)
       → (move : Move C V) → Reaches (scene m seen q move) ⊎ P (scene m seen q move).after.plain
   plain_kept P seen l w q is kept_by move =
       of_event m seen q (λ sc. IsOpenStep seen.plain q sc.change → Reaches sc ⊎ P sc.after.plain)
@@ -153,7 +153,7 @@ module _ {W V C L A B : Type 0} {t : Table W V C L B} (given : Machine W V C L A
         gets = λ y at may. absurd (no_owner m seen p x.call l x.hold w.0 may);
         sets = λ v y at may. absurd (no_owner m seen p x.call l x.hold w.0 may);
       })
-      move (kept given k f seen q move w.3).keeps.opens
+      move (kept f seen q move w.3).keeps.opens
 
   -- The walk over all moves
 
@@ -167,20 +167,20 @@ module _ {W V C L A B : Type 0} {t : Table W V C L B} (given : Machine W V C L A
   other_load s l q his ne = ap (λ b. if b then x.mine s l else x.theirs s l q his) (ne_eqb q p (λ e. absurd (ne e)))
 
   abbrev load : World → L → ℕ → ℕ
-  load seen l q = load_by seen.plain l q (slice_get seen.state.seats q)
+  load seen l q = load_by seen.plain l q (seat_of seen q)
 
   abbrev awaited : ℕ → Option (Seat C L) → Test V C L A
   awaited q o = awaited_of m q o
 
   -- the load is at most n, or n + 1 until the party has made its awaited move
   abbrev Pays : World → L → ℕ → Turn → ℕ → Type 0
-  Pays seen l n es q = (load seen l q ≤ n) ⊎ ((load seen l q ≤ suc n) × (occurs m (awaited q (slice_get seen.state.seats q)) seen.state es ≡ true))
+  Pays seen l n es q = (load seen l q ≤ n) ⊎ ((load seen l q ≤ suc n) × (occurs m (awaited q (seat_of seen q)) seen.state es ≡ true))
 
   module _ (walks : Walks) (seen : World) (l : L) (w : Waits seen l) (n : ℕ) (es : Turn) where
     -- the same before an event
     abbrev Pays_by : Event → ℕ → Type 0
     Pays_by sc q =
-        let o = slice_get seen.state.seats q in
+        let o = seat_of seen q in
         (load seen l q ≤ n) ⊎ ((load seen l q ≤ suc n) × ((awaited q o sc.party sc.move sc.outcome (seat_after sc) || occurs m (awaited q o) sc.after.state es) ≡ true))
 
     record On (sc : Event) : Type 0 where
@@ -200,48 +200,48 @@ module _ {W V C L A B : Type 0} {t : Table W V C L B} (given : Machine W V C L A
     within : (sc : Event) → ((q : ℕ) → Pays_by sc q) → Within seen l (suc n)
     within sc pays =
         record {
-          mine = omega (arith, within_all sc pays p, own_load seen.plain l (slice_get seen.state.seats p));
-          theirs = λ q ne. omega (arith, within_all sc pays q, other_load seen.plain l q (slice_get seen.state.seats q) ne);
+          mine = omega (arith, within_all sc pays p, own_load seen.plain l (seat_of seen p));
+          theirs = λ q ne. omega (arith, within_all sc pays q, other_load seen.plain l q (seat_of seen q) ne);
         }
 
     -- the loads of the parties that do not step
-    by_whom : (sc : Event) (i : L) (o : ℕ) → ((o ≡ p) → x.mine sc.after.plain i ≤ max (x.mine seen.plain l) n) → ((o ≡ p → ⊥) → x.theirs sc.after.plain i o (slice_get seen.state.seats o) ≤ max (theirs seen l o) n)
-        → load_by sc.after.plain i o (slice_get seen.state.seats o) ≤ max (load seen l o) n
+    by_whom : (sc : Event) (i : L) (o : ℕ) → ((o ≡ p) → x.mine sc.after.plain i ≤ max (x.mine seen.plain l) n) → ((o ≡ p → ⊥) → x.theirs sc.after.plain i o (seat_of seen o) ≤ max (theirs seen l o) n)
+        → load_by sc.after.plain i o (seat_of seen o) ≤ max (load seen l o) n
     by_whom sc i o mine other =
-        let his = slice_get seen.state.seats o in
+        let his = seat_of seen o in
         ⊎_elim (λ (is : o ≡ p). rw (eq-eqb o p is) (mine is))
         (λ (ne : o ≡ p → ⊥). omega (arith, other ne, other_load sc.after.plain i o his ne, other_load seen.plain l o his ne)) (cases_eq o p)
 
     -- a party that keeps its seat at the event
-    stays : (sc : Event) (i : L) (q : ℕ) → slice_get sc.after.state.seats q ≡ slice_get seen.state.seats q → load_by sc.after.plain i q (slice_get seen.state.seats q) ≤ max (load seen l q) n → (sc.party ≡ q → is_idle sc.outcome ≡ true)
+    stays : (sc : Event) (i : L) (q : ℕ) → seat_of sc.after q ≡ seat_of seen q → load_by sc.after.plain i q (seat_of seen q) ≤ max (load seen l q) n → (sc.party ≡ q → is_idle sc.outcome ≡ true)
         → Pays_by sc q → Pays sc.after i n es q
     stays sc i q same le idle (inl low) = inl (omega (arith, le, low, ap (load_by sc.after.plain i q) same))
     stays sc i q same le idle (inr y) =
         inr (omega (arith, le, y.0, ap (load_by sc.after.plain i q) same), subst (λ o. occurs m (awaited q o) sc.after.state es ≡ true) (sym same) (or_rest _ _ y.1 (unawaited m q sc.party _ sc.move sc.outcome idle)))
 
     -- it still waits, at the same point
-    waits_on : (q : ℕ) (sc : Event) → After seen q sc → slice_get sc.after.state.seats p ≡ slice_get seen.state.seats p → ((q : ℕ) → Pays sc.after l n es q) → Reaches sc ⊎ On sc
+    waits_on : (q : ℕ) (sc : Event) → After seen q sc → seat_of sc.after p ≡ seat_of seen p → ((q : ℕ) → Pays sc.after l n es q) → Reaches sc ⊎ On sc
     waits_on q sc made mine pays = inr (record { point = l; waits = (mine ∙ w.0, w.1, made.known, made.good); pays = pays })
 
     -- an event that moves nobody
     quiet : (q : ℕ) (sc : Event) → sc.after.plain ≡ seen.plain → sc.after.state.seats ≡ seen.state.seats → is_idle sc.outcome ≡ true → After seen q sc → Goes sc
     quiet q sc plain seats idle made pays =
-        waits_on q sc made (ap (λ xs. slice_get xs p) seats) (λ o. stays sc l o (ap (λ xs. slice_get xs o) seats) (omega (arith, ap (λ s. load_by s l o (slice_get seen.state.seats o)) plain)) (λ e. idle) (pays o))
+        waits_on q sc made (ap (λ xs. slice_get xs p) seats) (λ o. stays sc l o (ap (λ xs. slice_get xs o) seats) (omega (arith, ap (λ s. load_by s l o (seat_of seen o)) plain)) (λ e. idle) (pays o))
 
     module _ (q : ℕ) (ne : q ≡ p → ⊥) where
       -- an event of this party only, which then has this load
-      one_moves : (sc : Event) → sc.party ≡ q → After seen q sc → ((q : ℕ) → Pays_by sc q) → Pays sc.after l n es q → ((o : ℕ) → (q ≡ o → ⊥) → load_by sc.after.plain l o (slice_get seen.state.seats o) ≤ max (load seen l o) n) → Reaches sc ⊎ On sc
+      one_moves : (sc : Event) → sc.party ≡ q → After seen q sc → ((q : ℕ) → Pays_by sc q) → Pays sc.after l n es q → ((o : ℕ) → (q ≡ o → ⊥) → load_by sc.after.plain l o (seat_of seen o) ≤ max (load seen l o) n) → Reaches sc ⊎ On sc
       one_moves sc party after pays his others =
           waits_on q sc after (after.others p ne)
           (λ o. ⊎_elim (λ (same : q ≡ o). subst (λ i. Pays sc.after l n es i) same his) (λ (other : q ≡ o → ⊥). stays sc l o (after.others o other) (others o other) (λ e. absurd (other (sym party ∙ e))) (pays o)) (cases_eq q o))
 
       -- it moves on to this seat, and the plain lock is unchanged
-      moves_to : (y : Option (Seat C L)) (sc : Event) → sc.party ≡ q → sc.after.plain ≡ seen.plain → slice_get sc.after.state.seats q ≡ y → After seen q sc → ((q : ℕ) → Pays_by sc q)
+      moves_to : (y : Option (Seat C L)) (sc : Event) → sc.party ≡ q → sc.after.plain ≡ seen.plain → seat_of sc.after q ≡ y → After seen q sc → ((q : ℕ) → Pays_by sc q)
           → (load_by seen.plain l q y ≤ n) ⊎ ((load_by seen.plain l q y ≤ suc n) × (occurs m (awaited q y) sc.after.state es ≡ true)) → Reaches sc ⊎ On sc
       moves_to y sc party plain seat made pays his =
           one_moves sc party made pays
           (⊎_elim (λ (low : load_by seen.plain l q y ≤ n). inl (omega (arith, low, now))) (λ z. inr (omega (arith, z.0, now), subst (λ o. occurs m (awaited q o) sc.after.state es ≡ true) (sym seat) z.1)) his)
-          (λ o other. omega (arith, ap (λ s. load_by s l o (slice_get seen.state.seats o)) plain))
+          (λ o other. omega (arith, ap (λ s. load_by s l o (seat_of seen o)) plain))
         where
           now : load sc.after l q ≡ load_by seen.plain l q y
           now = cc (plain, seat)
@@ -252,21 +252,21 @@ module _ {W V C L A B : Type 0} {t : Table W V C L B} (given : Machine W V C L A
       his_load : (o : Option (Seat C L)) → load_by seen.plain l q o ≡ x.theirs seen.plain l q o
       his_load o = other_load seen.plain l q o ne
 
-      begins_low : (d : C) (i : L) (j : Option Hold) → slice_get seen.state.seats q ≡ Some (resting j) → m.begin d j ≡ Some i
+      begins_low : (d : C) (i : L) (j : Option Hold) → seat_of seen q ≡ Some (resting j) → m.begin d j ≡ Some i
           → (load_by seen.plain l q (Some (Calling d i j)) ≤ load seen l q) × (is_release (m.asks d j) ≡ true → load_by seen.plain l q (Some (Calling d i j)) ≤ load seen l q - 1)
       begins_low d i j at may =
           let low = walks.begins seen l w q d i j ne at may in
           let now = his_load (Some (Calling d i j)) in
-          let before = his_load (slice_get seen.state.seats q) in
+          let before = his_load (seat_of seen q) in
           (omega (arith, low.0, now, before), λ is. omega (arith, low.1 is, now, before))
 
       -- after a beginning that is no release, the awaited move is still to come
-      begins_on : (d : C) (i : L) (j : Option Hold) → slice_get seen.state.seats q ≡ Some (resting j) → m.begin d j ≡ Some i → Pays_by (begin_at d i j) q
+      begins_on : (d : C) (i : L) (j : Option Hold) → seat_of seen q ≡ Some (resting j) → m.begin d j ≡ Some i → Pays_by (begin_at d i j) q
           → (load_by seen.plain l q (Some (Calling d i j)) ≤ n) ⊎ ((load_by seen.plain l q (Some (Calling d i j)) ≤ suc n) × (occurs m (awaited q (Some (Calling d i j))) (begin_at d i j).after.state es ≡ true))
       begins_on d i j at may (inl low) = inl (omega (arith, low, (begins_low d i j at may).0))
       begins_on d i None at may (inr y) =
           ⊎_elim (λ (none : load seen l q < 1). inl (omega (arith, none, (begins_low d i None at may).0)))
-          (λ (some : 1 ≤ load seen l q). absurd (false≢true (ap is_busy (sym at) ∙ walks.busy seen l q w ne (omega (arith, some, his_load (slice_get seen.state.seats q)))))) (cases_lt (load seen l q) 1)
+          (λ (some : 1 ≤ load seen l q). absurd (false≢true (ap is_busy (sym at) ∙ walks.busy seen l q w ne (omega (arith, some, his_load (seat_of seen q)))))) (cases_lt (load seen l q) 1)
       begins_on d i (Some h) at may (inr y) = by (is_release (m.asks d (Some h))) refl
         where
           ahead : (awaited q (Some (Holding h)) q (Begin d) (begin_at d i (Some h)).outcome (seat_after (begin_at d i (Some h))) || occurs m (awaited q (Some (Holding h))) (begin_at d i (Some h)).after.state es) ≡ true
@@ -283,7 +283,7 @@ module _ {W V C L A B : Type 0} {t : Table W V C L B} (given : Machine W V C L A
       leak_at h = scene_at m seen q Leak (Some (Holding h))
 
       -- nobody waits for a party that has leaked
-      leaks_on : (h : Hold) → slice_get seen.state.seats q ≡ Some (Holding h) → Pays_by (leak_at h) q → load_by seen.plain l q (Some (Leaked h)) ≤ n
+      leaks_on : (h : Hold) → seat_of seen q ≡ Some (Holding h) → Pays_by (leak_at h) q → load_by seen.plain l q (Some (Leaked h)) ≤ n
       leaks_on h at (inl low) = omega (arith, low, walks.leaks seen.plain l q h, ap (load_by seen.plain l q) at, his_load (Some (Leaked h)), his_load (Some (Holding h)))
       leaks_on h at (inr y) =
           absurd (left_never m (leak_at h).after es q _ (ap has_left (get-set_same seen.state.seats q (Leaked h) (Holding h) at)) (or_rest _ _ y.1 (unawaited m q q _ Leak (leak_at h).outcome (λ e. refl))))
@@ -301,7 +301,7 @@ module _ {W V C L A B : Type 0} {t : Table W V C L B} (given : Machine W V C L A
             passes = λ move o r at closed. quiet q _ refl refl refl;
             begins = λ d i j at may after pays. moves_to _ (begin_at d i j) refl refl (get-set_same seen.state.seats q _ _ at) after pays (begins_on d i j at may (pays q));
             steps = λ d i j at after pays. ⊎_elim inl (λ (falls : Falls seen l q (step_at d i j) n). one_moves (step_at d i j) refl after pays (inl (omega (arith, falls.his, other_load (step_at d i j).after.plain l q (slice_get (step_at d i j).after.state.seats q) ne))) (λ o other. by_whom (step_at d i j) l o (λ is. falls.mine) (λ not_its. falls.others o not_its other))) (walks.steps seen l n w (within (step_at d i j) pays) q d i j ne at after);
-            refuses = λ d i j next at may after pays. ⊎_elim inl (λ (low : (o : Option (Seat C L)) → x.theirs seen.plain l q o ≤ theirs seen l q - 1). moves_to (slice_get (goes_on seen.state q d j next).next.seats q) (refuse_at d i j next) refl refl refl after pays (inl (omega (arith, low (slice_get (goes_on seen.state q d j next).next.seats q), his_load (slice_get (goes_on seen.state q d j next).next.seats q), his_load (slice_get seen.state.seats q), within_all (refuse_at d i j next) pays q)))) (walks.refuses seen l w q d i j next ne at may);
+            refuses = λ d i j next at may after pays. ⊎_elim inl (λ (low : (o : Option (Seat C L)) → x.theirs seen.plain l q o ≤ theirs seen l q - 1). moves_to (slice_get (goes_on seen.state q d j next).next.seats q) (refuse_at d i j next) refl refl refl after pays (inl (omega (arith, low (slice_get (goes_on seen.state q d j next).next.seats q), his_load (slice_get (goes_on seen.state q d j next).next.seats q), his_load (seat_of seen q), within_all (refuse_at d i j next) pays q)))) (walks.refuses seen l w q d i j next ne at may);
             reads = λ b h at may. quiet q _ refl refl refl;
             writes = λ v b h at may. quiet q _ refl refl refl;
             leaks = λ h at after pays. moves_to _ (leak_at h) refl refl (get-set_same seen.state.seats q (Leaked h) (Holding h) at) after pays (inl (leaks_on h at (pays q)));
@@ -317,7 +317,7 @@ module _ {W V C L A B : Type 0} {t : Table W V C L B} (given : Machine W V C L A
         inr (record {
           point = on.0;
           waits = (on.1, on.2, made.known, made.good);
-          pays = λ o. ⊎_elim (λ (same : p ≡ o). inl (subst (λ y. load sc.after on.0 y ≤ n) same (omega (arith, on.3, own_load sc.after.plain on.0 (slice_get sc.after.state.seats p)))))
+          pays = λ o. ⊎_elim (λ (same : p ≡ o). inl (subst (λ y. load sc.after on.0 y ≤ n) same (omega (arith, on.3, own_load sc.after.plain on.0 (seat_of sc.after p)))))
               (λ (other : p ≡ o → ⊥). stays sc on.0 o (made.others o other) (by_whom sc on.0 o (λ is. absurd (other (sym is))) (λ not_its. on.4 o not_its other)) (λ e. absurd (other e)) (pays o)) (cases_eq p o);
         }))
         (walks.own seen l n w (within sc pays) made)
@@ -344,7 +344,7 @@ module _ {W V C L A B : Type 0} {t : Table W V C L B} (given : Machine W V C L A
     goes : (q : ℕ) (move : Move C V) → x.Fine (scene m seen q move).after → Goes (scene m seen q move)
     goes q move fine pays =
         let sc = scene m seen q move in
-        let keeps = kept given k f seen q move w.3 in
+        let keeps = kept f seen q move w.3 in
         ⊎_elim inl
         (λ (known : x.Known sc.after).
         let after : After seen q sc = record {
@@ -361,9 +361,9 @@ module _ {W V C L A B : Type 0} {t : Table W V C L B} (given : Machine W V C L A
   -- The rounds
 
   module _ (walks : Walks) where
-    fine_before : (seen : World) (es : Turn) → Invariant given k seen → x.Fine (seen_after m seen es) → x.Fine seen
+    fine_before : (seen : World) (es : Turn) → Invariant f seen → x.Fine (seen_after m seen es) → x.Fine seen
     fine_before seen [] good is = is
-    fine_before seen (e ∷ es) good is = walks.fine seen e.0 e.1 good (fine_before (scene m seen e.0 e.1).after es (kept given k f seen e.0 e.1 good).good is)
+    fine_before seen (e ∷ es) good is = walks.fine seen e.0 e.1 good (fine_before (scene m seen e.0 e.1).after es (kept f seen e.0 e.1 good).good is)
 
     -- the call still waits, and no load is above this one
     abbrev Waiting : World → ℕ → Type 0
@@ -372,12 +372,12 @@ module _ {W V C L A B : Type 0} {t : Table W V C L B} (given : Machine W V C L A
     through : (seen : World) (l : L) (n : ℕ) (es : Turn) → Waits seen l → x.Fine (seen_after m seen es) → ((q : ℕ) → Pays seen l n es q) → (occurs m x.goal seen.state es ≡ true) ⊎ Waiting (seen_after m seen es) n
     through seen l n [] w fine pays =
         let low : (q : ℕ) → load seen l q ≤ n = λ q. ⊎_elim (λ (low : load seen l q ≤ n). low) (λ y. absurd (false≢true y.1)) (pays q) in
-        inr (l, w, record { mine = omega (arith, low p, own_load seen.plain l (slice_get seen.state.seats p)); theirs = λ q ne. omega (arith, low q, other_load seen.plain l q (slice_get seen.state.seats q) ne) })
+        inr (l, w, record { mine = omega (arith, low p, own_load seen.plain l (seat_of seen p)); theirs = λ q ne. omega (arith, low q, other_load seen.plain l q (seat_of seen q) ne) })
     through seen l n (e ∷ es) w fine pays =
         let sc = scene m seen e.0 e.1 in
         ⊎_elim (λ (r : Reaches sc). inl (or_left _ _ r))
         (λ (on : On walks seen l w n es sc). ⊎_elim (λ (r : occurs m x.goal sc.after.state es ≡ true). inl (or_right _ _ r)) inr (through sc.after on.point n es on.waits fine on.pays))
-        (goes walks seen l w n es e.0 e.1 (fine_before sc.after es (kept given k f seen e.0 e.1 w.3).good fine) pays)
+        (goes walks seen l w n es e.0 e.1 (fine_before sc.after es (kept f seen e.0 e.1 w.3).good fine) pays)
 
     -- a round lowers the highest loads
     one_round : (seen : World) (l : L) (n : ℕ) (es : Turn) → Waits seen l → x.Fine (seen_after m seen es) → Within seen l (suc n) → IsRound m seen.state es → (occurs m x.goal seen.state es ≡ true) ⊎ Waiting (seen_after m seen es) n
@@ -386,12 +386,12 @@ module _ {W V C L A B : Type 0} {t : Table W V C L B} (given : Machine W V C L A
         (λ q. ⊎_elim (λ (low : load seen l q < suc n). inl (omega (arith, low))) (λ (high : suc n ≤ load seen l q). inr (loads q, moves_on m seen.state es q _ (busy q high) (round q))) (cases_lt (load seen l q) (suc n)))
       where
         loads : (q : ℕ) → load seen l q ≤ suc n
-        loads q = ⊎_elim (λ (is : q ≡ p). rw (eq-eqb q p is) within.mine) (λ (ne : q ≡ p → ⊥). omega (arith, within.theirs q ne, other_load seen.plain l q (slice_get seen.state.seats q) ne)) (cases_eq q p)
+        loads q = ⊎_elim (λ (is : q ≡ p). rw (eq-eqb q p is) within.mine) (λ (ne : q ≡ p → ⊥). omega (arith, within.theirs q ne, other_load seen.plain l q (seat_of seen q) ne)) (cases_eq q p)
 
-        busy : (q : ℕ) → suc n ≤ load seen l q → is_busy (slice_get seen.state.seats q) ≡ true
+        busy : (q : ℕ) → suc n ≤ load seen l q → is_busy (seat_of seen q) ≡ true
         busy q high =
-            ⊎_elim (λ (is : q ≡ p). ap is_busy (ap (slice_get seen.state.seats) is ∙ w.0))
-            (λ (ne : q ≡ p → ⊥). walks.busy seen l q w ne (omega (arith, high, other_load seen.plain l q (slice_get seen.state.seats q) ne))) (cases_eq q p)
+            ⊎_elim (λ (is : q ≡ p). ap is_busy (ap (seat_of seen) is ∙ w.0))
+            (λ (ne : q ≡ p → ⊥). walks.busy seen l q w ne (omega (arith, high, other_load seen.plain l q (seat_of seen q) ne))) (cases_eq q p)
 
     -- as many rounds as the highest load are enough
     in_rounds : (rounds : List Turn) (seen : World) (l : L) → Waits seen l → x.Fine (seen_after m seen (joined rounds)) → AreRounds m seen.state rounds → Within seen l (length rounds) → occurs m x.goal seen.state (joined rounds) ≡ true
@@ -404,7 +404,7 @@ module _ {W V C L A B : Type 0} {t : Table W V C L B} (given : Machine W V C L A
         ⊎_elim (λ (r : occurs m x.goal seen.state es ≡ true). or_left _ _ r)
         (λ (y : Waiting next (length rounds)).
         or_right _ _ (subst (λ s. occurs m x.goal s (joined rounds) ≡ true) at (in_rounds rounds next y.0 y.1 fine_there (subst (λ s. AreRounds m s rounds) (sym at) are.1) y.2)))
-        (one_round seen l (length rounds) es w (fine_before next (joined rounds) (good_after given k f seen es w.3) fine_there) within are.0)
+        (one_round seen l (length rounds) es w (fine_before next (joined rounds) (good_after f seen es w.3) fine_there) within are.0)
 
     -- this holds after any schedule
     pub ends : (n : ℕ) (past : Turn) (rounds : List Turn) (l : L)
@@ -413,6 +413,6 @@ module _ {W V C L A B : Type 0} {t : Table W V C L B} (given : Machine W V C L A
         → occurs m x.goal s (joined rounds) ≡ true
     ends n past rounds l there at known fine are enough =
         let seen = seen_after m (opening m n) past in
-        let same = state_is given k f n past in
-        let w : Waits seen l = (seat_is given k f n past p _ there, at, known, reached.good given k f n past) in
+        let same = state_is f n past in
+        let w : Waits seen l = (seat_is f n past p _ there, at, known, reached.good f n past) in
         subst (λ s. occurs m x.goal s (joined rounds) ≡ true) same (in_rounds rounds seen l w fine (subst (λ s. AreRounds m s rounds) (sym same) are) (enough w))

@@ -1,8 +1,7 @@
 -- A call with a closure is answered in four rounds, if no closure fails.
-use Rattle.spin_world_progress.proofs.Names.{Bool, suc, eqb-true, eq-eqb, Seat, Outcome, ◌≡◌, ℕ, ◌≤◌, ◌⊎◌, ◌==◌, true, false, Option, Some, None, List, [], ◌∷◌, slice_get, if◌then◌else◌, refl, ap, sym, ◌∙◌, subst, arith, inl, inr, ⊎_elim, cases_eq, ne_eqb, Plain, Phase, nothing, running, complete, Change, is_running, once_word, apply_some, IsOpenStep, Answer, Hold, Calling, Next, Move, Step, BelongsTo, Seen, Scene, scene, scene_at, opening, State, seen_after, OnceMachine, once_machine, eqb_self, get-set_same, Notes, Plays, of_event, Invariant, in_call, kept, good_first, state_is, numbers_are}
-use Rattle.spin_world.proofs.OnceNames.{OnceCall, CallOnce, TryCallOnceOk, TryCallOnceErr, InitFromRef, OncePoint, Look, TryBegin, Await, Run, asks_of, Entries, once_after, has_closure}
-use Rattle.spin_model.specs.Once.{once_table}
-use Rattle.spin_world.proofs.OnceOwed.{once_keeping, once_facts}
+use Rattle.spin_world_progress.proofs.Names.{seat_of, Bool, suc, eqb-true, eq-eqb, Seat, Outcome, ◌≡◌, ℕ, ◌≤◌, ◌⊎◌, ◌==◌, true, false, Option, Some, None, List, [], ◌∷◌, slice_get, if◌then◌else◌, refl, ap, sym, ◌∙◌, subst, arith, inl, inr, ⊎_elim, cases_eq, ne_eqb, Plain, Phase, nothing, running, complete, Change, is_running, once_word, apply_some, IsOpenStep, Answer, Hold, Calling, Next, Move, Step, BelongsTo, Seen, Scene, scene, scene_at, opening, State, seen_after, once_machine, eqb_self, get-set_same, Plays, of_event, Invariant, in_call, kept, good_first, state_is, numbers_are}
+use Rattle.spin_world.proofs.OnceNames.{OnceCall, CallOnce, TryCallOnceOk, TryCallOnceErr, InitFromRef, OncePoint, Look, TryBegin, Await, Run, asks_of, Entries, once_after, has_closure, OnceMachine}
+use Rattle.spin_world.proofs.OnceOwed.{once_notes, once_facts}
 use Rattle.spin_model.specs.OnceKind.{once}
 use Rattle.spin_world.proofs.Keeping.{run_here}
 use Rattle.spin_world_progress.specs.Once.{answers, answers_or_fails, AnswersInFour, AnswersAtLast, AnswersInOne, SomebodyRuns}
@@ -71,10 +70,7 @@ module _ {V : Type 0} (value : Option V) where
   abbrev m : OnceMachine V
   m = once_machine value
 
-  abbrev k : Notes (once_table value)
-  k = once_keeping value
-
-  abbrev f : Plays m k
+  abbrev f : Plays m (once_notes value)
   f = once_facts value
 
   abbrev World : Type 0
@@ -86,12 +82,12 @@ module _ {V : Type 0} (value : Option V) where
   strong : (c : OnceCall V) (l : OncePoint) (h : Option Hold) (next : Next OncePoint (Answer V)) → m.refuse c l h ≡ Some next → ⊥
   strong c l h next is = cc (is)
 
-  word_is : (seen : World) → Invariant m k seen → seen.state.words ≡ once_word seen.plain
+  word_is : (seen : World) → Invariant f seen → seen.state.words ≡ once_word seen.plain
   word_is seen good = cc (good.encodes)
 
-  told_by : (seen : World) (p : ℕ) (c : OnceCall V) (l : OncePoint) (h : Option Hold) → Invariant m k seen → slice_get seen.state.seats p ≡ Some (Calling c l h) → seen.plain.phase ≡ complete
-      → let sc = scene_at m seen p Step (Some (Calling c l h)) in answers p p Step sc.outcome (slice_get sc.after.state.seats p) ≡ true
-  told_by seen p c l h good there is = grind (arith, word_is seen good, is, eqb_self p, (in_call m k seen p c l h good there).knows)
+  told_by : (seen : World) (p : ℕ) (c : OnceCall V) (l : OncePoint) (h : Option Hold) → Invariant f seen → seat_of seen p ≡ Some (Calling c l h) → seen.plain.phase ≡ complete
+      → let sc = scene_at m seen p Step (Some (Calling c l h)) in answers p p Step sc.outcome (seat_of sc.after p) ≡ true
+  told_by seen p c l h good there is = grind (arith, word_is seen good, is, eqb_self p, (in_call f p good there).knows)
 
   -- whether or not closures may fail, an answer is an answer
   answered : (p q : ℕ) (move : Move (OnceCall V) V) (o : Outcome (Answer V) V) (x : Option (Seat (OnceCall V) OncePoint)) → answers p q move o x ≡ true → answers_or_fails m p q move o x ≡ true
@@ -100,26 +96,26 @@ module _ {V : Type 0} (value : Option V) where
   -- The party that runs its closure is in its call
 
   abbrev Runs : World → ℕ → Type 0
-  Runs seen q = (c : OnceCall V) × (h : Option Hold) × (slice_get seen.state.seats q ≡ Some (Calling c Run h))
+  Runs seen q = (c : OnceCall V) × (h : Option Hold) × (seat_of seen q ≡ Some (Calling c Run h))
 
   abbrev RunnerIn : World → Type 0
   RunnerIn seen = (q : ℕ) → seen.plain.phase ≡ running q → Runs seen q
 
-  module _ (seen : World) (good : Invariant m k seen) (runner : RunnerIn seen) where
-    module _ (q : ℕ) (c : OnceCall V) (l : OncePoint) (h : Option Hold) (there : slice_get seen.state.seats q ≡ Some (Calling c l h)) where
+  module _ (seen : World) (good : Invariant f seen) (runner : RunnerIn seen) where
+    module _ (q : ℕ) (c : OnceCall V) (l : OncePoint) (h : Option Hold) (there : seat_of seen q ≡ Some (Calling c l h)) where
       abbrev y : Event
       y = scene_at m seen q Step (Some (Calling c l h))
 
       ends : l ≡ Run → y.after.plain.phase ≡ running q → ⊥
-      ends e is = grind (arith, e, (in_call m k seen q c l h good there).knows, is)
+      ends e is = grind (arith, e, (in_call f q good there).knows, is)
 
-      begins_run : y.after.plain.phase ≡ running q → (seen.plain.phase ≡ running q) ⊎ (slice_get y.after.state.seats q ≡ Some (Calling c Run h))
+      begins_run : y.after.plain.phase ≡ running q → (seen.plain.phase ≡ running q) ⊎ (seat_of y.after q ≡ Some (Calling c Run h))
       begins_run is = grind (arith, is, get-set_same seen.state.seats q (Calling c Run h) _ there)
 
       steps_on : y.after.plain.phase ≡ running q → Runs y.after q
       steps_on is =
           ⊎_elim (λ (before : seen.plain.phase ≡ running q). let at = runner q before in absurd (ends (same_point c l h at.0 at.1 (sym there ∙ at.2)) is))
-          (λ (seat : slice_get y.after.state.seats q ≡ Some (Calling c Run h)). (c, h, seat)) (begins_run is)
+          (λ (seat : seat_of y.after q ≡ Some (Calling c Run h)). (c, h, seat)) (begins_run is)
 
     own_kept : (q : ℕ) (move : Move (OnceCall V) V) → (scene m seen q move).after.plain.phase ≡ running q → Runs (scene m seen q move).after q
     own_kept q move =
@@ -141,24 +137,24 @@ module _ {V : Type 0} (value : Option V) where
     runner_kept r move q =
         ⊎_elim (λ (same : r ≡ q). subst (λ i. (scene m seen i move).after.plain.phase ≡ running q → Runs (scene m seen i move).after q) (sym same) (own_kept q move))
         (λ (ne : r ≡ q → ⊥) is.
-        let keeps = (kept m k f seen r move good).keeps in
+        let keeps = (kept f seen r move good).keeps in
         let at = runner q (runs_before seen.plain r q (scene m seen r move).change keeps.opens keeps.belongs ne is) in
         (at.0, at.1, same_beside m seen r q q at.0 Run at.1 at.2 move ne ∙ at.2))
         (cases_eq r q)
 
   -- this holds after any schedule
-  runner_after : (seen : World) (es : Entries V) → Invariant m k seen → RunnerIn seen → RunnerIn (seen_after m seen es)
+  runner_after : (seen : World) (es : Entries V) → Invariant f seen → RunnerIn seen → RunnerIn (seen_after m seen es)
   runner_after seen [] good runner = runner
-  runner_after seen (e ∷ es) good runner = runner_after (scene m seen e.0 e.1).after es (kept m k f seen e.0 e.1 good).good (runner_kept seen good runner e.0 e.1)
+  runner_after seen (e ∷ es) good runner = runner_after (scene m seen e.0 e.1).after es (kept f seen e.0 e.1 good).good (runner_kept seen good runner e.0 e.1)
 
   runner_there : (n : ℕ) (past : Entries V) → RunnerIn (seen_after m (opening m n) past)
-  runner_there n past = runner_after (opening m n) past (good_first m k f n) (λ q is. absurd (grind (arith, is)))
+  runner_there n past = runner_after (opening m n) past (good_first f n) (λ q is. absurd (grind (arith, is)))
 
   module _ (p : ℕ) (c : OnceCall V) (h : Option Hold) (closure : has_closure (asks_of c) ≡ true) where
     abbrev x : Wait ℕ V (OnceCall V) OncePoint (Answer V)
     x = record { goal = answers_or_fails m p; party = p; call = c; hold = h; At = λ l. Unit {0}; Known = RunnerIn; Fine = λ seen. Unit {0}; mine = λ s. mine_by s.phase p; theirs = λ s l q his. theirs_by s.phase q }
 
-    module _ (seen : World) (l : OncePoint) (w : walk.Waits m k f x seen l) where
+    module _ (seen : World) (l : OncePoint) (w : walk.Waits f x seen l) where
       abbrev s : Plain
       s = seen.plain
 
@@ -166,13 +162,13 @@ module _ {V : Type 0} (value : Option V) where
       sc = scene_at m seen p Step (Some (Calling c l h))
 
       -- its own step, while its closure runs, while there is a value, and while there is none yet
-      ended : l ≡ Run → walk.Reaches m k f x sc
+      ended : l ≡ Run → walk.Reaches f x sc
       ended is = grind (arith, is, closure, eqb_self p)
 
-      goes : (phase : Phase) → s.phase ≡ phase → (phase ≡ complete → ⊥) → (l ≡ Run → ⊥) → (slice_get sc.after.state.seats p ≡ Some (Calling c (onward phase p l).0 h)) × (sc.after.plain.phase ≡ (onward phase p l).1)
+      goes : (phase : Phase) → s.phase ≡ phase → (phase ≡ complete → ⊥) → (l ≡ Run → ⊥) → (seat_of sc.after p ≡ Some (Calling c (onward phase p l).0 h)) × (sc.after.plain.phase ≡ (onward phase p l).1)
       goes phase is unmade ne = grind (arith, word_is seen w.3, is, unmade, ne, closure, get-set_same seen.state.seats p (Calling c (onward phase p l).0 h) _ w.0)
 
-      own_at : (n : ℕ) → walk.Within m k f x seen l (suc n) → (phase : Phase) → s.phase ≡ phase → (l ≡ Run → ⊥) → walk.Own m k f x seen l n sc
+      own_at : (n : ℕ) → walk.Within f x seen l (suc n) → (phase : Phase) → s.phase ≡ phase → (l ≡ Run → ⊥) → walk.Own f x seen l n sc
       own_at n within complete is ne = inl (answered p p Step sc.outcome _ (told_by seen p c l h w.3 w.0 is))
       own_at n within nothing is ne =
           let next = goes nothing is (λ e. cc (e)) ne in
@@ -183,28 +179,28 @@ module _ {V : Type 0} (value : Option V) where
           let still : (onward (running q) p l).1 ≡ running q = grind arith in
           inr ((onward (running q) p l).0, next.0, tt, rw (next.1 ∙ still, ne_eqb q p (λ e. absurd (other e))) (omega arith), rw (next.1 ∙ still, is) (λ o other not_its. omega arith))
 
-      own : (n : ℕ) → walk.Within m k f x seen l (suc n) → walk.Own m k f x seen l n sc
+      own : (n : ℕ) → walk.Within f x seen l (suc n) → walk.Own f x seen l n sc
       own n within = ⊎_elim (λ (is : l ≡ Run). inl (ended is)) (own_at n within s.phase refl) (point_cases l)
 
       -- the last step of another party's closure
-      run_ends : (q : ℕ) (d : OnceCall V) (i : OncePoint) (j : Option Hold) → slice_get seen.state.seats q ≡ Some (Calling d i j) → i ≡ Run
-          → let y = scene_at m seen q Step (Some (Calling d i j)) in walk.Reaches m k f x y ⊎ (y.after.plain.phase ≡ complete)
+      run_ends : (q : ℕ) (d : OnceCall V) (i : OncePoint) (j : Option Hold) → seat_of seen q ≡ Some (Calling d i j) → i ≡ Run
+          → let y = scene_at m seen q Step (Some (Calling d i j)) in walk.Reaches f x y ⊎ (y.after.plain.phase ≡ complete)
       run_ends q (CallOnce u) Run j at e = inr refl
       run_ends q (TryCallOnceOk u) Run j at e = inr refl
       run_ends q (InitFromRef u) Run j at e = inr refl
       run_ends q TryCallOnceErr Run j at e = inl (grind arith)
-      run_ends q d Run j at e = absurd (in_call m k seen q d Run j w.3 at).knows
+      run_ends q d Run j at e = absurd (in_call f q w.3 at).knows
       run_ends q d i j at e = absurd (grind (arith, e))
 
       -- another party's step: its closure ends, or one begins, or the phase does not change
-      steps : (n : ℕ) → walk.Within m k f x seen l (suc n) → (q : ℕ) (d : OnceCall V) (i : OncePoint) (j : Option Hold) → (q ≡ p → ⊥) → slice_get seen.state.seats q ≡ Some (Calling d i j)
-          → let y = scene_at m seen q Step (Some (Calling d i j)) in walk.After m k f x seen q y → walk.Reaches m k f x y ⊎ walk.Falls m k f x seen l q y n
+      steps : (n : ℕ) → walk.Within f x seen l (suc n) → (q : ℕ) (d : OnceCall V) (i : OncePoint) (j : Option Hold) → (q ≡ p → ⊥) → seat_of seen q ≡ Some (Calling d i j)
+          → let y = scene_at m seen q Step (Some (Calling d i j)) in walk.After f x seen q y → walk.Reaches f x y ⊎ walk.Falls f x seen l q y n
       steps n within q d i j ne at made = by (is_running q s.phase) refl
         where
           y : Event
           y = scene_at m seen q Step (Some (Calling d i j))
 
-          by : (b : Bool) → is_running q s.phase ≡ b → walk.Reaches m k f x y ⊎ walk.Falls m k f x seen l q y n
+          by : (b : Bool) → is_running q s.phase ≡ b → walk.Reaches f x y ⊎ walk.Falls f x seen l q y n
           by true runs =
               let two : 2 ≤ suc n = subst (λ b. (if b then 2 else 0) ≤ suc n) runs (within.theirs q ne) in
               let its = w.2 q (theirs_run s.phase q (rw runs (omega arith))) in
@@ -218,10 +214,10 @@ module _ {V : Type 0} (value : Option V) where
               inr (record { his = rw began.1 (low q).0; mine = rw began.1 (omega (arith, (low q).1)); others = rw began.1 (λ o other not_his. omega (arith, (low o).2 not_his)) }))
               (phase_beside s q y.change made.opens made.belongs rests)
 
-      busy : (q : ℕ) → 1 ≤ theirs_by s.phase q → is_busy (slice_get seen.state.seats q) ≡ true
+      busy : (q : ℕ) → 1 ≤ theirs_by s.phase q → is_busy (seat_of seen q) ≡ true
       busy q some = ap is_busy (w.2 q (theirs_run s.phase q some)).2
 
-      some : walk.Within m k f x seen l 0 → ⊥
+      some : walk.Within f x seen l 0 → ⊥
       some none = by s.phase refl
         where
           by : (phase : Phase) → s.phase ≡ phase → ⊥
@@ -230,7 +226,7 @@ module _ {V : Type 0} (value : Option V) where
               (λ (ne : q ≡ p → ⊥). absurd (omega (arith, subst (λ b. (if b then 2 else 0) ≤ 0) (eqb_self q) (subst (λ z. theirs_by z q ≤ 0) is (none.theirs q ne))))) (cases_eq q p)
           by phase is = absurd (grind (arith, none.mine, is))
 
-    walks : walk.Walks m k f x
+    walks : walk.Walks f x
     walks =
         record {
           fine = λ seen q move good fine. tt;
@@ -248,7 +244,7 @@ module _ {V : Type 0} (value : Option V) where
   pub answers_in_four : (n : ℕ) (past : Entries V) (rounds : List (Entries V)) → AnswersInFour m n past rounds
   answers_in_four n past rounds p c l h there closure are few =
       let seen = seen_after m (opening m n) past in
-      walk.ends m k f (x p c h closure) (walks p c h closure) n past rounds l there tt (runner_there n past) tt are
+      walk.ends f (x p c h closure) (walks p c h closure) n past rounds l there tt (runner_there n past) tt are
       (λ w. record { mine = omega (arith, few, (loads_fit seen.plain.phase p p l).0); theirs = λ q ne. omega (arith, few, (loads_fit seen.plain.phase p q l).1) })
 
   pub answers_at_last : (n : ℕ) (past : Entries V) (schedule : ℕ → ℕ × Move (OnceCall V) V) → AnswersAtLast m n past schedule
@@ -267,11 +263,11 @@ module _ {V : Type 0} (value : Option V) where
   abbrev ready : ℕ → OnceCall V → Option Hold → Wait ℕ V (OnceCall V) OncePoint (Answer V)
   ready p c h = record { goal = answers p; party = p; call = c; hold = h; At = λ l. Unit {0}; Known = is_told; Fine = λ seen. Unit {0}; mine = λ s l. 1; theirs = λ s l q his. 0 }
 
-  ready_walks : (p : ℕ) (c : OnceCall V) (h : Option Hold) → walk.Walks m k f (ready p c h)
+  ready_walks : (p : ℕ) (c : OnceCall V) (h : Option Hold) → walk.Walks f (ready p c h)
   ready_walks p c h =
       record {
         fine = λ seen q move good fine. tt;
-        keeps = λ seen q move l w. let here = (kept m k f seen q move w.3).keeps in inr (complete_stays seen.plain q (scene m seen q move).change w.2 here.opens here.belongs);
+        keeps = λ seen q move l w. let here = (kept f seen q move w.3).keeps in inr (complete_stays seen.plain q (scene m seen q move).change w.2 here.opens here.belongs);
         own = λ seen l n w within made. inl (told_by seen p c l h w.3 w.0 w.2);
         steps = λ seen l n w within q d i j ne at made. inr (record { his = omega arith; mine = omega arith; others = λ o other not_his. omega arith });
         weak = λ seen l next at may. absurd (strong c l h next may);
@@ -283,16 +279,16 @@ module _ {V : Type 0} (value : Option V) where
       }
 
   word_there : (n : ℕ) (past : Entries V) → (once_after m n past).words ≡ once_word (seen_after m (opening m n) past).plain
-  word_there n past = cc (numbers_are m k f n past)
+  word_there n past = cc (numbers_are f n past)
 
   pub answers_in_one : (n : ℕ) (past : Entries V) (rounds : List (Entries V)) → AnswersInOne m n past rounds
   answers_in_one n past rounds p c l h there is are some =
       let seen = seen_after m (opening m n) past in
-      walk.ends m k f (ready p c h) (ready_walks p c h) n past rounds l there tt (told_where seen.plain (sym (word_there n past) ∙ is)) tt are (λ w. record { mine = omega (arith, some); theirs = λ q ne. omega arith })
+      walk.ends f (ready p c h) (ready_walks p c h) n past rounds l there tt (told_where seen.plain (sym (word_there n past) ∙ is)) tt are (λ w. record { mine = omega (arith, some); theirs = λ q ne. omega arith })
 
   pub somebody_runs : (n : ℕ) (past : Entries V) → SomebodyRuns m n past
   somebody_runs n past is =
       let seen = seen_after m (opening m n) past in
       let who = runs_where seen.plain (sym (word_there n past) ∙ is) in
       let at = runner_there n past who.0 who.1 in
-      (who.0, run_here value n past who.0 at.0 Run at.1 (subst (λ (s : State ℕ V (OnceCall V) OncePoint). slice_get s.seats who.0 ≡ Some (Calling at.0 Run at.1)) (state_is m k f n past) at.2) refl)
+      (who.0, run_here value n past who.0 at.0 Run at.1 (subst (λ (s : State ℕ V (OnceCall V) OncePoint). slice_get s.seats who.0 ≡ Some (Calling at.0 Run at.1)) (state_is f n past) at.2) refl)

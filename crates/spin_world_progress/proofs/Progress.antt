@@ -1,6 +1,6 @@
 -- What events keep: for a party that waits in a call, for one that has leaked, and for others.
-use Rattle.spin_world_progress.proofs.Names.{not, is_empty, goes_on, ◌⊎◌, inl, inr, ⊎_elim, subst, cases_eq, is_step, eqb_self, ◌≡◌, ℕ, ◌==◌, ◌&&◌, ◌||◌, Bool, true, false, Option, Some, None, List, [], ◌∷◌, ◌++◌, slice_get, refl, ap, sym, ◌∙◌, arith, eqb-true, false≢true, may_read, and_parts, list_all, slice_get-map, Machine, State, happens, owner_writes, resting, after, is_owners, yields_to_owner, seen_by_owner, Seen, Scene, scene, Hold, Seat, Idle, Calling, Holding, Leaked, Gone, Next, Continue, Answers, Move, Outcome, Test, occurs, is_awaited, MovesOn, get-set_other, seat_with, of_event}
-use Rattle.spin_world_core.proofs.Names.{true≢false, option_map}
+use Rattle.spin_world_progress.proofs.Names.{seat_of, not, is_empty, goes_on, ◌⊎◌, inl, inr, ⊎_elim, subst, cases_eq, is_step, eqb_self, ◌≡◌, ℕ, ◌==◌, ◌&&◌, ◌||◌, Bool, true, false, Option, Some, None, List, [], ◌∷◌, ◌++◌, slice_get, refl, ap, sym, ◌∙◌, arith, eqb-true, false≢true, may_read, and_parts, list_all, Machine, State, happens, owner_writes, resting, after, is_owners, Seen, Scene, scene, Hold, Seat, Idle, Calling, Holding, Leaked, Gone, Next, Continue, Answers, Move, Outcome, Test, occurs, is_awaited, MovesOn, get-set_other, seat_with, of_event}
+use Rattle.spin_world_core.proofs.Names.{true≢false, option_map, seen_by_owner, slice_get-map, yields_to_owner}
 use Rattle.spin_world_core.proofs.Owners.{all-get}
 use Rattle.spin_step.specs.Parties.{Entries}
 use Rattle.spin_model.specs.declared.schedule.Outcome.TheVariants as outcome
@@ -58,7 +58,7 @@ is_idle _ = true
 
 module _ {W V C L A : Type 0} (m : Machine W V C L A) where
   -- the owner has no move while a party is in a call
-  pub no_owner : (seen : Seen W V C L) (p : ℕ) (c : C) (l : L) (h : Option Hold) → slice_get seen.state.seats p ≡ Some (Calling c l h) → is_owners m seen.state ≡ true → ⊥
+  pub no_owner : (seen : Seen W V C L) (p : ℕ) (c : C) (l : L) (h : Option Hold) → seat_of seen p ≡ Some (Calling c l h) → is_owners m seen.state ≡ true → ⊥
   no_owner seen p c l h there may =
       false≢true (all-get yields_to_owner seen.state.seats p (Calling c l h) (and_parts m.owned (list_all yields_to_owner seen.state.seats) may).1 there)
 
@@ -73,9 +73,9 @@ module _ {W V C L A : Type 0} (m : Machine W V C L A) where
 
     -- while some party is in a call, each other party keeps its seat
     pub same_beside : (p : ℕ) (c : C) (l : L) (h : Option Hold) → slice_get seats p ≡ Some (Calling c l h) → (move : Move C V) → (q ≡ d → ⊥)
-        → slice_get (scene m seen q move).after.state.seats d ≡ slice_get seats d
+        → seat_of (scene m seen q move).after d ≡ slice_get seats d
     same_beside p c l h calls move ne =
-        of_event m seen q (λ sc. slice_get sc.after.state.seats d ≡ slice_get seats d)
+        of_event m seen q (λ sc. seat_of sc.after d ≡ slice_get seats d)
         (record {
           passes = λ move o r there closed. refl;
           begins = λ c l h there is. get-set_other seats q d (Calling c l h) ne;
@@ -92,7 +92,7 @@ module _ {W V C L A : Type 0} (m : Machine W V C L A) where
     -- a party that has leaked stays so, and moves no more
     module _ (left : has_left (slice_get seats d) ≡ true) where
       abbrev Away : Scene W V C L A → Type 0
-      Away sc = (has_left (slice_get sc.after.state.seats d) ≡ true) × (q ≡ d → is_idle sc.outcome ≡ true)
+      Away sc = (has_left (seat_of sc.after d) ≡ true) × (q ≡ d → is_idle sc.outcome ≡ true)
 
       moves_not : (y : Seat C L) → slice_get seats q ≡ Some y → has_left (Some y) ≡ false → q ≡ d → ⊥
       moves_not y there here e = false≢true (sym here ∙ (ap has_left (sym there ∙ ap (slice_get seats) e) ∙ left))
@@ -129,7 +129,7 @@ module _ {W V C L A : Type 0} (m : Machine W V C L A) where
   unawaited d q o move what idle = grind (arith, idle, eqb-true)
 
   -- a party that has leaked never makes such a move
-  pub left_never : (seen : Seen W V C L) (es : List (ℕ × Move C V)) (d : ℕ) (o : Option (Seat C L)) → has_left (slice_get seen.state.seats d) ≡ true → occurs m (awaited_of d o) seen.state es ≡ true → ⊥
+  pub left_never : (seen : Seen W V C L) (es : List (ℕ × Move C V)) (d : ℕ) (o : Option (Seat C L)) → has_left (seat_of seen d) ≡ true → occurs m (awaited_of d o) seen.state es ≡ true → ⊥
   left_never seen [] d o left found = false≢true found
   left_never seen (e ∷ es) d o left found =
       let sc = scene m seen e.0 e.1 in
@@ -155,9 +155,9 @@ module _ {W V C L A : Type 0} (m : Machine W V C L A) where
 
   -- a party in a call takes a step, or keeps its seat
   abbrev StepsOrStays : Seen W V C L → ℕ → Scene W V C L A → Type 0
-  StepsOrStays seen q sc = (is_step sc.outcome ≡ true) ⊎ ((slice_get sc.after.state.seats q ≡ slice_get seen.state.seats q) × (is_idle sc.outcome ≡ true))
+  StepsOrStays seen q sc = (is_step sc.outcome ≡ true) ⊎ ((seat_of sc.after q ≡ seat_of seen q) × (is_idle sc.outcome ≡ true))
 
-  steps_or_stays : (seen : Seen W V C L) (q : ℕ) (c : C) (l : L) (h : Option Hold) → slice_get seen.state.seats q ≡ Some (Calling c l h) → (move : Move C V) → StepsOrStays seen q (scene m seen q move)
+  steps_or_stays : (seen : Seen W V C L) (q : ℕ) (c : C) (l : L) (h : Option Hold) → seat_of seen q ≡ Some (Calling c l h) → (move : Move C V) → StepsOrStays seen q (scene m seen q move)
   steps_or_stays seen q c l h at =
       of_event m seen q (StepsOrStays seen q)
       (record {
@@ -173,18 +173,18 @@ module _ {W V C L A : Type 0} (m : Machine W V C L A) where
       })
 
   -- so a party in a call takes a step of it before it begins the release of a hold
-  pub step_first : (seen : Seen W V C L) (es : List (ℕ × Move C V)) (d : ℕ) (c : C) (l : L) (h : Option Hold) (held : Hold) → slice_get seen.state.seats d ≡ Some (Calling c l h)
+  pub step_first : (seen : Seen W V C L) (es : List (ℕ × Move C V)) (d : ℕ) (c : C) (l : L) (h : Option Hold) (held : Hold) → seat_of seen d ≡ Some (Calling c l h)
       → occurs m (awaited_of d (Some (Holding held))) seen.state es ≡ true → occurs m (awaited_of d (Some (Calling c l h))) seen.state es ≡ true
   step_first seen [] d c l h held there found = found
   step_first seen (e ∷ es) d c l h held there found =
       let sc = scene m seen e.0 e.1 in
-      let later : slice_get sc.after.state.seats d ≡ Some (Calling c l h) → (e.0 ≡ d → is_idle sc.outcome ≡ true) → occurs m (awaited_of d (Some (Calling c l h))) seen.state (e ∷ es) ≡ true =
+      let later : seat_of sc.after d ≡ Some (Calling c l h) → (e.0 ≡ d → is_idle sc.outcome ≡ true) → occurs m (awaited_of d (Some (Calling c l h))) seen.state (e ∷ es) ≡ true =
       λ at idle. or_right _ _ (step_first sc.after es d c l h held at (or_rest _ _ found (unawaited d e.0 (Some (Holding held)) e.1 sc.outcome idle))) in
       ⊎_elim
       (λ (is : e.0 ≡ d).
       ⊎_elim (λ (step : is_step sc.outcome ≡ true). let here : ((e.0 == d) && is_step sc.outcome) ≡ true = grind (arith, is, step, eqb_self d) in or_left _ _ here)
-      (λ (y : (slice_get sc.after.state.seats e.0 ≡ slice_get seen.state.seats e.0) × (is_idle sc.outcome ≡ true)).
-      later (subst (λ i. slice_get sc.after.state.seats i ≡ slice_get seen.state.seats i) is y.0 ∙ there) (λ e. y.1))
-      (steps_or_stays seen e.0 c l h (ap (slice_get seen.state.seats) is ∙ there) e.1))
+      (λ (y : (seat_of sc.after e.0 ≡ seat_of seen e.0) × (is_idle sc.outcome ≡ true)).
+      later (subst (λ i. seat_of sc.after i ≡ seat_of seen i) is y.0 ∙ there) (λ e. y.1))
+      (steps_or_stays seen e.0 c l h (ap (seat_of seen) is ∙ there) e.1))
       (λ (ne : e.0 ≡ d → ⊥). later (same_beside seen e.0 d d c l h there e.1 ne ∙ there) (λ e. absurd (ne e)))
       (cases_eq e.0 d)

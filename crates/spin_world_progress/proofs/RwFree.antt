@@ -1,7 +1,8 @@
 -- A read-write lock is free of deadlock. The readers leave in the same two rounds. A holder that does more than read is
 -- then alone, and each round takes a move from it.
-use Rattle.spin_world_progress.proofs.Names.{Knows, good, cases_eq, scene, eqb-true, empty_is, ◌<◌, one_of, eq-eqb, row_tells, in_call, StandsFor, ne_eqb, entries-other, Holding, Upgrade, Asking, max, suc, not, resting, ◌≡◌, ℕ, ◌+◌, ◌≤◌, ◌==◌, Bool, true, false, Option, Some, None, List, [], ◌∷◌, length, slice_get, refl, ap, sym, ◌∙◌, arith, Plain, Kind, reading, upgradable, asking, writing, Holder, Change, releases, turns, count_kind, weight, rw_word, apply_some, IsOpenStep, IsExclusive, ◌-◌, ◌⊎◌, ◌||◌, ◌&&◌, subst, inl, inr, ⊎_elim, nat_lt, min, if◌then◌else◌, lt-ltb, sum_by-cons, same_kind, may_turn, upgrader, all_kinds, by_kinds, read, read_upgradable, reader_limit, Answer, Hold, Seat, Idle, Calling, Next, Continue, Answers, Move, Step, Weak, Mark, Machine, after, at_first, goes_on, get-set_same, Seen, Scene, scene_at, opening, seen_after, eqb_self, Notes, Plays, Invariant, calls, RwCall, Read, UpgradeableRead, RwPoint, rw_table, rw_machine, rw_notes, rw_keeping, rw_facts, Test, grants_any, refuses_any, leading, rounds_by, rounds_beside, GrantsSomebody, RwIsDeadlockFree, without_holder, with_kind, filter, list_any, list_all, entries, is_empty}
-use Rattle.spin_world.proofs.RwNames.{Write, Exchange, Release, Entries}
+use Rattle.spin_world_progress.proofs.Names.{seat_of, Knows, good, cases_eq, scene, eqb-true, empty_is, ◌<◌, one_of, eq-eqb, row_tells, in_call, StandsFor, ne_eqb, entries-other, Holding, Upgrade, Asking, max, suc, not, resting, ◌≡◌, ℕ, ◌+◌, ◌≤◌, ◌==◌, Bool, true, false, Option, Some, None, List, [], ◌∷◌, length, slice_get, refl, ap, sym, ◌∙◌, arith, Plain, Kind, reading, upgradable, asking, writing, Holder, Change, releases, turns, count_kind, weight, rw_word, apply_some, IsOpenStep, IsExclusive, ◌-◌, ◌⊎◌, ◌||◌, ◌&&◌, subst, inl, inr, ⊎_elim, nat_lt, min, if◌then◌else◌, lt-ltb, sum_by-cons, same_kind, upgrader, all_kinds, by_kinds, reader_limit, Answer, Hold, Seat, Idle, Calling, Next, Continue, Answers, Move, Step, Weak, Mark, Machine, after, at_first, goes_on, get-set_same, Seen, Scene, scene_at, opening, seen_after, eqb_self, Plays, Invariant, calls, RwCall, RwPoint, rw_machine, rw_notes, rw_facts, Test, grants_any, without_holder, with_kind, filter, list_any, list_all, entries, is_empty}
+use Rattle.spin_world_progress.specs.Rw.{GrantsSomebody, RwIsDeadlockFree, refuses_any, leading, rounds_by, rounds_beside}
+use Rattle.spin_world.proofs.RwNames.{Write, Exchange, Release, Entries, Read, UpgradeableRead, may_turn, read, read_upgradable}
 use Rattle.spin_model.specs.declared.place.Hold.TheVariants as hold
 use Rattle.spin_step_more.specs.RwCalls.{asks_of}
 use Rattle.spin_step_more.specs.declared.rw_calls.RwPoint.TheVariants.{First}
@@ -325,10 +326,7 @@ module _ {V : Type 0} (v : V) (cap : ℕ) (some : 1 ≤ cap) where
   abbrev m : Machine ℕ V RwCall RwPoint (Answer V)
   m = rw_machine v cap
 
-  abbrev k : Notes (rw_table v cap)
-  k = rw_keeping v cap
-
-  abbrev f : Plays m k
+  abbrev f : Plays m (rw_notes v cap)
   f = rw_facts v cap
 
   abbrev World : Type 0
@@ -344,7 +342,7 @@ module _ {V : Type 0} (v : V) (cap : ℕ) (some : 1 ≤ cap) where
   sc seen q c l h = scene_at m seen q Step (Some (Calling c l h))
 
   abbrev Grants : World → ℕ → RwCall → RwPoint → Option Hold → Type 0
-  Grants seen q c l h = let y = sc seen q c l h in goal q Step y.outcome (slice_get y.after.state.seats q) ≡ true
+  Grants seen q c l h = let y = sc seen q c l h in goal q Step y.outcome (seat_of y.after q) ≡ true
 
   weak : (seen : World) (q : ℕ) (c : RwCall) (h : Option Hold) (next : Next RwPoint (Answer V)) → let n = goes_on seen.state q c h next in goal q Weak n.outcome (slice_get n.next.seats q) ≡ true
   weak seen q c h (Continue l) = refl
@@ -358,13 +356,13 @@ module _ {V : Type 0} (v : V) (cap : ℕ) (some : 1 ≤ cap) where
   reads_so reader e = only_read e.holders && (if reader then reads e.holders else not (reads e.holders))
 
   -- a reader's step is a release, and a newcomer's step that is no grant does not change the holders
-  others_step : (seen : World) (q : ℕ) (c : RwCall) (l : RwPoint) (h : Option Hold) (reader : Bool) → slice_get seen.state.seats q ≡ Some (Calling c l h) → Sits (reads_so reader) q (Some (Calling c l h)) → let y = sc seen q c l h in
-      Grants seen q c l h ⊎ (((y.change ≡ None) × (reader ≡ false)) ⊎ ((y.change ≡ Some (releases q reading)) × (reader ≡ true) × (leaves (Some (Calling c l h)) ≡ true) × (slice_get y.after.state.seats q ≡ Some Idle)))
+  others_step : (seen : World) (q : ℕ) (c : RwCall) (l : RwPoint) (h : Option Hold) (reader : Bool) → seat_of seen q ≡ Some (Calling c l h) → Sits (reads_so reader) q (Some (Calling c l h)) → let y = sc seen q c l h in
+      Grants seen q c l h ⊎ (((y.change ≡ None) × (reader ≡ false)) ⊎ ((y.change ≡ Some (releases q reading)) × (reader ≡ true) × (leaves (Some (Calling c l h)) ≡ true) × (seat_of y.after q ≡ Some Idle)))
   others_step seen q c l h reader there so = grind (arith, so, get-set_same seen.state.seats q Idle _ there)
 
   -- a step of the other party, which holds in this way
-  its_step : (seen : World) (u : ℕ) (c : RwCall) (l : RwPoint) (h : Option Hold) (kind : Option Kind) → slice_get seen.state.seats u ≡ Some (Calling c l h) → Sits (λ e. same_kinds kind (kind_in e.holders)) u (Some (Calling c l h)) → let y = sc seen u c l h in
-      Grants seen u c l h ⊎ ((y.change ≡ None) ⊎ ((same_kinds kind (from y.change) ≡ true) × ((is_out y.change ≡ true) × (is_asking kind ≡ false) × (leaves (Some (Calling c l h)) ≡ true) × (slice_get y.after.state.seats u ≡ Some Idle) ⊎ (is_turn y.change ≡ true) × (leaves (Some (Calling c l h)) ≡ false) × (leaves (slice_get y.after.state.seats u) ≡ false))))
+  its_step : (seen : World) (u : ℕ) (c : RwCall) (l : RwPoint) (h : Option Hold) (kind : Option Kind) → seat_of seen u ≡ Some (Calling c l h) → Sits (λ e. same_kinds kind (kind_in e.holders)) u (Some (Calling c l h)) → let y = sc seen u c l h in
+      Grants seen u c l h ⊎ ((y.change ≡ None) ⊎ ((same_kinds kind (from y.change) ≡ true) × ((is_out y.change ≡ true) × (is_asking kind ≡ false) × (leaves (Some (Calling c l h)) ≡ true) × (seat_of y.after u ≡ Some Idle) ⊎ (is_turn y.change ≡ true) × (leaves (Some (Calling c l h)) ≡ false) × (leaves (seat_of y.after u) ≡ false))))
   its_step seen u c l h kind there so =
       grind (
         arith,
@@ -389,7 +387,7 @@ module _ {V : Type 0} (v : V) (cap : ℕ) (some : 1 ≤ cap) where
     abbrev x : Wait ℕ V RwCall RwPoint (Answer V)
     x = record { goal = goal; party = p; call = c; hold = None; At = λ l. Unit {0}; Known = Known; Fine = λ seen. Unit {0}; mine = λ s. mine_by c room u s.holders; theirs = λ s l. theirs_by (is_write c) room u s.holders }
 
-    module _ (seen : World) (good : Invariant m k seen) where
+    module _ (seen : World) (good : Invariant f seen) where
       abbrev s : Plain
       s = seen.plain
 
@@ -399,7 +397,7 @@ module _ {V : Type 0} (v : V) (cap : ℕ) (some : 1 ≤ cap) where
       abbrev b : Bool
       b = beside u s.holders
 
-      sits : (test : Entries → Bool) (q : ℕ) → test (entries q s) ≡ true → walk.SitsSo (rw_notes v cap) test q (slice_get seen.state.seats q)
+      sits : (test : Entries → Bool) (q : ℕ) → test (entries q s) ≡ true → walk.SitsSo (rw_notes v cap) test q (seat_of seen q)
       sits test q is = walk.sits_so (rw_notes v cap) test seen good q is
 
       -- if it is alone it has the word to itself
@@ -414,17 +412,17 @@ module _ {V : Type 0} (v : V) (cap : ℕ) (some : 1 ≤ cap) where
       word_is none = let word : seen.state.words ≡ rw_word s = cc (good.encodes) in word ∙ ap (λ hs. sum_by (λ (h : Holder). weight h.kind) hs) (sym (all_its u s.holders none))
 
       -- the waiting party holds nothing, so somebody else reads with it
-      nothing_mine : (l : RwPoint) → slice_get seen.state.seats p ≡ Some (Calling c l None) → is_empty (its p s.holders) ≡ true
-      nothing_mine l mine_at = row_tells (rw_notes v cap) c l None p s (seen.span p) (λ e. is_empty e.holders) _ (in_call m k seen p c l None good mine_at).knows (grind (arith, comes))
+      nothing_mine : (l : RwPoint) → seat_of seen p ≡ Some (Calling c l None) → is_empty (its p s.holders) ≡ true
+      nothing_mine l mine_at = row_tells (rw_notes v cap) c l None p s (seen.span p) (λ e. is_empty e.holders) _ (in_call f p good mine_at).knows (grind (arith, comes))
 
-      reader_beside : {l : RwPoint} → Known seen → slice_get seen.state.seats p ≡ Some (Calling c l None) → b ≡ true → (q : ℕ) × (q ≡ u → ⊥) × (q ≡ p → ⊥) × (reads (its q s.holders) ≡ true)
+      reader_beside : {l : RwPoint} → Known seen → seat_of seen p ≡ Some (Calling c l None) → b ≡ true → (q : ℕ) × (q ≡ u → ⊥) × (q ≡ p → ⊥) × (reads (its q s.holders) ≡ true)
       reader_beside {l} known mine_at some =
           let z = witness u s.holders some in
           (z.0, z.1, λ e. true≢false (sym (ap (λ i. is_empty (its i s.holders)) e ∙ nothing_mine l mine_at) ∙ z.2), reads_some (its z.0 s.holders) z.2 (known z.0 z.1))
 
       -- a step of a reader, or of a newcomer
 
-      module _ (l : RwPoint) (n : ℕ) (within : walk.Within m k f x seen l (suc n)) (known : Known seen) (q : ℕ) (d : RwCall) (i : RwPoint) (j : Option Hold) (ne : q ≡ p → ⊥) (at : slice_get seen.state.seats q ≡ Some (Calling d i j)) (made : walk.After m k f x seen q (sc seen q d i j)) (mine_at : slice_get seen.state.seats p ≡ Some (Calling c l None)) where
+      module _ (l : RwPoint) (n : ℕ) (within : walk.Within f x seen l (suc n)) (known : Known seen) (q : ℕ) (d : RwCall) (i : RwPoint) (j : Option Hold) (ne : q ≡ p → ⊥) (at : seat_of seen q ≡ Some (Calling d i j)) (made : walk.After f x seen q (sc seen q d i j)) (mine_at : seat_of seen p ≡ Some (Calling c l None)) where
         abbrev y : Scene ℕ V RwCall RwPoint (Answer V)
         y = sc seen q d i j
 
@@ -433,20 +431,20 @@ module _ {V : Type 0} (v : V) (cap : ℕ) (some : 1 ≤ cap) where
         before = subst (λ o. theirs_by (is_write c) room u s.holders q o ≤ suc n) at (within.theirs q ne)
 
         -- a step that does not change the plain lock changes nobody else's load
-        unchanged : y.change ≡ None → theirs_by (is_write c) room u s.holders q (slice_get y.after.state.seats q) ≤ n → walk.Falls m k f x seen l q y n
+        unchanged : y.change ≡ None → theirs_by (is_write c) room u s.holders q (seat_of y.after q) ≤ n → walk.Falls f x seen l q y n
         unchanged none his =
             let same : y.after.plain ≡ s = ap (apply_some s) none in
             record {
-              his = subst (λ (z : Plain). theirs_by (is_write c) room u z.holders q (slice_get y.after.state.seats q) ≤ n) (sym same) his;
+              his = subst (λ (z : Plain). theirs_by (is_write c) room u z.holders q (seat_of y.after q) ≤ n) (sym same) his;
               mine = subst (λ (z : Plain). mine_by c room u z.holders l ≤ max (mine_by c room u s.holders l) n) (sym same) (omega arith);
-              others = λ o other not_his. subst (λ (z : Plain). theirs_by (is_write c) room u z.holders o (slice_get seen.state.seats o) ≤ max (theirs_by (is_write c) room u s.holders o (slice_get seen.state.seats o)) n) (sym same) (omega arith);
+              others = λ o other not_his. subst (λ (z : Plain). theirs_by (is_write c) room u z.holders o (seat_of seen o) ≤ max (theirs_by (is_write c) room u s.holders o (seat_of seen o)) n) (sym same) (omega arith);
             }
 
         its_same : (o : ℕ) → (q ≡ o → ⊥) → its o y.after.plain.holders ≡ its o s.holders
         its_same o not_his = ap (λ (e : Entries). e.holders) (entries-other s q o y.change not_his made.opens)
 
         module _ (other : q ≡ u → ⊥) where
-          reader_gone : y.change ≡ Some (releases q reading) → reads (its q s.holders) ≡ true → leaves (Some (Calling d i j)) ≡ true → slice_get y.after.state.seats q ≡ Some Idle → walk.Falls m k f x seen l q y n
+          reader_gone : y.change ≡ Some (releases q reading) → reads (its q s.holders) ≡ true → leaves (Some (Calling d i j)) ≡ true → seat_of y.after q ≡ Some Idle → walk.Falls f x seen l q y n
           reader_gone gone reader out idle =
               let after : y.after.plain.holders ≡ without_holder q reading s.holders = ap (λ c. (apply_some s c).holders) gone in
               let none : its q y.after.plain.holders ≡ [] = ap (λ (e : Entries). e.holders) (subst (StandsFor y.after.plain q (y.after.span q)) idle (made.good.parties q).stands) in
@@ -456,7 +454,7 @@ module _ {V : Type 0} (v : V) (cap : ℕ) (some : 1 ≤ cap) where
               record {
                 his = rw (ne_eqb q u (λ e. absurd (other e)), ap reads none) (omega arith);
                 mine = rw same (mine_gone c room l kind b (beside u y.after.plain.holders) n few less);
-                others = λ o not_its not_his. rw (same, its_same o not_his) (theirs_gone (is_write c) room kind b (beside u y.after.plain.holders) (o == u) (reads (its o s.holders)) (leaves (slice_get seen.state.seats o)) n few two less);
+                others = λ o not_its not_his. rw (same, its_same o not_his) (theirs_gone (is_write c) room kind b (beside u y.after.plain.holders) (o == u) (reads (its o s.holders)) (leaves (seat_of seen o)) n few two less);
               }
             where
               two : (a : Kind) → kind ≡ Some a → (room ≡ true) × (same_kind writing a ≡ false)
@@ -468,13 +466,13 @@ module _ {V : Type 0} (v : V) (cap : ℕ) (some : 1 ≤ cap) where
                   by false not_so many = not_so
                   by true writes many = absurd (writes_alone a s.holders writes (kind_counts u a s.holders is) good.exclusive.writer many)
 
-          reader_steps : walk.Reaches m k f x y ⊎ walk.Falls m k f x seen l q y n
+          reader_steps : walk.Reaches f x y ⊎ walk.Falls f x seen l q y n
           reader_steps =
               let reader = reads (its q s.holders) in
               ⊎_elim inl
-              (λ (z : ((y.change ≡ None) × (reader ≡ false)) ⊎ ((y.change ≡ Some (releases q reading)) × (reader ≡ true) × (leaves (Some (Calling d i j)) ≡ true) × (slice_get y.after.state.seats q ≡ Some Idle))).
+              (λ (z : ((y.change ≡ None) × (reader ≡ false)) ⊎ ((y.change ≡ Some (releases q reading)) × (reader ≡ true) × (leaves (Some (Calling d i j)) ≡ true) × (seat_of y.after q ≡ Some Idle))).
               inr (⊎_elim (λ (stays : (y.change ≡ None) × (reader ≡ false)). unchanged stays.0 (rw (ne_eqb q u (λ e. absurd (other e)), stays.1) (omega arith)))
-              (λ (gone : (y.change ≡ Some (releases q reading)) × (reader ≡ true) × (leaves (Some (Calling d i j)) ≡ true) × (slice_get y.after.state.seats q ≡ Some Idle)). reader_gone gone.0 gone.1 gone.2 gone.3) z))
+              (λ (gone : (y.change ≡ Some (releases q reading)) × (reader ≡ true) × (leaves (Some (Calling d i j)) ≡ true) × (seat_of y.after q ≡ Some Idle)). reader_gone gone.0 gone.1 gone.2 gone.3) z))
               (others_step seen q d i j reader at (subst (Sits (reads_so reader) q) at (sits (reads_so reader) q (grind (arith, known q other)))))
 
         module _ (is : q ≡ u) where
@@ -482,8 +480,8 @@ module _ {V : Type 0} (v : V) (cap : ℕ) (some : 1 ≤ cap) where
           beside_long : b ≡ true → base kind ≤ n
           beside_long some =
               let z = reader_beside known mine_at some in
-              reader_long (is_write c) room kind b (leaves (slice_get seen.state.seats z.0)) n
-              (subst (λ r. theirs_of (is_write c) room kind b false r (leaves (slice_get seen.state.seats z.0)) ≤ suc n) z.3 (subst (λ o. theirs_of (is_write c) room kind b o (reads (its z.0 s.holders)) (leaves (slice_get seen.state.seats z.0)) ≤ suc n) (ne_eqb z.0 u (λ e. absurd (z.1 e))) (within.theirs z.0 z.2)))
+              reader_long (is_write c) room kind b (leaves (seat_of seen z.0)) n
+              (subst (λ r. theirs_of (is_write c) room kind b false r (leaves (seat_of seen z.0)) ≤ suc n) z.3 (subst (λ o. theirs_of (is_write c) room kind b o (reads (its z.0 s.holders)) (leaves (seat_of seen z.0)) ≤ suc n) (ne_eqb z.0 u (λ e. absurd (z.1 e))) (within.theirs z.0 z.2)))
 
           own_before : theirs_of (is_write c) room kind b true (reads (its q s.holders)) (leaves (Some (Calling d i j))) ≤ suc n
           own_before = subst (λ z. theirs_of (is_write c) room kind b z (reads (its q s.holders)) (leaves (Some (Calling d i j))) ≤ suc n) (eq-eqb q u is) before
@@ -491,12 +489,12 @@ module _ {V : Type 0} (v : V) (cap : ℕ) (some : 1 ≤ cap) where
           so : Sits (λ e. same_kinds kind (kind_in e.holders)) q (Some (Calling d i j))
           so = subst (Sits (λ e. same_kinds kind (kind_in e.holders)) q) at (sits (λ e. same_kinds kind (kind_in e.holders)) q (subst (λ z. same_kinds kind (kind_of z s.holders) ≡ true) (sym is) (same_self kind)))
 
-          its_idles : y.change ≡ None → (ko : Option Kind) → kind ≡ ko → (z : Bool) → b ≡ z → walk.Reaches m k f x y ⊎ walk.Falls m k f x seen l q y n
+          its_idles : y.change ≡ None → (ko : Option Kind) → kind ≡ ko → (z : Bool) → b ≡ z → walk.Reaches f x y ⊎ walk.Falls f x seen l q y n
           its_idles none None kind_is z b_is = inr (unchanged none (rw (eq-eqb q u is, kind_is) (grind arith)))
           its_idles none (Some k0) kind_is false b_is = inl (its_step_alone seen q d i j k0 (word_is b_is ∙ one_word k0 (its u s.holders) one kind_is) (subst (λ o. Sits (λ e. same_kinds o (kind_in e.holders)) q (Some (Calling d i j))) kind_is so) none)
           its_idles none (Some k0) kind_is true b_is = inr (unchanged none (rw (eq-eqb q u is, b_is) (grind (arith, kind_is, beside_long b_is))))
 
-          out_falls : (ch : Option Change) → y.change ≡ ch → same_kinds kind (from ch) ≡ true → is_out ch ≡ true → is_asking kind ≡ false → leaves (Some (Calling d i j)) ≡ true → slice_get y.after.state.seats q ≡ Some Idle → walk.Falls m k f x seen l q y n
+          out_falls : (ch : Option Change) → y.change ≡ ch → same_kinds kind (from ch) ≡ true → is_out ch ≡ true → is_asking kind ≡ false → leaves (Some (Calling d i j)) ≡ true → seat_of y.after q ≡ Some Idle → walk.Falls f x seen l q y n
           out_falls (Some (releases r k0)) ch kind_is out asks leaving idle =
               let after : y.after.plain.holders ≡ without_holder r k0 s.holders = ap (λ c. (apply_some s c).holders) ch in
               let his : r ≡ u = (subst (IsOpenStep s q) ch made.opens).0 ∙ is in
@@ -506,11 +504,11 @@ module _ {V : Type 0} (v : V) (cap : ℕ) (some : 1 ≤ cap) where
               record {
                 his = rw (eq-eqb q u is, ap kind_in none) (grind arith);
                 mine = rw (ap kind_in none, still, was) (mine_left c room l k0 b (reads (its q s.holders)) n (subst (λ o. theirs_of (is_write c) room o b true (reads (its q s.holders)) true ≤ suc n) was (subst (λ z. theirs_of (is_write c) room kind b true (reads (its q s.holders)) z ≤ suc n) leaving own_before)) comes (ap is_asking (sym was) ∙ asks));
-                others = λ o not_its not_his. rw (ap kind_in none, still, its_same o not_his, ne_eqb o u (λ e. absurd (not_his (is ∙ sym e)))) (theirs_left (is_write c) room kind b (reads (its o s.holders)) (leaves (slice_get seen.state.seats o)) n asks);
+                others = λ o not_its not_his. rw (ap kind_in none, still, its_same o not_his, ne_eqb o u (λ e. absurd (not_his (is ∙ sym e)))) (theirs_left (is_write c) room kind b (reads (its o s.holders)) (leaves (seat_of seen o)) n asks);
               }
           out_falls ch is_ch kind_is out asks leaving idle = absurd (grind (arith, out))
 
-          turn_falls : (ch : Option Change) → y.change ≡ ch → same_kinds kind (from ch) ≡ true → is_turn ch ≡ true → leaves (Some (Calling d i j)) ≡ false → leaves (slice_get y.after.state.seats q) ≡ false → walk.Falls m k f x seen l q y n
+          turn_falls : (ch : Option Change) → y.change ≡ ch → same_kinds kind (from ch) ≡ true → is_turn ch ≡ true → leaves (Some (Calling d i j)) ≡ false → leaves (seat_of y.after q) ≡ false → walk.Falls f x seen l q y n
           turn_falls (Some (turns r j0 k0)) ch kind_is may before_out after_out =
               let after : y.after.plain.holders ≡ with_kind r j0 k0 s.holders = ap (λ c. (apply_some s c).holders) ch in
               let his : r ≡ u = (subst (IsOpenStep s q) ch made.opens).0 ∙ is in
@@ -521,20 +519,20 @@ module _ {V : Type 0} (v : V) (cap : ℕ) (some : 1 ≤ cap) where
               record {
                 his = rw (eq-eqb q u is, now, still, after_out) (its_turned (is_write c) room j0 k0 b (reads (its q y.after.plain.holders)) n may own_was (λ some. omega (arith, beside_long some, base_some kind)));
                 mine = rw (now, still, was) (mine_turned c room l j0 k0 b (reads (its q s.holders)) n may own_was);
-                others = λ o not_its not_his. rw (now, still, its_same o not_his, ne_eqb o u (λ e. absurd (not_his (is ∙ sym e))), was) (theirs_turned (is_write c) room j0 k0 b (reads (its o s.holders)) (leaves (slice_get seen.state.seats o)) n may);
+                others = λ o not_its not_his. rw (now, still, its_same o not_his, ne_eqb o u (λ e. absurd (not_his (is ∙ sym e))), was) (theirs_turned (is_write c) room j0 k0 b (reads (its o s.holders)) (leaves (seat_of seen o)) n may);
               }
           turn_falls ch is_ch kind_is may before_out after_out = absurd (grind (arith, may))
 
           abbrev Leaves : Type 0
-          Leaves = (is_out y.change ≡ true) × (is_asking kind ≡ false) × (leaves (Some (Calling d i j)) ≡ true) × (slice_get y.after.state.seats q ≡ Some Idle)
+          Leaves = (is_out y.change ≡ true) × (is_asking kind ≡ false) × (leaves (Some (Calling d i j)) ≡ true) × (seat_of y.after q ≡ Some Idle)
 
           abbrev Turns : Type 0
-          Turns = (is_turn y.change ≡ true) × (leaves (Some (Calling d i j)) ≡ false) × (leaves (slice_get y.after.state.seats q) ≡ false)
+          Turns = (is_turn y.change ≡ true) × (leaves (Some (Calling d i j)) ≡ false) × (leaves (seat_of y.after q) ≡ false)
 
           abbrev Moves : Type 0
           Moves = Leaves ⊎ Turns
 
-          its_steps : walk.Reaches m k f x y ⊎ walk.Falls m k f x seen l q y n
+          its_steps : walk.Reaches f x y ⊎ walk.Falls f x seen l q y n
           its_steps =
               ⊎_elim inl
               (λ (z : (y.change ≡ None) ⊎ ((same_kinds kind (from y.change) ≡ true) × Moves)).
@@ -545,7 +543,7 @@ module _ {V : Type 0} (v : V) (cap : ℕ) (some : 1 ≤ cap) where
 
       -- its own step
 
-      module _ (l : RwPoint) (n : ℕ) (within : walk.Within m k f x seen l (suc n)) (there : slice_get seen.state.seats p ≡ Some (Calling c l None)) where
+      module _ (l : RwPoint) (n : ℕ) (within : walk.Within f x seen l (suc n)) (there : seat_of seen p ≡ Some (Calling c l None)) where
         abbrev mine_sc : Scene ℕ V RwCall RwPoint (Answer V)
         mine_sc = sc seen p c l None
 
@@ -554,7 +552,7 @@ module _ {V : Type 0} (v : V) (cap : ℕ) (some : 1 ≤ cap) where
         onward None = First
 
         abbrev GoesTo : RwPoint → Type 0
-        GoesTo e = (slice_get mine_sc.after.state.seats p ≡ Some (Calling c e None)) × (mine_sc.after.plain ≡ s)
+        GoesTo e = (seat_of mine_sc.after p ≡ Some (Calling c e None)) × (mine_sc.after.plain ≡ s)
 
         goes : (o : Option ℕ) → lets cap c seen.state.words ≡ o → Grants seen p c l None ⊎ GoesTo (onward o)
         goes o is = grind (arith, comes, is, get-set_same seen.state.seats p (Calling c (onward o) None) _ there)
@@ -566,10 +564,10 @@ module _ {V : Type 0} (v : V) (cap : ℕ) (some : 1 ≤ cap) where
         goes_beside : seen.state.words ≡ weight reading → is_write c ≡ false → room ≡ true → Grants seen p c l None ⊎ (GoesTo (Exchange (weight reading)) × (reading_rank (Exchange (weight reading)) ≤ reading_rank l - 1))
         goes_beside alone not_write more = let big : nat_lt 1 (min cap reader_limit) ≡ true = grind (arith, more) in grind (arith, comes, alone, not_write, big, get-set_same seen.state.seats p (Calling c (Exchange (weight reading)) None) _ there)
 
-        on : (e : RwPoint) → GoesTo e → mine_by c room u s.holders e ≤ n → walk.Own m k f x seen l n mine_sc
+        on : (e : RwPoint) → GoesTo e → mine_by c room u s.holders e ≤ n → walk.Own f x seen l n mine_sc
         on e goes low = inr (e, goes.0, tt, rw goes.1 low, rw goes.1 (λ o not_its other. omega arith))
 
-        own : (ko : Option Kind) → kind ≡ ko → (z : Bool) → b ≡ z → walk.Own m k f x seen l n mine_sc
+        own : (ko : Option Kind) → kind ≡ ko → (z : Bool) → b ≡ z → walk.Own f x seen l n mine_sc
         own ko kind_is true b_is = let o = lets cap c seen.state.words in ⊎_elim inl (λ (g : GoesTo (onward o)). on (onward o) g (rw b_is (omega arith))) (goes o refl)
         own None kind_is false b_is =
             ⊎_elim inl (λ (g : GoesTo (Exchange 0) × (own_rank c (Exchange 0) ≤ own_rank c l - 1)). on (Exchange 0) g.0 (rw (b_is, kind_is) (omega (arith, g.1, before_none))))
@@ -582,10 +580,10 @@ module _ {V : Type 0} (v : V) (cap : ℕ) (some : 1 ≤ cap) where
             before_one : mine_of c room l (Some reading) false ≤ suc n
             before_one = subst (λ z. mine_of c room l (Some reading) z ≤ suc n) b_is (subst (λ o. mine_of c room l o b ≤ suc n) kind_is within.mine)
 
-            stays : mine_of c room First (Some reading) false ≡ 0 → ((e : RwPoint) → mine_of c room e (Some reading) false ≡ mine_of c room First (Some reading) false) → walk.Own m k f x seen l n mine_sc
+            stays : mine_of c room First (Some reading) false ≡ 0 → ((e : RwPoint) → mine_of c room e (Some reading) false ≡ mine_of c room First (Some reading) false) → walk.Own f x seen l n mine_sc
             stays zero same = let o = lets cap c seen.state.words in ⊎_elim inl (λ (g : GoesTo (onward o)). on (onward o) g (rw (b_is, kind_is) (omega (arith, same (onward o), zero)))) (goes o refl)
 
-            by : (w : Bool) → is_write c ≡ w → (two : Bool) → room ≡ two → walk.Own m k f x seen l n mine_sc
+            by : (w : Bool) → is_write c ≡ w → (two : Bool) → room ≡ two → walk.Own f x seen l n mine_sc
             by true writes two two_is = stays (rw writes refl) (λ e. rw writes refl)
             by false writes false two_is = stays (rw (writes, two_is) refl) (λ e. rw (writes, two_is) refl)
             by false writes true two_is =
@@ -604,15 +602,15 @@ module _ {V : Type 0} (v : V) (cap : ℕ) (some : 1 ≤ cap) where
         by true is = rw (is, ap kind_in (ap (λ i. its i hs) (sym (eqb-true q u is)) ∙ none)) (grind arith)
         by false other = rw (other, ap reads none) refl
 
-    busy_by : (seen : World) → Invariant m k seen → (l : RwPoint) (q : ℕ) → 1 ≤ walk.theirs m k f x seen l q → is_busy (slice_get seen.state.seats q) ≡ true
+    busy_by : (seen : World) → Invariant f seen → (l : RwPoint) (q : ℕ) → 1 ≤ walk.theirs f x seen l q → is_busy (seat_of seen q) ≡ true
     busy_by seen good l q long = by (is_empty (its q seen.plain.holders)) refl
       where
-        by : (z : Bool) → is_empty (its q seen.plain.holders) ≡ z → is_busy (slice_get seen.state.seats q) ≡ true
-        by true none = absurd (omega (arith, long, its_none seen.plain.holders q (slice_get seen.state.seats q) (empty_is (its q seen.plain.holders) none)))
+        by : (z : Bool) → is_empty (its q seen.plain.holders) ≡ z → is_busy (seat_of seen q) ≡ true
+        by true none = absurd (omega (arith, long, its_none seen.plain.holders q (seat_of seen q) (empty_is (its q seen.plain.holders) none)))
         by false some = walk.busy_so (rw_notes v cap) holds_lock q _ refl (λ h so. grind (arith, so)) (walk.sits_so (rw_notes v cap) holds_lock seen good q (ap not some))
 
     -- a party that rests asks nothing
-    asks_not : (seen : World) → Invariant m k seen → (q : ℕ) (j : Option Hold) → slice_get seen.state.seats q ≡ Some (resting j) → (q == u) ≡ true → is_asking (kind_of u seen.plain.holders) ≡ false
+    asks_not : (seen : World) → Invariant f seen → (q : ℕ) (j : Option Hold) → seat_of seen q ≡ Some (resting j) → (q == u) ≡ true → is_asking (kind_of u seen.plain.holders) ≡ false
     asks_not seen good q j at is = by (is_asking (kind_of u seen.plain.holders)) refl
       where
         by : (z : Bool) → is_asking (kind_of u seen.plain.holders) ≡ z → z ≡ false
@@ -626,8 +624,8 @@ module _ {V : Type 0} (v : V) (cap : ℕ) (some : 1 ≤ cap) where
     release_leaves : (d : RwCall) (i : RwPoint) (j : Option Hold) → is_release (asks_of d j) ≡ true → leaves (Some (Calling d i j)) ≡ true
     release_leaves d i j is = grind (arith, is)
 
-    begins_by : (seen : World) → Invariant m k seen → (l : RwPoint) (q : ℕ) (d : RwCall) (i : RwPoint) (j : Option Hold) → slice_get seen.state.seats q ≡ Some (resting j)
-        → (x.theirs seen.plain l q (Some (Calling d i j)) ≤ walk.theirs m k f x seen l q) × (is_release (m.asks d j) ≡ true → x.theirs seen.plain l q (Some (Calling d i j)) ≤ walk.theirs m k f x seen l q - 1)
+    begins_by : (seen : World) → Invariant f seen → (l : RwPoint) (q : ℕ) (d : RwCall) (i : RwPoint) (j : Option Hold) → seat_of seen q ≡ Some (resting j)
+        → (x.theirs seen.plain l q (Some (Calling d i j)) ≤ walk.theirs f x seen l q) × (is_release (m.asks d j) ≡ true → x.theirs seen.plain l q (Some (Calling d i j)) ≤ walk.theirs f x seen l q - 1)
     begins_by seen good l q d i j at =
         let hs = seen.plain.holders in
         rw (ap leaves at ∙ rests_in j) (
@@ -635,16 +633,16 @@ module _ {V : Type 0} (v : V) (cap : ℕ) (some : 1 ≤ cap) where
           λ is. rw (release_leaves d i j is) (theirs_leaving (is_write c) room (kind_of u hs) (beside u hs) (q == u) (reads (its q hs)) (asks_not seen good q j at)),
         )
 
-    known_after : (seen : World) (q : ℕ) (move : Move RwCall V) (l : RwPoint) → walk.Waits m k f x seen l → walk.Reaches m k f x (scene m seen q move) ⊎ Known (scene m seen q move).after
+    known_after : (seen : World) (q : ℕ) (move : Move RwCall V) (l : RwPoint) → walk.Waits f x seen l → walk.Reaches f x (scene m seen q move) ⊎ Known (scene m seen q move).after
     known_after seen q move l w =
-        walk.plain_kept m k f x (λ s. (o : ℕ) → (o ≡ u → ⊥) → only_read (its o s.holders) ≡ true) seen l w q w.2
+        walk.plain_kept f x (λ s. (o : ℕ) → (o ≡ u → ⊥) → only_read (its o s.holders) ≡ true) seen l w q w.2
         (λ d i j at opens. ⊎_elim (λ (is : q ≡ u). inr (λ o other. ap only_read (same d i j opens o (λ e. other (sym e ∙ is))) ∙ w.2 o other))
         (λ (ne : q ≡ u → ⊥).
         let reader = reads (its q seen.plain.holders) in
         let y = sc seen q d i j in
         ⊎_elim inl
         (λ z. inr (⊎_elim (λ (none : (y.change ≡ None) × (reader ≡ false)) o other. ap (λ c. only_read (its o (apply_some seen.plain c).holders)) none.0 ∙ w.2 o other)
-        (λ (gone : (y.change ≡ Some (releases q reading)) × (reader ≡ true) × (leaves (Some (Calling d i j)) ≡ true) × (slice_get y.after.state.seats q ≡ Some Idle)) o other.
+        (λ (gone : (y.change ≡ Some (releases q reading)) × (reader ≡ true) × (leaves (Some (Calling d i j)) ≡ true) × (seat_of y.after q ≡ Some Idle)) o other.
         ap (λ c. only_read (its o (apply_some seen.plain c).holders)) gone.0 ∙ read_on o q reading seen.plain.holders (w.2 o other)) z))
         (others_step seen q d i j reader at (subst (Sits (reads_so reader) q) at (sits seen w.3 (reads_so reader) q (grind (arith, w.2 q ne))))))
         (cases_eq q u))
@@ -654,7 +652,7 @@ module _ {V : Type 0} (v : V) (cap : ℕ) (some : 1 ≤ cap) where
         same d i j opens o ne = ap (λ (e : Entries). e.holders) (entries-other seen.plain q o (sc seen q d i j).change ne opens)
 
     -- somebody has a load
-    some_load : (seen : World) (l : RwPoint) → walk.Waits m k f x seen l → walk.Within m k f x seen l 0 → ⊥
+    some_load : (seen : World) (l : RwPoint) → walk.Waits f x seen l → walk.Within f x seen l 0 → ⊥
     some_load seen l w none = by (beside u hs) refl (kind_of u hs) refl
       where
         hs : List Holder
@@ -665,17 +663,17 @@ module _ {V : Type 0} (v : V) (cap : ℕ) (some : 1 ≤ cap) where
             let z = reader_beside seen w.3 w.2 w.0 is in
             omega (
               arith,
-              reader_some (is_write c) room (kind_of u hs) (beside u hs) (leaves (slice_get seen.state.seats z.0)),
-              subst (λ r. theirs_of (is_write c) room (kind_of u hs) (beside u hs) false r (leaves (slice_get seen.state.seats z.0)) ≤ 0) z.3 (subst (λ o. theirs_of (is_write c) room (kind_of u hs) (beside u hs) o (reads (its z.0 hs)) (leaves (slice_get seen.state.seats z.0)) ≤ 0) (ne_eqb z.0 u (λ e. absurd (z.1 e))) (none.theirs z.0 z.2)),
+              reader_some (is_write c) room (kind_of u hs) (beside u hs) (leaves (seat_of seen z.0)),
+              subst (λ r. theirs_of (is_write c) room (kind_of u hs) (beside u hs) false r (leaves (seat_of seen z.0)) ≤ 0) z.3 (subst (λ o. theirs_of (is_write c) room (kind_of u hs) (beside u hs) o (reads (its z.0 hs)) (leaves (seat_of seen z.0)) ≤ 0) (ne_eqb z.0 u (λ e. absurd (z.1 e))) (none.theirs z.0 z.2)),
             )
         by false is None kind_is = omega (arith, own_some c l, subst (λ z. mine_of c room l None z ≤ 0) is (subst (λ o. mine_of c room l o (beside u hs) ≤ 0) kind_is none.mine))
         by false is (Some a) kind_is =
-            alone_some c room l a (reads (its u hs)) (leaves (slice_get seen.state.seats u)) (subst (λ z. mine_of c room l (Some a) z ≤ 0) is (subst (λ o. mine_of c room l o (beside u hs) ≤ 0) kind_is none.mine))
-            (subst (λ z. theirs_of (is_write c) room (Some a) z true (reads (its u hs)) (leaves (slice_get seen.state.seats u)) ≤ 0) is
-            (subst (λ o. theirs_of (is_write c) room o (beside u hs) true (reads (its u hs)) (leaves (slice_get seen.state.seats u)) ≤ 0) kind_is
-            (subst (λ z. theirs_of (is_write c) room (kind_of u hs) (beside u hs) z (reads (its u hs)) (leaves (slice_get seen.state.seats u)) ≤ 0) (eqb_self u) (none.theirs u (λ e. no_kind (its u hs) a (ap (λ i. is_empty (its i hs)) e ∙ nothing_mine seen w.3 l w.0) kind_is)))))
+            alone_some c room l a (reads (its u hs)) (leaves (seat_of seen u)) (subst (λ z. mine_of c room l (Some a) z ≤ 0) is (subst (λ o. mine_of c room l o (beside u hs) ≤ 0) kind_is none.mine))
+            (subst (λ z. theirs_of (is_write c) room (Some a) z true (reads (its u hs)) (leaves (seat_of seen u)) ≤ 0) is
+            (subst (λ o. theirs_of (is_write c) room o (beside u hs) true (reads (its u hs)) (leaves (seat_of seen u)) ≤ 0) kind_is
+            (subst (λ z. theirs_of (is_write c) room (kind_of u hs) (beside u hs) z (reads (its u hs)) (leaves (seat_of seen u)) ≤ 0) (eqb_self u) (none.theirs u (λ e. no_kind (its u hs) a (ap (λ i. is_empty (its i hs)) e ∙ nothing_mine seen w.3 l w.0) kind_is)))))
 
-    walks : walk.Walks m k f x
+    walks : walk.Walks f x
     walks =
         record {
           fine = λ seen q move good fine. tt;
@@ -692,7 +690,7 @@ module _ {V : Type 0} (v : V) (cap : ℕ) (some : 1 ≤ cap) where
         }
 
   -- an upgrade holds
-  come_at : (c : RwCall) (l : RwPoint) (p : ℕ) (s : Plain) (span : List Mark) → (asks_of c None).waits ≡ true → Knows k c l None p s span → at_come c
+  come_at : (c : RwCall) (l : RwPoint) (p : ℕ) (s : Plain) (span : List Mark) → (asks_of c None).waits ≡ true → Knows (rw_notes v cap) c l None p s span → at_come c
   come_at c l p s span asks knows = grind (arith, asks, knows)
 
   pub grants_somebody : (n : ℕ) (past : List (ℕ × Move RwCall V)) (rounds : List (List (ℕ × Move RwCall V))) → GrantsSomebody m n past rounds
@@ -700,15 +698,15 @@ module _ {V : Type 0} (v : V) (cap : ℕ) (some : 1 ≤ cap) where
       let seen = seen_after m (opening m n) past in
       let hs = seen.plain.holders in
       let u = lead p hs in
-      let at = come_at c l p seen.plain (seen.span p) asks (calls m k f n past p c l None there).knows in
-      let known : Known p u c at seen = λ q ne. others_read p q hs (one_leads seen.plain (good m k f n past).exclusive) ne in
-      walk.ends m k f (x p u c at) (walks p u c at) n past rounds l there tt known tt are
+      let at = come_at c l p seen.plain (seen.span p) asks (calls f n past p there).knows in
+      let known : Known p u c at seen = λ q ne. others_read p q hs (one_leads seen.plain (good f n past).exclusive) ne in
+      walk.ends f (x p u c at) (walks p u c at) n past rounds l there tt known tt are
       (λ w.
       let none : same_kind reading (leading hs) ≡ true → kind_of u hs ≡ None = λ is. ap kind_in (ap (λ i. its i hs) (lead_none p hs is) ∙ empty_is (its p hs) (nothing_mine p u c at seen w.3 l w.0)) in
       let leads : same_kind reading (leading hs) ≡ false → kind_of u hs ≡ Some (leading hs) = λ is. lead_kind p hs is (one p u c at seen w.3) in
       record {
         mine = omega (arith, few, mine_start c room l (leading hs) (kind_of u hs) (beside u hs) (reads hs) none leads);
-        theirs = λ q ne. omega (arith, few, theirs_start (is_write c) room (leading hs) (kind_of u hs) (beside u hs) (q == u) (reads (its q hs)) (leaves (slice_get seen.state.seats q)) (reads hs) none leads (reads_in q hs));
+        theirs = λ q ne. omega (arith, few, theirs_start (is_write c) room (leading hs) (kind_of u hs) (beside u hs) (q == u) (reads (its q hs)) (leaves (seat_of seen q)) (reads hs) none leads (reads_in q hs));
       })
 
   pub deadlock_free : (n : ℕ) (past : List (ℕ × Move RwCall V)) (schedule : ℕ → ℕ × Move RwCall V) → RwIsDeadlockFree m n past schedule

@@ -1,11 +1,11 @@
 -- A seat is granted within four rounds: parties that sit leave within two, and a waiting party takes two to look and
 -- make its exchange.
-use Rattle.spin_world_progress.proofs.Names.{cases_eq, ◌≡◌, ℕ, ◌≤◌, ◌⊎◌, ◌==◌, Bool, true, false, Option, Some, None, List, nat_lt, slice_get, refl, arith, inl, inr, entries, Hold, Calling, Answers, Answer, Move, Step, after, at_first, Seen, scene_at, ◌-◌, ⊎_elim, if◌then◌else◌, entries_after, empty_is, seats, lt-ltb, Done, SeatsMachine, seats_table, seats_machine, get-set_same, Invariant, StandsSo, Test, grants_any}
+use Rattle.spin_world_progress.proofs.Names.{seat_of, cases_eq, ◌≡◌, ℕ, ◌≤◌, ◌⊎◌, ◌==◌, Bool, true, false, Option, Some, None, List, nat_lt, refl, arith, inl, inr, entries, Hold, Calling, Answers, Answer, Move, Step, after, at_first, Seen, scene_at, ◌-◌, ⊎_elim, if◌then◌else◌, entries_after, empty_is, seats, lt-ltb, Done, SeatsMachine, seats_machine, get-set_same, Invariant, StandsSo, Test, grants_any}
 use Rattle.spin_seats.specs.declared.calls.SeatsCall.{SeatsCall}
 use Rattle.spin_seats.specs.declared.calls.SeatsCall.TheVariants.{Enter, Leave}
 use Rattle.spin_seats.specs.declared.calls.SeatsPoint.{SeatsPoint}
 use Rattle.spin_seats.specs.declared.calls.SeatsPoint.TheVariants.{First, Exchange}
-use Rattle.spin_world_seats.proofs.Owed.{seats_notes, seats_keeping, seats_facts}
+use Rattle.spin_world_seats.proofs.Owed.{seats_notes, seats_facts}
 use Rattle.spin_world_progress.specs.Seats.{SeatsSomebodyInFour, SeatsAreDeadlockFree}
 use Rattle.spin_world_progress.proofs.Endless.{at_last}
 use Rattle.spin_world_progress.proofs.Flag.{nobody_holds}
@@ -38,18 +38,18 @@ module _ (n : ℕ) (some : 1 ≤ n) where
     abbrev Nobody : World → Type 0
     Nobody seen = (q : ℕ) → holds_lock (entries q seen.plain) ≡ false
 
-    goes : (seen : World) (l : SeatsPoint) → slice_get seen.state.seats p ≡ Some (Calling Enter l h) → (b : Bool) → nat_lt seen.state.words (seats n) ≡ b → let x = scene_at m seen p Step (Some (Calling Enter l h)) in
-        (goal p Step x.outcome (slice_get x.after.state.seats p) ≡ true) ⊎ (slice_get x.after.state.seats p ≡ Some (Calling Enter (onward seen b) h))
+    goes : (seen : World) (l : SeatsPoint) → seat_of seen p ≡ Some (Calling Enter l h) → (b : Bool) → nat_lt seen.state.words (seats n) ≡ b → let x = scene_at m seen p Step (Some (Calling Enter l h)) in
+        (goal p Step x.outcome (seat_of x.after p) ≡ true) ⊎ (seat_of x.after p ≡ Some (Calling Enter (onward seen b) h))
     goes seen l there b is = grind (arith, is, get-set_same seen.state.seats p (Calling Enter (onward seen b) h) _ there)
 
     -- if nobody sits
-    step : (seen : World) (l : SeatsPoint) → slice_get seen.state.seats p ≡ Some (Calling Enter l h) → seen.state.words ≡ 0 → let x = scene_at m seen p Step (Some (Calling Enter l h)) in
-        (goal p Step x.outcome (slice_get x.after.state.seats p) ≡ true) ⊎ ((slice_get x.after.state.seats p ≡ Some (Calling Enter (Exchange 0) h)) × (rank_by (Exchange 0) ≤ rank_by l - 1))
+    step : (seen : World) (l : SeatsPoint) → seat_of seen p ≡ Some (Calling Enter l h) → seen.state.words ≡ 0 → let x = scene_at m seen p Step (Some (Calling Enter l h)) in
+        (goal p Step x.outcome (seat_of x.after p) ≡ true) ⊎ ((seat_of x.after p ≡ Some (Calling Enter (Exchange 0) h)) × (rank_by (Exchange 0) ≤ rank_by l - 1))
     step seen l there is = grind (arith, is, room, get-set_same seen.state.seats p (Calling Enter (Exchange 0) h) _ there)
 
     -- its own step
-    own : (seen : World) (l : SeatsPoint) → Invariant m (seats_keeping n) seen → slice_get seen.state.seats p ≡ Some (Calling Enter l h) → let x = scene_at m seen p Step (Some (Calling Enter l h)) in
-        (goal p Step x.outcome (slice_get x.after.state.seats p) ≡ true) ⊎ ((i : SeatsPoint) × (slice_get x.after.state.seats p ≡ Some (Calling Enter i h)) × Unit {0} × (Nobody seen → rank_by i ≤ rank_by l - 1))
+    own : (seen : World) (l : SeatsPoint) → Invariant (seats_facts n) seen → seat_of seen p ≡ Some (Calling Enter l h) → let x = scene_at m seen p Step (Some (Calling Enter l h)) in
+        (goal p Step x.outcome (seat_of x.after p) ≡ true) ⊎ ((i : SeatsPoint) × (seat_of x.after p ≡ Some (Calling Enter i h)) × Unit {0} × (Nobody seen → rank_by i ≤ rank_by l - 1))
     own seen l good there =
         let b = nat_lt seen.state.words (seats n) in
         ⊎_elim (λ (e : seen.state.words ≡ 0). ⊎_elim inl (λ on. inr (Exchange 0, on.0, tt, λ none. on.1)) (step seen l there e))
@@ -58,14 +58,14 @@ module _ (n : ℕ) (some : 1 ≤ n) where
 
     -- a step that makes its party a holder is a grant
     comes : (seen : World) (q : ℕ) (c : SeatsCall) (l : SeatsPoint) (h : Option Hold) → holds_lock (entries q seen.plain) ≡ false
-        → let x = scene_at m seen q Step (Some (Calling c l h)) in (goal q Step x.outcome (slice_get x.after.state.seats q) ≡ true) ⊎ (holds_lock (entries_after seen.plain x.change (entries q seen.plain)) ≡ false)
+        → let x = scene_at m seen q Step (Some (Calling c l h)) in (goal q Step x.outcome (seat_of x.after q) ≡ true) ⊎ (holds_lock (entries_after seen.plain x.change (entries q seen.plain)) ≡ false)
     comes seen q c l h none = grind (arith, none, empty_is (entries q seen.plain).holders)
 
     releases : (q : ℕ) (c : SeatsCall) (l : SeatsPoint) (h : Option Hold) (w : ℕ) (u : Option (Unit {0})) → StandsSo (seats_notes n) holds_lock q c l h → (a : Answer (Unit {0})) × ((m.step w u c l h).next ≡ Answers a None)
     releases q Leave l h w u so = (Done, refl)
     releases q c l h w u so = absurd (grind (arith, so))
 
-    leaves : leaving.Leaves (seats_table n) (seats_notes n) (seats_facts n) goal p Enter h (λ l. Unit {0}) holds_lock rank_by 2
+    leaves : leaving.Leaves (seats_facts n) goal p Enter h (λ l. Unit {0}) holds_lock rank_by 2
     leaves =
         record {
           none = refl;
@@ -81,7 +81,7 @@ module _ (n : ℕ) (some : 1 ≤ n) where
         }
 
   pub enters_in_four : (parties : ℕ) (past : List (ℕ × Move SeatsCall (Unit {0}))) (rounds : List (List (ℕ × Move SeatsCall (Unit {0})))) → SeatsSomebodyInFour m parties past rounds
-  enters_in_four parties past rounds p Enter l h there asks are few = leaving.two_rounds (seats_table n) (seats_notes n) (seats_facts n) goal p Enter h (λ l. Unit {0}) holds_lock rank_by 2 (leaves p h) parties past rounds l there tt are few
+  enters_in_four parties past rounds p Enter l h there asks are few = leaving.two_rounds (seats_facts n) goal p Enter h (λ l. Unit {0}) holds_lock rank_by 2 (leaves p h) parties past rounds l there tt are few
   enters_in_four parties past rounds p c l h there asks are few = absurd (grind (arith, asks))
 
   pub deadlock_free : (parties : ℕ) (past : List (ℕ × Move SeatsCall (Unit {0}))) (schedule : ℕ → ℕ × Move SeatsCall (Unit {0})) → SeatsAreDeadlockFree m parties past schedule

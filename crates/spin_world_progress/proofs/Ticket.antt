@@ -1,11 +1,11 @@
 -- In how many rounds a `lock` is granted: until it has its ticket, and then with it.
-use Rattle.spin_world_progress.proofs.Names.{Knows, empty_is, max, ◌++◌, ◌⊎◌, cases_lt, resting, if◌then◌else◌, ◌≡◌, ℕ, ◌+◌, ◌-◌, ◌<◌, ◌≤◌, ◌==◌, Bool, true, false, not, Option, Some, None, List, [], ◌∷◌, refl, ap, sym, ◌∙◌, arith, filter, slice_get, Plain, Change, is_empty, serving_word, is_first, apply_some, IsOpenStep, entries, Seen, scene, opening, ticket_table, ticket_machine, Notes, Plays, after, at_first, seen_after, zero, ticket_limit, Answer, Hold, Calling, Holding, Move, Step, TicketWords, TicketCall, TicketPoint, Serve, LoadNext, Take, suc, ◌*◌, ◌&&◌, subst, inl, inr, ⊎_elim, length, nat_lt, and_parts, cases_eq, eqb-true, ne_eqb, eq-eqb, lt-ltb, to_enter, Seat, Next, BelongsTo, Mark, joined, Machine, occurs, AreRounds, grants, Scene, StandsFor, scene_at, State, happens, eqb_self, get-set_same, Invariant, in_call, good_after, state-seen_after, good, state_is, numbers_are, StandsSo, calls_so, calls, EntersInRounds, IsNeverStarved, LocksInRounds, slice_get_within, slice_get_past, no_entries, length-happens}
-use Rattle.spin_world.proofs.TicketNames.{Entries, Numbered, enters_in_turn, serving-taken, serving-entered, serving-taken, stands, serving-moves, asks_of, bit, Lock, Release, Await, queued, Queued}
-use Rattle.spin_world.proofs.TicketOwed.{ticket_notes, ticket_keeping, ticket_facts}
+use Rattle.spin_world_progress.proofs.Names.{seat_of, Knows, empty_is, max, ◌++◌, ◌⊎◌, cases_lt, resting, if◌then◌else◌, ◌≡◌, ℕ, ◌+◌, ◌-◌, ◌<◌, ◌≤◌, ◌==◌, Bool, true, false, not, Option, Some, None, List, [], ◌∷◌, refl, ap, sym, ◌∙◌, arith, filter, slice_get, Plain, Change, is_empty, apply_some, IsOpenStep, entries, Seen, scene, opening, ticket_machine, Plays, after, at_first, seen_after, zero, ticket_limit, Answer, Hold, Calling, Holding, Move, Step, TicketWords, TicketCall, TicketPoint, Take, suc, ◌*◌, ◌&&◌, subst, inl, inr, ⊎_elim, length, nat_lt, and_parts, cases_eq, eqb-true, ne_eqb, eq-eqb, lt-ltb, Seat, Next, BelongsTo, Mark, joined, Machine, occurs, AreRounds, grants, Scene, StandsFor, scene_at, State, happens, eqb_self, get-set_same, Invariant, in_call, good_after, state-seen_after, good, state_is, numbers_are, StandsSo, calls_so, calls, EntersInRounds, IsNeverStarved, LocksInRounds, slice_get_past, no_entries, length-happens}
+use Rattle.spin_world.proofs.TicketNames.{Entries, Numbered, enters_in_turn, serving-taken, serving-entered, stands, serving-moves, asks_of, bit, Lock, Release, Await, queued, Queued, LoadNext, Serve, is_first, serving_word}
+use Rattle.spin_world.proofs.TicketOwed.{ticket_notes, ticket_facts}
 use Rattle.spin_model.specs.TicketKind.{ticket}
 use Rattle.spin_step.proofs.Tickets.{serving-gone}
 use Rattle.spin_step.specs.Tickets.{numbered_from}
-use Rattle.spin_world_core.proofs.Names.{length-replicate, true≢false}
+use Rattle.spin_world_core.proofs.Names.{length-replicate, true≢false, slice_get_within, to_enter}
 use Rattle.spin_world_progress.proofs.Endless.{at_last}
 use Rattle.spin_world_progress.proofs.Loads.{Wait}
 use Rattle.spin_world_progress.proofs.Progress.{is_busy}
@@ -192,10 +192,7 @@ module _ {V : Type 0} (v : V) (first : ℕ) where
   abbrev m : Machine TicketWords V TicketCall TicketPoint (Answer V)
   m = ticket_machine v first
 
-  abbrev k : Notes (ticket_table v first)
-  k = ticket_keeping v first
-
-  abbrev f : Plays m k
+  abbrev f : Plays m (ticket_notes v first)
   f = ticket_facts v first
 
   abbrev World : Type 0
@@ -210,13 +207,13 @@ module _ {V : Type 0} (v : V) (first : ℕ) where
   strong : (c : TicketCall) (l : TicketPoint) (h : Option Hold) (next : Next TicketPoint (Answer V)) → m.refuse c l h ≡ Some next → ⊥
   strong c l h next is = grind (arith, is)
 
-  next_of : (seen : World) → Invariant m k seen → seen.state.words.next ≡ seen.plain.next
+  next_of : (seen : World) → Invariant f seen → seen.state.words.next ≡ seen.plain.next
   next_of seen good = cc (good.encodes)
 
   none_two : (q : ℕ) (o : Option TicketSeat) → SitsSo two q o → ⊥
   none_two q o so = grind (arith, so)
 
-  module _ (seen : World) (good : Invariant m k seen) where
+  module _ (seen : World) (good : Invariant f seen) where
     each_one : (q : ℕ) → length (own q seen.plain.tickets) ≤ 1
     each_one q = by (two (entries q seen.plain)) refl
       where
@@ -239,7 +236,7 @@ module _ {V : Type 0} (v : V) (first : ℕ) where
     abbrev its : World → TicketPoint → Scene TicketWords V TicketCall TicketPoint (Answer V)
     its seen l = scene_at m seen p Step (Some (Calling Lock l None))
 
-    module _ (seen : World) (l : TicketPoint) (w : walk.Waits m k f x seen l) where
+    module _ (seen : World) (l : TicketPoint) (w : walk.Waits f x seen l) where
       abbrev s : Plain
       s = seen.plain
 
@@ -258,7 +255,7 @@ module _ {V : Type 0} (v : V) (first : ℕ) where
       among : p < n
       among = omega (arith, w.2, slice_get_within seen.state.seats p _ w.0)
 
-      his_sits : is_empty s.tickets ≡ false → SitsSo has_ticket d (slice_get seen.state.seats d)
+      his_sits : is_empty s.tickets ≡ false → SitsSo has_ticket d (seat_of seen d)
       his_sits some = walk.sits_so (ticket_notes v first) has_ticket seen w.3 d (ap not (first_own s.tickets some))
 
       turn_of : (q j : ℕ) → own q s.tickets ≡ queued q j false ∷ [] → (seen.state.words.serving == j) ≡ is_first q false s.tickets
@@ -269,23 +266,23 @@ module _ {V : Type 0} (v : V) (first : ℕ) where
       -- the party that stepped keeps that ticket waiting for at most r rounds, and no other party for longer than
       -- before, or than that
       record Turned (t r q : ℕ) (sc : Scene TicketWords V TicketCall TicketPoint (Answer V)) : Type 0 where
-        mine : ahead t (serving_word sc.after.plain) sc.after.plain.tickets q (slice_get sc.after.state.seats q) ≤ r
-        others : (o : ℕ) → (q ≡ o → ⊥) → ahead t (serving_word sc.after.plain) sc.after.plain.tickets o (slice_get seen.state.seats o) ≤ max (ahead t (serving_word s) s.tickets o (slice_get seen.state.seats o)) r
+        mine : ahead t (serving_word sc.after.plain) sc.after.plain.tickets q (seat_of sc.after q) ≤ r
+        others : (o : ℕ) → (q ≡ o → ⊥) → ahead t (serving_word sc.after.plain) sc.after.plain.tickets o (seat_of seen o) ≤ max (ahead t (serving_word s) s.tickets o (seat_of seen o)) r
         first_same : (first_party sc.after.plain.tickets ≡ d) ⊎ (1 ≤ r)
 
       module _ (t r : ℕ) (some : is_empty s.tickets ≡ false) (behind : (d ≡ p → ⊥) → serving_word s < t) where
         abbrev Turns : ℕ → TicketCall → TicketPoint → Option Hold → Type 0
-        Turns q c i h = let sc = scene_at m seen q Step (Some (Calling c i h)) in slice_get seen.state.seats q ≡ Some (Calling c i h) → walk.After m k f x seen q sc → ahead t (serving_word s) s.tickets q (Some (Calling c i h)) ≤ suc r → Turned t r q sc
+        Turns q c i h = let sc = scene_at m seen q Step (Some (Calling c i h)) in seat_of seen q ≡ Some (Calling c i h) → walk.After f x seen q sc → ahead t (serving_word s) s.tickets q (Some (Calling c i h)) ≤ suc r → Turned t r q sc
 
         first_turns : (d ≡ p → ⊥) → (c : TicketCall) (i : TicketPoint) (h : Option Hold) → SitsSo has_ticket d (Some (Calling c i h)) → Turns d c i h
         first_turns ne Lock (Await j) None so at after few =
             let sc = scene_at m seen d Step (Some (Calling Lock (Await j) None)) in
-            let his : own d s.tickets ≡ queued d j false ∷ [] = ap (λ (e : Entries). e.tickets) (in_call m k seen d Lock (Await j) None w.3 at).knows.0.stand in
-            let entered : (first_party sc.after.plain.tickets ≡ d) × (serving_word sc.after.plain ≡ serving_word s) × (slice_get sc.after.state.seats d ≡ Some (Holding (hold.Ticket j))) =
+            let his : own d s.tickets ≡ queued d j false ∷ [] = ap (λ (e : Entries). e.tickets) (in_call f d w.3 at).knows.0.stand in
+            let entered : (first_party sc.after.plain.tickets ≡ d) × (serving_word sc.after.plain ≡ serving_word s) × (seat_of sc.after d ≡ Some (Holding (hold.Ticket j))) =
             rw (turn_of d j his ∙ first_turn d j s.tickets his refl) (grind arith, serving-entered s, get-set_same seen.state.seats d (Holding (hold.Ticket j)) _ at) in
             record {
-              mine = omega (arith, few, ahead_own t (serving_word s) s.tickets (Some (Calling Lock (Await j) None)) some, ahead_most t (serving_word sc.after.plain) sc.after.plain.tickets d (slice_get sc.after.state.seats d), ap left_to entered.2, entered.1);
-              others = λ o other. omega (arith, ahead_other t (serving_word sc.after.plain) sc.after.plain.tickets o (slice_get seen.state.seats o) (λ e. other (sym (e ∙ entered.0))));
+              mine = omega (arith, few, ahead_own t (serving_word s) s.tickets (Some (Calling Lock (Await j) None)) some, ahead_most t (serving_word sc.after.plain) sc.after.plain.tickets d (seat_of sc.after d), ap left_to entered.2, entered.1);
+              others = λ o other. omega (arith, ahead_other t (serving_word sc.after.plain) sc.after.plain.tickets o (seat_of seen o) (λ e. other (sym (e ∙ entered.0))));
               first_same = inl entered.0;
             }
         first_turns ne Release (Serve j) (Some (hold.Ticket u)) so at after few =
@@ -294,8 +291,8 @@ module _ {V : Type 0} (v : V) (first : ℕ) where
             let now = ahead_own t (serving_word s) s.tickets (Some (Calling Release (Serve j) (Some (hold.Ticket u)))) some in
             let soon = λ (o : ℕ) (his : Option TicketSeat). ahead_most t (serving_word sc.after.plain) sc.after.plain.tickets o his in
             record {
-              mine = omega (arith, few, now, gone, behind ne, soon d (slice_get sc.after.state.seats d), left_few (slice_get sc.after.state.seats d));
-              others = λ o other. omega (arith, few, now, gone, behind ne, soon o (slice_get seen.state.seats o), left_few (slice_get seen.state.seats o));
+              mine = omega (arith, few, now, gone, behind ne, soon d (seat_of sc.after d), left_few (seat_of sc.after d));
+              others = λ o other. omega (arith, few, now, gone, behind ne, soon o (seat_of seen o), left_few (seat_of seen o));
               first_same = inr (omega (arith, few, now, behind ne));
             }
         first_turns ne c i h so at after few = absurd (grind (arith, so))
@@ -309,8 +306,8 @@ module _ {V : Type 0} (v : V) (first : ℕ) where
             let left = leaves_first s q sc.change some numbered (λ e. not_first (sym e)) after.opens after.belongs in
             let same = λ (o : ℕ) (his : Option TicketSeat). ahead_same t (serving_word s) s.tickets sc.after.plain.tickets o his some left.0 in
             record {
-              mine = omega (arith, left.1, ahead_other t (serving_word sc.after.plain) sc.after.plain.tickets q (slice_get sc.after.state.seats q) (λ e. not_first (sym (e ∙ left.0))));
-              others = λ o other. omega (arith, same o (slice_get seen.state.seats o), ap (λ z. ahead t z sc.after.plain.tickets o (slice_get seen.state.seats o)) left.1);
+              mine = omega (arith, left.1, ahead_other t (serving_word sc.after.plain) sc.after.plain.tickets q (seat_of sc.after q) (λ e. not_first (sym (e ∙ left.0))));
+              others = λ o other. omega (arith, same o (seat_of seen o), ap (λ z. ahead t z sc.after.plain.tickets o (seat_of seen o)) left.1);
               first_same = inl left.0;
             })
             (cases_eq d q)
@@ -319,7 +316,7 @@ module _ {V : Type 0} (v : V) (first : ℕ) where
 
       module _ (t : ℕ) (at : l ≡ Await t) where
         mine : own p s.tickets ≡ queued p t false ∷ []
-        mine = ap (λ (e : Entries). e.tickets) (in_call m k seen p Lock (Await t) None w.3 (w.0 ∙ ap (λ i. Some (Calling Lock i None)) at)).knows.0.stand
+        mine = ap (λ (e : Entries). e.tickets) (in_call f p w.3 (w.0 ∙ ap (λ i. Some (Calling Lock i None)) at)).knows.0.stand
 
         some : is_empty s.tickets ≡ false
         some = stands p t false s.tickets mine
@@ -332,7 +329,7 @@ module _ {V : Type 0} (v : V) (first : ℕ) where
         near : t - serving_word s + 1 ≤ n
         near = let here = in_queue p t (serving_word s) s.tickets numbered.1 mine in omega (arith, here.0, here.1, w.2, most_tickets seen w.3, numbered.0)
 
-    own_ticket : (seen : World) (t r : ℕ) → (w : walk.Waits m k f x seen (Await t)) → walk.Own m k f x seen (Await t) r (its seen (Await t))
+    own_ticket : (seen : World) (t r : ℕ) → (w : walk.Waits f x seen (Await t)) → walk.Own f x seen (Await t) r (its seen (Await t))
     own_ticket seen t r w =
         ⊎_elim (λ (is : d ≡ p). inl (rw (turn_of seen (Await t) w p t mine_there ∙ first_turn p t seen.plain.tickets mine_there (sym is), eqb_self p) refl))
         (λ (ne : d ≡ p → ⊥).
@@ -348,18 +345,18 @@ module _ {V : Type 0} (v : V) (first : ℕ) where
 
     -- Before it has a ticket
 
-    no_ticket : (seen : World) (l : TicketPoint) → walk.Waits m k f x seen l → at_door l → is_empty (own p seen.plain.tickets) ≡ true
-    no_ticket seen LoadNext w door = ap (λ (e : Entries). is_empty e.tickets) (in_call m k seen p Lock LoadNext None w.3 w.0).knows.0.stand
-    no_ticket seen (Take j) w door = ap (λ (e : Entries). is_empty e.tickets) (in_call m k seen p Lock (Take j) None w.3 w.0).knows.0.stand
+    no_ticket : (seen : World) (l : TicketPoint) → walk.Waits f x seen l → at_door l → is_empty (own p seen.plain.tickets) ≡ true
+    no_ticket seen LoadNext w door = ap (λ (e : Entries). is_empty e.tickets) (in_call f p w.3 w.0).knows.0.stand
+    no_ticket seen (Take j) w door = ap (λ (e : Entries). is_empty e.tickets) (in_call f p w.3 w.0).knows.0.stand
     no_ticket seen l w door = absurd (grind (arith, door))
 
     -- without its own ticket, the queue is shorter by one
-    queue_few : (seen : World) (l : TicketPoint) → walk.Waits m k f x seen l → at_door l → seen.plain.next - serving_word seen.plain + 1 ≤ n
+    queue_few : (seen : World) (l : TicketPoint) → walk.Waits f x seen l → at_door l → seen.plain.next - serving_word seen.plain + 1 ≤ n
     queue_few seen l w door =
         let ts = seen.plain.tickets in
         omega (arith, numbered seen l w, all_in n ts (λ q past. nobody seen w.3 q (omega (arith, past, w.2))), fewer p n ts (each_one seen w.3) (no_ticket seen l w door) (among seen l w))
 
-    module _ (seen : World) (l : TicketPoint) (w : walk.Waits m k f x seen l) (r : ℕ) (within : walk.Within m k f x seen l (suc r)) where
+    module _ (seen : World) (l : TicketPoint) (w : walk.Waits f x seen l) (r : ℕ) (within : walk.Within f x seen l (suc r)) where
       abbrev sc : Scene TicketWords V TicketCall TicketPoint (Answer V)
       sc = its seen l
 
@@ -368,7 +365,7 @@ module _ {V : Type 0} (v : V) (first : ℕ) where
 
       -- it tries to take the next number
       goes_for_next : N < ticket_limit → mine_by p n N seen.plain l ≡ doorway n (N - seen.plain.next) false → ((o : ℕ) (his : Option TicketSeat) → theirs_by N seen.plain (Take seen.state.words.next) o his ≡ theirs_by N seen.plain l o his)
-          → slice_get sc.after.state.seats p ≡ Some (Calling Lock (Take seen.state.words.next) None) → sc.after.plain ≡ seen.plain → walk.Own m k f x seen l r sc
+          → seat_of sc.after p ≡ Some (Calling Lock (Take seen.state.words.next) None) → sc.after.plain ≡ seen.plain → walk.Own f x seen l r sc
       goes_for_next room stale same at plain =
           let fresh : mine_by p n N seen.plain (Take seen.state.words.next) ≡ doorway n (N - seen.plain.next) true = ap (doorway n (N - seen.plain.next)) (eq-eqb seen.state.words.next seen.plain.next (next_is seen l w)) in
           inr (
@@ -376,11 +373,11 @@ module _ {V : Type 0} (v : V) (first : ℕ) where
             at,
             room,
             rw (plain, fresh) (doorway_next n (N - seen.plain.next) r (omega (arith, stale, within.mine))),
-            rw plain (λ o other not_its. omega (arith, same o (slice_get seen.state.seats o))),
+            rw plain (λ o other not_its. omega (arith, same o (seat_of seen o))),
           )
 
     -- it takes its ticket, whose number was next
-    own_taken : (seen : World) (j r : ℕ) → (w : walk.Waits m k f x seen (Take j)) → walk.Within m k f x seen (Take j) (suc r) → walk.After m k f x seen p (its seen (Take j)) → seen.state.words.next ≡ j → nat_lt seen.state.words.next ticket_limit ≡ true → walk.Own m k f x seen (Take j) r (its seen (Take j))
+    own_taken : (seen : World) (j r : ℕ) → (w : walk.Waits f x seen (Take j)) → walk.Within f x seen (Take j) (suc r) → walk.After f x seen p (its seen (Take j)) → seen.state.words.next ≡ j → nat_lt seen.state.words.next ticket_limit ≡ true → walk.Own f x seen (Take j) r (its seen (Take j))
     own_taken seen j r w within made e left =
         inr (Await j, at, tt, omega (arith, bit_few (first_party sc.after.plain.tickets == p), some_wait), λ o other not_its. others_now o other)
       where
@@ -393,7 +390,7 @@ module _ {V : Type 0} (v : V) (first : ℕ) where
         is : (seen.state.words.next == j) ≡ true
         is = eq-eqb seen.state.words.next j e
 
-        at : slice_get sc.after.state.seats p ≡ Some (Calling Lock (Await j) None)
+        at : seat_of sc.after p ≡ Some (Calling Lock (Await j) None)
         at = rw (is, left) (get-set_same seen.state.seats p _ _ w.0)
 
         taken : (sc.after.plain.next ≡ s.next + 1) × (sc.after.plain.tickets ≡ s.tickets ++ queued p s.next false ∷ [])
@@ -414,20 +411,20 @@ module _ {V : Type 0} (v : V) (first : ℕ) where
         serves_same : serving_word sc.after.plain ≡ serving_word s
         serves_same = rw (taken.0, taken.1) (serving-taken s p false (numbered seen (Take j) w))
 
-        others_now : (o : ℕ) → (o ≡ p → ⊥) → ahead j (serving_word sc.after.plain) sc.after.plain.tickets o (slice_get seen.state.seats o) ≤ max (theirs_by N s (Take j) o (slice_get seen.state.seats o)) r
+        others_now : (o : ℕ) → (o ≡ p → ⊥) → ahead j (serving_word sc.after.plain) sc.after.plain.tickets o (seat_of seen o) ≤ max (theirs_by N s (Take j) o (seat_of seen o)) r
         others_now o other =
             ⊎_elim
             (λ (last : N - s.next < 2).
             let alone : (N - s.next == 1) ≡ true = eq-eqb (N - s.next) 1 (omega (arith, last, one_left)) in
             rw (alone, serves_same, taken.1, sym e, next_is seen (Take j) w) (by s.tickets refl))
-            (λ (more : 2 ≤ N - s.next). omega (arith, ahead_most j (serving_word sc.after.plain) sc.after.plain.tickets o (slice_get seen.state.seats o), left_few (slice_get seen.state.seats o), few_ahead, doorway_long n (N - s.next) r true more fresh))
+            (λ (more : 2 ≤ N - s.next). omega (arith, ahead_most j (serving_word sc.after.plain) sc.after.plain.tickets o (seat_of seen o), left_few (seat_of seen o), few_ahead, doorway_long n (N - s.next) r true more fresh))
             (cases_lt (N - s.next) 2)
           where
-            by : (ts : List Queued) → s.tickets ≡ ts → ahead s.next (serving_word s) (ts ++ queued p s.next false ∷ []) o (slice_get seen.state.seats o) ≤ max (ahead s.next (serving_word s) ts o (slice_get seen.state.seats o)) r
-            by [] is = omega (arith, ahead_other s.next (serving_word s) (queued p s.next false ∷ []) o (slice_get seen.state.seats o) other)
-            by (u ∷ us) is = omega (arith, ahead_same s.next (serving_word s) (u ∷ us) (u ∷ us ++ queued p s.next false ∷ []) o (slice_get seen.state.seats o) refl refl)
+            by : (ts : List Queued) → s.tickets ≡ ts → ahead s.next (serving_word s) (ts ++ queued p s.next false ∷ []) o (seat_of seen o) ≤ max (ahead s.next (serving_word s) ts o (seat_of seen o)) r
+            by [] is = omega (arith, ahead_other s.next (serving_word s) (queued p s.next false ∷ []) o (seat_of seen o) other)
+            by (u ∷ us) is = omega (arith, ahead_same s.next (serving_word s) (u ∷ us) (u ∷ us ++ queued p s.next false ∷ []) o (seat_of seen o) refl refl)
 
-    own_take : (seen : World) (j r : ℕ) → (w : walk.Waits m k f x seen (Take j)) → walk.Within m k f x seen (Take j) (suc r) → walk.After m k f x seen p (its seen (Take j)) → walk.Own m k f x seen (Take j) r (its seen (Take j))
+    own_take : (seen : World) (j r : ℕ) → (w : walk.Waits f x seen (Take j)) → walk.Within f x seen (Take j) (suc r) → walk.After f x seen p (its seen (Take j)) → walk.Own f x seen (Take j) r (its seen (Take j))
     own_take seen j r w within made =
         ⊎_elim (λ (e : seen.state.words.next ≡ j). own_taken seen j r w within made e left)
         (λ (ne : seen.state.words.next ≡ j → ⊥).
@@ -439,7 +436,7 @@ module _ {V : Type 0} (v : V) (first : ℕ) where
         left : nat_lt seen.state.words.next ticket_limit ≡ true
         left = left_is seen (Take j) w r within w.1 (omega (arith, next_grows seen.plain (its seen (Take j)).change, made.fine))
 
-    own_by : (seen : World) (l : TicketPoint) (r : ℕ) → (w : walk.Waits m k f x seen l) → walk.Within m k f x seen l (suc r) → walk.After m k f x seen p (its seen l) → walk.Own m k f x seen l r (its seen l)
+    own_by : (seen : World) (l : TicketPoint) (r : ℕ) → (w : walk.Waits f x seen l) → walk.Within f x seen l (suc r) → walk.After f x seen p (its seen l) → walk.Own f x seen l r (its seen l)
     own_by seen (Await t) r w within made = own_ticket seen t r w
     own_by seen LoadNext r w within made = goes_for_next seen LoadNext w r within w.1 refl (λ o his. refl) (rw (left_is seen LoadNext w r within w.1 made.fine) (get-set_same seen.state.seats p _ _ w.0)) refl
     own_by seen (Take j) r w within made = own_take seen j r w within made
@@ -447,16 +444,16 @@ module _ {V : Type 0} (v : V) (first : ℕ) where
 
     -- A step of another party, by whether tickets were taken by it
 
-    module _ (seen : World) (l : TicketPoint) (w : walk.Waits m k f x seen l) (r : ℕ) (within : walk.Within m k f x seen l (suc r)) (q : ℕ) (c : TicketCall) (i : TicketPoint) (h : Option Hold) (ne : q ≡ p → ⊥) (at : slice_get seen.state.seats q ≡ Some (Calling c i h)) where
+    module _ (seen : World) (l : TicketPoint) (w : walk.Waits f x seen l) (r : ℕ) (within : walk.Within f x seen l (suc r)) (q : ℕ) (c : TicketCall) (i : TicketPoint) (h : Option Hold) (ne : q ≡ p → ⊥) (at : seat_of seen q ≡ Some (Calling c i h)) where
       abbrev y : Scene TicketWords V TicketCall TicketPoint (Answer V)
       y = scene_at m seen q Step (Some (Calling c i h))
 
-      steps_with : (t : ℕ) → l ≡ Await t → walk.After m k f x seen q y → walk.Falls m k f x seen (Await t) q y r
+      steps_with : (t : ℕ) → l ≡ Await t → walk.After f x seen q y → walk.Falls f x seen (Await t) q y r
       steps_with t is made =
-          let turned = turns seen l w t r (some seen l w t is) (behind seen l w t is) q c i h ne at made (subst (λ o. ahead t (serving_word seen.plain) seen.plain.tickets q o ≤ suc r) at (subst (λ i. theirs_by N seen.plain i q (slice_get seen.state.seats q) ≤ suc r) is (within.theirs q ne))) in
+          let turned = turns seen l w t r (some seen l w t is) (behind seen l w t is) q c i h ne at made (subst (λ o. ahead t (serving_word seen.plain) seen.plain.tickets q o ≤ suc r) at (subst (λ i. theirs_by N seen.plain i q (seat_of seen q) ≤ suc r) is (within.theirs q ne))) in
           record { his = turned.mine; mine = at_most_one (first_party y.after.plain.tickets) (first_party seen.plain.tickets) p r turned.first_same; others = λ o other not_his. turned.others o not_his }
 
-      module _ (door : at_door l) (made : walk.After m k f x seen q y) (fits : doorway n (N - seen.plain.next) (is_fresh l seen.plain.next) ≤ suc r) where
+      module _ (door : at_door l) (made : walk.After f x seen q y) (fits : doorway n (N - seen.plain.next) (is_fresh l seen.plain.next) ≤ suc r) where
         abbrev next : ℕ
         next = y.after.plain.next
 
@@ -474,25 +471,25 @@ module _ {V : Type 0} (v : V) (first : ℕ) where
             by false not_last = omega arith
 
         -- none was
-        door_turned : N - seen.plain.next ≡ 1 → next ≡ seen.plain.next → theirs_by N seen.plain l q (slice_get seen.state.seats q) ≡ ahead seen.plain.next (serving_word seen.plain) seen.plain.tickets q (slice_get seen.state.seats q) → Turned seen l w seen.plain.next r q y
+        door_turned : N - seen.plain.next ≡ 1 → next ≡ seen.plain.next → theirs_by N seen.plain l q (seat_of seen q) ≡ ahead seen.plain.next (serving_word seen.plain) seen.plain.tickets q (seat_of seen q) → Turned seen l w seen.plain.next r q y
         door_turned last same is = by (is_empty seen.plain.tickets) refl
           where
             by : (b : Bool) → is_empty seen.plain.tickets ≡ b → Turned seen l w seen.plain.next r q y
             by true none =
                 let still : y.after.plain.tickets ≡ [] = stays_empty seen.plain q y.change none made.opens (omega (arith, same)) in
                 let zero = λ (o : ℕ) (his : Option TicketSeat). ap (λ ts. ahead seen.plain.next (serving_word y.after.plain) ts o his) still in
-                record { mine = omega (arith, zero q (slice_get y.after.state.seats q)); others = λ o other. omega (arith, zero o (slice_get seen.state.seats o)); first_same = inl (ap first_party (still ∙ sym (empty_is seen.plain.tickets none))) }
+                record { mine = omega (arith, zero q (seat_of y.after q)); others = λ o other. omega (arith, zero o (seat_of seen o)); first_same = inl (ap first_party (still ∙ sym (empty_is seen.plain.tickets none))) }
             by false some = turns seen l w seen.plain.next r some (λ ne. grind (arith, some, (numbered seen l w).0)) q c i h ne at made (subst (λ o. ahead seen.plain.next (serving_word seen.plain) seen.plain.tickets q o ≤ suc r) at (omega (arith, is, within.theirs q ne)))
 
         abbrev Door : Type 0
-        Door = ((if N - next == 1 then soon q (slice_get y.after.state.seats q) else 0) ≤ r) × (doorway n (N - next) (is_fresh l next) ≤ max (doorway n (N - seen.plain.next) (is_fresh l seen.plain.next)) r)
-            × ((o : ℕ) → (q ≡ o → ⊥) → (if N - next == 1 then soon o (slice_get seen.state.seats o) else 0) ≤ max (if N - seen.plain.next == 1 then ahead seen.plain.next (serving_word seen.plain) seen.plain.tickets o (slice_get seen.state.seats o) else 0) r)
+        Door = ((if N - next == 1 then soon q (seat_of y.after q) else 0) ≤ r) × (doorway n (N - next) (is_fresh l next) ≤ max (doorway n (N - seen.plain.next) (is_fresh l seen.plain.next)) r)
+            × ((o : ℕ) → (q ≡ o → ⊥) → (if N - next == 1 then soon o (seat_of seen o) else 0) ≤ max (if N - seen.plain.next == 1 then ahead seen.plain.next (serving_word seen.plain) seen.plain.tickets o (seat_of seen o) else 0) r)
 
-        door_falls : ((N - seen.plain.next == 1) ≡ true → theirs_by N seen.plain l q (slice_get seen.state.seats q) ≡ ahead seen.plain.next (serving_word seen.plain) seen.plain.tickets q (slice_get seen.state.seats q)) → Door
+        door_falls : ((N - seen.plain.next == 1) ≡ true → theirs_by N seen.plain l q (seat_of seen q) ≡ ahead seen.plain.next (serving_word seen.plain) seen.plain.tickets q (seat_of seen q)) → Door
         door_falls is =
             ⊎_elim
             (λ (more : seen.plain.next < next).
-            (others_more more q (slice_get y.after.state.seats q), omega (arith, doorway_less n (N - seen.plain.next) (N - next) (is_fresh l seen.plain.next) (is_fresh l next) (omega (arith, more, made.fine))), λ o other. omega (arith, others_more more o (slice_get seen.state.seats o))))
+            (others_more more q (seat_of y.after q), omega (arith, doorway_less n (N - seen.plain.next) (N - next) (is_fresh l seen.plain.next) (is_fresh l next) (omega (arith, more, made.fine))), λ o other. omega (arith, others_more more o (seat_of seen o))))
             (λ (no_more : next ≤ seen.plain.next). same (omega (arith, no_more, next_grows seen.plain y.change)) (N - seen.plain.next == 1) refl)
             (cases_lt seen.plain.next next)
           where
@@ -501,11 +498,11 @@ module _ {V : Type 0} (v : V) (first : ℕ) where
                 let turned = door_turned (eqb-true (N - seen.plain.next) 1 last) e (is last) in
                 let soon_is = λ (o : ℕ) (his : Option TicketSeat). ap (λ z. ahead z (serving_word y.after.plain) y.after.plain.tickets o his) e in
                 rw (ap (λ z. N - z == 1) e ∙ last, last)
-                (omega (arith, turned.mine, soon_is q (slice_get y.after.state.seats q)), omega (arith, ap (λ z. doorway n (N - z) (is_fresh l z)) e), λ o other. omega (arith, turned.others o other, soon_is o (slice_get seen.state.seats o)))
+                (omega (arith, turned.mine, soon_is q (seat_of y.after q)), omega (arith, ap (λ z. doorway n (N - z) (is_fresh l z)) e), λ o other. omega (arith, turned.others o other, soon_is o (seat_of seen o)))
             same e false last = rw (ap (λ z. N - z == 1) e ∙ last, last) (omega arith, omega (arith, ap (λ z. doorway n (N - z) (is_fresh l z)) e), λ o other. omega arith)
 
-    steps_by : (seen : World) (l : TicketPoint) (r : ℕ) → (w : walk.Waits m k f x seen l) → walk.Within m k f x seen l (suc r) → (q : ℕ) (c : TicketCall) (i : TicketPoint) (h : Option Hold) → (q ≡ p → ⊥) → slice_get seen.state.seats q ≡ Some (Calling c i h)
-        → walk.After m k f x seen q (scene_at m seen q Step (Some (Calling c i h))) → walk.Falls m k f x seen l q (scene_at m seen q Step (Some (Calling c i h))) r
+    steps_by : (seen : World) (l : TicketPoint) (r : ℕ) → (w : walk.Waits f x seen l) → walk.Within f x seen l (suc r) → (q : ℕ) (c : TicketCall) (i : TicketPoint) (h : Option Hold) → (q ≡ p → ⊥) → seat_of seen q ≡ Some (Calling c i h)
+        → walk.After f x seen q (scene_at m seen q Step (Some (Calling c i h))) → walk.Falls f x seen l q (scene_at m seen q Step (Some (Calling c i h))) r
     steps_by seen (Await t) r w within q c i h ne at made = steps_with seen (Await t) w r within q c i h ne at t refl made
     steps_by seen LoadNext r w within q c i h ne at made =
         let door = door_falls seen LoadNext w r within q c i h ne at tt made within.mine (λ last. rw last refl) in record { his = door.0; mine = door.1; others = λ o other. door.2 o }
@@ -515,41 +512,41 @@ module _ {V : Type 0} (v : V) (first : ℕ) where
 
     -- Other moves
 
-    first_begins : (seen : World) (l : TicketPoint) → walk.Waits m k f x seen l → (t q : ℕ) (c : TicketCall) (i : TicketPoint) (h : Option Hold) → slice_get seen.state.seats q ≡ Some (resting h) → m.begin c h ≡ Some i
-        → ahead t (serving_word seen.plain) seen.plain.tickets q (Some (Calling c i h)) ≤ ahead t (serving_word seen.plain) seen.plain.tickets q (slice_get seen.state.seats q) - 1
+    first_begins : (seen : World) (l : TicketPoint) → walk.Waits f x seen l → (t q : ℕ) (c : TicketCall) (i : TicketPoint) (h : Option Hold) → seat_of seen q ≡ Some (resting h) → m.begin c h ≡ Some i
+        → ahead t (serving_word seen.plain) seen.plain.tickets q (Some (Calling c i h)) ≤ ahead t (serving_word seen.plain) seen.plain.tickets q (seat_of seen q) - 1
     first_begins seen l w t q c i h at may = by (is_empty seen.plain.tickets) refl
       where
         d : ℕ
         d = first_party seen.plain.tickets
 
-        less : is_empty seen.plain.tickets ≡ false → slice_get seen.state.seats d ≡ Some (resting h) → left_to (Some (Calling c i h)) + 1 ≤ left_to (slice_get seen.state.seats d)
+        less : is_empty seen.plain.tickets ≡ false → seat_of seen d ≡ Some (resting h) → left_to (Some (Calling c i h)) + 1 ≤ left_to (seat_of seen d)
         less some there = grind (arith, there, may, subst (SitsSo has_ticket d) there (his_sits seen l w some))
 
         by : (b : Bool) → is_empty seen.plain.tickets ≡ b
-            → ahead t (serving_word seen.plain) seen.plain.tickets q (Some (Calling c i h)) ≤ ahead t (serving_word seen.plain) seen.plain.tickets q (slice_get seen.state.seats q) - 1
+            → ahead t (serving_word seen.plain) seen.plain.tickets q (Some (Calling c i h)) ≤ ahead t (serving_word seen.plain) seen.plain.tickets q (seat_of seen q) - 1
         by true none = omega (arith, ap (λ ts. ahead t (serving_word seen.plain) ts q (Some (Calling c i h))) (empty_is seen.plain.tickets none))
         by false some =
             ⊎_elim
             (λ (is : d ≡ q).
-            subst (λ z. slice_get seen.state.seats z ≡ Some (resting h) → ahead t (serving_word seen.plain) seen.plain.tickets z (Some (Calling c i h)) ≤ ahead t (serving_word seen.plain) seen.plain.tickets z (slice_get seen.state.seats z) - 1) is
-            (λ there. omega (arith, less some there, ahead_own t (serving_word seen.plain) seen.plain.tickets (Some (Calling c i h)) some, ahead_own t (serving_word seen.plain) seen.plain.tickets (slice_get seen.state.seats d) some)) at)
+            subst (λ z. seat_of seen z ≡ Some (resting h) → ahead t (serving_word seen.plain) seen.plain.tickets z (Some (Calling c i h)) ≤ ahead t (serving_word seen.plain) seen.plain.tickets z (seat_of seen z) - 1) is
+            (λ there. omega (arith, less some there, ahead_own t (serving_word seen.plain) seen.plain.tickets (Some (Calling c i h)) some, ahead_own t (serving_word seen.plain) seen.plain.tickets (seat_of seen d) some)) at)
             (λ (ne : d ≡ q → ⊥). omega (arith, ahead_other t (serving_word seen.plain) seen.plain.tickets q (Some (Calling c i h)) (λ e. ne (sym e))))
             (cases_eq d q)
 
-    busy_by : (seen : World) (l : TicketPoint) → walk.Waits m k f x seen l → (t q : ℕ) → 1 ≤ ahead t (serving_word seen.plain) seen.plain.tickets q (slice_get seen.state.seats q) → is_busy (slice_get seen.state.seats q) ≡ true
+    busy_by : (seen : World) (l : TicketPoint) → walk.Waits f x seen l → (t q : ℕ) → 1 ≤ ahead t (serving_word seen.plain) seen.plain.tickets q (seat_of seen q) → is_busy (seat_of seen q) ≡ true
     busy_by seen l w t q long = by (is_empty seen.plain.tickets) refl
       where
-        by : (b : Bool) → is_empty seen.plain.tickets ≡ b → is_busy (slice_get seen.state.seats q) ≡ true
-        by true none = absurd (omega (arith, long, ap (λ ts. ahead t (serving_word seen.plain) ts q (slice_get seen.state.seats q)) (empty_is seen.plain.tickets none)))
+        by : (b : Bool) → is_empty seen.plain.tickets ≡ b → is_busy (seat_of seen q) ≡ true
+        by true none = absurd (omega (arith, long, ap (λ ts. ahead t (serving_word seen.plain) ts q (seat_of seen q)) (empty_is seen.plain.tickets none)))
         by false some =
-            ⊎_elim (λ (is : first_party seen.plain.tickets ≡ q). subst (λ z. is_busy (slice_get seen.state.seats z) ≡ true) is (walk.busy_so (ticket_notes v first) has_ticket _ _ refl (λ h is. grind (arith, is)) (his_sits seen l w some)))
-            (λ (ne : first_party seen.plain.tickets ≡ q → ⊥). absurd (omega (arith, long, ahead_other t (serving_word seen.plain) seen.plain.tickets q (slice_get seen.state.seats q) (λ e. ne (sym e))))) (cases_eq (first_party seen.plain.tickets) q)
+            ⊎_elim (λ (is : first_party seen.plain.tickets ≡ q). subst (λ z. is_busy (seat_of seen z) ≡ true) is (walk.busy_so (ticket_notes v first) has_ticket _ _ refl (λ h is. grind (arith, is)) (his_sits seen l w some)))
+            (λ (ne : first_party seen.plain.tickets ≡ q → ⊥). absurd (omega (arith, long, ahead_other t (serving_word seen.plain) seen.plain.tickets q (seat_of seen q) (λ e. ne (sym e))))) (cases_eq (first_party seen.plain.tickets) q)
 
-    busy_at : (seen : World) (l : TicketPoint) → walk.Waits m k f x seen l → (q : ℕ) → 1 ≤ theirs_by N seen.plain l q (slice_get seen.state.seats q) → is_busy (slice_get seen.state.seats q) ≡ true
+    busy_at : (seen : World) (l : TicketPoint) → walk.Waits f x seen l → (q : ℕ) → 1 ≤ theirs_by N seen.plain l q (seat_of seen q) → is_busy (seat_of seen q) ≡ true
     busy_at seen (Await t) w q long = busy_by seen (Await t) w t q long
     busy_at seen l w q long = busy_by seen l w seen.plain.next q (grind (arith, w.1, long))
 
-    some_load : (seen : World) (l : TicketPoint) → walk.Waits m k f x seen l → walk.Within m k f x seen l 0 → ⊥
+    some_load : (seen : World) (l : TicketPoint) → walk.Waits f x seen l → walk.Within f x seen l 0 → ⊥
     some_load seen (Await t) w none =
         ⊎_elim (λ (is : first_party seen.plain.tickets ≡ p). absurd (omega (arith, subst (λ b. (if b then 1 else 0) ≤ 0) (eq-eqb (first_party seen.plain.tickets) p is) none.mine)))
         (λ (ne : first_party seen.plain.tickets ≡ p → ⊥). absurd (omega (arith, none.theirs (first_party seen.plain.tickets) ne, behind seen (Await t) w t refl ne, ahead_own t (serving_word seen.plain) seen.plain.tickets (slice_get seen.state.seats (first_party seen.plain.tickets)) (some seen (Await t) w t refl)))) (cases_eq (first_party seen.plain.tickets) p)
@@ -557,22 +554,22 @@ module _ {V : Type 0} (v : V) (first : ℕ) where
     some_load seen (Take j) w none = omega (arith, none.mine, (doorway_fits n (N - seen.plain.next) (j == seen.plain.next)).0)
     some_load seen l w none = absurd (grind (arith, w.1))
 
-    door_few : (seen : World) (l : TicketPoint) → walk.Waits m k f x seen l → at_door l → (q : ℕ) → (if N - seen.plain.next == 1 then ahead seen.plain.next (serving_word seen.plain) seen.plain.tickets q (slice_get seen.state.seats q) else 0) ≤ max 2 (3 * n - 2) + (N - seen.plain.next)
-    door_few seen l w door q = grind (arith, queue_few seen l w door, ahead_most seen.plain.next (serving_word seen.plain) seen.plain.tickets q (slice_get seen.state.seats q), left_few (slice_get seen.state.seats q))
+    door_few : (seen : World) (l : TicketPoint) → walk.Waits f x seen l → at_door l → (q : ℕ) → (if N - seen.plain.next == 1 then ahead seen.plain.next (serving_word seen.plain) seen.plain.tickets q (seat_of seen q) else 0) ≤ max 2 (3 * n - 2) + (N - seen.plain.next)
+    door_few seen l w door q = grind (arith, queue_few seen l w door, ahead_most seen.plain.next (serving_word seen.plain) seen.plain.tickets q (seat_of seen q), left_few (seat_of seen q))
 
     -- how long it waits at most
-    loads_few : (seen : World) (l : TicketPoint) → walk.Waits m k f x seen l → walk.Within m k f x seen l (max 2 (3 * n - 2) + (N - seen.plain.next))
-    loads_few seen (Await t) w = record { mine = omega (arith, bit_few (first_party seen.plain.tickets == p)); theirs = λ q ne. omega (arith, near seen (Await t) w t refl, ahead_most t (serving_word seen.plain) seen.plain.tickets q (slice_get seen.state.seats q), left_few (slice_get seen.state.seats q)) }
+    loads_few : (seen : World) (l : TicketPoint) → walk.Waits f x seen l → walk.Within f x seen l (max 2 (3 * n - 2) + (N - seen.plain.next))
+    loads_few seen (Await t) w = record { mine = omega (arith, bit_few (first_party seen.plain.tickets == p)); theirs = λ q ne. omega (arith, near seen (Await t) w t refl, ahead_most t (serving_word seen.plain) seen.plain.tickets q (seat_of seen q), left_few (seat_of seen q)) }
     loads_few seen LoadNext w = record { mine = (doorway_fits n (N - seen.plain.next) false).1; theirs = λ q ne. door_few seen LoadNext w tt q }
     loads_few seen (Take j) w = record { mine = (doorway_fits n (N - seen.plain.next) (j == seen.plain.next)).1; theirs = λ q ne. door_few seen (Take j) w tt q }
     loads_few seen l w = absurd (grind (arith, w.1))
 
-    begins_by : (seen : World) (l : TicketPoint) → walk.Waits m k f x seen l → (q : ℕ) (c : TicketCall) (i : TicketPoint) (h : Option Hold) → slice_get seen.state.seats q ≡ Some (resting h) → m.begin c h ≡ Some i
-        → theirs_by N seen.plain l q (Some (Calling c i h)) ≤ theirs_by N seen.plain l q (slice_get seen.state.seats q) - 1
+    begins_by : (seen : World) (l : TicketPoint) → walk.Waits f x seen l → (q : ℕ) (c : TicketCall) (i : TicketPoint) (h : Option Hold) → seat_of seen q ≡ Some (resting h) → m.begin c h ≡ Some i
+        → theirs_by N seen.plain l q (Some (Calling c i h)) ≤ theirs_by N seen.plain l q (seat_of seen q) - 1
     begins_by seen (Await t) w q c i h at may = first_begins seen (Await t) w t q c i h at may
     begins_by seen l w q c i h at may = grind (arith, w.1, first_begins seen l w seen.plain.next q c i h at may)
 
-    walks : walk.Walks m k f x
+    walks : walk.Walks f x
     walks =
         record {
           fine = λ seen q move good fine. omega (arith, next_grows seen.plain (scene m seen q move).change, fine);
@@ -593,7 +590,7 @@ module _ {V : Type 0} (v : V) (first : ℕ) where
   await_at t p c l h is = absurd (grind (arith, is))
 
   -- a call of `lock` holds nothing
-  lock_at : (N p : ℕ) (c : TicketCall) (l : TicketPoint) (h : Option Hold) (s : Plain) (span : List Mark) → (asks_of c h).waits ≡ true → Knows k c l h p s span → N < ticket_limit → (Some (Calling c l h) ≡ Some (Calling Lock l None)) × at_lock N l
+  lock_at : (N p : ℕ) (c : TicketCall) (l : TicketPoint) (h : Option Hold) (s : Plain) (span : List Mark) → (asks_of c h).waits ≡ true → Knows (ticket_notes v first) c l h p s span → N < ticket_limit → (Some (Calling c l h) ≡ Some (Calling Lock l None)) × at_lock N l
   lock_at N p c l h s span asks knows room = grind (arith, asks, knows, room)
 
   parties : (past : List (ℕ × Move TicketCall V)) (s : State TicketWords V TicketCall TicketPoint) → length (after m s past).seats ≡ length s.seats
@@ -609,7 +606,7 @@ module _ {V : Type 0} (v : V) (first : ℕ) where
 
     -- the numbers there, and at the end of the rounds
     numbers : (now.words.next ≡ seen.plain.next) × (now.words.serving ≡ serving_word seen.plain)
-    numbers = grind (arith, numbers_are m k f n past)
+    numbers = grind (arith, numbers_are f n past)
 
     abbrev last : List (List (ℕ × Move TicketCall V)) → ℕ
     last rounds = (seen_after m seen (joined rounds)).plain.next
@@ -617,22 +614,22 @@ module _ {V : Type 0} (v : V) (first : ℕ) where
     last_is : (rounds : List (List (ℕ × Move TicketCall V))) → (after m now (joined rounds)).words.next ≡ last rounds
     last_is rounds =
         let there = seen_after m seen (joined rounds) in
-        ap (λ (x : State TicketWords V TicketCall TicketPoint). x.words.next) (sym (state-seen_after m seen (joined rounds) ∙ ap (λ x. after m x (joined rounds)) (state_is m k f n past)))
-        ∙ next_of there (good_after m k f seen (joined rounds) (good m k f n past))
+        ap (λ (x : State TicketWords V TicketCall TicketPoint). x.words.next) (sym (state-seen_after m seen (joined rounds) ∙ ap (λ x. after m x (joined rounds)) (state_is f n past)))
+        ∙ next_of there (good_after f seen (joined rounds) (good f n past))
 
     many : length seen.state.seats ≡ n
-    many = ap (λ (x : State TicketWords V TicketCall TicketPoint). length x.seats) (state_is m k f n past) ∙ (parties past (at_first m n) ∙ length-replicate n _)
+    many = ap (λ (x : State TicketWords V TicketCall TicketPoint). length x.seats) (state_is f n past) ∙ (parties past (at_first m n) ∙ length-replicate n _)
 
-    granted_in : (p : ℕ) (l : TicketPoint) (rounds : List (List (ℕ × Move TicketCall V))) → let N = last rounds in slice_get now.seats p ≡ Some (Calling Lock l None) → at_lock N l → AreRounds m now rounds → (walk.Waits m k f (x p n N) seen l → walk.Within m k f (x p n N) seen l (length rounds))
+    granted_in : (p : ℕ) (l : TicketPoint) (rounds : List (List (ℕ × Move TicketCall V))) → let N = last rounds in slice_get now.seats p ≡ Some (Calling Lock l None) → at_lock N l → AreRounds m now rounds → (walk.Waits f (x p n N) seen l → walk.Within f (x p n N) seen l (length rounds))
         → occurs m (grants m p) now (joined rounds) ≡ true
-    granted_in p l rounds there at are enough = walk.ends m k f (x p n (last rounds)) (walks p n (last rounds)) n past rounds l there at many (omega arith) are enough
+    granted_in p l rounds there at are enough = walk.ends f (x p n (last rounds)) (walks p n (last rounds)) n past rounds l there at many (omega arith) are enough
 
     pub enters_in_rounds : (rounds : List (List (ℕ × Move TicketCall V))) → EntersInRounds m n past rounds
     enters_in_rounds rounds p t c l h there with_it are long =
-        let at = await_at t p c l h (calls_so (ticket_machine v first) (ticket_notes v first) f n past (λ e. waits_by t e.tickets) p c l h there (ap (λ (e : Entries). waits_by t e.tickets) with_it ∙ rw (eqb_self t) refl)) in
+        let at = await_at t p c l h (calls_so f n past (λ e. waits_by t e.tickets) p there (ap (λ (e : Entries). waits_by t e.tickets) with_it ∙ rw (eqb_self t) refl)) in
         let long_here : 3 * (t - serving_word seen.plain) + 1 ≤ length rounds = omega (arith, long, ap (λ z. t - z) numbers.1) in
         granted_in p (Await t) rounds (there ∙ at) tt are
-        (λ w. record { mine = omega (arith, bit_few (first_party seen.plain.tickets == p), long_here); theirs = λ q ne. omega (arith, long_here, ahead_most t (serving_word seen.plain) seen.plain.tickets q (slice_get seen.state.seats q), left_few (slice_get seen.state.seats q)) })
+        (λ w. record { mine = omega (arith, bit_few (first_party seen.plain.tickets == p), long_here); theirs = λ q ne. omega (arith, long_here, ahead_most t (serving_word seen.plain) seen.plain.tickets q (seat_of seen q), left_few (seat_of seen q)) })
 
     pub never_starved : (schedule : ℕ → ℕ × Move TicketCall V) → IsNeverStarved m n past schedule
     never_starved schedule p t c l h there with_it fair =
@@ -640,6 +637,6 @@ module _ {V : Type 0} (v : V) (first : ℕ) where
 
     pub locks_in_rounds : (rounds : List (List (ℕ × Move TicketCall V))) → LocksInRounds m n past rounds
     locks_in_rounds rounds p c l h there asks are room long =
-        let at = lock_at (last rounds) p c l h seen.plain (seen.span p) asks (calls m k f n past p c l h there).knows (omega (arith, room, last_is rounds)) in
+        let at = lock_at (last rounds) p c l h seen.plain (seen.span p) asks (calls f n past p there).knows (omega (arith, room, last_is rounds)) in
         granted_in p l rounds (there ∙ at.0) at.1 are
         (λ w. let low = loads_few p n (last rounds) seen l w in record { mine = omega (arith, low.mine, long, numbers.0, last_is rounds); theirs = λ q ne. omega (arith, low.theirs q ne, long, numbers.0, last_is rounds) })

@@ -88,8 +88,5 @@ module _ (n : ℕ) where
         soon = soon;
       }
 
-abbrev pub seats_keeping : (n : ℕ) → Notes (seats_table n)
-seats_keeping n = seats_notes n
-
-pub seats_facts : (n : ℕ) → Plays (seats_machine n) (seats_keeping n)
+pub seats_facts : (n : ℕ) → Plays (seats_machine n) (seats_notes n)
 seats_facts n = plays_of (seats_pays n) refl

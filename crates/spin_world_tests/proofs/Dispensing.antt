@@ -73,8 +73,5 @@ module _ (cap : ℕ) where
         soon = λ p c l h s w span. grind arith;
       }
 
-abbrev pub dispenser_keeping : (cap : ℕ) → Notes (dispenser_table cap)
-dispenser_keeping cap = dispenser_notes cap
-
-pub dispenser_facts : (cap : ℕ) → Plays (dispenser_machine cap) (dispenser_keeping cap)
+pub dispenser_facts : (cap : ℕ) → Plays (dispenser_machine cap) (dispenser_notes cap)
 dispenser_facts cap = plays_of (dispenser_pays cap) refl

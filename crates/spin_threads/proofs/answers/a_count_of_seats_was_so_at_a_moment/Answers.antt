@@ -1,12 +1,11 @@
 use Rattle.std.proofs.Common.{refl, ◌==◌}
 use Rattle.std.proofs.lemmas.Bool.{eqb-true}
 use Rattle.spin_model.specs.Calls.{readers}
-use Rattle.spin_seats.specs.Rule.{model}
-use Rattle.spin_world_seats.proofs.Owed.{seats_keeping, seats_facts}
+use Rattle.spin_world_seats.proofs.Owed.{seats_facts}
 use Rattle.spin_threads.proofs.Moments.{found}
 use Rattle.spin_threads.proofs.answers.a_count_of_seats_was_so_at_a_moment.Goals as goal
 
 pub returns : goal.returns
 returns g n count before now made =
     let b = before.account in let e = now.account in
-    found (model n) (seats_keeping n) (seats_facts n) (λ p s. readers s == count) (λ h. refl) (λ p l h seen call is. eqb-true (readers seen.plain) count is) b.permit.view e.permit.view b.seen.entries e.seen.entries made.0
+    found (seats_facts n) (λ p s. readers s == count) (λ h. refl) (λ p l h seen call is. eqb-true (readers seen.plain) count is) b.permit.view e.permit.view b.seen.entries e.seen.entries made.0

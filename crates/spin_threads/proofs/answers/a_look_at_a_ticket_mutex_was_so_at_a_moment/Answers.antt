@@ -1,11 +1,10 @@
 use Rattle.std.proofs.Common.{refl}
 use Rattle.spin_step.specs.Parties.{is_held}
-use Rattle.spin_ticket.specs.Queue.{model}
-use Rattle.spin_world.proofs.TicketOwed.{ticket_keeping, ticket_facts}
+use Rattle.spin_world.proofs.TicketOwed.{ticket_facts}
 use Rattle.spin_threads.proofs.Moments.{found, same_is}
 use Rattle.spin_model.specs.Asks.{same}
 use Rattle.spin_threads.proofs.answers.a_look_at_a_ticket_mutex_was_so_at_a_moment.Goals as goal
 
 pub returns : goal.returns
 returns g c = λ key held.
-    found (model key) (ticket_keeping key.0.value key.1) (ticket_facts key.0.value key.1) (λ p s. same held (is_held s)) (λ h. refl) (λ p l h seen call is. same_is (is_held seen.plain) held is)
+    found (ticket_facts key.0.value key.1) (λ p s. same held (is_held s)) (λ h. refl) (λ p l h seen call is. same_is (is_held seen.plain) held is)

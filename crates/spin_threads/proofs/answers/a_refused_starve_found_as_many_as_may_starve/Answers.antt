@@ -1,8 +1,8 @@
 use Rattle.std.proofs.Common.{◌≡◌, ◌≤◌, ℕ, length, arith, not, refl, true}
 use Rattle.spin_step.specs.Plain.{Plain, is_open_to, to_starve}
-use Rattle.spin_fair.specs.Fair.{model, patience}
+use Rattle.spin_fair.specs.Fair.{patience}
 use Rattle.spin_step_more.specs.Starvers.{most_starvers}
-use Rattle.spin_world.proofs.FairOwed.{fair_keeping, fair_facts}
+use Rattle.spin_world.proofs.FairOwed.{fair_facts}
 use Rattle.spin_threads.proofs.Moments.{found}
 use Rattle.spin_threads.proofs.answers.a_refused_starve_found_as_many_as_may_starve.Goals as goal
 
@@ -11,4 +11,4 @@ as_many s p room closed = grind (arith, room, closed)
 
 pub returns : goal.returns
 returns g c = λ opening.
-    found (model opening) (fair_keeping opening most_starvers patience) (fair_facts opening most_starvers patience) (λ p s. not (is_open_to s p to_starve)) (λ h. refl) (λ p l h seen call closed. as_many seen.plain p call.shape.room closed)
+    found (fair_facts opening most_starvers patience) (λ p s. not (is_open_to s p to_starve)) (λ h. refl) (λ p l h seen call closed. as_many seen.plain p call.shape.room closed)

@@ -1,9 +1,8 @@
 use Rattle.std.proofs.Common.{◌≡◌, ℕ, length, refl, arith, not, true}
 use Rattle.spin_step.specs.Plain.{Plain, is_open_to, to_read}
-use Rattle.spin_seats.specs.Rule.{model}
 use Rattle.spin_seats.specs.Seats.{seats}
 use Rattle.spin_seats.proofs.Taken.{open_is}
-use Rattle.spin_world_seats.proofs.Owed.{Seating, seats_keeping, seats_facts}
+use Rattle.spin_world_seats.proofs.Owed.{Seating, seats_facts}
 use Rattle.spin_threads.proofs.Moments.{found}
 use Rattle.spin_threads.proofs.answers.a_refused_try_found_all_seats_taken.Goals as goal
 
@@ -13,4 +12,4 @@ all_taken n p s shape closed = grind (arith, open_is s n (length s.holders) shap
 pub returns : goal.returns
 returns g n before now made =
     let b = before.account in let e = now.account in
-    found (model n) (seats_keeping n) (seats_facts n) (λ p s. not (is_open_to s p to_read)) (λ h. refl) (λ p l h seen call closed. all_taken n p seen.plain call.shape closed) b.permit.view e.permit.view b.seen.entries e.seen.entries made.0
+    found (seats_facts n) (λ p s. not (is_open_to s p to_read)) (λ h. refl) (λ p l h seen call closed. all_taken n p seen.plain call.shape closed) b.permit.view e.permit.view b.seen.entries e.seen.entries made.0

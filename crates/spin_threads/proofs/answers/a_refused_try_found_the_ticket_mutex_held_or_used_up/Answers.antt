@@ -2,8 +2,7 @@ use Rattle.std.proofs.Common.{◌≡◌, ◌⊎◌, ℕ, true, false, arith, not
 use Rattle.spin_step.specs.Plain.{Plain, is_open_to, to_take_and_enter}
 use Rattle.spin_step.specs.Parties.{is_held}
 use Rattle.spin_model.specs.Ticket.{is_left}
-use Rattle.spin_ticket.specs.Queue.{model}
-use Rattle.spin_world.proofs.TicketOwed.{ticket_keeping, ticket_facts}
+use Rattle.spin_world.proofs.TicketOwed.{ticket_facts}
 use Rattle.spin_threads.proofs.Moments.{found}
 use Rattle.spin_threads.proofs.answers.a_refused_try_found_the_ticket_mutex_held_or_used_up.Goals as goal
 
@@ -12,4 +11,4 @@ kept_out s p closed = grind (arith, closed)
 
 pub returns : goal.returns
 returns g c = λ key.
-    found (model key) (ticket_keeping key.0.value key.1) (ticket_facts key.0.value key.1) (λ p s. not (is_open_to s p to_take_and_enter)) (λ h. refl) (λ p l h seen call closed. kept_out seen.plain p closed)
+    found (ticket_facts key.0.value key.1) (λ p s. not (is_open_to s p to_take_and_enter)) (λ h. refl) (λ p l h seen call closed. kept_out seen.plain p closed)

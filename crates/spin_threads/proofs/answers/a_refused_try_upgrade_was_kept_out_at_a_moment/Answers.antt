@@ -7,11 +7,10 @@ use Rattle.spin_step_more.specs.declared.rw_calls.RwCall.TheVariants.{TryUpgrade
 use Rattle.spin_step_more.specs.declared.rw_calls.RwCall.{RwCall}
 use Rattle.spin_step_more.specs.declared.rw_calls.RwPoint.{RwPoint}
 use Rattle.spin_world_core.specs.Runs.{Seen}
-use Rattle.spin_world_core.proofs.Steps.{InCall}
+use Rattle.spin_world_core.proofs.Shapes.{InCall}
 use Rattle.spin_step_more.specs.Readers.{reader_limit}
-use Rattle.spin_rwlock.specs.Rw.{model}
 use Rattle.spin_world_core.proofs.Stands.{holds, entries_at}
-use Rattle.spin_world.proofs.RwOwed.{holder_by, rw_keeping, rw_facts}
+use Rattle.spin_world.proofs.RwOwed.{holder_by, rw_notes, rw_facts}
 use Rattle.spin_threads.proofs.Moments.{found}
 use Rattle.spin_threads.proofs.answers.a_refused_try_upgrade_was_kept_out_at_a_moment.Goals as goal
 
@@ -20,10 +19,10 @@ not_alone s p mine closed = grind (arith, holder_by p upgradable s mine, closed)
 
 -- a party that tries to upgrade is an upgradable reader
 stands : {T : Type 0} (opening : T) (p : ℕ) (l : RwPoint) (h : Option Hold) (seen : Seen ℕ T RwCall RwPoint)
-    → InCall (rw_keeping opening reader_limit) p TryUpgrade l h seen.plain seen.state.value seen.state.words (seen.span p) → entries p seen.plain ≡ entries_at p (holds upgradable)
+    → InCall (rw_notes opening reader_limit) p TryUpgrade l h seen.plain seen.state.words (seen.span p) → entries p seen.plain ≡ entries_at p (holds upgradable)
 stands opening p l (Some hold.Upgradable) seen call = call.knows.0.stand
 stands opening p l _ seen call = absurd call.knows
 
 pub returns : goal.returns
 returns g c = λ opening.
-    found (model opening) (rw_keeping opening reader_limit) (rw_facts opening reader_limit) (λ p s. not (is_open_to s p to_upgrade)) (λ h. refl) (λ p l h seen call closed. not_alone seen.plain p (stands opening p l h seen call) closed)
+    found (rw_facts opening reader_limit) (λ p s. not (is_open_to s p to_upgrade)) (λ h. refl) (λ p l h seen call closed. not_alone seen.plain p (stands opening p l h seen call) closed)

@@ -3,8 +3,7 @@ use Rattle.spin_step.specs.Plain.{Plain, upgradable, upgraders, is_open_to, to_r
 use Rattle.spin_step.proofs.Sums.{upgrader, against, by_kinds}
 use Rattle.spin_model.specs.Calls.{writers}
 use Rattle.spin_step_more.specs.Readers.{reader_limit}
-use Rattle.spin_rwlock.specs.Rw.{model}
-use Rattle.spin_world.proofs.RwOwed.{Within, rw_keeping, rw_facts}
+use Rattle.spin_world.proofs.RwOwed.{Within, rw_facts}
 use Rattle.spin_threads.proofs.Moments.{found}
 use Rattle.spin_threads.proofs.answers.a_refused_try_upgradeable_read_was_kept_out_at_a_moment.Goals as goal
 
@@ -13,4 +12,4 @@ kept_out s p shape closed = grind (arith, shape, by_kinds (against upgradable) s
 
 pub returns : goal.returns
 returns g c = λ opening.
-    found (model opening) (rw_keeping opening reader_limit) (rw_facts opening reader_limit) (λ p s. not (is_open_to s p to_read_upgradable)) (λ h. refl) (λ p l h seen call closed. kept_out seen.plain p call.shape closed)
+    found (rw_facts opening reader_limit) (λ p s. not (is_open_to s p to_read_upgradable)) (λ h. refl) (λ p l h seen call closed. kept_out seen.plain p call.shape closed)

@@ -1,7 +1,7 @@
-use Rattle.spin_seats.specs.Rule.{model, seat_of, words_of}
-use Rattle.spin_world_seats.proofs.Owed.{seats_keeping, seats_facts}
+use Rattle.spin_seats.specs.Rule.{seat_of, words_of}
+use Rattle.spin_world_seats.proofs.Owed.{seats_facts}
 use Rattle.spin_threads.proofs.Between.{between}
 use Rattle.spin_threads.proofs.laws.between_any_two_steps_of_seats.Goals as goal
 
 pub returns : goal.returns
-returns g = λ n name word trace parties is. between (model n) seat_of words_of (seats_keeping n) (seats_facts n) trace.entries (word, trace.word) parties is.2
+returns g = λ n name word trace parties is. between seat_of words_of (seats_facts n) trace.entries (word, trace.word) parties is.2

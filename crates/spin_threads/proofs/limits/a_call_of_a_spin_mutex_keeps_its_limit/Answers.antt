@@ -1,7 +1,6 @@
-use Rattle.spin_flag.specs.Flag.{model}
-use Rattle.spin_world.proofs.FlagOwed.{flag_keeping, flag_facts}
+use Rattle.spin_world.proofs.FlagOwed.{flag_facts}
 use Rattle.spin_threads.proofs.Counts.{keeps_limits}
 use Rattle.spin_threads.proofs.limits.a_call_of_a_spin_mutex_keeps_its_limit.Goals as goal
 
 pub returns : goal.returns
-returns g c = λ opening. keeps_limits (model opening) (flag_keeping opening) (flag_facts opening)
+returns g c = λ opening. keeps_limits (flag_facts opening)

@@ -1,7 +1,6 @@
-use Rattle.spin_ticket.specs.Queue.{model}
-use Rattle.spin_world.proofs.TicketOwed.{ticket_keeping, ticket_facts}
+use Rattle.spin_world.proofs.TicketOwed.{ticket_facts}
 use Rattle.spin_threads.proofs.Counts.{keeps_limits}
 use Rattle.spin_threads.proofs.limits.a_call_of_a_ticket_mutex_keeps_its_limit.Goals as goal
 
 pub returns : goal.returns
-returns g c = λ key. keeps_limits (model key) (ticket_keeping key.0.value key.1) (ticket_facts key.0.value key.1)
+returns g c = λ key. keeps_limits (ticket_facts key.0.value key.1)

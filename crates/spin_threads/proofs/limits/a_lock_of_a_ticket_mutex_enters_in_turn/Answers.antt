@@ -18,7 +18,7 @@ use Rattle.spin_model.proofs.Lists.{get-set_same}
 use Rattle.spin_ticket.specs.Queue.{Key, Made, model}
 use Rattle.spin_world_core.specs.Runs.{Seen, opening}
 use Rattle.spin_world_core.proofs.Reached.{state_is}
-use Rattle.spin_world.proofs.TicketOwed.{ticket_keeping, ticket_facts}
+use Rattle.spin_world.proofs.TicketOwed.{ticket_notes, ticket_facts}
 use Rattle.spin_world.proofs.Queues.{in_turn}
 use Rattle.spin_threads.specs.Turns.{EntersInTurn}
 use Rattle.spin_threads.proofs.Calls.{event, one_more, longer, Call, call_of}
@@ -46,20 +46,20 @@ module _ {T : Type 0} (key : Key T) where
   seat_is s p l h there granted =
       subst (λ o. slice_get (moves_at (model key) s p Step o).next.seats p ≡ Some (Holding (hold.Ticket (ticket_of l)))) (sym there) (seat_by s p l h there (subst (λ o. (moves_at (model key) s p Step o).outcome ≡ Answered Granted None) there granted))
 
-  of_call : {X : Type 0} (view : Option (Numbered X)) (old new : List (Made T)) → Call (model key) (ticket_keeping key.0.value key.1) (ticket_facts key.0.value key.1) Lock Granted view old new → EntersInTurn key view old new
+  of_call : {X : Type 0} (view : Option (Numbered X)) (old new : List (Made T)) → Call (ticket_facts key.0.value key.1) Lock Granted view old new → EntersInTurn key view old new
   of_call view old new call =
-      let m = model key in let k = ticket_keeping key.0.value key.1 in let f = ticket_facts key.0.value key.1 in let it = call.answered in let p = call.party in let n = call.parties in
+      let m = model key in let k = ticket_notes key.0.value key.1 in let f = ticket_facts key.0.value key.1 in let it = call.answered in let p = call.party in let n = call.parties in
       let entered : List (Made T) = it.past ++ (p, Step) ∷ [] in
       let own = seat_is it.seen.state p it.point call.held it.there it.comes in
-      let state = ap (λ (z : Seen TicketWords T TicketCall TicketPoint). z.state) (one_more m k f (opening m n) it.past (p, Step)) in
-      let there : slice_get (after m (at_first m n) entered).seats p ≡ Some (Holding (hold.Ticket (ticket_of it.point))) = ap (λ (s : State TicketWords T TicketCall TicketPoint). slice_get s.seats p) (sym (state_is m k f n entered) ∙ state ∙ ap (λ z. (event m k f z (p, Step)).after.state) (sym it.leads)) ∙ own in
+      let state = ap (λ (z : Seen TicketWords T TicketCall TicketPoint). z.state) (one_more f (opening m n) it.past (p, Step)) in
+      let there : slice_get (after m (at_first m n) entered).seats p ≡ Some (Holding (hold.Ticket (ticket_of it.point))) = ap (λ (s : State TicketWords T TicketCall TicketPoint). slice_get s.seats p) (sym (state_is f n entered) ∙ state ∙ ap (λ z. (event f z (p, Step)).after.state) (sym it.leads)) ∙ own in
       record {
         party = p;
         is_number = call.is_number;
         parties = n;
         played = call.played;
         entered = entered;
-        behind = longer m k f old it.past (p, Step) it.known;
+        behind = longer f old it.past (p, Step) it.known;
         before = it.before;
         number = ticket_of it.point;
         holds = there;
@@ -67,4 +67,4 @@ module _ {T : Type 0} (key : Key T) where
       }
 
 pub returns : goal.returns
-returns g c = λ key view now old new made. of_call key now old new (call_of (model key) (ticket_keeping key.0.value key.1) (ticket_facts key.0.value key.1) Lock Granted view now old new made)
+returns g c = λ key view now old new made. of_call key now old new (call_of (ticket_facts key.0.value key.1) Lock Granted view now old new made)

@@ -1,7 +1,6 @@
-use Rattle.spin_world.specs.BarrierTable.{barrier_machine}
 use Rattle.spin_world_core.proofs.Lawful.{laws_of}
-use Rattle.spin_world.proofs.BarrierOwed.{barrier_keeping, barrier_facts}
+use Rattle.spin_world.proofs.BarrierOwed.{barrier_facts}
 use Rattle.spin_world.proofs.barrier.BarrierObjectObject.laws.Goals as goal
 
 pub returns : goal.returns
-returns c = λ b. laws_of (barrier_machine b.n) (barrier_keeping b.n) (barrier_facts b.n)
+returns c = λ b. laws_of (barrier_facts b.n)

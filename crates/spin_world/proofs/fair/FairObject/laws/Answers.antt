@@ -1,7 +1,6 @@
-use Rattle.spin_step_more.specs.FairCalls.{fair_machine}
 use Rattle.spin_world_core.proofs.Lawful.{laws_of}
-use Rattle.spin_world.proofs.FairOwed.{fair_keeping, fair_facts}
+use Rattle.spin_world.proofs.FairOwed.{fair_facts}
 use Rattle.spin_world.proofs.fair.FairObject.laws.Goals as goal
 
 pub returns : goal.returns
-returns g c = λ f. laws_of (fair_machine f.value f.cap f.patience) (fair_keeping f.value f.cap f.patience) (fair_facts f.value f.cap f.patience)
+returns g c = λ f. laws_of (fair_facts f.value f.cap f.patience)

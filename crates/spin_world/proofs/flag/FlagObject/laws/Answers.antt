@@ -1,7 +1,6 @@
-use Rattle.spin_model.specs.Flag.{flag_machine}
 use Rattle.spin_world_core.proofs.Lawful.{laws_of}
-use Rattle.spin_world.proofs.FlagOwed.{flag_keeping, flag_facts}
+use Rattle.spin_world.proofs.FlagOwed.{flag_facts}
 use Rattle.spin_world.proofs.flag.FlagObject.laws.Goals as goal
 
 pub returns : goal.returns
-returns g c = λ f. laws_of (flag_machine f.value) (flag_keeping f.value) (flag_facts f.value)
+returns g c = λ f. laws_of (flag_facts f.value)

@@ -4,8 +4,7 @@ use Rattle.spin_step.specs.Steps.{bit}
 use Rattle.spin_step.proofs.Exclusive.{empty_is}
 use Rattle.spin_step.proofs.Holders.{is_empty-none}
 use Rattle.spin_world_core.proofs.Reached.{numbers_are}
-use Rattle.spin_model.specs.Flag.{flag_machine}
-use Rattle.spin_world.proofs.FlagOwed.{flag_keeping, flag_facts}
+use Rattle.spin_world.proofs.FlagOwed.{flag_facts}
 use Rattle.spin_world.proofs.flag.laws.a_flag_is_clear_when_nobody_holds.Goals as goal
 
 clear_when_empty : (w : Bool) (hs : List Holder) → bit w ∷ [] ≡ length hs ∷ [] → w ≡ false → hs ≡ []
@@ -16,5 +15,5 @@ empty_when_clear w hs e none = grind (arith, e)
 
 pub returns : goal.returns
 returns g c = λ f n past.
-    let numbers = numbers_are (flag_machine f.value) (flag_keeping f.value) (flag_facts f.value) n past in
+    let numbers = numbers_are (flag_facts f.value) n past in
     (λ clear. clear_when_empty _ _ numbers clear, λ none. empty_when_clear _ _ numbers none)

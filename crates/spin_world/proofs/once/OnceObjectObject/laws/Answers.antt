@@ -1,7 +1,6 @@
-use Rattle.spin_model.specs.Once.{once_machine}
 use Rattle.spin_world_core.proofs.Lawful.{laws_of}
-use Rattle.spin_world.proofs.OnceOwed.{once_keeping, once_facts}
+use Rattle.spin_world.proofs.OnceOwed.{once_facts}
 use Rattle.spin_world.proofs.once.OnceObjectObject.laws.Goals as goal
 
 pub returns : goal.returns
-returns g c = λ o. laws_of (once_machine o.value) (once_keeping o.value) (once_facts o.value)
+returns g c = λ o. laws_of (once_facts o.value)

@@ -1,7 +1,6 @@
-use Rattle.spin_step_more.specs.RwCalls.{rw_machine}
 use Rattle.spin_world_core.proofs.Lawful.{laws_of}
-use Rattle.spin_world.proofs.RwOwed.{rw_keeping, rw_facts}
+use Rattle.spin_world.proofs.RwOwed.{rw_facts}
 use Rattle.spin_world.proofs.rw.RwObject.laws.Goals as goal
 
 pub returns : goal.returns
-returns g c = λ r. laws_of (rw_machine r.value r.cap) (rw_keeping r.value r.cap) (rw_facts r.value r.cap)
+returns g c = λ r. laws_of (rw_facts r.value r.cap)

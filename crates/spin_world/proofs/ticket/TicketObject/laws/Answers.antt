@@ -1,7 +1,6 @@
-use Rattle.spin_model.specs.Ticket.{ticket_machine}
 use Rattle.spin_world_core.proofs.Lawful.{laws_of}
-use Rattle.spin_world.proofs.TicketOwed.{ticket_keeping, ticket_facts}
+use Rattle.spin_world.proofs.TicketOwed.{ticket_facts}
 use Rattle.spin_world.proofs.ticket.TicketObject.laws.Goals as goal
 
 pub returns : goal.returns
-returns g c = λ t. laws_of (ticket_machine t.value t.first) (ticket_keeping t.value t.first) (ticket_facts t.value t.first)
+returns g c = λ t. laws_of (ticket_facts t.value t.first)

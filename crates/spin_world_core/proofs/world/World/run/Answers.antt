@@ -1,4 +1,5 @@
-use Rattle.spin_world_core.proofs.Names.{◌≡◌, ℕ, List, ◌++◌, length, take, sym, ap, ◌∙◌, subst, arith, length-take-le, length-append, ∥∥₁_map, ∥∥₁_elim, Bool-set, Move, Machine, State, after, at_first, CanStep, IsReached, TellsAfterAnyPast}
+use Rattle.spin_world_core.proofs.Names.{◌≡◌, ℕ, List, ◌++◌, length, take, sym, ap, ◌∙◌, subst, arith, length-take-le, length-append, ∥∥₁_map, ∥∥₁_elim, Move, Machine, State, after, at_first, CanStep, IsReached, TellsAfterAnyPast}
+use Rattle.std.proofs.Math.Bool.{Bool-set}
 use Rattle.spin_model.proofs.Schedules.{after-append}
 use Rattle.spin_world_core.proofs.Transcripts.{tells_after}
 use Rattle.spin_world_core.proofs.Begins.{begins_told}

@@ -1,7 +1,6 @@
-use Rattle.spin_seats.specs.Table.{seats_machine}
 use Rattle.spin_world_core.proofs.Lawful.{laws_of}
-use Rattle.spin_world_seats.proofs.Owed.{seats_keeping, seats_facts}
+use Rattle.spin_world_seats.proofs.Owed.{seats_facts}
 use Rattle.spin_world_seats.proofs.seats.SeatsObject.laws.Goals as goal
 
 pub returns : goal.returns
-returns c s = laws_of (seats_machine s.seats) (seats_keeping s.seats) (seats_facts s.seats)
+returns c s = laws_of (seats_facts s.seats)

@@ -1,7 +1,6 @@
-use Rattle.spin_world_tests.specs.Dispenser.{dispenser_machine}
 use Rattle.spin_world_core.proofs.Lawful.{laws_of}
-use Rattle.spin_world_tests.proofs.Dispensing.{dispenser_keeping, dispenser_facts}
+use Rattle.spin_world_tests.proofs.Dispensing.{dispenser_facts}
 use Rattle.spin_world_tests.proofs.dispenser.DispenserObject.laws.Goals as goal
 
 pub returns : goal.returns
-returns c d = laws_of (dispenser_machine d.cap) (dispenser_keeping d.cap) (dispenser_facts d.cap)
+returns c d = laws_of (dispenser_facts d.cap)
