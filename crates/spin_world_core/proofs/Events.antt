@@ -11,24 +11,40 @@ module _ {W V C L A : Type 0} (m : Machine W V C L A) (seen : Seen W V C L) (p :
   abbrev pub SitsAt : Option (Seat C L) → Type 0
   SitsAt o = seat_of seen p ≡ o
 
-  -- what has to be shown of an event of this party
-  pub record OfEach (P : Scene W V C L A → Type 0) : Type 0 where
-    pub passes : (move : Move C V) (o : Option (Seat C L)) (r : StepKind) → SitsAt o → is_open_move m seen.state move o ≡ false
-        → P (scene_of seen p move o (skipped seen.state) None r None)
-    pub begins : (c : C) (l : L) (h : Option Hold) → SitsAt (Some (resting h)) → m.begin c h ≡ Some l
+  -- what has to be shown of an event of this party, case by case
+  module _ (P : Scene W V C L A → Type 0) where
+    abbrev pub OfBegin : Type 0
+    OfBegin = (c : C) (l : L) (h : Option Hold) → SitsAt (Some (resting h)) → m.begin c h ≡ Some l
         → P (scene_of seen p (Begin c) (Some (resting h)) (begun seen.state p c h (Some l)) None plain None)
-    pub steps : (c : C) (l : L) (h : Option Hold) → SitsAt (Some (Calling c l h)) → P (scene_at m seen p Step (Some (Calling c l h)))
-    pub refuses : (c : C) (l : L) (h : Option Hold) (next : Next L A) → SitsAt (Some (Calling c l h)) → m.refuse c l h ≡ Some next
-        → P (scene_of seen p Weak (Some (Calling c l h)) (goes_on seen.state p c h next) None weak None)
-    pub reads : (b : Bool) (h : Hold) → SitsAt (Some (seat_with b h)) → may_read h ≡ true
+
+    abbrev pub OfRead : Type 0
+    OfRead = (b : Bool) (h : Hold) → SitsAt (Some (seat_with b h)) → may_read h ≡ true
         → P (scene_of seen p Read (Some (seat_with b h)) (read_by seen.state true) None plain None)
-    pub writes : (v : V) (b : Bool) (h : Hold) → SitsAt (Some (seat_with b h)) → may_write h ≡ true
+
+    abbrev pub OfWrite : Type 0
+    OfWrite = (v : V) (b : Bool) (h : Hold) → SitsAt (Some (seat_with b h)) → may_write h ≡ true
         → P (scene_of seen p (Write v) (Some (seat_with b h)) (written_by seen.state v true) None plain None)
-    pub leaks : (h : Hold) → SitsAt (Some (Holding h)) → P (scene_at m seen p Leak (Some (Holding h)))
-    pub gets : (y : Seat C L) → SitsAt (Some y) → is_owners m seen.state ≡ true
+
+    abbrev pub OfGet : Type 0
+    OfGet = (y : Seat C L) → SitsAt (Some y) → is_owners m seen.state ≡ true
         → P (scene_of seen p OwnerGet (Some y) (owner_gets seen.state true) None plain None)
-    pub sets : (v : V) (y : Seat C L) → SitsAt (Some y) → is_owners m seen.state ≡ true
+
+    abbrev pub OfSet : Type 0
+    OfSet = (v : V) (y : Seat C L) → SitsAt (Some y) → is_owners m seen.state ≡ true
         → P (scene_of seen p (OwnerSet v) (Some y) (owner_sets seen.state v true) None plain None)
+
+    pub record OfEach : Type 0 where
+      pub passes : (move : Move C V) (o : Option (Seat C L)) (r : StepKind) → SitsAt o → is_open_move m seen.state move o ≡ false
+          → P (scene_of seen p move o (skipped seen.state) None r None)
+      pub begins : OfBegin
+      pub steps : (c : C) (l : L) (h : Option Hold) → SitsAt (Some (Calling c l h)) → P (scene_at m seen p Step (Some (Calling c l h)))
+      pub refuses : (c : C) (l : L) (h : Option Hold) (next : Next L A) → SitsAt (Some (Calling c l h)) → m.refuse c l h ≡ Some next
+          → P (scene_of seen p Weak (Some (Calling c l h)) (goes_on seen.state p c h next) None weak None)
+      pub reads : OfRead
+      pub writes : OfWrite
+      pub leaks : (h : Hold) → SitsAt (Some (Holding h)) → P (scene_at m seen p Leak (Some (Holding h)))
+      pub gets : OfGet
+      pub sets : OfSet
 
   module _ (P : Scene W V C L A → Type 0) (each : OfEach P) where
     begun_so : (c : C) (h : Option Hold) (o : Option L) → SitsAt (Some (resting h)) → m.begin c h ≡ o

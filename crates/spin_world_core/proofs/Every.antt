@@ -43,8 +43,8 @@ module _ {W V C L A B : Type 0} {t : Table W V C L A} {by : Machine W V C L B} {
         reads = read_kept f seen p good;
         writes = write_kept f seen p good;
         leaks = leak_kept f seen p good;
-        gets = λ y there. owner_get_kept f seen p good y;
-        sets = λ v y there. owner_set_kept f seen p good v y;
+        gets = owner_get_kept f seen p good;
+        sets = owner_set_kept f seen p good;
       })
       move
 

@@ -1,10 +1,11 @@
 -- What an owner's move keeps.
 use Rattle.std.proofs.Common.{pred, arith}
-use Rattle.spin_world_core.proofs.Names.{seat_of, ◌≡◌, ℕ, Bool, true, false, Option, Some, None, List, [], ◌∷◌, zero, suc, map, slice_get, refl, sym, ap, ◌∙◌, subst, list_all, option_map, and_from, and_parts, true≢false, slice_get-map, Plain, Hold, Seat, Calling, Leaked, OwnerGet, OwnerSet, Mark, Machine, is_owners, yields_to_owner, let_go, seen_by_owner, owner_gets, owner_sets, owner_writes, Seen, scene_of, ComesTo, StandsFor, YieldsToOwner, IsOwners, Table, HasPhase}
+use Rattle.spin_world_core.proofs.Names.{seat_of, ◌≡◌, ℕ, Bool, true, false, Option, Some, None, List, [], ◌∷◌, zero, suc, map, slice_get, refl, sym, ap, ◌∙◌, subst, list_all, option_map, and_from, and_parts, true≢false, slice_get-map, Plain, Hold, Seat, Calling, Leaked, OwnerSet, Mark, Machine, is_owners, yields_to_owner, let_go, seen_by_owner, owner_writes, Seen, scene_of, ComesTo, StandsFor, YieldsToOwner, IsOwners, Table, HasPhase}
 use Rattle.spin_model.specs.declared.schedule.Outcome.TheVariants as outcome
 use Rattle.spin_model.specs.StepKinds as step_kind
 use Rattle.spin_world_core.proofs.Steps.{played, Plays}
 use Rattle.spin_world_core.proofs.Shapes.{Notes}
+use Rattle.spin_world_core.proofs.Events.{OfGet, OfSet}
 use Rattle.spin_world_core.proofs.Preserved.{OfParty, Invariant, Preserved, happened_kept, phase_set}
 
 pub all-get : {X : Type 0} (test : X → Bool) (xs : List X) (q : ℕ) (x : X) → list_all test xs ≡ true → slice_get xs q ≡ Some x → test x ≡ true
@@ -62,9 +63,8 @@ module _ {W V C L A B : Type 0} {t : Table W V C L A} {by : Machine W V C L B} {
         yields_at seen.plain q (seen.span q) (seat_of seen q) (good.parties q).stands
         (λ x e. all-get yields_to_owner seen.state.seats q x (and_parts _ _ may).1 e)
 
-    pub owner_get_kept : (y : Seat C L) → is_owners m seen.state ≡ true
-        → Preserved f (scene_of seen p OwnerGet (Some y) (owner_gets seen.state true) None step_kind.plain None)
-    owner_get_kept y may =
+    pub owner_get_kept : OfGet m seen p (Preserved f)
+    owner_get_kept y there may =
         happened_kept f _ (good_let_go seen.state.value seen.written good.phase good.written) (search)
         (λ r e. cc (e, good.written)) (owns may)
         (λ e. cc (e)) may (and_parts _ _ may).0 (refl, refl) tt (leaves_calls seen.state.seats)
@@ -81,6 +81,5 @@ module _ {W V C L A B : Type 0} {t : Table W V C L A} {by : Machine W V C L B} {
         (search) (λ r e. absurd (cc (e))) (owns may) (λ e. cc (e)) may (and_parts _ _ may).0
         (subst (λ o. ComesTo {C = C} {A = B} (OwnerSet v) None o (Some v) outcome.Written) (sym found) (refl, refl)) tt (leaves_calls seen.state.seats)
 
-    pub owner_set_kept : (v : V) (y : Seat C L) → is_owners m seen.state ≡ true
-        → Preserved f (scene_of seen p (OwnerSet v) (Some y) (owner_sets seen.state v true) None step_kind.plain None)
-    owner_set_kept v y may = owner_writes_kept v y seen.state.value may refl
+    pub owner_set_kept : OfSet m seen p (Preserved f)
+    owner_set_kept v y there may = owner_writes_kept v y seen.state.value may refl

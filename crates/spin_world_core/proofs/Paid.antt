@@ -161,13 +161,10 @@ module _ {W V C L A B : Type 0} {t : Table W V C L A} {m : Machine W V C L B} {n
     abbrev Takes : Option Change → StepKind → W → Next L A → Type 0
     Takes step r u next = Moves n Step p c h s span step r u (told t.says next)
 
-    -- What is shown of a step. Its plain step by the words is `change`; `sure` is the one that it makes whenever that
-    -- is open; and `aim` is the one of a try.
-    record Done (st : Stepped W V L A) (step : Option Change) (r : StepKind) (change : W → Option Change) (sure : Option Change)
-        (aim : Ask → Option Change) : Type 0 where
+    -- What is shown of a step. Its plain step by the words is `change`, and `aim` is the one of a try.
+    record Done (st : Stepped W V L A) (step : Option Change) (r : StepKind) (change : W → Option Change) (aim : Ask → Option Change) : Type 0 where
       takes : Takes step r st.words st.next
       counted : ContinuesCounted change s (told t.says st.next) step r
-      got : (e : Change) → sure ≡ Some e → is_open s e ≡ true → step ≡ Some e
       tried : (ask : Ask) → tries_of what ≡ Some ask → aim ask ≡ aimed p (Some ask) (aim ask) → GoesOnOpen ask p span s (told t.says st.next) step
 
     unretried : {b : Bool} {X : Type 0} → b ≡ false → b ≡ true → X
@@ -192,23 +189,21 @@ module _ {W V C L A B : Type 0} {t : Table W V C L A} {m : Machine W V C L B} {n
           fails = λ e none. lost e;
         }
 
-    stay : (r : StepKind) (branch : Branch) (next : Next L A) (change : W → Option Change) (sure : Option Change) (aim : Ask → Option Change)
+    stay : (r : StepKind) (branch : Branch) (next : Next L A) (change : W → Option Change) (aim : Ask → Option Change)
         → Branched branch s None r → (is_again r ≡ true → failures p span < changes kind p span) → Comes false None r branch next
-        → ContinuesCounted change s (told t.says next) None r → ((e : Change) → sure ≡ Some e → is_open s e ≡ true → ⊥)
-        → ((ask : Ask) → aim ask ≡ aimed p (Some ask) (aim ask) → Aims branch (is_open_to s p ask ≡ true)) → Done (stays w next) None r change sure aim
-    stay r branch next change sure aim branched lost follows counted closed shows =
+        → ContinuesCounted change s (told t.says next) None r
+        → ((ask : Ask) → aim ask ≡ aimed p (Some ask) (aim ask) → Aims branch (is_open_to s p ask ≡ true)) → Done (stays w next) None r change aim
+    stay r branch next change aim branched lost follows counted shows =
         record {
           takes = stood false r branch next branched lost follows;
           counted = counted;
-          got = λ e is may. absurd (closed e is may);
           tried = λ ask is aim. tried_on ask r branch next is (shows ask aim) follows;
         }
 
     -- new words, and a plain step
-    make : {X : Type 0} (put : X → W) (r : StepKind) (x : X) (d : Change) (next : Next L A) (change : W → Option Change) (sure : Option Change)
-        → is_step_of kind d ≡ true → MeansHere d put (Some x) → Comes false (Some d) r goes next → ((e : Change) → sure ≡ Some e → Some d ≡ Some e)
-        → Done (stays (put x) next) (Some d) r change sure (λ ask. Some d)
-    make put r x d next change sure own means follows got =
+    make : {X : Type 0} (put : X → W) (r : StepKind) (x : X) (d : Change) (next : Next L A) (change : W → Option Change)
+        → is_step_of kind d ≡ true → MeansHere d put (Some x) → Comes false (Some d) r goes next → Done (stays (put x) next) (Some d) r change (λ ask. Some d)
+    make put r x d next change own means follows =
         record {
           takes = record {
             opens = means.0;
@@ -219,48 +214,47 @@ module _ {W V C L A B : Type 0} {t : Table W V C L A} {m : Machine W V C L B} {n
             fails = λ e none. absurd (cc (none));
           };
           counted = counted_of change s (told t.says next) (Some d) r (λ u e is may none. absurd (cc (none)));
-          got = λ e is may. got e is;
           tried = λ ask is aim. grind arith;
         }
 
-    stayed : (r : StepKind) (next : Next L A) → is_again r ≡ false → Comes false None r goes next → Done (stays w next) None r (λ u. None) None (λ ask. None)
+    stayed : (r : StepKind) (next : Next L A) → is_again r ≡ false → Comes false None r goes next → Done (stays w next) None r (λ u. None) (λ ask. None)
     stayed r next single follows =
-        stay r goes next (λ u. None) None (λ ask. None) tt (unretried single) follows
-        (counted_of _ s _ None r (λ u d is may none. absurd (cc (is)))) (λ e is may. cc (is)) (λ ask aim. tt)
+        stay r goes next (λ u. None) (λ ask. None) tt (unretried single) follows
+        (counted_of _ s _ None r (λ u d is may none. absurd (cc (is)))) (λ ask aim. tt)
 
     tested : (r : StepKind) (b : Bool) (x y : Next L A) → is_again r ≡ false → (b ≡ true → Comes false None r goes x) → (b ≡ false → Comes false None r goes y)
-        → Done (stays w (either b x y)) None r (λ u. None) None (λ ask. None)
+        → Done (stays w (either b x y)) None r (λ u. None) (λ ask. None)
     tested r true x y single f g = stayed r x single (f refl)
     tested r false x y single f g = stayed r y single (g refl)
 
     looked : {X : Type 0} (put : X → W) (r : StepKind) (branch : Branch) (o : Option X) (d : Change) (found missed : Next L A) (change : W → Option Change)
         → Branched branch s None r → (is_again r ≡ true → failures p span < changes kind p span) → MeansHere d put o
         → (is_some o ≡ true → Comes false None r branch found) → (is_open s d ≡ false → Comes false None r (misses d) missed)
-        → ((next : Next L Said) → ContinuesCounted change s next None r) → Done (stays w (either (is_some o) found missed)) None r change None (λ ask. Some d)
+        → ((next : Next L Said) → ContinuesCounted change s next None r) → Done (stays w (either (is_some o) found missed)) None r change (λ ask. Some d)
     looked put r branch None d found missed change branched lost means f g counts =
-        stay r (misses d) missed change None _ means lost (g means) (counts _) (λ e is may. cc (is)) (λ ask aim. tt)
+        stay r (misses d) missed change _ means lost (g means) (counts _) (λ ask aim. tt)
     looked put r branch (Some x) d found missed change branched lost means f g counts =
-        stay r branch found change None _ branched lost (f refl) (counts _) (λ e is may. cc (is))
+        stay r branch found change _ branched lost (f refl) (counts _)
         (λ ask aim. let same : d ≡ gets p ask = cc (aim) in aims_any branch _ (subst (λ e. is_open s e ≡ true) same means.0.1))
 
     exchanged : {X : Type 0} (put : X → W) (r : StepKind) (o : Option X) (d : Change) (won lost : Next L A) (change : W → Option Change)
         → ((u : W) (e : Change) → change u ≡ Some e → Some d ≡ Some e) → is_again r ≡ false → is_step_of kind d ≡ true → MeansHere d put o
         → Comes false (Some d) r goes won → (is_open s d ≡ false → Comes false None r (misses d) lost)
-        → Done (becomes put w o won lost) (made_if o d) r change (Some d) (λ ask. Some d)
+        → Done (becomes put w o won lost) (made_if o d) r change (λ ask. Some d)
     exchanged put r None d won lost change names single own means f g =
         let closed : (e : Change) → Some d ≡ Some e → is_open s e ≡ true → ⊥ = λ e is may. grind arith in
-        stay r (misses d) lost change (Some d) _ means (unretried single) (g means)
-        (counted_of change s _ None r (λ u e is may none. absurd (closed e (names u e is) may))) closed (λ ask aim. tt)
-    exchanged put r (Some x) d won lost change names single own means f g = make put r x d won change (Some d) own means f (λ e is. is)
+        stay r (misses d) lost change _ means (unretried single) (g means)
+        (counted_of change s _ None r (λ u e is may none. absurd (closed e (names u e is) may))) (λ ask aim. tt)
+    exchanged put r (Some x) d won lost change names single own means f g = make put r x d won change own means f
 
     attempted : (put : ℕ → W) (o : Option ℕ) (d : Change) (won lost : Next L A) (change : W → Option Change) → is_step_of kind d ≡ true
         → ((to : ℕ) → o ≡ Some to → MeansHere d put (Some to) × Comes false (Some d) plain goes won) → (o ≡ None → Comes false None plain goes lost)
-        → is_answer lost ≡ true → Done (becomes put w o won lost) (made_if o d) plain change None (λ ask. Some d)
+        → is_answer lost ≡ true → Done (becomes put w o won lost) (made_if o d) plain change (λ ask. Some d)
     attempted put None d won (Continue j) change own f g last = absurd (false≢true last)
     attempted put None d won (Answers a after) change own f g last =
-        stay plain goes (Answers a after) change None _ tt (unretried refl) (g refl) tt (λ e is may. cc (is)) (λ ask aim. tt)
+        stay plain goes (Answers a after) change _ tt (unretried refl) (g refl) tt (λ ask aim. tt)
     attempted put (Some to) d won lost change own f g last =
-        let both = f to refl in make put plain to d won change None own both.0 both.1 (λ e is. absurd (cc (is)))
+        let both = f to refl in make put plain to d won change own both.0 both.1
 
     -- the number is as it was found, or another party has changed it since
     made_again : (put : ℕ → W) (b : Bool) (o : Option ℕ) (d : Change) (won found missed : Next L A) (change : W → Option Change)
@@ -268,10 +262,9 @@ module _ {W V C L A B : Type 0} {t : Table W V C L A} {m : Machine W V C L B} {n
         → (b ≡ true → is_some o ≡ true) → failures p span + bit (not b) ≤ changes kind p span → MeansHere d put o
         → (b ≡ true → Comes false (Some d) again goes won)
         → (FindsAnother limited b (is_some o) → Comes false None again loses found) → (is_open s d ≡ false → Comes false None again (misses d) missed)
-        → Done (retried put b w o won found missed) (made_if (if b then o else None) d) again change None (λ ask. Some d)
+        → Done (retried put b w o won found missed) (made_if (if b then o else None) d) again change (λ ask. Some d)
     made_again put true None d won found missed change own some le means f g h = absurd (false≢true (some refl))
-    made_again put true (Some to) d won found missed change own some le means f g h =
-        make put again to d won change None own means (f refl) (λ e is. absurd (cc (is)))
+    made_again put true (Some to) d won found missed change own some le means f g h = make put again to d won change own means (f refl)
     made_again put false o d won found missed change own some le means f g h =
         looked put again loses o d found missed change (refl, refl) (λ e. omega (arith, le)) means (λ some. g (finds_another limited (is_some o) some)) h
         (λ next. counted_of change s next None again (λ u e is may none. refl))
@@ -279,7 +272,6 @@ module _ {W V C L A B : Type 0} {t : Table W V C L A} {m : Machine W V C L B} {n
     done : (i : ℕ) (act : Act W L A) → ((d : Change) → makes_by act p ≡ Some d → is_step_of kind d ≡ true) → Expects kind act p s span
         → OwesHere i act
         → Done (step_by t.memory i act w) (change_by t.memory i act p w) (by_step (step_kind_by what act)) (λ u. change_by t.memory i act p u)
-        (sure_by act p)
         (λ ask. aim_by (Some ask) act p)
     done i (load next) own expects owes = stayed plain (next (number i)) refl owes
     done i (load_if test a b) own expects owes = tested looking (test (number i)) _ _ (no_retry (what.waits)) owes.0 owes.1
@@ -311,6 +303,10 @@ module _ {W V C L A B : Type 0} {t : Table W V C L A} {m : Machine W V C L B} {n
 
     can_is : (i : ℕ) (act : Act W L A) → OwesHere i act → can_by t.memory i act w ≡ true
     can_is i act owes = grind arith
+
+    -- the plain step that it makes whenever that is open
+    got_is : (i : ℕ) (act : Act W L A) (e : Change) → OwesHere i act → sure_by act p ≡ Some e → is_open s e ≡ true → change_by t.memory i act p w ≡ Some e
+    got_is i act e owes is may = grind arith
 
     -- a weak exchange is its call's first plain step
     refusal_is : (i : ℕ) (act : Act W L A) (next : Next L A) → OwesHere i act → refusal_by act ≡ Some next
@@ -369,7 +365,7 @@ module _ {W V C L A B : Type 0} {t : Table W V C L A} {m : Machine W V C L B} {n
           can = can_is (t.word l) (t.act c l h) owes;
           steps = rw (f.words w v c l h, values.tells) is.takes;
           counted = rw values.tells is.counted;
-          due = due_at aims _ is.got;
+          due = due_at aims _ (λ e. got_is (t.word l) (t.act c l h) e owes);
           tries_on = λ ask asks none. rw values.tells
               (is.tried ask asks (aims_try (tries_of what) _ (t.act c l h) (row.made p) ask p asks (sym known.made ∙ none) aims));
           undisturbed = λ may. answers_within (steps_alone what) w c l h (soon_is soon may);

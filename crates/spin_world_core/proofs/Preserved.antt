@@ -1,5 +1,5 @@
 -- One event keeps all that is promised, for any machine that plays a table which pays.
-use Rattle.spin_world_core.proofs.Names.{seat_of, slice_get_within, ◌≡◌, ℕ, ◌≤◌, ◌==◌, Bool, true, false, Option, Some, None, List, [], ◌∷◌, ◌++◌, suc, if◌then◌else◌, is_some, slice_get, slice_set, refl, ap, sym, ◌∙◌, subst, arith, ne_eqb, true≢false, Plain, Ask, Change, apply_some, IsOpenStep, Entries, entries, IsExclusive, entries-other, entries-own, Hold, Seat, Calling, Holding, Leaked, Next, Continue, Answers, Move, Begin, Step, Weak, Read, Write, Leak, StepKind, is_weak, by_step, encoded, BelongsTo, Mark, Machine, skipped, seated, begun, goes_on, placed, resting, read_by, written_by, may_read, may_write, Seen, Scene, scene_at, scene_of, mark_of, own, own_count, failures, changes, if_completed, is_open_move, entries_of, entries_held, StandsFor, is_reader, is_writer, MaySkip, ComesTo, Keeps, IsRight, IsInTime, UndisturbedTakes, AnsweredSoon, Gets, GetsWhenDue, TriesOn, tries_of, Table, Phase, HasPhase}
+use Rattle.spin_world_core.proofs.Names.{Outcome, seat_of, slice_get_within, ◌≡◌, ℕ, ◌≤◌, ◌==◌, Bool, true, false, Option, Some, None, List, [], ◌∷◌, ◌++◌, suc, if◌then◌else◌, is_some, slice_get, slice_set, refl, ap, sym, ◌∙◌, subst, arith, ne_eqb, true≢false, Plain, Ask, Change, apply_some, IsOpenStep, Entries, entries, IsExclusive, entries-other, entries-own, Hold, Seat, Calling, Holding, Leaked, Next, Continue, Answers, Move, Step, Weak, Leak, StepKind, is_weak, by_step, encoded, BelongsTo, Mark, Machine, skipped, seated, goes_on, placed, resting, may_read, may_write, Seen, Scene, scene_at, scene_of, mark_of, own, own_count, failures, changes, if_completed, is_open_move, entries_of, entries_held, StandsFor, is_reader, is_writer, MaySkip, ComesTo, Keeps, IsRight, IsInTime, UndisturbedTakes, AnsweredSoon, Gets, GetsWhenDue, TriesOn, tries_of, Table, Phase, HasPhase}
 use Rattle.spin_world_core.specs.Runs.{InItsCall, InTime, IsCounted, IsWeakCall, LeavesCalls, MayTouch, OwnSteps, StepLeaves, asked, entries_so_far, is_in_place}
 use Rattle.spin_step.proofs.Exclusive.{exclusive-kept}
 use Rattle.spin_model.specs.declared.schedule.Outcome.TheVariants as outcome
@@ -11,7 +11,7 @@ use Rattle.spin_world_core.proofs.Steps.{told, played, GoesOnOpen, ContinuesCoun
 use Rattle.spin_world_core.proofs.Shapes.{Notes, InCall}
 use Rattle.spin_world_core.proofs.Paid.{at_step, knows_beside, knows_first}
 use Rattle.spin_world_core.proofs.Undisturbed.{RunsOn, GoesWithin, LeftBy, stepped, beside, runs_fresh, more_left}
-use Rattle.spin_world_core.proofs.Events.{seat_with}
+use Rattle.spin_world_core.proofs.Events.{seat_with, OfBegin, OfRead, OfWrite}
 
 -- a party whose hold reads the value is a reader in the plain lock, and one whose hold may replace it is a writer
 
@@ -197,11 +197,18 @@ module _ {W V C L A B : Type 0} {t : Table W V C L A} {by : Machine W V C L B} {
       }
 
   module _ (seen : Seen W V C L) (p : ℕ) (good : Invariant seen) where
+    -- the plain lock and the spans after a step of p
+    abbrev plain_by : Option Change → Plain
+    plain_by step = apply_some seen.plain step
+
+    abbrev longer : Option Change → StepKind → ℕ → List Mark
+    longer step r q = mark_of p step r seen.plain ∷ seen.span q
+
     -- what holds of a party during another party's step
     of_others : (q : ℕ) (w : W) (step : Option Change) (r : StepKind) (o : Option (Seat C L)) → seat_of seen q ≡ o → (p ≡ q → ⊥)
         → IsOpenStep seen.plain p step → BelongsTo m.lock_kind step
-        → (encoded m.lock_kind (apply_some seen.plain step) ≡ encoded m.lock_kind seen.plain → w ≡ seen.state.words)
-        → OfParty seen.state.words seen.plain q (seen.span q) o → OfParty w (apply_some seen.plain step) q (mark_of p step r seen.plain ∷ seen.span q) o
+        → (encoded m.lock_kind (plain_by step) ≡ encoded m.lock_kind seen.plain → w ≡ seen.state.words)
+        → OfParty seen.state.words seen.plain q (seen.span q) o → OfParty w (plain_by step) q (longer step r q) o
     of_others q w step r o there ne may belongs same is =
         record {
           stands = stands_beside seen.plain p q step r (seen.span q) o ne may is.stands;
@@ -213,31 +220,30 @@ module _ {W V C L A B : Type 0} {t : Table W V C L A} {by : Machine W V C L B} {
         }
       where
         knows_after : (o : Option (Seat C L)) → KnowsAt n seen.plain q (seen.span q) o
-            → KnowsAt n (apply_some seen.plain step) q (mark_of p step r seen.plain ∷ seen.span q) o
+            → KnowsAt n (plain_by step) q (longer step r q) o
         knows_after (Some (Calling c l h)) knows =
             knows_beside f q c l h seen.plain (seen.span q) p step r ne good.shape may belongs knows
         knows_after _ knows = tt
 
     -- after a step of a call
     good_stepped : (x y : Seat C L) (step : Option Change) (r : StepKind) (w : W) (v wr : Option V) → seat_of seen p ≡ Some y
-        → IsOpenStep seen.plain p step → BelongsTo t.lock_kind step → t.memory.numbers w ≡ encoded t.lock_kind (apply_some seen.plain step)
-        → n.Shape (apply_some seen.plain step) → HasPhase t.lock_kind.makes_value (apply_some seen.plain step).phase v → v ≡ wr
-        → OfParty w (apply_some seen.plain step) p (mark_of p step r seen.plain ∷ seen.span p) (Some x)
+        → IsOpenStep seen.plain p step → BelongsTo t.lock_kind step → t.memory.numbers w ≡ encoded t.lock_kind (plain_by step)
+        → n.Shape (plain_by step) → HasPhase t.lock_kind.makes_value (plain_by step).phase v → v ≡ wr
+        → OfParty w (plain_by step) p (longer step r p) (Some x)
         → Invariant (record {
           state = record { words = w; value = v; seats = slice_set seen.state.seats p x };
-          plain = apply_some seen.plain step;
-          span = λ q. mark_of p step r seen.plain ∷ seen.span q;
+          plain = plain_by step;
+          span = longer step r;
           written = wr;
         })
     good_stepped x y step r w v wr there may belongs encodes shape phase written here =
-        let plain = apply_some seen.plain step in
         record {
           encodes = encodes;
           shape = shape;
           phase = phase;
           exclusive = exclusive-kept seen.plain p step good.exclusive may;
           written = written;
-          parties = at_seat (λ q o. OfParty w plain q (mark_of p step r seen.plain ∷ seen.span q) o) seen.state.seats p x y there here (λ q ne.
+          parties = at_seat (λ q o. OfParty w (plain_by step) q (longer step r q) o) seen.state.seats p x y there here (λ q ne.
               of_others q w step r (seat_of seen q) refl ne may belongs
               (λ e. f.pays.numbers_tell w seen.state.words (encodes ∙ (e ∙ sym good.encodes))) (good.parties q));
         }
@@ -247,30 +253,30 @@ module _ {W V C L A B : Type 0} {t : Table W V C L A} {by : Machine W V C L B} {
       abbrev is : AtStep by n p c l h seen.plain seen.state.value seen.state.words (seen.span p)
       is = at_step f _ (in_call p good there) good.phase
 
-      abbrev spanned : Option Change → StepKind → List Mark
-      spanned step r = mark_of p step r seen.plain ∷ seen.span p
-
       -- how many steps are left after its own step, if nobody has disturbed it
       left_by : (step : Option Change) (r : StepKind) (w : W) (next : Next L B)
           → (is_weak r ≡ false → (j : ℕ) → AnswersWithin m (suc j) seen.state.words c l h → GoesWithin m j w c h next)
-          → UndisturbedTakes (LeftBy m w p c h next) t.lock_kind p (t.asks c h) (spanned step r)
+          → UndisturbedTakes (LeftBy m w p c h next) t.lock_kind p (t.asks c h) (longer step r p)
       left_by step r w next steps =
           stepped m seen.state.words w p c l h seen.plain step r (seen.span p) next
           (subst (RunsOn m seen.state.words p (seen.span p)) there (good.parties p).undisturbed) is.undisturbed steps
 
+      abbrev result : Next L B → Outcome B V
+      result next = (goes_on seen.state p c h next).outcome
+
       -- what is shown of a move of the call: it makes this plain step, if any, stores this value, and leaves these words
       record Goes (move : Move C V) (step : Option Change) (r : StepKind) (stored : Option V) (w : W) (v : Option V) (next : Next L B) : Type 0 where
         moves : Moves n move p c h seen.plain (seen.span p) step r w (told by.says next)
-        phase : HasPhase t.lock_kind.makes_value (apply_some seen.plain step).phase v
+        phase : HasPhase t.lock_kind.makes_value (plain_by step).phase v
         written : v ≡ if_completed seen.written stored step
         steps : is_weak r ≡ false → (j : ℕ) → AnswersWithin m (suc j) seen.state.words c l h → GoesWithin m j w c h next
         is_open : is_open_move m seen.state move (Some (Calling c l h)) ≡ true
         in_place : is_in_place {V = V} {L = L} t.owned move (Some (Calling c l h)) ≡ true
         weak : IsWeakCall move p (seen.span p) (Some (t.asks c h))
-        comes : ComesTo move step seen.state.value v (goes_on {A = B} seen.state p c h next).outcome
-        counted : IsCounted m p (goes_on {A = B} seen.state p c h next).outcome move (Some (Calling c l h)) step r seen.plain
-        due : GetsWhenDue t.lock_kind p (goes_on {A = B} seen.state p c h next).outcome move (Some (t.asks c h)) (seen.span p) seen.plain step r
-        tries_on : TriesOn p (goes_on {A = B} seen.state p c h next).outcome move (Some (t.asks c h)) (seen.span p) seen.plain step
+        comes : ComesTo move step seen.state.value v (result next)
+        counted : IsCounted m p (result next) move (Some (Calling c l h)) step r seen.plain
+        due : GetsWhenDue t.lock_kind p (result next) move (Some (t.asks c h)) (seen.span p) seen.plain step r
+        tries_on : TriesOn p (result next) move (Some (t.asks c h)) (seen.span p) seen.plain step
 
       went_on : (move : Move C V) (step : Option Change) (r : StepKind) (stored : Option V) (w : W) (v : Option V) (next : Next L B)
           → Goes move step r stored w v next
@@ -306,7 +312,7 @@ module _ {W V C L A B : Type 0} {t : Table W V C L A} {by : Machine W V C L B} {
       went_on move step r stored w v (Answers b rest) to =
           let retries = retries-mine t.lock_kind p step r seen.plain (seen.span p) (good.parties p).retries to.moves.fails in
           let after = good_stepped (resting rest) (Calling c l h) step r w v (if_completed seen.written stored step) there to.moves.opens to.moves.belongs to.moves.encodes
-          to.moves.shape to.phase to.written (rests w (apply_some seen.plain step) p (spanned step r) rest to.moves.goes_on.stands retries) in
+          to.moves.shape to.phase to.written (rests w (plain_by step) p (longer step r p) rest to.moves.goes_on.stands retries) in
           happened_kept _ after
           (record {
             opens = to.moves.opens;
@@ -325,24 +331,24 @@ module _ {W V C L A B : Type 0} {t : Table W V C L A} {by : Machine W V C L B} {
 
       -- a step continues or answers its call, and changes the value only if a closure completes
       step_comes : (step : Option Change) (v stored : Option V) (next : Next L B) → v ≡ if_completed seen.state.value stored step
-          → ComesTo {C = C} Step step seen.state.value v (goes_on {A = B} seen.state p c h next).outcome
+          → ComesTo {C = C} Step step seen.state.value v (result next)
       step_comes step v stored next is = grind (arith, leaves seen.state.value v stored step is)
 
       step_counted : (step : Option Change) (r : StepKind) (next : Next L B)
           → ContinuesCounted (λ u. m.change p u c l h) seen.plain (told by.says next) step r
-          → IsCounted m p (goes_on {A = B} seen.state p c h next).outcome Step (Some (Calling c l h)) step r seen.plain
+          → IsCounted m p (result next) Step (Some (Calling c l h)) step r seen.plain
       step_counted None r (Continue l') counted = counted
       step_counted (Some d) r (Continue l') counted = tt
       step_counted step r (Answers b rest) counted = tt
 
       step_due : (step : Option Change) (r : StepKind) (next : Next L B) → Gets t.lock_kind p (t.asks c h) (seen.span p) seen.plain step r
-          → GetsWhenDue {C = C} t.lock_kind p (goes_on {A = B} seen.state p c h next).outcome Step (Some (t.asks c h)) (seen.span p) seen.plain step r
+          → GetsWhenDue {C = C} t.lock_kind p (result next) Step (Some (t.asks c h)) (seen.span p) seen.plain step r
       step_due step r (Continue l') due = due
       step_due step r (Answers b rest) due = due
 
       step_tries_on : (step : Option Change) (next : Next L B)
           → ((ask : Ask) → tries_of (t.asks c h) ≡ Some ask → own p (seen.span p) ≡ [] → GoesOnOpen ask p (seen.span p) seen.plain (told by.says next) step)
-          → TriesOn {C = C} p (goes_on {A = B} seen.state p c h next).outcome Step (Some (t.asks c h)) (seen.span p) seen.plain step
+          → TriesOn {C = C} p (result next) Step (Some (t.asks c h)) (seen.span p) seen.plain step
       step_tries_on None (Continue l') may = may
       step_tries_on (Some d) (Continue l') may = tt
       step_tries_on step (Answers b rest) may = tt
@@ -365,7 +371,7 @@ module _ {W V C L A B : Type 0} {t : Table W V C L A} {by : Machine W V C L B} {
             tries_on = step_tries_on _ st.next is.tries_on;
           })
 
-      refusal_comes : (next : Next L B) → ComesTo {C = C} Weak None seen.state.value seen.state.value (goes_on {A = B} seen.state p c h next).outcome
+      refusal_comes : (next : Next L B) → ComesTo {C = C} Weak None seen.state.value seen.state.value (result next)
       refusal_comes next = grind arith
 
       pub refusal_kept : (next : Next L B) → m.refuse c l h ≡ Some next
@@ -386,8 +392,7 @@ module _ {W V C L A B : Type 0} {t : Table W V C L A} {by : Machine W V C L B} {
             tries_on = grind arith;
           })
 
-    pub begun_kept : (c : C) (l : L) (h : Option Hold) → seat_of seen p ≡ Some (resting h) → m.begin c h ≡ Some l
-        → Preserved (scene_of seen p (Begin c) (Some (resting h)) (begun seen.state p c h (Some l)) None step_kind.plain None)
+    pub begun_kept : OfBegin m seen p Preserved
     begun_kept c l h there is =
         let span : ℕ → List Mark = λ q. if p == q then [] else seen.span q in
         let fresh : [] ≡ span p = sym (ap (λ b. if b then [] else seen.span p) (eqb_self p)) in
@@ -405,15 +410,13 @@ module _ {W V C L A B : Type 0} {t : Table W V C L A} {by : Machine W V C L B} {
         (l, get-set_same seen.state.seats p (Calling c l h) (resting h) there ∙ grind arith)
         (still_calling seen.state.seats p (Calling c l h))
 
-    pub read_kept : (b : Bool) (h : Hold) → seat_of seen p ≡ Some (seat_with b h) → may_read h ≡ true
-        → Preserved (scene_of seen p Read (Some (seat_with b h)) (read_by seen.state true) None step_kind.plain None)
+    pub read_kept : OfRead m seen p Preserved
     read_kept b h there may =
         let reads = ap is_reader (with_hold p b h good there) ∙ (reader_of p h ∙ may) in
         happened_kept _ good (search) (λ r e. cc (e, good.written)) reads (λ e. cc (e)) (grind arith) (grind arith)
         (refl, refl) tt (λ q c l h ne is. is)
 
-    pub write_kept : (v : V) (b : Bool) (h : Hold) → seat_of seen p ≡ Some (seat_with b h) → may_write h ≡ true
-        → Preserved (scene_of seen p (Write v) (Some (seat_with b h)) (written_by seen.state v true) None step_kind.plain None)
+    pub write_kept : OfWrite m seen p Preserved
     write_kept v b h there may =
         let writes = ap is_writer (with_hold p b h good there) ∙ (writer_of p h ∙ may) in
         let phase = f.written seen.plain p v good.shape writes in

@@ -1,8 +1,8 @@
 -- While a starver waits, a fair lock is granted within five rounds. Its holder leaves within two. The starver takes
 -- three: it finds the flag clear, sets it, and stops starving. A party that sets the flag before it is granted the lock
 -- by its next step.
-use Rattle.spin_world_progress.proofs.Names.{seat_of, cases_eq, Next, suc, Bool, entries, entries-other, empty_is, if◌then◌else◌, ◌-◌, resting, ◌≡◌, ℕ, ◌==◌, true, false, Option, Some, None, List, [], ◌∷◌, length, refl, ap, ◌∙◌, arith, not, ◌≤◌, ◌⊎◌, inl, inr, ⊎_elim, Plain, Kind, writing, Holder, is_empty, is_holder, is_starver, without_holder, holder, IsOpenStep, is_set, Hold, filter, slice_get, subst, Answer, Seat, Calling, Holding, Move, Step, Machine, after, at_first, get-set_same, Seen, Scene, scene_at, opening, seen_after, eqb_self, Notes, Plays, Invariant, in_call, row_tells, calls_so, StandsSo, fair_table, fair_machine}
-use Rattle.spin_world.proofs.FairNames.{fair, fair_is_locked-tells, Write, Starver, FairCall, Lock, StarverLock, Release, FairPoint, First, SetFlag, Await, Unregister, asks_of}
+use Rattle.spin_world_progress.proofs.Names.{seat_of, cases_eq, Next, suc, Bool, entries, entries-other, empty_is, if◌then◌else◌, ◌-◌, resting, ◌≡◌, ℕ, ◌==◌, true, false, Option, Some, None, List, [], ◌∷◌, length, refl, ap, ◌∙◌, arith, not, ◌≤◌, ◌⊎◌, inl, inr, ⊎_elim, Plain, Kind, writing, Holder, is_empty, is_holder, is_starver, without_holder, holder, IsOpenStep, Hold, filter, slice_get, subst, Answer, Seat, Calling, Holding, Move, Step, Machine, after, at_first, get-set_same, Seen, Scene, scene_at, opening, seen_after, eqb_self, Notes, Plays, Invariant, in_call, row_tells, calls_so, StandsSo, fair_machine}
+use Rattle.spin_world.proofs.FairNames.{fair, fair_is_locked-tells, Write, Starver, FairCall, Lock, StarverLock, Release, FairPoint, First, SetFlag, Await, Unregister, asks_of, fair_table, is_set}
 use Rattle.spin_world.proofs.FairOwed.{fair_notes, fair_facts}
 use Rattle.spin_world_progress.specs.Fair.{grants_lock, LocksInFive, StarversAreDeadlockFree}
 use Rattle.spin_world_progress.proofs.Endless.{at_last}

@@ -54,7 +54,7 @@ module _ {V : Type 0} (v : V) where
     weak seen l (Continue i) = rw (eqb_self p) refl
     weak seen l (Answers a rest) = grind (arith, eqb_self p)
 
-    leaves : leaving.Leaves (flag_table v) (flag_notes v) (flag_facts v) goal p Lock h (λ l. Unit {0}) holds_lock rank_by 2
+    leaves : leaving.Leaves (flag_facts v) goal p Lock h (λ l. Unit {0}) holds_lock rank_by 2
     leaves =
         record {
           none = refl;
@@ -70,7 +70,7 @@ module _ {V : Type 0} (v : V) where
         }
 
   pub locks_in_four : (n : ℕ) (past : List (ℕ × Move FlagCall V)) (rounds : List (List (ℕ × Move FlagCall V))) → LocksInFour m n past rounds
-  locks_in_four n past rounds p Lock l h there asks are few = leaving.two_rounds (flag_table v) (flag_notes v) (flag_facts v) (goal p h) p Lock h (λ l. Unit {0}) holds_lock rank_by 2 (leaves p h) n past rounds l there tt are few
+  locks_in_four n past rounds p Lock l h there asks are few = leaving.two_rounds (flag_facts v) (goal p h) p Lock h (λ l. Unit {0}) holds_lock rank_by 2 (leaves p h) n past rounds l there tt are few
   locks_in_four n past rounds p c l h there asks are few = absurd (grind (arith, asks))
 
   pub deadlock_free : (n : ℕ) (past : List (ℕ × Move FlagCall V)) (schedule : ℕ → ℕ × Move FlagCall V) → IsDeadlockFree m n past schedule

@@ -21,12 +21,9 @@ load_begun bound b c l i h = grind arith
 load_none : {C L : Type 0} (bound n : ℕ) (b : Bool) (o : Option (Seat C L)) → load_by bound b o ≤ suc n → n < bound → b ≡ false
 load_none bound n b o few less = grind (arith, few, less)
 
-module _ {W V C L A : Type 0} (t : Table W V C L A) (n : Notes t) (f : Plays (machine_of t) n) (goal : Test V C L A) (p : ℕ) (c : C) (h : Option Hold) (At : L → Type 0) (test : Entries → Bool) (rank : L → ℕ) (bound : ℕ) where
+module _ {W V C L A : Type 0} {t : Table W V C L A} {n : Notes t} (f : Plays (machine_of t) n) (goal : Test V C L A) (p : ℕ) (c : C) (h : Option Hold) (At : L → Type 0) (test : Entries → Bool) (rank : L → ℕ) (bound : ℕ) where
   abbrev m : Machine W V C L A
   m = machine_of t
-
-  abbrev k : Notes t
-  k = n
 
   abbrev World : Type 0
   World = Seen W V C L

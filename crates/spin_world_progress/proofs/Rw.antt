@@ -1,7 +1,8 @@
 -- A party that has asked to upgrade gets its upgrade in three rounds. The other readers leave at the same time, each in
 -- two.
-use Rattle.spin_step.specs.Plain.{to_read_upgradable, to_write, to_lock_unregistered, to_lock_starving, to_lock_starving_alone, to_upgrade, to_upgrade_asked}
-use Rattle.spin_world_progress.proofs.Names.{seat_of, ◌≡◌, ℕ, ◌≤◌, ◌==◌, Bool, true, false, Option, Some, None, List, [], ◌∷◌, slice_get, refl, ap, sym, ◌∙◌, arith, Plain, Kind, reading, upgradable, asking, writing, Holder, Change, gets, releases, turns, is_holder, with_kind, count_kind, weight, rw_word, entries, apply_some, IsOpenStep, IsExclusive, ◌-◌, ◌⊎◌, ◌||◌, filter, inl, inr, ⊎_elim, sum_by-cons, list_any, same_kind, without_holder, comes, effect, apply, is_open, is_open_to, given, Ask, to_read, entries_after, entries-own, Lets, lets, against, one_of, by_kinds, all_kinds, sum-less, Answer, Done, Hold, Seat, Calling, Next, Continue, Answers, Move, Step, Weak, Machine, after, at_first, goes_on, Seen, Scene, scene_at, opening, seen_after, get-set_same, eqb_self, Invariant, in_call, StandsSo, calls_so, RwCall, Upgrade, RwPoint, Asking, rw_table, rw_machine, rw_notes, rw_facts, holder_by, Test, grants, refuses_weakly, UpgradesInThree, UpgradesAtLast}
+use Rattle.spin_step.specs.Plain.{to_read_upgradable, to_write, to_lock_unregistered, to_lock_starving, to_lock_starving_alone, to_upgrade, to_upgrade_asked, comes, given}
+use Rattle.spin_world_progress.proofs.Names.{Plays, seat_of, ◌≡◌, ℕ, ◌≤◌, ◌==◌, Bool, true, false, Option, Some, None, List, [], ◌∷◌, slice_get, refl, ap, sym, ◌∙◌, arith, Plain, Kind, reading, upgradable, asking, writing, Holder, Change, gets, releases, turns, is_holder, with_kind, count_kind, weight, rw_word, entries, apply_some, IsOpenStep, IsExclusive, ◌-◌, ◌⊎◌, ◌||◌, filter, inl, inr, ⊎_elim, sum_by-cons, list_any, same_kind, without_holder, effect, apply, is_open, is_open_to, Ask, to_read, entries_after, entries-own, against, one_of, by_kinds, all_kinds, sum-less, Answer, Done, Hold, Seat, Calling, Next, Continue, Answers, Move, Step, Weak, Machine, after, at_first, goes_on, Seen, Scene, scene_at, opening, seen_after, get-set_same, eqb_self, Invariant, in_call, StandsSo, calls_so, RwCall, Upgrade, RwPoint, Asking, rw_table, rw_machine, rw_notes, rw_facts, holder_by, Test, grants, refuses_weakly, UpgradesInThree, UpgradesAtLast}
+use Rattle.spin_step.proofs.Exclusive.{Lets, lets}
 use Rattle.spin_world.proofs.RwNames.{Entries, one_of_each, only_asking-word, Release}
 use Rattle.spin_step_more.proofs.Readers.{beside_asking}
 use Rattle.spin_step_more.proofs.Upgrading.{alone_when_gone}
@@ -68,6 +69,9 @@ module _ {V : Type 0} (v : V) (cap : ℕ) where
   abbrev m : Machine ℕ V RwCall RwPoint (Answer V)
   m = rw_machine v cap
 
+  abbrev f : Plays m (rw_notes v cap)
+  f = rw_facts v cap
+
   abbrev World : Type 0
   World = Seen ℕ V RwCall RwPoint
 
@@ -82,7 +86,7 @@ module _ {V : Type 0} (v : V) (cap : ℕ) where
     abbrev its : Option (Seat RwCall RwPoint)
     its = Some (Calling Upgrade Asking (Some hold.Upgradable))
 
-    module _ (seen : World) (good : Invariant (rw_facts v cap) seen) (there : seat_of seen p ≡ its) where
+    module _ (seen : World) (good : Invariant f seen) (there : seat_of seen p ≡ its) where
       abbrev x : Scene ℕ V RwCall RwPoint (Answer V)
       x = scene_at m seen p Step its
 
@@ -91,7 +95,7 @@ module _ {V : Type 0} (v : V) (cap : ℕ) where
       own false is = inr (rw is (get-set_same seen.state.seats p (Calling Upgrade Asking (Some hold.Upgradable)) _ there), refl)
 
       asks : is_holder p asking seen.plain.holders ≡ true
-      asks = holder_by p asking seen.plain (in_call (rw_facts v cap) p good there).knows.0.stand
+      asks = holder_by p asking seen.plain (in_call f p good there).knows.0.stand
 
       -- nobody begins to read
       no_reader : (q : ℕ) (step : Option Change) → any_of reading (entries q seen.plain) ≡ false → IsOpenStep seen.plain q step → any_of reading (entries_after seen.plain step (entries q seen.plain)) ≡ false
@@ -107,7 +111,7 @@ module _ {V : Type 0} (v : V) (cap : ℕ) where
           let nobody : (q : ℕ) → is_holder q reading seen.plain.holders ≡ false = λ q. sym (any_own reading q seen.plain.holders) ∙ none q in
           sym (only_asking-word seen.plain p seen.state.words (one_of_each seen.plain good.exclusive) asks word) ∙ (alone_when_gone seen.plain p good.exclusive asks).1 (no_readers seen.plain.holders nobody)
 
-    leaves : leaving.Leaves (rw_table v cap) (rw_notes v cap) (rw_facts v cap) goal p Upgrade (Some hold.Upgradable) at_upgrade (any_of reading) (λ l. 1) 1
+    leaves : leaving.Leaves f goal p Upgrade (Some hold.Upgradable) at_upgrade (any_of reading) (λ l. 1) 1
     leaves =
         record {
           none = refl;
@@ -122,13 +126,13 @@ module _ {V : Type 0} (v : V) (cap : ℕ) where
           some = λ l. omega arith;
         }
       where
-        own_at : (seen : World) (l : RwPoint) → Invariant (rw_facts v cap) seen → seat_of seen p ≡ Some (Calling Upgrade l (Some hold.Upgradable)) → at_upgrade l → let x = scene_at m seen p Step (Some (Calling Upgrade l (Some hold.Upgradable))) in
+        own_at : (seen : World) (l : RwPoint) → Invariant f seen → seat_of seen p ≡ Some (Calling Upgrade l (Some hold.Upgradable)) → at_upgrade l → let x = scene_at m seen p Step (Some (Calling Upgrade l (Some hold.Upgradable))) in
             (goal p Step x.outcome (seat_of x.after p) ≡ true) ⊎ ((i : RwPoint) × (seat_of x.after p ≡ Some (Calling Upgrade i (Some hold.Upgradable))) × at_upgrade i × (((q : ℕ) → any_of reading (entries q seen.plain) ≡ false) → 1 ≤ 1 - 1))
         own_at seen Asking good there at =
             ⊎_elim inl (λ on. inr (Asking, on.0, tt, λ none. absurd (true≢false (sym (open_now seen good there none) ∙ on.1)))) (own seen good there (seen.state.words == weight asking) refl)
         own_at seen l good there at = absurd (grind (arith, at))
 
-        comes_at : (seen : World) (l : RwPoint) (q : ℕ) (d : RwCall) (i : RwPoint) (j : Option Hold) → leaving.Waits (rw_table v cap) (rw_notes v cap) (rw_facts v cap) goal p Upgrade (Some hold.Upgradable) at_upgrade (any_of reading) (λ l. 1) 1 seen l
+        comes_at : (seen : World) (l : RwPoint) (q : ℕ) (d : RwCall) (i : RwPoint) (j : Option Hold) → leaving.Waits f goal p Upgrade (Some hold.Upgradable) at_upgrade (any_of reading) (λ l. 1) 1 seen l
             → seat_of seen q ≡ Some (Calling d i j) → any_of reading (entries q seen.plain) ≡ false → let y = scene_at m seen q Step (Some (Calling d i j)) in IsOpenStep seen.plain q y.change
             → (goal q Step y.outcome (seat_of y.after q) ≡ true) ⊎ (any_of reading (entries_after seen.plain y.change (entries q seen.plain)) ≡ false)
         comes_at seen Asking q d i j w there none opens = inr (no_reader seen w.3 w.0 q (scene_at m seen q Step (Some (Calling d i j))).change none opens)
@@ -144,8 +148,8 @@ module _ {V : Type 0} (v : V) (cap : ℕ) where
   pub upgrades_in_three : (n : ℕ) (past : List (ℕ × Move RwCall V)) (rounds : List (List (ℕ × Move RwCall V))) → UpgradesInThree m n past rounds
   upgrades_in_three n past rounds p c l h there found are long =
       let seen = seen_after m (opening m n) past in
-      let at = asking_at p c l h (calls_so (rw_facts v cap) n past (any_of asking) p there (any_own asking p seen.plain.holders ∙ found)) in
-      leaving.two_rounds (rw_table v cap) (rw_notes v cap) (rw_facts v cap) (goal p) p Upgrade (Some hold.Upgradable) at_upgrade (any_of reading) (λ l. 1) 1 (leaves p) n past rounds Asking (there ∙ at) tt are long
+      let at = asking_at p c l h (calls_so f n past (any_of asking) p there (any_own asking p seen.plain.holders ∙ found)) in
+      leaving.two_rounds f (goal p) p Upgrade (Some hold.Upgradable) at_upgrade (any_of reading) (λ l. 1) 1 (leaves p) n past rounds Asking (there ∙ at) tt are long
 
   pub upgrades_at_last : (n : ℕ) (past : List (ℕ × Move RwCall V)) (schedule : ℕ → ℕ × Move RwCall V) → UpgradesAtLast m n past schedule
   upgrades_at_last n past schedule p c l h there found fair =

@@ -65,7 +65,7 @@ module _ (n : ℕ) (some : 1 ≤ n) where
     releases q Leave l h w u so = (Done, refl)
     releases q c l h w u so = absurd (grind (arith, so))
 
-    leaves : leaving.Leaves (seats_table n) (seats_notes n) (seats_facts n) goal p Enter h (λ l. Unit {0}) holds_lock rank_by 2
+    leaves : leaving.Leaves (seats_facts n) goal p Enter h (λ l. Unit {0}) holds_lock rank_by 2
     leaves =
         record {
           none = refl;
@@ -81,7 +81,7 @@ module _ (n : ℕ) (some : 1 ≤ n) where
         }
 
   pub enters_in_four : (parties : ℕ) (past : List (ℕ × Move SeatsCall (Unit {0}))) (rounds : List (List (ℕ × Move SeatsCall (Unit {0})))) → SeatsSomebodyInFour m parties past rounds
-  enters_in_four parties past rounds p Enter l h there asks are few = leaving.two_rounds (seats_table n) (seats_notes n) (seats_facts n) goal p Enter h (λ l. Unit {0}) holds_lock rank_by 2 (leaves p h) parties past rounds l there tt are few
+  enters_in_four parties past rounds p Enter l h there asks are few = leaving.two_rounds (seats_facts n) goal p Enter h (λ l. Unit {0}) holds_lock rank_by 2 (leaves p h) parties past rounds l there tt are few
   enters_in_four parties past rounds p c l h there asks are few = absurd (grind (arith, asks))
 
   pub deadlock_free : (parties : ℕ) (past : List (ℕ × Move SeatsCall (Unit {0}))) (schedule : ℕ → ℕ × Move SeatsCall (Unit {0})) → SeatsAreDeadlockFree m parties past schedule
