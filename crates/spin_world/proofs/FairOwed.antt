@@ -141,15 +141,20 @@ module _ {V : Type 0} (v : V) (cap patience : ℕ) where
   owes p Lock Unregister None s w span = λ at.
       let next = goes_on patience p s span (Some (stops_starving p)) plain refl (λ is. cc (is)) refl at.knows.1 in
       grind (arith, unstarve_means p s w, is_starving_still p s, next)
-  owes p TryLock l h s w span = grind (arith, lock_means p s w)
-  owes p TryLockStarver l h s w span = grind (arith, lock_means p s w, eqb-true w 1, word_locked w s, word_starved w s)
-  owes p IsLocked l h s w span = grind (arith, held p s w)
-  owes p Starve l h s w span = grind (arith, starve_means p s w)
-  owes p StarverTryLockFair l h s w span = grind (arith, lock_fair_means p s w, unstarve_means p s w, is_starving_still p s)
-  owes p StarverTryLock l h s w span = grind (arith, lock_starved_means p s w, unstarve_means p s w, is_starving_still p s)
-  owes p StarverLock l h s w span = grind (arith, held p s w, lock_starved_means p s w, unstarve_means p s w, is_starving_still p s)
-  owes p StarverDrop l h s w span = grind (arith, unstarve_means p s w, is_starving p s)
-  owes p Release l h s w span = grind (arith, unlock_means p s w)
+  owes p TryLock First None s w span = grind (arith, lock_means p s w)
+  owes p TryLockStarver First None s w span = grind (arith, lock_means p s w, eqb-true w 1, word_locked w s, word_starved w s)
+  owes p IsLocked First None s w span = grind (arith, held p s w)
+  owes p Starve Load None s w span = grind (arith, starve_means p s w)
+  owes p Starve (Register n) None s w span = grind (arith, starve_means p s w)
+  owes p StarverTryLockFair First (Some Starver) s w span = grind (arith, lock_fair_means p s w)
+  owes p StarverTryLockFair Unregister (Some Starver) s w span = grind (arith, unstarve_means p s w, is_starving_still p s)
+  owes p StarverTryLock SetFlag (Some Starver) s w span = grind (arith, lock_starved_means p s w)
+  owes p StarverTryLock Unregister (Some Starver) s w span = grind (arith, unstarve_means p s w, is_starving_still p s)
+  owes p StarverLock SetFlag (Some Starver) s w span = grind (arith, lock_starved_means p s w)
+  owes p StarverLock Await (Some Starver) s w span = grind (arith, held p s w)
+  owes p StarverLock Unregister (Some Starver) s w span = grind (arith, unstarve_means p s w, is_starving_still p s)
+  owes p StarverDrop First (Some Starver) s w span = grind (arith, unstarve_means p s w, is_starving p s)
+  owes p Release First (Some Write) s w span = grind (arith, unlock_means p s w)
   owes p _ _ _ s w span = tt
 
   -- Undisturbed, the exchange acquires a free lock, at once or after a look.
@@ -161,10 +166,11 @@ module _ {V : Type 0} (v : V) (cap patience : ℕ) where
 
   others : (p q : ℕ) (c : FairCall) (l : FairPoint) (s : Plain) (step : Option Change) (r : StepKind) (span : List Mark) → (q ≡ p → ⊥) → KnowsAt patience c l p s span → KnowsAt patience c l p (apply_some s step) (mark_of q step r s ∷ span)
   others p q Lock (Register n) s step r span ne knows = registering-other patience p q s step r span ne n knows
-  others p q c l s step r span ne knows =
+  others p q Lock l s step r span ne knows =
       let starving = starving-other patience p q s step r span ne in
       let blind = blind-other patience p q s step r span ne in
       grind (arith, knows, looking-other patience p q s step r span ne, loading-other patience p q s step r span ne, starving, blind)
+  others p q _ _ s step r span ne knows = tt
 
   pub fair_pays : Pays (fair_notes v cap patience)
   fair_pays =

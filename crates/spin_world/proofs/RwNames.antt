@@ -13,7 +13,7 @@ pub use Rattle.spin_model.specs.declared.place.Hold.{Hold}
 pub use Rattle.spin_step_more.specs.declared.rw_calls.RwCall.{RwCall}
 pub use Rattle.spin_step_more.specs.declared.rw_calls.RwCall.TheVariants.{TryRead, Read, TryUpgradeableRead, UpgradeableRead, TryWrite, TryWriteWeak, Write, ReaderCount, WriterCount, TryUpgrade, TryUpgradeWeak, Upgrade, Downgrade, DowngradeToUpgradeable, Release}
 pub use Rattle.spin_step_more.specs.declared.rw_calls.RwPoint.{RwPoint}
-pub use Rattle.spin_step_more.specs.declared.rw_calls.RwPoint.TheVariants.{Exchange, Asking}
+pub use Rattle.spin_step_more.specs.declared.rw_calls.RwPoint.TheVariants.{First, Exchange, Asking}
 pub use Rattle.spin_model.specs.Acts.{begin_of}
 pub use Rattle.spin_world_core.proofs.Stands.{holds, entries_at, Stand, holds_and_starves}
 pub use Rattle.spin_world_core.proofs.Shapes.{Notes, Means, OwesAll, SoonAll, Pays, row_of}

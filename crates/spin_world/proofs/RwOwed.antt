@@ -1,5 +1,5 @@
 -- What the table of the read-write lock must show.
-use Rattle.spin_world.proofs.RwNames.{◌≡◌, ℕ, ◌+◌, ◌/◌, ◌≤◌, true, false, Option, Some, None, List, ◌∷◌, ◌++◌, length, nat_lt, refl, ap, sym, ◌∙◌, arith, eq-eqb, length-append, Plain, Kind, reading, upgradable, asking, writing, weight, Holder, holder, to_read, to_read_upgradable, to_write, to_upgrade, to_upgrade_asked, Change, gets, releases, turns, may_come, is_empty, is_holder, may_turn, with_kind, rw_word, Entries, entries, IsExclusive, reader_limit, tells, read, read_upgradable, write, upgrade, upgrade_asked, released, is_holder-from_entries, is_holder-own, length-without_holder, empty_is, room_to_come, one_of_each, read-word, upgradable_read-word, upgradable-word, tells-holder, readers-word, writers-word, only_upgradable-word, only_asking-word, empty-word, Hold, RwCall, TryRead, Read, TryUpgradeableRead, UpgradeableRead, TryWrite, TryWriteWeak, Write, ReaderCount, WriterCount, TryUpgrade, TryUpgradeWeak, Upgrade, Downgrade, DowngradeToUpgradeable, Release, RwPoint, Exchange, Asking, Mark, begin_of, holds, entries_at, Notes, Means, OwesAll, SoonAll, Pays, no_queue, [], turned_to}
+use Rattle.spin_world.proofs.RwNames.{◌≡◌, ℕ, ◌+◌, ◌/◌, ◌≤◌, true, false, Option, Some, None, List, ◌∷◌, ◌++◌, length, nat_lt, refl, ap, sym, ◌∙◌, arith, eq-eqb, length-append, Plain, Kind, reading, upgradable, asking, writing, weight, Holder, holder, to_read, to_read_upgradable, to_write, to_upgrade, to_upgrade_asked, Change, gets, releases, turns, may_come, is_empty, is_holder, may_turn, with_kind, rw_word, Entries, entries, IsExclusive, reader_limit, tells, read, read_upgradable, write, upgrade, upgrade_asked, released, is_holder-from_entries, is_holder-own, length-without_holder, empty_is, room_to_come, one_of_each, read-word, upgradable_read-word, upgradable-word, tells-holder, readers-word, writers-word, only_upgradable-word, only_asking-word, empty-word, Hold, RwCall, TryRead, Read, TryUpgradeableRead, UpgradeableRead, TryWrite, TryWriteWeak, Write, ReaderCount, WriterCount, TryUpgrade, TryUpgradeWeak, Upgrade, Downgrade, DowngradeToUpgradeable, Release, RwPoint, First, Exchange, Asking, Mark, holds, entries_at, Notes, Means, OwesAll, SoonAll, Pays, no_queue, [], turned_to}
 use Rattle.std.specs.Prelude.{min, max}
 use Rattle.spin_step.proofs.Sums.{length-with_kind}
 use Rattle.spin_step_more.proofs.ReaderSteps.{rw_read-grants, rw_upgradable-grants, rw_write-grants, rw_upgrade-grants, rw_upgrade_asked-grants, rw_release-gives, rw_turn-gives}
@@ -7,7 +7,7 @@ use Rattle.spin_model.specs.declared.place.Hold.TheVariants as hold
 use Rattle.spin_model.specs.Calls as calls
 use Rattle.spin_step_more.specs.RwCalls.{rw_table, rw_machine}
 use Rattle.spin_world_core.proofs.Steps.{Plays}
-use Rattle.spin_world_core.proofs.Rows.{Row, Point, starts, looked, onward}
+use Rattle.spin_world_core.proofs.Rows.{Row, Point, nowhere, looked, onward}
 use Rattle.spin_world_core.proofs.Operating.{one_place, operates_by}
 use Rattle.spin_world_core.proofs.Filled.{plays_of}
 
@@ -15,14 +15,32 @@ use Rattle.spin_world_core.proofs.Filled.{plays_of}
 abbrev pub asking_row : Row
 asking_row = record { stand = holds asking; made = λ p. turns p upgradable asking ∷ []; rest = λ p. gets p to_upgrade_asked ∷ []; said = calls.granted; spent = 0 }
 
--- a call that has looked has made one step; at any other point it is as at its beginning
-abbrev pub point_of : {V : Type 0} → V → ℕ → RwCall → RwPoint → Option Hold → Point
-point_of v cap Upgrade Asking (Some hold.Upgradable) = onward asking_row
-point_of v cap TryRead (Exchange n) None = looked 1
-point_of v cap Read (Exchange n) None = looked 1
-point_of v cap TryUpgradeableRead (Exchange n) None = looked 1
-point_of v cap UpgradeableRead (Exchange n) None = looked 1
-point_of v cap c l h = starts (begin_of (rw_table v cap) c h)
+-- where each call may be; a call that has looked has made one step
+abbrev pub point_of : RwCall → RwPoint → Option Hold → Point
+point_of TryRead First None = looked 0
+point_of TryRead (Exchange n) None = looked 1
+point_of Read First None = looked 0
+point_of Read (Exchange n) None = looked 1
+point_of TryUpgradeableRead First None = looked 0
+point_of TryUpgradeableRead (Exchange n) None = looked 1
+point_of UpgradeableRead First None = looked 0
+point_of UpgradeableRead (Exchange n) None = looked 1
+point_of TryWrite First None = looked 0
+point_of TryWriteWeak First None = looked 0
+point_of Write First None = looked 0
+point_of ReaderCount First None = looked 0
+point_of WriterCount First None = looked 0
+point_of TryUpgrade First (Some hold.Upgradable) = looked 0
+point_of TryUpgradeWeak First (Some hold.Upgradable) = looked 0
+point_of Upgrade First (Some hold.Upgradable) = looked 0
+point_of Upgrade Asking (Some hold.Upgradable) = onward asking_row
+point_of Downgrade First (Some hold.Upgradable) = looked 0
+point_of Downgrade First (Some hold.Write) = looked 0
+point_of DowngradeToUpgradeable First (Some hold.Write) = looked 0
+point_of Release First (Some hold.Read) = looked 0
+point_of Release First (Some hold.Upgradable) = looked 0
+point_of Release First (Some hold.Write) = looked 0
+point_of _ _ _ = nowhere
 
 -- the shape of the lock: nobody queues, and at most as many hold as a word can count
 pub record Within (cap : ℕ) (s : Plain) : Type 0 where
@@ -31,7 +49,7 @@ pub record Within (cap : ℕ) (s : Plain) : Type 0 where
   pub few : length s.holders ≤ max s.cap 1
 
 abbrev pub rw_notes : {V : Type 0} (v : V) (cap : ℕ) → Notes (rw_table v cap)
-rw_notes v cap = record { Shape = λ s. Within cap s; point = point_of v cap; Knows = λ c l h p s span. Unit {0} }
+rw_notes v cap = record { Shape = λ s. Within cap s; point = point_of; Knows = λ c l h p s span. Unit {0} }
 
 -- a party with these entries is a holder
 pub holder_by : (p : ℕ) (k : Kind) (s : Plain) → entries p s ≡ entries_at p (holds k) → is_holder p k s.holders ≡ true
@@ -106,31 +124,47 @@ module _ {V : Type 0} (v : V) (cap : ℕ) where
     reads_upgradable may = rw (sym (upgradable_read-word s w cap (one_of_each s exclusive) shape.room word) ∙ may) refl
 
   owes : OwesAll (rw_notes v cap)
-  owes p TryRead l h s w span = grind (arith, read_means p s w)
-  owes p Read l h s w span = grind (arith, read_means p s w)
-  owes p TryUpgradeableRead l h s w span = grind (arith, upgradable_means p s w)
-  owes p UpgradeableRead l h s w span = grind (arith, upgradable_means p s w)
-  owes p TryWrite l h s w span = grind (arith, write_means p s w)
-  owes p TryWriteWeak l h s w span = grind (arith, write_means p s w)
-  owes p Write l h s w span = grind (arith, write_means p s w)
-  owes p ReaderCount l h s w span = grind (arith, readers-word s w, one_of_each s)
-  owes p WriterCount l h s w span = grind (arith, writers-word s w, one_of_each s)
-  owes p TryUpgrade l h s w span = grind (arith, upgrade_means p s w)
-  owes p TryUpgradeWeak l h s w span = grind (arith, upgrade_means p s w)
-  owes p Upgrade l h s w span = grind (arith, upgrade_asked_means p s w, turn_means p s w)
-  owes p Downgrade l h s w span = grind (arith, turn_means p s w, finds_room p s w, holder_by p upgradable s)
-  owes p DowngradeToUpgradeable l h s w span = grind (arith, turn_means p s w)
-  owes p Release l h s w span = grind (arith, release_means p s w)
+  owes p TryRead First None s w span = grind (arith, read_means p s w)
+  owes p TryRead (Exchange n) None s w span = grind (arith, read_means p s w)
+  owes p Read First None s w span = grind (arith, read_means p s w)
+  owes p Read (Exchange n) None s w span = grind (arith, read_means p s w)
+  owes p TryUpgradeableRead First None s w span = grind (arith, upgradable_means p s w)
+  owes p TryUpgradeableRead (Exchange n) None s w span = grind (arith, upgradable_means p s w)
+  owes p UpgradeableRead First None s w span = grind (arith, upgradable_means p s w)
+  owes p UpgradeableRead (Exchange n) None s w span = grind (arith, upgradable_means p s w)
+  owes p TryWrite First None s w span = grind (arith, write_means p s w)
+  owes p TryWriteWeak First None s w span = grind (arith, write_means p s w)
+  owes p Write First None s w span = grind (arith, write_means p s w)
+  owes p ReaderCount First None s w span = grind (arith, readers-word s w, one_of_each s)
+  owes p WriterCount First None s w span = grind (arith, writers-word s w, one_of_each s)
+  owes p TryUpgrade First (Some hold.Upgradable) s w span = grind (arith, upgrade_means p s w)
+  owes p TryUpgradeWeak First (Some hold.Upgradable) s w span = grind (arith, upgrade_means p s w)
+  owes p Upgrade First (Some hold.Upgradable) s w span = λ at.
+      grind (arith, turn_means p s w (cc (at.encodes)) at.exclusive at.shape upgradable asking at.knows.0.stand refl (omega arith))
+  owes p Upgrade Asking (Some hold.Upgradable) s w span = grind (arith, upgrade_asked_means p s w)
+  owes p Downgrade First (Some hold.Upgradable) s w span = λ at.
+      let room = finds_room p s w (cc (at.encodes)) at.exclusive at.shape (holder_by p upgradable s at.knows.0.stand) in
+      grind (arith, room, turn_means p s w (cc (at.encodes)) at.exclusive at.shape upgradable reading at.knows.0.stand refl (omega arith))
+  owes p Downgrade First (Some hold.Write) s w span = λ at.
+      grind (arith, turn_means p s w (cc (at.encodes)) at.exclusive at.shape writing reading at.knows.0.stand refl (omega arith))
+  owes p DowngradeToUpgradeable First (Some hold.Write) s w span = λ at.
+      grind (arith, turn_means p s w (cc (at.encodes)) at.exclusive at.shape writing upgradable at.knows.0.stand refl (omega arith))
+  owes p Release First (Some hold.Read) s w span = λ at. grind (arith, release_means p s w (cc (at.encodes)) at.exclusive at.shape reading at.knows.0.stand)
+  owes p Release First (Some hold.Upgradable) s w span = λ at. grind (arith, release_means p s w (cc (at.encodes)) at.exclusive at.shape upgradable at.knows.0.stand)
+  owes p Release First (Some hold.Write) s w span = λ at. grind (arith, release_means p s w (cc (at.encodes)) at.exclusive at.shape writing at.knows.0.stand)
+  owes p _ _ _ s w span = tt
 
   -- Undisturbed, the exchange succeeds on a word that admits the party, at once or after a look
 
   soon : SoonAll (rw_notes v cap)
-  soon p Read l h s w span = grind (arith, reads p s w, eq-eqb w w)
-  soon p UpgradeableRead l h s w span = grind (arith, reads_upgradable p s w, eq-eqb w w)
-  soon p Write l h s w span = grind (arith, empty-word s.holders w)
-  soon p Upgrade l h s w span =
-      let only_one = only_upgradable-word s p w in
-      grind (arith, writes_nothing p s, only_asking-word s p w, only_one, one_of_each s, holder_by p asking s, holder_by p upgradable s)
+  soon p Read First None s w span = grind (arith, reads p s w, eq-eqb w w)
+  soon p Read (Exchange n) None s w span = grind (arith, reads p s w, eq-eqb w w)
+  soon p UpgradeableRead First None s w span = grind (arith, reads_upgradable p s w, eq-eqb w w)
+  soon p UpgradeableRead (Exchange n) None s w span = grind (arith, reads_upgradable p s w, eq-eqb w w)
+  soon p Write First None s w span = grind (arith, empty-word s.holders w)
+  soon p Upgrade First (Some hold.Upgradable) s w span =
+      grind (arith, writes_nothing p s, only_asking-word s p w, only_upgradable-word s p w, one_of_each s, holder_by p upgradable s)
+  soon p Upgrade Asking (Some hold.Upgradable) s w span = grind (arith, writes_nothing p s, only_asking-word s p w, one_of_each s, holder_by p asking s)
   soon p _ _ _ s w span = tt
 
   pub rw_pays : Pays (rw_notes v cap)
