@@ -45,8 +45,8 @@ macro_rules! answered {
     };
 }
 
-/// A world with this many parties.
-fn world<O: Object>(rt: &impl Abort, alloc: Global, object: O, parties: usize) -> World<O> {
+/// Creates a world with this many parties. A caller learns nothing of what this ensures.
+pub fn world<O: Object>(rt: &impl Abort, alloc: Global, object: O, parties: usize) -> World<O> {
     World::new(alloc, object, parties).expect(rt, "memory")
 }
 

@@ -3,6 +3,7 @@
 
 use super::objects::OfHeader;
 use super::worlds::{Opening, Trial, holds, opened, run, try_text};
+use crate::rows::world;
 use spin_text::entry;
 use spin_world::{Answer, Hold, Move, Object, Outcome, Place, World};
 use spin_world_seats::{Seats, SeatsCall};
@@ -335,7 +336,7 @@ const ROUNDS_OF_SEATS: &[&[(usize, Move<SeatsCall, ()>)]] = &[
 
 #[test]
 fn the_only_seat_is_granted_in_the_fourth_round(rt: HostRuntime) {
-    let mut world = World::new(rt.alloc(), Seats::new(1), 2).expect(&rt, "memory");
+    let mut world = world(&rt, rt.alloc(), Seats::new(1), 2);
     run(&mut world, SEATED).expect(&rt, "memory");
     for (number, moves) in ROUNDS_OF_SEATS.iter().enumerate() {
         let mut round = Round::of(&rt, &world);
