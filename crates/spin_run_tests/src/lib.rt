@@ -10,8 +10,6 @@ mod explorer;
 #[cfg(test)]
 mod program;
 #[cfg(test)]
-mod progress;
-#[cfg(test)]
 mod rows;
 #[cfg(test)]
 mod text;

@@ -1,5 +1,5 @@
-//! Worked schedules that no text can spell: those of the seats, of several runs, of places, and of objects that no
-//! header makes.
+//! Worked schedules that no text can spell: those of the seats and the dispenser, of several runs, of places, and of
+//! objects that no header makes.
 
 use crate::alike::{Alike, are_alike};
 use crate::text::worlds::run;
@@ -8,6 +8,7 @@ use spin_world::{
     Outcome, Place, World,
 };
 use spin_world_seats::{Seats, SeatsCall};
+use spin_world_tests::dispenser::{Dispenser, DispenserAnswer, DispenserCall};
 use std::alloc::Global;
 use std::process::Abort;
 
@@ -44,8 +45,8 @@ macro_rules! answered {
     };
 }
 
-/// A world with this many parties.
-fn world<O: Object>(rt: &impl Abort, alloc: Global, object: O, parties: usize) -> World<O> {
+/// Creates a world with this many parties. A caller learns nothing of what this ensures.
+pub fn world<O: Object>(rt: &impl Abort, alloc: Global, object: O, parties: usize) -> World<O> {
     World::new(alloc, object, parties).expect(rt, "memory")
 }
 
@@ -212,4 +213,48 @@ const REPLACED: Rows<'static, OnceCall<u64>, u64, u8> = rows! {
 fn the_owner_replaces_a_value_where_there_is_one(rt: HostRuntime) {
     let mut world = world(&rt, rt.alloc(), OnceObject::initialized(9), 1);
     plays(&rt, &mut world, REPLACED, &[Place::Idle], 4);
+}
+
+impl Alike for DispenserAnswer {
+    fn is_like(&self, other: &Self) -> bool {
+        *self == *other
+    }
+}
+
+const TWO_DRAW: Rows<'static, DispenserCall, (), u64, DispenserAnswer> = rows! {
+    0 Move::Begin(DispenserCall::Draw) => Outcome::Begun, 0;
+    1 Move::Begin(DispenserCall::Draw) => Outcome::Begun, 0;
+    0 Move::Step => Outcome::GoingOn, 0;
+    1 Move::Step => Outcome::GoingOn, 0;
+    0 Move::Step => answered!(DispenserAnswer::Drawn(0), 0), 1;
+    1 Move::Step => Outcome::GoingOn, 1;
+    1 Move::Step => answered!(DispenserAnswer::Drawn(1), 1), 2;
+    1 Move::Begin(DispenserCall::Draw) => Outcome::Skipped, 2;
+    2 Move::Begin(DispenserCall::Draw) => Outcome::Begun, 2;
+    2 Move::Step => answered!(DispenserAnswer::SoldOut, 8), 2;
+    2 Move::Begin(DispenserCall::Count) => Outcome::Begun, 2;
+    2 Move::Step => answered!(DispenserAnswer::Count(2), 10), 2;
+};
+
+#[test]
+fn two_draw_and_a_third_finds_it_sold_out(rt: HostRuntime) {
+    let draws = Place::Holding(Hold::Read);
+    let mut world = world(&rt, rt.alloc(), Dispenser::new(2), 3);
+    plays(&rt, &mut world, TWO_DRAW, &[draws, draws, Place::Idle], ());
+}
+
+const THIS_ONE: Rows<'static, DispenserCall, (), u64, DispenserAnswer> = rows! {
+    0 Move::Begin(DispenserCall::DrawThis(1)) => Outcome::Begun, 0;
+    0 Move::Step => answered!(DispenserAnswer::NotNext, 0), 0;
+    0 Move::Begin(DispenserCall::DrawThis(0)) => Outcome::Begun, 0;
+    0 Move::Step => answered!(DispenserAnswer::Drawn(0), 2), 1;
+    1 Move::Begin(DispenserCall::DrawThis(0)) => Outcome::Begun, 1;
+    1 Move::Step => answered!(DispenserAnswer::NotNext, 4), 1;
+};
+
+#[test]
+fn one_draws_the_number_that_it_asks_for(rt: HostRuntime) {
+    let places: [Place; 2] = [Place::Holding(Hold::Read), Place::Idle];
+    let mut world = world(&rt, rt.alloc(), Dispenser::new(2), 2);
+    plays(&rt, &mut world, THIS_ONE, &places, ());
 }

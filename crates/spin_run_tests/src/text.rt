@@ -5,6 +5,7 @@ mod gallery;
 mod lines;
 mod objects;
 mod refused;
+mod rounds;
 mod stops;
 mod transcripts;
 pub mod worlds;

@@ -9,6 +9,8 @@ mod bounded;
 #[cfg(test)]
 mod cache;
 #[cfg(test)]
+mod comments;
+#[cfg(test)]
 mod counter;
 #[cfg(test)]
 mod equal;

@@ -3,6 +3,4 @@
 #![tactic(auto)]
 
 pub mod dispenser;
-#[cfg(test)]
-mod draws;
 pub mod wrong;

@@ -4,6 +4,7 @@
 use super::gallery::GALLERY;
 use super::objects::{OfHeader, parties_of};
 use super::refused::in_each_room;
+use super::rounds::in_rounds;
 use super::stops::at_each_place;
 use super::transcripts::WORKED;
 use crate::alike::{Alike, are_alike};
@@ -150,13 +151,15 @@ pub fn holds(rt: &impl Abort, shows: &str, at: usize, fact: bool) {
     assert!(rt; fact, "{shows}, at {at}");
 }
 
-/// What to try with each worked schedule.
+/// What to try with a schedule.
 #[derive(Clone, Copy)]
 pub enum Trial {
     /// Every stop of it, and every cut into two runs.
     Stops,
     /// Each of its allocations refused.
     Refused,
+    /// The lines of each round after it, and the party whose call counts, if not that of any does.
+    Rounds(&'static [&'static str], Option<usize>),
 }
 
 /// Reads the schedule that these lines spell.
@@ -186,11 +189,14 @@ fn try_schedule<O: OfHeader>(
     match trial {
         Trial::Stops => at_each_place::<O>(rt, alloc, opening, &schedule),
         Trial::Refused => in_each_room::<O>(rt, alloc, opening, &schedule),
+        Trial::Rounds(rounds, counts) => {
+            in_rounds::<O>(rt, alloc, opening, &schedule, rounds, counts)
+        }
     }
 }
 
 /// Tries a text of any object.
-fn try_text(rt: &impl Abort, alloc: Global, trial: Trial, shows: &'static str, text: &str) {
+pub fn try_text(rt: &impl Abort, alloc: Global, trial: Trial, shows: &'static str, text: &str) {
     let (line, lines) = first_line(text.as_bytes());
     let header = header_of(line).expect(rt, shows);
     let opening = Opening { shows, header };

@@ -1,5 +1,4 @@
 //! The examples that users meet first, as they stand in doc comments. `.ci/examples --write` prints this file.
-#![tactic(auto)]
 
 #[test]
 fn spin_lib_1(rt: HostRuntime) {
