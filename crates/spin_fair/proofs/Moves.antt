@@ -16,9 +16,9 @@ use Rattle.spin_model.specs.declared.schedule.Move.TheVariants as move
 use Rattle.spin_model.specs.declared.schedule.Outcome.TheVariants.{Begun, Answered, GoingOn, Written}
 use Rattle.spin_step_more.specs.declared.fair_calls.FairCall.{FairCall}
 use Rattle.spin_step_more.specs.declared.fair_calls.FairCall.TheVariants.{Lock, TryLock, TryLockStarver, IsLocked, Starve, StarverTryLockFair, StarverTryLock, StarverLock, StarverDrop, Release}
-use Rattle.spin_fair.specs.Fair.{seat_of, model, words_of, Says, refusal, looks_by, tries_by, alone_by, alone_to, gives_up_by, tried_by, tried, looked_by, looked, registers_by, registered_by, no_room_end, sets_by, set_by, awaits_by, awaited_by, served_by}
+use Rattle.spin_fair.specs.Fair.{seat_of, model, words_of, Says, Turn, says_of, refusal, looks_by, tries_by, alone_by, gives_up_by, tried_by, looked_by, registers_by, no_room_end, sets_by, awaits_by, served_by}
 use Rattle.spin_fair.specs.declared.fair.rule.View.{View}
-use Rattle.spin_fair.specs.declared.fair.rule.View.TheVariants.{Idle, Starving, Holding, Served, Trying, Looking, Loading, Registering, Setting, Awaiting, HoldingStarving}
+use Rattle.spin_fair.specs.declared.fair.rule.View.TheVariants.{Idle, Starving, Served, Trying, Looking, Loading, Registering, Setting, Awaiting, HoldingStarving}
 
 set_clear : (n : ℕ) → n % 2 ≡ 0 → bit_or n 1 ≡ n + 1
 set_clear n even = ap (λ m. bit_or m 1) (let e : n ≡ n / 2 * 2 = omega arith in e) ∙ (or_shifted (n / 2) 1 1 (omega arith) ∙ (let e : n / 2 * 2 + 1 ≡ n + 1 = omega arith in e))
@@ -46,18 +46,18 @@ module _ {T : Type 0} (v₀ : T) where
   abbrev pub Moves : Option View → (ℕ → ℕ) → (ℕ → View → Type 0) → Says T → Type 0
   Moves view f = AreMoves (model v₀) seat_of words_of view (on_first f) first
 
-  -- of a step that leads here, by the number found
-  abbrev pub MovesTo : Option View → (ℕ → ℕ) → (ℕ → View) → Says T → Type 0
-  MovesTo view f to = Moves view f (λ n v. v ≡ to n)
+  -- of a step of a call
+  abbrev pub MovesBy : Option View → (ℕ → ℕ) → Turn T → Type 0
+  MovesBy view f turn = Moves view f (λ n v. v ≡ turn.to n) (says_of turn)
 
   -- A newcomer
 
-  pub load_moves : MovesTo None (λ n. n) (λ n. Idle) looks_by
+  pub load_moves : MovesBy None (λ n. n) looks_by
   load_moves w value v is =
       rw is (Begin IsLocked ∷ Step ∷ [], Begun ∷ Answered (Is (is_set w)) None ∷ [], (refl, (refl, refl)), refl, refl, w, value, refl, refl, refl)
 
   abbrev pub Attempts : FairCall → Type 0
-  Attempts c = MovesTo None (λ n. either (n == 0) 1 n) (λ n. if n == 0 then Holding else Idle) (tries_by c)
+  Attempts c = MovesBy None (λ n. either (n == 0) 1 n) (tries_by c)
 
   pub attempt_moves : Attempts TryLock
   attempt_moves w value v is =
@@ -68,7 +68,7 @@ module _ {T : Type 0} (v₀ : T) where
       rw is (Begin TryLockStarver ∷ Step ∷ [], Begun ∷ Answered (if w == 0 then Granted else refusal TryLockStarver w) None ∷ [], (refl, (refl, refl)), refl, refl, either (w == 0) 1 w, value, grind arith, grind arith, refl)
 
   abbrev pub Tries : Option View → Type 0
-  Tries view = MovesTo view (λ n. either (n == 0) 1 n) (tried view) (tried_by view)
+  Tries view = MovesBy view (λ n. either (n == 0) 1 n) (tried_by view)
 
   pub first_moves : Tries None
   first_moves w value v is =
@@ -78,17 +78,17 @@ module _ {T : Type 0} (v₀ : T) where
   try_moves n w value v is =
       rw is (Step ∷ [], (if w == 0 then Answered Granted None else GoingOn) ∷ [], (refl, (refl, refl)), refl, grind arith, either (w == 0) 1 w, value, grind arith, grind arith, refl)
 
-  pub look_moves : (n : ℕ) → MovesTo (Some (Looking n)) (λ n. n) (looked (Some (Looking n))) (looked_by (Some (Looking n)))
+  pub look_moves : (n : ℕ) → MovesBy (Some (Looking n)) (λ n. n) (looked_by (Some (Looking n)))
   look_moves n w value v is = rw is (Step ∷ [], GoingOn ∷ [], (refl, (refl, refl)), refl, refl, w, value, grind arith, grind arith, refl)
 
-  -- A party that registers: its first exchange, of 0, is the load and the exchange of the model where it wins, and the load where it loses
+  -- A party that registers. If its first exchange, of 0, wins, it is the model's load and exchange; if it loses, only the load.
 
-  -- what the model's load comes to, or its exchange that loses
+  -- the outcome of the model's load, or of its exchange that loses
   abbrev missed : FairCall → ℕ → Ending T
   missed c w = if is_some (starve most_starvers w) then GoingOn else no_room_end c
 
   abbrev Registers : Option View → ℕ → ℕ → Type 0
-  Registers view old new = MovesTo view (λ n. either (n == old) new n) (registered_by view old) (registers_by view old)
+  Registers view old new = MovesBy view (λ n. either (n == old) new n) (registers_by view old)
 
   abbrev First : Option View → Type 0
   First view = Registers view 0 2
@@ -116,8 +116,8 @@ module _ {T : Type 0} (v₀ : T) where
   -- A starver
 
   -- the only one makes the two steps of its call at once; beside others `try_lock_fair` is refused, and its other calls have begun
-  abbrev Alone : FairCall → Type 0
-  Alone c = MovesTo (Some Starving) (λ n. either (n == 2) 1 n) (alone_to c) (alone_by c)
+  abbrev pub Alone : FairCall → Type 0
+  Alone c = MovesBy (Some Starving) (λ n. either (n == 2) 1 n) (alone_by c)
 
   pub alone_moves : Alone StarverTryLockFair
   alone_moves w value v is = dite (ℕ_discrete w 2)
@@ -135,7 +135,7 @@ module _ {T : Type 0} (v₀ : T) where
       (λ ne. rw (is, ne_eqb w 2 ne) (Begin StarverLock ∷ [], Begun ∷ [], (refl, (refl, refl)), refl, refl, w, value, refl, refl, refl))
 
   abbrev Sets : FairCall → Type 0
-  Sets c = MovesTo (Some (Setting c)) (λ n. bit_or n 1) (set_by c) (sets_by c)
+  Sets c = MovesBy (Some (Setting c)) (λ n. bit_or n 1) (sets_by c)
 
   pub try_set_moves : Sets StarverTryLock
   try_set_moves w value v is = rw is (
@@ -157,13 +157,13 @@ module _ {T : Type 0} (v₀ : T) where
   pub starver_set_moves : Sets StarverLock
   starver_set_moves w value v is = rw is (Step ∷ [], (if w % 2 == 0 then GoingOn else GoingOn) ∷ [], (refl, (refl, refl)), refl, grind arith, if w % 2 == 0 then w + 1 else w, value, grind arith, grind arith, words_set w)
 
-  pub await_moves : (c : FairCall) → MovesTo (Some (Awaiting c)) (λ n. n) (awaited_by (Some (Awaiting c))) (awaits_by (Some (Awaiting c)))
+  pub await_moves : (c : FairCall) → MovesBy (Some (Awaiting c)) (λ n. n) (awaits_by (Some (Awaiting c)))
   await_moves c w value v is = rw is (Step ∷ [], GoingOn ∷ [], (refl, (refl, refl)), refl, refl, w, value, grind arith, grind arith, refl)
 
-  pub unregister_moves : (c : FairCall) → Moves (Some (HoldingStarving c)) (λ n. (n + (2 ^ 64 - 2)) % 2 ^ 64) (λ n v. (v ≡ Served) × Takes 2 n) (served_by (Some (HoldingStarving c)))
+  pub unregister_moves : (c : FairCall) → Moves (Some (HoldingStarving c)) (λ n. (n + (2 ^ 64 - 2)) % 2 ^ 64) (λ n v. (v ≡ Served) × Takes 2 n) (says_of (served_by (Some (HoldingStarving c))))
   unregister_moves c w value v is = rw is.0 (Step ∷ [], Answered Granted None ∷ [], (refl, (refl, refl)), refl, refl, w - 2, value, refl, refl, ap words_of (sym is.1))
 
-  pub give_up_moves : Moves (Some Starving) (λ n. (n + (2 ^ 64 - 2)) % 2 ^ 64) (λ n v. (v ≡ Idle) × Takes 2 n) gives_up_by
+  pub give_up_moves : Moves (Some Starving) (λ n. (n + (2 ^ 64 - 2)) % 2 ^ 64) (λ n v. (v ≡ Idle) × Takes 2 n) (says_of gives_up_by)
   give_up_moves w value v is = rw is.0 (Begin StarverDrop ∷ Step ∷ [], Begun ∷ Answered Done None ∷ [], (refl, (refl, refl)), refl, refl, w - 2, value, refl, refl, ap words_of (sym is.1))
 
   -- the holder writes the value x

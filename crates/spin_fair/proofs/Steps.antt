@@ -38,11 +38,11 @@ use Rattle.spin_model.specs.declared.schedule.Move.{Move}
 use Rattle.spin_model.specs.declared.schedule.Move.TheVariants.{Step}
 use Rattle.spin_step_more.specs.declared.fair_calls.FairCall.{FairCall}
 use Rattle.spin_step_more.specs.declared.fair_calls.FairPoint.{FairPoint}
-use Rattle.spin_step_more.specs.declared.fair_calls.FairCall.TheVariants.{Lock, TryLock, TryLockStarver, IsLocked, StarverTryLockFair, StarverTryLock, StarverLock, StarverDrop, Release}
+use Rattle.spin_step_more.specs.declared.fair_calls.FairCall.TheVariants.{Lock, TryLock, TryLockStarver, StarverTryLockFair, StarverTryLock, StarverLock, Release}
 use Rattle.spin_fair.specs.declared.fair.rule.View.{View}
 use Rattle.spin_fair.specs.declared.fair.rule.View.TheVariants.{Idle, Starving, Holding, Served, Trying, Looking, Loading, Registering, Setting, Awaiting, HoldingStarving}
 use Rattle.spin_fair.specs.Fair as fairs
-use Rattle.spin_fair.specs.Fair.{part, use_of_view, use_of_party, seat_of, model, words_of, Says, Word, IsFair, fair_ways, Told, AreSteps, steps_by, answered, in_call, call_of, looks_by, tries_by, alone_by, alone_to, not_alone, gives_up_by, frees_by, looks_of, tried, tried_by, looked, looked_by, registered, finds_no_room, goes_for, registered_by, registers_by, Registers, MayRegister, MayTry, finds_flag_set, set_by, sets_by, MaySet, waits, awaits, HoldsStarving, awaited_by, awaits_by, served_by, views_of, newcomer, starver, HoldsAt, StarvesAt}
+use Rattle.spin_fair.specs.Fair.{part, use_of_view, use_of_party, seat_of, model, words_of, Says, Turn, says_of, Word, IsFair, fair_ways, known_of, Told, AreSteps, steps_by, answered, in_call, call_of, looks_by, tries_by, alone_by, alone_to, not_alone, gives_up_by, frees_by, looks_of, tried, tried_by, looked, looked_by, registered, finds_no_room, goes_for, registered_by, registers_by, Registers, MayRegister, MayTry, finds_flag_set, set_by, sets_by, MaySet, waits, awaits, HoldsStarving, awaited_by, awaits_by, served_by, views_of, newcomer, starver, HoldsAt, StarvesAt}
 use Rattle.spin_fair.proofs.First.{first_after, first_without, marks_within, viewed}
 use Rattle.spin_fair.proofs.Moves as moves
 use Rattle.spin_fair.proofs.Moves.{Moves, Takes, load_moves, attempt_moves, attempt_to_know_moves, first_moves, try_moves, look_moves, starve_moves, turn_moves, again_moves, turn_again_moves, alone_moves, try_alone_moves, lock_alone_moves, set_is, try_set_moves, lock_set_moves, starver_set_moves, await_moves, unregister_moves, give_up_moves, release_moves}
@@ -248,12 +248,12 @@ never n v w is other got = absurd (omega (arith, other, ap newcomer (sym is ∙ 
 by_try : (n : ℕ) (v lost : View) → newcomer lost ≡ 0 → v ≡ (if n == 0 then Holding else lost) → v ≡ Holding → n ≡ 0
 by_try n v lost other is got = dite (ℕ_discrete n 0) (λ e. e) (λ ne. never n v lost (is ∙ ap (λ b. if b then Holding else lost) (ne_eqb n 0 ne)) other got)
 
-module _ {T : Type 0} (goes_on : Bool) (c : FairCall) (ends : ℕ → List (Ending T)) where
-  frees_by_try : (lost : View) → newcomer lost ≡ 0 → Frees (steps_by goes_on c ends (λ n. if n == 0 then Holding else lost))
-  frees_by_try lost other own outs n v says got = by_try n v lost other says.0 got
+frees_by_try : {T : Type 0} (goes_on : Bool) (c : FairCall) (ends : ℕ → List (Ending T)) (lost : View) → newcomer lost ≡ 0
+    → Frees (says_of (steps_by goes_on c ends (λ n. if n == 0 then Holding else lost)))
+frees_by_try goes_on c ends lost other own outs n v says got = by_try n v lost other says.0 got
 
-  frees_none : (to : ℕ → View) → ((n : ℕ) → newcomer (to n) ≡ 0) → Frees (steps_by goes_on c ends to)
-  frees_none to others own outs n v says got = never n v (to n) says.0 (others n) got
+frees_none : {T : Type 0} (turn : Turn T) → ((n : ℕ) → newcomer (turn.to n) ≡ 0) → Frees (says_of turn)
+frees_none turn others own outs n v says got = never n v (turn.to n) says.0 (others n) got
 
 none_looked : (view : Option View) (n : ℕ) → newcomer (looked view n) ≡ 0
 none_looked view n = at (is_set n) (nat_lt (looks_of view) fairs.patience)
@@ -307,7 +307,7 @@ mutex opening = record { plain = fair; model = model opening.value; seat_of = se
 nothing : (view : Option View) → IsOut Idle view → part_before part view ≡ idle
 nothing = as_new Idle (part_before part) refl
 
-pub out_off : (view : Option View) → IsOut Idle view → use_of use_of_view view ≡ off
+out_off : (view : Option View) → IsOut Idle view → use_of use_of_view view ≡ off
 out_off = as_new Idle (use_of use_of_view) refl
 
 may_try : (n : ℕ) (view : Option View) → MayTry n view → part_before part view ≡ idle
@@ -316,10 +316,6 @@ may_try n (Some Idle) may = refl
 may_try n (Some (Trying m)) may = refl
 may_try n (Some _) may = absurd may
 
-pub out_may_try : (view : Option View) → IsOut Idle view → MayTry 0 view
-out_may_try None out = refl
-out_may_try (Some v) out = subst (λ w. MayTry 0 (Some w)) (sym out) refl
-
 pub out_may_register : (view : Option View) → IsOut Idle view → MayRegister view
 out_may_register None out = out
 out_may_register (Some Loading) out = tt
@@ -327,23 +323,23 @@ out_may_register (Some _) out = out
 
 -- such parties do not use the value, nor does a starver before it is served
 
-pub try_off : (n : ℕ) (view : Option View) → MayTry n view → use_of use_of_view view ≡ off
+try_off : (n : ℕ) (view : Option View) → MayTry n view → use_of use_of_view view ≡ off
 try_off n None may = refl
 try_off n (Some Idle) may = refl
 try_off n (Some (Trying m)) may = refl
 try_off n (Some _) may = absurd may
 
-pub set_off : (view : Option View) → MaySet view → use_of use_of_view view ≡ off
+set_off : (view : Option View) → MaySet view → use_of use_of_view view ≡ off
 set_off (Some (Setting c)) may = refl
 set_off (Some _) may = absurd may
 set_off None may = absurd may
 
-pub await_off : (view : Option View) → awaits view ≡ true → use_of use_of_view view ≡ off
+await_off : (view : Option View) → awaits view ≡ true → use_of use_of_view view ≡ off
 await_off (Some (Awaiting c)) is = refl
 await_off (Some _) is = absurd cc
 await_off None is = absurd cc
 
-pub starving_off : (view : Option View) → HoldsStarving view → use_of use_of_view view ≡ off
+starving_off : (view : Option View) → HoldsStarving view → use_of use_of_view view ≡ off
 starving_off (Some (HoldingStarving c)) held = refl
 starving_off (Some _) held = absurd held
 starving_off None held = absurd held
@@ -361,7 +357,7 @@ register_off None may = refl
 register_off (Some Loading) may = refl
 register_off (Some v) may = out_off (Some v) may
 
-pub registers_off : (first now : Option View) (word : ℕ) → MayRegister first → Registers first word now → use_of use_of_view now ≡ off
+registers_off : (first now : Option View) (word : ℕ) → MayRegister first → Registers first word now → use_of use_of_view now ≡ off
 registers_off first now word may (inl at) = ap (use_of use_of_view) at.0 ∙ register_off first may
 registers_off first now word may (inr at) = ap (use_of use_of_view) at ∙ goes_off (call_of first) word
 
@@ -377,7 +373,8 @@ are_steps_leave false c ends own outs are v = ap (λ o. left o v) are.0 ∙ step
 
 -- what a party needs to register
 abbrev Ready : {T : Type 0} → T → Option View → ℕ → ℕ → Type 0
-Ready v₀ now word more = (part_before part now ≡ idle) × Moves v₀ now (λ n. either (n == word) more n) (λ n v. v ≡ registered_by now word n) (registers_by now word)
+Ready v₀ now word more = (part_before part now ≡ idle) × Moves v₀ now (λ n. either (n == word) more n) (λ n v. v ≡ registered_by now word n)
+    (says_of (registers_by now word))
 
 module _ {T : Type 0} (opening : Opening T) where
   abbrev v₀ : T
@@ -390,11 +387,13 @@ module _ {T : Type 0} (opening : Opening T) where
   Leaving = mutexes.Leaving (mutex opening)
 
   -- steps of a party that does not use the value
-  unused : (view : Option View) (shown : Option T) → use_of use_of_view view ≡ off → (goes_on : Bool) (c : FairCall) (ends : ℕ → List (Ending T)) (to : ℕ → View) → Leaving view shown (steps_by goes_on c ends to)
-  unused view shown is goes_on c ends to own outs n u said = subst (λ z. Leaves z (use_of_view u) shown own) (sym is) (are_steps_leave goes_on c (ends n) own outs said.1)
+  unused : (view : Option View) (shown : Option T) → use_of use_of_view view ≡ off → (turn : Turn T) → Leaving view shown (says_of turn)
+  unused view shown is turn own outs n u said = subst (λ z. Leaves z (use_of_view u) shown own) (sym is)
+      (are_steps_leave turn.goes_on turn.call (turn.ends n) own outs said.1)
 
   keeps : (view : Option (Numbered View)) (shown : Option T) (f : ℕ → ℕ) (leads : ℕ → View → Type 0) (says : Says T) → Frees says → Leaving (what view) shown says → Moves v₀ (what view) f leads says → Leads (what view) f leads
       → Keeps view shown f says
+  unfolding IsFair Told known_of
   keeps view shown f leads says frees leaves moves allows id n t vs meets at small =
       let made = mutexes.keeps (mutex opening) view shown f leads says leaves moves allows id n t vs ((meets.0.0, meets.0.1.0, meets.0.2), meets.1) at small in
       let w : Numbered View = made.0 in let told : Told v₀ says view t.entries made.1 n w = made.3 in let kept = made.2.1 in
@@ -403,15 +402,28 @@ module _ {T : Type 0} (opening : Opening T) where
       (w, made.1, (made.2.0, ((kept.0.0, (kept.0.1, order), kept.0.2), kept.1)), told)
 
   pub starts : (t : Trace (fairs.Done T) (Unit {0})) → t.name ≡ opening.name → t.entries ≡ [] → Meets (IsFair opening) (fair_ways opening) 0 t []
+  unfolding IsFair known_of
   starts t named empty =
       let meets = mutexes.starts (mutex opening) 0 t named empty refl (plays.begins fair 0 0 0 tt (omega arith) refl refl) in
       ((meets.0.0, (meets.0.1, λ i j v w at. absurd (cc (at))), meets.0.2), meets.1)
 
-  pub looks : (view : Option (Numbered View)) (shown : Option T) → IsOut Idle (what view) → Keeps view shown (λ n. n) looks_by
-  looks view shown out = let now = what view in
-      keeps view shown (λ n. n) (λ n v. v ≡ Idle) looks_by (frees_none false IsLocked _ (λ n. Idle) (λ n. refl))
-      (unused now shown (out_off now out) false IsLocked _ (λ n. Idle))
-      (out_moves (mutex opening) now out (λ n. n) (λ n v. v ≡ Idle) looks_by (load_moves v₀))
+  -- a party that does not use the value may make this step
+  abbrev pub MayTurn : Option (Numbered View) → Option T → (ℕ → ℕ) → Turn T → Type 0
+  MayTurn view shown f turn = (use_of use_of_view (what view) ≡ off) × Keeps view shown f (says_of turn)
+
+  turns : (view : Option (Numbered View)) (shown : Option T) (f : ℕ → ℕ) (leads : ℕ → View → Type 0) (turn : Turn T) → use_of use_of_view (what view) ≡ off
+      → Frees (says_of turn) → Moves v₀ (what view) f leads (says_of turn) → Leads (what view) f leads
+      → MayTurn view shown f turn
+  turns view shown f leads turn unused_now frees moves allows = (
+    unused_now,
+    keeps view shown f leads (says_of turn) frees
+        (unused (what view) shown unused_now turn) moves allows,
+  )
+
+  pub looks : (view : Option (Numbered View)) (shown : Option T) → IsOut Idle (what view) → MayTurn view shown (λ n. n) looks_by
+  looks view shown out = let now = what view in let to : ℕ → View → Type 0 = λ n v. v ≡ Idle in
+      turns view shown (λ n. n) to looks_by (out_off now out) (frees_none looks_by (λ n. refl))
+      (out_moves (mutex opening) now out (λ n. n) to (says_of looks_by) (load_moves v₀))
       (stays_at fair now (λ n. Idle) (λ n. nothing now out) (λ s n. tt))
 
   -- the lemma of the step function says that the lock is free if it grants
@@ -419,13 +431,13 @@ module _ {T : Type 0} (opening : Opening T) where
   Attempts c =
       (view : Option (Numbered View)) (shown : Option T) → IsOut Idle (what view) → (taken : ℕ) → taken ≡ 1
       → ((s : Plain) (p : ℕ) → fair_word s ≡ 0 → Decides s (gets p to_lock_unregistered) fair_word (Some taken))
-      → Keeps view shown (λ n. either (n == 0) taken n) (tries_by c)
+      → MayTurn view shown (λ n. either (n == 0) taken n) (tries_by c)
 
   attempts_by : (c : FairCall) → moves.Attempts v₀ c → Attempts c
   attempts_by c new view shown out taken one plain = let now = what view in let to : ℕ → View → Type 0 = λ n v. v ≡ (if n == 0 then Holding else Idle) in
-      keeps view shown (λ n. either (n == 0) taken n) (λ n v. v ≡ (if n == 0 then Holding else Idle)) (tries_by c) (frees_by_try false c _ Idle refl)
-      (unused now shown (out_off now out) false c _ (λ n. if n == 0 then Holding else Idle))
-      (rw one (out_moves (mutex opening) now out (λ n. either (n == 0) 1 n) to (tries_by c) new)) (attempts_plain now Idle (nothing now out) refl taken plain)
+      turns view shown (λ n. either (n == 0) taken n) to (tries_by c) (out_off now out) (frees_by_try false c _ Idle refl)
+      (rw one (out_moves (mutex opening) now out (λ n. either (n == 0) 1 n) to (says_of (tries_by c)) new))
+      (attempts_plain now Idle (nothing now out) refl taken plain)
 
   pub attempts : Attempts TryLock
   attempts = attempts_by TryLock (attempt_moves v₀)
@@ -434,11 +446,10 @@ module _ {T : Type 0} (opening : Opening T) where
   attempts_to_know = attempts_by TryLockStarver (attempt_to_know_moves v₀)
 
   pub tries : (n : ℕ) (view : Option (Numbered View)) (shown : Option T) → MayTry n (what view) → (taken : ℕ) → taken ≡ 1 → ((s : Plain) (p : ℕ) → fair_word s ≡ 0 → Decides s (gets p to_lock_unregistered) fair_word (Some taken))
-      → Keeps view shown (λ n. either (n == 0) taken n) (tried_by (what view))
+      → MayTurn view shown (λ n. either (n == 0) taken n) (tried_by (what view))
   tries n view shown may taken one plain = let now = what view in let lost : View = Looking (looks_of now) in
-      keeps view shown (λ n. either (n == 0) taken n) (λ n v. v ≡ tried now n) (tried_by now) (frees_by_try (in_call now) Lock _ lost refl)
-      (unused now shown (try_off n now may) (in_call now) Lock _ (tried now)) (rw one (moves_of now may))
-      (attempts_plain now lost (may_try n now may) refl taken plain)
+      turns view shown (λ n. either (n == 0) taken n) (λ n v. v ≡ tried now n) (tried_by now) (try_off n now may) (frees_by_try (in_call now) Lock _ lost refl)
+      (rw one (moves_of now may)) (attempts_plain now lost (may_try n now may) refl taken plain)
     where
       moves_of : (now : Option View) → MayTry n now → moves.Tries v₀ now
       moves_of None may = first_moves v₀
@@ -446,9 +457,10 @@ module _ {T : Type 0} (opening : Opening T) where
       moves_of (Some (Trying m)) may = try_moves v₀ m
       moves_of (Some _) may = absurd may
 
-  pub looks_on : (n : ℕ) (view : Option (Numbered View)) (shown : Option T) → what view ≡ Some (Looking n) → Keeps view shown (λ n. n) (looked_by (what view))
+  pub looks_on : (n : ℕ) (view : Option (Numbered View)) (shown : Option T) → what view ≡ Some (Looking n) → MayTurn view shown (λ n. n) (looked_by (what view))
   looks_on n view shown is = let now = what view in
-      keeps view shown (λ n. n) (λ n v. v ≡ looked now n) (looked_by now) (frees_none true Lock _ (looked now) (none_looked now)) (unused now shown (ap (use_of use_of_view) is) true Lock _ (looked now)) (rw is (look_moves v₀ n))
+      turns view shown (λ n. n) (λ n v. v ≡ looked now n) (looked_by now) (ap (use_of use_of_view) is) (frees_none (looked_by now) (none_looked now))
+      (rw is (look_moves v₀ n))
       (rw is (stays_at fair (Some (Looking n)) (looked (Some (Looking n))) (λ k. at (is_set k) (nat_lt n fairs.patience)) (λ s k. knows_none s (looked (Some (Looking n)) k))))
     where
       at : (b c : Bool) → idle ≡ part (if b then (if c then Looking (n + 1) else Loading) else Trying n)
@@ -457,10 +469,12 @@ module _ {T : Type 0} (opening : Opening T) where
       at _ c = refl
 
   pub registers : (first : Option View) (view : Option (Numbered View)) (shown : Option T) (word more : ℕ) → MayRegister first → Registers first word (what view) → Some more ≡ starve most_starvers word
-      → ((s : Plain) (p : ℕ) → OneHolds s → s.cap ≡ most_starvers → fair_word s ≡ word → Decides s (gets p to_starve) fair_word (Some more)) → Keeps view shown (λ n. either (n == word) more n) (registers_by (what view) word)
+      → ((s : Plain) (p : ℕ) → OneHolds s → s.cap ≡ most_starvers → fair_word s ≡ word → Decides s (gets p to_starve) fair_word (Some more))
+      → MayTurn view shown (λ n. either (n == word) more n) (registers_by (what view) word)
   registers first view shown word more may from room plain = let now = what view in let ready = ready_of first now word more may from room in
-      keeps view shown (λ n. either (n == word) more n) (λ n v. v ≡ registered_by now word n) (registers_by now word) (frees_none (in_call now) (call_of now) _ (registered_by now word) (none_registered now word))
-      (unused now shown (registers_off first now word may from) (in_call now) (call_of now) _ (registered_by now word)) ready.1 (registers_plain now ready.0 word more plain)
+      turns view shown (λ n. either (n == word) more n) (λ n v. v ≡ registered_by now word n) (registers_by now word) (registers_off first now word may from)
+      (frees_none (registers_by now word) (none_registered now word))
+      ready.1 (registers_plain now ready.0 word more plain)
     where
       ready_of : (first now : Option View) (word more : ℕ) → MayRegister first → Registers first word now → Some more ≡ starve most_starvers word → Ready v₀ now word more
       ready_of None now word more may (inl at) room = rw (at.0, at.1) (refl, (let two : more ≡ 2 = cc (room, at.1) in rw two (starve_moves v₀)))
@@ -473,11 +487,14 @@ module _ {T : Type 0} (opening : Opening T) where
 
   -- the exchange of the only starver
   abbrev Alone : FairCall → Type 0
-  Alone c = (view : Option (Numbered View)) (shown : Option T) → what view ≡ Some Starving → ((s : Plain) (p : ℕ) → OneHolds s → is_starver p s.starvers ≡ true → fair_word s ≡ 2 → Decides s (gets p to_lock_starving_alone) fair_word (Some 3)) → Keeps view shown (λ n. either (n == 2) 1 n) (alone_by c)
+  Alone c = (view : Option (Numbered View)) (shown : Option T) → what view ≡ Some Starving
+      → ((s : Plain) (p : ℕ) → OneHolds s → is_starver p s.starvers ≡ true → fair_word s ≡ 2 → Decides s (gets p to_lock_starving_alone) fair_word (Some 3))
+      → MayTurn view shown (λ n. either (n == 2) 1 n) (alone_by c)
 
-  as_alone : (c : FairCall) → Moves v₀ (Some Starving) (λ n. either (n == 2) 1 n) (λ n v. v ≡ alone_to c n) (alone_by c) → Alone c
+  as_alone : (c : FairCall) → moves.Alone v₀ c → Alone c
   as_alone c moves view shown is plain =
-      keeps view shown (λ n. either (n == 2) 1 n) (λ n v. v ≡ alone_to c n) (alone_by c) (frees_none false c _ (alone_to c) (none_alone c)) (unused (what view) shown (ap (use_of use_of_view) is) false c _ (alone_to c)) (rw is moves) (rw is (alone_plain c 3 plain refl))
+      turns view shown (λ n. either (n == 2) 1 n) (λ n v. v ≡ alone_to c n) (alone_by c) (ap (use_of use_of_view) is) (frees_none (alone_by c) (none_alone c))
+      (rw is moves) (rw is (alone_plain c 3 plain refl))
 
   pub attempts_alone : Alone StarverTryLockFair
   attempts_alone = as_alone StarverTryLockFair (alone_moves v₀)
@@ -488,11 +505,11 @@ module _ {T : Type 0} (opening : Opening T) where
   pub locks_alone : Alone StarverLock
   locks_alone = as_alone StarverLock (lock_alone_moves v₀)
 
-  pub sets : (view : Option (Numbered View)) (shown : Option T) → MaySet (what view) → Keeps view shown (λ n. bit_or n 1) (sets_by (call_of (what view)))
+  pub sets : (view : Option (Numbered View)) (shown : Option T) → MaySet (what view) → MayTurn view shown (λ n. bit_or n 1) (sets_by (call_of (what view)))
   sets view shown may = let now = what view in let c = call_of now in let ready = ready_of now may in
-      keeps view shown (λ n. bit_or n 1) (λ n v. v ≡ set_by c n) (sets_by c) (frees_none true c _ (set_by c) (none_set c)) (unused now shown (set_off now may) true c _ (set_by c)) ready.0 ready.1
+      turns view shown (λ n. bit_or n 1) (λ n v. v ≡ set_by c n) (sets_by c) (set_off now may) (frees_none (sets_by c) (none_set c)) ready.0 ready.1
     where
-      ready_of : (now : Option View) → MaySet now → Moves v₀ now (λ n. bit_or n 1) (λ n v. v ≡ set_by (call_of now) n) (sets_by (call_of now)) × Leads now (λ n. bit_or n 1) (λ n v. v ≡ set_by (call_of now) n)
+      ready_of : (now : Option View) → MaySet now → moves.MovesBy v₀ now (λ n. bit_or n 1) (sets_by (call_of now)) × Leads now (λ n. bit_or n 1) (λ n v. v ≡ set_by (call_of now) n)
       ready_of (Some (Setting Lock)) may = (lock_set_moves v₀, sets_plain (Setting Lock) (HoldingStarving Lock) (Awaiting Lock) refl refl refl)
       ready_of (Some (Setting StarverLock)) may = (starver_set_moves v₀, sets_plain (Setting StarverLock) (HoldingStarving StarverLock) (Awaiting StarverLock) refl refl refl)
       ready_of (Some (Setting StarverTryLock)) may = (try_set_moves v₀, sets_plain (Setting StarverTryLock) (HoldingStarving StarverTryLock) Starving refl refl refl)
@@ -500,35 +517,39 @@ module _ {T : Type 0} (opening : Opening T) where
       ready_of (Some _) may = absurd may
       ready_of None may = absurd may
 
-  pub waits_on : (view : Option (Numbered View)) (shown : Option T) → awaits (what view) ≡ true → Keeps view shown (λ n. n) (awaits_by (what view))
+  pub waits_on : (view : Option (Numbered View)) (shown : Option T) → awaits (what view) ≡ true → MayTurn view shown (λ n. n) (awaits_by (what view))
   waits_on view shown is = let now = what view in let ready = ready_of now is in
-      keeps view shown (λ n. n) (λ n v. v ≡ awaited_by now n) (awaits_by now) (frees_none true (call_of now) _ (awaited_by now) (none_awaited now)) (unused now shown (await_off now is) true (call_of now) _ (awaited_by now)) ready.0 ready.1
+      turns view shown (λ n. n) (λ n v. v ≡ awaited_by now n) (awaits_by now) (await_off now is) (frees_none (awaits_by now) (none_awaited now)) ready.0 ready.1
     where
       at : (c : FairCall) (b : Bool) → starves ≡ part (if b then Awaiting c else Setting c)
       at c true = refl
       at c _ = refl
 
-      ready_of : (now : Option View) → awaits now ≡ true → Moves v₀ now (λ n. n) (λ n v. v ≡ awaited_by now n) (awaits_by now) × Leads now (λ n. n) (λ n v. v ≡ awaited_by now n)
+      ready_of : (now : Option View) → awaits now ≡ true → moves.MovesBy v₀ now (λ n. n) (awaits_by now) × Leads now (λ n. n) (λ n v. v ≡ awaited_by now n)
       ready_of (Some (Awaiting c)) is = (await_moves v₀ c, stays_at fair (Some (Awaiting c)) (awaited_by (Some (Awaiting c))) (λ k. at c (is_set k)) (λ s k. knows_none s (awaited_by (Some (Awaiting c)) k)))
       ready_of (Some _) is = absurd cc
       ready_of None is = absurd cc
 
-  pub unregisters : (view : Option (Numbered View)) (shown : Option T) → HoldsStarving (what view) → Keeps view shown (λ n. (n + (2 ^ 64 - 2)) % 2 ^ 64) (served_by (what view))
+  pub unregisters : (view : Option (Numbered View)) (shown : Option T) → HoldsStarving (what view)
+      → MayTurn view shown (λ n. (n + (2 ^ 64 - 2)) % 2 ^ 64) (served_by (what view))
   unregisters view shown held = let now = what view in let ready = ready_of now held in
-      keeps view shown (λ n. (n + (2 ^ 64 - 2)) % 2 ^ 64) (λ n v. (v ≡ Served) × Takes 2 n) (served_by now) (frees_none true (call_of now) _ (λ n. Served) (λ n. refl)) (unused now shown (starving_off now held) true (call_of now) _ (λ n. Served)) ready.0 ready.1
+      turns view shown (λ n. (n + (2 ^ 64 - 2)) % 2 ^ 64) (λ n v. (v ≡ Served) × Takes 2 n) (served_by now) (starving_off now held)
+      (frees_none (served_by now) (λ n. refl)) ready.0 ready.1
     where
-      ready_of : (now : Option View) → HoldsStarving now → Moves v₀ now (λ n. (n + (2 ^ 64 - 2)) % 2 ^ 64) (λ n v. (v ≡ Served) × Takes 2 n) (served_by now) × Leads now (λ n. (n + (2 ^ 64 - 2)) % 2 ^ 64) (λ n v. (v ≡ Served) × Takes 2 n)
+      ready_of : (now : Option View) → HoldsStarving now → Moves v₀ now (λ n. (n + (2 ^ 64 - 2)) % 2 ^ 64) (λ n v. (v ≡ Served) × Takes 2 n) (says_of (served_by now)) × Leads now (λ n. (n + (2 ^ 64 - 2)) % 2 ^ 64) (λ n v. (v ≡ Served) × Takes 2 n)
       ready_of (Some (HoldingStarving c)) held = (unregister_moves v₀ c, unregisters_plain c)
       ready_of (Some _) held = absurd held
       ready_of None held = absurd held
 
-  pub gives_up : (view : Option (Numbered View)) (shown : Option T) → what view ≡ Some Starving → Keeps view shown (λ n. (n + (2 ^ 64 - 2)) % 2 ^ 64) gives_up_by
+  pub gives_up : (view : Option (Numbered View)) (shown : Option T) → what view ≡ Some Starving
+      → MayTurn view shown (λ n. (n + (2 ^ 64 - 2)) % 2 ^ 64) gives_up_by
   gives_up view shown is =
-      keeps view shown (λ n. (n + (2 ^ 64 - 2)) % 2 ^ 64) (λ n v. (v ≡ Idle) × Takes 2 n) gives_up_by (frees_none false StarverDrop _ (λ n. Idle) (λ n. refl)) (unused (what view) shown (ap (use_of use_of_view) is) false StarverDrop _ (λ n. Idle))
-      (rw is (give_up_moves v₀)) (rw is gives_up_plain)
+      turns view shown (λ n. (n + (2 ^ 64 - 2)) % 2 ^ 64) (λ n v. (v ≡ Idle) × Takes 2 n) gives_up_by (ap (use_of use_of_view) is)
+      (frees_none gives_up_by (λ n. refl)) (rw is (give_up_moves v₀)) (rw is gives_up_plain)
 
   -- the holder writes the value that it leaves
   pub frees : (v : Numbered View) (x : T) → use_of_view v.0 ≡ writes → Keeps (Some v) (Some x) (λ n. (n + (2 ^ 64 - 1)) % 2 ^ 64) frees_by
+  unfolding Told
   frees v x held =
       let ready = ready_of v.0 held in let exact : Says T = leaves_by (λ y. y ≡ x) Release Done Idle in let to : ℕ → ℕ = λ n. (n + (2 ^ 64 - 1)) % 2 ^ 64 in
       tie.tells_less (model v₀) seat_of words_of (Some v) exact frees_by (λ own outs n u (stays, (y, is, by)). (stays, (y, tt, by))) (IsFair opening) (fair_ways opening) (Some x) to
@@ -546,16 +567,11 @@ module _ {T : Type 0} (opening : Opening T) where
 
 module _ {T : Type 0} (opening : Opening T) where
   pub rests : (view : Option (Numbered View)) → IsOut Idle (what view) → Rests (IsFair opening) use_of_party view
+  unfolding IsFair
   rests None out = tt
   rests (Some v) out =
       let rest = mutexes.rests (mutex opening) (Some v) out in
       (rest.0, λ n t before behind kept. let without = rest.1 n t before behind (kept.0, kept.1.0, kept.2) in (without.0, (without.1, first_without before behind v kept.1.1), without.2))
-
--- a party that registers stays in its call
-
-pub same_call : (first view : Option View) (word more : ℕ) → Registers first word view → Some more ≡ starve most_starvers word → call_of view ≡ call_of first
-same_call first view word more (inl at) room = ap call_of at.0
-same_call first view word more (inr at) room = let c = call_of first in ap call_of (at ∙ ap (λ o. Some (if is_some o then Registering c word else finds_no_room c)) (sym room))
 
 pub never_reads : (v : View) → use_of_view v ≡ reads → ⊥
 never_reads Holding e = absurd cc

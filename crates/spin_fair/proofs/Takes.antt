@@ -5,7 +5,7 @@ use mathlib.Core.Logic.{dite}
 use native.Mathlib.Decide.{ℕ_discrete}
 use Rattle.spin_step_more.specs.Starvers.{most_starvers, is_set, starve}
 use Rattle.spin_core.specs.Guard.{IsHolder, guard_key, guard_view, guard_value}
-use Rattle.spin_core.specs.Passes.{Course, Ending, IsOut}
+use Rattle.spin_core.specs.Passes.{Course, Ending, IsCall, IsOut}
 use Rattle.spin_core.specs.Cell.{Moved, off, use_of}
 use Rattle.spin_core.specs.Own.{Numbered, what}
 use Rattle.spin_core.specs.Passes.{mark_of}
@@ -28,9 +28,9 @@ use Rattle.spin_model.specs.declared.answer.Answer.TheVariants.{Granted}
 use Rattle.spin_step_more.specs.declared.fair.LockRejectReason.TheVariants.{Locked, Starved}
 use Rattle.spin_step_more.specs.declared.fair_calls.FairCall.{FairCall}
 use Rattle.spin_step_more.specs.declared.fair_calls.FairCall.TheVariants.{Lock, TryLockStarver, Starve, StarverTryLock, StarverLock}
-use Rattle.spin_fair.specs.Fair.{model, model_at, seat_of, words_of, use_of_view, use_of_party, Done, Says, IsFair, fair_ways, Told, steps_by, AreSteps, answered, in_call, call_of, Comes, Moves, refusal, answer_of, tries_by, alone_by, alone_to, not_alone, missed_alone, looked, looks_of, patience, registered_end, no_room_end, loads, register_ends, registered_so, no_room_so, flag_set_end, flag_set_so, finds_no_room, finds_flag_set, Registers, awaits, awaited_by, MaySet, MayAwait}
+use Rattle.spin_fair.specs.Fair.{model, model_at, seat_of, words_of, use_of_view, use_of_party, Done, IsFair, fair_ways, known_of, Told, Turn, says_of, AreSteps, answered, in_call, call_of, Comes, Moves, refusal, answer_of, tries_by, alone_by, not_alone, missed_alone, looked, looks_of, patience, registered_end, no_room_end, loads, register_ends, registered_so, no_room_so, flag_set_end, flag_set_so, finds_no_room, finds_flag_set, Registers, awaits, awaited_by, MaySet, MayAwait}
 use Rattle.spin_fair.specs.Guards.{Holds}
-use Rattle.spin_fair.specs.Waits.{Spot, view_of, here, Held, held_at, Gets}
+use Rattle.spin_fair.specs.Waits.{Spot, view_of, here, Turned, Goes, GoesOn, FindsNoRoom, Held, held_at, Gets}
 use Rattle.spin_fair.specs.declared.fair.account.Account.{Account}
 use Rattle.spin_fair.specs.declared.fair.rule.FairRule.{FairRule}
 use Rattle.spin_fair.specs.declared.fair.rule.View.{View}
@@ -62,47 +62,14 @@ comes false c ends (Some a) (n, is) own outs are = (steps ends, ends, are.0, are
 
 pub may_know : {T : Type 0} (opening : Opening T) (before : Watch (Done T)) → opening.name ≡ before.name
     → Named (IsFair opening) (fair_ways opening) before.name
+unfolding IsFair
 may_know opening before = passes.may_know (IsFair opening) (fair_ways opening) opening.name (λ n t vs is. is.0) before.name
 
--- What a step tells a party that knew all up to its last step
-module _ {T : Type 0} (p q : Spot T) (same : q.0 ≡ p.0) (named : p.0.name ≡ p.2.name) (knew : mark_of p.1 ≡ length p.2.entries) (n : ℕ) where
-  abbrev pub Steps : Says T → Type 0
-  Steps says = Moved (Watches (Named (IsFair p.0) (fair_ways p.0) p.2.name) p.2 q.2 (Told p.0.value says p.1) n) q.1
-
-  abbrev pub Knows : Option (Numbered View) → Option T → Type 0
-  Knows view shown =
-      record { named : q.0.name ≡ q.2.name; knows : mark_of view ≡ length q.2.entries; finds : (x : T) → shown ≡ Some x → IsLast q.0 q.2.entries x }
-
-  -- it knows all again, by a watch of the same trace; and if it comes to use the value, that is the one written last
-  pub knows_again : (says : Says T) (shown shown' : Option T) → use_of use_of_view (what p.1) ≡ off → Steps says
-      → Found (fair_ways p.0) p.1 q.1 shown shown' q.2
-      → Knows q.1 shown'
-  knows_again says shown shown' unused moved known = at q.1 moved known
-    where
-      at : (view : Option (Numbered View)) → Moved (Watches (Named (IsFair p.0) (fair_ways p.0) p.2.name) p.2 q.2 (Told p.0.value says p.1) n) view
-          → Found (fair_ways p.0) p.1 view shown shown' q.2
-          → Knows view shown'
-      at None moved known = absurd moved
-      at (Some v) moved known = record {
-        named = ap (λ k. k.name) same ∙ named ∙ sym (moved.0 (may_know p.0 p.2 named));
-        knows = (passes.learns (model_at p.0) seat_of words_of says (Named (IsFair p.0) (fair_ways p.0) p.2.name) p.1 p.2 q.2 n v knew moved).1;
-        finds = λ x is. subst (λ k. IsLast k q.2.entries x) (sym same) (finds (mutex p.0) p.1 (Some v) shown shown' q.2 x known unused is);
-      }
-
-  -- the moves of its call, and where it led
-  pub took : (goes_on : Bool) (c : FairCall) (ends : ℕ → List (Ending T)) (to : ℕ → View) (o : Option (Answer T)) → Steps (steps_by goes_on c ends to)
-      → Comes_to (ends n) o → Since model_at (Comes goes_on c o) p q × (what q.1 ≡ Some (to n))
-  took goes_on c ends to o moved end =
-      let so = spots.took model_at seat_of words_of p q same knew (may_know p.0 p.2 named) n (steps_by goes_on c ends to) to
-      (λ n. AreSteps goes_on c (ends n)) (λ own outs n v said. said) moved in (
-        (
-          passes.weaker (model_at p.0) p.1 q.1 p.2.entries q.2.entries (AreSteps goes_on c (ends n)) (Comes goes_on c o)
-              (comes goes_on c (ends n) o end) so.0.0,
-          so.0.1,
-          so.0.2,
-        ),
-        so.1,
-      )
+-- a step keeps the watch on its trace
+pub same_name : {T : Type 0} (before now : Watch (Done T)) (named : Type 0) (told : List (Done T) → List (Done T) → ℕ → Numbered View → Type 0)
+    (n : ℕ) (view : Option (Numbered View)) → named → Moved (Watches named before now told n) view → now.name ≡ before.name
+same_name before now named told n None is moved = absurd moved
+same_name before now named told n (Some v) is moved = moved.0 is
 
 abbrev Party : Type 0 → Type 0
 Party T = Permit T (Numbered View) FairRule (Opening T) (Trace (Done T) (Unit {0}))
@@ -111,19 +78,48 @@ Party T = Permit T (Numbered View) FairRule (Opening T) (Trace (Done T) (Unit {0
 pub watches : {T : Type 0} (me : Account T) → MayKnow (IsFair me.permit.key) (fair_ways me.permit.key) me.seen
 watches me = inr (may_know me.permit.key me.seen me.named)
 
--- the same of a step from this account
-module _ {T : Type 0} (me : Account T) (it : Party T) (now : Watch (Done T)) (n : ℕ) (same : it.key ≡ me.permit.key) where
-  abbrev pub Step_by : Says T → Type 0
-  Step_by = Steps (here me) (spot it now) same me.named me.knows n
+-- What a step tells a party that knew all up to its last step
+module _ {T : Type 0} (me : Account T) (it : Party T) (now : Watch (Done T)) (n : ℕ) (same : it.key ≡ me.permit.key) (turn : Turn T)
+    (moved : Moved (Watches (Named (IsFair me.permit.key) (fair_ways me.permit.key) me.seen.name) me.seen now
+    (Told me.permit.key.value (says_of turn) me.permit.view) n) it.view) where
+  abbrev Knows : Option (Numbered View) → Type 0
+  Knows view =
+      record { named : it.key.name ≡ now.name; knows : mark_of view ≡ length now.entries; finds : (x : T) → it.value ≡ Some x → IsLast it.key now.entries x }
 
-  pub again : (says : Says T) → use_of use_of_view (view_of me) ≡ off → Step_by says
-      → Found (fair_ways me.permit.key) me.permit.view it.view me.permit.value it.value now
-      → Knows (here me) (spot it now) same me.named me.knows n it.view it.value
-  again says = knows_again (here me) (spot it now) same me.named me.knows n says me.permit.value it.value
+  -- it knows all again, by a watch of the same trace; and if it comes to use the value, that is the one written last
+  pub knows_again : use_of use_of_view (view_of me) ≡ off → Found (fair_ways me.permit.key) me.permit.view it.view me.permit.value it.value now → Knows it.view
+  unfolding Told known_of
+  knows_again unused known = at it.view moved known
+    where
+      at : (view : Option (Numbered View)) → Moved (Watches (Named (IsFair me.permit.key) (fair_ways me.permit.key) me.seen.name) me.seen now (Told me.permit.key.value (says_of turn) me.permit.view) n) view
+          → Found (fair_ways me.permit.key) me.permit.view view me.permit.value it.value now → Knows view
+      at None moved known = absurd moved
+      at (Some v) moved known = record {
+        named = ap (λ k. k.name) same ∙ me.named ∙ sym (moved.0 (may_know me.permit.key me.seen me.named));
+        knows = (passes.learns (model_at me.permit.key) seat_of words_of (says_of turn)
+            (Named (IsFair me.permit.key) (fair_ways me.permit.key) me.seen.name) me.permit.view me.seen now n v me.knows moved).1;
+        finds = λ x is. subst (λ k. IsLast k now.entries x) (sym same)
+            (finds (mutex me.permit.key) me.permit.view (Some v) me.permit.value it.value now x known unused is);
+      }
 
-  pub made : (goes_on : Bool) (c : FairCall) (ends : ℕ → List (Ending T)) (to : ℕ → View) (o : Option (Answer T)) → Step_by (steps_by goes_on c ends to)
-      → Comes_to (ends n) o → Since model_at (Comes goes_on c o) (here me) (spot it now) × (what it.view ≡ Some (to n))
-  made = took (here me) (spot it now) same me.named me.knows n
+  -- the moves of its call, and where it led
+  pub turned : (what it.view ≡ Some (turn.to n)) × Since model_at (AreSteps turn.goes_on turn.call (turn.ends n)) (here me) (spot it now)
+  unfolding Told
+  turned =
+      let so = spots.took model_at seat_of words_of (here me) (spot it now) same me.knows (may_know me.permit.key me.seen me.named) n (says_of turn) turn.to
+      (λ n. AreSteps turn.goes_on turn.call (turn.ends n)) (λ own outs n v said. said) moved in
+      (so.1, so.0)
+
+-- after a step the call goes on, or is answered
+pub made : {T : Type 0} (turn : Turn T) (n : ℕ) (was now : Account T) (o : Option (Answer T)) → Turned turn n was now → Comes_to (turn.ends n) o
+    → Goes (Comes turn.goes_on turn.call o) was now
+made turn n was now o step end = (
+  passes.weaker (model_at was.permit.key) was.permit.view now.permit.view was.seen.entries now.seen.entries (AreSteps turn.goes_on turn.call (turn.ends n))
+      (Comes turn.goes_on turn.call o)
+      (comes turn.goes_on turn.call (turn.ends n) o end) step.1.0,
+  step.1.1,
+  step.1.2,
+)
 
 -- moves of a call, and then further ones of it
 pub and_then : {T : Type 0} (v₀ : T) (goes_on : Bool) (c : FairCall) (o : Option (Answer T)) (u v w : Option (Numbered View)) (old seen new : List (Done T))
@@ -170,34 +166,26 @@ pub is_odd : (n : ℕ) → true ≡ is_set n → (n % 2 == 0) ≡ false
 is_odd n is = dite (ℕ_discrete (n % 2) 0) (λ e. absurd (let clear : is_set n ≡ false = ne_eqb (n % 2) 1 (λ one. absurd (omega (arith, e, one))) in cc (is, clear))) (λ ne. ne_eqb (n % 2) 0 ne)
 
 -- the outcomes of a newcomer's tries, and of the exchange with which a starver begins a call
-module _ {T : Type 0} (me : Account T) (it : Party T) (now : Watch (Done T)) (n : ℕ) (same : it.key ≡ me.permit.key) (c : FairCall) where
-  abbrev Comes_so : Option (Answer T) → Type 0
-  Comes_so o = Since model_at (Comes false c o) (here me) (spot it now)
+module _ {T : Type 0} (was now : Account T) (n : ℕ) (c : FairCall) where
+  module _ (step : Turned (tries_by c) n was now) where
+    pub has_tried : n ≡ 0 → Goes (IsCall c Granted) was now × (view_of now ≡ Some Holding)
+    has_tried e = (
+      made (tries_by c) n was now (Some Granted) step (granted_at n 0 Granted (refusal c n) e),
+      step.0 ∙ ap (λ b. Some (if b then Holding else Idle)) (eq-eqb n 0 e),
+    )
 
-  module _ (moved : Step_by me it now n same (tries_by c)) where
-    tried_so : (o : Option (Answer T)) → Comes_to (answered (if n == 0 then Granted else refusal c n) ∷ []) o
-        → Comes_so o × (what it.view ≡ Some (if n == 0 then Holding else Idle))
-    tried_so o =
-        made me it now n same false c (λ n. answered (if n == 0 then Granted else refusal c n) ∷ []) (λ n. if n == 0 then Holding else Idle) o moved
+    pub is_refused : n ≢ 0 → Goes (IsCall c (refusal c n)) was now
+    is_refused ne = made (tries_by c) n was now (Some (refusal c n)) step (refused_at n 0 Granted (refusal c n) ne)
 
-    pub has_tried : n ≡ 0 → Comes_so (Some Granted) × (what it.view ≡ Some Holding)
-    has_tried e = let so = tried_so (Some Granted) (granted_at n 0 Granted (refusal c n) e) in (so.0, so.1 ∙ ap (λ b. Some (if b then Holding else Idle)) (eq-eqb n 0 e))
+  module _ (step : Turned (alone_by c) n was now) where
+    pub was_alone : n ≡ 2 → Goes (IsCall c Granted) was now
+    was_alone e = made (alone_by c) n was now (Some Granted) step (1, ap (λ b. if b then GoingOn ∷ answered Granted ∷ [] else missed_alone c) (eq-eqb n 2 e))
 
-    pub is_refused : n ≢ 0 → Comes_so (Some (refusal c n))
-    is_refused ne = (tried_so (Some (refusal c n)) (refused_at n 0 Granted (refusal c n) ne)).0
-
-  module _ (moved : Step_by me it now n same (alone_by c)) where
-    alone_so : (o : Option (Answer T)) → Comes_to (if n == 2 then GoingOn ∷ answered Granted ∷ [] else missed_alone c) o
-        → Comes_so o × (what it.view ≡ Some (alone_to c n))
-    alone_so o = made me it now n same false c (λ n. if n == 2 then GoingOn ∷ answered Granted ∷ [] else missed_alone c) (alone_to c) o moved
-
-    pub was_alone : n ≡ 2 → Comes_so (Some Granted)
-    was_alone e = (alone_so (Some Granted) (1, ap (λ b. if b then GoingOn ∷ answered Granted ∷ [] else missed_alone c) (eq-eqb n 2 e))).0
-
-    pub was_not_alone : (o : Option (Answer T)) → Comes_to (missed_alone c) o → n ≢ 2 → Comes_so o × (what it.view ≡ Some (not_alone c))
-    was_not_alone o end ne =
-        let so = alone_so o (subst (λ b. Comes_to (if b then GoingOn ∷ answered Granted ∷ [] else missed_alone c) o) (sym (ne_eqb n 2 ne)) end) in
-        (so.0, so.1 ∙ ap (λ b. Some (if b then Served else not_alone c)) (ne_eqb n 2 ne))
+    pub was_not_alone : (o : Option (Answer T)) → Comes_to (missed_alone c) o → n ≢ 2 → Goes (Comes false c o) was now × (view_of now ≡ Some (not_alone c))
+    was_not_alone o end ne = (
+      made (alone_by c) n was now o step (subst (λ b. Comes_to (if b then GoingOn ∷ answered Granted ∷ [] else missed_alone c) o) (sym (ne_eqb n 2 ne)) end),
+      step.0 ∙ ap (λ b. Some (if b then Served else not_alone c)) (ne_eqb n 2 ne),
+    )
 
 pub reason_so : {T : Type 0} (n : ℕ) → refusal {T = T} TryLockStarver n ≡ answer_of (if n == 1 then Locked else Starved)
 reason_so {T} n = at (n == 1)
@@ -279,46 +267,38 @@ module _ {T : Type 0} (first : Account T) where
   call = call_of (view_of first)
 
   -- a party that registers found a word, with room or without
-  abbrev Has_found : ℕ → Option ℕ → Spot T → Type 0
-  Has_found word room q =
-      (what q.1 ≡ Some (if is_some room then Registering call word else finds_no_room call))
-      × Since model_at (Comes (in_call (view_of first)) call (if is_some room then None else no_room_so call)) (here first) q
+  abbrev Has_found : ℕ → Option ℕ → Account T → Type 0
+  Has_found word room now =
+      (view_of now ≡ Some (if is_some room then Registering call word else finds_no_room call))
+      × Goes (Comes (in_call (view_of first)) call (if is_some room then None else no_room_so call)) first now
 
   -- it stands where it stood, or goes for the word that it found
-  abbrev pub HasReached : ℕ → Spot T → Type 0
-  HasReached word q =
-      ((word ≡ 0) × (q.1 ≡ first.permit.view) × (q.2.name ≡ first.seen.name) × (q.2.entries ≡ first.seen.entries) × (q.0 ≡ first.permit.key))
-      ⊎ Has_found word (starve most_starvers word) q
+  abbrev pub HasReached : ℕ → Account T → Type 0
+  HasReached word now = ((word ≡ 0) × (here now ≡ here first)) ⊎ Has_found word (starve most_starvers word) now
 
-  module _ (word : ℕ) (q : Spot T) where
-    pub reaches : HasReached word q → Registers (view_of first) word (what q.1)
-    reaches (inl at) = inl (ap what at.1, at.0)
+  module _ (word : ℕ) (now : Account T) where
+    pub reaches : HasReached word now → Registers (view_of first) word (view_of now)
+    reaches (inl at) = inl (ap (λ z. what z.1) at.1, at.0)
     reaches (inr at) = inr at.0
 
-    pub no_room : HasReached word q → None ≡ starve most_starvers word
-        → (what q.1 ≡ Some (finds_no_room call)) × Since model_at (Comes (in_call (view_of first)) call (no_room_so call)) (here first) q
+    pub no_room : HasReached word now → None ≡ starve most_starvers word → FindsNoRoom first now
     no_room (inl at) none = absurd (let e : None ≡ starve most_starvers 0 = none ∙ ap (starve most_starvers) at.0 in cc (e))
-    no_room (inr at) none = subst (λ o. Has_found word o q) (sym none) at
+    no_room (inr at) none = subst (λ o. Has_found word o now) (sym none) at
 
     module _ (more : ℕ) (room : Some more ≡ starve most_starvers word) where
-      pub stays_in : HasReached word q → call_of (what q.1) ≡ call
-      stays_in (inl at) = ap (λ v. call_of (what v)) at.1
-      stays_in (inr at) = ap call_of (subst (λ o. Has_found word o q) (sym room) at).0
+      pub stays_in : HasReached word now → call_of (view_of now) ≡ call
+      stays_in (inl at) = ap (λ z. call_of (what z.1)) at.1
+      stays_in (inr at) = ap call_of (subst (λ o. Has_found word o now) (sym room) at).0
 
       -- a step of its call, after those before
-      pub goes_further : (o : FairCall → Option (Answer T)) (r : Spot T) → HasReached word q
-          → Since model_at (Comes (in_call (what q.1)) (call_of (what q.1)) (o (call_of (what q.1)))) q r
-          → Since model_at (Comes (in_call (view_of first)) call (o call)) (here first) r
-      goes_further o r (inl at) so = (
-        subst (λ (z : Opening T × Option (Numbered View) × List (Done T)). Moves z.0.value
-            (Comes (in_call (what z.1)) (call_of (what z.1)) (o (call_of (what z.1)))) z.1 z.2 r.1 r.2.entries) (λ i. (at.4 i, at.1 i, at.3 i)) so.0,
-        so.1 ∙ at.2,
-        so.2 ∙ at.4,
-      )
-      goes_further o r (inr at) so =
-          let went = subst (λ o. Has_found word o q) (sym room) at in
-          and_on (here first) q (in_call (view_of first)) call (o call) r went.1
-          (subst (λ v. Since model_at (Comes (in_call v) (call_of v) (o (call_of v))) q r) went.0 so)
+      pub goes_further : (o : FairCall → Option (Answer T)) (next : Account T) → HasReached word now
+          → GoesOn (call_of (view_of now)) (o (call_of (view_of now))) now next → GoesOn call (o call) first next
+      goes_further o next (inl at) so =
+          subst (λ (z : Spot T). Since model_at (Comes (in_call (what z.1)) (call_of (what z.1)) (o (call_of (what z.1)))) z (here next)) at.1 so
+      goes_further o next (inr at) so =
+          let went = subst (λ o. Has_found word o now) (sym room) at in
+          and_on (here first) (here now) (in_call (view_of first)) call (o call) (here next) went.1
+          (subst (λ v. Since model_at (Comes (in_call v) (call_of v) (o (call_of v))) (here now) (here next)) went.0 so)
 
 -- A starver
 

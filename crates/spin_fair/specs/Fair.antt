@@ -3,7 +3,7 @@
 use Rattle.std.specs.Prelude.{◌≡◌, ◌⊎◌, ℕ, ◌+◌, ◌++◌, Bool, true, false, List, [], ◌∷◌, map, Option, Some, None, if◌then◌else◌, ◌%◌, ◌==◌, nat_lt, is_some, ◌<◌, ◌≤◌, slice_get}
 use Rattle.spin_step.specs.Plain.{writing, fair_word}
 use Rattle.spin_step_more.specs.Starvers.{most_starvers, is_set, starve}
-use Rattle.spin_core.specs.Cell.{Use, off, writes, alone, Ways}
+use Rattle.spin_core.specs.Cell.{Use, Knowledge, off, writes, alone, Ways}
 use Rattle.spin_core.specs.Views.{Part, idle, holds, starves, holds_starving, part_at, Encodes, no_word}
 use Rattle.spin_core.specs.Own.{Numbered, Runs, Tells}
 use Rattle.spin_core.specs.Passes as passes
@@ -113,26 +113,40 @@ abbrev pub StarversFirst : List (Numbered View) → Type 0
 StarversFirst parties = (i j : ℕ) (v w : Numbered View) → slice_get parties i ≡ Some v → slice_get parties j ≡ Some w → v.0 ≡ Holding → 0 < starver w.0 → v.2 ≤ w.2
 
 -- of the first word, the trace and the parties, of a lock that opened so
-abbrev pub IsFair : {T : Type 0} → Opening T → ℕ → Trace (Done T) (Unit {0}) → List (Numbered View) → Type 0
+unfoldable pub IsFair : {T : Type 0} → Opening T → ℕ → Trace (Done T) (Unit {0}) → List (Numbered View) → Type 0
 IsFair opening word trace parties = Runs (model opening.value) seat_of words_of (λ n second vs. Word n second vs × StarversFirst parties) opening.name word trace parties
 
--- each holder has the value to itself; the value that nobody holds is the one written last
+-- the value that nobody holds is the one written last
+unfoldable pub known_of : {T : Type 0} → Opening T → Knowledge (Trace (Done T) (Unit {0})) T
+known_of = last
+
+-- each holder has the value to itself
 abbrev pub fair_ways : {T : Type 0} → Opening T → Ways T (Numbered View) (Trace (Done T) (Unit {0}))
-fair_ways opening = (alone, use_of_party, last opening)
+fair_ways opening = (alone, use_of_party, known_of opening)
 
 -- what a step tells of its moves, of a lock that opened with this value
-abbrev pub Told : {T : Type 0} → T → Says T → Option (Numbered View) → List (Done T) → List (Done T) → ℕ → Numbered View → Type 0
+unfoldable pub Told : {T : Type 0} → T → Says T → Option (Numbered View) → List (Done T) → List (Done T) → ℕ → Numbered View → Type 0
 Told v = Tells (model v) seat_of words_of
 
 -- The steps: the outcomes and the next view of each, by the number found
 
--- as many steps as there are outcomes, in a call under way (true), or after the beginning of this call
+-- one step for each outcome: of a call under way (true), or of this call from its beginning
 abbrev pub AreSteps : {T : Type 0} → Bool → FairCall → List (Ending T) → Course T FairCall (Answer T)
 AreSteps true c ends own outs = (own ≡ map (λ _. Step) ends) × (outs ≡ ends)
 AreSteps false c ends own outs = (own ≡ Begin c ∷ map (λ _. Step) ends) × (outs ≡ Begun ∷ ends)
 
-abbrev pub steps_by : {T : Type 0} → Bool → FairCall → (ℕ → List (Ending T)) → (ℕ → View) → Says T
-steps_by goes_on c ends to own outs n v = (v ≡ to n) × AreSteps goes_on c (ends n) own outs
+-- a step of a call: whether that is under way, or begins here; and, by the number found, the outcomes and the next view
+pub record Turn (T : Type 0) : Type 0 where
+  pub goes_on : Bool
+  pub call : FairCall
+  pub ends : ℕ → List (Ending T)
+  pub to : ℕ → View
+
+abbrev pub says_of : {T : Type 0} → Turn T → Says T
+says_of turn own outs n v = (v ≡ turn.to n) × AreSteps turn.goes_on turn.call (turn.ends n) own outs
+
+abbrev pub steps_by : {T : Type 0} → Bool → FairCall → (ℕ → List (Ending T)) → (ℕ → View) → Turn T
+steps_by goes_on c ends to = record { goes_on = goes_on; call = c; ends = ends; to = to }
 
 abbrev pub answered : {T : Type 0} → Answer T → Ending T
 answered a = Answered a None
@@ -159,7 +173,7 @@ call_of (Some (Awaiting c)) = c
 call_of (Some (HoldingStarving c)) = c
 call_of _ = Starve
 
-abbrev pub looks_by : {T : Type 0} → Says T
+abbrev pub looks_by : {T : Type 0} → Turn T
 looks_by = steps_by false IsLocked (λ n. answered (answer.Is (is_set n)) ∷ []) (λ n. Idle)
 
 -- the answer to a newcomer that found this word, if that is not 0
@@ -173,10 +187,10 @@ answer_of Locked = answer.Locked
 answer_of Starved = answer.Starved
 
 -- the exchange of a newcomer's try
-abbrev pub tries_by : {T : Type 0} → FairCall → Says T
+abbrev pub tries_by : {T : Type 0} → FairCall → Turn T
 tries_by c = steps_by false c (λ n. answered (if n == 0 then answer.Granted else refusal c n) ∷ []) (λ n. if n == 0 then Holding else Idle)
 
--- if there are other starvers `try_lock_fair` fails, and a starver's other calls go on to set the flag
+-- beside other starvers `try_lock_fair` fails, and a starver's other calls go on to set the flag
 abbrev pub missed_alone : {T : Type 0} → FairCall → List (Ending T)
 missed_alone StarverTryLockFair = answered answer.Refused ∷ []
 missed_alone _ = []
@@ -189,11 +203,11 @@ abbrev pub alone_to : FairCall → ℕ → View
 alone_to c n = if n == 2 then Served else not_alone c
 
 -- the exchange with which a starver begins a call; the only starver makes both steps of the call at once
-abbrev pub alone_by : {T : Type 0} → FairCall → Says T
+abbrev pub alone_by : {T : Type 0} → FairCall → Turn T
 alone_by c = steps_by false c (λ n. if n == 2 then GoingOn ∷ answered answer.Granted ∷ [] else missed_alone c) (alone_to c)
 
 -- a starver ends its registration
-abbrev pub gives_up_by : {T : Type 0} → Says T
+abbrev pub gives_up_by : {T : Type 0} → Turn T
 gives_up_by = steps_by false StarverDrop (λ n. answered answer.Done ∷ []) (λ n. Idle)
 
 -- the release: the holder writes the value that it leaves
@@ -210,14 +224,14 @@ looks_of _ = 0
 abbrev pub tried : Option View → ℕ → View
 tried view n = if n == 0 then Holding else Looking (looks_of view)
 
-abbrev pub tried_by : {T : Type 0} → Option View → Says T
+abbrev pub tried_by : {T : Type 0} → Option View → Turn T
 tried_by view = steps_by (in_call view) Lock (λ n. (if n == 0 then answered answer.Granted else GoingOn) ∷ []) (tried view)
 
 -- the view after a look of `lock`; a look that found the flag set is counted, until there are enough to register
 abbrev pub looked : Option View → ℕ → View
 looked view n = if is_set n then (if nat_lt (looks_of view) patience then Looking (looks_of view + 1) else Loading) else Trying (looks_of view)
 
-abbrev pub looked_by : {T : Type 0} → Option View → Says T
+abbrev pub looked_by : {T : Type 0} → Option View → Turn T
 looked_by view = steps_by true Lock (λ n. GoingOn ∷ []) (looked view)
 
 abbrev pub registered : FairCall → View
@@ -229,7 +243,7 @@ abbrev pub finds_no_room : FairCall → View
 finds_no_room Lock = Looking patience
 finds_no_room _ = Idle
 
--- a party that found this word tries to exchange it for the one after it has registered, if there is one
+-- a party that found this word goes on to exchange it, unless no more may starve
 abbrev pub goes_for : FairCall → ℕ → View
 goes_for c n = if is_some (starve most_starvers n) then Registering c n else finds_no_room c
 
@@ -254,7 +268,7 @@ loads _ = GoingOn ∷ []
 abbrev pub register_ends : {T : Type 0} → Option View → ℕ → ℕ → List (Ending T)
 register_ends view old n = if n == old then loads view ++ registered_end (call_of view) ∷ [] else (if is_some (starve most_starvers n) then GoingOn else no_room_end (call_of view)) ∷ []
 
-abbrev pub registers_by : {T : Type 0} → Option View → ℕ → Says T
+abbrev pub registers_by : {T : Type 0} → Option View → ℕ → Turn T
 registers_by view old = steps_by (in_call view) (call_of view) (register_ends view old) (registered_by view old)
 
 -- the call begins to register, or continues with a word that it found
@@ -285,7 +299,7 @@ abbrev pub flag_set_end : {T : Type 0} → FairCall → Ending T
 flag_set_end StarverTryLock = answered answer.Refused
 flag_set_end c = GoingOn
 
-abbrev pub sets_by : {T : Type 0} → FairCall → Says T
+abbrev pub sets_by : {T : Type 0} → FairCall → Turn T
 sets_by c = steps_by true c (λ n. (if n % 2 == 0 then GoingOn else flag_set_end c) ∷ []) (set_by c)
 
 -- in this call a starver waits
@@ -320,10 +334,10 @@ abbrev pub awaited_by : Option View → ℕ → View
 awaited_by (Some (Awaiting c)) n = if is_set n then Awaiting c else Setting c
 awaited_by _ n = Idle
 
-abbrev pub awaits_by : {T : Type 0} → Option View → Says T
+abbrev pub awaits_by : {T : Type 0} → Option View → Turn T
 awaits_by view = steps_by true (call_of view) (λ n. GoingOn ∷ []) (awaited_by view)
 
-abbrev pub served_by : {T : Type 0} → Option View → Says T
+abbrev pub served_by : {T : Type 0} → Option View → Turn T
 served_by view = steps_by true (call_of view) (λ n. answered answer.Granted ∷ []) (λ n. Served)
 
 -- the views of the parties

@@ -1,18 +1,20 @@
 -- What a party that knows the lock's history has done between two of its steps.
-use Rattle.std.specs.Prelude.{◌≡◌, Bool, true, Option, Some, None, Result, IfOk, IfErr}
+use Rattle.std.specs.Prelude.{◌≡◌, ℕ, Bool, true, Option, Some, None, Result, IfOk, IfErr}
+use Rattle.spin_core.specs.Cell.{off, use_of}
 use Rattle.spin_core.specs.Guard.{guard_key, guard_view}
 use Rattle.spin_core.specs.Own.{Numbered, what}
 use Rattle.spin_core.specs.declared.guard.Guard.{Guard}
 use Rattle.spin_core.specs.declared.tie.Opening.{Opening}
 use Rattle.spin_core.specs.declared.trace.Watch.{Watch}
 use Rattle.spin_core.specs.Passes.{Course, Waits, Ends}
+use Rattle.spin_core.specs.Traced.{Traces}
 use Rattle.spin_core.specs.Spots as spots
 use Rattle.spin_core.specs.Spots.{spot, Since}
 use Rattle.spin_model.specs.declared.answer.Answer.{Answer}
 use Rattle.spin_model.specs.declared.answer.Answer.TheVariants.{Granted}
 use Rattle.spin_step_more.specs.declared.fair_calls.FairCall.{FairCall}
 use Rattle.spin_step_more.specs.declared.fair_calls.FairCall.TheVariants.{Lock}
-use Rattle.spin_fair.specs.Fair.{Done, model_at, Comes, in_call, call_of, registered, registered_so, finds_no_room, no_room_so, finds_flag_set, flag_set_so}
+use Rattle.spin_fair.specs.Fair.{Done, IsFair, fair_ways, Told, Turn, says_of, AreSteps, use_of_view, model_at, Comes, in_call, call_of, registered, registered_so, finds_no_room, no_room_so, finds_flag_set, flag_set_so}
 use Rattle.spin_fair.specs.declared.fair.account.Account.{Account}
 use Rattle.spin_fair.specs.declared.fair.account.Awaiting.{Awaiting}
 use Rattle.spin_fair.specs.Guards.{IsGranted}
@@ -32,6 +34,16 @@ module _ {T : Type 0} where
   -- since it was so, it has made exactly the moves of this course
   abbrev pub Goes : Course T FairCall (Answer T) → Account T → Account T → Type 0
   Goes course was now = Since model_at course (here was) (here now)
+
+  -- its party may make this step, which applies f to the word
+  abbrev pub May : (ℕ → ℕ) → Turn T → Account T → Type 0
+  May f turn it =
+      let p = it.permit in (use_of use_of_view (what p.view) ≡ off) × Traces (IsFair p.key) (fair_ways p.key) p.view p.value f
+      (Told p.key.value (says_of turn) p.view)
+
+  -- it has made this step, and found n
+  abbrev pub Turned : Turn T → ℕ → Account T → Account T → Type 0
+  Turned turn n was now = (view_of now ≡ Some (turn.to n)) × Goes (AreSteps turn.goes_on turn.call (turn.ends n)) was now
 
   -- moves of a call, from its beginning or from where it was; then it waits, or has this answer
   abbrev pub GoesOn : FairCall → Option (Answer T) → Account T → Account T → Type 0

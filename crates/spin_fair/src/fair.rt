@@ -5,7 +5,7 @@ ghost use Rattle.spin_fair.specs.Fair.{use_of_party};
 ghost use Rattle.spin_fair.specs.declared.fair.rule.View.TheVariants.{Holding};
 
 use self::account::Account;
-use self::waiting::{register, try_with};
+use self::waiting::try_with;
 use spin_core::cell::Cell;
 use spin_core::guard::{self, Guard};
 use spin_core::lock::{Lock, with_guard};
@@ -195,13 +195,8 @@ impl<T, R> FairMutex<T, R> {
     /// ```
     #[must_use = "a place that is dropped at once no longer starves: bind the answer"]
     pub fn starve<W: Wait>(&self, rt: &W) -> Option<Starvation<'_, T, R>> {
-        match register(rt, self.account()) {
-            Ok(account) => Some(Starvation::new(account)),
-            Err(account) => {
-                drop(Pass::<T, R>::new(account));
-                None
-            }
-        }
+        let pass = self.pass().starve(rt).ok()?;
+        Some(Starvation { pass })
     }
 
     /// Returns `true` if the lock was held at some moment during this call.
@@ -230,6 +225,7 @@ impl<T, R> FairMutex<T, R> {
     ///
     /// # Contract
     /// No clause. The call returns.
+    #[tactic(auto, unfolding(crate::specs::Fair::IsFair, crate::specs::Fair::known_of))]
     pub fn get_mut(&mut self) -> &mut T {
         self.cell.get_mut()
     }

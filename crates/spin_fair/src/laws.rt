@@ -27,8 +27,8 @@ pub fn every_run_of_a_fair_mutex_is_a_schedule<T>()
 /// So no newcomer acquires the lock while a starver is registered: its move would be the later one.
 ///
 /// # Contract
-/// The rule has to hold (`IsFair`). The last move of a newcomer that holds is the one by which it acquired the lock.
-/// Right after that move the trace was at most as long as right after the last move of any registered starver.
+/// The rule has to hold (`IsFair`). The last move of a newcomer that holds is the one by which it acquired the lock. Its
+/// mark, the length of the trace right after that move, is at most the mark of each registered starver.
 pub fn no_newcomer_holds_that_came_behind_a_starver<T>()
     ensures { (opening : Opening T) (word : ℕ) (trace : Trace (Done T) (Unit {0})) (parties : List (Numbered View)) → IsFair opening word trace parties → (i j : ℕ) (v w : Numbered View) → slice_get parties i ≡ Some v → slice_get parties j ≡ Some w → v.0 ≡ Holding → 0 < starver w.0 → v.2 ≤ w.2 }
 {}

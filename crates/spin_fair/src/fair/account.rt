@@ -1,5 +1,6 @@
 //! A party that knows the lock's history, between two of its steps. Begin with [`Account`].
-ghost use Rattle.std.specs.Prelude.{◌≡◌, Some, true, length};
+ghost use Rattle.std.specs.Prelude.{◌≡◌, ◌+◌, ◌-◌, ◌%◌, ◌^◌, ◌==◌, Some, true, bit_or, length};
+ghost use prog.Atomic.{either};
 ghost use Rattle.spin_core.specs.Cell.{writes, use_of};
 ghost use Rattle.spin_core.specs.Guard.{guard_key, guard_view};
 ghost use Rattle.spin_core.specs.Own.{what};
@@ -10,7 +11,7 @@ ghost use Rattle.spin_fair.specs.Guards.{IsGranted};
 ghost use Rattle.spin_fair.specs.declared.fair.rule.View.TheVariants.{Looking};
 
 use super::FairMutexGuard;
-use super::rule::{Entry, FairRule, Party};
+use super::rule::{Entry, FairRule, Makes, Party, Turns};
 use spin_core::cell::Permit;
 use spin_core::guard::Guard;
 use spin_core::trace::Watch;
@@ -42,6 +43,45 @@ pub(super) struct Awaiting<'a, T> {
 pub(crate) type Got<'a, T, R> = (FairMutexGuard<'a, T, R>, Watch<Entry<T>>);
 
 impl<'a, T> Account<'a, T> {
+    ghost use Rattle.spin_fair.specs.Waits.{view_of, May, Turned};
+
+    // Makes a step of this kind by a load. Like the operations below it returns the word found.
+    pub(super) fn load<K: Turns>(self) -> (u64, Account<'a, T>)
+        requires { May (λ n. n) (K.turn T (view_of self) 0) self }
+        ensures { Turned (K.turn T (view_of self.entry) 0) result.0 self.entry result.1 }
+    {
+        let Self { permit, seen } = self;
+        let (found, permit, seen) = permit.load::<Makes<K>>(seen);
+        (found, Account { permit, seen })
+    }
+
+    pub(super) fn exchange<K: Turns>(self, old: u64, new: u64) -> (u64, Account<'a, T>)
+        requires { May (λ n. either (n == old) new n) (K.turn T (view_of self) old) self }
+        ensures { Turned (K.turn T (view_of self.entry) old) result.0 self.entry result.1 }
+    {
+        let Self { permit, seen } = self;
+        let (found, permit, seen) = permit.exchange::<Makes<K>>(old, new, seen);
+        (found, Account { permit, seen })
+    }
+
+    pub(super) fn set_bits<K: Turns>(self, bits: u64) -> (u64, Account<'a, T>)
+        requires { May (λ n. bit_or n bits) (K.turn T (view_of self) bits) self }
+        ensures { Turned (K.turn T (view_of self.entry) bits) result.0 self.entry result.1 }
+    {
+        let Self { permit, seen } = self;
+        let (found, permit, seen) = permit.set_bits::<Makes<K>>(bits, seen);
+        (found, Account { permit, seen })
+    }
+
+    pub(super) fn subtract<K: Turns>(self, by: u64) -> (u64, Account<'a, T>)
+        requires { May (λ n. (n + (2 ^ 64 - by)) % 2 ^ 64) (K.turn T (view_of self) by) self }
+        ensures { Turned (K.turn T (view_of self.entry) by) result.0 self.entry result.1 }
+    {
+        let Self { permit, seen } = self;
+        let (found, permit, seen) = permit.subtract::<Makes<K>>(by, seen);
+        (found, Account { permit, seen })
+    }
+
     pub(super) fn into_guard<R>(self) -> Got<'a, T, R>
         requires { use_of use_of_party self.permit.view ≡ writes }
         ensures granted { IsGranted result.0 result.1 }

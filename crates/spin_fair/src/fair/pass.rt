@@ -49,7 +49,10 @@ impl<T, R> FairMutex<T, R> {
         ensures new { (result.account.seen.name ≡ self.now.cell.name) × (result.account.seen.entries ≡ []) × (result.account.permit.view ≡ None) }
         ensures lock { result.account.permit.key ≡ self.now.cell }
     {
-        Pass::new(self.account())
+        Pass {
+            account: self.account(),
+            strategy: PhantomData,
+        }
     }
 
     /// Releases the lock, and returns the pass by which it was acquired. Starvers stay registered.
@@ -60,6 +63,7 @@ impl<T, R> FairMutex<T, R> {
     /// `seen` has to be what the call returned with the guard (`Holds`). The pass makes the call, as its next one,
     /// behind a write (`made`): it writes the guard's value into the history (`wrote`). So that value is the one
     /// written last (`left`).
+    #[tactic(auto, unfolding(crate::specs::Fair::Told, crate::specs::Fair::known_of))]
     pub fn unlock<'a>(guard: FairMutexGuard<'a, T, R>, seen: Watch<Entry<T>>) -> Pass<'a, T, R>
         requires { Holds guard seen }
         ensures made { Left (guard_key guard.entry).value (λ x. Unit {0}) (Some (guard_view guard.entry)) seen.entries result.account.permit.view result.account.seen.entries }
@@ -99,7 +103,9 @@ impl<'a, T, R: RelaxStrategy> Pass<'a, T, R> {
             Err(waiting) => waiting.wait(rt),
         }
     }
+}
 
+impl<'a, T, R> Pass<'a, T, R> {
     /// Registers the caller as a starver, as [`FairMutex::starve`] does. Returns the pass if too many starve.
     ///
     /// # Contract
@@ -113,18 +119,6 @@ impl<'a, T, R: RelaxStrategy> Pass<'a, T, R> {
         match register(rt, account) {
             Ok(account) => Ok(StarvingPass { account, strategy }),
             Err(account) => Err(Pass { account, strategy }),
-        }
-    }
-}
-
-impl<'a, T, R> Pass<'a, T, R> {
-    pub(super) fn new(account: Account<'a, T>) -> Self
-        requires { IsOut Idle (what account.permit.view) }
-        ensures { result.account ≡ account.entry }
-    {
-        Pass {
-            account,
-            strategy: PhantomData,
         }
     }
 
@@ -145,9 +139,7 @@ impl<'a, T, R> Pass<'a, T, R> {
         let Self { account, strategy } = self;
         let free = 0;
         let taken = fair::lock(free).unwrap();
-        let Account { permit, seen } = account;
-        let (found, permit, seen) = permit.exchange::<Attempt>(free as u64, taken as u64, seen);
-        let account = Account { permit, seen };
+        let (found, account) = account.exchange::<Attempt>(free as u64, taken as u64);
         if found == free as u64 {
             Ok(account.into_guard())
         } else {
@@ -187,13 +179,7 @@ impl<'a, T, R> Pass<'a, T, R> {
         let Self { account, strategy } = self;
         let free = 0;
         let taken = fair::lock(free).unwrap();
-        let Account { permit, seen } = account;
-        let (found, permit, seen) = permit.exchange::<AttemptToKnow>(
-            free as u64,
-            taken as u64,
-            seen,
-        );
-        let account = Account { permit, seen };
+        let (found, account) = account.exchange::<AttemptToKnow>(free as u64, taken as u64);
         if found == free as u64 {
             Ok(account.into_guard())
         } else {
@@ -210,9 +196,7 @@ impl<'a, T, R> Pass<'a, T, R> {
         ensures same { (result.1.account.seen.name ≡ self.entry.account.seen.name) × (result.1.account.permit.key ≡ self.entry.account.permit.key) }
     {
         let Self { account, strategy } = self;
-        let Account { permit, seen } = account;
-        let (found, permit, seen) = permit.load::<Load>(seen);
-        let account = Account { permit, seen };
+        let (found, account) = account.load::<Load>();
         (fair::is_locked(found as usize), Pass { account, strategy })
     }
 

@@ -1,16 +1,18 @@
 //! What a party is to a `FairMutex`, and what the word of the lock says of its parties. Begin at [`FairRule`].
-ghost use Rattle.std.specs.Prelude.{refl};
+ghost use Rattle.std.specs.Prelude.{ℕ, Option, refl};
 ghost use Rattle.spin_core.specs.Cell.{use_of};
 ghost use Rattle.spin_core.specs.Own.{what};
 ghost use Rattle.spin_core.specs.Values.{untold};
 ghost use Rattle.spin_step_more.specs.declared.fair_calls.FairCall.TheVariants.{TryLock, TryLockStarver, StarverTryLockFair, StarverTryLock, StarverLock};
-ghost use Rattle.spin_fair.specs.Fair.{IsFair, Told, fair_ways, use_of_party, call_of, looks_by, tries_by, tried_by, looked_by, registers_by, alone_by, sets_by, awaits_by, served_by, gives_up_by, frees_by};
+ghost use Rattle.spin_fair.specs.declared.fair.rule.View.{View};
+ghost use Rattle.spin_fair.specs.Fair.{IsFair, Told, Turn, says_of, fair_ways, use_of_party, call_of, looks_by, tries_by, tried_by, looked_by, registers_by, alone_by, sets_by, awaits_by, served_by, gives_up_by, frees_by};
 
 use spin_core::cell::{Play, Rule, WritePermit};
 use spin_core::guard::{self, Uses};
 use spin_core::tie::{self, Opening};
 use spin_core::trace::{Trace, Watch};
 use spin_step_more::{FairCall, fair};
+use std::marker::PhantomData;
 
 /// What a party (one call, and the guard or the registration that it returns) is to the lock.
 #[derive(Clone, Copy)]
@@ -72,95 +74,110 @@ pub(super) const LOCKED: u64 = fair::HOLDER as u64;
 /// The weight of a starver in the word.
 pub(super) const STARVER: u64 = fair::STARVER as u64;
 
+/// A kind of step of a party, other than the release.
+pub(super) trait Turns {
+    // By the party's view, and the word that its exchange expects.
+    ghost turn: { (T : Type 0) → Option View → ℕ → Turn T };
+}
+
+/// The operation that makes such a step.
+pub(super) struct Makes<K> {
+    kind: PhantomData<K>,
+}
+
+impl<K: Turns, T> Play<Opening<T>, Party, Entry<T>> for Makes<K> {
+    ghost told = { λ key old new before. Told key.value (says_of (K.turn T (what before) old)) before };
+}
+
 /// The load of `is_locked`.
 pub(super) struct Load;
 
-impl<T> Play<Opening<T>, Party, Entry<T>> for Load {
-    ghost told = { λ key old new before. Told key.value looks_by before };
+impl Turns for Load {
+    ghost turn = { λ T view old. looks_by };
 }
 
 /// The compare-exchange of `try_lock`.
 pub(super) struct Attempt;
 
-impl<T> Play<Opening<T>, Party, Entry<T>> for Attempt {
-    ghost told = { λ key old new before. Told key.value (tries_by TryLock) before };
+impl Turns for Attempt {
+    ghost turn = { λ T view old. tries_by TryLock };
 }
 
 /// The compare-exchange of `try_lock_starver`.
 pub(super) struct AttemptToKnow;
 
-impl<T> Play<Opening<T>, Party, Entry<T>> for AttemptToKnow {
-    ghost told = { λ key old new before. Told key.value (tries_by TryLockStarver) before };
+impl Turns for AttemptToKnow {
+    ghost turn = { λ T view old. tries_by TryLockStarver };
 }
 
 /// The compare-exchange of `lock`, after this many looks that found the lock held.
 pub(super) struct Tries;
 
-impl<T> Play<Opening<T>, Party, Entry<T>> for Tries {
-    ghost told = { λ key old new before. Told key.value (tried_by (what before)) before };
+impl Turns for Tries {
+    ghost turn = { λ T view old. tried_by view };
 }
 
 /// The look of `lock`.
 pub(super) struct Looks;
 
-impl<T> Play<Opening<T>, Party, Entry<T>> for Looks {
-    ghost told = { λ key old new before. Told key.value (looked_by (what before)) before };
+impl Turns for Looks {
+    ghost turn = { λ T view old. looked_by view };
 }
 
 /// A compare-exchange: if it finds the word expected, the party registers as a starver.
 pub(super) struct Register;
 
-impl<T> Play<Opening<T>, Party, Entry<T>> for Register {
-    ghost told = { λ key old new before. Told key.value (registers_by (what before) old) before };
+impl Turns for Register {
+    ghost turn = { λ T view old. registers_by view old };
 }
 
 /// The compare-exchange of `try_lock_fair`: a starver holds, and stops starving, if it was the only one.
 pub(super) struct AttemptAlone;
 
-impl<T> Play<Opening<T>, Party, Entry<T>> for AttemptAlone {
-    ghost told = { λ key old new before. Told key.value (alone_by StarverTryLockFair) before };
+impl Turns for AttemptAlone {
+    ghost turn = { λ T view old. alone_by StarverTryLockFair };
 }
 
 /// The same compare-exchange, first in `try_lock`.
 pub(super) struct TryAlone;
 
-impl<T> Play<Opening<T>, Party, Entry<T>> for TryAlone {
-    ghost told = { λ key old new before. Told key.value (alone_by StarverTryLock) before };
+impl Turns for TryAlone {
+    ghost turn = { λ T view old. alone_by StarverTryLock };
 }
 
 /// The same compare-exchange, first in the `lock` of a starver.
 pub(super) struct LockAlone;
 
-impl<T> Play<Opening<T>, Party, Entry<T>> for LockAlone {
-    ghost told = { λ key old new before. Told key.value (alone_by StarverLock) before };
+impl Turns for LockAlone {
+    ghost turn = { λ T view old. alone_by StarverLock };
 }
 
 /// The bit operation: if it finds the flag clear, the starver holds the lock.
 pub(super) struct SetFlag;
 
-impl<T> Play<Opening<T>, Party, Entry<T>> for SetFlag {
-    ghost told = { λ key old new before. Told key.value (sets_by (call_of (what before))) before };
+impl Turns for SetFlag {
+    ghost turn = { λ T view old. sets_by (call_of view) };
 }
 
 /// A load by which a starver looks whether the flag is clear.
 pub(super) struct Await;
 
-impl<T> Play<Opening<T>, Party, Entry<T>> for Await {
-    ghost told = { λ key old new before. Told key.value (awaits_by (what before)) before };
+impl Turns for Await {
+    ghost turn = { λ T view old. awaits_by view };
 }
 
 /// A subtraction: a starver that holds stops starving.
 pub(super) struct Unregister;
 
-impl<T> Play<Opening<T>, Party, Entry<T>> for Unregister {
-    ghost told = { λ key old new before. Told key.value (served_by (what before)) before };
+impl Turns for Unregister {
+    ghost turn = { λ T view old. served_by view };
 }
 
 /// A subtraction: a starver ends its registration.
 pub(super) struct GivesUp;
 
-impl<T> Play<Opening<T>, Party, Entry<T>> for GivesUp {
-    ghost told = { λ key old new before. Told key.value gives_up_by before };
+impl Turns for GivesUp {
+    ghost turn = { λ T view old. gives_up_by };
 }
 
 /// The subtraction that releases the lock.

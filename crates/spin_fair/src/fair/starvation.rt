@@ -1,16 +1,12 @@
 //! A thread that starves for a `FairMutex`: it goes before newcomers until it has the lock or gives up. Begin at
 //! [`Starvation::lock`].
-ghost use Rattle.std.specs.Prelude.{◌≡◌, Some, IfOk};
+ghost use Rattle.std.specs.Prelude.{IfOk};
 ghost use Rattle.spin_core.specs.Guard.{IsHolder};
-ghost use Rattle.spin_core.specs.Own.{what};
 ghost use Rattle.spin_fair.specs.Fair.{use_of_party};
-ghost use Rattle.spin_fair.specs.declared.fair.rule.View.TheVariants.{Starving};
 
 use super::FairMutexGuard;
-use super::account::Account;
 use super::starving::{StarvingPass, wait_as_starver};
 use spin_core::relax::{RelaxStrategy, Spin};
-use std::marker::PhantomData;
 use std::sync::Wait;
 
 /// A registered starver of a `FairMutex`. Dropping it ends the registration.
@@ -22,7 +18,7 @@ use std::sync::Wait;
 /// Its party is registered (its view is `Starving`).
 #[must_use = "a place that is dropped at once no longer starves: call `lock` on it"]
 pub struct Starvation<'a, T, R = Spin> {
-    pass: StarvingPass<'a, T, R>,
+    pub(super) pass: StarvingPass<'a, T, R>,
 }
 
 impl<'a, T, R> Starvation<'a, T, R> {
@@ -48,7 +44,8 @@ impl<'a, T, R> Starvation<'a, T, R> {
     pub fn try_lock_fair(self) -> Result<FairMutexGuard<'a, T, R>, Starvation<'a, T, R>>
         ensures { IfOk result (IsHolder use_of_party) }
     {
-        match self.into_pass().try_lock_fair() {
+        let Self { pass } = self;
+        match pass.try_lock_fair() {
             Ok((guard, _)) => Ok(guard),
             Err(pass) => Err(Starvation { pass }),
         }
@@ -75,26 +72,11 @@ impl<'a, T, R> Starvation<'a, T, R> {
     pub fn try_lock(self) -> Result<FairMutexGuard<'a, T, R>, Starvation<'a, T, R>>
         ensures { IfOk result (IsHolder use_of_party) }
     {
-        match self.into_pass().try_lock() {
+        let Self { pass } = self;
+        match pass.try_lock() {
             Ok((guard, _)) => Ok(guard),
             Err(pass) => Err(Starvation { pass }),
         }
-    }
-
-    pub(super) fn new(account: Account<'a, T>) -> Self
-        requires { what account.permit.view ≡ Some Starving }
-    {
-        Starvation {
-            pass: StarvingPass {
-                account,
-                strategy: PhantomData,
-            },
-        }
-    }
-
-    fn into_pass(self) -> StarvingPass<'a, T, R> {
-        let Self { pass } = self;
-        pass
     }
 }
 
@@ -110,8 +92,9 @@ impl<'a, T, R: RelaxStrategy> Starvation<'a, T, R> {
     pub fn lock<W: Wait>(self, rt: &W) -> FairMutexGuard<'a, T, R>
         ensures { IsHolder use_of_party result }
     {
+        let Self { pass } = self;
         // Not by `StarvingPass::lock`: that would make the path for a lone starver two instructions longer.
-        let (guard, _) = match self.into_pass().begin_lock() {
+        let (guard, _) = match pass.begin_lock() {
             Ok(held) => held,
             Err(account) => wait_as_starver(rt, account),
         };
@@ -121,7 +104,8 @@ impl<'a, T, R: RelaxStrategy> Starvation<'a, T, R> {
 
 impl<T, R> Drop for Starvation<'_, T, R> {
     fn drop(self) {
-        drop(self.into_pass());
+        let Self { pass } = self;
+        drop(pass);
     }
 }
 

@@ -9,7 +9,7 @@ ghost use Rattle.spin_core.specs.Passes.{IsCall, Waits};
 ghost use Rattle.spin_core.specs.Values.{IsLast};
 ghost use Rattle.spin_model.specs.declared.answer.Answer.TheVariants.{Granted, Refused, Done};
 ghost use Rattle.spin_step_more.specs.declared.fair_calls.FairCall.TheVariants.{StarverTryLock, StarverTryLockFair, StarverLock, StarverDrop};
-ghost use Rattle.spin_fair.specs.Fair.{use_of_party, MaySet, MayAwait, HoldsStarving, Called, Comes};
+ghost use Rattle.spin_fair.specs.Fair.{use_of_party, MaySet, MayAwait, Called, Comes};
 ghost use Rattle.spin_fair.specs.Guards.{Holds};
 ghost use Rattle.spin_fair.specs.Waits.{view_of, Goes, Gets, IsServed, FindsFlagSet, Awaits};
 ghost use Rattle.spin_fair.specs.declared.fair.account.Account.{Account as TheAccount};
@@ -70,9 +70,7 @@ impl<'a, T, R> StarvingPass<'a, T, R> {
         ensures refused { IfErr result (λ pass. Called self.entry.account.permit.key.value StarverTryLockFair Refused self.entry.account.permit.view self.entry.account.seen.entries pass.account.permit.view pass.account.seen.entries × ((pass.account.seen.name ≡ self.entry.account.seen.name) × (pass.account.permit.key ≡ self.entry.account.permit.key))) }
     {
         let Self { account, strategy } = self;
-        let Account { permit, seen } = account;
-        let (found, permit, seen) = permit.exchange::<AttemptAlone>(STARVER, taken_alone(), seen);
-        let account = Account { permit, seen };
+        let (found, account) = account.exchange::<AttemptAlone>(STARVER, taken_alone());
         if found == STARVER {
             Ok(account.into_guard())
         } else {
@@ -84,7 +82,7 @@ impl<'a, T, R> StarvingPass<'a, T, R> {
     ///
     /// # Contract
     /// The call is one `StarverTryLock`, with the answer `Granted` and a guard (`granted`), or else `Refused` and the
-    /// pass, which is still a starver (`refused`). A first exchange that fails is no move: the call begins with it. The
+    /// pass, which is still a starver (`refused`). A first exchange that fails is no step: it only begins the call. The
     /// guard's value is the one written last in the history (`found`).
     pub fn try_lock(
         self,
@@ -96,11 +94,9 @@ impl<'a, T, R> StarvingPass<'a, T, R> {
         ensures refused { IfErr result (λ pass. Called self.entry.account.permit.key.value StarverTryLock Refused self.entry.account.permit.view self.entry.account.seen.entries pass.account.permit.view pass.account.seen.entries × ((pass.account.seen.name ≡ self.entry.account.seen.name) × (pass.account.permit.key ≡ self.entry.account.permit.key))) }
     {
         let Self { account, strategy } = self;
-        let Account { permit, seen } = account;
         // First it tries as the only starver, by one instruction. Setting a bit and reading the word compiles to a
         // loop.
-        let (found, permit, seen) = permit.exchange::<TryAlone>(STARVER, taken_alone(), seen);
-        let account = Account { permit, seen };
+        let (found, account) = account.exchange::<TryAlone>(STARVER, taken_alone());
         if found == STARVER {
             return Ok(account.into_guard());
         }
@@ -130,12 +126,8 @@ impl<'a, T, R> StarvingPass<'a, T, R> {
         ensures same { (result.account.seen.name ≡ self.entry.account.seen.name) × (result.account.permit.key ≡ self.entry.account.permit.key) }
     {
         let Self { account, strategy } = self;
-        let Account { permit, seen } = account;
-        let (_, permit, seen) = permit.subtract::<GivesUp>(STARVER, seen);
-        Pass {
-            account: Account { permit, seen },
-            strategy,
-        }
+        let (_, account) = account.subtract::<GivesUp>(STARVER);
+        Pass { account, strategy }
     }
 
     // Begins a `lock`. The only starver acquires the lock at once.
@@ -147,9 +139,7 @@ impl<'a, T, R> StarvingPass<'a, T, R> {
             account,
             strategy: _,
         } = self;
-        let Account { permit, seen } = account;
-        let (found, permit, seen) = permit.exchange::<LockAlone>(STARVER, taken_alone(), seen);
-        let account = Account { permit, seen };
+        let (found, account) = account.exchange::<LockAlone>(STARVER, taken_alone());
         if found == STARVER {
             Ok(account.into_guard())
         } else {
@@ -201,9 +191,7 @@ impl<'a, T> Awaiting<'a, T> {
         ensures { Awaits self.entry.account result }
     {
         let Self { account } = self;
-        let Account { permit, seen } = account;
-        let (found, permit, seen) = permit.load::<Await>(seen);
-        let account = Account { permit, seen };
+        let (found, account) = account.load::<Await>();
         if fair::is_locked(found as usize) {
             Err(Awaiting { account })
         } else {
@@ -212,20 +200,19 @@ impl<'a, T> Awaiting<'a, T> {
     }
 }
 
-// Sets the flag. It does not try as the only starver first: while others starve that fails though the flag is clear.
+// Sets the flag if it is clear, and then stops starving. It does not try as the only starver first: while others starve
+// that fails though the flag is clear.
 fn set_flag<'a, T, R>(account: Account<'a, T>) -> Result<Got<'a, T, R>, Account<'a, T>>
     requires { MaySet (view_of account) }
     ensures served { IfOk result (IsServed account.entry) }
     ensures set { IfErr result (FindsFlagSet account.entry) }
 {
-    let Account { permit, seen } = account;
-    let (found, permit, seen) = permit.set_bits::<SetFlag>(LOCKED, seen);
-    let account = Account { permit, seen };
+    let (found, account) = account.set_bits::<SetFlag>(LOCKED);
     if fair::is_locked(found as usize) {
-        Err(account)
-    } else {
-        Ok(stop_starving(account))
+        return Err(account);
     }
+    let (_, account) = account.subtract::<Unregister>(STARVER);
+    Ok(account.into_guard())
 }
 
 // The same in a call that waits.
@@ -251,16 +238,6 @@ pub(super) fn wait_as_starver<'a, T, R: RelaxStrategy, W: Wait>(
         Ok(held) => held,
         Err(awaiting) => awaiting.wait(rt),
     }
-}
-
-// The holder ends its registration.
-fn stop_starving<'a, T, R>(account: Account<'a, T>) -> Got<'a, T, R>
-    requires { HoldsStarving (view_of account) }
-    ensures { IsServed account.entry result }
-{
-    let Account { permit, seen } = account;
-    let (_, permit, seen) = permit.subtract::<Unregister>(STARVER, seen);
-    Account { permit, seen }.into_guard()
 }
 
 // Returns the word after the only starver has acquired the lock and stopped starving. It does both at once, so no

@@ -43,9 +43,7 @@ impl<'a, T> Waiting<'a, T> {
         ensures { LocksOrWaits true self.entry.account result }
     {
         let Self { spins, account } = self;
-        let Account { permit, seen } = account;
-        let (found, permit, seen) = permit.load::<Looks>(seen);
-        let account = Account { permit, seen };
+        let (found, account) = account.load::<Looks>();
         if !fair::is_locked(found as usize) {
             return try_with(account, spins);
         }
@@ -75,9 +73,7 @@ pub(crate) fn try_with<'a, T, R>(
 {
     let free = 0;
     let taken = fair::lock(free).unwrap();
-    let Account { permit, seen } = account;
-    let (found, permit, seen) = permit.exchange::<Tries>(free as u64, taken as u64, seen);
-    let account = Account { permit, seen };
+    let (found, account) = account.exchange::<Tries>(free as u64, taken as u64);
     if found == free as u64 {
         Ok(account.into_guard())
     } else {
@@ -96,24 +92,17 @@ pub(super) fn register<'a, T, W: Wait>(
 {
     // Beginning with 0 saves a load if the word is 0. If it is not, the failed exchange serves as the load.
     let mut word = 0;
-    let Account {
-        mut permit,
-        mut seen,
-    } = account;
+    let mut now = account;
     for _ in rt.forever() {
         let Some(more) = fair::starve(word, fair::MAX_STARVERS) else {
-            return Err(Account { permit, seen });
+            return Err(now);
         };
-        let (found, next, known) = permit.exchange::<Register>(word as u64, more as u64, seen);
+        let (found, next) = now.exchange::<Register>(word as u64, more as u64);
         if found == word as u64 {
-            return Ok(Account {
-                permit: next,
-                seen: known,
-            });
+            return Ok(next);
         }
         word = found as usize;
-        permit = next;
-        seen = known;
+        now = next;
     }
     unreachable!()
 }

@@ -1,4 +1,4 @@
-use Rattle.std.proofs.Common.{◌≡◌, true, Some, ap, ◌∙◌, subst}
+use Rattle.std.proofs.Common.{◌≡◌, true, Some, ap, ◌∙◌, sym, subst}
 use mathlib.Core.Logic.{inr}
 use Rattle.spin_core.specs.Cell.{use_of}
 use Rattle.spin_core.specs.Own.{what}
@@ -10,10 +10,10 @@ use Rattle.spin_core.proofs.Mutexes.{released}
 use Rattle.spin_core.proofs.Spots.{wrote_any}
 use Rattle.spin_model.specs.declared.answer.Answer.TheVariants.{Done}
 use Rattle.spin_step_more.specs.declared.fair_calls.FairCall.TheVariants.{Release}
-use Rattle.spin_fair.specs.Fair.{model_at, use_of_view}
+use Rattle.spin_fair.specs.Fair.{model_at, use_of_view, Told, known_of, frees_by}
 use Rattle.spin_fair.specs.Waits.{Spot}
 use Rattle.spin_fair.proofs.Steps.{mutex, frees}
-use Rattle.spin_fair.proofs.Takes.{may_know}
+use Rattle.spin_fair.proofs.Takes.{may_know, same_name}
 use Rattle.spin_fair.proofs.fair.FairMutex.unlock.Goals as goal
 
 pub subtract-permit-requires : goal.subtract-permit-requires
@@ -27,6 +27,7 @@ abbrev Releases : {T : Type 0} → T → Spot T → Spot T → Type 0
 Releases {T} = spots.Releases model_at (λ (opening : Opening T). opening) Release Done
 
 pub returns : goal.returns
+unfolding Told known_of
 returns g c =
     let it = c.into_permit-permit in let w = c.into_writer.result in let s = c.subtract-permit in let seen = c.args.seen in let left = c.args.guard.writer in
     let named = ap (λ k. k.name) it.ensures.key ∙ ap (λ p. p.key.name) c.into_writer.ensures ∙ c.requires.0 in
@@ -43,3 +44,10 @@ returns g c =
       left = done.1;
       same = (done.0.1, done.0.2);
     }
+
+pub invariant_of-result-clause-named : goal.invariant_of-result-clause-named
+invariant_of-result-clause-named g c =
+    let it = c.into_permit-permit in let s = c.subtract-permit in let p = it.result in let seen = c.args.seen in
+    let named = ap (λ k. k.name) it.ensures.key ∙ ap (λ p. p.key.name) c.into_writer.ensures ∙ c.requires.0 in
+    let same = same_name seen s.result.2 _ (Told p.key.value frees_by p.view) s.result.0 s.result.1.view (may_know p.key seen named) s.ensures.moved in
+    ap (λ k. k.name) s.ensures.key ∙ named ∙ sym same
