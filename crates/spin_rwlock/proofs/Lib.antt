@@ -1,4 +1,3 @@
 pub mod Steps
 pub mod Passes
-pub mod Waits
 pub mod Standing

@@ -10,10 +10,10 @@ use Rattle.spin_step.specs.Steps.{Decides}
 use Rattle.spin_step_more.specs.Readers.{reader_limit, OneOfEach, readers_in, writers_in}
 use Rattle.spin_step_more.specs.declared.rw_calls.RwCall.{RwCall}
 use Rattle.spin_step_more.specs.declared.rw_calls.RwCall.TheVariants as call
-use Rattle.spin_model.specs.declared.answer.Answer.TheVariants.{Granted, Count, Done}
+use Rattle.spin_model.specs.declared.answer.Answer.TheVariants.{Granted, Refused, Count, Done}
 use Rattle.spin_model.specs.declared.place.Seat.{Seat}
 use Rattle.spin_model.specs.declared.place.Seat.TheVariants as seat
-use Rattle.spin_model.specs.Schedules.{after}
+use Rattle.spin_model.specs.Schedules.{State, after}
 use Rattle.spin_step_more.specs.declared.rw_calls.RwPoint.{RwPoint}
 use Rattle.spin_model.specs.declared.schedule.Move.TheVariants.{Begin, Step, Write}
 use Rattle.spin_model.specs.declared.schedule.Outcome.TheVariants.{Begun, Answered, GoingOn, Written}
@@ -23,7 +23,7 @@ use Rattle.spin_core.specs.Run.{AreMoves, on_first, first, Goes, is_of_call, is_
 use Rattle.spin_core.specs.Passes.{step_by}
 use Rattle.spin_core.specs.Traced.{Traces}
 use Rattle.spin_core.specs.Values.{left, Leaves, last}
-use Rattle.spin_core.specs.Views.{Knows, idle, holds, entries_of, no_word}
+use Rattle.spin_core.specs.Views.{Knows, idle, holds, entries_of, use_of_part, no_word}
 use Rattle.spin_core.specs.declared.tie.Opening.{Opening}
 use Rattle.spin_core.specs.declared.trace.Trace.{Trace}
 use Rattle.spin_step.specs.Orders.{IsInOrder}
@@ -40,7 +40,7 @@ use Rattle.spin_core.proofs.Views.{part_before, turn-own}
 use Rattle.spin_rwlock.specs.declared.rwlock.rule.View.{View}
 use Rattle.spin_rwlock.specs.declared.rwlock.rule.View.TheVariants.{Idle, Reading, Upgradable, Asking, Writing, WritingAsked, Coming, WaitingToWrite}
 use Rattle.spin_rwlock.specs.Rw as rws
-use Rattle.spin_rwlock.specs.Rw.{part, Word, IsRw, rw_ways, IsRwWord, Told, Says, OneMove, Ending, use_of_view, use_of_party, seat_of, model, words_of, in_call, IsOut, grants, missed, call_of, asks, weight_of, downgrade_to, came, Comes, MayCome, MayWrite, IsGrant, IsArrival, IsPeek, ends_by, leaves_with, leaves_by, counts_by, writes_by, asks_by, upgrades_by, looks_by, comes_by, peeks_by, either_at, given, granted_or_on}
+use Rattle.spin_rwlock.specs.Rw.{part, Word, IsRw, rw_ways, IsRwWord, Told, Says, OneMove, Ending, use_of_view, use_of_party, seat_of, model, words_of, in_call, IsOut, grants, still, missed, call_of, asks, weight_of, downgrade_to, came, Comes, MayCome, MayWrite, IsGrant, IsArrival, IsPeek, ends_by, leaves_with, leaves_by, counts_by, tries_by, asks_by, looks_by, comes_by, peeks_by, either_at}
 
 pub kind : (v : View) → OfReaders part v
 kind Reading = (λ p. refl, λ p. refl)
@@ -65,7 +65,7 @@ rw-lock = record {
   names_nobody = (rw_word-up, no_word-up);
 }
 
--- What the rule says of the word and of the party when the party steps
+-- The word and the holders
 
 -- no sum wraps below the cap
 pub bounded : (hs : List Holder) → length hs ≤ reader_limit → word_of hs < 2 ^ 63
@@ -74,7 +74,7 @@ bounded hs within = omega (arith, by_kinds weight hs, all_kinds hs, within)
 pub fits_cap : (s : Plain) → s.cap ≡ reader_limit → IsInOrder s → length s.holders ≤ reader_limit
 fits_cap s room order = omega (arith, order.holders_fit, room)
 
--- The party gets a view by the number found, and this holds of the number
+-- the number found satisfies P, and the party gets this view by it
 abbrev To : (ℕ → Type 0) → (ℕ → View) → ℕ → View → Type 0
 To P to n v = P n × (v ≡ to n)
 
@@ -82,7 +82,7 @@ To P to n v = P n × (v ≡ to n)
 fits_in : (n k : ℕ) → n < 2 ^ 63 → k < 2 ^ 63 → (n + k) % 2 ^ 64 ≡ n + k
 fits_in n k small less = omega (arith, small, less)
 
--- The plain step of each
+-- The plain step that each step makes
 
 seat_idle : (s : Seat RwCall RwPoint) → rws.is_idle s ≡ true → s ≡ seat.Idle
 seat_idle seat.Idle is = refl
@@ -121,15 +121,15 @@ opens_free Upgradable cm true none = absurd cc
 opens_free Upgradable cm false none = absurd cc
 opens_free _ cm waits none = absurd cm
 
--- a reader of this view's kind acquires the lock
+-- the exchange of these words admits a reader of this view
 abbrev Admits : View → ℕ → ℕ → Type 0
 Admits won old new = (s : Plain) (p : ℕ) → OneOfEach s → s.cap ≡ reader_limit → rw_word s ≡ old → Decides s (gets p (asks won)) rw_word (Some new)
 
-may_come : (c : RwCall) (n : ℕ) (view : Option View) → MayCome c n view → part_before part view ≡ idle
+pub may_come : (c : RwCall) (n : ℕ) (view : Option View) → MayCome c n view → part_before part view ≡ idle
 may_come c n view (inl (out, free)) = out_holds_none view out
 may_come c n view (inr is) = rw is refl
 
-may_write : (view : Option View) → MayWrite view → part_before part view ≡ idle
+pub may_write : (view : Option View) → MayWrite view → part_before part view ≡ idle
 may_write view (inl out) = out_holds_none view out
 may_write view (inr is) = rw is refl
 
@@ -165,13 +165,13 @@ not_in_call (Some v) out = ap rws.is_calling (seat_idle (seat_of v) out)
 abbrev swaps : ℕ → ℕ → ℕ → ℕ
 swaps old new n = either (n == old) new n
 
--- a party in a call under way
-pub in_its_call : (won : View) (waits : Bool) → Comes won → (old new : ℕ) → grants (call_of won waits) old ≡ Some new → in_call (Some (Coming (call_of won waits) old)) ≡ true
-in_its_call Reading false cm old new grant = rw grant refl
-in_its_call Reading true cm old new grant = rw grant refl
-in_its_call Upgradable false cm old new grant = rw grant refl
-in_its_call Upgradable true cm old new grant = rw grant refl
-in_its_call _ waits cm old new grant = absurd cm
+-- while the word that it found admits it, a call continues
+pub lets_in : (won : View) (waits : Bool) → Comes won → (n next : ℕ) → grants (call_of won waits) n ≡ Some next → still (call_of won waits) n ≡ true
+lets_in Reading false cm n next grant = rw grant refl
+lets_in Reading true cm n next grant = rw grant refl
+lets_in Upgradable false cm n next grant = rw grant refl
+lets_in Upgradable true cm n next grant = rw grant refl
+lets_in _ waits cm n next grant = absurd cm
 
 sits_idle : (won : View) → Comes won → (n : ℕ) → grants (call_of won false) n ≡ None → seat_of (Coming (call_of won false) n) ≡ seat.Idle
 sits_idle Reading cm n none = rw none refl
@@ -181,68 +181,102 @@ sits_idle _ cm n none = absurd cm
 -- The moves of each step: a call of the model and its only step, or a step of a call under way
 
 module _ {T : Type 0} (v₀ : T) where
+  -- a call of one step, and its outcomes
+  abbrev once : RwCall → List (OneMove T)
+  once c = Begin c ∷ Step ∷ []
+
+  abbrev with : Ending T → List (Ending T)
+  with end = Begun ∷ end ∷ []
+
   abbrev Moves : Option View → (ℕ → ℕ) → (ℕ → View → Type 0) → Says T → Type 0
   Moves view f = AreMoves (model v₀) seat_of words_of view (on_first f) first
 
-  -- a party that is out sits as one that has not come yet
+  abbrev alone : ℕ → Option T → Seat RwCall RwPoint → State ℕ T RwCall RwPoint
+  alone w value sits = record { words = w; value = value; seats = sits ∷ [] }
+
+  -- a party that is out sits in the model as a new one
   module _ (f : ℕ → ℕ) (so : ℕ → View → Type 0) (says : Says T) where
     abbrev FromSeat : Seat RwCall RwPoint → Type 0
     FromSeat sits =
         (w : ℕ) (value : Option T) (u : View) → so w u
         → (own : List (OneMove T)) × (outs : List (Ending T)) × says own outs w u × (list_all is_of_call own ≡ true) × (list_all is_played outs ≡ true) × (w' : ℕ) × (now : Option T)
-        × (after (model v₀) (record { words = w; value = value; seats = sits ∷ [] }) (of_one (model v₀) seat_of words_of own) ≡ record { words = w'; value = now; seats = seat_of u ∷ [] }) × (outcomes (model v₀) (record { words = w; value = value; seats = sits ∷ [] }) (of_one (model v₀) seat_of words_of own) ≡ outs) × (words_of w' ≡ on_first f (words_of w))
+        × (after (model v₀) (alone w value sits) (of_one (model v₀) seat_of words_of own) ≡ alone w' now (seat_of u))
+        × (outcomes (model v₀) (alone w value sits) (of_one (model v₀) seat_of words_of own) ≡ outs) × (words_of w' ≡ on_first f (words_of w))
 
     as_new : (view : Option View) → IsOut view → Moves None f so says → Moves view f so says
     as_new None out moves = moves
     as_new (Some v) out moves = subst FromSeat (sym (seat_idle (seat_of v) out)) moves
 
   readers_moves : Moves None (λ n. n) (To IsRwWord (λ n. Idle)) (counts_by call.ReaderCount readers_in)
-  readers_moves w value v (word, is) = rw is (Begin call.ReaderCount ∷ Step ∷ [], Begun ∷ Answered (Count (readers_in w)) None ∷ [], (word, (refl, (refl, refl))), refl, refl, w, value, refl, refl, refl)
+  readers_moves w value v (word, is) =
+      rw is (once call.ReaderCount, with (Answered (Count (readers_in w)) None), (word, (refl, (refl, refl))), refl, refl, w, value, refl, refl, refl)
 
   writers_moves : Moves None (λ n. n) (To IsRwWord (λ n. Idle)) (counts_by call.WriterCount writers_in)
-  writers_moves w value v (word, is) = rw is (Begin call.WriterCount ∷ Step ∷ [], Begun ∷ Answered (Count (writers_in w)) None ∷ [], (word, (refl, (refl, refl))), refl, refl, w, value, refl, refl, refl)
+  writers_moves w value v (word, is) =
+      rw is (once call.WriterCount, with (Answered (Count (writers_in w)) None), (word, (refl, (refl, refl))), refl, refl, w, value, refl, refl, refl)
 
-  try_write_moves : Moves None (swaps 0 1) (λ n v. v ≡ either_at 0 Writing Idle n) (ends_by call.TryWrite (given 0) (either_at 0 Writing Idle))
-  try_write_moves w value v is = (Begin call.TryWrite ∷ Step ∷ [], Begun ∷ Answered (given 0 w) None ∷ [], (is, (refl, refl)), refl, refl, swaps 0 1 w, value, grind (arith, is), grind arith, refl)
+  -- an exchange by which the party may become the writer
+  abbrev Tries : Option View → Bool → RwCall → ℕ → Ending T → View → View → Type 0
+  Tries view goes_on c old end won lost = Moves view (swaps old 1) (λ n v. v ≡ either_at old won lost n) (tries_by goes_on c old end won lost)
 
-  write_moves : Moves None (swaps 0 1) (λ n v. v ≡ either_at 0 Writing WaitingToWrite n) (writes_by false 0)
-  write_moves w value v is = (Begin call.Write ∷ Step ∷ [], Begun ∷ granted_or_on 0 w ∷ [], (is, (refl, refl)), refl, grind arith, swaps 0 1 w, value, grind (arith, is), grind arith, refl)
+  abbrev refused : Ending T
+  refused = Answered Refused None
 
-  write_again : Moves (Some WaitingToWrite) (swaps 0 1) (λ n v. v ≡ either_at 0 Writing WaitingToWrite n) (writes_by true 0)
-  write_again w value v is = (Step ∷ [], granted_or_on 0 w ∷ [], (is, (refl, refl)), refl, grind arith, swaps 0 1 w, value, grind (arith, is), grind arith, refl)
+  abbrev tried : ℕ → Ending T → ℕ → Ending T
+  tried old = either_at old (Answered Granted None)
 
-  write_moves_of : (view : Option View) → MayWrite view → Moves view (swaps 0 1) (λ n v. v ≡ either_at 0 Writing WaitingToWrite n) (writes_by (in_call view) 0)
-  write_moves_of view (inl out) = rw (not_in_call view out) (as_new (swaps 0 1) (λ n v. v ≡ either_at 0 Writing WaitingToWrite n) (writes_by false 0) view out write_moves)
-  write_moves_of view (inr is) = rw is write_again
+  try_write_moves : Tries None false call.TryWrite 0 refused Writing Idle
+  try_write_moves w value v is =
+      (once call.TryWrite, with (tried 0 refused w), (is, (refl, refl)), refl, grind arith, swaps 0 1 w, value, grind (arith, is), grind arith, refl)
 
-  try_upgrade_moves : Moves (Some Upgradable) (swaps 2 1) (λ n v. v ≡ either_at 2 Writing Upgradable n) (ends_by call.TryUpgrade (given 2) (either_at 2 Writing Upgradable))
-  try_upgrade_moves w value v is = (Begin call.TryUpgrade ∷ Step ∷ [], Begun ∷ Answered (given 2 w) None ∷ [], (is, (refl, refl)), refl, refl, swaps 2 1 w, value, grind (arith, is), grind arith, refl)
+  write_first : Tries None false call.Write 0 GoingOn Writing WaitingToWrite
+  write_first w value v is =
+      (once call.Write, with (tried 0 GoingOn w), (is, (refl, refl)), refl, grind arith, swaps 0 1 w, value, grind (arith, is), grind arith, refl)
+
+  write_again : Tries (Some WaitingToWrite) true call.Write 0 GoingOn Writing WaitingToWrite
+  write_again w value v is =
+      (Step ∷ [], tried 0 GoingOn w ∷ [], (is, (refl, refl)), refl, grind arith, swaps 0 1 w, value, grind (arith, is), grind arith, refl)
+
+  write_moves : (view : Option View) → MayWrite view → Tries view (in_call view) call.Write 0 GoingOn Writing WaitingToWrite
+  write_moves view (inr is) = rw is write_again
+  write_moves view (inl out) =
+      let so : ℕ → View → Type 0 = λ n v. v ≡ either_at 0 Writing WaitingToWrite n in
+      rw (not_in_call view out) (as_new (swaps 0 1) so (tries_by false call.Write 0 GoingOn Writing WaitingToWrite) view out write_first)
+
+  try_upgrade_moves : Tries (Some Upgradable) false call.TryUpgrade 2 refused Writing Upgradable
+  try_upgrade_moves w value v is =
+      (once call.TryUpgrade, with (tried 2 refused w), (is, (refl, refl)), refl, grind arith, swaps 2 1 w, value, grind (arith, is), grind arith, refl)
+
+  upgrade_moves : Tries (Some Asking) true call.Upgrade 6 GoingOn WritingAsked Asking
+  upgrade_moves w value v is =
+      (Step ∷ [], tried 6 GoingOn w ∷ [], (is, (refl, refl)), refl, grind arith, swaps 6 1 w, value, grind (arith, is), grind arith, refl)
 
   ask_moves : Moves (Some Upgradable) (λ n. (n + 4) % 2 ^ 64) (To (Weighs 0) (λ n. Asking)) asks_by
-  ask_moves w value v (small, is) = rw is (Begin call.Upgrade ∷ Step ∷ [], Begun ∷ GoingOn ∷ [], (refl, (refl, refl)), refl, refl, w + 4, value, refl, refl, rw (fits_in w 4 small.1 (omega arith)) refl)
-
-  upgrade_moves : Moves (Some Asking) (swaps 6 1) (λ n v. v ≡ either_at 6 WritingAsked Asking n) (upgrades_by 6)
-  upgrade_moves w value v is = (Step ∷ [], granted_or_on 6 w ∷ [], (is, (refl, refl)), refl, grind arith, swaps 6 1 w, value, grind (arith, is), grind arith, refl)
+  ask_moves w value v (small, is) =
+      rw is (once call.Upgrade, with GoingOn, (refl, (refl, refl)), refl, refl, w + 4, value, refl, refl, rw (fits_in w 4 small.1 (omega arith)) refl)
 
   downgrade_moves : Moves (Some Upgradable) (λ n. (n + 6) % 2 ^ 64) (To (Weighs 0) (λ n. Reading)) (ends_by call.Downgrade (λ n. Done) (λ n. Reading))
-  downgrade_moves w value v (small, is) = rw is (Begin call.Downgrade ∷ Step ∷ [], Begun ∷ Answered Done None ∷ [], (refl, (refl, refl)), refl, refl, w + 6, value, refl, refl, rw (fits_in w 6 small.1 (omega arith)) refl)
+  downgrade_moves w value v (small, is) =
+      rw is (once call.Downgrade, with (Answered Done None), (refl, (refl, refl)), refl, refl, w + 6, value, refl, refl, rw (fits_in w 6 small.1 (omega arith)) refl)
 
-  -- a party that writes, whether it asked or not: it writes the value x first
+  -- a writer that ends, whether it asked before or not; it first writes the value x
   writer_moves : (x : T) (u : View) → use_of_view u ≡ writes → (f : ℕ → ℕ) (so : ℕ → View → Type 0) (c : RwCall) (to : View)
-      → ((w : ℕ) (v : View) → so w v → (v ≡ to) × ((value : Option T) → Goes (model v₀) seat_of words_of (Some Writing) to w value (f w, tt) (λ own outs. leaves_with (λ y. y ≡ x) c to own outs w to))) → Moves (Some u) f so (leaves_with (λ y. y ≡ x) c to)
+      → ((w : ℕ) (v : View) → so w v → (v ≡ to)
+      × ((value : Option T) → Goes (model v₀) seat_of words_of (Some Writing) to w value (f w, tt) (λ own outs. leaves_with (λ y. y ≡ x) c to own outs w to)))
+      → Moves (Some u) f so (leaves_with (λ y. y ≡ x) c to)
   writer_moves x Writing e f so c to goes w value v is = let g = goes w v is in rw g.0 (g.1 value)
   writer_moves x WritingAsked e f so c to goes w value v is = let g = goes w v is in rw g.0 (g.1 value)
   writer_moves x _ e f so c to goes w value v is = absurd cc
 
   abbrev ended : List (Ending T)
-  ended = Written ∷ Begun ∷ Answered Done None ∷ []
+  ended = Written ∷ with (Answered Done None)
 
-  -- a writer that ends by a call writes its value, and then makes the call
+  -- its moves: it writes the value, and then makes the call
   abbrev ending : T → RwCall → List (OneMove T)
-  ending x c = Write x ∷ Begin c ∷ Step ∷ []
+  ending x c = Write x ∷ once c
 
   writes_and : (x : T) (c : RwCall) (to : View) (w : ℕ) → leaves_with (λ y. y ≡ x) c to (ending x c) ended w to
-  writes_and x c to w = (refl, (x, refl, (Begin c ∷ Step ∷ [], Begun ∷ Answered Done None ∷ [], refl, refl, (refl, refl))))
+  writes_and x c to w = (refl, (x, refl, (once c, with (Answered Done None), refl, refl, (refl, refl))))
 
   writer_reads_moves : (x : T) (u : View) → use_of_view u ≡ writes → (won : View) → Comes won
       → Moves (Some u) (λ n. (n + (weight_of won - 1)) % 2 ^ 64) (To (Weighs 0) (λ n. won)) (leaves_with (λ y. y ≡ x) (downgrade_to won) won)
@@ -256,18 +290,19 @@ module _ {T : Type 0} (v₀ : T) where
   writer_leaves_moves x u e = writer_moves x u e (λ n. (n + (2 ^ 64 - 1)) % 2 ^ 64) (To (Weighs 1) (λ n. Idle)) call.Release Idle (λ w v (some, is).
       (is, λ value. (ending x call.Release, ended, writes_and x call.Release Idle w, refl, refl, w - 1, Some x, refl, refl, rw (less_by w 1 some) refl)))
 
-  abbrev released : List (OneMove T)
-  released = Begin call.Release ∷ Step ∷ []
-
   release_moves : (won : View) → Comes won → Moves (Some won) (λ n. (n + (2 ^ 64 - weight_of won)) % 2 ^ 64) (To (Weighs (weight_of won)) (λ n. Idle)) (ends_by call.Release (λ n. Done) (λ n. Idle))
-  release_moves Reading cm w value v (some, is) = rw is (released, Begun ∷ Answered Done None ∷ [], (refl, (refl, refl)), refl, refl, w - 8, value, refl, refl, rw (less_by w 8 some) refl)
-  release_moves Upgradable cm w value v (some, is) = rw is (released, Begun ∷ Answered Done None ∷ [], (refl, (refl, refl)), refl, refl, w - 2, value, refl, refl, rw (less_by w 2 some) refl)
+  release_moves Reading cm w value v (some, is) =
+      rw is (once call.Release, with (Answered Done None), (refl, (refl, refl)), refl, refl, w - 8, value, refl, refl, rw (less_by w 8 some) refl)
+  release_moves Upgradable cm w value v (some, is) =
+      rw is (once call.Release, with (Answered Done None), (refl, (refl, refl)), refl, refl, w - 2, value, refl, refl, rw (less_by w 2 some) refl)
   release_moves _ cm w value v so = absurd cm
 
-  -- The moves of a reader that comes
+  -- The moves of a call that wants to read
 
   abbrev Leads : Option View → ℕ → ℕ → (ℕ → View) → Says T → Type 0
-  Leads view old new to says = (w : ℕ) (value : Option T) (v : View) → v ≡ to w → (b : Bool) → (w == old) ≡ b → Goes (model v₀) seat_of words_of view v w value (swaps old new w, tt) (λ own outs. says own outs w v)
+  Leads view old new to says =
+      (w : ℕ) (value : Option T) (v : View) → v ≡ to w → (b : Bool) → (w == old) ≡ b
+      → Goes (model v₀) seat_of words_of view v w value (swaps old new w, tt) (λ own outs. says own outs w v)
 
   by_found : (view : Option View) (old new : ℕ) (to : ℕ → View) (says : Says T) → Leads view old new to says → Moves view (swaps old new) (λ n v. v ≡ to n) says
   by_found view old new to says goes w value v is = goes w value v is (w == old) refl
@@ -275,28 +310,31 @@ module _ {T : Type 0} (v₀ : T) where
   abbrev granted : List (Ending T)
   granted = Answered Granted None ∷ []
 
-  -- the exchange of 0, by which it comes: two steps of the model where it wins, and one where it loses
+  abbrev fails : RwCall → ℕ → List (Ending T)
+  fails c w = with (missed c w)
+
+  -- the exchange of 0, which begins it: two steps of the model if it succeeds, otherwise one
   first_leads : (won : View) (waits : Bool) → Comes won → (new : ℕ) → grants (call_of won waits) 0 ≡ Some new
       → Leads None 0 new (came won (call_of won waits) 0) (comes_by false won (call_of won waits) 0)
   first_leads Reading false cm new grant w value v is true e =
       (Begin call.TryRead ∷ Step ∷ Step ∷ [], Begun ∷ GoingOn ∷ granted, (is, rw e (refl, refl)), refl, refl, new, value, grind (arith, is, e, grant), grind (arith, is, e, grant), grind (arith, e))
   first_leads Reading false cm new grant w value v is false e =
-      (Begin call.TryRead ∷ Step ∷ [], Begun ∷ missed call.TryRead w ∷ [], (is, rw e (refl, refl)), refl, grind arith, w, value, grind (arith, is, e, grant), grind (arith, e), grind (arith, e))
+      (once call.TryRead, fails call.TryRead w, (is, rw e (refl, refl)), refl, grind arith, w, value, grind (arith, is, e, grant), grind (arith, e), grind (arith, e))
   first_leads Reading true cm new grant w value v is true e =
       (Begin call.Read ∷ Step ∷ Step ∷ [], Begun ∷ GoingOn ∷ granted, (is, rw e (refl, refl)), refl, refl, new, value, grind (arith, is, e, grant), grind (arith, is, e, grant), grind (arith, e))
   first_leads Reading true cm new grant w value v is false e =
-      (Begin call.Read ∷ Step ∷ [], Begun ∷ missed call.Read w ∷ [], (is, rw e (refl, refl)), refl, grind arith, w, value, grind (arith, is, e, grant), grind (arith, e), grind (arith, e))
+      (once call.Read, fails call.Read w, (is, rw e (refl, refl)), refl, grind arith, w, value, grind (arith, is, e, grant), grind (arith, e), grind (arith, e))
   first_leads Upgradable false cm new grant w value v is true e =
       (Begin call.TryUpgradeableRead ∷ Step ∷ Step ∷ [], Begun ∷ GoingOn ∷ granted, (is, rw e (refl, refl)), refl, refl, new, value, grind (arith, is, e, grant), grind (arith, is, e, grant), grind (arith, e))
   first_leads Upgradable false cm new grant w value v is false e =
-      (Begin call.TryUpgradeableRead ∷ Step ∷ [], Begun ∷ missed call.TryUpgradeableRead w ∷ [], (is, rw e (refl, refl)), refl, grind arith, w, value, grind (arith, is, e, grant), grind (arith, e), grind (arith, e))
+      (once call.TryUpgradeableRead, fails call.TryUpgradeableRead w, (is, rw e (refl, refl)), refl, grind arith, w, value, grind (arith, is, e, grant), grind (arith, e), grind (arith, e))
   first_leads Upgradable true cm new grant w value v is true e =
       (Begin call.UpgradeableRead ∷ Step ∷ Step ∷ [], Begun ∷ GoingOn ∷ granted, (is, rw e (refl, refl)), refl, refl, new, value, grind (arith, is, e, grant), grind (arith, is, e, grant), grind (arith, e))
   first_leads Upgradable true cm new grant w value v is false e =
-      (Begin call.UpgradeableRead ∷ Step ∷ [], Begun ∷ missed call.UpgradeableRead w ∷ [], (is, rw e (refl, refl)), refl, grind arith, w, value, grind (arith, is, e, grant), grind (arith, e), grind (arith, e))
+      (once call.UpgradeableRead, fails call.UpgradeableRead w, (is, rw e (refl, refl)), refl, grind arith, w, value, grind (arith, is, e, grant), grind (arith, e), grind (arith, e))
   first_leads _ waits cm new grant w value v is b e = absurd cm
 
-  -- a further exchange, of the word that it found
+  -- a further exchange, of the word found
   again_leads : (won : View) (waits : Bool) → Comes won → (old new : ℕ) → grants (call_of won waits) old ≡ Some new
       → Leads (Some (Coming (call_of won waits) old)) old new (came won (call_of won waits) old) (comes_by true won (call_of won waits) old)
   again_leads Reading false cm old new grant w value v is true e = (Step ∷ [], granted, (is, rw e (refl, refl)), refl, refl, new, value, grind (arith, is, e, grant), grind (arith, is, e, grant), grind (arith, e))
@@ -317,41 +355,36 @@ module _ {T : Type 0} (v₀ : T) where
       rw (not_in_call view out, free) (as_new (swaps 0 new) (λ n v. v ≡ came won c 0 n) says view out (by_found None 0 new (came won c 0) says (first_leads won waits cm new (rw free at grant))))
   come_moves won waits cm view old new (inr is) grant =
       let c = call_of won waits in
-      rw (is, in_its_call won waits cm old new grant) (by_found (Some (Coming c old)) old new (came won c old) (comes_by true won c old) (again_leads won waits cm old new grant))
+      rw (is, lets_in won waits cm old new grant)
+      (by_found (Some (Coming c old)) old new (came won c old) (comes_by true won c old) (again_leads won waits cm old new grant))
 
-  -- the load of a call that waits, after a word that keeps it out
+  -- the load of a call that waits, after a word that does not admit it
   look_moves : (won : View) → Comes won → (old : ℕ) → grants (call_of won true) old ≡ None → Moves (Some (Coming (call_of won true) old)) (λ n. n) (λ n v. v ≡ Coming (call_of won true) n) (looks_by (call_of won true))
   look_moves Reading cm old none w value v is = rw is (Step ∷ [], GoingOn ∷ [], (refl, (refl, refl)), refl, refl, w, value, grind (arith, none), grind (arith, none), refl)
   look_moves Upgradable cm old none w value v is = rw is (Step ∷ [], GoingOn ∷ [], (refl, (refl, refl)), refl, refl, w, value, grind (arith, none), grind (arith, none), refl)
   look_moves _ cm old none w value v is = absurd cm
 
-  -- the exchange of `{:?}`: a try where it wins, and else a look, which its party makes of no more use than a count
+  -- the exchange of `{:?}`: a whole `try_read` if it succeeds, otherwise a count
   peek_first : (old new : ℕ) → grants call.TryRead old ≡ Some new → Leads None old new (either_at old Reading Idle) (peeks_by old)
   peek_first old new grant w value v is true e = (Begin call.TryRead ∷ Step ∷ Step ∷ [], Begun ∷ GoingOn ∷ Answered Granted None ∷ [], (is, rw e (refl, refl)), refl, refl, new, value, grind (arith, is, e, grant), grind (arith, is, e, grant), grind (arith, e))
-  peek_first old new grant w value v is false e = (Begin call.ReaderCount ∷ Step ∷ [], Begun ∷ Answered (Count (readers_in w)) None ∷ [], (is, rw e (refl, refl)), refl, refl, w, value, grind (arith, is, e), refl, grind (arith, e))
+  peek_first old new grant w value v is false e =
+      (once call.ReaderCount, with (Answered (Count (readers_in w)) None), (is, rw e (refl, refl)), refl, refl, w, value, grind (arith, is, e), refl, grind (arith, e))
 
 -- Each step keeps the rule, and appends its moves
 
--- who does not use the value
+-- parties that do not write the value
+pub none_writes : (view : Option View) → part_before part view ≡ idle → use_of use_of_view view ≢ writes
+none_writes None none e = absurd cc
+none_writes (Some v) none e = let no : off ≡ writes = ap use_of_part (sym none) ∙ e in absurd cc
+
 pub out_uses_none : (view : Option View) → IsOut view → use_of use_of_view view ≢ writes
-out_uses_none None out e = absurd cc
-out_uses_none (Some Idle) out e = absurd cc
-out_uses_none (Some (Coming c n)) out e = absurd cc
-out_uses_none (Some _) out e = absurd cc
+out_uses_none view out = none_writes view (out_holds_none view out)
 
 pub is_not_writing : (u : View) → use_of_view u ≢ writes → (view : Option View) → view ≡ Some u → use_of use_of_view view ≢ writes
 is_not_writing u not view is = rw is not
 
-pub may_come_unused : (c : RwCall) (n : ℕ) (view : Option View) → MayCome c n view → use_of use_of_view view ≢ writes
-may_come_unused c n view (inl (out, free)) = out_uses_none view out
-may_come_unused c n view (inr is) = is_not_writing (Coming c n) (λ e. absurd cc) view is
-
-pub may_write_unused : (view : Option View) → MayWrite view → use_of use_of_view view ≢ writes
-may_write_unused view (inl out) = out_uses_none view out
-may_write_unused view (inr is) = is_not_writing WaitingToWrite (λ e. absurd cc) view is
-
 module _ {T : Type 0} where
-  -- moves that write nothing, and those of a writer that writes x last
+  -- moves that write nothing, and moves that write x last
   writes_none : (u u' : Use) (shown : Option T) (own : List (OneMove T)) → u ≢ writes → ((v : T) → left own v ≡ v) → Leaves u u' shown own
   writes_none off u' shown own not same = same
   writes_none reads u' shown own not same = same
@@ -386,7 +419,7 @@ module _ {T : Type 0} (opening : Opening T) where
   abbrev Keeps : Option (Numbered View) → Option T → (ℕ → ℕ) → Says T → Type 0
   Keeps view shown f says = Traces (IsRw opening) (rw_ways opening) view shown f (Told opening.value says view)
 
-  -- moves that keep what is known of the value, or leave it
+  -- what the moves must show of the value
   abbrev Leaving : Option View → Option T → Says T → Type 0
   Leaving view shown says = (own : List (OneMove T)) (outs : List (Ending T)) (n : ℕ) (u : View) → says own outs n u → Leaves (use_of use_of_view view) (use_of_view u) shown own
 
@@ -395,12 +428,12 @@ module _ {T : Type 0} (opening : Opening T) where
       tie.traces (model opening.value) seat_of words_of Word opening.name T lends use_of_view (last opening) view shown f so says moves
       (λ own outs n u said t word p. owed opening own t word p (use_of use_of_view (what view)) (use_of_view u) shown (leaves own outs n u said)) allows
 
-  -- of a party that does not write the value
+  -- for a party that does not write the value
   keeps_still : (view : Option (Numbered View)) (shown : Option T) → use_of use_of_view (what view) ≢ writes → (f : ℕ → ℕ) (so : ℕ → View → Type 0) (says : Says T) → WritesNothing says → Moves opening.value (what view) f so says → Allows Word (ways rw-lock) (what view) f so
       → Keeps view shown f says
   keeps_still view shown not f so says none = keeps view shown f so says (λ own outs n u said. writes_none (use_of use_of_view (what view)) (use_of_view u) shown own not (none own outs n u said))
 
-  -- of a writer, which writes the value that it leaves
+  -- for a writer, which writes the value that it leaves
   keeps_written : (v : Numbered View) (x : T) → use_of_view v.0 ≡ writes → (f : ℕ → ℕ) (so : ℕ → View → Type 0) (c : RwCall) (to : View) → Moves opening.value (Some v.0) f so (leaves_with (λ y. y ≡ x) c to) → Allows Word (ways rw-lock) (Some v.0) f so
       → Keeps (Some v) (Some x) f (leaves_by c to)
   keeps_written v x e f so c to moves allows =
@@ -428,7 +461,8 @@ module _ {T : Type 0} (opening : Opening T) where
         → Keeps view shown (swaps old new) (comes_by (in_call (what view)) won (call_of won waits) old)
     comes_in won waits cm old new may grant plain =
         let c = call_of won waits in
-        keeps_still view shown (may_come_unused c old (what view) may) (swaps old new) (λ n v. v ≡ came won c old n) (comes_by (in_call (what view)) won c old)
+        keeps_still view shown (none_writes (what view) (may_come c old (what view) may)) (swaps old new) (λ n v. v ≡ came won c old n)
+        (comes_by (in_call (what view)) won c old)
         (λ own outs n u said. nothing_arrived (in_call (what view)) c (n == old) n own outs said.1) (come_moves opening.value won waits cm (what view) old new may grant) (comes won c cm (what view) old new may plain)
 
     pub looks_on : (won : View) → Comes won → (old : ℕ) → what view ≡ Some (Coming (call_of won true) old) → grants (call_of won true) old ≡ None → Keeps view shown (λ n. n) (looks_by (call_of won true))
@@ -436,30 +470,44 @@ module _ {T : Type 0} (opening : Opening T) where
         let c = call_of won true in
         keeps_still view shown (is_not_writing (Coming c old) (λ e. absurd cc) (what view) is) (λ n. n) (λ n v. v ≡ Coming c n) (looks_by c) (nothing_by true c (λ n. GoingOn) (Coming c)) (rw is (look_moves opening.value won cm old none)) (rw is (looks_again c old))
 
-    pub tries_to_write : IsOut (what view) → ((s : Plain) (p : ℕ) → rw_word s ≡ 0 → Decides s (gets p to_write) rw_word (Some 1)) → Keeps view shown (swaps 0 1) (ends_by call.TryWrite (given 0) (either_at 0 Writing Idle))
-    tries_to_write out plain =
-        let so : ℕ → View → Type 0 = λ n v. v ≡ either_at 0 Writing Idle n in let says : Says T = ends_by call.TryWrite (given 0) (either_at 0 Writing Idle) in
-        keeps_still view shown (out_uses_none (what view) out) (swaps 0 1) so says (nothing_by false call.TryWrite (λ n. Answered (given 0 n) None) (either_at 0 Writing Idle))
-        (as_new opening.value (swaps 0 1) so says (what view) out (try_write_moves opening.value)) (writes_at (what view) (out_holds_none (what view) out) Idle refl 0 1 plain)
+    -- an exchange by which it may become the writer
+    tries : use_of use_of_view (what view) ≢ writes → (goes_on : Bool) (c : RwCall) (old : ℕ) (end : Ending T) (won lost : View)
+        → Tries opening.value (what view) goes_on c old end won lost
+        → Allows Word (ways rw-lock) (what view) (swaps old 1) (λ n v. v ≡ either_at old won lost n)
+        → Keeps view shown (swaps old 1) (tries_by goes_on c old end won lost)
+    tries unused goes_on c old end won lost =
+        keeps_still view shown unused (swaps old 1) (λ n v. v ≡ either_at old won lost n) (tries_by goes_on c old end won lost)
+        (nothing_by goes_on c (either_at old (Answered Granted None) end) (either_at old won lost))
 
-    pub writes_on : MayWrite (what view) → ((s : Plain) (p : ℕ) → rw_word s ≡ 0 → Decides s (gets p to_write) rw_word (Some 1)) → Keeps view shown (swaps 0 1) (writes_by (in_call (what view)) 0)
+    abbrev AdmitsWriter : Type 0
+    AdmitsWriter = (s : Plain) (p : ℕ) → rw_word s ≡ 0 → Decides s (gets p to_write) rw_word (Some 1)
+
+    pub tries_to_write : IsOut (what view) → AdmitsWriter → Keeps view shown (swaps 0 1) (tries_by false call.TryWrite 0 (Answered Refused None) Writing Idle)
+    tries_to_write out plain =
+        tries (out_uses_none (what view) out) false call.TryWrite 0 (Answered Refused None) Writing Idle
+        (as_new opening.value (swaps 0 1) (λ n v. v ≡ either_at 0 Writing Idle n) (tries_by false call.TryWrite 0 (Answered Refused None) Writing Idle)
+        (what view) out (try_write_moves opening.value))
+        (writes_at (what view) (out_holds_none (what view) out) Idle refl 0 1 plain)
+
+    pub writes_on : MayWrite (what view) → AdmitsWriter
+        → Keeps view shown (swaps 0 1) (tries_by (in_call (what view)) call.Write 0 GoingOn Writing WaitingToWrite)
     writes_on may plain =
-        keeps_still view shown (may_write_unused (what view) may) (swaps 0 1) (λ n v. v ≡ either_at 0 Writing WaitingToWrite n) (writes_by (in_call (what view)) 0) (nothing_by (in_call (what view)) call.Write (granted_or_on 0) (either_at 0 Writing WaitingToWrite))
-        (write_moves_of opening.value (what view) may) (writes_at (what view) (may_write (what view) may) WaitingToWrite refl 0 1 plain)
+        tries (none_writes (what view) (may_write (what view) may)) (in_call (what view)) call.Write 0 GoingOn Writing WaitingToWrite
+        (write_moves opening.value (what view) may) (writes_at (what view) (may_write (what view) may) WaitingToWrite refl 0 1 plain)
 
     pub tries_to_upgrade : what view ≡ Some Upgradable → ((s : Plain) (p : ℕ) → OneOfEach s → is_holder p upgradable s.holders ≡ true → rw_word s ≡ 2 → Decides s (gets p to_upgrade) rw_word (Some 1))
-        → Keeps view shown (swaps 2 1) (ends_by call.TryUpgrade (given 2) (either_at 2 Writing Upgradable))
+        → Keeps view shown (swaps 2 1) (tries_by false call.TryUpgrade 2 (Answered Refused None) Writing Upgradable)
     tries_to_upgrade is plain =
-        keeps_still view shown (is_not_writing Upgradable (λ e. absurd cc) (what view) is) (swaps 2 1) (λ n v. v ≡ either_at 2 Writing Upgradable n) (ends_by call.TryUpgrade (given 2) (either_at 2 Writing Upgradable))
-        (nothing_by false call.TryUpgrade (λ n. Answered (given 2 n) None) (either_at 2 Writing Upgradable)) (rw is (try_upgrade_moves opening.value)) (rw is (upgrades_at 2 1 plain))
+        tries (is_not_writing Upgradable (λ e. absurd cc) (what view) is) false call.TryUpgrade 2 (Answered Refused None) Writing Upgradable
+        (rw is (try_upgrade_moves opening.value)) (rw is (upgrades_at 2 1 plain))
 
     pub upgrades : what view ≡ Some Asking → ((s : Plain) (p : ℕ) → OneOfEach s → is_holder p asking s.holders ≡ true → rw_word s ≡ 6 → Decides s (gets p to_upgrade_asked) rw_word (Some 1))
-        → Keeps view shown (swaps 6 1) (upgrades_by 6)
+        → Keeps view shown (swaps 6 1) (tries_by true call.Upgrade 6 GoingOn WritingAsked Asking)
     upgrades is plain =
-        keeps_still view shown (is_not_writing Asking (λ e. absurd cc) (what view) is) (swaps 6 1) (λ n v. v ≡ either_at 6 WritingAsked Asking n) (upgrades_by 6) (nothing_by true call.Upgrade (granted_or_on 6) (either_at 6 WritingAsked Asking))
+        tries (is_not_writing Asking (λ e. absurd cc) (what view) is) true call.Upgrade 6 GoingOn WritingAsked Asking
         (rw is (upgrade_moves opening.value)) (rw is (upgrades_asked_at 6 1 plain))
 
-    -- the upgradable reader turns by an addition
+    -- an addition by the upgradable reader
     turns_on : what view ≡ Some Upgradable → (f : ℕ → ℕ) (so : ℕ → View → Type 0) (c : RwCall) (end : ℕ → Ending T) (to : ℕ → View) → Moves opening.value (Some Upgradable) f so (step_by false c end to) → Allows Word (ways rw-lock) (Some Upgradable) f so → Keeps view shown f (step_by false c end to)
     turns_on is f so c end to moves allows = keeps_still view shown (is_not_writing Upgradable (λ e. absurd cc) (what view) is) f so (step_by false c end to) (nothing_by false c end to) (rw is moves) (rw is allows)
 
@@ -480,7 +528,7 @@ module _ {T : Type 0} (opening : Opening T) where
         keeps_still view shown (is_not_writing won not (what view) is) (λ n. (n + (2 ^ 64 - weight k)) % 2 ^ 64) so says (nothing_by false call.Release (λ n. Answered Done None) (λ n. Idle))
         (rw (is, sym e) (release_moves opening.value won cm)) (rw is (goes won k was))
 
-    -- a reader leaves, which subtracts its weight
+    -- a reader leaves, and subtracts its weight
     pub reader_leaves : (won : View) → Comes won → (k : ℕ) → k ≡ weight_of won → what view ≡ Some won → Keeps view shown (λ n. (n + (2 ^ 64 - k)) % 2 ^ 64) (ends_by call.Release (λ n. Done) (λ n. Idle))
     reader_leaves Reading cm k e is = rw e (leaves_as reading Reading cm refl is (λ e. absurd cc) (λ p. refl))
     reader_leaves Upgradable cm k e is = rw e (leaves_as upgradable Upgradable cm refl is (λ e. absurd cc) (λ p. refl))
@@ -525,6 +573,9 @@ module _ {T : Type 0} (opening : Opening T) where
   pub missed_rests : (won : View) (old found : ℕ) → found ≢ old → (v : Numbered View) → v.0 ≡ either_at old won Idle found → Rests (IsRw opening) use_of_party (Some v)
   missed_rests won old found other v is = idle_rests v (is ∙ ap (λ b. if b then won else Idle) (ne_eqb found old other))
 
--- a try whose word does not admit it has failed, and its party is out
+-- a try that found a word that does not admit it has failed, so its party is out
 pub refused_out : (won : View) → Comes won → (n : ℕ) → grants (call_of won false) n ≡ None → (view : Option View) → view ≡ Some (Coming (call_of won false) n) → IsOut view
 refused_out won cm n none view is = rw is (ap rws.is_idle (sits_idle won cm n none))
+
+pub keeps_out : (won : View) → Comes won → (n : ℕ) → grants (call_of won false) n ≡ None → still (call_of won false) n ≡ false
+keeps_out won cm n none = ap rws.is_calling (sits_idle won cm n none)

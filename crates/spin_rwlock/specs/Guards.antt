@@ -15,7 +15,7 @@ use Rattle.spin_rwlock.specs.declared.rwlock.rule.View.{View}
 use Rattle.spin_rwlock.specs.Rw.{Done}
 
 module _ {T R : Type 0} where
-  -- a guard always has one
+  -- the value that a guard shows; there always is one
   abbrev pub shared_value : {K : Type 0} {kind : Ghosts K} → SharedGuard T K R kind → Option T
   shared_value it = it.permit.value
 
@@ -25,11 +25,11 @@ module _ {T R : Type 0} where
   abbrev pub write_with : RwLockWriteGuard T R → T → RwLockWriteGuard T R
   write_with it x = record { writer = with_value it.writer x; strategy = it.strategy }
 
-  -- the value, which nobody writes until the hold is consumed
+  -- the value of a hold; nobody writes it while the hold lives
   abbrev pub read_held_value : ReadHeld T R → Option T
   read_held_value it = it.permit.value
 
-  -- the value that the hold releases when it is consumed
+  -- the value that the hold's release leaves
   abbrev pub write_held_value : WriteHeld T R → Option T
   write_held_value it = it.permit.value
 
@@ -47,7 +47,7 @@ module _ {T R : Type 0} where
   abbrev pub write_held_party : WriteHeld T R → Option (Numbered View)
   write_held_party it = it.permit.view
 
-  -- what was settled of the lock of a guard when it was made
+  -- what was fixed when the lock of a guard was made
   abbrev pub shared_opening : {K : Type 0} {kind : Ghosts K} → SharedGuard T K R kind → Opening T
   shared_opening it = it.permit.key
 
@@ -61,7 +61,7 @@ module _ {T R : Type 0} where
   abbrev pub WritesWith : RwLockWriteGuard T R → Watch (Done T) → Type 0
   WritesWith it seen = (it.writer.key.name ≡ seen.name) × (it.writer.view.2 ≡ length seen.entries)
 
-  -- its value is the one written last in the history that the pass knows beside it
+  -- the guard's value is the one written last in the history that the pass knows
   abbrev pub ReadsLast : {K : Type 0} {kind : Ghosts K} → SharedGuard T K R kind → Watch (Done T) → Type 0
   ReadsLast it seen = IfSome (shared_value it) (λ x. IsLast it.permit.key seen.entries x)
 

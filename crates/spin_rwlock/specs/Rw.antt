@@ -1,5 +1,5 @@
--- The rule of a read-write lock. Its word is that of a plain lock whose holders are its parties. Its trace is a
--- schedule of the lock's model, which leads there.
+-- The rule of a read-write lock. Its word is that of a plain lock with the same holders. Its trace is a schedule of the
+-- lock's model that leads to this word and these parties.
 use Rattle.std.specs.Prelude.{◌≡◌, ◌≢◌, ◌⊎◌, ℕ, List, [], ◌∷◌, Bool, true, false, Option, Some, None, is_some, ◌==◌, if◌then◌else◌, map}
 use Rattle.spin_step.specs.Plain.{Plain, reading, upgradable, asking, writing, weight, Ask, to_read, to_read_upgradable, rw_word}
 use Rattle.spin_step.specs.Orders.{IsInOrder}
@@ -56,8 +56,8 @@ grants TryUpgradeableRead n = read_upgradable reader_limit n
 grants UpgradeableRead n = read_upgradable reader_limit n
 grants _ n = None
 
--- Where such a call sits in the model after a word that does not admit it. If it waits, it is at its first step again.
--- If it tries, it has failed, and its party is in no call.
+-- Where such a call sits in the model after a word that does not admit it. A call that waits is at its first step again.
+-- A call that tries has failed, so its party is in no call.
 abbrev pub kept_out : RwCall → Seat RwCall RwPoint
 kept_out Read = seat.Calling Read point.First None
 kept_out UpgradeableRead = seat.Calling UpgradeableRead point.First None
@@ -81,7 +81,7 @@ words_of n = (n, tt)
 abbrev pub Word : ℕ → Unit {0} → List View → Type 0
 Word = Encodes part reader_limit rw_word no_word
 
--- Of a lock of values of type T
+-- For a lock of values of type T
 
 abbrev pub OneMove : Type 0 → Type 0
 OneMove T = Move RwCall T
@@ -97,7 +97,7 @@ module _ {T : Type 0} where
   abbrev pub model : T → Machine ℕ T RwCall RwPoint (Answer T)
   model v = rw_machine v reader_limit
 
-  -- the rule of a lock with this opening: what its word, its trace and its parties say of one another
+  -- the rule of a lock with this opening: how its word, its trace and its parties agree
   abbrev pub IsRw : Opening T → ℕ → Trace (Done T) (Unit {0}) → List (Numbered View) → Type 0
   IsRw opening = Runs (model opening.value) seat_of words_of Word opening.name
 
@@ -141,17 +141,15 @@ IsOut view = is_out view ≡ true
 abbrev pub OneCourse : Type 0 → Type 1
 OneCourse T = Course T RwCall (Answer T)
 
--- after an exchange that found this word, a call that wants to read continues
+-- whether a call that wants to read continues after its exchange found this word
 abbrev pub still : RwCall → ℕ → Bool
-still TryRead n = is_some (grants TryRead n)
-still TryUpgradeableRead n = is_some (grants TryUpgradeableRead n)
-still _ n = true
+still call n = in_call (Some (Coming call n))
 
 -- `won` if the exchange found the number that it expected, otherwise `lost`
 abbrev pub either_at : {X : Type 0} → ℕ → X → X → ℕ → X
 either_at old won lost n = if n == old then won else lost
 
--- where the exchange of a reader that comes leads
+-- the next view after the exchange of a call that wants to read
 abbrev pub came : View → RwCall → ℕ → ℕ → View
 came won call old n = if n == old then won else Coming call n
 
@@ -161,32 +159,31 @@ abbrev pub Says : Type 0 → Type 1
 Says T = List (OneMove T) → List (Ending T) → ℕ → View → Type 0
 
 module _ {T : Type 0} where
-  -- what the exchange of a call that wants to read is to the call
+  -- the outcome of an exchange that found this other word
   abbrev pub missed : RwCall → ℕ → Ending T
-  missed TryRead n = if is_some (grants TryRead n) then GoingOn else Answered Refused None
-  missed TryUpgradeableRead n = if is_some (grants TryUpgradeableRead n) then GoingOn else Answered Refused None
-  missed _ n = GoingOn
+  missed call n = if still call n then GoingOn else Answered Refused None
 
-  -- The exchange that lets it in. By one that begins the call (false) the model's party first looks, and finds a free lock
+  -- The exchange that admits the reader. If it begins the call (false), the model's party first looks, and finds a free
+  -- lock.
   abbrev pub IsGrant : Bool → RwCall → OneCourse T
   IsGrant true call own outs = IsStep true call (Answered Granted None) own outs
   IsGrant false call own outs = (own ≡ Begin call ∷ Step ∷ Step ∷ []) × (outs ≡ Begun ∷ GoingOn ∷ Answered Granted None ∷ [])
 
-  -- by whether it found the word that it expected
+  -- any exchange, by whether it found the word that it expected
   abbrev pub IsArrival : Bool → RwCall → Bool → ℕ → OneCourse T
   IsArrival goes_on call true n = IsGrant goes_on call
   IsArrival goes_on call false n = IsStep goes_on call (missed call n)
 
-  -- a call that goes on, or has been refused
+  -- the call continues, or has been refused
   abbrev pub Left : Bool → OneCourse T
   Left true = Waits
   Left false = Ends Refused
 
-  -- a call that wants to read, and found this word last
+  -- a call that wants to read has begun, and found this word last
   abbrev pub Seeks : RwCall → ℕ → OneCourse T
   Seeks call n = Begins call (Left (still call n))
 
-  -- what a step tells of its moves, of a lock that opened with this value
+  -- what a step tells of its moves, for a lock that opened with this value
   abbrev pub Told : T → Says T → Option (Numbered View) → List (Done T) → List (Done T) → ℕ → Numbered View → Type 0
   Told v = Tells (model v) seat_of words_of
 
@@ -194,36 +191,27 @@ module _ {T : Type 0} where
   abbrev pub ends_by : RwCall → (ℕ → Answer T) → (ℕ → View) → Says T
   ends_by call answer to = step_by false call (λ n. Answered (answer n) None) to
 
-  -- a call that counts so by the word of the lock
+  -- a call that counts by the word of the lock
   abbrev pub counts_by : RwCall → (ℕ → ℕ) → Says T
   counts_by call count own outs n v = IsRwWord n × ends_by call (λ m. Count (count m)) (λ m. Idle) own outs n v
 
-  abbrev pub given : ℕ → ℕ → Answer T
-  given old = either_at old Granted Refused
+  -- an exchange of this word that grants the call, or else has this outcome: the next view by either
+  abbrev pub tries_by : Bool → RwCall → ℕ → Ending T → View → View → Says T
+  tries_by goes_on call old end won lost = step_by goes_on call (either_at old (Answered Granted None) end) (either_at old won lost)
 
-  abbrev pub granted_or_on : ℕ → ℕ → Ending T
-  granted_or_on old = either_at old (Answered Granted None) GoingOn
-
-  -- the exchange of `write`, by whether its call has begun
-  abbrev pub writes_by : Bool → ℕ → Says T
-  writes_by goes_on old = step_by goes_on Write (granted_or_on old) (either_at old Writing WaitingToWrite)
-
-  -- the addition by which `upgrade` asks, and its exchange
+  -- the addition by which `upgrade` asks
   abbrev pub asks_by : Says T
   asks_by = step_by false Upgrade (λ n. GoingOn) (λ n. Asking)
-
-  abbrev pub upgrades_by : ℕ → Says T
-  upgrades_by old = step_by true Upgrade (granted_or_on old) (either_at old WritingAsked Asking)
 
   -- the load of a call that waits to read
   abbrev pub looks_by : RwCall → Says T
   looks_by call = step_by true call (λ n. GoingOn) (Coming call)
 
-  -- the exchange of a reader that comes: where it leads, and what it is
+  -- the exchange of a call that wants to read
   abbrev pub comes_by : Bool → View → RwCall → ℕ → Says T
   comes_by goes_on won call old own outs n v = (v ≡ came won call old n) × IsArrival goes_on call (n == old) n own outs
 
-  -- the exchange of `{:?}`: a try where it wins, and else one more look
+  -- the exchange of `{:?}`: a whole `try_read` if it succeeds, otherwise one more count
   abbrev pub IsPeek : Bool → ℕ → OneCourse T
   IsPeek true n = IsGrant false TryRead
   IsPeek false n = IsStep false ReaderCount (Answered (Count (readers_in n)) None)
@@ -231,16 +219,16 @@ module _ {T : Type 0} where
   abbrev pub peeks_by : ℕ → Says T
   peeks_by old own outs n v = (v ≡ either_at old Reading Idle n) × IsPeek (n == old) n own outs
 
-  -- the call by which a writer ends: it writes the value that it leaves, one of which this holds, and becomes this
+  -- the call by which a writer ends: it writes the value that it leaves, which satisfies Q, and gets this view
   abbrev pub leaves_with : (T → Type 0) → RwCall → View → Says T
   leaves_with Q call to own outs n v = (v ≡ to) × WritesSome Q (IsStep false call (Answered answer.Done None)) own outs
 
   abbrev pub leaves_by : RwCall → View → Says T
   leaves_by = leaves_with (λ x. Unit {0})
 
--- Who wants to read
+-- The calls that want to read
 
--- the call of a reader of this view: it waits, or tries
+-- the call that acquires with this view, and waits (true) or tries
 abbrev pub call_of : View → Bool → RwCall
 call_of Upgradable true = UpgradeableRead
 call_of Upgradable false = TryUpgradeableRead
@@ -262,26 +250,25 @@ abbrev pub asks : View → Ask
 asks Upgradable = to_read_upgradable
 asks _ = to_read
 
--- a reader acquires with this view
+-- a call that wants to read acquires with this view
 abbrev pub Comes : View → Type 0
 Comes Reading = Unit {0}
 Comes Upgradable = Unit {0}
 Comes _ = ⊥
 
--- The call has just begun, and its exchange is that of a free lock's word. Or the call is under way, and found this
--- word.
+-- The call begins with this exchange, which expects a free lock. Or the call is under way, and found this word.
 abbrev pub MayCome : RwCall → ℕ → Option View → Type 0
 MayCome call n view = (IsOut view × (n ≡ 0)) ⊎ (view ≡ Some (Coming call n))
 
--- the call to write has just begun, or waits
+-- `write` begins, or waits
 abbrev pub MayWrite : Option View → Type 0
 MayWrite view = IsOut view ⊎ (view ≡ Some WaitingToWrite)
 
--- a party with this view, to which a value is shown
+-- the party has this view, and sees a value
 abbrev pub IsLent : {T P K S : Type 0} → Permit T (Numbered View) P K S → View → Type 0
 IsLent it v = (what it.view ≡ Some v) × (it.value ≢ None)
 
--- Of a pass of a lock that opened with this value: since it knew `old` it has made moves of this course, and no others
+-- For a pass of a lock that opened with this value: since it knew `old`, its moves are exactly those of this course
 module _ {T : Type 0} (v : T) where
   abbrev pub Moves : OneCourse T → Option (Numbered View) → List (Done T) → Option (Numbered View) → List (Done T) → Type 0
   Moves course view old view' new = Made (model v) view old view' new course
@@ -290,6 +277,6 @@ module _ {T : Type 0} (v : T) where
   abbrev pub Called : RwCall → Answer T → Option (Numbered View) → List (Done T) → Option (Numbered View) → List (Done T) → Type 0
   Called call answer = Moves (IsCall call answer)
 
-  -- it has written a value of which this holds, and then made this call
+  -- it has written a value that satisfies Q, and then made this call
   abbrev pub Wrote : (T → Type 0) → RwCall → Option (Numbered View) → List (Done T) → Option (Numbered View) → List (Done T) → Type 0
   Wrote Q call = Moves (WritesSome Q (IsCall call answer.Done))

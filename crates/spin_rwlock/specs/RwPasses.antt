@@ -22,7 +22,7 @@ module _ {T R : Type 0} where
   abbrev pub lock_of : Pass T R → ℕ
   lock_of it = it.seen.name
 
-  -- what was settled when a lock was made, and of the lock of a pass: that name, and the value that the lock opened with
+  -- what was fixed when a lock was made: that name, and the opening value; also by a pass of the lock
   abbrev pub opening : {P S : Type 0} → RwLock T R (Numbered View) P (Opening T) S → Opening T
   opening lock = lock.cell
 
@@ -47,7 +47,7 @@ module _ {T R : Type 0} where
       (view : Option (Numbered View)) × (seen : List (Done T)) × (lock : Opening T) × (lock ≡ opening_of before) × Called (opening_of before).value Read Granted (party before) (history before) view seen
       × Called lock.value Release answer.Done view seen (party now) (history now)
 
-  -- since then the pass has acquired the lock as a writer and has released it, once; it left a value of which this holds
+  -- since then the pass has acquired the lock as a writer and released it, once; it left a value that satisfies Q
   abbrev pub WroteWith : (T → Type 0) → Pass T R → Pass T R → Type 0
   WroteWith Q before now =
       (view : Option (Numbered View)) × (seen : List (Done T)) × (lock : Opening T) × (lock ≡ opening_of before) × Called (opening_of before).value Write Granted (party before) (history before) view seen

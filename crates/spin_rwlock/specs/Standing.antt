@@ -15,7 +15,7 @@ is_of_kind k _ = false
 abbrev pub has_kind : Kind → View → Bool
 has_kind k v = is_of_kind k (part v)
 
--- how many hold with this kind
+-- how many parties hold with this kind
 abbrev pub held : Kind → List View → ℕ
 held k vs = count_by (has_kind k) vs
 
@@ -34,7 +34,7 @@ writers vs = held writing vs
 abbrev pub holders : List View → ℕ
 holders vs = ((readers vs + upgradables vs) + askers vs) + writers vs
 
--- At most one reader may upgrade, whether it has asked or not. A writer holds alone, and no more parties hold than may.
+-- At most one reader is upgradable, whether or not it has asked. A writer holds alone. The holders are within the limit.
 pub record ReadersOrWriter (vs : List View) : Type 0 where
   pub one_upgradable : upgradables vs + askers vs ≤ 1
   pub writer_alone : 0 < writers vs → holders vs ≡ 1

@@ -1,53 +1,52 @@
--- What a call that waits, or tries again, does by its next steps.
-use Rattle.std.specs.Prelude.{◌≡◌, Some, Option, List}
-use Rattle.spin_core.specs.Own.{Numbered}
+-- How a call that waits or tries again continues.
 use Rattle.spin_core.specs.Passes.{Waits, Begins, IsCall}
-use Rattle.spin_core.specs.declared.tie.Opening.{Opening}
+use Rattle.spin_core.specs.Spots.{spot}
 use Rattle.spin_core.specs.declared.trace.Watch.{Watch}
 use Rattle.spin_model.specs.declared.answer.Answer.TheVariants.{Granted, Refused}
 use Rattle.spin_step_more.specs.declared.rw_calls.RwCall.{RwCall}
-use Rattle.spin_rwlock.specs.Guards.{shared_party, shared_opening, ReadsWith, ReadsLast}
-use Rattle.spin_rwlock.specs.Rw.{Done, OneCourse, Seeks, Moves}
-use Rattle.spin_rwlock.specs.Steps.{Party, Writer, KnowsWriter, WritesLast}
+use Rattle.spin_rwlock.specs.Guards.{ReadsWith, ReadsLast}
+use Rattle.spin_rwlock.specs.Rw.{Done, OneCourse, Seeks}
+use Rattle.spin_rwlock.specs.Steps.{Writer, Spot, Since, written_at, KnowsWriter, WritesLast}
 use Rattle.spin_rwlock.specs.declared.rwlock.coming.Coming.{Coming}
 use Rattle.spin_rwlock.specs.declared.rwlock.coming.Mode as mode
 use Rattle.spin_rwlock.specs.declared.rwlock.pass.Pass.{Pass}
 use Rattle.spin_rwlock.specs.declared.rwlock.reader.SharedGuard.{SharedGuard}
 use Rattle.spin_rwlock.specs.declared.rwlock.rule.Kind as kind
-use Rattle.spin_rwlock.specs.declared.rwlock.rule.View.{View}
 
--- A party of this lock, with this view, knows this history. If its moves until now are those of the course P, then with
--- its next steps they are those of the course Q.
-abbrev pub Leads : {T : Type 0} → Opening T → OneCourse T → Option (Numbered View) → Watch (Done T) → OneCourse T → Option (Numbered View) → Watch (Done T) → Type 0
-Leads key P view seen Q view' seen' =
-    (lock : Opening _) → lock ≡ key → (first : Option (Numbered View)) (old : List (Done _)) → Moves lock.value P first old view seen.entries → Moves lock.value Q first old view' seen'.entries
+module _ {T K R : Type 0} {k : kind.Ghosts K} where
+  abbrev pub lent_at : SharedGuard T K R k × Watch (Done T) → Spot T
+  lent_at lent = spot lent.0.permit lent.1
 
--- For a call that wants to read
-module _ {T K M R : Type 0} {k : kind.Ghosts K} {m : mode.Ghosts M} (call : RwCall) (was : Coming T K M R k m) where
-  abbrev pub LeadsOn : OneCourse T → Option (Numbered View) → Watch (Done T) → Type 0
-  LeadsOn = Leads was.permit.key (Seeks call was.word) was.permit.view was.seen
+  -- it has done this since, and reads the value that was written last
+  abbrev pub IsReader : OneCourse T → Spot T → SharedGuard T K R k × Watch (Done T) → Type 0
+  IsReader course p lent = (ReadsWith lent.0 lent.1 × ReadsLast lent.0 lent.1) × Since course p (lent_at lent)
 
-  -- it waits, or has failed, by the word that it has found since
-  abbrev pub SeeksOn : Coming T K M R k m → Type 0
-  SeeksOn now = (now.permit.key ≡ was.permit.key) × (now.seen.name ≡ was.seen.name) × LeadsOn (Seeks call now.word) now.permit.view now.seen
+-- For a call that wants to read, wherever it began
+module _ {T K M R : Type 0} {k : kind.Ghosts K} {m : mode.Ghosts M} where
+  abbrev pub here : Coming T K M R k m → Spot T
+  here it = spot it.permit it.seen
 
-  -- it is let in, and reads the value that was written last
-  abbrev pub IsLetIn : SharedGuard T K R k × Watch (Done T) → Type 0
-  IsLetIn lent =
-      (ReadsWith lent.0 lent.1 × ReadsLast lent.0 lent.1) × (shared_opening lent.0 ≡ was.permit.key) × (lent.1.name ≡ was.seen.name)
-      × LeadsOn (IsCall call Granted) (shared_party lent.0) lent.1
+  module _ (call : RwCall) (was : Coming T K M R k m) where
+    abbrev Sought : Spot T → Type 0
+    Sought p = Since (Seeks call was.word) p (here was)
 
-  abbrev pub IsRefused : Pass T R → Type 0
-  IsRefused pass = (pass.permit.key ≡ was.permit.key) × (pass.seen.name ≡ was.seen.name) × LeadsOn (IsCall call Refused) pass.permit.view pass.seen
+    -- it has found another word since, by which it waits, tries again or has failed
+    abbrev pub SeeksOn : Coming T K M R k m → Type 0
+    SeeksOn now = (p : Spot T) → Sought p → Since (Seeks call now.word) p (here now)
 
--- For `write` and `upgrade`, once they wait
-module _ {T P S : Type 0} (call : RwCall) (was : Party T P S) (seen : Watch (Done T)) where
+    abbrev pub IsLetIn : SharedGuard T K R k × Watch (Done T) → Type 0
+    IsLetIn lent = (p : Spot T) → Sought p → IsReader (IsCall call Granted) p lent
+
+    abbrev pub IsRefused : Pass T R → Type 0
+    IsRefused pass = (p : Spot T) → Sought p → Since (IsCall call Refused) p (spot pass.permit pass.seen)
+
+-- For `write` and `upgrade`, wherever they began
+module _ {T : Type 0} (call : RwCall) (was : Spot T) where
   -- it still waits
-  abbrev pub WaitsOn : Party T P S → Watch (Done T) → Type 0
-  WaitsOn now known = (now.key ≡ was.key) × (known.name ≡ seen.name) × Leads was.key (Begins call Waits) was.view seen (Begins call Waits) now.view known
+  abbrev pub WaitsOn : Spot T → Type 0
+  WaitsOn now = (p : Spot T) → Since (Begins call Waits) p was → Since (Begins call Waits) p now
 
   -- it is granted, and finds the value that was written last
-  abbrev pub IsGranted : Writer T P S × Watch (Done T) → Type 0
+  abbrev pub IsGranted : {P S : Type 0} → Writer T P S × Watch (Done T) → Type 0
   IsGranted held =
-      KnowsWriter held.0 held.1 × WritesLast held.0 held.1 × (held.0.key ≡ was.key) × (held.1.name ≡ seen.name)
-      × Leads was.key (Begins call Waits) was.view seen (IsCall call Granted) (Some held.0.view) held.1
+      KnowsWriter held.0 held.1 × WritesLast held.0 held.1 × ((p : Spot T) → Since (Begins call Waits) p was → Since (IsCall call Granted) p (written_at held))

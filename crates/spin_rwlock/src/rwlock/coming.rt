@@ -1,14 +1,14 @@
-//! A call that wants to read. Begin at [`Coming`].
+//! The calls that acquire shared access. Begin at [`Coming`].
 ghost use Rattle.std.specs.Prelude.{◌≡◌, ℕ, Bool, true, false, Some, None, IfOk, IfErr};
 ghost use Rattle.spin_step.specs.Plain.{Plain, gets, rw_word};
 ghost use Rattle.spin_step.specs.Steps.{Decides};
 ghost use Rattle.spin_step_more.specs.Readers.{OneOfEach, reader_limit};
 ghost use Rattle.spin_model.specs.declared.answer.Answer.TheVariants.{Granted, Refused};
 ghost use Rattle.spin_core.specs.Own.{what};
-ghost use Rattle.spin_rwlock.specs.Guards.{shared_party, shared_opening, ReadsWith, ReadsLast};
-ghost use Rattle.spin_rwlock.specs.Rw.{Told, comes_by, looks_by, peeks_by, in_call, call_of, grants, missed, asks, MayCome, IsGrant, Seeks, Moves, Called};
-ghost use Rattle.spin_core.specs.Passes.{IsStep};
-ghost use Rattle.spin_rwlock.specs.Steps.{Knows, IsPass};
+ghost use Rattle.spin_rwlock.specs.Rw.{Told, comes_by, looks_by, peeks_by, in_call, call_of, grants, missed, asks, MayCome, IsGrant, Seeks};
+ghost use Rattle.spin_core.specs.Passes.{IsCall, IsStep};
+ghost use Rattle.spin_core.specs.Spots.{spot};
+ghost use Rattle.spin_rwlock.specs.Steps.{Since, Knows, IsPass};
 ghost use Rattle.spin_rwlock.specs.declared.rwlock.rule.View.TheVariants as view;
 
 use super::pass::Pass;
@@ -70,10 +70,10 @@ impl<T> Play<Opening<T>, Party, Entry<T>> for Peeks {
     ghost told = { λ key old new before. Told key.value (peeks_by old) before };
 }
 
-/// What a call that wants to read has with the guard, or in its place: a watch of the lock's history.
+/// A reader's guard, and what its party knows of the lock's history.
 pub(super) type Lent<'a, T, K, R> = (SharedGuard<'a, T, K, R>, Watch<Entry<T>>);
 
-/// A party in a call that wants to read, as a reader of kind `K`, with the word that it found last.
+/// A party in a call that wants to read, with the word that it found last. It wants to be a reader of kind `K`.
 pub(super) struct Coming<'a, T, K: Kind, M: Mode, R> {
     permit: RwPermit<'a, T>,
     seen: Watch<Entry<T>>,
@@ -84,18 +84,18 @@ pub(super) struct Coming<'a, T, K: Kind, M: Mode, R> {
 }
 
 impl<'a, T, K: Kind, M: Mode, R> Coming<'a, T, K, M, R> {
-    ghost use Rattle.spin_rwlock.specs.Waits.{SeeksOn, IsLetIn};
+    ghost use Rattle.spin_rwlock.specs.Waits.{here, IsReader, SeeksOn, IsLetIn};
 
-    /// Begins the call. It expects a free lock, and then tries at the word found instead. This saves a load if the lock
-    /// is free. If it is not, the failed exchange serves as the load.
+    /// Begins the call with an exchange that expects a free lock. If it fails, it tries once more, at the word found.
+    /// This saves a load: a failed exchange tells the word too.
     pub(super) fn begin(
         permit: RwPermit<'a, T>,
         seen: Watch<Entry<T>>,
     ) -> Result<Lent<'a, T, K, R>, Self>
         requires { IsPass permit seen }
-        ensures lent { IfOk result (λ lent. ReadsWith lent.0 lent.1 × ReadsLast lent.0 lent.1 × (shared_opening lent.0 ≡ permit.entry.key) × (lent.1.name ≡ seen.name)) }
-        ensures granted { IfOk result (λ lent. Called permit.entry.key.value (call_of K.view M.waits) Granted permit.entry.view seen.entries (shared_party lent.0) lent.1.entries) }
-        ensures missed { IfErr result (λ coming. (coming.permit.key ≡ permit.entry.key) × (coming.seen.name ≡ seen.name) × Moves permit.entry.key.value (Seeks (call_of K.view M.waits) coming.word) permit.entry.view seen.entries coming.permit.view coming.seen.entries) }
+        ensures lent { IfOk result (IsReader (IsCall (call_of K.view M.waits) Granted) (spot permit.entry seen)) }
+        ensures missed { IfErr result (λ coming.
+            Since (Seeks (call_of K.view M.waits) coming.word) (spot permit.entry seen) (here coming)) }
     {
         let Some(next) = K::next(0) else {
             unreachable!()
@@ -106,7 +106,7 @@ impl<'a, T, K: Kind, M: Mode, R> Coming<'a, T, K, M, R> {
         }
     }
 
-    // Tries once, at the word that it found.
+    // Tries once, at the word found.
     fn try_at(self) -> Result<Lent<'a, T, K, R>, Self>
         ensures lent { IfOk result (IsLetIn (call_of K.view M.waits) self.entry) }
         ensures missed { IfErr result (SeeksOn (call_of K.view M.waits) self.entry) }
@@ -128,7 +128,7 @@ impl<'a, T, K: Kind, M: Mode, R> Coming<'a, T, K, M, R> {
         }
     }
 
-    // Returns `true` if the word that it found does not admit such a reader.
+    // Returns `true` if the word found does not admit such a reader.
     fn is_kept_out(&self) -> bool
         ensures { result ≡ true → grants (call_of K.view M.waits) self.now.word ≡ None }
     {
@@ -146,9 +146,11 @@ impl<'a, T, K: Kind, M: Mode, R> Coming<'a, T, K, M, R> {
         requires knows { Knows permit seen }
         requires exact { grants (call_of K.view M.waits) word ≡ Some next }
         requires plain { (s : Plain) (party : ℕ) → OneOfEach s → s.cap ≡ reader_limit → rw_word s ≡ word → Decides s (gets party (asks K.view)) rw_word (Some next) }
-        ensures lent { IfOk result (λ lent. ReadsWith lent.0 lent.1 × ReadsLast lent.0 lent.1 × (shared_opening lent.0 ≡ permit.entry.key) × (lent.1.name ≡ seen.name)) }
-        ensures granted { IfOk result (λ lent. Moves permit.entry.key.value (IsGrant (in_call (what permit.entry.view)) (call_of K.view M.waits)) permit.entry.view seen.entries (shared_party lent.0) lent.1.entries) }
-        ensures missed { IfErr result (λ coming. (coming.permit.key ≡ permit.entry.key) × (coming.seen.name ≡ seen.name) × Moves permit.entry.key.value (IsStep (in_call (what permit.entry.view)) (call_of K.view M.waits) (missed (call_of K.view M.waits) coming.word)) permit.entry.view seen.entries coming.permit.view coming.seen.entries) }
+        ensures lent { IfOk result
+            (IsReader (IsGrant (in_call (what permit.entry.view)) (call_of K.view M.waits)) (spot permit.entry seen)) }
+        ensures missed { IfErr result (λ coming.
+            let call = call_of K.view M.waits in
+            Since (IsStep (in_call (what permit.entry.view)) call (missed call coming.word)) (spot permit.entry seen) (here coming)) }
     {
         let (found, permit, seen) = permit.exchange::<Comes<K, M>>(word as u64, next as u64, seen);
         if found == word as u64 {
@@ -165,9 +167,30 @@ impl<'a, T, K: Kind, M: Mode, R> Coming<'a, T, K, M, R> {
 }
 
 impl<'a, T, K: Kind, R> Coming<'a, T, K, Tries, R> {
-    ghost use Rattle.spin_rwlock.specs.Waits.{SeeksOn, IsLetIn, IsRefused};
+    ghost use Rattle.spin_rwlock.specs.Waits.{IsReader, SeeksOn, IsLetIn, IsRefused};
 
-    // Tries again until it is let in or kept out.
+    /// Tries to admit a reader of this kind, as long as other threads change the word that was found.
+    pub(super) fn try_to_lend<W: Wait>(
+        rt: &W,
+        permit: RwPermit<'a, T>,
+        seen: Watch<Entry<T>>,
+    ) -> Result<Lent<'a, T, K, R>, Pass<'a, T, R>>
+        requires { IsPass permit seen }
+        ensures lent { IfOk result (IsReader (IsCall (call_of K.view false) Granted) (spot permit.entry seen)) }
+        ensures refused { IfErr result (λ pass.
+            Since (IsCall (call_of K.view false) Refused) (spot permit.entry seen) (spot pass.permit pass.seen)) }
+    {
+        let coming = match Self::begin(permit, seen) {
+            Ok(lent) => return Ok(lent),
+            Err(coming) => coming,
+        };
+        match coming.settle() {
+            Ok(pass) => Err(pass),
+            Err(coming) => coming.keep_trying(rt),
+        }
+    }
+
+    // Tries again until a word admits it, or keeps it out.
     // It is not inlined, since that would lengthen the path of every caller that loses no race.
     #[cold]
     #[inline(never)]
@@ -188,7 +211,7 @@ impl<'a, T, K: Kind, R> Coming<'a, T, K, Tries, R> {
         unreachable!()
     }
 
-    // Ends the call if it is kept out.
+    // Ends the call if the word found keeps it out.
     fn settle(self) -> Result<Pass<'a, T, R>, Self>
         ensures refused { IfOk result (IsRefused (call_of K.view false) self.entry) }
         ensures missed { IfErr result (SeeksOn (call_of K.view false) self.entry) }
@@ -249,7 +272,7 @@ impl<'a, T, K: Kind, R: RelaxStrategy> Coming<'a, T, K, Waits, R> {
         }
     }
 
-    // Looks at the word, after one that lets no such reader in.
+    // Loads the word again, after a word that does not admit it.
     fn look(self) -> Self
         requires { grants (call_of K.view true) self.word ≡ None }
         ensures { SeeksOn (call_of K.view true) self.entry result }
@@ -267,27 +290,6 @@ impl<'a, T, K: Kind, R: RelaxStrategy> Coming<'a, T, K, Waits, R> {
             word: found as usize,
             marker: PhantomData,
         }
-    }
-}
-
-/// Tries to admit a reader of this kind, as long as other threads change the word that was found.
-pub(super) fn try_to_lend<'a, T, K: Kind, R, W: Wait>(
-    rt: &W,
-    permit: RwPermit<'a, T>,
-    seen: Watch<Entry<T>>,
-) -> Result<Lent<'a, T, K, R>, Pass<'a, T, R>>
-    requires { IsPass permit seen }
-    ensures lent { IfOk result (λ lent. ReadsWith lent.0 lent.1 × ReadsLast lent.0 lent.1 × (shared_opening lent.0 ≡ permit.entry.key) × (lent.1.name ≡ seen.name)) }
-    ensures granted { IfOk result (λ lent. Called permit.entry.key.value (call_of K.view false) Granted permit.entry.view seen.entries (shared_party lent.0) lent.1.entries) }
-    ensures refused { IfErr result (λ pass. (pass.permit.key ≡ permit.entry.key) × (pass.seen.name ≡ seen.name) × Called permit.entry.key.value (call_of K.view false) Refused permit.entry.view seen.entries pass.permit.view pass.seen.entries) }
-{
-    let coming = match Coming::begin(permit, seen) {
-        Ok(lent) => return Ok(lent),
-        Err(coming) => coming,
-    };
-    match coming.settle() {
-        Ok(pass) => Err(pass),
-        Err(coming) => coming.keep_trying(rt),
     }
 }
 

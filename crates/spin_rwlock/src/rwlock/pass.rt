@@ -11,7 +11,7 @@ ghost use Rattle.spin_rwlock.specs.Guards.{shared_party, write_party, shared_ope
 ghost use Rattle.spin_rwlock.specs.Rw.{call_of, Called, Wrote};
 ghost use Rattle.spin_rwlock.specs.Steps.{IsPass};
 
-use super::coming::{Coming, Lent, Waits, try_to_lend};
+use super::coming::{Coming, Lent, Tries, Waits};
 use super::reader::{RwLockReadGuard, SharedGuard};
 use super::rule::{
     self, CountsReaders, CountsWriters, Entry, Kind, Reader, RwPermit, TriesToWrite, Upgrader,
@@ -183,7 +183,7 @@ impl<'a, T, R: RelaxStrategy> Pass<'a, T, R> {
         (RwLockWriteGuard::new(writer), seen)
     }
 
-    // Waits until it may admit a reader of this kind, and admits it.
+    // Waits until the lock admits a reader of this kind.
     fn lend<K: Kind, W: Wait>(self, rt: &W) -> Lent<'a, T, K, R>
         ensures reads { ReadsWith result.0 result.1 × (result.1.name ≡ self.entry.seen.name) }
         ensures found { ReadsLast result.0 result.1 }
@@ -275,7 +275,7 @@ impl<'a, T, R> Pass<'a, T, R> {
             seen,
             strategy: _,
         } = self;
-        try_to_lend::<_, Reader, _, _>(rt, permit, seen)
+        Coming::<_, Reader, Tries, _>::try_to_lend(rt, permit, seen)
     }
 
     /// Tries to acquire upgradable shared access as [`RwLock::try_upgradeable_read`] does. Fails with the pass.
@@ -299,7 +299,7 @@ impl<'a, T, R> Pass<'a, T, R> {
             seen,
             strategy: _,
         } = self;
-        try_to_lend::<_, Upgrader, _, _>(rt, permit, seen)
+        Coming::<_, Upgrader, Tries, _>::try_to_lend(rt, permit, seen)
     }
 
     /// Tries to acquire exclusive access as [`RwLock::try_write`] does. Returns the pass at once if any thread holds

@@ -1,4 +1,4 @@
-//! What a party is to an `RwLock`, what the word of the lock says of its parties, and each kind of step. Begin at
+//! What a party is to an `RwLock`, the rule that its word and its parties keep, and each kind of step. Begin at
 //! [`RwRule`].
 ghost use Rattle.std.specs.Prelude.{◌≡◌, ℕ, Bool, true, false, refl, Some, None, IfOk, IfErr};
 ghost use Rattle.spin_step.specs.Plain.{Plain, gets, rw_word};
@@ -10,9 +10,10 @@ ghost use Rattle.spin_model.specs.declared.schedule.Outcome.TheVariants.{Answere
 ghost use Rattle.spin_core.specs.Cell.{reads};
 ghost use Rattle.spin_core.specs.Own.{what};
 ghost use Rattle.spin_core.specs.Passes.{IsCall, IsStep};
+ghost use Rattle.spin_core.specs.Spots.{spot};
 ghost use Rattle.spin_core.specs.Values.{IsLast, untold};
-ghost use Rattle.spin_rwlock.specs.Rw.{IsRw, IsRwWord, Told, ends_by, leaves_by, counts_by, writes_by, asks_by, upgrades_by, either_at, given, rw_ways, use_of_view, IsLent, Comes, MayWrite, in_call, grants, call_of, asks, weight_of, downgrade_to, Moves};
-ghost use Rattle.spin_rwlock.specs.Steps.{Knows, KnowsWriter, MayKnow, MayKnowWriter, ShowsLast, WritesLast, Makes, MakesWriter, EndsWriting};
+ghost use Rattle.spin_rwlock.specs.Rw.{IsRw, IsRwWord, Told, ends_by, leaves_by, counts_by, tries_by, asks_by, rw_ways, use_of_view, IsLent, Comes, MayWrite, in_call, grants, call_of, asks, weight_of, downgrade_to};
+ghost use Rattle.spin_rwlock.specs.Steps.{Since, written_at, Knows, KnowsWriter, MayKnow, MayKnowWriter, ShowsLast, WritesLast, Makes, MakesWriter, EndsWriting};
 ghost use Rattle.spin_rwlock.specs.declared.rwlock.rule.View.{View};
 ghost use Rattle.spin_rwlock.specs.declared.rwlock.rule.View.TheVariants.{Idle, Reading, Upgradable, Asking, Writing, WritingAsked, WaitingToWrite};
 
@@ -45,7 +46,7 @@ pub enum View {
     Writing,
     /// It writes, and had asked before.
     WritingAsked,
-    /// It is in this call, which wants to read, and found this word last.
+    /// It is in this call, which wants to read and found this word last.
     Coming(RwCall, usize),
     /// It is in `write`, and its next step is the exchange.
     WaitingToWrite,
@@ -53,12 +54,12 @@ pub enum View {
 
 /// The rule of an [`RwLock`](super::RwLock): its word is the sum of the weights of its holders.
 ///
-/// No value of this type is made, and no caller names it. It has a `T` because several parties read a `T` at once: a
-/// thread that may share one may share the other.
+/// No value of this type exists, and no caller names it. Its field makes it `Sync` only if `T` is, since several
+/// threads read a `T` at once.
 ///
 /// # Contract
-/// `IsRw`: the word is that of a plain lock of these parties. The trace is a schedule of the lock's model, which leads
-/// to this word, with each party in the seat that its view names. The value that nobody writes is the one that this
+/// `IsRw`: the word is that of a plain lock with these holders. The trace is a schedule of the lock's model. It leads
+/// to this word, and to the seat that each party's view names. While nobody writes the value, it is the one that this
 /// schedule writes last (`IsLast`), until the owner borrows it.
 pub struct RwRule<T> {
     never: T,
@@ -104,21 +105,24 @@ impl<T> Play<Opening<T>, Party, Entry<T>> for CountsWriters {
 pub(super) struct TriesToWrite;
 
 impl<T> Play<Opening<T>, Party, Entry<T>> for TriesToWrite {
-    ghost told = { λ key old new before. Told key.value (ends_by TryWrite (given old) (either_at old Writing Idle)) before };
+    ghost told = { λ key old new before.
+        Told key.value (tries_by false TryWrite old (Answered answer.Refused None) Writing Idle) before };
 }
 
 // The exchange of `write`.
 struct Writes;
 
 impl<T> Play<Opening<T>, Party, Entry<T>> for Writes {
-    ghost told = { λ key old new before. Told key.value (writes_by (in_call (what before)) old) before };
+    ghost told = { λ key old new before.
+        Told key.value (tries_by (in_call (what before)) Write old GoingOn Writing WaitingToWrite) before };
 }
 
 // The exchange of `try_upgrade`.
 struct TriesToUpgrade;
 
 impl<T> Play<Opening<T>, Party, Entry<T>> for TriesToUpgrade {
-    ghost told = { λ key old new before. Told key.value (ends_by TryUpgrade (given old) (either_at old Writing Upgradable)) before };
+    ghost told = { λ key old new before.
+        Told key.value (tries_by false TryUpgrade old (Answered answer.Refused None) Writing Upgradable) before };
 }
 
 // The addition by which `upgrade` asks.
@@ -132,7 +136,8 @@ impl<T> Play<Opening<T>, Party, Entry<T>> for Asks {
 struct Upgrades;
 
 impl<T> Play<Opening<T>, Party, Entry<T>> for Upgrades {
-    ghost told = { λ key old new before. Told key.value (upgrades_by old) before };
+    ghost told = { λ key old new before.
+        Told key.value (tries_by true Upgrade old GoingOn WritingAsked Asking) before };
 }
 
 // The addition by which the writer becomes a reader of kind `K`.
@@ -178,7 +183,7 @@ pub trait Kind {
     /// The weight of such a reader in the word.
     const WEIGHT: u64;
 
-    /// Returns the word after such a reader is let in at this word, or `None` if the word lets none in.
+    /// Returns the word with one more such reader, or `None` if this word admits none.
     ///
     /// # Contract
     /// The answer is exact (`grants`), and decides as the plain lock does (`Decides`).
@@ -247,11 +252,11 @@ impl<'a, T> Waiting<'a, T> {
     ghost use Rattle.spin_rwlock.specs.Waits.{IsGranted};
 
     /// Backs off and tries again, until no thread holds the lock.
-    // It repeats the loop of `back_off`. If `write` were passed there, the caller would take much longer to prove.
+    // This is the loop of `back_off`. A caller that passed `write` there would take much longer to prove.
     #[cold]
     #[inline(never)]
     pub(super) fn wait<R: RelaxStrategy, W: Wait>(self, rt: &W) -> (Writer<'a, T>, Watch<Entry<T>>)
-        ensures { IsGranted Write self.entry.permit self.entry.seen result }
+        ensures { IsGranted Write (spot self.entry.permit self.entry.seen) result }
     {
         let mut hints = 1;
         let mut waiting = self;
@@ -268,17 +273,17 @@ impl<'a, T> Waiting<'a, T> {
     }
 }
 
-/// Tries once to acquire exclusive access, for a call that begins or waits. If anybody holds the lock, it waits.
+/// Makes the exchange of `write`, in a call that begins or waits. If the lock is held, the call waits.
 pub(super) fn write<'a, T>(
     permit: RwPermit<'a, T>,
     seen: Watch<Entry<T>>,
 ) -> Result<(Writer<'a, T>, Watch<Entry<T>>), Waiting<'a, T>>
     requires { MayWrite (what permit.view) × Knows permit seen }
-    ensures writes { IfOk result (λ held. (held.0.view.0 ≡ Writing) × KnowsWriter held.0 held.1 × (held.0.key ≡ permit.entry.key) × (held.1.name ≡ seen.name)) }
-    ensures waits { IfErr result (λ next. (next.permit.key ≡ permit.entry.key) × (next.seen.name ≡ seen.name)) }
-    ensures found { IfOk result (λ held. WritesLast held.0 held.1) }
-    ensures granted { IfOk result (λ held. Moves permit.entry.key.value (IsStep (in_call (what permit.entry.view)) Write (Answered answer.Granted None)) permit.entry.view seen.entries (Some held.0.view) held.1.entries) }
-    ensures missed { IfErr result (λ next. Moves permit.entry.key.value (IsStep (in_call (what permit.entry.view)) Write GoingOn) permit.entry.view seen.entries next.permit.view next.seen.entries) }
+    ensures writes { IfOk result (λ held. KnowsWriter held.0 held.1 × WritesLast held.0 held.1) }
+    ensures granted { IfOk result (λ held. let begun = in_call (what permit.entry.view) in
+        Since (IsStep begun Write (Answered answer.Granted None)) (spot permit.entry seen) (written_at held)) }
+    ensures missed { IfErr result (λ next. let begun = in_call (what permit.entry.view) in
+        Since (IsStep begun Write GoingOn) (spot permit.entry seen) (spot next.permit next.seen)) }
 {
     let next = rw::write(0).unwrap();
     let (found, permit, seen) = permit.exchange::<Writes>(0, next as u64, seen);
@@ -324,7 +329,7 @@ pub(super) fn ask<'a, T>(
     (party, seen)
 }
 
-/// Tries once to make the reader that has asked the writer. If the lock has another holder, it still asks.
+/// Tries once to make the asking reader the writer. If the lock has another holder, the reader still asks.
 pub(super) fn upgrade_asked<'a, T>(
     party: RwPermit<'a, T>,
     seen: Watch<Entry<T>>,
@@ -376,7 +381,7 @@ pub(super) fn upgradable_to_read<'a, T>(
     (party, seen)
 }
 
-/// Releases the exclusive access of the writer, whose party is out then. It writes its value into the history.
+/// Releases the writer's exclusive access, and writes its value into the history. The party is then idle.
 pub(super) fn release_write<'a, T>(
     writer: Writer<'a, T>,
     seen: Watch<Entry<T>>,
@@ -391,7 +396,7 @@ pub(super) fn release_write<'a, T>(
     (party, seen)
 }
 
-/// Releases the shared access of a reader of kind `K`, whose party is out then.
+/// Releases the shared access of a reader of kind `K`. The party is then idle.
 pub(super) fn release<'a, T, K: Kind>(
     party: RwPermit<'a, T>,
     seen: Watch<Entry<T>>,

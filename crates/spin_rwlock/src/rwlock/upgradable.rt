@@ -5,6 +5,7 @@ ghost use Rattle.spin_step_more.specs.declared.rw_calls.RwCall.TheVariants.{TryU
 ghost use Rattle.spin_rwlock.specs.Guards.{write_value, shared_party, write_party, shared_opening, write_opening, ReadsWith, WritesWith, ReadsLast, FindsLast};
 ghost use Rattle.spin_rwlock.specs.Rw.{IsLent, Called};
 ghost use Rattle.spin_rwlock.specs.Steps.{Knows};
+ghost use Rattle.spin_core.specs.Spots.{spot};
 ghost use Rattle.spin_rwlock.specs.Waits.{IsGranted};
 ghost use Rattle.spin_rwlock.specs.declared.rwlock.rule.View.TheVariants.{Asking, WritingAsked};
 
@@ -220,7 +221,7 @@ impl<'a, T, R: RelaxStrategy> SharedGuard<'a, T, Upgrader, R> {
     }
 }
 
-// Kept out of line: inlined, it would lengthen the path of every caller that does not wait.
+// It is not inlined, since that would lengthen the path of every caller that does not wait.
 #[cold]
 #[inline(never)]
 fn wait_to_upgrade<'a, T, R: RelaxStrategy, W: Wait>(
@@ -252,7 +253,7 @@ fn wait_to_upgrade_seen<'a, T, R: RelaxStrategy, W: Wait>(
 ) -> (Writer<'a, T>, Watch<Entry<T>>)
     requires { IsLent asking Asking × Knows asking seen }
     ensures asked { (result.0.view.0 ≡ WritingAsked) × (asking.entry.value ≡ Some result.0.value) }
-    ensures granted { IsGranted Upgrade asking.entry seen result }
+    ensures granted { IsGranted Upgrade (spot asking.entry seen) result }
 {
     let mut asking = asking;
     let mut known = seen;

@@ -149,7 +149,7 @@ impl<'a, T, R> RwLockWriteGuard<'a, T, R> {
         self.lend(seen)
     }
 
-    // Becomes a reader of kind `K`, for a guard that a pass acquired.
+    // Becomes a reader of kind `K`. A pass acquired this guard.
     fn lend<K: Kind>(self, seen: Watch<Entry<T>>) -> (SharedGuard<'a, T, K, R>, Watch<Entry<T>>)
         requires { WritesWith self seen }
         ensures value { shared_value result.0 ≡ Some (write_value self.entry) }

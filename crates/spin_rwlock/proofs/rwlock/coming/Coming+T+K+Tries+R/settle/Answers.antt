@@ -1,8 +1,9 @@
-use Rattle.std.proofs.Common.{◌≡◌, None, false, refl, ◌∙◌, sym}
+use Rattle.std.proofs.Common.{◌≡◌, None, false, ◌∙◌, sym}
 use Rattle.spin_core.specs.Own.{what}
 use Rattle.spin_rwlock.specs.Rw.{call_of, grants}
-use Rattle.spin_rwlock.proofs.Steps.{refused_out}
-use Rattle.spin_rwlock.proofs.Passes.{keeps_out, is_refused}
+use Rattle.spin_rwlock.specs.Waits.{here}
+use Rattle.spin_rwlock.proofs.Steps.{refused_out, keeps_out}
+use Rattle.spin_rwlock.proofs.Passes.{is_refused}
 use Rattle.spin_rwlock.proofs.rwlock.coming.Coming+T+K+Tries+R.settle.Goals as goal
 
 pub new-requires : goal.new-requires
@@ -13,13 +14,10 @@ new-requires g c =
 
 pub returns-in-None : goal.returns-in-None
 returns-in-None g c =
-    let me = c.args.self in let won = g.K.Kind.view in let cm = g.met.K.Kind.comes in let e = c.new.ensures in let now = c.new.result in
+    let me = c.args.self in let won = g.K.Kind.view in let e = c.new.ensures in
     let none : grants (call_of won false) me.word ≡ None = sym (c.next.ensures.exact false) ∙ c.in-None.is in
-    let kept = keeps_out won cm me.word none in
-    record {
-      refused = rw (e.0, e.1) (refl, refl, λ lock is first old made. is_refused lock.value (call_of won false) first me.permit.view old me.seen.entries me.word kept made);
-      missed = tt;
-    }
+    let kept = keeps_out won g.met.K.Kind.comes me.word none in
+    record { refused = rw (e.0, e.1) (λ p sought. is_refused (call_of won false) p (here me) me.word kept sought); missed = tt }
 
 pub returns-in-Some : goal.returns-in-Some
-returns-in-Some g c = record { refused = tt; missed = (refl, refl, λ lock is first old made. made) }
+returns-in-Some g c = record { refused = tt; missed = λ p sought. sought }

@@ -1,9 +1,11 @@
-use Rattle.std.proofs.Common.{◌≡◌, None, ◌∙◌, sym, subst}
+use Rattle.std.proofs.Common.{◌≡◌, None, subst}
 use Rattle.std.proofs.lemmas.Result.{IfOk-weaker, IfErr-weaker}
 use Rattle.spin_core.specs.Own.{what}
 use Rattle.spin_core.specs.Passes.{IsStep}
-use Rattle.spin_rwlock.specs.Guards.{shared_party}
-use Rattle.spin_rwlock.specs.Rw.{grants, call_of, missed, IsGrant, Moves}
+use Rattle.spin_core.specs.Spots.{spot}
+use Rattle.spin_rwlock.specs.Steps.{Since}
+use Rattle.spin_rwlock.specs.Rw.{grants, call_of, missed, IsGrant}
+use Rattle.spin_rwlock.specs.Waits.{here, lent_at}
 use Rattle.spin_rwlock.proofs.Steps.{opens_free, not_in_call}
 use Rattle.spin_rwlock.proofs.Passes.{begins_granted, begins_missed}
 use Rattle.spin_rwlock.proofs.rwlock.coming.Coming.begin.Goals as goal
@@ -16,16 +18,17 @@ unreachable-requires g c =
 
 pub returns-in-Err : goal.returns-in-Err
 returns-in-Err g c =
-    let call = call_of g.K.Kind.view g.M.Mode.waits in let p = c.args.permit in let old = c.args.seen.entries in let now = c.in-Err.coming in let e = c.in-Err.ensures.missed in let v = p.key.value in
-    let step = subst (λ b. Moves v (IsStep b call (missed call now.word)) p.view old now.permit.view now.seen.entries) (not_in_call (what p.view) c.requires.0) e.2 in
-    let begun = begins_missed v call p.view now.permit.view old now.seen.entries now.word step in let r = c.try_at.result in let tried = c.try_at.ensures in
+    let call = call_of g.K.Kind.view g.M.Mode.waits in let p = spot c.args.permit c.args.seen in let now = c.in-Err.coming in
+    let step = subst (λ b. Since (IsStep b call (missed call now.word)) p (here now)) (not_in_call (what p.1) c.requires.0) c.in-Err.ensures.missed in
+    let begun = begins_missed call p (here now) now.word step in let tried = c.try_at in
     record {
-      lent = IfOk-weaker r _ _ (λ lent is. (is.0.0, is.0.1, is.1 ∙ e.0, is.2 ∙ e.1)) tried.lent;
-      granted = IfOk-weaker r _ _ (λ lent is. is.3 p.key (sym e.0) p.view old begun) tried.lent;
-      missed = IfErr-weaker r _ _ (λ next is. (is.0 ∙ e.0, is.1 ∙ e.1, is.2 p.key (sym e.0) p.view old begun)) tried.missed;
+      lent = IfOk-weaker tried.result _ _ (λ lent is. is p begun) tried.ensures.lent;
+      missed = IfErr-weaker tried.result _ _ (λ next is. is p begun) tried.ensures.missed;
     }
 
-pub returns-in_default-come-clause-granted : goal.returns-in_default-come-clause-granted
-returns-in_default-come-clause-granted g c =
-    let call = call_of g.K.Kind.view g.M.Mode.waits in let p = c.args.permit in let old = c.args.seen.entries in let v = p.key.value in
-    IfOk-weaker c.come.result _ _ (λ lent made. begins_granted v call p.view (shared_party lent.0) old lent.1.entries (subst (λ b. Moves v (IsGrant b call) p.view old (shared_party lent.0) lent.1.entries) (not_in_call (what p.view) c.requires.0) made)) c.come.ensures.granted
+pub returns-in_default-come-clause-lent : goal.returns-in_default-come-clause-lent
+returns-in_default-come-clause-lent g c =
+    let call = call_of g.K.Kind.view g.M.Mode.waits in let p = spot c.args.permit c.args.seen in
+    let new = not_in_call (what p.1) c.requires.0 in
+    IfOk-weaker c.come.result _ _
+    (λ lent is. (is.0, begins_granted call p (lent_at lent) (subst (λ b. Since (IsGrant b call) p (lent_at lent)) new is.1))) c.come.ensures.lent

@@ -1,17 +1,16 @@
-use Rattle.std.proofs.Common.{◌≡◌, ◌≢◌, ◌==◌, Some, ap, ◌∙◌, sym, subst, eq-eqb, ne_eqb}
+use Rattle.std.proofs.Common.{◌≡◌, ◌≢◌, ◌==◌, refl, ap, ◌∙◌, sym, subst, eq-eqb, ne_eqb}
 use mathlib.Core.Logic.{inr}
 use Rattle.spin_core.specs.Cell.{off, reads}
-use Rattle.spin_core.specs.Own.{Numbered, what}
-use Rattle.spin_core.specs.declared.cell.Permit.{Permit}
-use Rattle.spin_core.specs.declared.tie.Opening.{Opening}
+use Rattle.spin_core.specs.Own.{what}
+use Rattle.spin_core.specs.Passes.{IsStep}
+use Rattle.spin_core.specs.Spots.{spot}
 use Rattle.spin_core.specs.declared.trace.Trace.{Trace}
-use Rattle.spin_rwlock.specs.Rw.{Done, call_of, came, comes_by, in_call, use_of_view, IsGrant, IsArrival, Moves}
-use Rattle.spin_rwlock.specs.Steps.{Knows, ShowsLast}
+use Rattle.spin_rwlock.specs.Rw.{Done, call_of, came, in_call, missed, use_of_view, IsGrant, IsArrival}
+use Rattle.spin_rwlock.specs.Steps.{Party, Knows, ShowsLast, Since}
 use Rattle.spin_rwlock.specs.declared.rwlock.rule.RwRule.{RwRule}
-use Rattle.spin_rwlock.specs.declared.rwlock.rule.View.{View}
 use Rattle.spin_rwlock.specs.declared.rwlock.rule.View.TheVariants.{Coming}
-use Rattle.spin_rwlock.proofs.Steps.{comes_in, may_come_unused}
-use Rattle.spin_rwlock.proofs.Passes.{may, told, stood, won_by, lost_by, reads_found, is_shown}
+use Rattle.spin_rwlock.proofs.Steps.{comes_in, may_come, none_writes}
+use Rattle.spin_rwlock.proofs.Passes.{may, stands, makes, won_by, lost_by, reads_found, is_shown}
 use Rattle.spin_rwlock.proofs.rwlock.coming.Coming.come.Goals as goal
 
 pub exchange-found-requires : goal.exchange-found-requires
@@ -21,41 +20,46 @@ exchange-found-requires g c =
 
 pub new-requires : goal.new-requires
 new-requires g c =
-    let it = c.args.permit in let r = c.exchange-found.result in let e = c.exchange-found.ensures in let seen = c.args.seen in let word = c.args.word in let won = g.K.Kind.view in
-    let call = call_of won g.M.Mode.waits in let uses : use_of_view won ≢ off = λ e. absurd (let no : reads ≡ off = sym g.met.K.Kind.lends ∙ e in cc) in
-    let at = stood it.key it.view r.1.view seen r.2 r.0 (comes_by (in_call (what it.view)) won call word) (came won call word) (λ own outs k v said. said.0) r.1.view e.moved
-    ∙ ap Some (won_by word r.0 won (Coming call r.0) c.if-found-word.true) in
+    let it = c.args.permit in let r = c.exchange-found.result in let e = c.exchange-found.ensures in let seen = c.args.seen in let word = c.args.word in
+    let won = g.K.Kind.view in
+    let on = in_call (what it.view) in let call = call_of won g.M.Mode.waits in
+    let uses : use_of_view won ≢ off = λ e. absurd (let no : reads ≡ off = sym g.met.K.Kind.lends ∙ e in cc) in
+    let at = stands it seen r (came won call word) (λ k. IsArrival on call (k == word) k) e.moved won
+    (won_by word r.0 won (Coming call r.0) c.if-found-word.true) in
     (at, is_shown it seen r won at e.kept uses)
 
 pub invariant_of-result : goal.invariant_of-result
 invariant_of-result g c =
-    let it = c.args.permit in let r = c.exchange-found.result in let e = c.exchange-found.ensures in let seen = c.args.seen in let word = c.args.word in let won = g.K.Kind.view in
+    let it = c.args.permit in let r = c.exchange-found.result in let e = c.exchange-found.ensures in let seen = c.args.seen in let word = c.args.word in
+    let won = g.K.Kind.view in
     let on = in_call (what it.view) in let call = call_of won g.M.Mode.waits in
-    let t = told it.key it.view r.1.view seen r.2 r.0 r.1.key e.key c.requires.knows (comes_by on won call word) (came won call word) (λ k. IsArrival on call (k == word) k) (λ own outs k v said. said) e.moved in
-    let at = stood it.key it.view r.1.view seen r.2 r.0 (comes_by on won call word) (came won call word) (λ own outs k v said. said.0) r.1.view e.moved in
-    record { comes = at ∙ ap Some (lost_by word r.0 won (Coming call r.0) c.if-found-word.false); knows = t.0 }
+    record {
+      comes = stands it seen r (came won call word) (λ k. IsArrival on call (k == word) k) e.moved (Coming call r.0)
+          (lost_by word r.0 won (Coming call r.0) c.if-found-word.false);
+      knows = (makes it seen r (came won call word) (λ k. IsArrival on call (k == word) k) e.moved e.key
+          (IsArrival on call (r.0 == word) r.0) refl c.requires.knows).0;
+    }
 
 pub returns-then-found-word : goal.returns-then-found-word
 returns-then-found-word g c =
-    let it = c.args.permit in let f = c.exchange-found in let seen = c.args.seen in let n = f.result.0 in let word = c.args.word in let on = in_call (what it.view) in let won = g.K.Kind.view in
-    let call = call_of won g.M.Mode.waits in
-    let t = told it.key it.view f.result.1.view seen f.result.2 n f.result.1.key f.ensures.key c.requires.knows (comes_by on won call word) (came won call word) (λ k. IsArrival on call (k == word) k) (λ own outs k v said. said) f.ensures.moved in
-    let last = reads_found it.key it.view f.result.1.view it.value f.result.1.value f.result.2 f.ensures.found f.ensures.kept (may_come_unused call word (what it.view) c.requires.may) f.result.1.key f.ensures.key in
-    let made = subst (λ b. Moves it.key.value (IsArrival on call b n) it.view seen.entries f.result.1.view f.result.2.entries) (eq-eqb n word c.if-found-word.true) t.2 in
+    let it = c.args.permit in let r = c.exchange-found.result in let e = c.exchange-found.ensures in let seen = c.args.seen in let word = c.args.word in
+    let won = g.K.Kind.view in
+    let on = in_call (what it.view) in let call = call_of won g.M.Mode.waits in
+    let made = makes it seen r (came won call word) (λ k. IsArrival on call (k == word) k) e.moved e.key (IsGrant on call)
+    (ap (λ b. IsArrival on call b r.0) (eq-eqb r.0 word c.if-found-word.true)) c.requires.knows in
+    let not = none_writes (what it.view) (may_come call word (what it.view) c.requires.may) in
+    let last = reads_found it.key it.view r.1.view it.value r.1.value r.2 e.found e.kept not r.1.key e.key in
     record {
-      lent = subst (λ (p : Permit g.row.T.Denot (Numbered View) (RwRule g.row.T.Denot) (Opening g.row.T.Denot) (Trace (Done g.row.T.Denot) (Unit {0}))). Knows p f.result.2 × ShowsLast p f.result.2 × (p.key ≡ it.key) × (f.result.2.name ≡ seen.name)) (sym c.new.ensures.same)
-          (t.0, last, f.ensures.key, t.1);
-      granted = subst (λ p. Moves it.key.value (IsGrant on call) it.view seen.entries p.view f.result.2.entries) (sym c.new.ensures.same) made;
+      lent = subst (λ (p : Party g.row.T.Denot (RwRule g.row.T.Denot) (Trace (Done g.row.T.Denot) (Unit {0}))).
+          (Knows p r.2 × ShowsLast p r.2) × Since (IsGrant on call) (spot it seen) (spot p r.2)) (sym c.new.ensures.same)
+          ((made.0, last), (made.2, made.1, e.key));
       missed = tt;
     }
 
 pub returns-else-found-word : goal.returns-else-found-word
 returns-else-found-word g c =
-    let it = c.args.permit in let f = c.exchange-found in let seen = c.args.seen in let n = f.result.0 in let word = c.args.word in let on = in_call (what it.view) in let won = g.K.Kind.view in
-    let call = call_of won g.M.Mode.waits in
-    let t = told it.key it.view f.result.1.view seen f.result.2 n f.result.1.key f.ensures.key c.requires.knows (comes_by on won call word) (came won call word) (λ k. IsArrival on call (k == word) k) (λ own outs k v said. said) f.ensures.moved in
-    record {
-      lent = tt;
-      granted = tt;
-      missed = (f.ensures.key, t.1, subst (λ b. Moves it.key.value (IsArrival on call b n) it.view seen.entries f.result.1.view f.result.2.entries) (ne_eqb n word c.if-found-word.false) t.2);
-    }
+    let it = c.args.permit in let r = c.exchange-found.result in let e = c.exchange-found.ensures in let word = c.args.word in let won = g.K.Kind.view in
+    let on = in_call (what it.view) in let call = call_of won g.M.Mode.waits in
+    let made = makes it c.args.seen r (came won call word) (λ k. IsArrival on call (k == word) k) e.moved e.key (IsStep on call (missed call r.0))
+    (ap (λ b. IsArrival on call b r.0) (ne_eqb r.0 word c.if-found-word.false)) c.requires.knows in
+    record { lent = tt; missed = (made.2, made.1, e.key) }
