@@ -2,10 +2,9 @@
 -- lock's model.
 use Rattle.std.proofs.Common.{◌≡◌, ℕ, [], ◌∷◌, ◌==◌, Bool, true, false, Option, Some, None, if◌then◌else◌, refl, ap, subst, arith, length, inl, inr}
 use prog.Atomic.{either}
-use Rattle.spin_step.specs.Plain.{Plain, Kind, writing, gets, releases, to_write, flag_word}
-use Rattle.spin_step.specs.Flags.{lock}
-use Rattle.spin_step.specs.Steps.{bit, Decides, Gives}
+use Rattle.spin_step.specs.Plain.{writing, releases, to_write, flag_word}
 use Rattle.spin_step.proofs.Exclusive.{writes_alone}
+use Rattle.spin_step.proofs.Flags.{flag_lock-grants, flag_unlock-gives}
 use Rattle.spin_step.proofs.Holders.{is_holder-from_entries}
 use Rattle.spin_core.specs.Cell.{alone, reads, writes, use_of, AllowsAt, Meets, Moved}
 use Rattle.spin_core.specs.Own.{Numbered, what}
@@ -31,7 +30,7 @@ use Rattle.spin_model.specs.declared.flag.FlagPoint.{FlagPoint}
 use Rattle.spin_model.specs.declared.schedule.Move.TheVariants.{Begin, Step, Write}
 use Rattle.spin_model.specs.declared.schedule.Outcome.TheVariants.{Begun, Answered, GoingOn, Written}
 use Rattle.spin_flag.specs.Flag as flags
-use Rattle.spin_flag.specs.Flag.{part, IsFlag, Told, use_of_view, seat_of, model, model_at, words_of, flag_ways, MayTry, has_begun, Says, looks_by, tries_by, frees_by, tried_by, looked_by}
+use Rattle.spin_flag.specs.Flag.{part, IsFlag, Told, use_of_view, seat_of, model, model_at, words_of, flag_ways, MayTry, has_begun, Says, looks_by, tries_by, frees_by, tried_by, looked_by, if_clear}
 use Rattle.spin_flag.specs.Waits.{Spot}
 use Rattle.spin_flag.specs.declared.spin.rule.View.{View}
 use Rattle.spin_flag.specs.declared.spin.rule.View.TheVariants.{Idle, Holding, Trying, Looking}
@@ -60,17 +59,14 @@ flag = record {
 abbrev pub mutex : {T : Type 0} → Opening T → Mutex Bool T FlagCall FlagPoint View (Unit {0})
 mutex opening = record { plain = flag; model = model opening.value; seat_of = seat_of; words_of = words_of; opening = opening; idle_sits = refl }
 
-pub taken_is : (taken : Bool) → Some taken ≡ lock false → bit taken ≡ 1
-taken_is taken is = let same : taken ≡ true = cc (is) in ap bit same
+-- the word after an exchange of the flag
+abbrev swapped : ℕ → ℕ
+swapped n = either (n == 0) 1 n
 
--- an exchange by a party that has nothing; the lemma of the step function says that the flag is clear if it grants
-abbrev Grants : ℕ → Type 0
-Grants taken = (s : Plain) (p : ℕ) → flag_word s ≡ 0 → Decides s (gets p to_write) flag_word (Some taken)
-
-exchanges_flag : (view : Option View) (lost : View) → part_before part view ≡ idle → part lost ≡ idle → (taken : ℕ) → Grants taken
-    → AllowsAt (Holds flag) (ways flag) view None (λ n. either (n == 0) taken n) (exchanges (λ _. Holding) lost 0 taken view)
-exchanges_flag view lost nothing still taken plain =
-    exchanges_at flag view to_write Holding (λ n. lost) 0 taken nothing (λ n. still) (λ s p. refl) (λ s. tt) (λ s p order room e. plain s p e)
+exchanges_flag : (view : Option View) (lost : View) → part_before part view ≡ idle → part lost ≡ idle
+    → AllowsAt (Holds flag) (ways flag) view None swapped (exchanges (λ _. Holding) lost 0 1 view)
+exchanges_flag view lost nothing still =
+    exchanges_at flag view to_write Holding (λ n. lost) 0 1 nothing (λ n. still) (λ s p. refl) (λ s. tt) (λ s p order room e. flag_lock-grants s p false e)
 
 module _ {T : Type 0} (opening : Opening T) where
   abbrev Keeps : Option (Numbered View) → Option T → (ℕ → ℕ) → Says T → Type 0
@@ -87,22 +83,22 @@ module _ {T : Type 0} (opening : Opening T) where
   load_moves true value v is =
       rw is (Begin IsLocked ∷ Step ∷ [], Begun ∷ Answered (Is true) None ∷ [], (refl, (refl, refl)), refl, refl, true, value, refl, refl, refl)
 
-  attempt_moves : MovesTo None (λ n. either (n == 0) 1 n) (λ n. if n == 0 then Holding else Idle) tries_by
+  attempt_moves : MovesTo None swapped (if_clear Holding Idle) tries_by
   attempt_moves false value v is =
       rw is (Begin TryLock ∷ Step ∷ [], Begun ∷ Answered Granted None ∷ [], (refl, (refl, refl)), refl, refl, true, value, refl, refl, refl)
   attempt_moves true value v is =
       rw is (Begin TryLock ∷ Step ∷ [], Begun ∷ Answered Refused None ∷ [], (refl, (refl, refl)), refl, refl, true, value, refl, refl, refl)
 
-  first_moves : MovesTo None (λ n. either (n == 0) 1 n) (λ n. if n == 0 then Holding else Looking) (tried_by false)
+  first_moves : MovesTo None swapped (if_clear Holding Looking) (tried_by false)
   first_moves false value v is =
       rw is (Begin Lock ∷ Step ∷ [], Begun ∷ Answered Granted None ∷ [], (refl, (refl, refl)), refl, refl, true, value, refl, refl, refl)
   first_moves true value v is = rw is (Begin Lock ∷ Step ∷ [], Begun ∷ GoingOn ∷ [], (refl, (refl, refl)), refl, refl, true, value, refl, refl, refl)
 
-  try_moves : MovesTo (Some Trying) (λ n. either (n == 0) 1 n) (λ n. if n == 0 then Holding else Looking) (tried_by true)
+  try_moves : MovesTo (Some Trying) swapped (if_clear Holding Looking) (tried_by true)
   try_moves false value v is = rw is (Step ∷ [], Answered Granted None ∷ [], (refl, (refl, refl)), refl, refl, true, value, refl, refl, refl)
   try_moves true value v is = rw is (Step ∷ [], GoingOn ∷ [], (refl, (refl, refl)), refl, refl, true, value, refl, refl, refl)
 
-  look_moves : MovesTo (Some Looking) (λ n. n) (λ n. if n == 0 then Trying else Looking) looked_by
+  look_moves : MovesTo (Some Looking) (λ n. n) (if_clear Trying Looking) looked_by
   look_moves false value v is = rw is (Step ∷ [], GoingOn ∷ [], (refl, (refl, refl)), refl, refl, false, value, refl, refl, refl)
   look_moves true value v is = rw is (Step ∷ [], GoingOn ∷ [], (refl, (refl, refl)), refl, refl, true, value, refl, refl, refl)
 
@@ -122,46 +118,37 @@ module _ {T : Type 0} (opening : Opening T) where
 
     pub looks : IsOut Idle (what view) → Keeps view shown (λ n. n) looks_by
     looks out =
-        mutexes.begins (mutex opening) view shown out (λ n. n) IsLocked (λ n. Answered (Is (flags.set n)) None) (λ n. Idle) load_moves
-        (looks_at flag (what view) (λ n. Idle) (nothing out) (λ n. refl))
+        mutexes.begins (mutex opening) view shown out (λ n. n) IsLocked _ _ load_moves (looks_at flag (what view) _ (nothing out) (λ n. refl))
 
-    pub attempts : IsOut Idle (what view) → (taken : ℕ) → taken ≡ 1 → Grants taken → Keeps view shown (λ n. either (n == 0) taken n) tries_by
-    attempts out taken one plain =
-        mutexes.begins (mutex opening) view shown out (λ n. either (n == 0) taken n) TryLock
-        (λ n. if n == 0 then Answered Granted None else Answered Refused None) (λ n. if n == 0 then Holding else Idle)
-        (rw one attempt_moves) (exchanges_flag (what view) Idle (nothing out) refl taken plain)
+    pub attempts : IsOut Idle (what view) → Keeps view shown swapped tries_by
+    attempts out =
+        mutexes.begins (mutex opening) view shown out swapped TryLock _ _ attempt_moves (exchanges_flag (what view) Idle (nothing out) refl)
 
-    pub tries : MayTry (what view) → (taken : ℕ) → taken ≡ 1 → Grants taken
-        → Keeps view shown (λ n. either (n == 0) taken n) (tried_by (has_begun (what view)))
-    tries may taken one plain = by_begun may where
-      by_begun : MayTry (what view) → Keeps view shown (λ n. either (n == 0) taken n) (tried_by (has_begun (what view)))
-      by_begun (inl out) = rw (as_new Idle has_begun refl (what view) out)
-          (mutexes.begins (mutex opening) view shown out (λ n. either (n == 0) taken n) Lock (λ n. if n == 0 then Answered Granted None else GoingOn)
-          (λ n. if n == 0 then Holding else Looking)
-          (rw one first_moves) (exchanges_flag (what view) Looking (nothing out) refl taken plain))
-      by_begun (inr is) = rw (ap has_begun is)
-          (mutexes.in_call (mutex opening) view shown (ap (use_of use_of_view) is) (λ n. either (n == 0) taken n) true Lock
-          (λ n. if n == 0 then Answered Granted None else GoingOn) (λ n. if n == 0 then Holding else Looking)
-          (rw (one, is) try_moves) (exchanges_flag (what view) Looking (ap (part_before part) is) refl taken plain))
+    pub tries : MayTry (what view) → Keeps view shown swapped (tried_by (has_begun (what view)))
+    tries (inl out) = rw (as_new Idle has_begun refl (what view) out)
+        (mutexes.begins (mutex opening) view shown out swapped Lock _ _ first_moves
+        (exchanges_flag (what view) Looking (nothing out) refl))
+    tries (inr is) = rw (ap has_begun is)
+        (mutexes.in_call (mutex opening) view shown (ap (use_of use_of_view) is) swapped true Lock _ _ (rw is try_moves)
+        (exchanges_flag (what view) Looking (ap (part_before part) is) refl))
 
     pub looks_on : what view ≡ Some Looking → Keeps view shown (λ n. n) looked_by
     looks_on is =
-        mutexes.in_call (mutex opening) view shown (ap (use_of use_of_view) is) (λ n. n) true Lock (λ n. GoingOn) (λ n. if n == 0 then Trying else Looking)
-        (rw is look_moves)
-        (rw is (looks_at flag (Some Looking) (λ n. if n == 0 then Trying else Looking) refl (λ n. none_looked (n == 0)))) where
+        mutexes.in_call (mutex opening) view shown (ap (use_of use_of_view) is) (λ n. n) true Lock _ _ (rw is look_moves)
+        (rw is (looks_at flag (Some Looking) (if_clear Trying Looking) refl (λ n. none_looked (n == 0)))) where
           none_looked : (free : Bool) → part (if free then Trying else Looking) ≡ idle
           none_looked true = refl
           none_looked false = refl
 
-  pub releases_flag : (freed : ℕ) → freed ≡ 0 → ((s : Plain) (p : ℕ) (k : Kind) → flag_word s ≡ 1 → Gives s (releases p k) flag_word freed) → (v : Numbered View) (x : T) → v.0 ≡ Holding → Keeps (Some v) (Some x) (λ _. freed) frees_by
-  releases_flag freed none plain v x held =
-      mutexes.releases (mutex opening) (Some v) (Some x) x Release Done (ap use_of_view held) refl (λ _. freed) (λ n u. u ≡ Idle)
-      (rw (none, held) (release_moves x))
-      (rw held (allows flag (Some Holding) (λ _. freed) (λ n u. u ≡ Idle) (λ s p room order has.
+  pub releases_flag : (v : Numbered View) (x : T) → v.0 ≡ Holding → Keeps (Some v) (Some x) (λ _. 0) frees_by
+  releases_flag v x held =
+      mutexes.releases (mutex opening) (Some v) (Some x) x Release Done (ap use_of_view held) refl (λ _. 0) (λ n u. u ≡ Idle)
+      (rw held (release_moves x))
+      (rw held (allows flag (Some Holding) (λ _. 0) (λ n u. u ≡ Idle) (λ s p room order has.
       let holds = is_holder-from_entries p writing s.holders (ap (λ e. e.holders) has.0) in (
         Idle,
-        by_step flag (Some Holding) Idle s (releases p writing) freed tt holds (release-own s p writing) tt
-            (plain s p writing (writes_alone s p order.exclusive holds) holds) refl,
+        by_step flag (Some Holding) Idle s (releases p writing) 0 tt holds (release-own s p writing) tt
+            (flag_unlock-gives s p writing true (writes_alone s p order.exclusive holds) holds) refl,
         refl,
       ))))
 
@@ -176,11 +163,11 @@ module _ {T : Type 0} (p q : Spot T) (same : q.0 ≡ p.0) (named : p.0.name ≡ 
 
   -- an exchange, by whether it found the flag clear
   pub by_clear : (b : Bool) → (found == 0) ≡ b → (goes_on : Bool) (c : FlagCall) (won lost : Ending T) (taken away : View)
-      → Steps (step_by goes_on c (λ n. if n == 0 then won else lost) (λ n. if n == 0 then taken else away))
+      → Steps (step_by goes_on c (if_clear won lost) (if_clear taken away))
       → Stepped model_at goes_on c (if b then won else lost) (if b then taken else away) p q
   by_clear b is goes_on c won lost taken away moved =
       subst (λ x. Stepped model_at goes_on c (if x then won else lost) (if x then taken else away) p q) is
-      (stepped goes_on c (λ n. if n == 0 then won else lost) (λ n. if n == 0 then taken else away) moved)
+      (stepped goes_on c (if_clear won lost) (if_clear taken away) moved)
 
 -- the flag is clear, as the code tests it
 pub is_clear : (n : ℕ) → false ≡ flags.set n → (n == 0) ≡ true

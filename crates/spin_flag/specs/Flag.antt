@@ -1,5 +1,5 @@
 -- The rule of a lock of one flag. Its word is that of a plain lock whose holders are the holding parties. Its trace
--- is a schedule of the lock's model, which leads there.
+-- is a schedule of the lock's model. The schedule leads to this word and to the views of these parties.
 use Rattle.std.specs.Prelude.{◌≡◌, ℕ, List, Bool, true, false, Option, Some, None, ◌==◌, if◌then◌else◌, ◌⊎◌}
 use Rattle.spin_step.specs.Plain.{writing, flag_word}
 use Rattle.spin_step.specs.Steps.{bit}
@@ -57,6 +57,10 @@ Word = Encodes part 0 flag_word no_word
 abbrev pub set : ℕ → Bool
 set n = if n == 0 then false else true
 
+-- one of two, by whether a step found the flag clear
+abbrev pub if_clear : {A : Type 0} → A → A → ℕ → A
+if_clear one other n = if n == 0 then one else other
+
 -- the party has begun its `lock`
 abbrev pub has_begun : Option View → Bool
 has_begun (Some Trying) = true
@@ -100,14 +104,14 @@ module _ {T : Type 0} where
   looks_by = step_by false IsLocked (λ n. Answered (Is (set n)) None) (λ n. Idle)
 
   abbrev pub tries_by : Says T
-  tries_by = step_by false TryLock (λ n. if n == 0 then Answered Granted None else Answered Refused None) (λ n. if n == 0 then Holding else Idle)
+  tries_by = step_by false TryLock (if_clear (Answered Granted None) (Answered Refused None)) (if_clear Holding Idle)
 
   -- the exchange of `lock`, in a call under way (true) or in a new one, and its look
   abbrev pub tried_by : Bool → Says T
-  tried_by goes_on = step_by goes_on Lock (λ n. if n == 0 then Answered Granted None else GoingOn) (λ n. if n == 0 then Holding else Looking)
+  tried_by goes_on = step_by goes_on Lock (if_clear (Answered Granted None) GoingOn) (if_clear Holding Looking)
 
   abbrev pub looked_by : Says T
-  looked_by = step_by true Lock (λ n. GoingOn) (λ n. if n == 0 then Trying else Looking)
+  looked_by = step_by true Lock (λ n. GoingOn) (if_clear Trying Looking)
 
   -- the release: the holder writes the value that it leaves
   abbrev pub frees_by : Says T

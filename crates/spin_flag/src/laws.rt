@@ -6,7 +6,7 @@ ghost use Rattle.spin_core.specs.declared.trace.Trace.{Trace};
 ghost use Rattle.spin_flag.specs.Flag.{Done, IsFlag, model, seat_of, words_of};
 ghost use Rattle.spin_flag.specs.declared.spin.rule.View.{View};
 
-/// Each run of a [`SpinMutex`](crate::spin::SpinMutex) on threads is a schedule of its model.
+/// States that each run of a [`SpinMutex`](crate::spin::SpinMutex) on threads is a schedule of its model.
 ///
 /// The lock's cell keeps the list of all moves that threads have made in it: which party, and which move. The list is
 /// ghost state, and takes no memory.

@@ -1,4 +1,4 @@
-//! A spinning mutex of one flag, which the thread that finds it clear sets. Begin at [`SpinMutex::lock`].
+//! A spinning mutex of one flag: the thread that finds it clear sets it. Begin at [`SpinMutex::lock`].
 ghost use Rattle.std.specs.Prelude.{◌≡◌, true, Option, Some, IfSome};
 ghost use Rattle.std.specs.Fmt.{DisplaysOnOk};
 ghost use Rattle.spin_core.specs.Guard.{IsHolder};
@@ -7,7 +7,7 @@ ghost use Rattle.spin_flag.specs.Flag.{use_of_party};
 
 use self::pass::try_with;
 use self::rule::word;
-use self::waiting::{Grant, Waiting};
+use self::waiting::Grant;
 use spin_core::cell::Cell;
 use spin_core::guard::{self, Guard};
 use spin_core::lock::{Lock, with_guard};
@@ -110,7 +110,8 @@ impl<T, R> SpinMutex<T, R> {
 
     /// Consumes the mutex and returns the value.
     ///
-    /// It does not look at the flag: no other thread has the mutex. A value that was leaked or held is returned too.
+    /// It does not look at the flag, since no other thread has the mutex. So it also returns the value if a guard was
+    /// leaked, or a hold dropped.
     ///
     /// # Contract
     /// No clause. The call returns.
@@ -134,7 +135,7 @@ impl<T, R: RelaxStrategy> SpinMutex<T, R> {
         // This repeats `Pass::lock`: calling that would make the path for a free lock two instructions longer.
         let Grant { writer, seen: _ } = match try_with(self.cell.enter(), self.cell.watch()) {
             Ok(grant) => grant,
-            Err(waiting) => R::back_off(rt, waiting, Waiting::look_and_try),
+            Err(waiting) => waiting.wait::<R, W>(rt),
         };
         Guard::new(writer)
     }
@@ -161,8 +162,10 @@ impl<T, R> SpinMutex<T, R> {
     pub fn try_lock<'a>(&'a self) -> Option<SpinMutexGuard<'a, T, R>>
         ensures { IfSome result (IsHolder use_of_party) }
     {
-        let (guard, _) = self.pass().try_lock().ok()?;
-        Some(guard)
+        match self.pass().try_lock() {
+            Ok((guard, _)) => Some(guard),
+            Err(_) => None,
+        }
     }
 
     /// Like [`try_lock`](Self::try_lock), but may fail spuriously, so call it in a loop. (This implementation never
@@ -199,7 +202,7 @@ impl<T, R> SpinMutex<T, R> {
 
     /// Returns a mutable reference to the value.
     ///
-    /// It neither looks at the flag nor acquires the lock: no other thread has the mutex.
+    /// It does not look at the flag, since no other thread has the mutex.
     ///
     /// # Contract
     /// No clause. The call returns.

@@ -1,5 +1,5 @@
 -- The rule of a lock of tickets. Its words are those of a plain lock that has the tickets of all waiting and entered
--- parties. Its trace is a schedule of the lock's model, which leads there.
+-- parties. Its trace is a schedule of the lock's model. The schedule leads to these words and to the parties' views.
 use Rattle.std.specs.Prelude.{◌≡◌, ◌==◌, ℕ, ◌<◌, ◌≤◌, true, false, not, List, [], Option, Some, None, if◌then◌else◌, map}
 use Rattle.spin_step.specs.Plain.{ticket_limit, next_word, serving_word}
 use Rattle.spin_core.specs.Cell.{Use, alone, Ways}

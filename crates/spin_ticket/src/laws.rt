@@ -26,7 +26,7 @@ pub fn the_parties_of_a_ticket_mutex_enter_in_turn<T>()
     ensures { (key : Key T) (next : ℕ) (trace : Trace (Made T) ℕ) (parties : List (Numbered View)) → IsQueue key next trace parties → IsInTurn next trace.word (views parties) }
 {}
 
-/// Each run of a [`TicketMutex`](crate::ticket::TicketMutex) on threads is a schedule of its model.
+/// States that each run of a [`TicketMutex`](crate::ticket::TicketMutex) on threads is a schedule of its model.
 ///
 /// The lock's cell keeps the list of all moves that threads have made in it: which party, and which move. The list is
 /// ghost state, and takes no memory.

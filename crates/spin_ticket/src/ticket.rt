@@ -64,7 +64,7 @@ pub type TicketMutexGuard<'a, T, R = Spin> = Guard<'a, T, Party, TicketRule, R>;
 /// `held_value` is the value that the guard had.
 pub type Held<'a, T, R = Spin> = guard::Held<'a, T, Party, TicketRule, R>;
 
-// How many hints a waiting thread pauses for each ticket before its own, unless it is next.
+// The hints of a waiting thread's pause, for each ticket before its own. The thread that is next gives one hint.
 const HINTS_EACH: u64 = 8;
 
 impl<T, R> TicketMutex<T, R> {
@@ -92,7 +92,8 @@ impl<T, R> TicketMutex<T, R> {
 
     /// Consumes the mutex and returns the value.
     ///
-    /// It takes no ticket: no other thread has the mutex. A value that was leaked or held is returned too.
+    /// It takes no ticket, since no other thread has the mutex. So it also returns the value if a guard was leaked, or a
+    /// hold dropped.
     ///
     /// # Contract
     /// No clause. The call returns.
@@ -127,8 +128,10 @@ impl<T, R> TicketMutex<T, R> {
     pub fn try_lock<'a>(&'a self) -> Option<TicketMutexGuard<'a, T, R>>
         ensures { IfSome result (IsHolder use_of_party) }
     {
-        let (guard, _) = self.pass().try_lock().ok()?;
-        Some(guard)
+        match self.pass().try_lock() {
+            Ok((guard, _)) => Some(guard),
+            Err(_) => None,
+        }
     }
 
     /// Returns `true` if a thread held the lock, or waited for it, at some moment during this call.
@@ -164,7 +167,7 @@ impl<T, R> TicketMutex<T, R> {
 
     /// Returns a mutable reference to the value.
     ///
-    /// It takes no ticket: no other thread has the mutex.
+    /// It takes no ticket, since no other thread has the mutex.
     ///
     /// # Contract
     /// No clause. The call returns.

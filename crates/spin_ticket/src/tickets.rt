@@ -1,4 +1,4 @@
-//! The numbers of the tickets: how many threads have come, and a lock that soon has no ticket left. Begin at [`next`].
+//! The numbers of the tickets: how many were taken, and a lock that begins with a late one. Begin at [`next`].
 use crate::ticket::TicketMutex;
 
 /// Returns the number of the next ticket.

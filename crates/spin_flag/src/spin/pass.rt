@@ -4,21 +4,23 @@ ghost use mathlib.Core.List.{IsPrefix};
 ghost use Rattle.spin_core.specs.Guard.{IsHolder, guard_view, guard_key, guard_value};
 ghost use Rattle.spin_core.specs.Own.{what};
 ghost use Rattle.spin_core.specs.Passes.{mark_of, IsOut};
-ghost use Rattle.spin_core.specs.Spots.{spot};
+ghost use Rattle.spin_core.specs.Spots.{spot, IsIn, HasCalled};
 ghost use Rattle.spin_core.specs.Values.{IsLast};
-ghost use Rattle.spin_flag.specs.Flag.{use_of_party, has_begun, MayTry, Called, Left};
+ghost use Rattle.spin_flag.specs.Flag.{use_of_party, model_at, has_begun, MayTry, Called, Left};
 ghost use Rattle.spin_flag.specs.Guards.{Holds};
-ghost use Rattle.spin_flag.specs.Waits.{Exchanges, GoesOn};
+ghost use Rattle.spin_flag.specs.Waits.{Spot, here, granted, Exchanges, GoesOn};
 ghost use Rattle.spin_flag.specs.declared.spin.rule.View.TheVariants.{Idle};
 ghost use Rattle.spin_model.specs.declared.answer.Answer.TheVariants.{Granted, Refused, Is};
 ghost use Rattle.spin_model.specs.declared.flag.FlagCall.TheVariants.{Lock, TryLock, IsLocked};
 
-use super::rule::{Attempt, Entry, FlagRule, Frees, Load, Looks, Party, Tries, is_set, word};
+use super::rule::{
+    Attempt, Entry, FlagRule, Frees, Load, Looks, Party, Tries, is_set, taken, word,
+};
 use super::waiting::{Grant, Waiting};
 use super::{SpinMutex, SpinMutexGuard};
 use spin_core::cell::Permit;
 use spin_core::guard::Guard;
-use spin_core::relax::RelaxStrategy;
+use spin_core::relax::{MAX_HINTS, RelaxStrategy};
 use spin_core::trace::Watch;
 use spin_step::flag;
 use std::marker::PhantomData;
@@ -120,7 +122,7 @@ impl<'a, T, R: RelaxStrategy> Pass<'a, T, R> {
         } = self;
         let Grant { writer, seen } = match try_with(permit, seen) {
             Ok(grant) => grant,
-            Err(waiting) => R::back_off(rt, waiting, Waiting::look_and_try),
+            Err(waiting) => waiting.wait::<R, W>(rt),
         };
         (Guard::new(writer), seen)
     }
@@ -155,11 +157,7 @@ impl<'a, T, R> Pass<'a, T, R> {
             seen,
             strategy,
         } = self;
-        let free = false;
-        let Some(taken) = flag::lock(free) else {
-            unreachable!()
-        };
-        let (found, permit, seen) = permit.exchange::<Attempt>(word(free), word(taken), seen);
+        let (found, permit, seen) = permit.exchange::<Attempt>(word(false), taken(), seen);
         if is_set(found) {
             Err(Pass {
                 permit,
@@ -209,8 +207,27 @@ impl<'a, T, R> Pass<'a, T, R> {
 }
 
 impl<'a, T> Waiting<'a, T> {
+    // Looks and tries again until it has the lock, with pauses that grow.
+    #[cold]
+    #[inline(never)]
+    pub(super) fn wait<R: RelaxStrategy, W: Wait>(self, rt: &W) -> Grant<'a, T>
+        ensures { (p : Spot T) → IsIn model_at Lock p (here self.entry) → HasCalled model_at Lock Granted p (granted result) }
+    {
+        let mut hints = 1;
+        let mut waiting = self;
+        for _ in rt.forever() {
+            R::pause(rt, hints);
+            match waiting.look_and_try() {
+                Ok(grant) => return grant,
+                Err(next) => waiting = next,
+            }
+            hints = hints.saturating_mul(2).min(MAX_HINTS);
+        }
+        unreachable!()
+    }
+
     // A load comes first, so that waiting threads share the cache line and do not write it.
-    pub(super) fn look_and_try(self) -> Result<Grant<'a, T>, Waiting<'a, T>>
+    fn look_and_try(self) -> Result<Grant<'a, T>, Waiting<'a, T>>
         ensures { GoesOn self.entry result }
     {
         let Self { permit, seen } = self;
@@ -231,11 +248,7 @@ pub(super) fn try_with<'a, T>(
     requires { MayTry (what permit.view) × (permit.key.name ≡ seen.name) × (mark_of permit.view ≡ length seen.entries) }
     ensures { Exchanges (has_begun (what permit.entry.view)) (spot permit.entry seen) result }
 {
-    let free = false;
-    let Some(taken) = flag::lock(free) else {
-        unreachable!()
-    };
-    let (found, permit, seen) = permit.exchange::<Tries>(word(free), word(taken), seen);
+    let (found, permit, seen) = permit.exchange::<Tries>(word(false), taken(), seen);
     if is_set(found) {
         Err(Waiting { permit, seen })
     } else {

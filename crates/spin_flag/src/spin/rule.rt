@@ -109,6 +109,13 @@ pub(super) fn word(flag: bool) -> u64
     flag as u64
 }
 
+/// Returns the word that an exchange puts in place of a clear flag's.
+pub(super) fn taken() -> u64
+    ensures { result ≡ 1 }
+{
+    word(flag::lock(false).unwrap())
+}
+
 /// Returns the flag that the word encodes.
 pub(super) fn is_set(word: u64) -> bool
     ensures { result ≡ set word }

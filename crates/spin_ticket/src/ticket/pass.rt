@@ -19,7 +19,7 @@ use super::waiting::{Account, Going, Grant, Place};
 use super::{HINTS_EACH, TicketMutex, TicketMutexGuard};
 use spin_core::cell::Permit;
 use spin_core::guard::Guard;
-use spin_core::relax::{Loop, MAX_HINTS, RelaxStrategy};
+use spin_core::relax::{MAX_HINTS, RelaxStrategy};
 use spin_core::trace::Watch;
 use spin_step::ticket;
 use std::marker::PhantomData;
@@ -119,11 +119,11 @@ impl<'a, T, R: RelaxStrategy> Pass<'a, T, R> {
         } = self;
         let place = match go(Account { permit, seen }).take() {
             Ok(place) => place,
-            Err(going) => Loop::retry(rt, going, Going::take),
+            Err(going) => going.keep_trying(rt),
         };
         let grant = match place.enter() {
             Ok(grant) => grant,
-            Err(place) => R::retry_after(rt, place, Place::pause, Place::enter),
+            Err(place) => place.wait::<R, W>(rt),
         };
         grant.into_guard()
     }
@@ -183,7 +183,7 @@ impl<'a, T, R> Pass<'a, T, R> {
             seen,
             strategy,
         } = self;
-        // In this order: the tickets between the two numbers exist at the second load.
+        // The served number first: it only grows, so it is at most the next number, which is loaded later.
         let (serving, account) = Account { permit, seen }.look_served();
         let (next, account) = account.look_next(serving);
         let Account { permit, seen } = account;
@@ -251,9 +251,25 @@ impl<'a, T> Grant<'a, T> {
 }
 
 impl<'a, T> Going<'a, T> {
-    // Takes the ticket. `Err` is a call that tries the number found instead. Once the tickets are used up, that is the
-    // same number.
-    pub(super) fn take(self) -> Result<Place<'a, T>, Going<'a, T>>
+    // Tries to take a ticket until it has one.
+    #[cold]
+    #[inline(never)]
+    fn keep_trying<W: Wait>(self, rt: &W) -> Place<'a, T>
+        ensures { (p : Spot T) → IsIn model Lock p (here self.entry.account) → IsIn model Lock p (here result.account) }
+    {
+        let mut going = self;
+        for _ in rt.forever() {
+            match going.take() {
+                Ok(place) => return place,
+                Err(next) => going = next,
+            }
+        }
+        unreachable!()
+    }
+
+    // Takes the ticket. `Err` is a call that tries the number that it found instead. If no ticket is left, it tries the
+    // same number again.
+    fn take(self) -> Result<Place<'a, T>, Going<'a, T>>
         ensures { GoesFor self.entry result }
     {
         let Self { number, account } = self;
@@ -279,9 +295,26 @@ impl<'a, T> Going<'a, T> {
 }
 
 impl<'a, T> Place<'a, T> {
+    // Looks again until it enters, with a pause before each look.
+    #[cold]
+    #[inline(never)]
+    fn wait<R: RelaxStrategy, W: Wait>(self, rt: &W) -> Grant<'a, T>
+        ensures { (p : Spot T) → IsIn model Lock p (here self.entry.account) → HasCalled model Lock Granted p (here result.account) }
+    {
+        let mut place = self;
+        for _ in rt.forever() {
+            R::pause(rt, place.pause());
+            match place.enter() {
+                Ok(grant) => return grant,
+                Err(next) => place = next,
+            }
+        }
+        unreachable!()
+    }
+
     // The next thread in turn looks again after one hint. A thread with others before it looks seldom, so that it does
     // not disturb them.
-    pub(super) fn pause(&self) -> u32 {
+    fn pause(&self) -> u32 {
         if self.ahead <= 1 {
             return 1;
         }
@@ -289,7 +322,7 @@ impl<'a, T> Place<'a, T> {
     }
 
     // Enters if the number of the place is served.
-    pub(super) fn enter(self) -> Result<Grant<'a, T>, Place<'a, T>>
+    fn enter(self) -> Result<Grant<'a, T>, Place<'a, T>>
         ensures { Enters self.entry result }
     {
         let Self {

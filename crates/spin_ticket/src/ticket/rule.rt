@@ -141,8 +141,8 @@ impl Uses<Party> for TicketRule {
 }
 
 impl<T> guard::Release<T, Party> for TicketRule {
-    // The served number is the writer's own. A guard keeps no number: a link from that number to the view would keep
-    // `deref_mut` from lending the guard's permit.
+    // The served number is that of the writer's ticket. A guard does not keep it: `deref_mut` could not lend the permit
+    // of a guard with a number that is tied to the view.
     fn release(writer: WritePermit<'_, T, Party, TicketRule>) {
         let permit = writer.into_permit();
         let (number, permit, _) = permit.load_second::<FindOwn>(Watch::nothing());

@@ -19,7 +19,7 @@ pub(super) struct Account<'a, T> {
     ghost knows: { mark_of permit.view ≡ length seen.entries },
 }
 
-// A call of `lock` that tries to take the ticket of this number, the next one when it last looked.
+// A call of `lock` that tries to take the ticket with this number. It was the next one when the call last looked.
 pub(super) struct Going<'a, T> {
     pub(super) number: u64,
     pub(super) account: Account<'a, T>,

@@ -1,5 +1,4 @@
 use Rattle.std.proofs.Common.{◌≡◌, true, Some, ap, ◌∙◌, subst}
-use Rattle.spin_step.specs.Steps.{bit}
 use Rattle.spin_core.specs.Cell.{use_of}
 use Rattle.spin_core.specs.Own.{what}
 use Rattle.spin_core.specs.Passes.{mark_of}
@@ -17,11 +16,11 @@ use Rattle.spin_flag.proofs.spin.SpinMutex.unlock.Goals as goal
 
 pub store-permit-requires : goal.store-permit-requires
 store-permit-requires g c =
-    let it = c.into_permit-permit in let w = c.into_writer.result in let free = c.unlock-free in
+    let it = c.into_permit-permit in let w = c.into_writer.result in
     let named = ap (λ k. k.name) it.ensures.key ∙ ap (λ p. p.key.name) c.into_writer.ensures ∙ c.requires.0 in (
       may_know (mutex it.result.key) c.args.seen named,
-      rw (it.ensures.same.0, it.ensures.same.1, c.word.ensures) (releases_flag it.result.key (bit free.result)
-          (ap bit free.ensures.exact) free.ensures.plain w.view w.value (holding_of w.view.0 it.ensures.use_of_view)),
+      rw (it.ensures.same.0, it.ensures.same.1, c.word.ensures, c.unlock-free.ensures.exact)
+          (releases_flag it.result.key w.view w.value (holding_of w.view.0 it.ensures.use_of_view)),
     )
 
 abbrev Releases : {T : Type 0} → T → Spot T → Spot T → Type 0
@@ -29,15 +28,14 @@ Releases {T} = spots.Releases model_at (λ (opening : Opening T). opening) Relea
 
 pub returns : goal.returns
 returns g c =
-    let it = c.into_permit-permit in let w = c.into_writer.result in let s = c.store-permit in let seen = c.args.seen in let left = c.args.guard.writer in
-    let named = ap (λ k. k.name) it.ensures.key ∙ ap (λ p. p.key.name) c.into_writer.ensures ∙ c.requires.0 in
-    let knew = ap mark_of (it.ensures.same.0 ∙ ap (λ p. Some p.view) c.into_writer.ensures) ∙ c.requires.1 in
-    let p = spot it.result seen in let r = spot s.result.0 s.result.1 in
-    let so = released mutex Release Done p r _ 0 (is_named (mutex it.result.key) seen named) s.ensures.key knew it.result.value s.result.0.value w.value
-    (ap (λ o. use_of use_of_view (what o)) it.ensures.same.0 ∙ it.ensures.use_of_view) it.ensures.same.1 s.ensures.found s.ensures.moved in
-    let of_key = subst (λ k. Releases w.value (k, p.1, seen) r) it.ensures.key so in
-    let of_view = subst (λ o. Releases w.value (w.key, o, seen) r) it.ensures.same.0 of_key in
-    let done = subst (λ w. Releases w.value (w.key, Some w.view, seen) r) c.into_writer.ensures of_view in
+    let it = c.into_permit-permit in let is = c.into_writer.ensures in let s = c.store-permit in
+    let seen = c.args.seen in let left = c.args.guard.writer in let p = spot it.result seen in let r = spot s.result.0 s.result.1 in
+    let key = it.ensures.key ∙ ap (λ w. w.key) is in let view = it.ensures.same.0 ∙ ap (λ w. Some w.view) is in
+    let so = released mutex Release Done p r _ 0 (is_named (mutex it.result.key) seen (ap (λ k. k.name) key ∙ c.requires.0)) s.ensures.key
+    (ap mark_of view ∙ c.requires.1) it.result.value s.result.0.value left.value
+    (ap (λ o. use_of use_of_view (what o)) it.ensures.same.0 ∙ it.ensures.use_of_view) (it.ensures.same.1 ∙ ap (λ w. Some w.value) is)
+    s.ensures.found s.ensures.moved in
+    let done = subst (λ p. Releases left.value p r) (λ i. (key i, view i, seen)) so in
     record {
       made = (wrote_any model_at Release (left.key, Some left.view, seen) r (λ y. left.key.told ≡ true → y ≡ left.value) Done done.0).0;
       wrote = done.0.0;

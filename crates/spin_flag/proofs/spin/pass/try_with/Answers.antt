@@ -1,5 +1,4 @@
 use Rattle.std.proofs.Common.{None, true, false, subst, sym}
-use Rattle.spin_step.specs.Steps.{bit}
 use Rattle.spin_core.specs.Own.{what}
 use Rattle.spin_core.specs.Passes.{IsStep}
 use Rattle.spin_core.specs.Spots.{spot, Since}
@@ -9,16 +8,13 @@ use Rattle.spin_model.specs.declared.flag.FlagCall.TheVariants.{Lock}
 use Rattle.spin_model.specs.declared.schedule.Outcome.TheVariants.{Answered, GoingOn}
 use Rattle.spin_flag.specs.Flag.{model_at, has_begun}
 use Rattle.spin_flag.specs.declared.spin.rule.View.TheVariants.{Looking, Holding}
-use Rattle.spin_flag.proofs.Flags.{mutex, tries, taken_is, by_clear, is_clear, is_not_clear}
+use Rattle.spin_flag.proofs.Flags.{mutex, tries, by_clear, is_clear, is_not_clear}
 use Rattle.spin_flag.proofs.spin.pass.try_with.Goals as goal
 
 pub exchange-found-requires : goal.exchange-found-requires
 exchange-found-requires g c =
-    let p = c.args.permit in let taken = c.in-Some.taken in (
-      may_know (mutex p.key) c.args.seen c.requires.1,
-      rw (c.word.ensures, c.word-2.ensures)
-          (tries p.key p.view p.value c.requires.0 (bit taken) (taken_is taken c.in-Some.ensures.exact) c.in-Some.ensures.plain),
-    )
+    let p = c.args.permit in
+    (may_know (mutex p.key) c.args.seen c.requires.1, rw (c.word.ensures, c.taken.ensures) (tries p.key p.view p.value c.requires.0))
 
 pub returns-then-is_set : goal.returns-then-is_set
 returns-then-is_set g c =

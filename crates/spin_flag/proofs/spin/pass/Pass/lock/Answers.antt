@@ -2,24 +2,22 @@ use Rattle.std.proofs.Common.{Some, ◌∙◌, refl, sym, ap, subst}
 use Rattle.std.specs.Prelude.{Ok, Err}
 use Rattle.spin_core.specs.Guard.{guard_value}
 use Rattle.spin_core.specs.Own.{what}
-use Rattle.spin_core.specs.Spots.{spot, IsIn, HasCalled}
+use Rattle.spin_core.specs.Spots.{spot, HasCalled}
 use Rattle.spin_core.specs.Values.{IsLast}
 use Rattle.spin_core.proofs.Mutexes.{as_new}
-use Rattle.spin_core.proofs.Spots.{in_one, comes_in, tried}
+use Rattle.spin_core.proofs.Spots.{in_one, comes_in}
 use Rattle.spin_model.specs.declared.answer.Answer.TheVariants.{Granted}
 use Rattle.spin_model.specs.declared.flag.FlagCall.TheVariants.{Lock}
 use Rattle.spin_flag.specs.Flag.{model_at, has_begun, use_of_view, Called}
-use Rattle.spin_flag.specs.Waits.{here, granted, Exchanges, GoesOn}
+use Rattle.spin_flag.specs.Waits.{here, granted, Exchanges}
 use Rattle.spin_flag.specs.declared.spin.rule.View.TheVariants.{Idle}
 use Rattle.spin_flag.specs.declared.spin.waiting.Grant.{Grant}
-use Rattle.spin_flag.specs.declared.spin.waiting.Waiting.{Waiting}
 use Rattle.spin_flag.proofs.spin.pass.Pass.lock.Goals as goal
 use Rattle.spin_flag.proofs.spin.pass.Pass.lock.Goals.{in-Ok, in-Err}
 
 pub returns : goal.returns
 returns g c =
     let me = c.args.self in let p = spot me.permit me.seen in let grant = c.match-try_with.writer in
-    let Goes : Waiting g.row.T.Denot → Type 0 = λ waiting. IsIn model_at Lock p (here waiting) in
     let Gets : Grant g.row.T.Denot → Type 0 = λ grant. HasCalled model_at Lock Granted p (granted grant) in
     let new = as_new Idle has_begun refl (what me.permit.view) me.rests in
     let so : Gets grant = elim c.match-try_with.branch [
@@ -27,7 +25,7 @@ returns g c =
           (subst (λ b. Exchanges b p (Ok w.in-Ok.grant)) new w.in-Ok.ensures).0)
       | in-Err w ↦
           let on = comes_in model_at Lock p (here w.in-Err.waiting) (subst (λ b. Exchanges b p (Err w.in-Err.waiting)) new w.in-Err.ensures).1 in
-          subst Gets (sym w.writer-is) (tried GoesOn Goes Gets (λ x r went. went p) w.in-Err.waiting w.back_off.result w.back_off.ensures on)
+          subst Gets (sym w.writer-is) (w.wait.ensures p on)
     ] in
     let is = c.new.ensures in
     record {

@@ -1,5 +1,4 @@
 use Rattle.std.proofs.Common.{None, Some, true, false, ap, ◌∙◌, subst, sym}
-use Rattle.spin_step.specs.Steps.{bit}
 use Rattle.spin_core.specs.Own.{what}
 use Rattle.spin_core.specs.Spots.{spot}
 use Rattle.spin_core.specs.Values.{IsLast}
@@ -10,16 +9,13 @@ use Rattle.spin_model.specs.declared.flag.FlagCall.TheVariants.{TryLock}
 use Rattle.spin_model.specs.declared.schedule.Outcome.TheVariants.{Answered}
 use Rattle.spin_flag.specs.Flag.{model_at, Called}
 use Rattle.spin_flag.specs.declared.spin.rule.View.TheVariants.{Idle, Holding}
-use Rattle.spin_flag.proofs.Flags.{mutex, attempts, taken_is, by_clear, is_clear, is_not_clear}
+use Rattle.spin_flag.proofs.Flags.{mutex, attempts, by_clear, is_clear, is_not_clear}
 use Rattle.spin_flag.proofs.spin.pass.Pass.try_lock.Goals as goal
 
 pub exchange-found-requires : goal.exchange-found-requires
 exchange-found-requires g c =
-    let me = c.args.self in let taken = c.in-Some.taken in (
-      may_know (mutex me.permit.key) me.seen me.named,
-      rw (c.word.ensures, c.word-2.ensures)
-          (attempts me.permit.key me.permit.view me.permit.value me.rests (bit taken) (taken_is taken c.in-Some.ensures.exact) c.in-Some.ensures.plain),
-    )
+    let me = c.args.self in
+    (may_know (mutex me.permit.key) me.seen me.named, rw (c.word.ensures, c.taken.ensures) (attempts me.permit.key me.permit.view me.permit.value me.rests))
 
 pub returns-then-is_set-clause-refused : goal.returns-then-is_set-clause-refused
 returns-then-is_set-clause-refused g c =

@@ -1,6 +1,4 @@
-use Rattle.std.proofs.Common.{ap}
 use mathlib.Core.Logic.{inl}
-use Rattle.spin_step.specs.Steps.{bit}
 use Rattle.spin_core.specs.Spots.{spot}
 use Rattle.spin_core.proofs.Mutexes.{rests, ends_out}
 use Rattle.spin_model.specs.declared.answer.Answer.TheVariants.{Done}
@@ -10,10 +8,10 @@ use Rattle.spin_flag.proofs.spin.rule.FlagRuleReleaseParty.release.Goals as goal
 
 pub store-permit-requires : goal.store-permit-requires
 store-permit-requires g c =
-    let it = c.into_permit-permit in let w = c.args.writer in let free = c.unlock-free in (
+    let it = c.into_permit-permit in let w = c.args.writer in (
       inl c.nothing.ensures,
-      rw (it.ensures.same.0, it.ensures.same.1, c.word.ensures)
-          (releases_flag it.result.key (bit free.result) (ap bit free.ensures.exact) free.ensures.plain w.view w.value (holding_of w.view.0 it.ensures.use_of_view)),
+      rw (it.ensures.same.0, it.ensures.same.1, c.word.ensures, c.unlock-free.ensures.exact)
+          (releases_flag it.result.key w.view w.value (holding_of w.view.0 it.ensures.use_of_view)),
     )
 
 pub leave-requires : goal.leave-requires

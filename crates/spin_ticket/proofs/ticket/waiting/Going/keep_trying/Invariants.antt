@@ -1,0 +1,11 @@
+use Rattle.spin_core.specs.Spots.{IsIn}
+use Rattle.spin_model.specs.declared.ticket.TicketCall.TheVariants.{Lock}
+use Rattle.spin_ticket.specs.Accounts.{Spot, here}
+use Rattle.spin_ticket.specs.Queue.{model}
+use Rattle.spin_ticket.proofs.ticket.waiting.Going.keep_trying.Given as goal
+
+-- it is still in the call in which it began to wait
+abbrev pub invariant-loop : goal.invariant-loop
+invariant-loop g l =
+    (goal.iterator-loop g).can_next l.iterator' × (goal.iterator-loop g).is_finite l.iterator'
+    × ((p : Spot g.row.T.Denot) → IsIn model Lock p (here l.fn.self.account) → IsIn model Lock p (here l.going.account))
