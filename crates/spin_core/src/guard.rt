@@ -134,7 +134,7 @@ impl<'a, T, V, P: Release<T, V>, R> Held<'a, T, V, P, R> {
         Guard::new(self.into_permit().into_writer())
     }
 
-    /// Releases the lock that the hold keeps.
+    /// Releases the lock that this `Held` holds.
     ///
     /// # Contract
     /// Only that the call returns.

@@ -31,7 +31,7 @@ use std::sync::Wait;
 pub trait Lock<T> {
     /// Acquires the lock, calls the closure with the value, and releases the lock.
     ///
-    /// A waiting call spins as the lock does. The call never returns if its own thread holds the lock.
+    /// While it waits, the call spins as the lock's own call does. It never returns if its own thread holds the lock.
     ///
     /// # Contract
     /// The closure has to be always callable. It is called once, with some value of `T`, and its answer is returned
@@ -78,7 +78,7 @@ pub trait Lock<T> {
 pub trait SharedLock<T>: Lock<T> {
     /// Acquires shared access, calls the closure with the value, and releases the access.
     ///
-    /// A waiting call spins as the lock does. The call never returns if its own thread is the writer.
+    /// While it waits, the call spins as the lock's own call does. It never returns if its own thread is the writer.
     ///
     /// # Contract
     /// The closure has to be always callable. It is called once, with some value of `T`, and its answer is returned

@@ -39,8 +39,8 @@ pub trait RelaxStrategy {
     /// Passes a little time.
     fn relax<W: Wait>(rt: &W);
 
-    /// Passes the time between two attempts of a waiting call. [`Spin`] gives `hints` spin hints. By default
-    /// it calls `relax` once.
+    /// Passes the time between two attempts of a waiting call. [`Spin`] executes `hints` spin hints. The default
+    /// `pause` calls `relax` once.
     fn pause<W: Wait>(rt: &W, hints: u32) {
         let _ = hints;
         Self::relax(rt);

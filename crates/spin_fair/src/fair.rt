@@ -92,7 +92,7 @@ impl<T, R> FairMutex<T, R> {
     /// It does not look at the word: no other thread has the mutex. Leaked guards and forgotten starvers do not matter.
     ///
     /// # Contract
-    /// No clause. The call returns.
+    /// Only that the call returns.
     pub fn into_inner(self) -> T {
         self.cell.into_inner()
     }
@@ -204,17 +204,17 @@ impl<T, R> FairMutex<T, R> {
     /// It makes one load. By the time the caller reads the answer it may be out of date.
     ///
     /// # Contract
-    /// No clause. The call returns.
+    /// Only that the call returns.
     pub fn is_locked(&self) -> bool {
         self.pass().is_locked().0
     }
 
-    /// Releases the lock that the hold keeps.
+    /// Releases the lock that this `Held` holds.
     ///
     /// The call consumes the hold, so no lock is released twice. Starvers stay registered.
     ///
     /// # Contract
-    /// No clause. The call returns.
+    /// Only that the call returns.
     pub fn force_unlock(held: Held<'_, T, R>) {
         held.release();
     }
@@ -224,7 +224,7 @@ impl<T, R> FairMutex<T, R> {
     /// It neither looks at the word nor acquires the lock: no other thread has the mutex.
     ///
     /// # Contract
-    /// No clause. The call returns.
+    /// Only that the call returns.
     #[tactic(auto, unfolding(crate::specs::Fair::IsFair, crate::specs::Fair::known_of))]
     pub fn get_mut(&mut self) -> &mut T {
         self.cell.get_mut()

@@ -114,7 +114,7 @@ impl<T, R> SpinMutex<T, R> {
     /// leaked, or a hold dropped.
     ///
     /// # Contract
-    /// No clause. The call returns.
+    /// Only that the call returns.
     pub fn into_inner(self) -> T {
         self.cell.into_inner()
     }
@@ -185,17 +185,17 @@ impl<T, R> SpinMutex<T, R> {
     /// It makes one load. By the time the caller reads the answer it may be out of date.
     ///
     /// # Contract
-    /// No clause. The call returns.
+    /// Only that the call returns.
     pub fn is_locked(&self) -> bool {
         self.pass().is_locked().0
     }
 
-    /// Releases the lock that the hold keeps.
+    /// Releases the lock that this `Held` holds.
     ///
     /// The call consumes the hold, so no lock is released twice.
     ///
     /// # Contract
-    /// No clause. The call returns.
+    /// Only that the call returns.
     pub fn force_unlock(held: Held<'_, T, R>) {
         held.release();
     }
@@ -205,7 +205,7 @@ impl<T, R> SpinMutex<T, R> {
     /// It does not look at the flag, since no other thread has the mutex.
     ///
     /// # Contract
-    /// No clause. The call returns.
+    /// Only that the call returns.
     pub fn get_mut(&mut self) -> &mut T {
         self.cell.get_mut()
     }

@@ -201,7 +201,7 @@ impl<T, R> Mutex<T, R> {
         self.inner.pass()
     }
 
-    /// Releases the lock that the hold keeps.
+    /// Releases the lock that this `Held` holds.
     ///
     /// The call consumes the hold, so no lock can be released twice.
     ///

@@ -110,7 +110,7 @@ impl<T, R> Once<T, R> {
 }
 
 impl<T, R: RelaxStrategy> Once<T, R> {
-    /// Returns the value, and makes it first by calling `f` if there is none.
+    /// Calls `f` to make the value if there is none yet. Then returns the value.
     ///
     /// While another caller's closure runs, the thread waits with strategy `R` until that one has ended. Then `f` is
     /// called only if that closure left no value. The call never returns if `f` waits for the value of this `Once`.

@@ -74,7 +74,7 @@ impl<T, R> RwLock<T, R> {
     /// It neither looks at the word nor acquires the lock: no other thread has the lock.
     ///
     /// # Contract
-    /// No clause. The call returns.
+    /// Only that the call returns.
     pub fn get_mut(&mut self) -> &mut T {
         self.cell.get_mut()
     }
@@ -198,7 +198,7 @@ impl<T, R> RwLock<T, R> {
     /// A hold releases its access at most once, since the call consumes it.
     ///
     /// # Contract
-    /// No clause. The call returns.
+    /// Only that the call returns.
     pub fn force_read_decrement(held: ReadHeld<'_, T, R>) {
         drop(held.into_guard());
     }
@@ -208,7 +208,7 @@ impl<T, R> RwLock<T, R> {
     /// A hold releases its access at most once, since the call consumes it.
     ///
     /// # Contract
-    /// No clause. The call returns.
+    /// Only that the call returns.
     pub fn force_write_unlock(held: WriteHeld<'_, T, R>) {
         drop(held.into_guard());
     }
@@ -217,10 +217,11 @@ impl<T, R> RwLock<T, R> {
 impl<T, R, V, P: Rule<T, V>> RwLock<T, R, V, P> {
     /// Consumes the lock and returns the value.
     ///
-    /// It does not look at the word: no other thread has the lock. A value that was leaked or held is returned too.
+    /// It does not look at the word: no other thread has the lock. The value is returned even
+    /// if a guard was leaked, or a hold dropped.
     ///
     /// # Contract
-    /// No clause. The call returns.
+    /// Only that the call returns.
     pub fn into_inner(self) -> T {
         self.cell.into_inner()
     }

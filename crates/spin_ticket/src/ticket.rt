@@ -96,7 +96,7 @@ impl<T, R> TicketMutex<T, R> {
     /// hold dropped.
     ///
     /// # Contract
-    /// No clause. The call returns.
+    /// Only that the call returns.
     pub fn into_inner(self) -> T {
         self.cell.into_inner()
     }
@@ -139,7 +139,7 @@ impl<T, R> TicketMutex<T, R> {
     /// It makes two loads. By the time the caller reads the answer it may be out of date.
     ///
     /// # Contract
-    /// No clause. The call returns.
+    /// Only that the call returns.
     ///
     /// # Examples
     /// ```
@@ -155,12 +155,12 @@ impl<T, R> TicketMutex<T, R> {
         self.pass().is_locked().0
     }
 
-    /// Releases the lock that the hold keeps, and serves the next ticket.
+    /// Releases the lock that this `Held` holds, and serves the next ticket.
     ///
     /// The call consumes the hold, so no lock is released twice.
     ///
     /// # Contract
-    /// No clause. The call returns.
+    /// Only that the call returns.
     pub fn force_unlock(held: Held<'_, T, R>) {
         held.release();
     }
@@ -170,7 +170,7 @@ impl<T, R> TicketMutex<T, R> {
     /// It takes no ticket, since no other thread has the mutex.
     ///
     /// # Contract
-    /// No clause. The call returns.
+    /// Only that the call returns.
     pub fn get_mut(&mut self) -> &mut T {
         self.cell.get_mut()
     }

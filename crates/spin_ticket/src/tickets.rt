@@ -7,7 +7,7 @@ use crate::ticket::TicketMutex;
 /// beside the lock.
 ///
 /// # Contract
-/// No clause. The call returns.
+/// Only that the call returns.
 ///
 /// # Examples
 /// ```
@@ -28,7 +28,7 @@ pub fn next<T, R>(lock: &TicketMutex<T, R>) -> u64 {
 /// Tickets are used up after 2^64 - 1 calls. With a late first ticket a caller can try out what its program then does.
 ///
 /// # Contract
-/// No clause. The call returns.
+/// Only that the call returns.
 ///
 /// # Examples
 /// ```

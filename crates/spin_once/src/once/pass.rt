@@ -110,12 +110,12 @@ impl<'a, T, R> Pass<'a, T, R> {
 impl<'a, T, R: RelaxStrategy> Pass<'a, T, R> {
     ghost use Rattle.spin_once.specs.OncePasses.{Called, Tried, found_or_none, history, opening_of};
 
-    /// Returns the value, and makes it first by calling `f` if there is none, as [`Once::call_once`] does.
+    /// Calls `f` to make the value if there is none yet. Then returns the value, as [`Once::call_once`] does.
     ///
     /// # Contract
-    /// The precondition of `f` has to hold. The call is one `CallOnce` with the answer `Value`, however often it looked
-    /// and tried, and whether `f` ran or not (`made`). The value is the only one in the history (`found`). Whether and
-    /// when the call returns is not promised.
+    /// The precondition of `f` has to hold. In the history the call counts as one `CallOnce` with the answer `Value`,
+    /// however often it looked and tried, and whether `f` ran or not (`made`). The value is the only one in the history
+    /// (`found`). Whether and when the call returns is not promised.
     pub fn call_once<F: FnOnce() -> T, W: Wait>(self, rt: &W, f: F) -> (&'a T, Pass<'a, T, R>)
         requires { F.pre f }
         ensures made { Called (CallOnce tt) (Value tt) self.entry result.1 }
