@@ -1,4 +1,4 @@
--- Runs one after another. Together they are one run of all their schedules.
+-- Several runs, one after another, are one run of their joined schedules.
 use Rattle.std.specs.Prelude.{◌≡◌, ℕ, ◌-◌, Option, Some, None, List, [], ◌∷◌, ◌++◌, map, take, drop, nat_lt, if◌then◌else◌}
 use Rattle.spin_model.specs.declared.schedule.Move.{Move}
 use Rattle.spin_model.specs.declared.schedule.Outcome.{Outcome}
@@ -17,8 +17,8 @@ pub record Promised {W V C L A : Type 0} (m : Machine W V C L A) (n : ℕ) (entr
   pub counts : CountsAll m n entries
   pub values : ValuesAll m n entries
 
--- Where a call began, as told by a run that starts at place `start` of a longer run. It tells nothing of a call that
--- began earlier.
+-- Where a call began, as told by a run that starts at place `start` of a longer run. This run tells no place of a call
+-- that began before `start`.
 abbrev pub began_from : ℕ → Option ℕ → Option ℕ
 began_from start None = None
 began_from start (Some place) = if nat_lt place start then None else Some (place - start)
@@ -30,8 +30,8 @@ outcome_from start o = o
 abbrev pub event_from : {W V A : Type 0} → ℕ → Event W V A → Event W V A
 event_from start e = record e { outcome = outcome_from start e.outcome }
 
--- The events of one run, cut in two at this place. In the second part, places where calls began are counted from its
--- own start.
+-- The events of one run are cut in two at this place. The second part counts the places where calls began from its own
+-- start.
 pub record IsCut {W V A : Type 0} (place : ℕ) (one first second : List (Event W V A)) : Type 0 where
   pub front : first ≡ take place one
   pub back : second ≡ map (event_from place) (drop place one)
@@ -51,8 +51,8 @@ abbrev pub transcripts_of : {W V C L A : Type 0} → Machine W V C L A → State
 transcripts_of m s [] = []
 transcripts_of m s (run ∷ runs) = with_begins [] (events_of m s run) ∷ transcripts_of m (after m s run) runs
 
--- The runs end in the state of one run of their joined schedule. Their events together tell the scenes of that
--- schedule, and all that is promised of a schedule holds of it.
+-- The runs end in the state of one run of their joined schedule. The events of all runs together tell the scenes of the
+-- joined schedule. All that is promised of a schedule holds of the joined one.
 pub record RunsAreOne {W V C L A : Type 0} (m : Machine W V C L A) (s : State W V C L) (runs : List (List (ℕ × Move C V))) : Type 0 where
   pub state : after_runs m s runs ≡ after m s (joined runs)
   pub tells : TellsAfterAnyPast m s (joined runs) (joined (transcripts_of m s runs))

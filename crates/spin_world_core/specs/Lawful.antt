@@ -10,13 +10,13 @@ pub record Lawful {W V C L A : Type 0} (m : Machine W V C L A) : Type 0 where
   pub stepwise : Stepwise m
   -- a party in a call can take its next step
   pub can : Always m (CanGoOn m)
-  -- each step keeps the encoding, and all that follows from it
+  -- each event has the properties of `Keeps`
   pub keeps : Always m (KeepsAll m)
-  -- each answer has a moment
+  -- each answer but a spurious failure is right at a moment of its call
   pub moments : Always m (MomentsAll m)
   -- a call with a limit is answered within the limit
   pub counts : Always m (CountsAll m)
-  -- two looks under one guard find the same value
+  -- two reads under one guard find the same value, if the party writes nothing between them
   pub agree : Always m (ReadsAgree m)
   -- the value that a closure makes is the one that its call brings, and answers give this value
   pub values : Always m (ValuesAll m)

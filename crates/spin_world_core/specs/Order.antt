@@ -1,4 +1,4 @@
--- Which step of a call follows which.
+-- The order of a call's steps: when a waiting call tries and when it looks, and how long a try continues.
 use Rattle.std.specs.Prelude.{◌≡◌, ℕ, ◌⊎◌, ◌==◌, ◌&&◌, ◌||◌, Bool, true, false, not, Option, Some, None, is_some, List, [], ◌∷◌, if◌then◌else◌}
 use Rattle.spin_step.specs.Plain.{Plain, Ask, to_take_and_enter, Change, gets, is_open_to, next_word, serving_word}
 use Rattle.spin_step.specs.Parties.{is_held}
@@ -10,23 +10,24 @@ use Rattle.spin_model.specs.StepKinds.{StepKind, is_look}
 use Rattle.spin_model.specs.Calls.{AnyOf, Asked, LockKind, Mark}
 use Rattle.spin_world_core.specs.Spans.{own, own_count}
 
--- only a call that waits goes for anything without a look, and such a call is no try
+-- the request that a call tries without a look first, by the plain steps made so far; only a call that waits has one
 abbrev pub goes_of : Asked → List Change → Option Ask
 goes_of what made = if what.waits then what.goes_for made else None
 
+-- the request of a try; a call that waits is no try
 abbrev pub tries_of : Asked → Option Ask
 tries_of what = if what.waits then None else what.tries
 
--- the call should now try: at its first step, after a plain step, and after a look that found the lock free
+-- whether the call has to try now: at its first step, after its own plain step, and after its own look that found the lock free
 abbrev pub is_due : ℕ → List Mark → Bool
 is_due p [] = true
 is_due p (m ∷ ms) = if m.party == p then is_some m.change || (is_look m.step_kind && not (is_held m.before)) else is_due p ms
 
--- by which of its steps such a call tries
+-- by which of its steps a waiting call tries, if it began without a look
 pub data Way : Type 0 where
-  always : Way  -- by each
-  by_looks : Way  -- by each that is due; by the others it looks
-  past_looks : Way  -- by each that is due; a newcomer that may starve may also register
+  always : Way  -- it tries by each step
+  by_looks : Way  -- it tries by each step that is due, and looks by each other step
+  past_looks : Way  -- it tries by each step that is due; by another step it may register as a starver
 
 abbrev pub way_by : Bool → Bool → Way
 way_by true may_register = always
@@ -44,7 +45,7 @@ abbrev pub LooksElse : Way → ℕ → List Mark → StepKind → Type 0
 LooksElse by_looks p span r = is_due p span ≡ false → is_look r ≡ true
 LooksElse way p span r = Unit {0}
 
--- by a step that should get what the call asks, the call gets it if it is open
+-- by a step that is due, the call gets what it asks if this is open; its other steps are as its `Way` says
 abbrev pub Gets : LockKind → ℕ → Asked → List Mark → Plain → Option Change → StepKind → Type 0
 Gets kind p what span s step r =
     (ask : Ask) → goes_of what (own p span) ≡ Some ask
@@ -55,8 +56,8 @@ GetsWhenDue kind p outcome.GoingOn Step (Some what) span s step r = Gets kind p 
 GetsWhenDue kind p (outcome.Answered a b) Step (Some what) span s step r = Gets kind p what span s step r
 GetsWhenDue kind p _ _ _ span s step r = Unit {0}
 
--- A try continues, before its plain step, only by a step at which what it asks is open.
--- A try on the two words of a queue also continues by its first load, and by a load that finds its number served.
+-- Before its plain step, a try continues only by a step at which what it asks is open. A try on a queue reads two words:
+-- it also continues by its first step, and by a step that finds served the next number that it found before.
 abbrev pub MayTryOn : Ask → ℕ → List Mark → Plain → Type 0
 MayTryOn to_take_and_enter p span s = (is_open_to s p to_take_and_enter ≡ true) ⊎ (own_count p span ≡ 0) ⊎ AnyOf (λ m. (m.party ≡ p) × (next_word m.before ≡ serving_word s)) span
 MayTryOn ask p span s = is_open_to s p ask ≡ true

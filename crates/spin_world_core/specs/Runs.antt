@@ -1,5 +1,5 @@
--- What is promised of every event of every schedule. With the world runs one plain lock. Each event makes its plain
--- step there, if it makes one.
+-- The promises of each event of a schedule. A plain lock runs beside the world. An event that makes a plain step
+-- changes this lock; other events leave it unchanged.
 use Rattle.std.specs.Prelude.{◌≡◌, ℕ, ◌+◌, ◌<◌, ◌≤◌, ◌↔◌, ◌⊎◌, Bool, true, false, not, ◌||◌, Option, Some, None, List, [], ◌∷◌, ◌++◌, is_some, ◌==◌, if◌then◌else◌, slice_get, take}
 use Rattle.std.specs.List.{list_any}
 use Rattle.spin_step.specs.Plain.{Plain, reading, upgradable, writing, same_kind, Change, completes, is_open, holder, ticket, is_empty}
@@ -21,9 +21,9 @@ use Rattle.spin_world_core.specs.Order.{GetsWhenDue, TriesOn}
 use Rattle.spin_model.specs.Machines.{Machine, opening_plain}
 use Rattle.spin_model.specs.Schedules.{State, Happened, moves_at, at_first, after, may_read, may_write, is_owners}
 
--- A world, its plain lock, the value last written, and for each party the span of its call: the steps of all calls
--- since it began, the latest first.
--- All other events leave the plain lock unchanged. So the states at these steps are all states of the span.
+-- A world, its plain lock, and the value last written. Each party also has the span of its call: the steps of all
+-- parties since this call began, the latest first. Only steps change the plain lock. So the states before and after
+-- these steps are all states that the plain lock had during the call.
 pub record Seen (W V C L : Type 0) : Type 0 where
   pub state : State W V C L
   pub plain : Plain
@@ -33,7 +33,7 @@ pub record Seen (W V C L : Type 0) : Type 0 where
 abbrev pub seat_of : {W V C L : Type 0} → Seen W V C L → ℕ → Option (Seat C L)
 seat_of seen p = slice_get seen.state.seats p
 
--- one event: its party's seat, its plain step, and what was before it and is after it
+-- one event of a schedule: its party, this party's seat, its plain step, and the world before and after it
 pub record Scene (W V C L A : Type 0) : Type 0 where
   pub before : Seen W V C L
   pub party : ℕ
@@ -104,7 +104,7 @@ scene_at m seen p move seat = scene_of seen p move seat (moves_at m seen.state p
 abbrev pub scene : {W V C L A : Type 0} → Machine W V C L A → Seen W V C L → ℕ → Move C V → Scene W V C L A
 scene m seen p move = scene_at m seen p move (seat_of seen p)
 
--- it holds of each event of a schedule
+-- `R` holds of each event of the schedule
 abbrev pub Every : {W V C L A : Type 0} → (Scene W V C L A → Type 0) → Machine W V C L A → Seen W V C L → List (ℕ × Move C V) → Type 0
 Every R m seen [] = Unit {0}
 Every R m seen (e ∷ es) = R (scene m seen e.0 e.1) × Every R m (scene m seen e.0 e.1).after es
@@ -130,7 +130,7 @@ abbrev pub is_open_move : {W V C L A : Type 0} → Machine W V C L A → State W
 is_open_move m s move None = false
 is_open_move m s move (Some seat) = is_open_to m s move seat
 
--- The party's entries
+-- A party's entries in the plain lock: its holders, tickets and registrations
 
 abbrev pub entries_of : ℕ → Hold → Entries
 entries_of p hold.Read = record no_entries { holders = holder p reading ∷ [] }
@@ -143,13 +143,14 @@ abbrev pub entries_held : ℕ → Option Hold → Entries
 entries_held p None = no_entries
 entries_held p (Some h) = entries_of p h
 
--- the party's entries after its own steps in the span
+-- the party's entries after its own steps of the span, where `e` are its entries before them
 abbrev pub entries_so_far : ℕ → List Mark → Entries → Entries
 entries_so_far p [] e = e
 entries_so_far p (m ∷ ms) e =
     if m.party == p then entries_after m.before m.change (entries_so_far p ms e) else entries_so_far p ms e
 
--- the party's entries in the plain lock are those that its seat implies
+-- The party's entries in the plain lock are those that its seat implies. In a call they are the entries with which the
+-- party began the call, changed by its own steps since.
 abbrev pub StandsFor : {C L : Type 0} → Plain → ℕ → List Mark → Option (Seat C L) → Type 0
 StandsFor s p span None = entries p s ≡ no_entries
 StandsFor s p span (Some Idle) = entries p s ≡ no_entries
@@ -166,7 +167,7 @@ is_reader e = not (is_empty e.holders) || list_any (λ t. t.entered) e.tickets
 abbrev pub is_writer : Entries → Bool
 is_writer e = list_any (λ h. same_kind writing h.kind) e.holders || list_any (λ t. t.entered) e.tickets
 
--- the party is in no call, and has no entry or has leaked
+-- the party leaves the value to the owner: it has leaked, or is gone, or is idle and has no entry in the plain lock
 abbrev pub YieldsToOwner : {C L : Type 0} → Plain → ℕ → Option (Seat C L) → Type 0
 YieldsToOwner s p None = entries p s ≡ no_entries
 YieldsToOwner s p (Some Idle) = entries p s ≡ no_entries
@@ -186,8 +187,10 @@ MayTouch seen p (outcome.Value r) (OwnerSet v) = IsOwners seen
 MayTouch seen p outcome.Written (OwnerSet v) = IsOwners seen
 MayTouch seen p _ _ = Unit {0}
 
--- Which moves are skipped, by the plain lock and by what the party has done so far. Only a move is skipped that no
--- party with these entries could make.
+-- Which moves may be skipped. A step of a call and a leak by a holder are never skipped. A call is skipped only if it
+-- may not begin with what its party holds. A read or write by a holder, or after a leak, is skipped only if the party
+-- has no right to it. An owner's move is skipped only if there is no owner or some party shares the value. Other moves
+-- may be skipped.
 
 abbrev pub MaySkip : {W V C L A : Type 0} → Machine W V C L A → Seen W V C L → ℕ → Move C V → Option (Seat C L) → Type 0
 MaySkip m seen p (Begin c) (Some Idle) = (m.asks c None).begins None ≡ false
@@ -202,7 +205,7 @@ MaySkip m seen p OwnerGet (Some seat) = m.owned ≡ true → IsOwners seen → �
 MaySkip m seen p (OwnerSet v) (Some seat) = m.owned ≡ true → IsOwners seen → ⊥
 MaySkip m seen p _ _ = Unit {0}
 
--- the seat allows the party this move; an owner's move needs an owner
+-- a party with this seat may make this move; an owner's move also needs an owner
 abbrev pub is_in_place : {V C L : Type 0} → Bool → Move C V → Option (Seat C L) → Bool
 is_in_place owned (Begin c) (Some Idle) = true
 is_in_place owned (Begin c) (Some (Holding h)) = true
@@ -224,7 +227,7 @@ IsStep outcome.GoingOn = Unit {0}
 IsStep (outcome.Answered a b) = Unit {0}
 IsStep _ = ⊥
 
--- by a step the value changes only if a closure completes
+-- a step changes the value only if a closure completes by this step
 abbrev pub StepLeaves : {V : Type 0} → Option Change → Option V → Option V → Type 0
 StepLeaves (Some (completes p)) old new = Unit {0}
 StepLeaves _ old new = new ≡ old
@@ -240,8 +243,8 @@ ComesTo OwnerGet step old new o = (o ≡ outcome.Value old) × (new ≡ old)
 ComesTo (OwnerSet v) step None new o = (o ≡ outcome.Value None) × (new ≡ None)
 ComesTo (OwnerSet v) step (Some u) new o = (o ≡ outcome.Written) × (new ≡ Some v)
 
--- A step fails spuriously only in a call that may. Before it that call has made only the plain steps that precede its
--- weak exchange.
+-- Only a call that makes weak exchanges fails spuriously. Before this failure the call has made exactly the plain steps
+-- that precede its weak exchange.
 abbrev pub IsWeakCall : {V C : Type 0} → Move C V → ℕ → List Mark → Option Asked → Type 0
 IsWeakCall Weak p span (Some what) = (what.is_weak ≡ true) × (own p span ≡ what.before_weakly p)
 IsWeakCall Weak p span None = ⊥
@@ -249,13 +252,13 @@ IsWeakCall _ p span what = Unit {0}
 
 -- A call's own steps
 
--- what the party's call asks
+-- what the party's call promises, if the party is in a call
 abbrev pub asked : {W V C L A : Type 0} → Machine W V C L A → Option (Seat C L) → Option Asked
 asked m (Some (Calling c l h)) = Some (m.asks c h)
 asked m _ = None
 
--- a call that is answered has made the plain steps that its answer implies; a call that continues has made a beginning
--- of such steps
+-- A call that is answered has made the plain steps that its answer implies. A call that continues has made the first of
+-- the plain steps that some answer implies.
 abbrev pub OwnSteps : {W V C L A : Type 0} → Machine W V C L A → ℕ → List Mark → Outcome A V → Option Asked → Type 0
 OwnSteps m p span (outcome.Answered a b) (Some what) = AnyOf (λ steps. own p span ≡ steps) (own_steps (what.answers (m.says a)) p)
 OwnSteps m p span (outcome.Answered a b) None = ⊥
@@ -269,13 +272,14 @@ abbrev pub held_at : {C L : Type 0} → Option (Seat C L) → Option Hold
 held_at (Some (Holding h)) = Some h
 held_at _ = None
 
--- a party that begins a call is then in that call, with what it held; a party that continues stays in its call
+-- A party that begins a call is then in that call, and its seat tells what it held. A party whose call continues stays
+-- in this call.
 abbrev pub InItsCall : {V C L A : Type 0} → Outcome A V → Move C V → Option (Seat C L) → Option (Seat C L) → Type 0
 InItsCall {L = L} outcome.Begun (Begin c) before after = (l : L) × (after ≡ Some (Calling c l (held_at before)))
 InItsCall {L = L} outcome.GoingOn move (Some (Calling c l h)) after = (next : L) × (after ≡ Some (Calling c next h))
 InItsCall _ move before after = Unit {0}
 
--- another party that is in a call stays at its point of the call
+-- a move of the party p leaves each other party in its call, at the same point
 abbrev pub LeavesCalls : {W V C L : Type 0} → ℕ → Seen W V C L → Seen W V C L → Type 0
 LeavesCalls {C = C} {L = L} p before after =
     (q : ℕ) (c : C) (l : L) (h : Option Hold) → (p ≡ q → ⊥) → seat_of before q ≡ Some (Calling c l h) → seat_of after q ≡ Some (Calling c l h)
@@ -283,45 +287,47 @@ LeavesCalls {C = C} {L = L} p before after =
 -- What is promised of an event
 
 pub record Keeps {W V C L A : Type 0} (m : Machine W V C L A) (s : Scene W V C L A) : Type 0 where
-  -- the plain step is open, and its party's own; or there is none
+  -- the event makes no plain step, or one that is open and is a step of the event's party
   pub opens : IsOpenStep s.before.plain s.party s.change
-  -- and this kind of lock makes such a step
+  -- the event makes no plain step, or one that this kind of lock makes
   pub belongs : BelongsTo m.lock_kind s.change
-  -- the words after it are the encoding
+  -- after the event the words are those of the plain lock
   pub encodes : m.numbers s.after.state.words ≡ encoded m.lock_kind s.after.plain
-  -- every party's entries are those that its seat implies
+  -- after the event every party holds and waits in the plain lock as its seat says
   pub places : (q : ℕ) → StandsFor s.after.plain q (s.after.span q) (seat_of s.after q)
   -- a writer is the only holder, and at most one ticket has entered
   pub exclusive : IsExclusive s.after.plain
-  -- and no lock has both holders and tickets
+  -- the plain lock has no holders, or has no tickets
   pub one_list : (is_empty s.after.plain.holders || is_empty s.after.plain.tickets) ≡ true
   -- the value is the one last written
   pub value_is : s.after.state.value ≡ s.after.written
-  -- a read of the value finds the one last written
+  -- a read finds the value last written
   pub reads : (r : Option V) → s.outcome ≡ outcome.Value r → r ≡ s.before.written
-  -- only a holder reads the value, only a writer replaces it, and the owner does so only if nobody shares it
+  -- Only a holder reads the value, and only a writer replaces it. The owner reads or replaces the value only while no
+  -- party shares it.
   pub touches : MayTouch s.before s.party s.outcome s.move
   -- a move is skipped exactly if it is not open
   pub skips : (s.outcome ≡ outcome.Skipped) ↔ (is_open_move m s.before.state s.move s.seat ≡ false)
-  -- no party with these entries in the plain lock could make a skipped move
+  -- a skipped move is one that may be skipped, by the plain lock and the party's seat
   pub lets : s.outcome ≡ outcome.Skipped → MaySkip m s.before s.party s.move s.seat
-  -- and a skipped move changes nothing
+  -- a skipped move changes nothing
   pub unchanged : s.outcome ≡ outcome.Skipped → s.after ≡ s.before
-  -- Every other move has its purpose as its outcome. A read finds the present value, and a write stores what it names.
-  -- Otherwise only a closure that completes changes the value.
+  -- A move that is not skipped has the outcome of its kind. A read finds the present value, and a write stores its
+  -- argument. Any other move changes the value only if a closure completes by it.
   pub comes : (s.outcome ≡ outcome.Skipped → ⊥) → ComesTo s.move s.change s.before.state.value s.after.state.value s.outcome
   -- only a call that makes a weak exchange fails spuriously
   pub weak : (s.outcome ≡ outcome.Skipped → ⊥) → IsWeakCall s.move s.party (s.before.span s.party) (asked m s.seat)
   -- a call makes exactly the plain steps that its answer implies
   pub own : OwnSteps m s.party (s.after.span s.party) s.outcome (asked m s.seat)
-  -- A party's seat decides which moves it makes. It steps in a call, and reads and writes while it holds or after a
-  -- leak. Once it is gone it makes none.
+  -- A party's seat decides which moves it makes. A party steps only in a call. It reads and writes only while it holds or
+  -- after a leak. A party that is gone makes only an owner's moves.
   pub in_place : (s.outcome ≡ outcome.Skipped → ⊥) → is_in_place m.owned s.move s.seat ≡ true
-  -- a party stays in its call until that is answered, and no other party's move changes its point
+  -- A party stays in its call until the call is answered. No move of another party changes its point in the call.
   pub in_call : InItsCall s.outcome s.move s.seat (seat_of s.after s.party)
   pub calls : LeavesCalls s.party s.before s.after
 
--- An answer is right at some moment of the call. Only a weak try may fail spuriously, by its weak exchange.
+-- An answer by a step is right at some moment of its call. An answer by a move `Weak` is right at some moment, or is a
+-- spurious failure.
 abbrev pub RightBy : {V C : Type 0} → Move C V → Asked → Said → ℕ → List Mark → Type 0
 RightBy Step what said p span = HasMoment what said p span
 RightBy Weak what said p span = HasWeakMoment what said p span
@@ -334,7 +340,8 @@ RightAnswer m p span _ _ move = Unit {0}
 abbrev pub IsRight : {W V C L A : Type 0} → Machine W V C L A → Scene W V C L A → Type 0
 IsRight m s = RightAnswer m s.party (s.after.span s.party) s.outcome (asked m s.seat) s.move
 
--- a look after n others that finds the lock held, by a party that has made no plain step
+-- The step m is a look of the party p and finds the lock held. At least n looks of this party have found the lock held
+-- before, and the party has made no plain step.
 pub record IsLateLook (p n : ℕ) (m : Mark) (older : List Mark) : Type 0 where
   pub party : m.party ≡ p
   pub looks : is_look m.step_kind ≡ true
@@ -342,9 +349,9 @@ pub record IsLateLook (p n : ℕ) (m : Mark) (older : List Mark) : Type 0 where
   pub unregistered : own p older ≡ []
   pub late : n ≤ held_looks p older
 
--- A call that may starve registers in time. After each such look the party has registered, or found the cap, or has
--- made few steps since.
--- It registers only after such a look, and looks at every step that has no other purpose.
+-- A call that may starve registers in time. Since each late look (`IsLateLook`) the party has registered, or has found
+-- the cap reached, or has made few steps. It registers only after more than n looks that found the lock held. Its
+-- other steps are as `keeps_looking` says.
 pub record RegistersInTime (IsFew : List Mark → Type 0) (p n : ℕ) (span : List Mark) : Type 0 where
   pub looking : keeps_looking p n span ≡ true
   pub soon : (recent : List Mark) (m : Mark) (older : List Mark) → span ≡ recent ++ m ∷ older → IsLateLook p n m older → AnyOf (TriesToStarve p) recent ⊎ IsFew recent
@@ -366,14 +373,14 @@ ContinuesWithin (gets_within ask k) kind p span = own p span ≡ [] → (own_cou
 ContinuesWithin (changes_within k) kind p span = own p span ≡ [] → own_count p span < k
 ContinuesWithin (registers_after n k) kind p span = RegistersInTime (λ recent. own_count p recent < k + changes kind p recent) p n span
 
--- a call with a limit is answered by that step at the latest
+-- a call that is answered has kept its limit of steps, and a call that continues can still keep it
 abbrev pub InTime : {V A : Type 0} → LockKind → ℕ → List Mark → Outcome A V → Option Asked → Type 0
 InTime kind p span (outcome.Answered a b) (Some what) = EndsWithin (limit kind what) kind p span
 InTime kind p span outcome.GoingOn (Some what) = ContinuesWithin (limit kind what) kind p span
 InTime kind p span _ _ = Unit {0}
 
--- If a call continues without its plain step, though that step is open, then the step is an exchange that the call
--- repeats. It counts as one that failed.
+-- A step makes no plain step and its call continues. If at other words this step makes a plain step, and that plain step
+-- is open now, then the step is an exchange that the call repeats. It counts as a failed exchange.
 abbrev pub IsCounted : {W V C L A : Type 0} → Machine W V C L A → ℕ → Outcome A V → Move C V → Option (Seat C L) → Option Change → StepKind → Plain → Type 0
 IsCounted {W} m p outcome.GoingOn Step (Some (Calling c l h)) None step_kind s = (w : W) (d : Change) → m.change p w c l h ≡ Some d → is_open s d ≡ true → is_again step_kind ≡ true
 IsCounted m p _ _ _ _ _ _ = Unit {0}
@@ -381,15 +388,16 @@ IsCounted m p _ _ _ _ _ _ = Unit {0}
 pub record IsInTime {W V C L A : Type 0} (m : Machine W V C L A) (s : Scene W V C L A) : Type 0 where
   pub in_time : InTime m.lock_kind s.party (s.after.span s.party) s.outcome (asked m s.seat)
   pub counted : IsCounted m s.party s.outcome s.move s.seat s.change s.step_kind s.before.plain
-  -- A repeated exchange fails only if another party has changed its word since the call looked. It fails at most once
-  -- for each change.
+  -- The exchanges that a call repeats fail at most once for each change of the first word by another party during the
+  -- call.
   pub retries : (q : ℕ) → failures q (s.after.span q) ≤ changes m.lock_kind q (s.after.span q)
-  -- a call that may wait is answered by so many own steps as it promises, from the moment on at which it is open and nobody disturbs it
+  -- Once what a waiting call asks is open, the call is answered within as many own steps as it promises, if nobody
+  -- disturbs it.
   pub undisturbed : AnsweredSoon m.lock_kind s.party (s.after.span s.party) s.outcome (asked m s.seat)
-  -- A call that waits and does not look first tries by its first step, and after each look that found the lock free. By
-  -- its other steps it looks.
+  -- A waiting call that begins without a look tries at its first step, after each of its plain steps, and after each look
+  -- that found the lock free. `Gets` says what its other steps do.
   pub due : GetsWhenDue m.lock_kind s.party s.outcome s.move (asked m s.seat) (s.before.span s.party) s.before.plain s.change s.step_kind
-  -- a try continues only while what it asks is open
+  -- a try continues only while what it asks is open; `MayTryOn` has the exceptions of a queue
   pub tries_on : TriesOn s.party s.outcome s.move (asked m s.seat) (s.before.span s.party) s.before.plain s.change
 
 -- Over a whole schedule, from the opening of a world of n parties
@@ -411,11 +419,11 @@ abbrev pub CanStep : {W V C L A : Type 0} → Machine W V C L A → State W V C 
 CanStep {W} {V} {C} {L} m s =
     (p : ℕ) (c : C) (l : L) (h : Option Hold) → slice_get s.seats p ≡ Some (Calling c l h) → m.can s.words c l h ≡ true
 
--- each party can step after the schedule
+-- after the schedule each party in a call can take its next step
 abbrev pub CanGoOn : {W V C L A : Type 0} → Machine W V C L A → ℕ → List (ℕ × Move C V) → Type 0
 CanGoOn m n entries = CanStep m (after m (at_first m n) entries)
 
--- each party can step after every beginning of the schedule
+-- after every beginning of the schedule each party in a call can take its next step
 abbrev pub CanAlways : {W V C L A : Type 0} → Machine W V C L A → State W V C L → List (ℕ × Move C V) → Type 0
 CanAlways m s entries = (k : ℕ) → CanStep m (after m s (take k entries))
 
@@ -423,10 +431,10 @@ CanAlways m s entries = (k : ℕ) → CanStep m (after m s (take k entries))
 abbrev pub IsReached : {W V C L A : Type 0} → Machine W V C L A → State W V C L → Type 0
 IsReached {W} {V} {C} m s = ∥ ((n : ℕ) × (past : List (ℕ × Move C V)) × (after m (at_first m n) past ≡ s)) ∥₁
 
--- it holds of every schedule, from the opening of every world
+-- `P` holds of every number of parties with every schedule, from the opening of such a world
 abbrev pub Always : {W V C L A : Type 0} → Machine W V C L A → (ℕ → List (ℕ × Move C V) → Type 0) → Type 0
 Always {V = V} {C = C} m P = (n : ℕ) (entries : List (ℕ × Move C V)) → P n entries
 
--- take any schedule of any world that led to this state, followed by the new one: P holds of the whole
+-- for any schedule of any world that led to this state: `P` holds of that schedule followed by the new one
 abbrev pub AfterAnyPast : {W V C L A : Type 0} → Machine W V C L A → State W V C L → List (ℕ × Move C V) → (ℕ → List (ℕ × Move C V) → Type 0) → Type 0
 AfterAnyPast {V = V} {C = C} m s schedule P = (n : ℕ) (past : List (ℕ × Move C V)) → after m (at_first m n) past ≡ s → P n (past ++ schedule)

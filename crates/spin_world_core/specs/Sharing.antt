@@ -1,10 +1,10 @@
--- Who shares the value, so that the owner may not use it, and who is gone after the owner has used it.
+-- Which parties share the value, so that the owner may not use it, and which have leaked and are gone once it has.
 use Rattle.std.specs.Prelude.{Bool, true, false, not}
 use Rattle.spin_model.specs.declared.place.Seat.{Seat}
 use Rattle.spin_model.specs.declared.place.Seat.TheVariants.{Leaked}
 use Rattle.spin_model.specs.Schedules.{yields_to_owner}
 
--- the party is in a call, or holds
+-- the party is in a call, or holds the lock and has not leaked
 abbrev pub shares : {C L : Type 0} → Seat C L → Bool
 shares seat = not (yields_to_owner seat)
 

@@ -6,7 +6,7 @@ use Rattle.spin_model.specs.Acts.{stays, becomes, either}
 use Rattle.spin_world_core.specs.declared.act.Act.{Act}
 use Rattle.spin_world_core.specs.declared.act.Act.TheVariants.{Load, Store, Complete, Exchange, WeakExchange}
 
--- at the words for which it was asked
+-- what the act does at the words w, for which the object chose it
 abbrev pub result_of : {W V L A : Type 0} → Act W V L A → W → Stepped W V L A
 result_of (Load next) w = stays w next
 result_of (Store to next) w = stays to next
@@ -18,7 +18,7 @@ abbrev pub refusal_of : {W V L A : Type 0} → Act W V L A → Option (Next L A)
 refusal_of (WeakExchange to won lost) = Some lost
 refusal_of _ = None
 
--- an exchange if the word is the one found before, and else a load of the word for the next exchange
+-- an exchange if the word is still the one found before; otherwise a load of the word for the next exchange
 abbrev pub tried_again : {W V L A : Type 0} → Bool → Option W → Next L A → Next L A → Next L A → Act W V L A
 tried_again true to won found missed = Exchange to won missed
 tried_again false to won found missed = Load (either (is_some to) found missed)

@@ -1,4 +1,4 @@
--- How a transcript and a place agree with the events of the schedule and with its plain lock.
+-- What a transcript tells of the events of a schedule, and what `place` tells of a party in the plain lock.
 use Rattle.std.specs.Prelude.{◌≡◌, ℕ, ◌≤◌, ◌<◌, Bool, true, false, ◌&&◌, Option, Some, None, List, [], ◌∷◌, ◌++◌, length, ◌==◌, if◌then◌else◌}
 use Rattle.std.specs.List.{list_any}
 use Rattle.spin_step.specs.Plain.{Plain}
@@ -27,7 +27,7 @@ abbrev pub without_begin : {V A : Type 0} → Outcome A V → Outcome A V
 without_begin (outcome.Answered a b) = outcome.Answered a None
 without_begin o = o
 
--- the event has the party of the scene, the outcome of its move, and the words after it
+-- the event has the scene's party, the scene's outcome (without the place of a begin), and the words after the scene
 pub record TellsScene {W V C L A : Type 0} (s : Scene W V C L A) (e : Event W V A) : Type 0 where
   pub party : e.party ≡ s.party
   pub outcome : without_begin e.outcome ≡ s.outcome
@@ -40,7 +40,7 @@ EachTells [] (e ∷ es) = ⊥
 EachTells (s ∷ ss) [] = ⊥
 EachTells (s ∷ ss) (e ∷ es) = TellsScene s e × EachTells ss es
 
--- take any schedule of any world that led to this state: the events tell the scenes of the new one, which follows it
+-- for any schedule of any world that led to this state: the events tell the scenes of the new schedule, played from there
 abbrev pub TellsAfterAnyPast : {W V C L A : Type 0} → Machine W V C L A → State W V C L → List (ℕ × Move C V) → List (Event W V A) → Type 0
 TellsAfterAnyPast {V = V} {C = C} m s schedule events =
     (n : ℕ) (past : List (ℕ × Move C V)) → after m (at_first m n) past ≡ s → EachTells (scenes m (seen_after m (opening m n) past) schedule) events
@@ -52,7 +52,7 @@ pub data Stage : Type 0 where
   has_leaked : Stage
   is_gone : Stage
 
--- the stage after a move of the party's own
+-- the party's stage after a move of its own
 abbrev pub stage_by_own : {V A : Type 0} → Outcome A V → Stage → Stage
 stage_by_own outcome.Begun stage = in_call
 stage_by_own (outcome.Answered a b) stage = at_rest
@@ -74,7 +74,7 @@ abbrev pub stage_after : {W V C L A : Type 0} → ℕ → Stage → List (Scene 
 stage_after p stage [] = stage
 stage_after p stage (s ∷ ss) = stage_after p (stage_by_owner s.outcome s.move (if s.party == p then stage_by_own s.outcome stage else stage)) ss
 
--- at this stage, the party's entries in the plain lock are those that the place implies
+-- the place is that of the party's stage, and the party's entries in the plain lock are those that the place implies
 abbrev pub StandsAt : Stage → Plain → ℕ → List Mark → Place → Type 0
 StandsAt at_rest s p span place.Idle = entries p s ≡ no_entries
 StandsAt at_rest s p span (place.Holding h) = entries p s ≡ entries_of p h
@@ -83,12 +83,12 @@ StandsAt has_leaked s p span (place.Leaked h) = entries p s ≡ entries_of p h
 StandsAt is_gone s p span place.Gone = (h : Hold) × (entries p s ≡ entries_of p h)
 StandsAt _ s p span _ = ⊥
 
--- A world of n parties tells a place exactly for these. The place is the party's stage.
+-- A world of n parties tells a place exactly for each of these parties. The place agrees with the party's stage.
 abbrev pub PlaceSays : Stage → ℕ → Plain → ℕ → List Mark → Option Place → Type 0
 PlaceSays stage n s p span None = (n ≤ p) × (entries p s ≡ no_entries)
 PlaceSays stage n s p span (Some place) = (p < n) × StandsAt stage s p span place
 
--- this holds for any schedule of any world that led to this state
+-- for any schedule of any world that led to this state, `PlaceSays` holds of the place that was told
 abbrev pub SaysAfterAnyPast : {W V C L A : Type 0} → Machine W V C L A → State W V C L → ℕ → Option Place → Type 0
 SaysAfterAnyPast {V = V} {C = C} m s p told =
     (n : ℕ) (past : List (ℕ × Move C V)) → after m (at_first m n) past ≡ s
@@ -98,7 +98,7 @@ SaysAfterAnyPast {V = V} {C = C} m s p told =
 abbrev pub begins_of : {W V A : Type 0} → ℕ → Event W V A → Bool
 begins_of p e = (e.party == p) && is_begun e.outcome
 
--- the last of these events that begins a call of the party is at this place; None says that none does
+-- the last event of the list that begins a call of the party is at this place
 pub record IsLastOf {W V A : Type 0} (p : ℕ) (events : List (Event W V A)) (place : ℕ) : Type 0 where
   pub front : List (Event W V A)
   pub event : Event W V A
@@ -108,6 +108,7 @@ pub record IsLastOf {W V A : Type 0} (p : ℕ) (events : List (Event W V A)) (pl
   pub begins : begins_of p event ≡ true
   pub none_later : list_any (begins_of p) back ≡ false
 
+-- the place of the last event that begins a call of the party; `None` if no event does
 abbrev pub IsLastBegin : {W V A : Type 0} → ℕ → List (Event W V A) → Option ℕ → Type 0
 IsLastBegin p events None = list_any (begins_of p) events ≡ false
 IsLastBegin p events (Some place) = IsLastOf p events place

@@ -1,4 +1,4 @@
--- Calls that nobody disturbs: from a moment on at which what such a call asks is open, it answers by so many own steps as it promises.
+-- Waiting calls that nobody disturbs. Once what such a call asks is open, it is answered within as many own steps as it promises.
 use Rattle.std.specs.Prelude.{◌≡◌, ℕ, ◌≤◌, ◌<◌, ◌==◌, ◌&&◌, Bool, true, false, Option, Some, is_some, min, List, [], ◌∷◌, ◌++◌, if◌then◌else◌}
 use Rattle.spin_step.specs.Plain.{Plain, is_empty}
 use Rattle.spin_model.specs.declared.schedule.Outcome.{Outcome}
@@ -7,16 +7,16 @@ use Rattle.spin_model.specs.StepKinds.{is_weak}
 use Rattle.spin_model.specs.Calls.{Asked, LockKind, Mark, encoded}
 use Rattle.spin_world_core.specs.Spans.{own, own_count}
 
--- how many parties had arrived when the party's own arrival was counted
+-- how many parties had arrived after the party's latest plain step (at a barrier: its own arrival); 0 if it made none
 abbrev pub arrived : ℕ → List Mark → ℕ
 arrived p [] = 0
 arrived p (m ∷ ms) = if (m.party == p) && is_some m.change then m.after.arrivals else arrived p ms
 
--- whether what its call asks next is open to the party, from the steps of the call's span so far
+-- whether the call waits, and what it asks next is open to its party; the span so far tells what it asks next
 abbrev pub is_open_now : ℕ → Asked → List Mark → Plain → Bool
 is_open_now p what span s = what.waits && what.is_open_next (is_empty (own p span)) (arrived p span) p s
 
--- the step disturbs nobody but its own party: it changes no word, or it is the party's own and does not fail spuriously
+-- the step m does not disturb the party p: a step of p does not fail spuriously, and a step of another party changes no word
 pub record Leaves (kind : LockKind) (p : ℕ) (m : Mark) : Type 0 where
   pub strong : m.party ≡ p → is_weak m.step_kind ≡ false
   pub still : (m.party ≡ p → ⊥) → encoded kind m.after ≡ encoded kind m.before
@@ -25,18 +25,18 @@ abbrev pub AllOf : {X : Type 0} → (X → Type 0) → List X → Type 0
 AllOf P [] = Unit {0}
 AllOf P (x ∷ xs) = P x × AllOf P xs
 
--- Take each mark of the span at which what the call asks is open. If nothing disturbs the party from then on, it has
--- made few steps since.
+-- Take any step `first` of the span before which what the call asks was open. If no step from `first` on disturbs the
+-- party, then the party has made few steps from `first` on.
 abbrev pub UndisturbedTakes : (ℕ → Type 0) → LockKind → ℕ → Asked → List Mark → Type 0
 UndisturbedTakes IsFew kind p what span =
     (recent : List Mark) (first : Mark) (older : List Mark) → span ≡ recent ++ first ∷ older → is_open_now p what older first.before ≡ true → AllOf (Leaves kind p) (recent ++ first ∷ [])
     → IsFew (own_count p (recent ++ first ∷ []))
 
--- How many that is at most: what the call promises, and four where it says more
+-- how many steps an undisturbed call takes at most: as many as it promises, and never more than four
 abbrev pub steps_alone : Asked → ℕ
 steps_alone what = min what.undisturbed_steps 4
 
--- a call that continues has made fewer steps, and a call that is answered at most as many
+-- an undisturbed call has made at most `steps_alone` steps when it is answered, and fewer while it continues
 abbrev pub AnsweredSoon : {V A : Type 0} → LockKind → ℕ → List Mark → Outcome A V → Option Asked → Type 0
 AnsweredSoon kind p span (outcome.Answered a b) (Some what) = UndisturbedTakes (λ n. n ≤ steps_alone what) kind p what span
 AnsweredSoon kind p span outcome.GoingOn (Some what) = UndisturbedTakes (λ n. n < steps_alone what) kind p what span

@@ -22,20 +22,20 @@ seen_after m seen (e ∷ es) = seen_after m (scene m seen e.0 e.1).after es
 abbrev pub outcome_after : {W V C L A : Type 0} → Machine W V C L A → ℕ → List (ℕ × Move C V) → ℕ → Move C V → Outcome A V
 outcome_after m n past p move = (happens m (after m (at_first m n) past) p move).outcome
 
--- A party that holds the lock and may read the value finds the one last written, also after a leak.
--- So does the owner, once every party is idle, has leaked or is gone.
+-- A party that holds the lock and may read finds the value last written. After a leak the party still finds it.
+-- The owner finds it too, once every party is idle, has leaked or is gone.
 pub record FindsLastWritten {W V C L A : Type 0} (m : Machine W V C L A) (n : ℕ) (past : List (ℕ × Move C V)) : Type 0 where
   pub holder : (p : ℕ) (h : Hold) → slice_get (after m (at_first m n) past).seats p ≡ Some (Holding h) → may_read h ≡ true → outcome_after m n past p Read ≡ Value (seen_after m (opening m n) past).written
   pub leaked : (p : ℕ) (h : Hold) → slice_get (after m (at_first m n) past).seats p ≡ Some (Leaked h) → may_read h ≡ true → outcome_after m n past p Read ≡ Value (seen_after m (opening m n) past).written
   pub owner : (p : ℕ) (seat : Seat C L) → slice_get (after m (at_first m n) past).seats p ≡ Some seat → is_owners m (after m (at_first m n) past) ≡ true → outcome_after m n past p OwnerGet ≡ Value (seen_after m (opening m n) past).written
 
--- a move that writes nothing, and begins at most a call that keeps the guard
+-- the move is no write, and begins no call, or only one that keeps the guard
 abbrev pub is_quiet_move : {C V : Type 0} → (C → Bool) → Move C V → Bool
 is_quiet_move keeps (Begin c) = keeps c
 is_quiet_move keeps (Write v) = false
 is_quiet_move keeps _ = true
 
--- by these entries the party keeps its guard, and writes nothing
+-- every move of the party among these entries is quiet
 abbrev pub is_quiet : {C V : Type 0} → (C → Bool) → ℕ → List (ℕ × Move C V) → Bool
 is_quiet keeps p [] = true
 is_quiet keeps p (e ∷ es) = (not (e.0 == p) || is_quiet_move keeps e.1) && is_quiet keeps p es
@@ -45,14 +45,14 @@ pub record RunsJoin {W V C L A : Type 0} (m : Machine W V C L A) (s : State W V 
   pub state : after m (after m s first) second ≡ after m s (first ++ second)
   pub events : events_of m s first ++ events_of m (after m s first) second ≡ events_of m s (first ++ second)
 
--- Two reads of a party find the same value, if between them it writes nothing, and begins only calls that keep its
--- guard.
+-- Two reads of a party find the same value, if between them the party writes nothing and begins only calls that keep
+-- its guard.
 abbrev pub ReadsAgreeAcross : {W V C L A : Type 0} → (C → Bool) → Machine W V C L A → ℕ → List (ℕ × Move C V) → Type 0
 ReadsAgreeAcross {V = V} {C = C} keeps m n past =
     (p : ℕ) (between : List (ℕ × Move C V)) (r s : Option V) → is_quiet keeps p between ≡ true
     → outcome_after m n past p Read ≡ Value r → outcome_after m n (past ++ (p, Read) ∷ between) p Read ≡ Value s → s ≡ r
 
--- two reads of a party under one guard find the same value, if it writes nothing between them
+-- two reads of a party find the same value, if between them the party writes nothing and begins no call
 abbrev pub ReadsAgree : {W V C L A : Type 0} → Machine W V C L A → ℕ → List (ℕ × Move C V) → Type 0
 ReadsAgree m n past = ReadsAgreeAcross (λ c. false) m n past
 

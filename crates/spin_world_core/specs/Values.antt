@@ -11,7 +11,7 @@ use Rattle.spin_model.specs.Calls.{Said, gives_value}
 use Rattle.spin_model.specs.Machines.{Machine, opening_plain}
 use Rattle.spin_world_core.specs.Runs.{Scene, Every, opening}
 
--- if a closure makes the value, there is one exactly if a closure has completed
+-- if closures make the value, the world has a value exactly if a closure has completed
 abbrev pub HasPhase : {V : Type 0} → Bool → Phase → Option V → Type 0
 HasPhase true phase value = is_complete phase ≡ is_some value
 HasPhase false phase value = Unit {0}
@@ -22,7 +22,7 @@ Brings m (Some (completes p)) (Some (Calling c l h)) value = value ≡ m.brings 
 Brings m (Some (completes p)) _ value = ⊥
 Brings m _ _ value = Unit {0}
 
--- If closures make the value, exactly the answers that say so give a value, and it is the present one.
+-- If closures make the value, an answer gives a value exactly if the answer says so. That value is the present one.
 abbrev pub Gives : {V : Type 0} → Bool → Said → Option V → Option V → Type 0
 Gives true gives_value (Some v) value = value ≡ Some v
 Gives true gives_value None value = ⊥
