@@ -20,7 +20,7 @@ use spin_model::Next;
 pub enum Act<W, V, L, A> {
     /// A load: no word changes.
     Load(Next<L, A>),
-    /// A store, or a whole section under a lock of the object. It leaves these words.
+    /// A store, or a whole section under a lock of the object. Afterwards the words are these.
     Store(W, Next<L, A>),
     /// A store that completes a closure, which has made this value.
     Complete(W, V, Next<L, A>),

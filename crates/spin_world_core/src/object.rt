@@ -10,10 +10,11 @@ use spin_model::Hold;
 /// A lock in the world, as its words and a table of the steps of its calls.
 ///
 /// # Contract
-/// Each method is the one of the object's `machine`, which also says what the method means in the plain lock. Callers
-/// of [`World::run`](crate::World::run) get four of the `laws`: `keeps`, `moments`, `counts` and `values`. They hold of
-/// every schedule from the opening state. [`looks_under_one_guard_agree`](crate::looks_under_one_guard_agree) gives
-/// `agree`.
+/// Each method agrees with the object's `machine`. The machine also says what each step does to the plain lock. Callers
+/// of [`World::run`](crate::World::run) get four of the `laws`: `keeps`, `moments`, `counts` and `values`. These laws
+/// hold
+/// of every schedule from the opening state. [`looks_under_one_guard_agree`](crate::looks_under_one_guard_agree) gives
+/// the law `agree`.
 pub trait Object: Drop {
     /// The words that all parties share.
     type Words: Copy;
@@ -64,8 +65,9 @@ pub trait Object: Drop {
     /// only on the object and the arguments.
     ///
     /// # Contract
-    /// The step has to be possible (`can` of the machine). Its outcome is then `step` of the machine (`result_of`), and
-    /// it may fail spuriously where `refuse` of the machine says how the call continues after that (`refusal_of`).
+    /// The step has to be possible (`can` of the machine). Its result is then that of `step` of the machine
+    /// (`result_of`).
+    /// It may fail spuriously if `refuse` of the machine says how the call then continues (`refusal_of`).
     fn next_act(
         &self,
         words: Self::Words,

@@ -19,7 +19,7 @@ pub struct Table<O: Object, A: Allocator> {
     pub words: O::Words,
     pub value: Option<O::Value>,
     seats: Vec<Seat<O::Call, O::Local>, A>,
-    /// How many parties share the value, so that an owner's move need not check each.
+    /// How many parties share the value. An owner's move looks at this number, and need not check each party.
     sharing: usize,
     /// How many parties have leaked, and are not gone.
     leaked: usize,
@@ -248,7 +248,7 @@ impl<O: Object, A: Allocator> Table<O, A> {
 
     /// Makes the next step of the party's call. If `is_weak`, that step fails spuriously; a step that cannot is
     /// skipped.
-    // It calls `next_act` at one place, so that the compiler inlines it and builds no `Act`.
+    // `next_act` is called at one place, so that the compiler inlines it and builds no `Act`.
     fn step(
         &mut self,
         object: &O,

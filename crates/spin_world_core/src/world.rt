@@ -39,7 +39,8 @@ pub struct World<O: Object, A: Allocator = Global> {
     alloc: A,
     object: O,
     table: Table<O, A>,
-    /// Where each party's call began in the latest run. The world keeps it, so that a run need not allocate it.
+    /// Where each party's call began in the latest run. The world keeps this table, so that a run need not allocate
+    /// one.
     begins: Vec<Option<usize>, A>,
 }
 
@@ -57,7 +58,7 @@ impl<O: Object, A: Allocator> Model for World<O, A> {
 }
 
 impl<O: Object, A: Allocator + Copy> World<O, A> {
-    /// Creates a world of this many parties, all idle. It keeps the allocator for the transcripts of its runs.
+    /// Creates a world of this many parties, all idle. The world keeps the allocator for the transcripts of its runs.
     ///
     /// # Contract
     /// On `Ok` the world has this object, with its opening words and its opening value (`at_first`).
@@ -96,8 +97,9 @@ impl<O: Object, A: Allocator + Copy> World<O, A> {
     /// Returns the place of the party, or `None` if it does not exist.
     ///
     /// # Contract
-    /// The place is the one of the party's seat (`place_of`). The party's own moves and the owner's led to it
-    /// (`SaysAfterAnyPast`). It implies the party's entries in the plain lock.
+    /// The place is the one of the party's seat (`place_of`). The party's own moves and the owner's moves led to this
+    /// place
+    /// (`SaysAfterAnyPast`). The place implies the party's entries in the plain lock.
     ///
     /// # Examples
     /// ```
@@ -113,7 +115,8 @@ impl<O: Object, A: Allocator + Copy> World<O, A> {
     pub fn place(&self, party: usize) -> Option<Place>
         ensures place { result ≡ option_map place_of (slice_get self.now.state.seats party) }
 
-        // The party's moves have led to this place, and its entries in the plain lock are those that the place implies.
+        // The party's moves have led to this place, and the party's entries in the plain lock are those that it
+        // implies.
         ensures says { SaysAfterAnyPast (O.machine self.now.object) self.now.state party result }
     {
         O::laws();
@@ -171,12 +174,12 @@ impl<O: Object, A: Allocator + Copy> World<O, A> {
 
     /// Makes one move of the party, and returns its outcome.
     ///
-    /// A move that is not open to the party changes nothing ([`Outcome::Skipped`]). An answer does not tell where its
-    /// call began; in the transcript of [`World::run`] it does.
+    /// A move that is not open to the party changes nothing ([`Outcome::Skipped`]). The answer does not tell where its
+    /// call began. An answer in the transcript of [`World::run`] does.
     ///
     /// # Contract
     /// The outcome and the new state are those that `happens` says. Some schedule leads to the new state (`IsReached`),
-    /// and what `run` promises of a schedule holds of that one.
+    /// and what `run` promises of a schedule holds of that schedule.
     pub fn act(
         &mut self,
         party: usize,
@@ -198,8 +201,8 @@ impl<O: Object, A: Allocator + Copy> World<O, A> {
     /// On `Ok` the new state is the one after the schedule (`after`). The transcript has its events (`events_of`), and
     /// each answer tells where its call began (`TellsBegins`).
     ///
-    /// Take any schedule that led to the old state, followed by this one. All promises hold of the whole: `KeepsAll`,
-    /// `MomentsAll`, `CountsAll`, `ValuesAll`. The transcript tells what happens in its second part
+    /// Take any schedule that led to the old state, and append this schedule to it. All promises hold of the result:
+    /// `KeepsAll`, `MomentsAll`, `CountsAll`, `ValuesAll`. The transcript tells what happens in the appended part
     /// (`TellsAfterAnyPast`).
     ///
     /// # Examples
@@ -234,7 +237,7 @@ impl<O: Object, A: Allocator + Copy> World<O, A> {
             IfOk result (λ t. t.events.items ≡ with_begins [] (events_of m self.old.state schedule.now)) }
         ensures err { OnErr result (self.new ≡ self.old) }
 
-        // Some schedule leads to the new state: any schedule that led to the old one, followed by this one.
+        // Some schedule leads to the new state: any schedule that led to the old state, followed by this schedule.
         ensures reached { IsReached (O.machine self.new.object) self.new.state }
         ensures keeps { let m = O.machine self.old.object in
             AfterAnyPast m self.old.state schedule.now (KeepsAll m) }

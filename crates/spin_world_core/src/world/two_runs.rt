@@ -14,12 +14,12 @@ use std::alloc::{AllocError, Allocator};
 /// Plays a schedule in two runs: the entries before the place `at`, then the others.
 ///
 /// Each transcript tells where a call began by a place in its own part. The second tells no place for a call that began
-/// in the first. After an `Err` the world is unchanged, or as the first part leaves it.
+/// in the first. After an `Err` the world is unchanged, or is in the state after the first part.
 ///
 /// # Contract
 /// The place `at` has to be within the schedule. On `Ok` the state is the one after the whole schedule. The two
 /// transcripts are that of one run, cut at `at` (`IsCut`). All that [`World::run`] promises holds of the whole schedule
-/// (`Promised`). Both transcripts joined tell what happens in it.
+/// (`Promised`). The two transcripts joined tell what happens in the whole schedule.
 ///
 /// # Examples
 /// ```
@@ -47,13 +47,13 @@ pub fn run_in_two<O: Object, A: Allocator + Copy>(
         OnErr result ((world.new ≡ world.old) ⊎ (world.new.state ≡ after m world.old.state (take at schedule.now))) }
     ensures reached { IsReached (O.machine world.new.object) world.new.state }
 
-    // Take any schedule that led to the old state, followed by this one:
+    // For any schedule that led to the old state, followed by this schedule:
     ensures promised { let m = O.machine world.old.object in
         AfterAnyPast m world.old.state schedule.now (Promised m) }
     ensures tells { let m = O.machine world.old.object in
         IfOk result (λ t. TellsAfterAnyPast m world.old.state schedule.now (t.0.events.items ++ t.1.events.items)) }
 
-    // In the one run each answer tells where its call began, and so it does in each part:
+    // Each answer tells where its call began, in the transcript of the one run and in that of each part:
     ensures begins { let m = O.machine world.old.object in
         IfOk result (λ t. TellsBegins (with_begins [] (events_of m world.old.state schedule.now)) × TellsBegins t.0.events.items × TellsBegins t.1.events.items) }
 {
