@@ -16,7 +16,7 @@ use Rattle.spin_model.specs.Acts.{Memory, two_numbers, Act, load_if, section, ei
 use Rattle.spin_model.specs.Tables.{usual_table}
 use Rattle.spin_model.specs.Asks.{meets}
 
--- the words after one more arrival, if groups have n arrivals; `leads`: whether that arrival leads
+-- the words after one more arrival at a barrier with groups of n; `leads` says whether this arrival leads its group
 abbrev pub arrive : ℕ → BarrierWords → BarrierWords
 arrive n w = let a = arrived n w.count w.generation in record { count = a.0.0; generation = a.0.1 }
 
@@ -27,11 +27,11 @@ leads n w = (arrived n w.count w.generation).1
 abbrev pub is_below : ℕ → BarrierWords → Bool
 is_below n w = nat_lt w.count (max n 1)
 
--- the generation found is another than this one
+-- the generation that was loaded is no longer g
 abbrev pub is_past : ℕ → ℕ → Bool
 is_past g generation = not (generation == g)
 
--- its two words: how many parties of the group have arrived, and the generation
+-- the barrier's two words: how many parties of the present group have arrived, and the generation
 abbrev pub barrier_memory : Memory BarrierWords
 barrier_memory = two_numbers (λ w. w.count) (λ w. w.generation) (λ k w. record w { count = k }) (λ k w. record w { generation = k })
 

@@ -1,5 +1,5 @@
--- What a fair lock is: its first state, how many parties may starve, and what each of its calls asks. What a call asks
--- decides where it begins.
+-- What a fair lock is: its first state, how many parties may starve, and what each of its calls promises. The promise of
+-- a call also says what its party holds when the call begins.
 use Rattle.std.specs.Prelude.{◌≡◌, ℕ, true, min, Option, Some, None, [], ◌∷◌}
 use Rattle.spin_step.specs.Plain.{to_lock_unregistered, to_lock_starving, to_lock_starving_alone, to_starve}
 use Rattle.spin_step_more.specs.Starvers.{most_starvers}
@@ -15,7 +15,8 @@ use Rattle.spin_step_more.specs.FairKind.{fair}
 use Rattle.spin_model.specs.Machines.{Machine}
 use Rattle.spin_world_core.specs.Kinds.{BeginAt}
 
--- with this cap; its `lock` registers after `patience` looks that found the flag set, at the next such look
+-- `m` is the machine of a fair lock with this cap of starvers. After `patience` looks that found the flag set, its `lock`
+-- registers at the next look that finds the flag set.
 pub record IsFairLock {V : Type 0} (given : V) (cap patience : ℕ) (m : Machine ℕ V FairCall FairPoint (Answer V)) : Type 0 where
   pub lock_kind : m.lock_kind ≡ fair
   pub most_starve : m.cap ≡ min cap most_starvers

@@ -21,31 +21,31 @@ use Rattle.spin_step_more.specs.declared.fair_calls.FairPoint.{FairPoint}
 abbrev pub IsFree : Plain → Type 0
 IsFree s = (s.holders ≡ []) × (s.starvers ≡ [])
 
--- if a party holds the lock after its own move, and before it neither held nor starved, then nobody starved
+-- if a party acquires the lock by its move, and was no starver before the move, then nobody was a starver
 abbrev pub ComesAfterStarvers : {V : Type 0} → Machine ℕ V FairCall FairPoint (Answer V) → ℕ → List (ℕ × Move FairCall V) → ℕ → Move FairCall V → Type 0
 ComesAfterStarvers m n past p move =
     let before = seen_after m (opening m n) past in
     is_holder p writing before.plain.holders ≡ false → is_starver p before.plain.starvers ≡ false → is_holder p writing (scene m before p move).after.plain.holders ≡ true → before.plain.starvers ≡ []
 
--- a party has acquired the lock as a starver, and is still registered
+-- the entries of a party that has acquired the lock as a starver and is still registered
 abbrev pub holds_registered : ℕ → Entries
 holds_registered p = record no_entries { holders = holder p writing ∷ []; starvers = p ∷ [] }
 
--- after these entries, the next step of a call that has got so far is granted the lock, whatever others do
+-- after the schedule `past`: if a party in a call holds the lock and is still registered, its next step answers `Granted`
 abbrev pub IsGrantedNext : {V : Type 0} → Machine ℕ V FairCall FairPoint (Answer V) → ℕ → List (ℕ × Move FairCall V) → Type 0
 IsGrantedNext m n past =
     (p : ℕ) (c : FairCall) (l : FairPoint) (h : Option Hold) → slice_get (after m (at_first m n) past).seats p ≡ Some (Calling c l h)
     → entries p (seen_after m (opening m n) past).plain ≡ holds_registered p → outcome_after m n past p Step ≡ Answered Granted None
 
--- a party is a starver, and has nothing else
+-- the entries of a party that is a starver and does not hold the lock
 abbrev pub only_starves : ℕ → Entries
 only_starves p = record no_entries { starvers = p ∷ [] }
 
--- the step at this point sets the flag whenever it is clear
+-- the step at this point sets the flag whenever the flag is clear
 abbrev pub SetsAClearFlag : {V : Type 0} → Machine ℕ V FairCall FairPoint (Answer V) → FairCall → FairPoint → Option Hold → Type 0
 SetsAClearFlag {V} m c l h = (w : ℕ) (value : Option V) → w % 2 ≡ 0 → (m.step w value c l h).words ≡ w + 1
 
--- After these entries, if nobody holds: the next step of a waiting starver sets the flag, or leads to a step that does.
+-- If nobody holds after the schedule `past`, the next step of a waiting starver sets the flag, or leads to a point whose step sets a clear flag.
 abbrev pub GoesForAClearFlag : {V : Type 0} → Machine ℕ V FairCall FairPoint (Answer V) → ℕ → List (ℕ × Move FairCall V) → Type 0
 GoesForAClearFlag m n past =
     (p : ℕ) (c : FairCall) (l : FairPoint) (h : Option Hold) → let s = after m (at_first m n) past in

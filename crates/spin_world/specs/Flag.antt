@@ -1,4 +1,4 @@
--- What a flag is: its first state, and what each of its calls asks. What a call asks decides where it begins.
+-- What a flag is: its first state, and what each of its calls promises. The promise also says what the party holds when the call begins.
 use Rattle.std.specs.Prelude.{◌≡◌, Bool, true, false, Option, Some, None, [], ◌∷◌}
 use Rattle.spin_step.specs.Plain.{to_write}
 use Rattle.spin_step.specs.Steps.{bit}

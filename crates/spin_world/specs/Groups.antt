@@ -37,14 +37,15 @@ arrivals m parties past = steps_made is_arrival m (opening m parties) past
 abbrev pub arrives_next : BarrierMachine → ℕ → Entries → ℕ → Bool
 arrives_next m parties past p = passes is_arrival (scene m (seen_at m parties past) p Step).change
 
--- After a schedule, if groups have n arrivals: the words count the arrivals in groups. A step answers that its party
--- leads exactly if it is the last arrival of a group.
+-- After the schedule `past` of a barrier with groups of n: the count is the number of arrivals in the present group, and
+-- the generation is the number of full groups, modulo 2^64. A step answers `Leader` exactly if it is the last arrival of
+-- a group.
 pub record InGroups (m : BarrierMachine) (n parties : ℕ) (past : Entries) : Type 0 where
   pub count : (after m (at_first m parties) past).words.count ≡ arrivals m parties past % max n 1
   pub generation : (after m (at_first m parties) past).words.generation ≡ (arrivals m parties past / max n 1) % 2 ^ 64
   pub leads : (p : ℕ) → (outcome_after m parties past p Step ≡ Answered Leader None) ↔ ((arrives_next m parties past p ≡ true) × ((arrivals m parties past + 1) % max n 1 ≡ 0))
 
--- The next step of a follower answers exactly if its group is full by then, whatever others do meanwhile.
+-- The next step of a party that has arrived answers `Follower` exactly if the party's group is full, as far as its generation tells.
 abbrev pub FollowersLeave : BarrierMachine → ℕ → Entries → Type 0
 FollowersLeave m parties past =
     let seen = seen_at m parties past in

@@ -23,15 +23,15 @@ use Rattle.std.specs.List.{list_any}
 abbrev pub Entries : Type 0 → Type 0
 Entries V = List (ℕ × Move (OnceCall V) V)
 
--- the cell after a schedule
+-- the `Once` after a schedule
 abbrev pub once_after : {V : Type 0} → OnceMachine V → ℕ → Entries V → State ℕ V (OnceCall V) OncePoint
 once_after m n past = after m (at_first m n) past
 
--- the same with its plain lock
+-- the `Once` with its plain lock, after a schedule
 abbrev pub seen_at : {V : Type 0} → OnceMachine V → ℕ → Entries V → Seen ℕ V (OnceCall V) OncePoint
 seen_at m n past = seen_after m (opening m n) past
 
--- the owner replaces no value in these entries
+-- by this move the owner does not replace the value; `is_shared`: by no move of these entries
 abbrev pub keeps_value : {C V : Type 0} → Move C V → Bool
 keeps_value (OwnerSet v) = false
 keeps_value _ = true
@@ -40,12 +40,12 @@ abbrev pub is_shared : {C V : Type 0} → List (ℕ × Move C V) → Bool
 is_shared [] = true
 is_shared (e ∷ es) = keeps_value e.1 && is_shared es
 
--- There is a value exactly if a closure has completed. It stays the same until an owner replaces it.
+-- There is a value exactly if the phase is complete. The value stays the same until the owner replaces it.
 pub record ValueStays {V : Type 0} (m : OnceMachine V) (n : ℕ) (past further : Entries V) : Type 0 where
   pub complete : is_complete (seen_at m n past).plain.phase ≡ is_some (once_after m n past).value
   pub stays : (v : V) → (once_after m n past).value ≡ Some v → is_shared further ≡ true → (once_after m n (past ++ further)).value ≡ Some v
 
--- the party runs its closure: the only plain step of its call so far is that it has begun the closure
+-- the party runs its closure: its call has begun the closure, and has made no other plain step
 pub record RunsClosure {V : Type 0} (m : OnceMachine V) (n : ℕ) (past : Entries V) (p : ℕ) : Type 0 where
   pub call : OnceCall V
   pub point : OncePoint
@@ -53,18 +53,18 @@ pub record RunsClosure {V : Type 0} (m : OnceMachine V) (n : ℕ) (past : Entrie
   pub calls : slice_get (once_after m n past).seats p ≡ Some (Calling call point held)
   pub begun : own p ((seen_at m n past).span p) ≡ gets p to_begin ∷ []
 
--- the answer at the end of a closure
+-- the answer of a call whose closure ends; the closure made this value, or failed
 abbrev pub answer_of : {V : Type 0} → Option V → Answer V
 answer_of (Some v) = Value v
 answer_of None = Failed
 
--- At most one party runs a closure, and none once there is a value. The party's next step ends its closure.
+-- At most one party runs a closure, and none does once there is a value. The next step of a party that runs its closure ends the closure.
 pub record OneRuns {V : Type 0} (m : OnceMachine V) (n : ℕ) (past : Entries V) : Type 0 where
   pub alone : (p q : ℕ) → RunsClosure m n past p → RunsClosure m n past q → p ≡ q
   pub before : (p : ℕ) → RunsClosure m n past p → (once_after m n past).value ≡ None
   pub ends : (p : ℕ) → (runs : RunsClosure m n past p) → outcome_after m n past p Step ≡ Answered (answer_of (m.brings runs.call)) None
 
--- which calls answer the value if there is one, and which run a closure if there is none
+-- the call may answer with the value; `has_closure`: the call may run a closure
 abbrev pub wants_value : Asked → Bool
 wants_value what = not (is_empty (own_steps (what.answers gives_value) 0))
 
@@ -75,37 +75,37 @@ is_begun (c ∷ cs) = is_for to_begin c
 abbrev pub has_closure : Asked → Bool
 has_closure what = list_any is_begun (own_steps (what.answers gives_value) 0) || list_any is_begun (own_steps (what.answers failed) 0)
 
--- If there is a value, the next step of each call that wants it answers it. If there is none and no closure runs, the
--- next step of a `poll` says so.
+-- If there is a value, the next step of each call that wants the value answers with it. If the word is 0 (there is no
+-- value, and no closure runs), the next step of a `poll` answers `NoValue`.
 pub record AnswersAtOnce {V : Type 0} (m : OnceMachine V) (n : ℕ) (past : Entries V) : Type 0 where
   pub value : (p : ℕ) (v : V) (c : OnceCall V) (l : OncePoint) (h : Option Hold) → (once_after m n past).value ≡ Some v → slice_get (once_after m n past).seats p ≡ Some (Calling c l h) → wants_value (m.asks c h) ≡ true
       → outcome_after m n past p Step ≡ Answered (Value v) None
   pub none : (p : ℕ) (l : OncePoint) (h : Option Hold) → (once_after m n past).words ≡ 0 → slice_get (once_after m n past).seats p ≡ Some (Calling Poll l h)
       → outcome_after m n past p Step ≡ Answered NoValue None
 
--- after an answer with a value, a later `get` answers the same value, unless an owner replaces it
+-- after a call has answered with a value, the next step of a later `get` answers with this value, unless the owner has replaced it
 abbrev pub GetAgrees : {V : Type 0} → OnceMachine V → ℕ → Entries V → Entries V → Type 0
 GetAgrees {V} m n past further =
     (p q : ℕ) (v : V) (l : OncePoint) (h : Option Hold) → outcome_after m n past p Step ≡ Answered (Value v) None → is_shared further ≡ true
     → slice_get (once_after m n (past ++ (p, Step) ∷ further)).seats q ≡ Some (Calling Get l h)
     → outcome_after m n (past ++ (p, Step) ∷ further) q Step ≡ Answered (Value v) None
 
--- After a closure failed the word is 0. From 0, a call with a closure runs it by its second step, if nobody else steps
--- in between.
+-- After a closure fails, the word is 0. When the word is 0, a call with a closure runs the closure after its next step
+-- or the one after that, if nobody else steps in between.
 pub record MayRunAgain {V : Type 0} (m : OnceMachine V) (n : ℕ) (past : Entries V) : Type 0 where
   pub clears : (p : ℕ) → outcome_after m n past p Step ≡ Answered Failed None → (once_after m n (past ++ (p, Step) ∷ [])).words ≡ 0
   pub begins : (p : ℕ) (c : OnceCall V) (l : OncePoint) (h : Option Hold) → (once_after m n past).words ≡ 0 → slice_get (once_after m n past).seats p ≡ Some (Calling c l h) → has_closure (m.asks c h) ≡ true
       → RunsClosure m n (past ++ (p, Step) ∷ []) p ⊎ RunsClosure m n (past ++ (p, Step) ∷ (p, Step) ∷ []) p
 
--- the last step of the party's call, if it has made one, was a look
+-- the party's call has made a step, and its latest step was a look
 abbrev pub has_just_looked : ℕ → List Mark → Bool
 has_just_looked p [] = false
 has_just_looked p (m ∷ ms) = if m.party == p then is_look m.step_kind else has_just_looked p ms
 
--- a call begins to run its closure only by the step after a look
+-- a step of a call begins the call's closure only if the call's step before it was a look
 abbrev pub LooksFirst : {V : Type 0} → OnceMachine V → ℕ → Entries V → Type 0
 LooksFirst m n past = (p : ℕ) → (scene m (seen_at m n past) p Step).change ≡ Some (gets p to_begin) → has_just_looked p ((seen_at m n past).span p) ≡ true
 
--- While the word does not say that there is a value, a closure may be writing it. So no step depends on the value.
+-- Unless the word says that there is a value, no step depends on the value, since a closure may be writing it.
 abbrev pub LooksWhereComplete : {V : Type 0} → OnceMachine V → Type 0
 LooksWhereComplete {V} m = (w : ℕ) (u v : Option V) (c : OnceCall V) (l : OncePoint) (h : Option Hold) → (w ≡ 2 → ⊥) → m.step w u c l h ≡ m.step w v c l h

@@ -1,5 +1,5 @@
--- What a `Once` is: its first state, what each of its calls asks, and which value the call brings. What a call asks
--- decides where it begins.
+-- What a `Once` is: its first state, what each of its calls promises, and which value the closure of a call makes. The
+-- promise of a call also says what its party holds when the call begins.
 use Rattle.std.specs.Prelude.{◌≡◌, ℕ, true, Option, Some, None, [], ◌∷◌}
 use Rattle.spin_step.specs.Plain.{nothing, complete}
 use Rattle.spin_model.specs.declared.place.Hold.{Hold}
@@ -13,14 +13,14 @@ use Rattle.spin_model.specs.Acts.{gives_of}
 use Rattle.spin_world_core.specs.Kinds.{BeginAt}
 use Rattle.spin_model.specs.Once.{OnceMachine}
 
--- with this value, or with none
+-- `m` is the machine of a `Once` that opens with the value `given`, or opens empty
 pub record IsOnceOf {V : Type 0} (given : Option V) (m : OnceMachine V) : Type 0 where
   pub lock_kind : m.lock_kind ≡ once
   pub value : m.value ≡ given
   pub opens_empty : given ≡ None → (m.words ≡ 0) × ((opening_plain m).phase ≡ nothing)
   pub opens_complete : (v : V) → given ≡ Some v → (m.words ≡ 2) × ((opening_plain m).phase ≡ complete)
   pub number : (w : ℕ) → m.numbers w ≡ w ∷ []
-  -- there is nothing that a party may hold
+  -- no party may hold a `Once`
   pub cap : m.cap ≡ 0
   pub owned : m.owned ≡ true
   pub call_once : (v : V) (h : Option Hold) → (m.asks (CallOnce v) h ≡ initializes) × (m.brings (CallOnce v) ≡ Some v)
@@ -32,7 +32,7 @@ pub record IsOnceOf {V : Type 0} (given : Option V) (m : OnceMachine V) : Type 0
   pub get : (h : Option Hold) → (m.asks Get h ≡ looks_for_value) × (m.brings Get ≡ None)
   pub is_completed : (h : Option Hold) → (m.asks IsCompleted h ≡ looks_complete) × (m.brings IsCompleted ≡ None)
   pub says : (a : Answer V) → m.says a ≡ says_of a
-  -- only an answer that is a value gives one
+  -- only the answer `Value` gives a value
   pub gives : (a : Answer V) → m.gives a ≡ gives_of a
   pub closures : (v : V) → BeginAt m ((CallOnce v, None) ∷ (TryCallOnceOk v, None) ∷ (TryCallOnceErr, None) ∷ (InitFromRef v, None) ∷ [])
   pub calls : BeginAt m ((Wait, None) ∷ (Poll, None) ∷ (Get, None) ∷ (IsCompleted, None) ∷ [])

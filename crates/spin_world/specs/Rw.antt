@@ -1,5 +1,5 @@
--- What a read-write lock is: its first state, how many parties it admits, and what each of its calls asks. What a call
--- asks decides where it begins.
+-- What a read-write lock is: its first state, how many parties it admits, and what each of its calls promises. The
+-- promise of a call also says what its party holds when the call begins.
 use Rattle.std.specs.Prelude.{◌≡◌, ℕ, true, Option, Some, None, [], ◌∷◌, min}
 use Rattle.spin_step.specs.Plain.{reading, upgradable, to_read, to_read_upgradable, to_write, to_upgrade, fresh}
 use Rattle.spin_step_more.specs.Readers.{reader_limit}
@@ -21,7 +21,7 @@ pub record IsRw {V : Type 0} (given : V) (cap : ℕ) (m : Machine ℕ V RwCall R
   pub number : (w : ℕ) → m.numbers w ≡ w ∷ []
   pub value : m.value ≡ Some given
   pub owned : m.owned ≡ true
-  -- as many parties may hold as its cap says, up to the limit, and at first nobody does
+  -- at first nobody holds; as many parties may hold as the cap says, but no more than the reader limit
   pub plain : opening_plain m ≡ fresh (min cap reader_limit) 0 0
   pub try_read : (h : Option Hold) → m.asks TryRead h ≡ looks_and_tries to_read
   pub read : (h : Option Hold) → m.asks Read h ≡ waits to_read

@@ -18,8 +18,8 @@ use Rattle.spin_model.specs.Schedules.{after, at_first}
 use Rattle.spin_world_core.specs.Runs.{Seen, scene, opening}
 use Rattle.spin_world_core.specs.Users.{seen_after, outcome_after, steps_made}
 
--- A lock with this cap, this word and these holders: a writer holds alone, at most one party may upgrade, and no more
--- parties hold than may.
+-- A lock with this cap has this word and this plain lock. A writer holds alone, and at most one holder may upgrade. At
+-- most one party holds, or at most as many parties as the cap and the reader limit allow.
 pub record StandTogether (cap w : ℕ) (s : Plain) : Type 0 where
   pub word : w ≡ rw_word s
   pub writer : 0 < count_kind writing s.holders → length s.holders ≡ 1
@@ -57,15 +57,15 @@ abbrev pub StaysAsking : {W V C L A : Type 0} → ℕ → Machine W V C L A → 
 StaysAsking p m seen [] = is_holder p asking seen.plain.holders ≡ true
 StaysAsking p m seen (e ∷ es) = (is_holder p asking seen.plain.holders ≡ true) × StaysAsking p m (scene m seen e.0 e.1).after es
 
--- While a party asks to upgrade, only readers hold with it that held when it asked. Its upgrade is open exactly when
--- all of them have released.
+-- The party p asks to upgrade after `past` and all through `further`. Then no reader acquires the lock in `further`. The
+-- upgrade is open exactly if all readers that held after `past` have released.
 pub record OpensByReleases {V : Type 0} (m : Machine ℕ V RwCall RwPoint (Answer V)) (n : ℕ) (past further : List (ℕ × Move RwCall V)) (p : ℕ) : Type 0 where
   -- the number of readers never grows, and each release reduces it by one
   pub readers :
       count_kind reading (seen_after m (opening m n) (past ++ further)).plain.holders + readers_gone m (seen_after m (opening m n) past) further ≡ count_kind reading (seen_after m (opening m n) past).plain.holders
   pub opens :
       (is_open_to (seen_after m (opening m n) (past ++ further)).plain p to_upgrade_asked ≡ true) ↔ (readers_gone m (seen_after m (opening m n) past) further ≡ count_kind reading (seen_after m (opening m n) past).plain.holders)
-  -- and exactly then the next step of the party's own upgrade succeeds
+  -- exactly then the next step of the party's upgrade answers `Granted`
   pub granted : (c : RwCall) (l : RwPoint) (h : Option Hold)
       → slice_get (after m (at_first m n) (past ++ further)).seats p ≡ Some (Calling c l h)
       → (outcome_after m n (past ++ further) p Step ≡ Answered Granted None) ↔ (readers_gone m (seen_after m (opening m n) past) further ≡ count_kind reading (seen_after m (opening m n) past).plain.holders)

@@ -1,4 +1,4 @@
--- What a ticket lock is: its first state, and what each of its calls asks. What a call asks decides where it begins.
+-- What a ticket lock is: its first state, and what each of its calls promises. The promise also says what the party holds when the call begins.
 use Rattle.std.specs.Prelude.{◌≡◌, ℕ, true, Option, Some, None, [], ◌∷◌}
 use Rattle.spin_step.specs.Plain.{to_take_and_enter}
 use Rattle.spin_model.specs.declared.place.Hold.{Hold}

@@ -21,12 +21,12 @@ use Rattle.spin_world_core.specs.Runs.{Seen, opening, own_count}
 use Rattle.spin_world_core.specs.Users.{seen_after, outcome_after, steps_made}
 use Rattle.spin_world_core.specs.Order.{tries_of}
 
--- the first ticket leaves the queue
+-- by this plain step the first ticket leaves the queue
 abbrev pub serves_one : Change → Bool
 serves_one (serves p) = true
 serves_one _ = false
 
--- how many tickets leave in the events of these entries
+-- how many tickets leave the queue in the events of these entries
 abbrev pub tickets_gone : {W V C L A : Type 0} → Machine W V C L A → Seen W V C L → List (ℕ × Move C V) → ℕ
 tickets_gone m seen es = steps_made serves_one m seen es
 
@@ -38,28 +38,27 @@ pub record InOrder (w : TicketWords) (s : Plain) : Type 0 where
   pub numbered : Numbered s
   pub one_entered : first_alone_entered s.tickets ≡ true
 
--- a party has this ticket, which has not entered, and nothing else
+-- the entries of a party that waits with the ticket t: the ticket has not entered, and the party has nothing else
 abbrev pub waits_with : ℕ → ℕ → Entries
 waits_with p t = record no_entries { tickets = ticket p t false ∷ [] }
 
--- Let s be the number served after `past`. After further entries, ticket t has entered or may enter exactly if t - s
--- tickets have left since.
+-- Let s be the number served after `past`. The schedule then continues by `further`.
 pub record InTurn {V : Type 0} (m : Machine TicketWords V TicketCall TicketPoint (Answer V)) (n : ℕ) (past further : List (ℕ × Move TicketCall V)) : Type 0 where
-  -- the next step of a party that waits with the ticket t is granted the lock exactly when t - s tickets have gone
+  -- the next step of a party that waits with the ticket t answers `Granted` exactly if t - s tickets have left the queue in `further`
   pub enters : (p t : ℕ) (c : TicketCall) (l : TicketPoint) (h : Option Hold) → slice_get (after m (at_first m n) (past ++ further)).seats p ≡ Some (Calling c l h)
       → entries p (seen_after m (opening m n) (past ++ further)).plain ≡ waits_with p t
       → (outcome_after m n (past ++ further) p Step ≡ Answered Granted None)
       ↔ ((after m (at_first m n) past).words.serving + tickets_gone m (seen_after m (opening m n) past) further ≡ t)
-  -- and if a party holds with the ticket t, so many have left
+  -- if a party holds with the ticket t, then t - s tickets have left the queue in `further`
   pub holds : (p t : ℕ) → slice_get (after m (at_first m n) (past ++ further)).seats p ≡ Some (Holding (hold.Ticket t))
       → (after m (at_first m n) past).words.serving + tickets_gone m (seen_after m (opening m n) past) further ≡ t
 
--- at some step of the party the number k was next
+-- before some step of the party in this span, k was the next number
 abbrev pub FoundNext : ℕ → ℕ → List Mark → Type 0
 FoundNext p k span = AnyOf (λ m. (m.party ≡ p) × (next_word m.before ≡ k)) span
 
--- A try continues after its first step. It continues after its second if the number found next is then served, and its
--- ticket is left.
+-- A try does not end at its first step. It does not end at its second step if the next number that it found is served
+-- now, and is below the limit of the numbers.
 abbrev pub TriesByTwoLoads : {V : Type 0} → Machine TicketWords V TicketCall TicketPoint (Answer V) → ℕ → List (ℕ × Move TicketCall V) → Type 0
 TriesByTwoLoads m n past =
     let seen = seen_after m (opening m n) past in

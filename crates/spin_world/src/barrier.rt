@@ -17,7 +17,7 @@ use spin_world_core::{Act, Answer, Hold, Next, Object};
 pub struct BarrierWords {
     /// How many parties of the present group have arrived.
     pub count: usize,
-    /// How many groups are full so far. It wraps.
+    /// How many groups are full so far, modulo 2^64.
     pub generation: usize,
 }
 
@@ -34,7 +34,7 @@ pub enum BarrierCall {
 pub enum BarrierPoint {
     /// The call arrives.
     Arrive,
-    /// The call looks whether its group is full. When it arrived, it found this generation.
+    /// The call looks whether its group is full. The generation was this one when the party arrived.
     Leave { generation: usize },
 }
 

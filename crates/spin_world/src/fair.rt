@@ -91,7 +91,8 @@ fn reject<V: Copy>(word: usize, holds: Option<Hold>) -> Next<FairPoint, Answer<V
 }
 
 impl<V: Copy> Fair<V> {
-    /// Makes the step of a call that registers. If `is_found`, it is the exchange, and else a load before it.
+    /// Makes the step of a call that registers. If `is_found`, this step is the exchange. Else it is the load before
+    /// it.
     fn register(
         &self,
         call: FairCall,

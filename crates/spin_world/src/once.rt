@@ -90,7 +90,7 @@ fn look<V: Copy>(
     }
 }
 
-/// Makes a step of a call with a closure. The closure gives the value `made`, or fails if that is `None`.
+/// Makes a step of a call with a closure. The closure gives the value `made`, or fails if `made` is `None`.
 fn run<V: Copy>(
     words: u8,
     value: Option<V>,

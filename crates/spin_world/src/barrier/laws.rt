@@ -1,5 +1,5 @@
-//! Laws of the barrier. Each is the contract of a function that does nothing. A caller calls it to learn what it
-//! states. Begin with [`every_last_of_a_group_leads`].
+//! Laws of the barrier. Each law is the contract of a function that does nothing. A caller that calls this function
+//! learns what the law states. Begin with [`every_last_of_a_group_leads`].
 ghost use Rattle.std.specs.Prelude.{ℕ, List};
 ghost use Rattle.spin_world.specs.declared.barrier.BarrierObject.{BarrierObject};
 ghost use Rattle.spin_world.specs.Groups.{Entries, InGroups, FollowersLeave};
@@ -8,7 +8,7 @@ use crate::barrier::BarrierObject;
 use spin_world_core::Object;
 
 /// States that exactly the last arrival of each group leads, and is told so when it arrives. The words count the
-/// arrivals in groups of `n`, and the groups modulo 2^64.
+/// arrivals in the present group of `n`, and the full groups modulo 2^64.
 pub fn every_last_of_a_group_leads()
     ensures { (object : BarrierObject) (parties : ℕ) (past : Entries) → InGroups (⟦<BarrierObject as Object>⟧.machine object) object.n parties past }
 {}
@@ -16,7 +16,7 @@ pub fn every_last_of_a_group_leads()
 /// States that a follower leaves by its next step exactly if the number of groups that are full since its arrival is no
 /// multiple of 2^64.
 ///
-/// So it leaves by its first step after its group is full, unless it misses exactly 2^64 groups.
+/// So a follower leaves by its first step after its group is full, unless a multiple of 2^64 groups are full by then.
 pub fn a_follower_leaves_a_full_group()
     ensures { (object : BarrierObject) (parties : ℕ) (past : Entries) → FollowersLeave (⟦<BarrierObject as Object>⟧.machine object) parties past }
 {}

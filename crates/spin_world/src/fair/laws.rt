@@ -1,5 +1,5 @@
-//! Laws of the fair lock. Each is the contract of a function that does nothing. A caller calls it to learn what it
-//! states. Begin with [`starvers_come_first`].
+//! Laws of the fair lock. Each law is the contract of a function that does nothing. A caller that calls this function
+//! learns what the law states. Begin with [`starvers_come_first`].
 ghost use Rattle.std.specs.Prelude.{◌≡◌, ◌↔◌, ℕ, List, []};
 ghost use Rattle.spin_model.specs.declared.schedule.Move.{Move};
 ghost use Rattle.spin_model.specs.Schedules.{after, at_first};
@@ -24,15 +24,17 @@ pub fn starvers_come_first<V: Copy>()
     ensures { (object : Fair V) (n : ℕ) (past : List (ℕ × Move FairCall V)) (party : ℕ) (move : Move FairCall V) → ComesAfterStarvers (⟦<Fair<V> as Object>⟧.machine object) n past party move }
 {}
 
-/// States that a starver that has set the flag is granted the lock by its next step, whatever other parties do. So it
-/// keeps the flag without an answer only while it does not step.
+/// States that a starver that has set the flag is granted the lock by its next step, whatever other parties do. So such
+/// a
+/// starver has the flag without an answer only while it does not step.
 pub fn a_starver_with_the_flag_is_granted_next<V: Copy>()
     ensures { (object : Fair V) (n : ℕ) (past : List (ℕ × Move FairCall V)) → IsGrantedNext (⟦<Fair<V> as Object>⟧.machine object) n past }
 {}
 
-/// States that a waiting starver acquires a clear flag. If it steps while no party holds the lock, this step sets the
-/// flag, or the next one does if the flag is then clear. So other parties that register and leave cannot keep it from
-/// the lock.
+/// States that a waiting starver goes for a clear flag. If the starver steps while no party holds the lock, this step
+/// sets
+/// the flag, or the starver's next step does if the flag is clear then. So other parties that register and leave cannot
+/// keep the starver from the lock.
 pub fn a_starver_goes_for_a_clear_flag<V: Copy>()
     ensures { (object : Fair V) (n : ℕ) (past : List (ℕ × Move FairCall V)) → GoesForAClearFlag (⟦<Fair<V> as Object>⟧.machine object) n past }
 {}

@@ -1,4 +1,5 @@
-//! Laws of the flag. Each is the contract of a function that does nothing. A caller calls it to learn what it states.
+//! Laws of the flag. Each law is the contract of a function that does nothing. A caller that calls this function learns
+//! what the law states.
 ghost use Rattle.std.specs.Prelude.{◌≡◌, ◌↔◌, ℕ, List, [], false};
 ghost use Rattle.spin_model.specs.declared.schedule.Move.{Move};
 ghost use Rattle.spin_model.specs.Schedules.{after, at_first};

@@ -1,5 +1,5 @@
-//! Laws of a `Once`. Each is the contract of a function that does nothing. A caller calls it to learn what it states.
-//! Begin with [`a_value_stays`].
+//! Laws of a `Once`. Each law is the contract of a function that does nothing. A caller that calls this function learns
+//! what the law states. Begin with [`a_value_stays`].
 ghost use Rattle.std.specs.Prelude.{ℕ};
 ghost use Rattle.spin_world.specs.declared.once.OnceObject.{OnceObject};
 ghost use Rattle.spin_world.specs.Keeping.{Entries, ValueStays, OneRuns, AnswersAtOnce, GetAgrees, MayRunAgain, LooksFirst, LooksWhereComplete};
@@ -7,42 +7,46 @@ ghost use Rattle.spin_world.specs.Keeping.{Entries, ValueStays, OneRuns, Answers
 use crate::once::OnceObject;
 use spin_world_core::Object;
 
-/// States that a cell has a value exactly if its phase is complete. It keeps this value unless its owner replaces it.
+/// States that a cell has a value exactly if its phase is complete. The cell keeps this value until its owner replaces
+/// it.
 pub fn a_value_stays<V: Copy>()
     ensures { (object : OnceObject V) (n : ℕ) (past further : Entries V) → ValueStays (⟦<OnceObject<V> as Object>⟧.machine object) n past further }
 {}
 
-/// States that at most one party runs a closure at a time, and none once there is a value. The party's next step ends
-/// its closure.
+/// States that at most one party runs a closure at a time, and none does once there is a value. The next step of a
+/// party
+/// that runs a closure ends the closure.
 pub fn one_closure_runs_at_a_time<V: Copy>()
     ensures { (object : OnceObject V) (n : ℕ) (past : Entries V) → OneRuns (⟦<OnceObject<V> as Object>⟧.machine object) n past }
 {}
 
-/// States that a call that wants a value answers it by its next step, if there is one. If there is none and no closure
-/// runs, the next step of a `poll` says so.
+/// States that if there is a value, a call that wants a value answers with it by its next step. If there is no value
+/// and
+/// no closure runs, the next step of a `poll` answers `NoValue`.
 pub fn a_value_is_answered_at_once<V: Copy>()
     ensures { (object : OnceObject V) (n : ℕ) (past : Entries V) → AnswersAtOnce (⟦<OnceObject<V> as Object>⟧.machine object) n past }
 {}
 
-/// States that a `get` after a call that answered a value answers the same, unless the owner replaces it.
+/// States that after a call answered with a value, a later `get` answers with this value, unless the owner replaced it.
 pub fn a_later_get_agrees<V: Copy>()
     ensures { (object : OnceObject V) (n : ℕ) (past further : Entries V) → GetAgrees (⟦<OnceObject<V> as Object>⟧.machine object) n past further }
 {}
 
-/// States that a closure that fails leaves the word at 0. From 0 a call with a closure runs it by its second step, if
-/// no other party steps in between.
+/// States that a closure that fails leaves the word at 0. When the word is 0, a call with a closure begins the closure
+/// by
+/// its next step or the one after that, if no other party steps in between.
 pub fn a_later_closure_may_run<V: Copy>()
     ensures { (object : OnceObject V) (n : ℕ) (past : Entries V) → MayRunAgain (⟦<OnceObject<V> as Object>⟧.machine object) n past }
 {}
 
-/// States that a call begins to run its closure only by the step after a look. So it never repeats its exchange without
-/// a look.
+/// States that a call begins to run its closure only by the step after a look. So a call never repeats its exchange
+/// without a look.
 pub fn a_closure_begins_after_a_look<V: Copy>()
     ensures { (object : OnceObject V) (n : ℕ) (past : Entries V) → LooksFirst (⟦<OnceObject<V> as Object>⟧.machine object) n past }
 {}
 
-/// States that no step depends on the value while the word does not say that there is one. A closure may then be
-/// writing it.
+/// States that no step depends on the value unless the word says that there is one. Otherwise a closure may be writing
+/// the value.
 pub fn a_value_is_looked_at_where_it_is_complete<V: Copy>()
     ensures { (object : OnceObject V) → LooksWhereComplete (⟦<OnceObject<V> as Object>⟧.machine object) }
 {}

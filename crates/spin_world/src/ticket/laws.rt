@@ -1,5 +1,5 @@
-//! Laws of the ticket lock. Each is the contract of a function that does nothing. A caller calls it to learn what it
-//! states. Begin with [`tickets_enter_by_releases`].
+//! Laws of the ticket lock. Each law is the contract of a function that does nothing. A caller that calls this function
+//! learns what the law states. Begin with [`tickets_enter_by_releases`].
 ghost use Rattle.std.specs.Prelude.{ℕ, List};
 ghost use Rattle.spin_model.specs.declared.schedule.Move.{Move};
 ghost use Rattle.spin_model.specs.Schedules.{after, at_first};
@@ -20,14 +20,16 @@ pub fn tickets_stand_in_order<V: Copy>()
 
 /// States that each party enters as soon as the tickets before its own have left, and so before any later ticket.
 ///
-/// Let `s` be the number served after `past`. After further entries, the next step of a party that waits with ticket
-/// `t` succeeds exactly if `t - s` tickets have left since. If a party holds with ticket `t`, so many have left.
+/// Let `s` be the number served after `past`. After `further`, the next step of a party that waits with ticket `t`
+/// succeeds exactly if `t - s` tickets have left since. If a party holds with ticket `t`, then `t - s` tickets have
+/// left.
 pub fn tickets_enter_by_releases<V: Copy>()
     ensures { (object : Ticket V) (n : ℕ) (past further : List (ℕ × Move TicketCall V)) → InTurn (⟦<Ticket<V> as Object>⟧.machine object) n past further }
 {}
 
-/// States that a `try_lock` never answers by its first step. The second step answers only if the number found next is
-/// not served then, or is used up.
+/// States that a `try_lock` never answers by its first step, which finds the next number. The second step answers only
+/// if
+/// that number is not the served one, or no ticket is left.
 pub fn a_try_finds_its_number_by_two_loads<V: Copy>()
     ensures { (object : Ticket V) (n : ℕ) (past : List (ℕ × Move TicketCall V)) → TriesByTwoLoads (⟦<Ticket<V> as Object>⟧.machine object) n past }
 {}
