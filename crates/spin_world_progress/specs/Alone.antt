@@ -1,4 +1,4 @@
--- Progress of any object, by what every object has to show: a call is answered, or others make progress.
+-- Progress that every object makes: a call whose request is open is answered, or another party changes a word.
 use Rattle.std.specs.Prelude.{◌≡◌, ℕ, ◌≤◌, ◌==◌, ◌&&◌, ◌||◌, Bool, true, false, not, Option, Some, List, [], ◌∷◌, ◌⊎◌, length, slice_get}
 use Rattle.spin_model.specs.Machines.{Machine}
 use Rattle.spin_model.specs.Schedules.{State, happens, after, at_first}
@@ -28,7 +28,8 @@ abbrev pub ends_or_fails : {V C L A : Type 0} → ℕ → Test V C L A
 ends_or_fails p q move (outcome.Answered a b) x = q == p
 ends_or_fails p q move o x = refuses_weakly p q move o x
 
--- Where what a party's call asks is open to it, the call is answered in as many rounds as it promises (at most four), or another party changes a word in them, or its own exchange is refused without cause
+-- Suppose that what a party's call asks is open. Take as many rounds as the call promises (at least one, at most four). In them the call is
+-- answered, or another party changes a word, or the call's own exchange fails spuriously.
 abbrev pub AnsweredOrDisturbed : {W V C L A : Type 0} → Machine W V C L A → ℕ → List (ℕ × Move C V) → List (List (ℕ × Move C V)) → Type 0
 AnsweredOrDisturbed {C = C} {L = L} m n past rounds =
     let seen = seen_after m (opening m n) past in

@@ -20,8 +20,8 @@ LocksInFour m n past rounds =
     (p : ℕ) (c : FlagCall) (l : FlagPoint) (h : Option Hold) → slice_get s.seats p ≡ Some (Calling c l h) → (m.asks c h).waits ≡ true
     → AreRounds m s rounds → 4 ≤ length rounds → occurs m (λ q move o x. grants_any m q move o x || refuses_weakly p q move o x) s (joined rounds) ≡ true
 
--- Deadlock freedom: in an endless fair schedule some party is granted the lock, or the waiting party's exchange fails
--- spuriously
+-- Deadlock freedom: while a party waits in a `lock`, in an endless fair schedule some party is granted the lock, or the
+-- waiting party's exchange fails spuriously
 abbrev pub IsDeadlockFree : {V : Type 0} → Machine Bool V FlagCall FlagPoint (Answer V) → ℕ → List (ℕ × Move FlagCall V) → (ℕ → ℕ × Move FlagCall V) → Type 0
 IsDeadlockFree m n past schedule =
     let s = after m (at_first m n) past in

@@ -22,7 +22,7 @@ abbrev pub answers_or_fails : {W V C L A : Type 0} → Machine W V C L A → ℕ
 answers_or_fails m p q move (outcome.Answered a b) x = (q == p) || is_failure (m.says a)
 answers_or_fails m p q move _ x = false
 
--- A party in a call with a closure is answered in four rounds, or some closure fails in them
+-- In any four rounds, a call with a closure is answered, or some closure fails
 abbrev pub AnswersInFour : {V : Type 0} → OnceMachine V → ℕ → Entries V → List (Entries V) → Type 0
 AnswersInFour {V} m n past rounds =
     (p : ℕ) (c : OnceCall V) (l : OncePoint) (h : Option Hold) → slice_get (once_after m n past).seats p ≡ Some (Calling c l h) → has_closure (m.asks c h) ≡ true
@@ -43,7 +43,7 @@ AnswersInOne {V} m n past rounds =
     (p : ℕ) (c : OnceCall V) (l : OncePoint) (h : Option Hold) → slice_get (once_after m n past).seats p ≡ Some (Calling c l h) → (once_after m n past).words ≡ 2
     → AreRounds m (once_after m n past) rounds → 1 ≤ length rounds → occurs m (answers p) (once_after m n past) (joined rounds) ≡ true
 
--- Starvation freedom of a call with a closure: in an endless fair schedule it is answered, or some closure fails
+-- Starvation freedom of a call with a closure: in an endless fair schedule the call is answered, or some closure fails
 abbrev pub AnswersAtLast : {V : Type 0} → OnceMachine V → ℕ → Entries V → (ℕ → ℕ × Move (OnceCall V) V) → Type 0
 AnswersAtLast {V} m n past schedule =
     (p : ℕ) (c : OnceCall V) (l : OncePoint) (h : Option Hold) → slice_get (once_after m n past).seats p ≡ Some (Calling c l h) → has_closure (m.asks c h) ≡ true

@@ -1,4 +1,4 @@
--- Rounds: stretches of a schedule. In each of them every party moves on that others may wait for.
+-- Rounds: stretches of a schedule in which every party that others may wait for moves on.
 use Rattle.std.specs.Prelude.{◌≡◌, ℕ, zero, suc, ◌==◌, ◌&&◌, ◌||◌, Bool, true, false, Option, Some, List, [], ◌∷◌, slice_get}
 use Rattle.std.specs.List.{list_any}
 use Rattle.spin_step.specs.Plain.{Change, releases, serves, stops_starving}
@@ -35,7 +35,7 @@ gives_up (serves p) = true
 gives_up (stops_starving p) = true
 gives_up _ = false
 
--- a call that is for such a step
+-- the call's purpose is such a step: its answer `done` implies one
 abbrev pub is_release : Asked → Bool
 is_release what = list_any (list_any gives_up) (own_steps (what.answers done) 0)
 
@@ -44,14 +44,14 @@ abbrev pub begins_release : {W V C L A : Type 0} → Machine W V C L A → Hold 
 begins_release m h (Begin c) outcome.Begun = is_release (m.asks c (Some h))
 begins_release m h _ _ = false
 
--- the event is one that others may wait for, if the party has this seat: its next step, or the beginning of its release
+-- others may wait for this event of a party with this seat: it is a step of the party's call, or begins the party's release
 abbrev pub is_awaited : {W V C L A : Type 0} → Machine W V C L A → Option (Seat C L) → Move C V → Outcome A V → Bool
 is_awaited m (Some (Calling c l h)) move o = is_step o
 is_awaited m (Some (Holding h)) move o = begins_release m h move o
 is_awaited m _ move o = false
 
--- The party makes such an event among these entries. A starver that does not hold the lock need not. A party that has
--- leaked never does.
+-- The party makes an awaited event among these entries. A starver that does not hold the lock need not make one. A party
+-- that has leaked the lock never does.
 abbrev pub MovesOn : {W V C L A : Type 0} → Machine W V C L A → State W V C L → List (ℕ × Move C V) → ℕ → Option (Seat C L) → Type 0
 MovesOn m s es p (Some (Calling c l h)) = occurs m (λ q move o x. (q == p) && is_awaited m (Some (Calling c l h)) move o) s es ≡ true
 MovesOn m s es p (Some (Holding h)) = may_read h ≡ true → occurs m (λ q move o x. (q == p) && is_awaited m (Some (Holding h)) move o) s es ≡ true
@@ -59,12 +59,12 @@ MovesOn m s es p (Some (Leaked h)) = may_read h ≡ false
 MovesOn m s es p (Some (Gone h)) = may_read h ≡ false
 MovesOn m s es p _ = Unit {0}
 
--- A round from this state: each party in a call takes a step, each party that holds the lock begins to release it, and
--- none has leaked it
+-- a round from this state: each party in a call takes a step, each party that holds the lock begins to release it, and
+-- no party has leaked the lock
 abbrev pub IsRound : {W V C L A : Type 0} → Machine W V C L A → State W V C L → List (ℕ × Move C V) → Type 0
 IsRound m s es = (p : ℕ) → MovesOn m s es p (slice_get s.seats p)
 
--- one round after another
+-- each stretch of the list is a round, from the state after the stretches before it
 abbrev pub AreRounds : {W V C L A : Type 0} → Machine W V C L A → State W V C L → List (List (ℕ × Move C V)) → Type 0
 AreRounds m s [] = Unit {0}
 AreRounds m s (round ∷ rounds) = IsRound m s round × AreRounds m (after m s round) rounds
@@ -90,13 +90,13 @@ refuses_weakly p q _ o x = false
 
 -- Endless schedules
 
--- so many entries of the schedule, from this place on
+-- the n entries of the schedule from the place `start` on
 abbrev pub stretch : {X : Type 0} → (ℕ → X) → ℕ → ℕ → List X
 stretch schedule start zero = []
 stretch schedule start (suc n) = schedule start ∷ stretch schedule (suc start) n
 
--- Fair, from each place on: each party in a call takes a step of it at some time. Each party that holds the lock begins
--- to release it, and none has leaked it.
+-- The schedule is fair. From each place on, each party in a call takes a step of this call at some time. Each party that
+-- holds the lock begins to release it at some time, and no party has leaked the lock.
 abbrev pub IsFair : {W V C L A : Type 0} → Machine W V C L A → State W V C L → (ℕ → ℕ × Move C V) → Type 0
 IsFair m s schedule =
     (place p : ℕ) → let there = after m s (stretch schedule 0 place) in (n : ℕ) × MovesOn m there (stretch schedule place n) p (slice_get there.seats p)

@@ -23,7 +23,7 @@ UpgradesInThree m n past rounds =
     (p : ℕ) (c : RwCall) (l : RwPoint) (h : Option Hold) → slice_get s.seats p ≡ Some (Calling c l h) → is_holder p asking (seen_after m (opening m n) past).plain.holders ≡ true
     → AreRounds m s rounds → 3 ≤ length rounds → occurs m (λ q move o x. grants m p q move o x || refuses_weakly p q move o x) s (joined rounds) ≡ true
 
--- An upgrade that has asked never starves: in an endless fair schedule it is granted, or its exchange fails spuriously
+-- A party that has asked to upgrade never starves: in an endless fair schedule its upgrade is granted, or its exchange fails spuriously
 abbrev pub UpgradesAtLast : {V : Type 0} → Machine ℕ V RwCall RwPoint (Answer V) → ℕ → List (ℕ × Move RwCall V) → (ℕ → ℕ × Move RwCall V) → Type 0
 UpgradesAtLast m n past schedule =
     let s = after m (at_first m n) past in
@@ -35,12 +35,12 @@ abbrev pub refuses_any : {V C L A : Type 0} → Test V C L A
 refuses_any q Weak o x = is_step o
 refuses_any q _ o x = false
 
--- the kind of the holder that is no plain reader, if there is one
+-- the kind of the first holder that does not just read; `reading` if there is no such holder
 abbrev pub leading : List Holder → Kind
 leading [] = reading
 leading (h ∷ hs) = if same_kind reading h.kind then leading hs else h.kind
 
--- in how many rounds somebody is granted while that holder holds, by whether others read too
+-- in how many rounds some party is granted, by the kind of this holder and whether others read too
 abbrev pub rounds_by : Kind → Bool → ℕ
 rounds_by reading reads = if reads then 4 else 2
 rounds_by upgradable reads = if reads then 6 else 5
@@ -50,8 +50,8 @@ rounds_by writing reads = 6
 abbrev pub rounds_beside : List Holder → ℕ
 rounds_beside hs = rounds_by (leading hs) (list_any (λ h. same_kind reading h.kind) hs)
 
--- While a party waits that holds nothing, some party is granted in so many rounds, by who holds, or some exchange fails
--- spuriously
+-- While a party that holds nothing waits, some party is granted what it asks in `rounds_beside` rounds, or some exchange
+-- fails spuriously. The present holders decide this number of rounds.
 abbrev pub GrantsSomebody : {V : Type 0} → Machine ℕ V RwCall RwPoint (Answer V) → ℕ → List (ℕ × Move RwCall V) → List (List (ℕ × Move RwCall V)) → Type 0
 GrantsSomebody m n past rounds =
     let s = after m (at_first m n) past in
@@ -59,7 +59,8 @@ GrantsSomebody m n past rounds =
     → AreRounds m s rounds → rounds_beside (seen_after m (opening m n) past).plain.holders ≤ length rounds
     → occurs m (λ q move o x. grants_any m q move o x || refuses_any q move o x) s (joined rounds) ≡ true
 
--- Deadlock freedom: in an endless fair schedule some party is granted, or some exchange fails spuriously
+-- Deadlock freedom: while a party that holds nothing waits, in an endless fair schedule some party is granted what it
+-- asks, or some exchange fails spuriously
 abbrev pub RwIsDeadlockFree : {V : Type 0} → Machine ℕ V RwCall RwPoint (Answer V) → ℕ → List (ℕ × Move RwCall V) → (ℕ → ℕ × Move RwCall V) → Type 0
 RwIsDeadlockFree m n past schedule =
     let s = after m (at_first m n) past in

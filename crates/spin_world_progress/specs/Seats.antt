@@ -18,7 +18,7 @@ SeatsSomebodyInFour m n past rounds =
     (p : ℕ) (c : SeatsCall) (l : SeatsPoint) (h : Option Hold) → slice_get s.seats p ≡ Some (Calling c l h) → (m.asks c h).waits ≡ true
     → AreRounds m s rounds → 4 ≤ length rounds → occurs m (grants_any m) s (joined rounds) ≡ true
 
--- Deadlock freedom: in an endless fair schedule some party is granted a seat
+-- Deadlock freedom: while a party waits in an `enter`, in an endless fair schedule some party is granted a seat
 abbrev pub SeatsAreDeadlockFree : SeatsMachine → ℕ → List (ℕ × Move SeatsCall (Unit {0})) → (ℕ → ℕ × Move SeatsCall (Unit {0})) → Type 0
 SeatsAreDeadlockFree m n past schedule =
     let s = after m (at_first m n) past in

@@ -16,8 +16,8 @@ ends_or_weak p q Weak o x = is_step o
 ends_or_weak p q move (outcome.Answered a b) x = q == p
 ends_or_weak p q move _ x = false
 
--- A call that asks this may starve. After some schedule of n parties, a party is in such a call. From there some
--- endless fair schedule never answers it, and in that schedule no exchange fails spuriously.
+-- A call with the promise `what` may starve. After some schedule of n parties, a party is in such a call. From there
+-- some endless fair schedule never answers this call, and in that schedule no exchange fails spuriously.
 abbrev pub MayStarve : {W V C L A : Type 0} → Machine W V C L A → ℕ → Asked → Type 0
 MayStarve {V = V} {C = C} {L = L} m n what =
     (past : List (ℕ × Move C V)) × (schedule : ℕ → ℕ × Move C V) × (p : ℕ) × (c : C) × (l : L) × (h : Option Hold)
@@ -29,8 +29,8 @@ abbrev pub grants_or_weak : {W V C L A : Type 0} → Machine W V C L A → Test 
 grants_or_weak m q Weak o x = is_step o
 grants_or_weak m q move o x = grants_any m q move o x
 
--- Calls that ask this are not free of deadlock. After some schedule of n parties, a party is in such a call. From there
--- some endless fair schedule grants nobody anything, and in that schedule no exchange fails spuriously.
+-- Calls with the promise `what` are not free of deadlock. After some schedule of n parties, a party is in such a call.
+-- From there some endless fair schedule grants nobody anything, and in that schedule no exchange fails spuriously.
 abbrev pub MayDeadlock : {W V C L A : Type 0} → Machine W V C L A → ℕ → Asked → Type 0
 MayDeadlock {V = V} {C = C} {L = L} m n what =
     (past : List (ℕ × Move C V)) × (schedule : ℕ → ℕ × Move C V) × (p : ℕ) × (c : C) × (l : L) × (h : Option Hold)

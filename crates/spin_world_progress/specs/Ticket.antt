@@ -21,16 +21,16 @@ use Rattle.spin_world.specs.Turns.{waits_with}
 abbrev pub TicketMachine : Type 0 → Type 0
 TicketMachine V = Machine TicketWords V TicketCall TicketPoint (Answer V)
 
--- While s is served, a party waits with ticket t. It is granted the lock in three rounds for each of the t - s tickets
--- before its own, and one more.
+-- The number s is served, and a party waits with the ticket t. The party is granted the lock within 3 (t - s) + 1
+-- rounds.
 abbrev pub EntersInRounds : {V : Type 0} → TicketMachine V → ℕ → List (ℕ × Move TicketCall V) → List (List (ℕ × Move TicketCall V)) → Type 0
 EntersInRounds m n past rounds =
     let s = after m (at_first m n) past in
     (p t : ℕ) (c : TicketCall) (l : TicketPoint) (h : Option Hold) → slice_get s.seats p ≡ Some (Calling c l h) → entries p (seen_after m (opening m n) past).plain ≡ waits_with p t
     → AreRounds m s rounds → 3 * (t - s.words.serving) + 1 ≤ length rounds → occurs m (grants m p) s (joined rounds) ≡ true
 
--- One of n parties is in a `lock`. It is granted the lock in 3 n - 2 rounds, or 2 if it is alone, and one more for each
--- ticket taken in them. Its own ticket counts too. Some number has to be left at the end.
+-- One of n parties is in a `lock`. This party is granted the lock within 3 n - 2 rounds (2 if n is 1), and one more
+-- round for each ticket taken meanwhile, its own included. At the end the next number has to be below the limit.
 abbrev pub LocksInRounds : {V : Type 0} → TicketMachine V → ℕ → List (ℕ × Move TicketCall V) → List (List (ℕ × Move TicketCall V)) → Type 0
 LocksInRounds m n past rounds =
     let s = after m (at_first m n) past in
@@ -45,8 +45,8 @@ IsNeverStarved m n past schedule =
     (p t : ℕ) (c : TicketCall) (l : TicketPoint) (h : Option Hold) → slice_get s.seats p ≡ Some (Calling c l h) → entries p (seen_after m (opening m n) past).plain ≡ waits_with p t
     → IsFair m s schedule → (place : ℕ) × (occurs m (grants m p) s (stretch schedule 0 place) ≡ true)
 
--- If others take tickets without end, no number of rounds is enough. With two parties, for any number of rounds, one is
--- in a `lock` through all of them.
+-- If others take tickets without end, no number of rounds is enough. For any number r of rounds for which numbers are
+-- left, some schedule of two parties has r rounds in which a party is in a `lock` and is not granted the lock.
 abbrev pub MayBePassedOver : {V : Type 0} → TicketMachine V → ℕ → Type 0
 MayBePassedOver {V} m first =
     (r : ℕ) → first + r < ticket_limit → (past : List (ℕ × Move TicketCall V)) × (rounds : List (List (ℕ × Move TicketCall V)))

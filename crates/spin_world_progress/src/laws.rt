@@ -1,9 +1,11 @@
-//! Laws of progress. Each is the contract of a function that does nothing. A caller calls it to learn what it states.
+//! Laws of progress. Each law is the contract of a function that does nothing. A caller that calls this function learns
+//! what the law states.
 //!
-//! A *round* is a stretch of the schedule (`IsRound`). In it each party that is in a call at its start makes a step of
-//! that call. Each party that holds the lock begins to release it, and no party has leaked it. A schedule is *fair*
-//! (`IsFair`) if, from each of its places on, each party does so some time later. The party that waits only needs to be
-//! scheduled.
+//! A *round* is a stretch of the schedule (`IsRound`). Each party that is in a call when the round starts makes a step
+//! of
+//! that call in the round. Each party that holds the lock begins to release it, and no party has leaked it. An endless
+//! schedule is *fair* (`IsFair`) if, from each of its places on, each party does so some time later. A party that waits
+//! only has to get its steps.
 ghost use Rattle.std.specs.Prelude.{◌≡◌, ◌≤◌, ℕ, List, None};
 ghost use Rattle.spin_step.specs.Plain.{to_write, to_read, to_read_upgradable, to_lock_starving};
 ghost use Rattle.spin_model.specs.Asks.{waits, waits_to_write, spins_to_write, waits_or_starves, waits_starving, initializes, waits_for_value, polls, meets};
@@ -35,8 +37,8 @@ use spin_world::{BarrierObject, Fair, Flag, OnceObject, Rw, Ticket};
 use spin_world_core::Object;
 use spin_world_seats::Seats;
 
-/// States that a call of any object is obstruction-free while what it asks is open. In as many rounds as its kind of
-/// lock says, at most four, one of three things happens: the call is answered, another party changes a word, or the
+/// States that a call of any object is obstruction-free while what it asks is open. In as many rounds as the call
+/// promises, at most four, one of three things happens: the call is answered, another party changes a word, or the
 /// call's own exchange fails spuriously.
 pub fn an_open_call_is_answered_or_disturbed<O: Object>()
     ensures { (object : O) (n : ℕ) (past : List (ℕ × Move O.Call O.Value)) (rounds : List (List (ℕ × Move O.Call O.Value))) → AnsweredOrDisturbed (O.machine object) n past rounds }
@@ -62,8 +64,9 @@ pub fn a_lock_of_a_flag_may_starve<V: Copy>()
     ensures { (object : Flag V) → MayStarve (⟦<Flag<V> as Object>⟧.machine object) 2 waits_to_write }
 {}
 
-/// States that a party with a ticket is granted the lock in three rounds for each ticket before its own, and one more.
-/// It does not matter who takes a ticket later.
+/// States that a party with a ticket is granted the lock within three rounds for each ticket before its own, and one
+/// more
+/// round. It does not matter who takes a ticket later.
 pub fn a_ticket_is_granted_in_rounds<V: Copy>()
     ensures { (object : Ticket V) (n : ℕ) (past : List (ℕ × Move TicketCall V)) (rounds : List (List (ℕ × Move TicketCall V))) → EntersInRounds (⟦<Ticket<V> as Object>⟧.machine object) n past rounds }
 {}
@@ -73,8 +76,9 @@ pub fn a_ticket_is_never_starved<V: Copy>()
     ensures { (object : Ticket V) (n : ℕ) (past : List (ℕ × Move TicketCall V)) (schedule : ℕ → ℕ × Move TicketCall V) → IsNeverStarved (⟦<Ticket<V> as Object>⟧.machine object) n past schedule }
 {}
 
-/// States how soon a `lock` of one of `n` parties is granted: in 3 n - 2 rounds, or 2 if it is alone, and one more for
-/// each ticket taken meanwhile, its own included. Some number has to be left at the end.
+/// States how soon a `lock` of one of `n` parties is granted: within 3 n - 2 rounds (2 if n is 1), and one more round
+/// for
+/// each ticket taken meanwhile, its own included. At the end the next number has to be below the limit.
 ///
 /// As long as the party has no ticket, each ticket that another party takes may cost it an exchange.
 pub fn a_lock_is_granted_in_rounds<V: Copy>()
@@ -89,13 +93,14 @@ pub fn a_lock_may_be_passed_over<V: Copy>()
     ensures { (object : Ticket V) → MayBePassedOver (⟦<Ticket<V> as Object>⟧.machine object) object.first }
 {}
 
-/// States that while a starver waits for a fair lock, some party is granted the lock in every five rounds. Each time it
-/// may be another starver. That it is no newcomer is a law of `spin_world`.
+/// States that while a starver waits for a fair lock, some party is granted the lock in every five rounds. This may be
+/// another starver each time. A law of `spin_world` says that it is no newcomer.
 pub fn somebody_is_granted_beside_a_starver_in_five_rounds<V: Copy>()
     ensures { (object : Fair V) (n : ℕ) (past : List (ℕ × Move FairCall V)) (rounds : List (List (ℕ × Move FairCall V))) → LocksInFive (⟦<Fair<V> as Object>⟧.machine object) n past rounds }
 {}
 
-/// States that starvers are free of deadlock: in each endless fair schedule, while one waits, some party is granted
+/// States that starvers are free of deadlock: in each endless fair schedule, while a starver waits, some party is
+/// granted
 /// the lock some time later.
 pub fn starvers_are_free_of_deadlock<V: Copy>()
     ensures { (object : Fair V) (n : ℕ) (past : List (ℕ × Move FairCall V)) (schedule : ℕ → ℕ × Move FairCall V) → StarversAreDeadlockFree (⟦<Fair<V> as Object>⟧.machine object) n past schedule }
@@ -107,40 +112,42 @@ pub fn a_newcomer_may_starve_beside_an_idle_starver<V: Copy>()
     ensures { (object : Fair V) → 1 ≤ object.cap → MayStarve (⟦<Fair<V> as Object>⟧.machine object) 2 (waits_or_starves object.patience) }
 {}
 
-/// States that newcomers are not free of deadlock while such a starver is registered: in some endless fair schedule one
-/// waits in a `lock`, and nobody is granted.
+/// States that newcomers are not free of deadlock while an idle starver is registered: in some endless fair schedule a
+/// newcomer waits in a `lock`, and nobody is granted anything.
 pub fn newcomers_may_deadlock_beside_an_idle_starver<V: Copy>()
     ensures { (object : Fair V) → 1 ≤ object.cap → MayDeadlock (⟦<Fair<V> as Object>⟧.machine object) 2 (waits_or_starves object.patience) }
 {}
 
-/// States that starvers are not served in order: in some endless fair schedule one is passed over by another without
-/// end.
+/// States that starvers are not served in order: in some endless fair schedule a waiting starver is never answered.
 pub fn a_starver_may_starve<V: Copy>()
     ensures { (object : Fair V) → 2 ≤ object.cap → MayStarve (⟦<Fair<V> as Object>⟧.machine object) 2 waits_starving }
 {}
 
-/// States that an upgrade that has asked is granted in three rounds, however many readers hold with it, or its exchange
-/// fails spuriously.
+/// States that a party that has asked to upgrade is granted its upgrade in three rounds, or its exchange fails
+/// spuriously. It does not matter how many readers hold beside this party.
 pub fn an_upgrade_is_granted_in_three_rounds<V: Copy>()
     ensures { (object : Rw V) (n : ℕ) (past : List (ℕ × Move RwCall V)) (rounds : List (List (ℕ × Move RwCall V))) → UpgradesInThree (⟦<Rw<V> as Object>⟧.machine object) n past rounds }
 {}
 
-/// States that an upgrade that has asked never starves. In each endless fair schedule it is granted some time later, or
-/// its exchange fails spuriously.
+/// States that a party that has asked to upgrade never starves. In each endless fair schedule its upgrade is granted
+/// some
+/// time later, or its exchange fails spuriously.
 pub fn an_upgrade_is_never_starved<V: Copy>()
     ensures { (object : Rw V) (n : ℕ) (past : List (ℕ × Move RwCall V)) (schedule : ℕ → ℕ × Move RwCall V) → UpgradesAtLast (⟦<Rw<V> as Object>⟧.machine object) n past schedule }
 {}
 
-/// States that while a party waits that holds nothing, some party is granted in so many rounds, at most six, or some
-/// exchange fails spuriously. The number depends on who holds (`rounds_beside`). There has to be room for a reader.
+/// States how soon some party is granted what it asks while a party that holds nothing waits. It takes at most six
+/// rounds, or some exchange fails spuriously. The number of rounds depends on the holders (`rounds_beside`). The cap
+/// has
+/// to be at least 1.
 ///
-/// The number of readers does not matter, since they leave in the same round.
+/// The number of readers does not matter, since all readers leave in the same round.
 pub fn somebody_is_granted_in_the_rounds_of_the_holders<V: Copy>()
     ensures { (object : Rw V) (n : ℕ) (past : List (ℕ × Move RwCall V)) (rounds : List (List (ℕ × Move RwCall V))) → 1 ≤ object.cap → GrantsSomebody (⟦<Rw<V> as Object>⟧.machine object) n past rounds }
 {}
 
-/// States that a read-write lock is free of deadlock. In each endless fair schedule, while a party waits that holds
-/// nothing, some party is granted some time later, or some exchange fails spuriously.
+/// States that a read-write lock is free of deadlock. In each endless fair schedule, while a party that holds nothing
+/// waits, some party is granted what it asks some time later, or some exchange fails spuriously.
 pub fn a_read_write_lock_is_free_of_deadlock<V: Copy>()
     ensures { (object : Rw V) (n : ℕ) (past : List (ℕ × Move RwCall V)) (schedule : ℕ → ℕ × Move RwCall V) → 1 ≤ object.cap → RwIsDeadlockFree (⟦<Rw<V> as Object>⟧.machine object) n past schedule }
 {}
@@ -160,8 +167,9 @@ pub fn a_writer_may_starve<V: Copy>()
     ensures { (object : Rw V) → 1 ≤ object.cap → MayStarve (⟦<Rw<V> as Object>⟧.machine object) 2 spins_to_write }
 {}
 
-/// States that a call with a closure is answered in four rounds, or some closure fails in them. A closure ends by one
-/// step of its party.
+/// States that in any four rounds a call with a closure is answered, or some closure fails. A closure ends by one step
+/// of
+/// its party.
 pub fn a_call_with_a_closure_is_answered_in_four_rounds<V: Copy>()
     ensures { (object : OnceObject V) (n : ℕ) (past : List (ℕ × Move (OnceCall V) V)) (rounds : List (List (ℕ × Move (OnceCall V) V))) → AnswersInFour (⟦<OnceObject<V> as Object>⟧.machine object) n past rounds }
 {}
@@ -177,7 +185,8 @@ pub fn a_call_is_answered_in_one_round_where_there_is_a_value<V: Copy>()
     ensures { (object : OnceObject V) (n : ℕ) (past : List (ℕ × Move (OnceCall V) V)) (rounds : List (List (ℕ × Move (OnceCall V) V))) → AnswersInOne (⟦<OnceObject<V> as Object>⟧.machine object) n past rounds }
 {}
 
-/// States that while the word says that a closure runs, some party runs it. The party's next step ends it.
+/// States that while the word says that a closure runs, some party runs this closure. The party's next step ends the
+/// closure.
 pub fn a_running_closure_has_its_party<V: Copy>()
     ensures { (object : OnceObject V) (n : ℕ) (past : Entries V) → SomebodyRuns (⟦<OnceObject<V> as Object>⟧.machine object) n past }
 {}
@@ -197,8 +206,8 @@ pub fn a_wait_may_starve<V: Copy>()
     ensures { (object : OnceObject V) → object.value ≡ None → MayStarve (⟦<OnceObject<V> as Object>⟧.machine object) 1 waits_for_value }
 {}
 
-/// States that a party may wait at a barrier for ever, since the others of its group may never arrive. That it leaves a
-/// full group is a law of `spin_world`.
+/// States that a party may wait at a barrier for ever, since the others of its group may never arrive. A law of
+/// `spin_world` says that a party leaves once its group is full.
 pub fn a_group_may_never_fill()
     ensures { (object : BarrierObject) → 2 ≤ object.n → MayStarve (⟦<BarrierObject as Object>⟧.machine object) 1 meets }
 {}
@@ -215,7 +224,8 @@ pub fn seats_are_free_of_deadlock()
     ensures { (object : Seats) (n : ℕ) (past : List (ℕ × Move SeatsCall (Unit {0}))) (schedule : ℕ → ℕ × Move SeatsCall (Unit {0})) → 1 ≤ object.seats → SeatsAreDeadlockFree (⟦<Seats as Object>⟧.machine object) n past schedule }
 {}
 
-/// States that an `enter` may starve, with any number of seats: in some endless fair schedule of two parties it is
+/// States that an `enter` may starve, with any number of seats: in some endless fair schedule of two parties the call
+/// is
 /// never answered.
 pub fn an_enter_may_starve()
     ensures { (object : Seats) → MayStarve (⟦<Seats as Object>⟧.machine object) 2 (waits to_read) }
