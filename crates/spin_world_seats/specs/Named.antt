@@ -1,5 +1,5 @@
--- What a lock of seats is: its first state, how many seats it has, and what each of its calls asks. What a call asks
--- decides where it begins.
+-- What a lock of seats is: its first state, how many seats it has, and what each of its calls promises. The promise of a
+-- call also says what its party holds when the call begins.
 use Rattle.std.specs.Prelude.{◌≡◌, ℕ, true, Option, Some, None, [], ◌∷◌}
 use Rattle.spin_step.specs.Plain.{to_read, fresh}
 use Rattle.spin_seats.specs.Seats.{seats}
@@ -20,7 +20,7 @@ pub record IsSeats (n : ℕ) (m : SeatsMachine) : Type 0 where
   pub number : (w : ℕ) → m.numbers w ≡ w ∷ []
   pub value : m.value ≡ Some tt
   pub owned : m.owned ≡ true
-  -- the number of seats is the one asked for, up to the limit, and nobody sits
+  -- at first nobody has a seat; there are as many seats as asked for, but no more than the limit
   pub plain : opening_plain m ≡ fresh (seats n) 0 0
   pub try_enter : (h : Option Hold) → m.asks call.TryEnter h ≡ looks_and_tries to_read
   pub enter : (h : Option Hold) → m.asks call.Enter h ≡ waits to_read
