@@ -1,4 +1,4 @@
--- How many steps a call of a pass takes, while others take theirs.
+-- The limits of the steps that one call of a pass takes, while other threads take theirs.
 use Rattle.std.specs.Prelude.{◌≡◌, ℕ, ◌≤◌, suc, Option, List, ◌++◌, length}
 use mathlib.Core.List.{IsPrefix}
 use Rattle.spin_core.specs.Own.{Numbered, entries_by}
@@ -15,8 +15,8 @@ use Rattle.spin_world_core.specs.Users.{seen_after}
 abbrev pub steps_since : {W V C L A : Type 0} → Machine W V C L A → ℕ → ℕ → List (Entry C V) → List Mark
 steps_since m parties party history = (seen_after m (opening m parties) history).span party
 
--- Since it knew `old`, a party has made exactly this call, within the call's limit. It now knows `new`, and has this
--- view.
+-- A party knew the history `old`, and has made exactly this call since, within the call's limit. Now it knows the
+-- history `new` and has this view.
 pub record IsWithinLimit {W V C L A X : Type 0} (m : Machine W V C L A) (call : C) (view : Option (Numbered X)) (old new : List (Entry C V)) : Type 0 where
   pub party : ℕ
   pub is_number : IsNumber party view
@@ -27,17 +27,17 @@ pub record IsWithinLimit {W V C L A X : Type 0} (m : Machine W V C L A) (call : 
   pub answered : List (Entry C V)
   pub behind : IsPrefix old answered
   pub before : IsPrefix answered new
-  -- the party's moves are the beginning of the call, and its steps up to then
+  -- the party's moves since `old` are one that began the call, and the steps of the call
   pub more : List (Entry C V)
   pub grown : new ≡ old ++ more
   pub moves : length (entries_by party more) ≡ suc (own_count party (steps_since m parties party answered))
-  -- they are at most as many as the model says, for a party that held this before
+  -- these steps are within the limit that the model has for this call, if the party held `held` before
   pub held : Option Hold
   pub in_time : EndsWithin (limit m.lock_kind (m.asks call held)) m.lock_kind party (steps_since m parties party answered)
-  -- and the exchanges that the call repeats failed at most as often as others changed the word
+  -- the exchanges that the call repeats failed at most as often as others changed the first word
   pub retries : failures party (steps_since m parties party answered) ≤ changes m.lock_kind party (steps_since m parties party answered)
 
--- this holds of each call of each pass with views of this type
+-- each call of each pass with views of the type `View` is within its limit
 abbrev pub KeepsLimits : {W V C L A : Type 0} → Machine W V C L A → Type 0 → Type 0
 KeepsLimits {V = V} {C = C} {A = A} m View =
     (call : C) (answer : A) (before now : Option (Numbered View)) (old new : List (Entry C V)) → Made m before old now new (IsCall call answer) → IsWithinLimit m call now old new

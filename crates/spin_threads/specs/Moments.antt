@@ -19,8 +19,8 @@ use Rattle.spin_world_core.specs.Users.{seen_after}
 abbrev pub IsInCall : {C L : Type 0} → C → Option (Seat C L) → Type 0
 IsInCall {L = L} call seat = (l : L) × (held : Option Hold) × (seat ≡ Some (Calling call l held))
 
--- At some moment of this call of a party the plain lock satisfied P.
--- Before the call the party knew the history `old`. After it the party has this view, and knows `new`.
+-- At some moment of a party's call the plain lock satisfied P. Before the call the party knew the history `old`. After
+-- the call the party has this view and knows the history `new`.
 pub record AtAMoment {W V C L A X : Type 0} (m : Machine W V C L A) (call : C) (view : Option (Numbered X)) (old new : List (Entry C V)) (P : Plain → Type 0) : Type 0 where
   pub party : ℕ
   pub is_number : IsNumber party view
@@ -35,30 +35,30 @@ pub record AtAMoment {W V C L A X : Type 0} (m : Machine W V C L A) (call : C) (
   pub in_call : IsInCall call (slice_get (seen_after m (opening m parties) moment).state.seats party)
   pub so : P (seen_after m (opening m parties) moment).plain
 
--- a test or a count of the plain lock had this answer
+-- the test or count `look` of the plain lock gives this answer
 abbrev pub Was : {X : Type 0} → (Plain → X) → X → Plain → Type 0
 Was look answer s = look s ≡ answer
 
--- If a pass with views of this type has made exactly this call, with this answer, the plain lock satisfied P at a
--- moment of the call.
--- That moment is between what the pass knew before the call and what it knows after it.
+-- If a pass with views of the type `View` has made exactly this call and got this answer, then the plain lock satisfied P
+-- at a moment of the call. That moment comes after the history that the pass knew before the call, and before the end of
+-- the history that it knows after the call.
 abbrev pub Found : {W V C L A : Type 0} → Machine W V C L A → Type 0 → C → A → (Plain → Type 0) → Type 0
 Found {V = V} {C = C} m View call answer P =
     (before now : Option (Numbered View)) (old new : List (Entry C V)) → Made m before old now new (IsCall call answer) → AtAMoment m call now old new P
 
--- A party got this answer to its call, and then the plain lock satisfied P. Before the call the party knew `old`. After
--- it the party has this view, and knows `new`.
+-- Just after the step that gave a party's call this answer, the plain lock satisfied P. Before the call the party knew
+-- the history `old`. After the call the party has this view and knows the history `new`.
 pub record AsAnswered {W V C L A X : Type 0} (m : Machine W V C L A) (call : C) (answer : A) (view : Option (Numbered X)) (old new : List (Entry C V)) (P : Plain → Type 0) : Type 0 where
   pub party : ℕ
   pub is_number : IsNumber party view
   -- the history is that of a world with this many parties, and none of its moves is skipped
   pub parties : ℕ
   pub played : IsPlayed m parties new
-  -- the history before the step that answered; the party was in this call
+  -- the history before the step that answered the call; the party was in this call then
   pub last : List (Entry C V)
   pub behind : IsPrefix old last
   pub before : IsPrefix (last ++ (party, Step) ∷ []) new
   pub in_call : IsInCall call (slice_get (seen_after m (opening m parties) last).state.seats party)
   pub answers : (happens m (seen_after m (opening m parties) last).state party Step).outcome ≡ Answered answer None
-  -- and after that step the plain lock satisfied P
+  -- after that step the plain lock satisfied P
   pub so : P (seen_after m (opening m parties) (last ++ (party, Step) ∷ [])).plain

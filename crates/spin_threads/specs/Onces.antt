@@ -1,6 +1,6 @@
--- The calls of a pass of a `Once` or a `LazyLock`, as calls of its object. In the history a call is named as one whose
--- closure fails only after the failure.
--- In the object's schedule it has that name from its beginning. This schedule is the history `foretold`.
+-- The calls of a pass of a `Once` or a `LazyLock`, as calls of the object `Once`. In the history of the pass, only a
+-- later move reports that a call's closure fails. The object's schedule names such a call from its beginning as one
+-- whose closure fails. `foretold` makes this schedule from the history.
 use Rattle.std.specs.Prelude.{◌≡◌, Bool, true, Option, List, length, take}
 use Rattle.spin_step.specs.Plain.{Plain, is_complete}
 use Rattle.spin_core.specs.Own.{Numbered}
@@ -16,15 +16,15 @@ use Rattle.spin_once.specs.OnceValues.{Made}
 use Rattle.spin_once.specs.declared.once_core.rule.View.{View}
 use Rattle.spin_threads.specs.Moments.{AtAMoment, AsAnswered}
 
--- the beginning of the object's schedule that corresponds to the history `old`, if it grew to `new`
+-- the history `old` has grown to `new`: the part of the object's schedule for `new` that corresponds to `old`
 abbrev pub foretold_till : List Made → List Made → List Made
 foretold_till old new = take (length (foretold old)) (foretold new)
 
--- a pass has made exactly this call, with this answer, of a `Once` with or without an opening value
+-- a pass has made exactly this call of a `Once`, which opened with the value `given` or empty, and has got this answer
 abbrev pub Called : Option (Unit {0}) → OnceCall (Unit {0}) → Answer (Unit {0}) → Option (Numbered View) → List Made → Option (Numbered View) → List Made → Type 0
 Called given call answer before old now new = passes.Made (model given) before old now new (IsCall call answer)
 
--- if it has, the `Once` satisfied P at a moment of the call
+-- if a pass has made exactly this call and got this answer, then the plain lock of the `Once` satisfied P at a moment of the call
 abbrev pub FoundOnce : OnceCall (Unit {0}) → Answer (Unit {0}) → (Plain → Type 0) → Type 0
 FoundOnce call answer P =
     (given : Option (Unit {0})) (before now : Option (Numbered View)) (old new : List Made) → Called given call answer before old now new → AtAMoment (once_machine given) call now (foretold_till old new) (foretold new) P
@@ -32,7 +32,7 @@ FoundOnce call answer P =
 abbrev pub has_value : Plain → Bool
 has_value s = is_complete s.phase
 
--- if any call returned the value, there was one when the call was answered
+-- if any call answered with the value, then the `Once` had a value when the call was answered
 abbrev pub GaveOnce : Type 0
 GaveOnce =
     (call : OnceCall (Unit {0})) (given : Option (Unit {0})) (before now : Option (Numbered View)) (old new : List Made) → Called given call (Value tt) before old now new

@@ -12,16 +12,16 @@ use Rattle.spin_world_core.specs.Runs.{opening}
 use Rattle.spin_world_core.specs.Users.{seen_after}
 use Rattle.spin_world.specs.Turns.{tickets_gone}
 
--- Since it knew `old`, a party has entered with a ticket. It now knows `new`, and has this view.
--- Take any moment before it entered. Until it did, exactly as many tickets left as were then between the served number
--- and its own.
+-- A party knew the history `old`, and has entered with a ticket since. Now it knows the history `new` and has this view.
+-- Take any moment before it entered. From that moment until it entered, t - s tickets left the queue, where t is its
+-- ticket and s was the number served at that moment.
 pub record EntersInTurn {X T : Type 0} (key : Key T) (view : Option (Numbered X)) (old new : List (Made T)) : Type 0 where
   pub party : ℕ
   pub is_number : IsNumber party view
   -- the history is that of a world with this many parties, and none of its moves is skipped
   pub parties : ℕ
   pub played : IsPlayed (model key) parties new
-  -- the history when the party had entered
+  -- a history, between `old` and `new`, after which the party holds with its ticket
   pub entered : List (Made T)
   pub behind : IsPrefix old entered
   pub before : IsPrefix entered new

@@ -1,5 +1,5 @@
-//! One law for each lock. Each is the contract of a function that does nothing. A caller calls it to learn what it
-//! states.
+//! One law for each lock. Each law is the contract of a function that does nothing. A caller that calls this function
+//! learns what the law states.
 ghost use Rattle.std.specs.Prelude.{ℕ, List};
 ghost use Rattle.spin_core.specs.Own.{Numbered};
 ghost use Rattle.spin_core.specs.declared.tie.Opening.{Opening};
@@ -22,58 +22,63 @@ ghost use Rattle.spin_ticket.specs.Queue as ticket_mutex;
 ghost use Rattle.spin_ticket.specs.declared.ticket.rule.View.{View as TicketMutexView};
 ghost use Rattle.spin_threads.specs.Between.{Between};
 
-/// Between any two steps of the threads that use a `SpinMutex`, its word is 1 if a party holds it, else 0. At most one
-/// party holds it. Each guard and each call has in the plain lock what its type says.
+/// Between any two steps of the threads that use a `SpinMutex`, the lock's word is 1 if a party holds the lock, else 0.
+/// At
+/// most one party holds the lock. Each party holds or waits in the plain lock as its view says.
 ///
 /// # Contract
-/// `Between`, of the moves that the lock's cell keeps, with the lock's word and parties.
+/// `Between` says this of the word and the parties of the lock's cell, after the moves in the cell's trace.
 pub fn between_any_two_steps_of_a_spin_mutex<T>()
     ensures { (opening : Opening T) (word : ℕ) (trace : Trace (spin_mutex.Done T) (Unit {0})) (parties : List (Numbered SpinMutexView)) → spin_mutex.IsFlag opening word trace parties → Between (spin_mutex.model opening.value) spin_mutex.seat_of spin_mutex.words_of trace.entries (word, trace.word) parties }
 {}
 
-/// Between any two steps of the threads that use a `TicketMutex`, its words are the numbers of a queue of tickets. At
-/// most one ticket is served. Each guard and each call has in the plain lock what its type says.
+/// Between any two steps of the threads that use a `TicketMutex`, the lock's words are the next number and the served
+/// number of a queue of tickets. At most one ticket has entered. Each party holds or waits in the plain lock as its
+/// view
+/// says.
 ///
 /// # Contract
-/// `Between`, of the moves that the lock's cell keeps, with the lock's words and parties.
+/// `Between` says this of the words and the parties of the lock's cell, after the moves in the cell's trace.
 pub fn between_any_two_steps_of_a_ticket_mutex<T>()
     ensures { (key : ticket_mutex.Key T) (next : ℕ) (trace : Trace (ticket_mutex.Made T) ℕ) (parties : List (Numbered TicketMutexView)) → ticket_mutex.IsQueue key next trace parties → Between (ticket_mutex.model key) ticket_mutex.seat_of ticket_mutex.words_of trace.entries (next, trace.word) parties }
 {}
 
-/// Between any two steps of the threads that use a `FairMutex`, its word encodes exactly its holders and its registered
-/// starvers. At most one party holds it. Each guard and each call has in the plain lock what its type says.
+/// Between any two steps of the threads that use a `FairMutex`, the lock's word encodes exactly its holders and its
+/// registered starvers. At most one party holds the lock. Each party holds or waits in the plain lock as its view says.
 ///
 /// # Contract
-/// `Between`, of the moves that the lock's cell keeps, with the lock's word and parties.
+/// `Between` says this of the word and the parties of the lock's cell, after the moves in the cell's trace.
 pub fn between_any_two_steps_of_a_fair_mutex<T>()
     ensures { (opening : Opening T) (word : ℕ) (trace : Trace (fair_mutex.Done T) (Unit {0})) (parties : List (Numbered FairMutexView)) → fair_mutex.IsFair opening word trace parties → Between (fair_mutex.model opening.value) fair_mutex.seat_of fair_mutex.words_of trace.entries (word, trace.word) parties }
 {}
 
-/// Between any two steps of the threads that use a `Seats`, its word is the number of parties that sit. Each guard and
-/// each call has in the plain lock what its type says.
+/// Between any two steps of the threads that use a `Seats`, the lock's word is the number of parties that have a seat.
+/// Each
+/// party holds or waits in the plain lock as its view says.
 ///
 /// # Contract
-/// `Between`, of the moves that the lock's cell keeps, with the lock's word and parties.
+/// `Between` says this of the word and the parties of the lock's cell, after the moves in the cell's trace.
 pub fn between_any_two_steps_of_seats()
     ensures { (n name word : ℕ) (trace : Trace seats.Done (Unit {0})) (parties : List (Numbered SeatsView)) → seats.IsSeats n name word trace parties → Between (seats.model n) seats.seat_of seats.words_of trace.entries (word, trace.word) parties }
 {}
 
-/// Between any two steps of the threads that use an `RwLock`, its word counts exactly its holders. A writer holds
-/// alone, and at most one reader may upgrade. Each guard and each call has in the plain lock what its type says.
+/// Between any two steps of the threads that use an `RwLock`, the lock's word encodes exactly its holders. A writer
+/// holds
+/// alone, and at most one reader may upgrade. Each party holds or waits in the plain lock as its view says.
 ///
 /// # Contract
-/// `Between`, of the moves that the lock's cell keeps, with the lock's word and parties.
+/// `Between` says this of the word and the parties of the lock's cell, after the moves in the cell's trace.
 pub fn between_any_two_steps_of_a_rwlock<T>()
     ensures { (opening : Opening T) (word : ℕ) (trace : Trace (rwlock.Done T) (Unit {0})) (parties : List (Numbered RwLockView)) → rwlock.IsRw opening word trace parties → Between (rwlock.model opening.value) rwlock.seat_of rwlock.words_of trace.entries (word, trace.word) parties }
 {}
 
-/// Between any two steps of the threads that use a `Once` or a `LazyLock`, its word tells its phase: 0 without a value,
-/// 1 while a closure runs, 2 with a value. At most one closure runs, and none once there is a value. Each call has in
-/// the plain lock what its type says.
+/// Between any two steps of the threads that use a `Once` or a `LazyLock`, the word tells the phase: 0 without a value,
+/// 1 while a closure runs, 2 with a value. At most one closure runs, and none once there is a value. Each call is in
+/// the plain lock as its view says.
 ///
 /// # Contract
-/// `Between`, of the schedule of the object that the moves are which the cell keeps (`bare`, `foretold`), with the
-/// cell's word and parties. `opening` says whether the cell was made with a value.
+/// `Between` says this of the word and the parties of the cell. The moves in the cell's trace make a schedule of the
+/// object `Once` (`bare`, `foretold`). `opening` says whether the cell was made with a value.
 pub fn between_any_two_steps_of_a_once<T, S>()
     ensures { (opening : Opening (OnceStage T S)) (word : ℕ) (trace : Trace (once_values.Valued T) (Unit {0})) (parties : List (Numbered OnceView)) → once.IsOnce opening word trace parties → Between (once_machine (once_values.given_of opening.value)) place_of once.words_of (foretold (once_values.bare trace.entries)) (word, trace.word) parties }
 {}

@@ -1,9 +1,9 @@
-//! How many steps a call takes. Each law is the contract of a function that does nothing. A caller calls it to learn
-//! what it states.
+//! How many steps a call takes. Each law is the contract of a function that does nothing. A caller that calls this
+//! function learns what the law states.
 //!
-//! Each law speaks of every call of every pass. The call took no more steps than in the model (`limit` of
-//! `spin_model`), where changes of the first word by others during the call count too. Exchanges that the call repeats
-//! failed at most as often as others changed that word (`KeepsLimits`, `IsWithinLimit`).
+//! Each law speaks of every call of every pass. The call kept the limit that it has in the model (`limit` of
+//! `spin_model`). Changes of the first word by others during the call may raise this limit. The exchanges that the call
+//! repeats failed at most as often as others changed that word (`KeepsLimits`, `IsWithinLimit`).
 ghost use Rattle.std.specs.Prelude.{ℕ, Option, List};
 ghost use Rattle.spin_core.specs.Own.{Numbered};
 ghost use Rattle.spin_fair.specs.Fair as fair_mutex;
@@ -24,52 +24,53 @@ ghost use Rattle.spin_threads.specs.Turns.{EntersInTurn};
 /// A try, an `is_locked` and a release of a pass of a `SpinMutex` take one step each.
 ///
 /// # Contract
-/// `KeepsLimits`, for the steps that all threads made during the call.
+/// `KeepsLimits` says that each call of a pass keeps its limit.
 pub fn a_call_of_a_spin_mutex_keeps_its_limit<T>()
     ensures { (opening : T) → KeepsLimits (spin_mutex.model opening) SpinMutexView }
 {}
 
 /// An `is_locked` of a pass of a `TicketMutex` takes at most two steps, a try three, and a release one. The exchange by
-/// which `lock` takes its ticket fails at most as often as others take one meanwhile.
+/// which `lock` takes its ticket fails at most as often as others take a ticket meanwhile.
 ///
 /// # Contract
-/// `KeepsLimits`, for the steps that all threads made during the call.
+/// `KeepsLimits` says that each call of a pass keeps its limit.
 pub fn a_call_of_a_ticket_mutex_keeps_its_limit<T>()
     ensures { (key : ticket_mutex.Key T) → KeepsLimits (ticket_mutex.model key) TicketMutexView }
 {}
 
-/// A newcomer's try of a pass of a `FairMutex` takes one step, and a starver's try at most two. `starve` takes at most
+/// By a pass of a `FairMutex`, a newcomer's try takes one step, and a starver's try at most two. `starve` takes at most
 /// two, and one more for each change of the word by others meanwhile. An `is_locked` and a release take one.
 ///
 /// # Contract
-/// `KeepsLimits`, for the steps that all threads made during the call.
+/// `KeepsLimits` says that each call of a pass keeps its limit.
 pub fn a_call_of_a_fair_mutex_keeps_its_limit<T>()
     ensures { (opening : T) → KeepsLimits (fair_mutex.model opening) FairMutexView }
 {}
 
-/// A try to read of a pass of an `RwLock` takes at most two steps, and one more for each change of the word by others
-/// meanwhile. Any other try, a count, a downgrade and a release take one.
+/// By a pass of an `RwLock`, a try to read takes at most two steps, and one more for each change of the word by others
+/// meanwhile. Any other try, a count, a downgrade and a release take one step.
 ///
 /// # Contract
-/// `KeepsLimits`, for the steps that all threads made during the call.
+/// `KeepsLimits` says that each call of a pass keeps its limit.
 pub fn a_call_of_a_rwlock_keeps_its_limit<T>()
     ensures { (opening : T) → KeepsLimits (rwlock.model opening) RwLockView }
 {}
 
-/// A try of a pass of a `Seats` takes at most two steps, and one more for each change of the word by others meanwhile.
-/// A count and a release take one.
+/// By a pass of a `Seats`, a try takes at most two steps, and one more for each change of the word by others meanwhile.
+/// A count and a release take one step.
 ///
 /// # Contract
-/// `KeepsLimits`, for the steps that all threads made during the call.
+/// `KeepsLimits` says that each call of a pass keeps its limit.
 pub fn a_call_of_seats_keeps_its_limit()
     ensures { (n : ℕ) → KeepsLimits (seats.model n) SeatsView }
 {}
 
-/// If a pass acquired a `TicketMutex` by `lock`, take any moment of the call before that. Until it had, exactly as
-/// many tickets left as were then between the served number and its own.
+/// Suppose that a pass acquired a `TicketMutex` by `lock` with the ticket t. Take any moment before that, and let s be
+/// the
+/// number served then. From that moment until the pass acquired the lock, exactly t - s tickets left the queue.
 ///
 /// # Contract
-/// `EntersInTurn`, of the history that the pass knows after the call.
+/// `EntersInTurn` says this by the history that the pass knows after the call.
 pub fn a_lock_of_a_ticket_mutex_enters_in_turn<T>()
     ensures { (key : ticket_mutex.Key T) (before now : Option (Numbered TicketMutexView)) (old new : List (ticket_mutex.Made T)) →
         ticket_mutex.Called key Lock Granted before old now new → EntersInTurn key now old new }
