@@ -1,4 +1,4 @@
--- What the table of the dispenser must show, and how it draws.
+-- What the table of the dispenser has to show, and how the dispenser draws.
 use Rattle.std.proofs.Common.{◌≡◌, ℕ, Option, None, List, [], ◌∷◌, length, nat_lt, refl, arith, length-append}
 use Rattle.spin_step.specs.Plain.{Plain, reading, holder, to_read, gets, apply, flag_word, may_come, count_kind}
 use Rattle.spin_step.proofs.Sums.{one_of, sum-more}
@@ -19,12 +19,12 @@ use Rattle.spin_world_core.proofs.Usual.{no_queue}
 use Rattle.spin_world_core.proofs.Filled.{plays_of}
 use Rattle.spin_world_core.proofs.Lists.{eqb_self}
 
--- a call that has looked has made one step; at any other point it is as at its beginning
+-- the row of a point: a call that has looked has made one step, and at any other point the row is that of the beginning
 abbrev pub point_of : ℕ → DispenserCall → DispenserPoint → Option Hold → Point
 point_of cap call.Draw (Exchange k) None = looked 1
 point_of cap c l h = starts (begin_of (dispenser_table cap) c h)
 
--- the number that a call brings
+-- the number that a call has as its argument
 abbrev pub number_of : DispenserCall → ℕ
 number_of (call.DrawThis k) = k
 number_of c = 0

@@ -20,14 +20,14 @@ use Rattle.spin_world_tests.specs.Dispenser.{goes_for, drawn, sold_out, not_next
 abbrev Dispensed : Type 0
 Dispensed = State ℕ (Unit {0}) DispenserCall DispenserPoint
 
--- the numbers from a up to b
+-- `numbers` are those from a up to b, without b
 abbrev Draws : ℕ → List ℕ → ℕ → Type 0
 Draws a numbers b = (k : ℕ) × (numbers ≡ range_with_len a k) × (b ≡ a + k)
 
 none : (a : ℕ) → Draws a [] a
 none a = (0, refl, omega arith)
 
--- and then those from there on
+-- the numbers from a up to b, and then those from b up to c, are the numbers from a up to c
 joined : (a b c : ℕ) (early late : List ℕ) → Draws a early b → Draws b late c → Draws a (early ++ late) c
 joined a b c early late (i, first, to) (j, second, end) =
     let both = ap (λ ns. ns ++ late) first ∙ ap (λ ns. range_with_len a i ++ ns) second in
@@ -38,22 +38,22 @@ joined a b c early late (i, first, to) (j, second, end) =
     ranges a (suc i) j b zero from sum = absurd (omega (arith, sum))
     ranges a (suc i) j b (suc n) from sum = ap (λ ns. a ∷ ns) (ranges (a + 1) i j b n (omega (arith, from)) (omega (arith, sum)))
 
--- the event draws these numbers
+-- the event draws the numbers from the old word up to the new word: one number, or none
 abbrev DrawsIn : Dispensed → Happened ℕ (Unit {0}) DispenserCall DispenserPoint DispenserAnswer → Type 0
 DrawsIn s h = Draws s.words (number_in h.outcome) h.next.words
 
--- in both cases
+-- what holds for true and for false holds for each Bool
 by_test : (P : Bool → Type 0) (b : Bool) → P true → P false → P b
 by_test P true x y = x
 by_test P false x y = y
 
--- a look, by whether a number is left
+-- what a look draws, by whether a number is left
 draws-look : (s : Dispensed) (p : ℕ) (h : Option Hold) (left : Bool)
     → DrawsIn s (stepped s p call.Draw h (stays s.words (either (is_some (if left then Some (s.words + 1) else None)) (goes_for s.words) (sold_out h))))
 draws-look s p h true = none s.words
 draws-look s p h false = none s.words
 
--- an exchange of k, by whether the word is k and a number is left
+-- what an exchange of k draws, by whether the word is k and a number is left
 draws-exchange : (s : Dispensed) (p k : ℕ) (h : Option Hold) (same left : Bool) → (s.words == k) ≡ same
     → DrawsIn s (stepped s p call.Draw h (retried (λ n. n) same s.words (if left then Some (s.words + 1) else None) (drawn k) (goes_for s.words) (sold_out h)))
 draws-exchange s p k h true true is = (1, ap (λ n. n ∷ []) (sym (eqb-true s.words k is)), refl)
@@ -61,7 +61,7 @@ draws-exchange s p k h true false is = none s.words
 draws-exchange s p k h false true is = none s.words
 draws-exchange s p k h false false is = none s.words
 
--- an exchange of the number that the call brings, by the same
+-- what `DrawThis` draws, by whether the word is its number and a number is left
 draws-this : (s : Dispensed) (p k : ℕ) (h : Option Hold) (same left : Bool) → (s.words == k) ≡ same
     → DrawsIn s (stepped s p (call.DrawThis k) h (becomes (λ n. n) s.words (if same then (if left then Some (s.words + 1) else None) else None) (drawn k) (not_next h)))
 draws-this s p k h true true is = (1, ap (λ n. n ∷ []) (sym (eqb-true s.words k is)), refl)
@@ -96,7 +96,7 @@ module _ (cap : ℕ) where
   draws-at s p move None = none s.words
   draws-at s p move (Some seat) = draws-moves s p move seat
 
-  -- and so does a whole schedule
+  -- a whole schedule draws the numbers from the word before it up to the word after it
   pub draws : (s : Dispensed) (past : List (ℕ × Move DispenserCall (Unit {0}))) → Draws s.words (numbers_in (events_of m s past)) (after m s past).words
   draws s [] = none s.words
   draws s (e ∷ es) =

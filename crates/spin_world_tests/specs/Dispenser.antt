@@ -1,6 +1,6 @@
--- A dispenser of numbers: its kind of lock, its calls step by step, what it is by name, and how it draws.
--- A party that has drawn holds as a reader for ever. So the word is how many have drawn, and the plain lock's cap is
--- how many numbers there are.
+-- A dispenser of numbers: its kind of lock, its calls step by step, its promises by name, and how it draws. A party that
+-- has drawn a number holds as a reader for ever. So the word is the number of parties that have drawn. The plain lock's
+-- cap is the number of all numbers.
 use Rattle.std.specs.Prelude.{◌≡◌, ℕ, ◌+◌, ◌==◌, ◌&&◌, not, length, Bool, true, false, Option, Some, None, List, [], ◌∷◌, ◌++◌, nat_lt, if◌then◌else◌}
 use Rattle.std.specs.List.{list_any, range_with_len}
 use Rattle.spin_step.specs.Plain.{to_read, Change, gets, is_open_to, fresh, flag_word}
@@ -30,8 +30,8 @@ abbrev pub dispenser_plain_steps : Change → Bool
 dispenser_plain_steps (gets p to_read) = true
 dispenser_plain_steps _ = false
 
--- A call of its own, which no crate below knows: a try that draws this very number.
--- It is granted at a moment at which so many have been drawn, and refused at one at which not so many have, or all
+-- A call that no crate below knows: a try that draws the number k. It is granted at a moment at which exactly k numbers
+-- have been drawn. It is refused at a moment at which more or fewer numbers, or all, have been drawn.
 abbrev pub tries_this : ℕ → Asked
 tries_this k =
     record (tries to_read) {
@@ -118,7 +118,7 @@ dispenser_machine cap = machine_of (dispenser_table cap)
 pub record IsDispenser (cap : ℕ) (m : DispenserMachine) : Type 0 where
   pub lock_kind : m.lock_kind ≡ dispenser
   pub number : (w : ℕ) → m.numbers w ≡ w ∷ []
-  -- it has so many numbers, and none is drawn
+  -- it has `cap` numbers, and none is drawn
   pub plain : opening_plain m ≡ fresh cap 0 0
   pub draw : (h : Option Hold) → m.asks call.Draw h ≡ looks_and_tries to_read
   pub draw_this : (k : ℕ) (h : Option Hold) → m.asks (call.DrawThis k) h ≡ tries_this k

@@ -1,4 +1,4 @@
--- Wrong barriers, each wrong in one part of its machine, and schedules on which the laws refuse them.
+-- Wrong barriers, each wrong in one part of its machine, and schedules on which the laws refuse these barriers.
 use Rattle.std.specs.Prelude.{ℕ, ◌==◌, ◌&&◌, Some, None, [], ◌∷◌, ◌+◌}
 use Rattle.spin_model.specs.declared.step.Next.TheVariants.{Continue, Answers}
 use Rattle.spin_model.specs.declared.step.Next.{Next}
@@ -60,7 +60,7 @@ leaves_in_quiet = going 2 arrived (λ g w. either (is_past g w.generation && (w.
 abbrev pub never_begins : BarrierMachine
 never_begins = record pairs { begin = λ c h. None }
 
--- a call asks for a value, and no barrier gives one
+-- `wait` asks for a value, which no barrier gives
 abbrev pub asks_for_a_value : BarrierMachine
 asks_for_a_value = record pairs { asks = λ c h. waits_for_value }
 
@@ -72,7 +72,7 @@ leaves_by_chance = record pairs { refuse = λ c l h. Some (Answers Follower h) }
 abbrev pub opens_with_one : BarrierMachine
 opens_with_one = record pairs { words = record { count = 1; generation = 0 } }
 
--- it is asked for groups of two, and makes groups of three
+-- the barrier should have groups of two, and has groups of three
 abbrev pub gathers_three : BarrierMachine
 gathers_three = barrier_machine 3
 

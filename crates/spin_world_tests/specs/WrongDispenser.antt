@@ -1,4 +1,4 @@
--- Wrong dispensers, each wrong in one part of its table, and schedules on which the laws refuse them.
+-- Wrong dispensers, each wrong in one part of its table, and schedules on which the laws refuse these dispensers.
 use Rattle.std.specs.Prelude.{ℕ, ◌+◌, Bool, true, Option, Some, List, [], ◌∷◌, nat_lt, if◌then◌else◌}
 use Rattle.spin_step.specs.Plain.{to_read, gets, reading, Change, releases}
 use Rattle.spin_model.specs.declared.place.Hold.{Hold}
@@ -17,8 +17,8 @@ use Rattle.spin_world_tests.specs.Dispenser.{DispenserTable, dispenser_table, Di
 abbrev Entries : Type 0
 Entries = List (ℕ × Move DispenserCall (Unit {0}))
 
--- A dispenser of the numbers below cap. A draw finds the next word by `next`; `won` and `lost` say how it continues
--- after its exchange.
+-- A dispenser of the numbers below `cap`. `next` gives the word that a draw stores. `won` and `lost` say how the draw
+-- continues after its exchange.
 abbrev draws_by : ℕ → (ℕ → Option ℕ) → (ℕ → Continues) → (ℕ → ℕ → Continues) → DispenserMachine
 draws_by cap next won lost = let t : DispenserTable = dispenser_table cap in machine_of (record t { act = λ c l h. steps c l h })
   where
@@ -39,7 +39,7 @@ forgets_to_store = draws_by 2 (λ k. Some k) drawn (λ k. goes_for)
 abbrev pub wins_what_it_lost : DispenserMachine
 wins_what_it_lost = draws_by 2 (next_after 2) drawn (λ k found. drawn k)
 
--- after the last number it begins again at 0
+-- after the last number the dispenser begins again at 0
 abbrev pub wraps : DispenserMachine
 wraps = draws_by 1 (λ k. Some (if nat_lt k 1 then k + 1 else 0)) drawn (λ k. goes_for)
 
@@ -47,7 +47,7 @@ wraps = draws_by 1 (λ k. Some (if nat_lt k 1 then k + 1 else 0)) drawn (λ k. g
 abbrev pub says_zero : DispenserMachine
 says_zero = draws_by 2 (next_after 2) (λ k. drawn 0) (λ k. goes_for)
 
--- a draw of this number draws another one
+-- the call that should draw a certain number draws another number
 abbrev pub draws_another : DispenserMachine
 draws_another =
     let t : DispenserTable = dispenser_table 2 in
@@ -57,7 +57,7 @@ draws_another =
 abbrev pub the_second : Entries
 the_second = (0, Begin (call.DrawThis 1)) ∷ (0, Step) ∷ []
 
--- its kind of lock has a call that returns a number
+-- a kind of lock with a call that returns a number
 abbrev with_return : Change → Bool
 with_return (releases p reading) = true
 with_return c = dispenser_plain_steps c

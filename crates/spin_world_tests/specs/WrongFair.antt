@@ -1,6 +1,6 @@
--- Wrong fair locks, each wrong in one part of its table or machine, and schedules on which the laws refuse them.
--- Each admits two starvers unless it says otherwise. Its `lock` registers after the second look that finds the flag
--- set.
+-- Wrong fair locks, each wrong in one part of its table or machine, and schedules on which the laws refuse these locks.
+-- Each lock admits two starvers unless its comment says otherwise. Its `lock` registers after the second look that finds
+-- the flag set.
 use Rattle.std.specs.Prelude.{ℕ, ◌+◌, ◌-◌, ◌*◌, ◌/◌, Option, Some, None, not, ◌&&◌, List, [], ◌∷◌, ◌++◌, ◌==◌, nat_lt}
 use Rattle.spin_step.specs.Plain.{gets, stops_starving, to_lock_unregistered, to_lock_starving, to_lock_starving_alone, to_starve, starver_weight}
 use Rattle.spin_model.specs.declared.place.Hold.{Hold}
@@ -32,7 +32,7 @@ FairMachine V = Machine ℕ V FairCall FairPoint (Answer V)
 abbrev with_steps : {V : Type 0} → V → ℕ → (FairCall → FairPoint → Option Hold → FairAct V → FairAct V) → FairMachine V
 with_steps v cap steps = machine_of (record (fair_table v cap 1) { act = λ c l h. steps c l h (act_of cap 1 c l h) })
 
--- only the steps of `lock` are changed; below, those of a starver's `lock`
+-- only the steps of `lock` are changed; `starver_lock_by` changes only those of a starver's `lock`
 abbrev lock_by : {V : Type 0} → V → (FairPoint → FairAct V → FairAct V) → FairMachine V
 lock_by v steps = with_steps v 2 (λ c l h act. elim c [ Lock ↦ steps l act | _ ↦ act ])
 
@@ -50,7 +50,7 @@ sets_flag won lost = exchange sets_lowest_bit (λ p. gets p to_lock_starving) wo
 abbrev Entries : Type 0 → Type 0
 Entries V = List (ℕ × Move FairCall V)
 
--- `try_lock` sets the flag wherever it is clear
+-- `try_lock` sets the flag whenever the flag is clear
 abbrev pub tries_greedily : {V : Type 0} → V → FairMachine V
 tries_greedily v =
     with_steps v 2 (λ c l h act. elim c [ TryLock ↦ exchange sets_lowest_bit (λ p. gets p to_lock_unregistered) granted (λ w. Answers Refused h) | _ ↦ act ])
@@ -131,12 +131,12 @@ let_go_beside_a_starver =
     (0, Begin TryLock) ∷ (0, Step) ∷ (1, Begin Starve) ∷ (1, Step) ∷ (1, Step) ∷ (1, Begin StarverLock) ∷ (1, Step)
     ∷ (0, Begin Release) ∷ (0, Step) ∷ []
 
--- the same, and four looks after it
+-- the same schedule, and then four looks of the starver
 abbrev pub four_looks_of_a_starver : {V : Type 0} → Entries V
 four_looks_of_a_starver = let_go_beside_a_starver ++ (1, Step) ∷ (1, Step) ∷ (1, Step) ∷ (1, Step) ∷ []
 
--- A starver that waits sets the flag only if it finds the same clear word twice. So others that come and go keep it
--- waiting.
+-- A starver that waits sets the flag only if it finds the same clear word twice. So others that register and leave keep
+-- this starver waiting.
 abbrev pub waits_for_quiet : {V : Type 0} → V → FairMachine V
 waits_for_quiet v = starver_lock_by v (λ l act. elim l [
   | Await ↦ load (λ w. Continue (Register w))
@@ -211,7 +211,7 @@ abbrev pub waits_for_starvers : {V : Type 0} → V → FairMachine V
 waits_for_starvers v =
     lock_by v (λ l act. elim l [ Look n ↦ looks_by n (Continue Load) (λ w. either (w == 0) (Continue (Attempt n)) (Continue (Look n))) | _ ↦ act ])
 
--- it looks at a clear flag while one party starves, and that party then stops
+-- `lock` finds the flag clear while another party starves, and that party then stops starving
 abbrev pub lock_beside_a_dropped_starver : {V : Type 0} → Entries V
 lock_beside_a_dropped_starver =
     (0, Begin TryLock) ∷ (0, Step) ∷ (1, Begin Starve) ∷ (1, Step) ∷ (1, Step) ∷ (2, Begin Lock) ∷ (2, Step)
@@ -240,8 +240,8 @@ two_steps_of_a_starver =
 abbrev pub counts_anew : {V : Type 0} → V → FairMachine V
 counts_anew v = lock_by v (λ l act. elim l [ Look n ↦ looks_by n (Continue Load) (λ w. Continue (Attempt 0)) | _ ↦ act ])
 
--- a look finds the flag set, and the next one finds it clear; another party wins the exchange; then come three looks
--- more
+-- a look finds the flag set, and the next look finds the flag clear; another party wins the exchange; then come three
+-- more looks
 abbrev pub lock_past_a_clear_flag : {V : Type 0} → Entries V
 lock_past_a_clear_flag =
     (0, Begin TryLock) ∷ (0, Step) ∷ (1, Begin Lock) ∷ (1, Step) ∷ (1, Step) ∷ (0, Begin Release) ∷ (0, Step) ∷ (1, Step)

@@ -1,4 +1,4 @@
--- Wrong flags, each wrong in one part of its machine, and schedules on which the laws refuse them.
+-- Wrong flags, each wrong in one part of its machine, and schedules on which the laws refuse these flags.
 use Rattle.spin_model.specs.declared.place.Hold.TheVariants.{Read}
 use Rattle.std.specs.Prelude.{ℕ, Bool, true, false, Some, None, List, [], ◌∷◌}
 use Rattle.spin_model.specs.declared.step.Next.TheVariants.{Continue, Answers}
@@ -36,7 +36,7 @@ looks_for_ever {V} v =
     let m : FlagMachine V = flag_machine v in
     record m { step = λ w value c l h. elim l [ Second ↦ stays w (Continue Second) | other ↦ m.step w value c other h ] }
 
--- one party holds the flag, the other finds it set, and two looks after the release find it clear
+-- one party sets the flag, the other finds the flag set, and two looks after the release find the flag clear
 abbrev pub two_looks : {V : Type 0} → Entries V
 two_looks = (0, Begin TryLock) ∷ (0, Step) ∷ (1, Begin Lock) ∷ (1, Step) ∷ (0, Begin Release) ∷ (0, Step) ∷ (1, Step) ∷ (1, Step) ∷ []
 
@@ -47,7 +47,7 @@ tries_by_chance {V} v = let m : FlagMachine V = flag_machine v in record m { ref
 abbrev pub one_try : {V : Type 0} → Entries V
 one_try = (0, Begin TryLock) ∷ (0, Weak) ∷ []
 
--- an `is_locked` whose load may fail spuriously; then it answers that nobody holds
+-- an `is_locked` whose load may fail spuriously, and which then answers that nobody holds
 abbrev pub looks_by_chance : {V : Type 0} → V → FlagMachine V
 looks_by_chance {V} v = let m : FlagMachine V = flag_machine v in record m { refuse = λ c l h. Some (Answers (Is false) h) }
 

@@ -1,4 +1,4 @@
--- Wrong cells, each wrong in one part of its machine, and schedules on which the laws refuse them.
+-- Wrong cells, each wrong in one part of its machine, and schedules on which the laws refuse these cells.
 use Rattle.std.specs.Prelude.{ℕ, Option, Some, None, [], ◌∷◌, ◌==◌}
 use Rattle.spin_step.specs.Plain.{Change}
 use Rattle.spin_model.specs.declared.place.Hold.{Hold}
@@ -23,7 +23,7 @@ abbrev with_steps : {V : Type 0} → Option V → (ℕ → Option V → OnceCall
 with_steps {V} opening steps =
     let m : OnceMachine V = once_machine opening in record m { step = λ w value c l h. steps w value c l h (m.step w value c l h) }
 
--- the same with these plain steps
+-- the cell m with these plain steps instead of its own
 abbrev with_changes : {V : Type 0} → OnceMachine V → (OnceCall V → OncePoint → Option Change → Option Change) → OnceMachine V
 with_changes m changes = record m { change = λ p w c l h. changes c l (m.change p w c l h) }
 
@@ -46,14 +46,14 @@ two_closures u v = (0, Begin (CallOnce u)) ∷ (0, Step) ∷ (0, Step) ∷ (0, S
 abbrev pub sticks_silently : (V : Type 0) → OnceMachine V
 sticks_silently V = with_steps None (λ w value c l h step. elim c [ TryCallOnceErr ↦ elim l [ Run ↦ stays w (Answers Failed h) | _ ↦ step ] | _ ↦ step ])
 
--- the same, but the machine names no plain step for it
+-- the same, but the machine names no plain step for this failure
 abbrev pub sticks : (V : Type 0) → OnceMachine V
 sticks V = with_changes (sticks_silently V) (λ c l made. elim c [ TryCallOnceErr ↦ elim l [ Run ↦ None | _ ↦ made ] | _ ↦ made ])
 
 abbrev pub one_failure : {V : Type 0} → Entries V
 one_failure = (0, Begin TryCallOnceErr) ∷ (0, Step) ∷ (0, Step) ∷ (0, Step) ∷ []
 
--- `get` answers this value, even if there is none
+-- `get` answers this value, even if the cell has no value
 abbrev pub gets_early : {V : Type 0} → V → OnceMachine V
 gets_early v = with_steps None (λ w value c l h step. elim c [ Get ↦ stays w (Answers (Value v) h) | _ ↦ step ])
 
@@ -71,7 +71,7 @@ polls_early V = with_steps None (λ w value c l h step. elim c [ Poll ↦ elim v
 abbrev pub poll_beside_a_closure : {V : Type 0} → V → Entries V
 poll_beside_a_closure v = (0, Begin (CallOnce v)) ∷ (0, Step) ∷ (0, Step) ∷ (1, Begin Poll) ∷ (1, Step) ∷ []
 
--- the closure gives u; the call stores `put` and answers `told`
+-- the closure gives the value u, but the call stores `put` and answers `told`
 abbrev placing : {V : Type 0} → V → V → OnceMachine V
 placing put told = with_steps None (λ w value c l h step. elim c [ CallOnce u ↦ elim l [ Run ↦ gives 2 put told h | _ ↦ step ] | _ ↦ step ])
 

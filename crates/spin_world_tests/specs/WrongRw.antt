@@ -1,5 +1,5 @@
--- Wrong read-write locks, each wrong in one part of its table, and schedules on which the laws refuse them.
--- If a step is wrong, so is the plain step that the table names for it.
+-- Wrong read-write locks, each wrong in one part of its table, and schedules on which the laws refuse these locks. If a
+-- step is wrong, the plain step that the table names for it is wrong in the same way.
 use Rattle.std.specs.Prelude.{ℕ, zero, suc, ◌+◌, ◌-◌, ◌/◌, true, false, Option, Some, None, List, [], ◌∷◌, ◌++◌, if◌then◌else◌}
 use Rattle.spin_step.specs.Plain.{reading, upgradable, asking, writing, weight, Ask, to_read, to_write, to_upgrade, to_upgrade_asked, to_lock_starving, gets, releases, turns, to_read_upgradable}
 use Rattle.spin_model.specs.declared.place.Hold.{Hold}
@@ -37,7 +37,7 @@ Entries V = List (ℕ × Move RwCall V)
 abbrev with_cap : {V : Type 0} → V → ℕ → (RwCall → RwPoint → Option Hold → RwAct V → RwAct V) → RwMachine V
 with_cap {V} v cap steps = let t : RwTable V = rw_table v cap in machine_of (record t { act = λ c l h. steps c l h (act_of cap c l h) })
 
--- the same for nine readers
+-- a lock with a cap of nine, with these steps instead of its own
 abbrev with_steps : {V : Type 0} → V → (RwCall → RwPoint → Option Hold → RwAct V → RwAct V) → RwMachine V
 with_steps v steps = with_cap v 9 steps
 
@@ -49,7 +49,7 @@ upgrade_by v steps = with_steps v (λ c l h act. elim c [ Upgrade ↦ steps l ac
 abbrev writes_over : {V : Type 0} → Ask → Next RwPoint (Answer V) → RwAct V
 writes_over ask lost = exchange (stores (weight writing)) (λ p. gets p ask) (granted hold.Write) (λ w. lost)
 
--- a step of `downgrade` from a writer that adds this much
+-- a step of `downgrade`: the writer adds this much to the word and becomes a reader
 abbrev turns_to_reading : {V : Type 0} → ℕ → RwAct V
 turns_to_reading more = store (tells writing) (adds more) (λ p. turns p writing reading) (Answers Done (Some hold.Read))
 
@@ -97,7 +97,7 @@ downgrades_in_two v = with_steps v (λ c l h act. elim c [ Downgrade ↦ downgra
 abbrev pub downgrade_alone : {V : Type 0} → Entries V
 downgrade_alone = (0, Begin TryWrite) ∷ (0, Step) ∷ (0, Begin Downgrade) ∷ (0, Step) ∷ []
 
--- `try_read` adds its reader, and removes it if there was no room
+-- `try_read` adds a reader to the word, and removes this reader if there was no room
 abbrev read_and_regret : {V : Type 0} → RwPoint → RwAct V
 read_and_regret (Exchange n) = store (λ w. true) (subtracts (weight reading)) (λ p. releases p reading) (Answers Refused None)
 read_and_regret _ = store (λ w. true) (adds (weight reading)) (λ p. gets p to_read) (Continue (Exchange 0))
@@ -150,14 +150,14 @@ read_beside_an_asking_reader = upgrade_alone ++ (1, Begin TryRead) ∷ (1, Step)
 abbrev counts_by : {V : Type 0} → V → (ℕ → ℕ) → RwMachine V
 counts_by v count = with_steps v (λ c l h act. elim c [ ReaderCount ↦ load (λ w. Answers (Count (count w)) h) | _ ↦ act ])
 
--- it does not count the upgradable reader
+-- `reader_count` does not count the upgradable reader
 abbrev pub counts_without_upgradable : {V : Type 0} → V → RwMachine V
 counts_without_upgradable v = counts_by v (λ w. w / weight reading)
 
 abbrev pub count_beside_an_upgradable : {V : Type 0} → Entries V
 count_beside_an_upgradable = (0, Begin TryUpgradeableRead) ∷ (0, Step) ∷ (0, Step) ∷ (1, Begin ReaderCount) ∷ (1, Step) ∷ []
 
--- it does not count a reader that asks to upgrade
+-- `reader_count` does not count a reader that asks to upgrade
 abbrev pub counts_without_asking : {V : Type 0} → V → RwMachine V
 counts_without_asking v = counts_by v (λ w. if tells upgradable w then suc (w / weight reading) else w / weight reading)
 
@@ -234,7 +234,7 @@ upgrade_by_chance = (0, Begin TryUpgradeableRead) ∷ (0, Step) ∷ (0, Step) �
 abbrev pub never_releases : {V : Type 0} → V → RwMachine V
 never_releases {V} v = let m : RwMachine V = rw_machine v 9 in record m { begin = λ c h. elim c [ Release ↦ None | other ↦ m.begin other h ] }
 
--- any reader can begin `upgrade`, and then it never ends
+-- any reader can begin `upgrade`, which then never ends
 abbrev pub upgrades_any_reader : {V : Type 0} → V → RwMachine V
 upgrades_any_reader {V} v =
     let m : RwMachine V = rw_machine v 9 in
@@ -253,11 +253,11 @@ never_writes {V} v =
     let m : RwMachine V = write_by v (load (λ w. Continue First)) in
     record m { asks = λ c h. elim c [ Write ↦ waits to_lock_starving | other ↦ asks_of other h ] }
 
--- somebody writes at first, but it is no party
+-- the word says at first that somebody writes, but no party does
 abbrev pub opens_written : {V : Type 0} → V → RwMachine V
 opens_written {V} v = let t : RwTable V = rw_table v 9 in machine_of (record t { words = 1 })
 
--- the value given to the lock is not in it, and nobody owns it
+-- the lock does not have the value given to it; `has_no_owner`: nobody owns the lock
 abbrev pub forgets_its_value : {V : Type 0} → V → RwMachine V
 forgets_its_value {V} v = let t : RwTable V = rw_table v 9 in machine_of (record t { value = None })
 
@@ -279,7 +279,7 @@ upgrades_by_looks {V} v =
     let again : RwAct V = weak_exchange (weight asking) upgrade_asked (λ p. gets p to_upgrade_asked) (granted hold.Write) (Continue (Exchange 0)) in
     upgrade_by v (λ l act. elim l [ Asking ↦ again | Exchange n ↦ load (λ w. Continue Asking) | _ ↦ act ])
 
--- a weak failure, and a step while nobody reads
+-- an `upgrade` that fails spuriously, and then takes a step while nobody else reads
 abbrev pub upgrade_after_a_refusal : {V : Type 0} → Entries V
 upgrade_after_a_refusal = (0, Begin TryUpgradeableRead) ∷ (0, Step) ∷ (0, Step) ∷ (0, Begin Upgrade) ∷ (0, Step) ∷ (0, Weak) ∷ (0, Step) ∷ []
 

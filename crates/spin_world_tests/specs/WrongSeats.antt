@@ -1,5 +1,5 @@
--- Wrong locks of seats, each wrong in one part of its table, and schedules on which the laws refuse them.
--- If a step is wrong, so is the plain step that the table names for it.
+-- Wrong locks of seats, each wrong in one part of its table, and schedules on which the laws refuse these locks. If a
+-- step is wrong, the plain step that the table names for it is wrong in the same way.
 use Rattle.std.specs.Prelude.{ℕ, zero, suc, Bool, true, false, Option, Some, None, List, [], ◌∷◌, ◌++◌, nat_lt, ◌-◌}
 use Rattle.spin_step.specs.Plain.{reading, to_read, gets, releases}
 use Rattle.spin_seats.specs.Seats.{entered}
@@ -34,7 +34,7 @@ with_steps n steps = let t : SeatsTable = seats_table n in machine_of (record t 
 abbrev takes_a_seat : ℕ → Entries
 takes_a_seat p = (p, Begin call.TryEnter) ∷ (p, Step) ∷ (p, Step) ∷ []
 
--- it admits one more than it has seats
+-- the lock admits one party more than it has seats
 abbrev pub seats_one_too_many : SeatsMachine
 seats_one_too_many = with_steps 1 (λ c l h act. elim c [ call.TryEnter ↦ comes_by 2 (Answers Refused h) l | _ ↦ act ])
 
@@ -88,7 +88,7 @@ enters_by_chance = let m : SeatsMachine = seats_machine 2 in record m { refuse =
 abbrev pub enter_by_chance : Entries
 enter_by_chance = (0, Begin call.TryEnter) ∷ (0, Weak) ∷ []
 
--- nobody may leave
+-- `leave` can never begin
 abbrev pub nobody_leaves : SeatsMachine
 nobody_leaves = let m : SeatsMachine = seats_machine 2 in record m { begin = λ c h. elim c [ call.Leave ↦ None | other ↦ m.begin other h ] }
 
@@ -132,6 +132,6 @@ looks_on =
 abbrev pub enter_in_vain : Entries
 enter_in_vain = (0, Begin call.Enter) ∷ (0, Step) ∷ (0, Step) ∷ (0, Step) ∷ (0, Step) ∷ []
 
--- it owes no leave to a party that sits
+-- its kind of lock has no `leave` for a party with a seat
 abbrev pub keeps_all : SeatsMachine
 keeps_all = let t : SeatsTable = seats_table 2 in machine_of (record t { asks = λ c h. elim c [ call.Leave ↦ gives_back (λ hold. false) h | other ↦ asks_of other h ] })

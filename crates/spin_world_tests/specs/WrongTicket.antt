@@ -1,4 +1,4 @@
--- Wrong ticket locks, each wrong in one part of its machine, and schedules on which the laws refuse them.
+-- Wrong ticket locks, each wrong in one part of its machine, and schedules on which the laws refuse these locks.
 use Rattle.std.specs.Prelude.{ℕ, Bool, not, ◌==◌, Option, Some, None, List, [], ◌∷◌, ◌+◌, ◌-◌, nat_lt}
 use Rattle.spin_model.specs.declared.place.Hold.{Hold}
 use Rattle.spin_model.specs.declared.step.Next.{Next}
@@ -40,8 +40,8 @@ looks_backwards v = with_steps v 0 (λ w c l h step. elim l [
   | _ ↦ step
 ])
 
--- between its two loads a second party queues and the first one releases, so the lock is held or queued for at every
--- moment
+-- between the two loads a second party queues and the first one releases, so at every moment some party holds the lock
+-- or queues
 abbrev pub look_beside_a_queue : {V : Type 0} → Entries V
 look_beside_a_queue =
     (0, Begin TryLock) ∷ (0, Step) ∷ (0, Step) ∷ (0, Step) ∷ (1, Begin IsLocked) ∷ (1, Step)
@@ -64,11 +64,11 @@ enters_so {V} v next made =
 abbrev pub never_enters : {V : Type 0} → V → TicketMachine V
 never_enters v = enters_so v (λ t. Continue (Await t)) (λ p. None)
 
--- whoever looks first enters
+-- the party that looks first enters
 abbrev pub enters_by_look : {V : Type 0} → V → TicketMachine V
 enters_by_look v = enters_so v granted (λ p. Some (gets p to_enter))
 
--- two parties queue behind a holder; it releases, and the later one looks first
+-- two parties queue behind a holder; the holder releases, and then the party with the later ticket looks first
 abbrev pub two_queue : {V : Type 0} → Entries V
 two_queue =
     (0, Begin TryLock) ∷ (0, Step) ∷ (0, Step) ∷ (0, Step) ∷ (1, Begin Lock) ∷ (1, Step) ∷ (1, Step)

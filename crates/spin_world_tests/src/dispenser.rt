@@ -14,9 +14,10 @@ use spin_world_core::{Act, Hold, Next, Object};
 /// A call of a [`Dispenser`].
 #[derive(Clone, Copy)]
 pub enum DispenserCall {
-    /// Draws the next number. It is sold out only if every number was drawn already at some moment of the call.
+    /// Draws the next number. The answer is `SoldOut` only if every number was drawn already at some moment of the
+    /// call.
     Draw,
-    /// Draws this number, if it is the next one: a try that no other object has.
+    /// Draws this number, if it is the next one. No other object has such a try.
     DrawThis(u64),
     /// Counts the numbers that have been drawn.
     Count,
@@ -27,7 +28,7 @@ pub enum DispenserCall {
 pub enum DispenserPoint {
     /// The first step of any call, and of each further attempt.
     First,
-    /// The exchange of this number, which the call has found, for the next one.
+    /// The exchange of this number, which the call has found, for the number after it.
     Exchange(u64),
 }
 
@@ -37,12 +38,12 @@ pub enum DispenserAnswer {
     /// The party has drawn this number.
     Drawn(u64),
     SoldOut,
-    /// The number asked for is not the next one, or is past the last one.
+    /// The number asked for is not the next one, or is past the last number.
     NotNext,
     Count(u64),
 }
 
-/// The numbers from 0 up to a cap. Parties draw the next one, and the word is that number.
+/// The numbers from 0 up to a cap. Parties draw the next number, and the word is this next number.
 #[derive(Drop)]
 pub struct Dispenser {
     cap: u64,

@@ -1,4 +1,4 @@
-//! Wrong objects, each with a law that it breaks. Begin with [`flag`].
+//! Wrong objects, each with a law that the object breaks. Begin with [`flag`].
 pub mod barrier;
 pub mod dispenser;
 pub mod fair;

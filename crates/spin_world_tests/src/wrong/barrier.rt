@@ -1,5 +1,6 @@
-//! Wrong barriers, each with a law that it breaks, most on a named schedule. They show what the laws keep out. Begin
-//! with [`the_first_of_a_group_follows`].
+//! Each function here states that a wrong barrier breaks a law, in most cases on a named schedule. So they show what
+//! the
+//! laws keep out. Begin with [`the_first_of_a_group_follows`].
 ghost use Rattle.spin_model.specs.Operations.{Stepwise};
 ghost use Rattle.spin_world_core.specs.Runs.{KeepsAll, MomentsAll, CountsAll};
 ghost use Rattle.spin_world.specs.Groups.{InGroups, FollowersLeave};
@@ -31,7 +32,7 @@ pub fn a_leader_is_told_as_it_arrives()
     ensures { InGroups told_late 1 1 one_call → ⊥ }
 {}
 
-/// A follower that waits until nobody gathers. If others keep arriving it never leaves.
+/// A follower that leaves only while nobody has arrived for the next group. If others keep arriving, it never leaves.
 pub fn a_follower_leaves_beside_newcomers()
     ensures { FollowersLeave leaves_in_quiet 3 one_group_and_one → ⊥ }
 {}
@@ -61,7 +62,7 @@ pub fn a_group_has_the_size_asked_for()
     ensures { IsBarrierOf 2 gathers_three → ⊥ }
 {}
 
-/// A follower that leaves only while the next group gathers. If it steps too late it waits for ever.
+/// A follower that leaves only while the next group gathers. If this follower steps too late, it waits for ever.
 pub fn a_follower_leaves_after_later_groups()
     ensures { FollowersLeave leaves_in_the_next 4 two_groups → ⊥ }
 {}

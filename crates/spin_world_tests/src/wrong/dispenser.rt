@@ -1,4 +1,4 @@
-//! Wrong dispensers, each with a law that it breaks.
+//! Each function here states that a wrong dispenser breaks a law.
 ghost use Rattle.std.specs.Prelude.{◌≡◌};
 ghost use Rattle.spin_world_core.specs.Runs.{KeepsAll, MomentsAll};
 ghost use Rattle.spin_world_tests.specs.Dispenser.{IsDispenser, DrawsInOrder};

@@ -1,5 +1,5 @@
-//! Wrong fair locks, each with a law that it breaks, most on a named schedule. They show what the laws keep out. Begin
-//! with [`a_newcomer_yields_to_starvers`].
+//! Each function here states that a wrong fair lock breaks a law, in most cases on a named schedule. So they show what
+//! the laws keep out. Begin with [`a_newcomer_yields_to_starvers`].
 ghost use Rattle.std.specs.Prelude.{◌≡◌, []};
 ghost use Rattle.spin_model.specs.Operations.{Stepwise};
 ghost use Rattle.spin_world_core.specs.Runs.{KeepsAll, MomentsAll, CountsAll};
@@ -8,23 +8,23 @@ ghost use Rattle.spin_world.specs.Fairness.{IsGrantedNext, GoesForAClearFlag};
 ghost use Rattle.spin_world.specs.Fair.{IsFairLock};
 ghost use Rattle.spin_world_tests.specs.WrongFair.{spins_by_setting, two_steps_of_a_starver, waits_for_starvers, lock_beside_a_dropped_starver, refuses_late, starver_beside_a_holder, tries_greedily, try_beside_a_starver, stays_a_starver, try_of_a_starver, starves_without_cap, two_starve, never_registers, lock_beside_a_holder, returns_to_its_exchange, lock_as_it_is_let_go, registers_at_once, hasty_lock, drop_frees, drop_beside_a_holder, tells_the_other_reason, try_beside_a_holder, waits_for_ever, four_looks_of_a_starver, waits_for_quiet, let_go_beside_a_starver, never_looks, loads_uncounted, counts_each_second_look, keeps_the_flag, lock_beside_a_starver, leaves_by_exchange, lock_of_a_starver, sets_by_chance, starver_in_vain, starves_again, tries_alone, opens_with_a_starver, counts_anew, lock_past_a_clear_flag};
 
-/// A `try_lock` that sets the flag whenever it is clear. While a party starves, that step is not open.
+/// A `try_lock` that sets the flag whenever the flag is clear. While a party starves, this plain step is not open.
 pub fn a_newcomer_yields_to_starvers<V: Copy>()
     ensures { (value : V) → KeepsAll (tries_greedily value) 2 try_beside_a_starver → ⊥ }
 {}
 
-/// A `starver_try_lock` that leaves its party a starver. When it succeeds it has made too few plain steps.
+/// A `starver_try_lock` that leaves its party a starver. A call that succeeds so has made too few plain steps.
 pub fn a_granted_starver_leaves_the_starvers<V: Copy>()
     ensures { (value : V) → KeepsAll (stays_a_starver value) 1 try_of_a_starver → ⊥ }
 {}
 
-/// A `starve` that ignores the cap. Past the cap the step is not open.
+/// A `starve` that ignores the cap. Once the cap is reached, its plain step is not open.
 pub fn starvers_stay_within_the_cap<V: Copy>()
     ensures { (value : V) → KeepsAll (starves_without_cap value) 2 two_starve → ⊥ }
 {}
 
-/// A `lock` that never registers. Two steps after a look past its patience it has to be a starver, or to have found the
-/// cap.
+/// A `lock` that never registers. Two steps after a look past its patience, it has to be a starver or to have found the
+/// cap reached.
 pub fn a_lock_in_vain_registers<V: Copy>()
     ensures { (value : V) → CountsAll (never_registers value) 2 lock_beside_a_holder → ⊥ }
 {}
@@ -39,7 +39,7 @@ pub fn a_lock_looks_before_it_registers<V: Copy>()
     ensures { (value : V) → CountsAll (registers_at_once value) 2 hasty_lock → ⊥ }
 {}
 
-/// A `starver_drop` that clears the flag. Then the word is not the encoding.
+/// A `starver_drop` that clears the flag. Then the word is not that of the plain lock.
 pub fn a_dropped_starver_leaves_the_flag<V: Copy>()
     ensures { (value : V) → KeepsAll (drop_frees value) 2 drop_beside_a_holder → ⊥ }
 {}
@@ -49,7 +49,7 @@ pub fn a_refusal_tells_its_reason<V: Copy>()
     ensures { (value : V) → MomentsAll (tells_the_other_reason value) 2 try_beside_a_holder → ⊥ }
 {}
 
-/// A `starver_lock` that never tries again. If nobody disturbs it, it has to be answered by its fourth step.
+/// A `starver_lock` that never tries again. If nobody disturbs this call, it has to be answered by its fourth step.
 pub fn a_starver_tries_again<V: Copy>()
     ensures { (value : V) → CountsAll (waits_for_ever value) 2 four_looks_of_a_starver → ⊥ }
 {}
@@ -64,8 +64,9 @@ pub fn a_lock_waits_by_looks<V: Copy>()
     ensures { (value : V) → CountsAll (loads_uncounted value) 2 lock_beside_a_holder → ⊥ }
 {}
 
-/// A `lock` that counts only each second look, and so registers too late. While it finds the lock held, each step has
-/// to be a look that counts.
+/// A `lock` that counts only each second look, and so registers too late. While the call finds the lock held, each of
+/// its
+/// steps has to be a look that counts.
 pub fn a_lock_counts_each_look<V: Copy>()
     ensures { (value : V) → CountsAll (counts_each_second_look value) 2 lock_beside_a_holder → ⊥ }
 {}
@@ -75,8 +76,9 @@ pub fn a_starver_that_holds_is_answered<V: Copy>()
     ensures { (value : V) → CountsAll (keeps_the_flag value) 2 lock_beside_a_starver → ⊥ }
 {}
 
-/// A `starver_lock` that has set the flag and stops starving by an exchange, again and again while others register and
-/// leave. Its next step has to grant the lock.
+/// A `starver_lock` that, once it has set the flag, stops starving by an exchange. It repeats this exchange while
+/// others
+/// register and leave, though its next step has to grant the lock.
 pub fn a_starver_leaves_in_one_step<V: Copy>()
     ensures { (value : V) → IsGrantedNext (leaves_by_exchange value) 1 lock_of_a_starver → ⊥ }
 {}
@@ -91,7 +93,7 @@ pub fn a_starver_sets_the_flag_by_a_strong_exchange<V: Copy>()
     ensures { (value : V) → KeepsAll (sets_by_chance value) 1 starver_in_vain → ⊥ }
 {}
 
-/// A `starve` that can begin though its party starves, and registers it twice.
+/// A `starve` that can begin though its party starves, and so registers this party twice.
 pub fn a_starver_may_not_starve_again<V: Copy>()
     ensures { (value : V) → Stepwise (starves_again value) → ⊥ }
 {}
@@ -127,8 +129,8 @@ pub fn a_starver_looks_until_the_flag_is_clear<V: Copy>()
     ensures { (value : V) → CountsAll (spins_by_setting value) 2 two_steps_of_a_starver → ⊥ }
 {}
 
-/// A `lock` that starts to count its looks anew when it has found the flag clear. It has to register two steps after a
-/// look past its patience, whatever it found in between.
+/// A `lock` that starts to count its looks anew when it has found the flag clear. A `lock` has to register two steps
+/// after a look past its patience, whatever it found before.
 pub fn a_count_of_looks_survives_a_clear_flag<V: Copy>()
     ensures { (value : V) → CountsAll (counts_anew value) 2 lock_past_a_clear_flag → ⊥ }
 {}

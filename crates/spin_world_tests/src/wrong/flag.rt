@@ -1,13 +1,14 @@
-//! Wrong flags, each with a law that it breaks, most on a named schedule. They show what the laws keep out. Begin with
-//! [`a_lock_tries_again`].
+//! Each function here states that a wrong flag breaks a law, in most cases on a named schedule. So they show what the
+//! laws keep out. Begin with [`a_lock_tries_again`].
 ghost use Rattle.std.specs.Prelude.{◌≡◌, []};
 ghost use Rattle.spin_world_core.specs.Runs.{MomentsAll, CountsAll};
 ghost use Rattle.spin_model.specs.Operations.{Stepwise};
 ghost use Rattle.spin_world_core.specs.Runs.{KeepsAll};
 ghost use Rattle.spin_world_tests.specs.WrongFlag.{never_looks, lock_beside_a_holder, refuses_at_its_look, looks_first, lock_alone, looks_for_ever, two_looks, tries_by_chance, one_try, looks_by_chance, look_beside_a_holder, never_releases, locks_to_read, opens_set, grants_to_read, whole_try};
 
-/// A flag whose `lock` never tries again after its first failure. If nobody disturbs it, it has to be answered by its
-/// second step.
+/// A flag whose `lock` never tries again after its first failure. If nobody disturbs this call, it has to be answered
+/// by
+/// its second step.
 pub fn a_lock_tries_again<V: Copy>()
     ensures { (value : V) → CountsAll (looks_for_ever value) 2 two_looks → ⊥ }
 {}
@@ -22,7 +23,7 @@ pub fn a_look_has_a_cause<V: Copy>()
     ensures { (value : V) → MomentsAll (looks_by_chance value) 2 look_beside_a_holder → ⊥ }
 {}
 
-/// A flag whose `release` can never begin. A call has to begin whenever its party holds what it is for.
+/// A flag whose `release` can never begin. A call has to begin whenever its party holds what the call needs.
 pub fn a_holder_may_release<V: Copy>()
     ensures { (value : V) → Stepwise (never_releases value) → ⊥ }
 {}
@@ -42,8 +43,8 @@ pub fn a_lock_begins_by_its_exchange<V: Copy>()
     ensures { (value : V) → CountsAll (looks_first value) 1 lock_alone → ⊥ }
 {}
 
-/// A `lock` that may fail spuriously at its look. Only an exchange may: it makes a plain step when it finds the
-/// expected number, and a look never makes one.
+/// A `lock` that may fail spuriously at its look. Only an exchange may fail so: it makes a plain step when it finds the
+/// expected number, and a look never makes a plain step.
 pub fn a_look_refuses_by_no_chance<V: Copy>()
     ensures { (value : V) → Stepwise (refuses_at_its_look value) → ⊥ }
 {}

@@ -1,5 +1,5 @@
-//! Wrong cells, each with a law that it breaks, most on a named schedule. They show what the laws keep out. Begin with
-//! [`a_second_closure_does_not_run`].
+//! Each function here states that a wrong cell breaks a law, in most cases on a named schedule. So they show what the
+//! laws keep out. Begin with [`a_second_closure_does_not_run`].
 ghost use Rattle.std.specs.Prelude.{◌≡◌, Some, None, []};
 ghost use Rattle.spin_model.specs.Operations.{Stepwise};
 ghost use Rattle.spin_world_core.specs.Runs.{KeepsAll, MomentsAll, CountsAll};
@@ -14,18 +14,20 @@ pub fn a_second_closure_does_not_run<V: Copy>()
     ensures { (u v : V) → (u ≡ v → ⊥) → KeepsAll (replaces V) 1 (two_closures u v) → ⊥ }
 {}
 
-/// A closure that fails and leaves the word at running. The answer says that it has failed, but it has not.
+/// A closure that fails and leaves the word at running. The answer says that the closure has failed, but its call has
+/// not
+/// made that plain step.
 pub fn a_failure_lets_go<V: Copy>()
     ensures { KeepsAll (sticks V) 1 one_failure → ⊥ }
 {}
 
-/// A closure that fails and leaves the word at running, in a machine that calls this step its failure. Then the word is
-/// not the encoding.
+/// A closure that fails and leaves the word at running, in a machine that names the failure as this step's plain step.
+/// Then the word is not that of the plain lock.
 pub fn a_failure_clears_the_word<V: Copy>()
     ensures { KeepsAll (sticks_silently V) 1 one_failure → ⊥ }
 {}
 
-/// A `get` that answers a value while a closure runs. At no moment of the call is there one.
+/// A `get` that answers a value while a closure runs. At no moment of the call is there a value.
 pub fn a_get_finds_a_value<V: Copy>()
     ensures { (v : V) → MomentsAll (gets_early v) 2 (get_beside_a_closure v) → ⊥ }
 {}
@@ -35,7 +37,7 @@ pub fn a_get_looks_at_the_word<V: Copy>()
     ensures { (v : V) → LooksWhereComplete (peeks V) → ⊥ }
 {}
 
-/// A `poll` that answers that there is no value while a closure runs.
+/// A `poll` that answers while a closure runs, and says that there is no value.
 pub fn a_poll_waits_for_the_closure<V: Copy>()
     ensures { (v : V) → MomentsAll (polls_early V) 2 (poll_beside_a_closure v) → ⊥ }
 {}
@@ -45,7 +47,7 @@ pub fn an_answer_is_the_value_placed<V: Copy>()
     ensures { (u v : V) → (u ≡ v → ⊥) → ValuesAll (tells_another u v) 1 (one_closure u) → ⊥ }
 {}
 
-/// A closure for which another value is stored and answered.
+/// A closure in place of whose value another one is stored and answered.
 pub fn a_value_is_the_closures_own<V: Copy>()
     ensures { (u v : V) → (u ≡ v → ⊥) → ValuesAll (places_another v) 1 (one_closure u) → ⊥ }
 {}
@@ -90,8 +92,8 @@ pub fn a_cell_with_a_value_opens_complete<V: Copy>()
     ensures { (v : V) → KeepsAll (opens_at_nothing v) 1 [] → ⊥ }
 {}
 
-/// A call that waits for a closure that fails, and then looks twice before it runs its own. If there is no value, it
-/// has to run by its second step.
+/// A call that waits for a closure that fails, and then looks twice before it runs its own closure. While there is no
+/// value and no closure runs, the call has to run its closure by its second step.
 pub fn a_waiting_call_takes_over<V: Copy>()
     ensures { (v : V) → MayRunAgain (hesitates V) 2 (a_failure_beside_a_call v) → ⊥ }
 {}

@@ -1,5 +1,5 @@
-//! Wrong read-write locks, each with a law that it breaks, most on a named schedule. They show what the laws keep out.
-//! Begin with [`an_upgrade_is_refused_beside_readers`].
+//! Each function here states that a wrong read-write lock breaks a law, in most cases on a named schedule. So they show
+//! what the laws keep out. Begin with [`an_upgrade_is_refused_beside_readers`].
 ghost use Rattle.std.specs.Prelude.{◌≡◌, []};
 ghost use Rattle.spin_model.specs.Operations.{Stepwise};
 ghost use Rattle.spin_world_core.specs.Runs.{KeepsAll, MomentsAll, CountsAll};
@@ -19,14 +19,15 @@ pub fn an_upgrade_asks_once<V: Copy>()
     ensures twice { (value : V) → KeepsAll (asks_twice value) 1 two_steps_of_an_upgrade → ⊥ }
 {}
 
-/// An `upgrade` that tries again and again without asking. When it succeeds it has made other plain steps than an
-/// upgrade's. While another party reads, it has not asked by its first step.
+/// An `upgrade` that tries again and again without asking. Alone it succeeds, but by other plain steps than an upgrade
+/// makes. Beside a reader it has not asked by its first step.
 pub fn an_upgrade_asks<V: Copy>()
     ensures alone { (value : V) → KeepsAll (upgrades_plainly value) 1 upgrade_alone → ⊥ }
     ensures beside { (value : V) → CountsAll (upgrades_plainly value) 2 ask_beside_a_reader → ⊥ }
 {}
 
-/// A `downgrade` of the writer that stores the word of a reader that asks. It counts a holder that does not exist.
+/// A `downgrade` of the writer that stores the word of a reader that asks. This word counts a holder that does not
+/// exist.
 pub fn a_downgrade_asks_nothing<V: Copy>()
     ensures { (value : V) → KeepsAll (downgrades_asking value) 1 downgrade_alone → ⊥ }
 {}
@@ -60,22 +61,23 @@ pub fn an_upgrade_never_lets_go<V: Copy>()
     ensures { (value : V) → KeepsAll (upgrades_anew value) 1 upgrade_alone → ⊥ }
 {}
 
-/// A `reader_count` that never counts the upgradable reader, or not one that asks. At no moment of the call do so many
-/// read.
+/// A `reader_count` that does not count the upgradable reader, and one that does not count a reader that asks to
+/// upgrade.
+/// At no moment of the call do as many parties read as it answers.
 pub fn a_count_tells_the_upgradable_reader<V: Copy>()
     ensures upgradable { (value : V) → MomentsAll (counts_without_upgradable value) 2 count_beside_an_upgradable → ⊥ }
     ensures asking { (value : V) → MomentsAll (counts_without_asking value) 2 count_beside_an_asking_reader → ⊥ }
 {}
 
-/// A `read` that looks for ever, and one that looks twice. If nobody disturbs it, it has to be answered by its second
-/// step. And a `write` that looks, though its first step has to be the exchange.
+/// A `read` that looks for ever, and one that looks twice. If nobody disturbs a `read`, it has to be answered by its
+/// second step. Also a `write` that looks, though its first step has to be the exchange.
 pub fn a_call_that_waits_is_answered<V: Copy>()
     ensures never { (value : V) → CountsAll (looks_for_ever value) 1 two_looks → ⊥ }
     ensures late { (value : V) → CountsAll (looks_twice value) 1 two_looks → ⊥ }
     ensures write { (value : V) → CountsAll (looks_first value) 1 one_look → ⊥ }
 {}
 
-/// A `try_read` that looks for ever. It has a limit, whatever other parties do.
+/// A `try_read` that looks for ever. This call has a limit, whatever other parties do.
 pub fn a_try_read_is_answered<V: Copy>()
     ensures { (value : V) → CountsAll (tries_for_ever value) 1 read_alone → ⊥ }
 {}
@@ -106,17 +108,17 @@ pub fn a_strong_try_fails_by_no_chance<V: Copy>()
     ensures { (value : V) → KeepsAll (upgrades_by_chance value) 1 upgrade_by_chance → ⊥ }
 {}
 
-/// A lock that can never be released. A call has to begin whenever its party holds what it is for.
+/// A lock that can never be released. A call has to begin whenever its party holds what the call needs.
 pub fn a_holder_may_release<V: Copy>()
     ensures { (value : V) → Stepwise (never_releases value) → ⊥ }
 {}
 
-/// An `upgrade` of any reader. A call may begin only if its party holds what it is for.
+/// An `upgrade` of any reader. A call may begin only if its party holds what the call needs.
 pub fn only_the_upgradable_reader_upgrades<V: Copy>()
     ensures { (value : V) → Stepwise (upgrades_any_reader value) → ⊥ }
 {}
 
-/// A `write` that acquires shared access and asks for that; and one that asks what no party is granted in such a lock.
+/// A `write` that asks for shared access and acquires it, and one that asks what such a lock grants to no party.
 pub fn a_write_asks_to_write<V: Copy>()
     ensures other { (value : V) → IsRw value 9 (writes_by_reading value) → ⊥ }
     ensures unknown { (value : V) → Stepwise (never_writes value) → ⊥ }
@@ -139,13 +141,14 @@ pub fn a_try_is_refused_where_it_finds_it_closed<V: Copy>()
     ensures { (value : V) → CountsAll (refuses_late value) 2 try_beside_a_writer → ⊥ }
 {}
 
-/// An `upgrade` that looks between its exchanges. Once it has asked, each of its steps has to succeed if the upgrade is
-/// open.
+/// An `upgrade` that looks between its exchanges. Once a party has asked to upgrade, each step of its call has to
+/// succeed
+/// if the upgrade is open.
 pub fn an_upgrade_makes_its_exchange_again<V: Copy>()
     ensures { (value : V) → CountsAll (upgrades_by_looks value) 1 upgrade_after_a_refusal → ⊥ }
 {}
 
-/// A `try_upgradeable_read` that admits an upgradable reader beyond the cap. The cap counts it too.
+/// A `try_upgradeable_read` that admits an upgradable reader beyond the cap. The cap counts the upgradable reader too.
 pub fn the_cap_counts_the_upgradable_reader<V: Copy>()
     ensures { (value : V) → KeepsAll (comes_beyond_the_cap value) 2 upgradable_beside_a_reader → ⊥ }
 {}

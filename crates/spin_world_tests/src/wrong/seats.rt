@@ -1,5 +1,5 @@
-//! Wrong locks of seats, each with a law that it breaks, most on a named schedule. They show what the laws keep out.
-//! Begin with [`nobody_sits_beyond_the_seats`].
+//! Each function here states that a wrong lock of seats breaks a law, in most cases on a named schedule. So they show
+//! what the laws keep out. Begin with [`nobody_sits_beyond_the_seats`].
 ghost use Rattle.std.specs.Prelude.{◌≡◌, []};
 ghost use Rattle.spin_model.specs.Operations.{Stepwise};
 ghost use Rattle.spin_world_core.specs.Runs.{KeepsAll, CountsAll, MomentsAll};
@@ -12,17 +12,17 @@ pub fn nobody_sits_beyond_the_seats()
     ensures { KeepsAll seats_one_too_many 2 two_on_one_seat → ⊥ }
 {}
 
-/// A leave that frees two seats. Then the word is not the number of parties that sit.
+/// A leave that frees two seats. Then the word is not the number of parties that have a seat.
 pub fn a_leave_frees_one_seat()
     ensures { KeepsAll leaves_for_two 2 one_of_two_leaves → ⊥ }
 {}
 
-/// A try that looks for ever. It has a limit, whatever other parties do.
+/// A try that looks for ever. This call has a limit, whatever other parties do.
 pub fn a_try_is_answered()
     ensures { CountsAll tries_for_ever 1 two_looks → ⊥ }
 {}
 
-/// An `enter` that looks twice. If nobody disturbs it, it has to be answered by its second step.
+/// An `enter` that looks twice. If nobody disturbs this call, it has to be answered by its second step.
 pub fn an_enter_is_answered()
     ensures { CountsAll looks_twice 1 enter_alone → ⊥ }
 {}
@@ -42,12 +42,12 @@ pub fn a_try_fails_by_no_chance()
     ensures { KeepsAll enters_by_chance 1 enter_by_chance → ⊥ }
 {}
 
-/// A lock that nobody can leave. A call has to begin whenever its party holds what it is for.
+/// A lock that nobody can leave. A call has to begin whenever its party holds what the call needs.
 pub fn a_seated_party_may_leave()
     ensures { Stepwise nobody_leaves → ⊥ }
 {}
 
-/// An `enter` that makes the steps of a `try_enter`, and asks what that asks.
+/// An `enter` that makes the steps of a `try_enter` and promises what a `try_enter` promises.
 pub fn an_enter_waits()
     ensures { IsSeats 2 enters_or_not → ⊥ }
 {}
@@ -67,7 +67,7 @@ pub fn nobody_sits_where_there_are_no_seats()
     ensures { KeepsAll seats_one_on_none 1 one_sits → ⊥ }
 {}
 
-/// A `count` that tells how many seats are free. At no moment of the call do so many parties sit.
+/// A `count` that tells how many seats are free. At no moment of the call do as many parties have a seat.
 pub fn a_count_tells_the_seated_parties()
     ensures { MomentsAll counts_free 1 count_alone → ⊥ }
 {}

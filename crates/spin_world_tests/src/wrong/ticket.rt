@@ -1,5 +1,6 @@
-//! Wrong ticket locks, each with a law that it breaks, most on a named schedule. They show what the laws keep out.
-//! Begin with [`a_look_loads_the_served_number_first`].
+//! Each function here states that a wrong ticket lock breaks a law, in most cases on a named schedule. So they show
+//! what
+//! the laws keep out. Begin with [`a_look_loads_the_served_number_first`].
 ghost use Rattle.std.specs.Prelude.{◌≡◌, []};
 ghost use Rattle.spin_model.specs.Operations.{Stepwise};
 ghost use Rattle.spin_world_core.specs.Runs.{KeepsAll, MomentsAll, CountsAll};
@@ -17,17 +18,18 @@ pub fn a_look_loads_the_served_number_first<V: Copy>()
     ensures { (value : V) → MomentsAll (looks_backwards value) 3 look_beside_a_queue → ⊥ }
 {}
 
-/// An `is_locked` that loads both numbers in one step. A step is on one word.
+/// An `is_locked` that loads both numbers in one step. A step may use only one word.
 pub fn a_look_loads_one_number_at_a_time<V: Copy>()
     ensures { (value : V) → Stepwise (looks_at_both value) → ⊥ }
 {}
 
-/// An `is_locked` with three loads. It has to answer by its second.
+/// An `is_locked` with three loads. This call has to answer by its second load.
 pub fn a_look_takes_two_loads<V: Copy>()
     ensures { (value : V) → CountsAll (looks_in_vain value) 1 three_loads → ⊥ }
 {}
 
-/// A `lock` that takes its ticket only if there is none. It has to have its ticket by its second step.
+/// A `lock` that takes its ticket only if nobody has one. Beside a holder, it too has to have its ticket by its second
+/// step.
 pub fn a_lock_queues_behind_others<V: Copy>()
     ensures { (value : V) → CountsAll (queues_behind_nobody value) 2 lock_beside_a_holder → ⊥ }
 {}
@@ -37,7 +39,7 @@ pub fn a_lock_enters<V: Copy>()
     ensures { (value : V) → CountsAll (never_enters value) 1 lock_alone → ⊥ }
 {}
 
-/// A `lock` that enters by its first look, though another party has an earlier ticket. That step is not open.
+/// A `lock` that enters by its first look, though another party has an earlier ticket. This plain step is not open.
 pub fn tickets_enter_in_the_order_they_are_taken<V: Copy>()
     ensures { (value : V) → KeepsAll (enters_by_look value) 3 two_queue → ⊥ }
 {}
@@ -62,7 +64,7 @@ pub fn a_strong_try_has_a_cause<V: Copy>()
     ensures { (value : V) → MomentsAll (takes_by_chance value) 1 try_in_vain → ⊥ }
 {}
 
-/// A `try_lock` that is refused when the last ticket is next. That ticket is as good as the others.
+/// A `try_lock` that is refused when the last ticket is next, though a party may take this ticket too.
 pub fn the_last_ticket_is_taken<V: Copy>()
     ensures { (value : V) → MomentsAll (leaves_the_last_ticket value) 1 try_alone → ⊥ }
 {}
@@ -72,7 +74,9 @@ pub fn a_try_lock_asks_to_enter<V: Copy>()
     ensures { (value : V) → IsTicketLock value 0 (tries_by_looking value) → ⊥ }
 {}
 
-/// A `try_lock` that takes the served number, in two steps; and one that loads that number before the next one.
+/// A `try_lock` that takes the served number, in two steps. Also a `try_lock` that loads the served number before the
+/// next
+/// number.
 pub fn a_try_loads_the_next_number_first<V: Copy>()
     ensures hurries { (value : V) → TriesByTwoLoads (tries_by_one_load value) 1 one_load → ⊥ }
     ensures swaps { (value : V) → TriesByTwoLoads (swaps_its_loads value) 2 let_go_between → ⊥ }
