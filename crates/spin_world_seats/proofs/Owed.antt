@@ -1,4 +1,4 @@
--- What the table of the seats must show.
+-- What the table of the seats has to show.
 use Rattle.std.proofs.Common.{◌≡◌, ℕ, ◌-◌, ◌≤◌, true, Option, Some, None, List, [], ◌∷◌, length, nat_lt, refl, ap, arith, length-append}
 use Rattle.spin_step.specs.Plain.{Plain, reading, holder, to_read, gets, releases, apply, may_come, is_holder}
 use Rattle.spin_step.specs.Parties.{Entries, entries}
@@ -23,7 +23,7 @@ use Rattle.spin_world_core.proofs.Operating.{one_place, operates_by}
 use Rattle.spin_world_core.proofs.Usual.{no_queue}
 use Rattle.spin_world_core.proofs.Filled.{plays_of}
 
--- a call that has looked has made one step; at any other point it is as at its beginning
+-- the row of a point: a call that has looked has made one step, and at any other point the row is that of the beginning
 abbrev pub point_of : ℕ → SeatsCall → SeatsPoint → Option Hold → Point
 point_of n TryEnter (Exchange k) None = looked 1
 point_of n Enter (Exchange k) None = looked 1
@@ -52,7 +52,7 @@ module _ (n : ℕ) where
   one_less s p shape found =
       grind (arith, shape, length-without_holder p reading s.holders found, sum-less (one_of reading) p reading s.holders found)
 
-  -- what the step functions mean there
+  -- what the step functions mean for the plain lock in such a state
   module _ (p : ℕ) (s : Plain) (w : ℕ) (shape : Seating n s) (is : seats_word s ≡ w) where
     enter_means : Means (seats_notes n) p s (gets p to_read) (λ k. k) (entered n w)
     enter_means = grind (arith, enter-grants s p n w shape.all_read shape.room is, one_more s p w shape is)
@@ -64,7 +64,7 @@ module _ (n : ℕ) where
   owes : OwesAll (seats_notes n)
   owes p c l h s w span = grind (arith, enter_means p s w, leave_means p s w, sits p s, each_reads s.holders)
 
-  -- Undisturbed, the exchange succeeds on a word with a free seat, at once or after a look
+  -- If nobody disturbs the call, its exchange succeeds on a word with a free seat, at once or after a look.
 
   soon : SoonAll (seats_notes n)
   soon p c l h s w span = grind (arith, open_is s n w)
