@@ -41,8 +41,9 @@ impl Paper {
         str::from_utf8(&self.bytes).expect(rt, "text")
     }
 
-    /// Compares what was written with the beginning of the text that has room. If that is not the whole text, a write
-    /// has failed.
+    /// Compares what was written with the beginning of the text for which there is room. If there is no room for the
+    /// whole
+    /// text, a write has failed.
     pub fn shows(&self, rt: &impl Abort, text: &[u8]) {
         let (fits, rest) = text.split_at(text.len().min(self.room));
         assert_eq!(rt; self.bytes.as_slice(), fits);

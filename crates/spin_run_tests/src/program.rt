@@ -51,7 +51,7 @@ struct Ended {
 }
 
 impl Ended {
-    /// Compares all that a run with these words did. `text` is what it had to read.
+    /// Compares all that a run with these words did. `text` is what the run had to read.
     fn is(
         &self,
         rt: &impl Abort,
@@ -366,7 +366,7 @@ fn keeps_its_status_where_errors_fail(rt: HostRuntime) {
     }
 }
 
-/// A gate at which two workers meet: each sets its flag, a bit, and waits for the other's.
+/// A gate at which two workers meet: each worker sets its own bit, and waits for the other worker's bit.
 #[derive(Drop)]
 struct Meeting {
     raised: AtomicU64,
@@ -402,7 +402,7 @@ fn runs_workers_at_once(rt: HostRuntime) {
     assert_eq!(rt; found, (Ok(200), 3));
 }
 
-/// A gate that counts, in 16 bits each, how often each of three workers passes, and all others together.
+/// A gate that counts in four fields of 16 bits: how often each of three workers passes, and how often all others do.
 #[derive(Drop)]
 struct Turnstile {
     passed: AtomicU64,
@@ -515,7 +515,7 @@ impl<R> Env for Told<'_, R> {
     }
 }
 
-/// Runs the program with those arguments.
+/// Runs the program with these arguments.
 fn ended_over<R: AllocGlobal + Threads + Wait + Sync>(rt: &R, arguments: &[&str]) -> Ended {
     let mut input = Tape::new(b"");
     let mut output = Paper::endless(rt.alloc());

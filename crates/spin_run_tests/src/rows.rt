@@ -12,7 +12,7 @@ use spin_world_tests::dispenser::{Dispenser, DispenserAnswer, DispenserCall};
 use std::alloc::Global;
 use std::process::Abort;
 
-/// The rows of a schedule: the moves, and an event for each.
+/// The rows of a schedule: the moves, and an event for each move.
 #[derive(Drop)]
 struct Rows<'a, C, T, W, A = Answer<T>> {
     moves: &'a [(usize, Move<C, T>)],

@@ -6,7 +6,7 @@ use spin_explore_run::{Failed, Sink, Source, program};
 use std::alloc::Global;
 use std::process::Abort;
 
-/// A text to read. If `fails`, a read fails behind it.
+/// A text to read. If `fails`, a read behind the text fails.
 #[derive(Drop)]
 struct Tape<'a> {
     rest: &'a [u8],

@@ -5,7 +5,7 @@ use spin_world::{BarrierObject, Fair, Flag, Hold, OnceObject, Place, Rw, Ticket}
 
 /// An object that a header names.
 pub trait OfHeader: Spelled {
-    /// Creates one in its opening state. `None`: the header names another object.
+    /// Creates the object in its opening state. Returns `None` if the header names another object.
     fn of_header(header: Header) -> Option<Self>;
 }
 

@@ -40,7 +40,7 @@ fn opens_in<O: OfHeader>(rt: &impl Abort, alloc: Global, opening: Opening, left:
     opens
 }
 
-/// A world whose second schedule was refused: its state, what that schedule tells once there is room, and its last
+/// A world whose second schedule was refused: its state then, what that schedule tells once there is room, and its last
 /// state.
 #[derive(Drop)]
 struct Again {
@@ -49,7 +49,8 @@ struct Again {
     stop: Shown,
 }
 
-/// Plays a second schedule with this many bytes left, and again if it was refused. `None`: the bytes suffice.
+/// Plays a second schedule with this many bytes left, and plays it again if it was refused. Returns `None` if the bytes
+/// suffice.
 fn played_again<O: OfHeader>(
     rt: &impl Abort,
     alloc: Global,
@@ -77,7 +78,8 @@ fn played_again<O: OfHeader>(
     })
 }
 
-/// Returns the state of a world if one of its two runs was refused with this many bytes left. `None`: the bytes
+/// Returns the state of a world if one of its two runs was refused with this many bytes left. Returns `None` if the
+/// bytes
 /// suffice.
 fn cut_short<O: OfHeader>(
     rt: &impl Abort,
@@ -170,7 +172,7 @@ pub fn in_each_room<O: OfHeader>(
     all_refused(rt, shows, refusals);
 }
 
-/// Checks that each was refused with some amount of memory.
+/// Checks that each of these calls was refused with some amount of memory.
 fn all_refused(rt: &impl Abort, shows: &str, refusals: Refusals) {
     let Refusals {
         worlds,

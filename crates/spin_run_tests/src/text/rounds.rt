@@ -51,7 +51,7 @@ impl Round {
         }
     }
 
-    /// Adds a move. Only a call of the party that `counts` reaches the bound, or one of any if none is given.
+    /// Adds a move. Only a call of the party `counts` reaches the bound, or a call of any party if `counts` is `None`.
     fn add<T: Copy>(
         &mut self,
         party: usize,
@@ -77,7 +77,8 @@ impl Round {
         }
     }
 
-    /// Checks that each party has done what it had to, and that the bound is reached if and only if the round is the
+    /// Checks that each party has done what it had to do. Checks that the bound is reached if and only if the round is
+    /// the
     /// last one.
     fn ends(&self, rt: &impl Abort, shows: &str, number: usize, rounds: usize) {
         let is_last = number == rounds.saturating_sub(1);
@@ -118,7 +119,8 @@ pub fn in_rounds<O: OfHeader>(
     }
 }
 
-/// What a schedule shows, its text, the lines of each round, and the party whose call counts, if not that of any does.
+/// What a schedule shows, its text, the lines of each round, and the party whose call counts (`None`: a call of any
+/// party).
 type Rounds = (
     &'static str,
     &'static str,
@@ -161,8 +163,9 @@ const ROUNDS: &[Rounds] = &[
         &["0 step", "0 step", "0 step"],
         Some(0),
     ),
-    // Two tickets are taken in the rounds, so the bound is 4 rounds and 2 more. The other party's ticket costs this one
-    // an exchange. It gets its own in the same round.
+    // Two tickets are taken in the rounds, so the bound is 4 rounds and 2 more. The other party's ticket costs this
+    // party
+    // an exchange. This party gets its own ticket in the same round.
     (
         "a lock of two parties is granted four rounds after the tickets",
         "ticket 5 0 2\n0 begin lock\n1 begin lock",

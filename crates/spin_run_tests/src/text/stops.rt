@@ -36,7 +36,7 @@ pub fn run_of<O: OfHeader>(
     }
 }
 
-/// The results of two runs: what each tells, and where the second stops.
+/// The results of two runs: what each run tells, and where the second run stops.
 #[derive(Drop)]
 pub struct Two {
     pub first: Vec<Told>,
@@ -66,7 +66,7 @@ pub fn runs_of<O: OfHeader>(
     }
 }
 
-/// Returns whether a party is in a call or gone, so that its place does not say what it adds to the words.
+/// Returns whether some party is in a call or gone. The place of such a party does not say what it adds to the words.
 fn is_unsettled(places: &[Place]) -> bool {
     for place in places {
         if matches!(place, Place::InCall | Place::Gone) {
@@ -110,7 +110,8 @@ fn written_by<C: Copy>(
     }
 }
 
-/// Returns whether each look of a schedule found the last written value, and the world has the last one.
+/// Returns whether each look of a schedule found the value last written before it, and the world has the value that was
+/// written last.
 fn keeps_value<C: Copy>(schedule: &[(usize, Move<C, u64>)], run: &Run) -> bool {
     let mut written = run.start.value;
     for ((_, action), event) in schedule.iter().zip(&run.events) {
@@ -122,7 +123,7 @@ fn keeps_value<C: Copy>(schedule: &[(usize, Move<C, u64>)], run: &Run) -> bool {
     written == run.stop.value
 }
 
-/// Checks where a run of the first entries of a schedule stops.
+/// Checks the state in which a run of the first entries of a schedule stops.
 fn is_in_order(rt: &impl Abort, opening: Opening, run: &Run) {
     let Opening { shows, header } = opening;
     let at = run.events.len();
@@ -160,7 +161,7 @@ fn told_from(start: usize, event: Told) -> Told {
     }
 }
 
-/// Compares the events of a run that starts at this place with those of the one run, from there on.
+/// Compares the events of a run that starts at this place with those of the one whole run from this place on.
 fn is_part(rt: &impl Abort, shows: &str, start: usize, part: &[Told], whole: &[Told]) {
     holds(rt, shows, start, part.len() == whole.len());
     for (event, wanted) in part.iter().zip(whole) {
@@ -168,7 +169,7 @@ fn is_part(rt: &impl Abort, shows: &str, start: usize, part: &[Told], whole: &[T
     }
 }
 
-/// Compares what two runs tell, and where they stop, with one run.
+/// Compares what two runs tell, and the state in which they stop, with one run of the whole schedule.
 fn are_one(rt: &impl Abort, shows: &str, at: usize, two: &Two, one: &Run) {
     let (front, back) = one.events.split_at(at.min(one.events.len()));
     is_part(rt, shows, 0, &two.first, front);

@@ -23,8 +23,9 @@ pub struct Opening {
     pub header: Header,
 }
 
-/// Creates a world in that opening. Callers of this, of [`run`], of [`numbers`] and of [`value`] learn nothing of what
-/// these ensure: the tests check the results themselves.
+/// Creates a world in that opening. Callers of this function, of [`run`], of [`numbers`] and of [`value`] learn nothing
+/// of
+/// what these ensure: the tests check the results themselves.
 pub fn world<O: OfHeader, A: Allocator + Copy>(
     rt: &impl Abort,
     alloc: A,
@@ -52,7 +53,7 @@ fn value<O: OfHeader, A: Allocator + Copy>(world: &World<O, A>) -> Option<u64> {
     world.value()
 }
 
-/// Creates a world in that opening. There has to be memory for it.
+/// Creates a world in that opening. There has to be memory for the world.
 pub fn opened<O: OfHeader, A: Allocator + Copy>(
     rt: &impl Abort,
     alloc: A,
@@ -77,7 +78,9 @@ impl Alike for Shown {
     }
 }
 
-/// Returns the state of a world. If it had a place beyond the last party's, the answer would have one place too many.
+/// Returns the state of a world. If the world had a place beyond that of the last party, the answer would have one
+/// place
+/// too many.
 pub fn look_at<O: OfHeader, A: Allocator + Copy>(
     rt: &impl Abort,
     alloc: Global,
@@ -154,11 +157,11 @@ pub fn holds(rt: &impl Abort, shows: &str, at: usize, fact: bool) {
 /// What to try with a schedule.
 #[derive(Clone, Copy)]
 pub enum Trial {
-    /// Every stop of it, and every cut into two runs.
+    /// Every stop of the schedule, and every cut of it into two runs.
     Stops,
-    /// Each of its allocations refused.
+    /// Each allocation of the schedule refused.
     Refused,
-    /// The lines of each round after it, and the party whose call counts, if not that of any does.
+    /// The lines of each round after the schedule, and the party whose call counts (`None`: a call of any party).
     Rounds(&'static [&'static str], Option<usize>),
 }
 

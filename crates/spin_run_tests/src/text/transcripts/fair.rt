@@ -71,7 +71,7 @@ pub const FAIR: &[Worked] = &[
          end: 1 value 3\n\
         ",
     ),
-    // Line 16: it had begun to register before the lock was free.
+    // Line 16: the call had begun to register before the lock was free.
     (
         "a lock looks on at the cap",
         "fair 0 1 0 3\n\
@@ -207,7 +207,7 @@ pub const FAIR: &[Worked] = &[
          end: 0 value 8\n\
         ",
     ),
-    // Line 6: its exchange fails, and is repeated.
+    // Line 6: the exchange fails, and is repeated.
     (
         "two starvers come one after the other",
         "fair 7 2 0 3\n\

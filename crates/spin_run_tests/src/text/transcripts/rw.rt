@@ -258,7 +258,7 @@ pub const RW: &[Worked] = &[
          end: 16 value 1\n\
         ",
     ),
-    // Line 12: to ask is no exchange, so it cannot fail spuriously.
+    // Line 12: a party asks to upgrade by no exchange, so this step cannot fail spuriously.
     (
         "a conversion keeps the value",
         "rw 1 9 2\n\
@@ -304,8 +304,9 @@ pub const RW: &[Worked] = &[
          end: 0 value 2\n\
         ",
     ),
-    // Line 13: its exchange finds an upgradable reader, so it tries again. Line 16: that reader now asks, so the call
-    // looks again.
+    // Line 13: the exchange finds an upgradable reader, so the call tries again. Line 16: that reader now asks to
+    // upgrade,
+    // so the call looks again.
     (
         "calls wait for the writer and for readers",
         "rw 1 9 3\n\
