@@ -1,4 +1,4 @@
-//! What no contract says: a party waits for its group, and one party of each group leads; also which one.
+//! What no contract says: a party waits for its group, one party of each group leads, and which party this is.
 use super::equal::equal;
 use spin_barrier::barrier::Barrier;
 use spin_core::relax::{RelaxStrategy, Spin, Yield};

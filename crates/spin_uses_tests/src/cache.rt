@@ -37,7 +37,7 @@ impl Answers for Squares {
 
 type SquareCache = Cache<Squares, Global, Yield>;
 
-// What a caller knows of an answer, whoever made it. The call counts the squares that it had to make.
+// What a caller knows of an answer, whichever thread made it. The call counts the squares that it had to make itself.
 fn square<W: Wait>(
     rt: &W,
     cache: &SquareCache,
@@ -94,7 +94,7 @@ fn read_in_two<R: Abort + Threads + Wait + Sync>(rt: &R, cache: &SquareCache) {
     equal(rt, second, Some(9));
 }
 
-// If readers waited for the maker of an answer they would wait for ever, since it waits for them.
+// If readers waited for the maker of an answer, they would wait for ever, since this maker waits for the readers.
 #[test]
 fn readers_come_while_an_answer_is_made(rt: HostRuntime) {
     let cache: SquareCache = Cache::new(rt.alloc());
@@ -107,7 +107,7 @@ fn readers_come_while_an_answer_is_made(rt: HostRuntime) {
     equal(&rt, cache.read(&rt).answer(&4).copied(), Some(16));
 }
 
-// The square of 3 exists. Returns whether another thread gets it meanwhile.
+// The square of 3 exists. Returns whether another thread gets this square meanwhile.
 fn is_answered_meanwhile<R: Abort + Threads + Wait + Sync>(rt: &R, cache: &SquareCache) -> bool {
     let done = AtomicU64::new(0);
     let answer = || {
@@ -122,7 +122,7 @@ fn is_answered_meanwhile<R: Abort + Threads + Wait + Sync>(rt: &R, cache: &Squar
             }
             Yield::relax(rt);
         }
-        // The other thread is still waiting for this one.
+        // The other thread is still waiting for this thread.
         equal(rt, done.load(SeqCst), 1);
         false
     };
@@ -266,7 +266,7 @@ fn ask_twice_in_two<H: History + Send + Sync, W: Abort + Threads + Wait + Sync>(
     equal(rt, found, Some(first.0));
 }
 
-// The later thread finds the other's number twice, though it would return another one each time.
+// The later thread finds the other thread's number twice, though its own closure would return another number each time.
 #[test]
 fn an_answer_that_a_thread_saw_stays(rt: HostRuntime) {
     ask_twice_in_two::<Brand, HostRuntime>(&rt, rt.alloc(), BlankLog::new());

@@ -125,7 +125,7 @@ fn threads_trade_and_leave_the_total(rt: HostRuntime) {
     trades_in_two::<Brand, _>(&rt, rt.alloc(), &opening, balances);
 }
 
-/// Makes transfers until no memory is left for one. Returns whether memory sufficed for all.
+/// Makes transfers until no memory is left for another transfer. Returns whether memory sufficed for all of them.
 fn is_refused_whole<'a, O: Opening, R: Abort>(
     rt: &R,
     arena: &'a Bump,
