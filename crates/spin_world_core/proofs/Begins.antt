@@ -9,7 +9,7 @@ use Rattle.spin_world_core.specs.Transcripts.{begins_of, IsLastOf, IsLastBegin, 
 use Rattle.spin_world_core.proofs.Schedules.{last_begin-append}
 
 module _ {W V A : Type 0} where
-  -- what `last_begin` finds: the last event that begins a call, or what was found before
+  -- r is what `last_begin` finds: the place of the last event that begins a call, or what was found before
   abbrev Finds : ℕ → ℕ → Option ℕ → List (Event W V A) → Option ℕ → Type 0
   Finds p k found xs r =
       ((list_any (begins_of p) xs ≡ false) × (r ≡ found)) ⊎ ((place : ℕ) × (r ≡ Some (k + place)) × IsLastOf p xs place)

@@ -1,8 +1,8 @@
--- The result of an event: its move is skipped, or is open and does what it is for. What holds in each of these cases
--- holds of every event.
+-- The cases of an event: its move is skipped, or is open and has the result of its kind. What holds in each of these
+-- cases holds of every event.
 use Rattle.spin_world_core.proofs.Names.{seat_of, ◌≡◌, ℕ, Bool, true, false, Option, Some, None, is_some, refl, ap, Hold, Seat, Idle, Calling, Holding, Leaked, Next, Move, Begin, Step, Weak, Read, Write, Leak, OwnerGet, OwnerSet, StepKind, plain, weak, Machine, Happened, skipped, begun, goes_on, refuses, resting, read_by, written_by, may_read, may_write, is_owners, owner_gets, owner_sets, Seen, Scene, scene, scene_at, scene_of, is_open_move}
 
--- the seat of a party with this hold, which it still holds or has leaked
+-- the seat of a party that holds this, or has leaked it
 abbrev pub seat_with : {C L : Type 0} → Bool → Hold → Seat C L
 seat_with true h = Holding h
 seat_with false h = Leaked h
@@ -11,7 +11,7 @@ module _ {W V C L A : Type 0} (m : Machine W V C L A) (seen : Seen W V C L) (p :
   abbrev pub SitsAt : Option (Seat C L) → Type 0
   SitsAt o = seat_of seen p ≡ o
 
-  -- what has to be shown of an event of this party, case by case
+  -- what has to be shown of an event of the party p, case by case
   module _ (P : Scene W V C L A → Type 0) where
     abbrev pub OfBegin : Type 0
     OfBegin = (c : C) (l : L) (h : Option Hold) → SitsAt (Some (resting h)) → m.begin c h ≡ Some l
@@ -80,6 +80,6 @@ module _ {W V C L A : Type 0} (m : Machine W V C L A) (seen : Seen W V C L) (p :
         tested (OwnerSet v) (Some y) (owner_sets seen.state v) (is_owners m seen.state) there refl refl (each.sets v y there)
     at_seat move o there = each.passes move o plain there refl
 
-    -- then it holds of every event
+    -- if P holds in each case, it holds of every event
     pub of_event : (move : Move C V) → P (scene m seen p move)
     of_event move = at_seat move (seat_of seen p) refl

@@ -1,4 +1,4 @@
--- Every event of every schedule keeps all that is promised, for any machine that plays a table which pays.
+-- Every event of every schedule keeps all that is promised, for any machine that plays a table (`Plays`).
 use Rattle.spin_world_core.proofs.Names.{◌≡◌, ℕ, Option, List, [], ◌∷◌, refl, subst, false, arith, Seat, Idle, Move, Machine, opening_plain, after, at_first, Seen, Scene, scene, is_open_move, StandsFor, MaySkip, Every, Keeps, IsRight, IsInTime, opening, KeepsAll, MomentsAll, CountsAll, CanStep, seen_after, Table, Bool, HasPhase, opening_phase}
 use Rattle.spin_step.proofs.Exclusive.{exclusive-free}
 use Rattle.spin_world_core.proofs.Lists.{get-replicate}
@@ -10,12 +10,12 @@ use Rattle.spin_world_core.proofs.Events.{of_event}
 use Rattle.spin_world_core.proofs.Preserved.{OfParty, Invariant, Preserved, reader_of, writer_of, skip_kept, step_kept, refusal_kept, begun_kept, read_kept, write_kept, leak_kept}
 use Rattle.spin_world_core.proofs.Owners.{none_owns, owner_get_kept, owner_set_kept}
 
--- if closures make the value, there is one at first exactly if the lock opens with one
+-- `HasPhase` holds at first: if closures make the value, the opening phase is complete exactly if there is a value
 phase_first : {V : Type 0} (makes : Bool) (value : Option V) → HasPhase makes (opening_phase makes value) value
 phase_first makes value = grind arith
 
 module _ {W V C L A : Type 0} (m : Machine W V C L A) where
-  -- where a schedule leads
+  -- the state of `seen_after` is the state after the schedule
   pub state-seen_after : (seen : Seen W V C L) (es : List (ℕ × Move C V)) → (seen_after m seen es).state ≡ after m seen.state es
   state-seen_after seen [] = refl
   state-seen_after seen (e ∷ es) = state-seen_after (scene m seen e.0 e.1).after es
@@ -24,12 +24,12 @@ module _ {W V C L A B : Type 0} {t : Table W V C L A} {by : Machine W V C L B} {
   abbrev m : Machine W V C L B
   m = played t by
 
-  -- only a move that is not open to its party is skipped
+  -- a move that is not open to its party may be skipped
   may_pass : (seen : Seen W V C L) (p : ℕ) (move : Move C V) (o : Option (Seat C L)) → StandsFor seen.plain p (seen.span p) o
       → is_open_move m seen.state move o ≡ false → MaySkip m seen p move o
   may_pass seen p move o stands closed = grind (arith, f.stepwise.begins, reader_of p, writer_of p, none_owns m seen)
 
-  -- one event
+  -- what the invariant gives of one event
   pub kept : (seen : Seen W V C L) (p : ℕ) (move : Move C V) → Invariant f seen → Preserved f (scene m seen p move)
   kept seen p move good =
       of_event m seen p (Preserved f)
@@ -48,7 +48,7 @@ module _ {W V C L A B : Type 0} {t : Table W V C L A} {by : Machine W V C L B} {
       })
       move
 
-  -- what holds of each event holds of all
+  -- a property of each event from a state with the invariant holds of every event of a schedule
   pub every : (R : Scene W V C L B → Type 0) → ((seen : Seen W V C L) (p : ℕ) (move : Move C V) → Invariant f seen → R (scene m seen p move))
       → (seen : Seen W V C L) (es : List (ℕ × Move C V)) → Invariant f seen → Every R m seen es
   every R each seen [] good = tt

@@ -1,4 +1,4 @@
--- The machines that play a table: that of an object which makes no value, and that of an object whose closures make its value.
+-- Two machines that play a table. In one no closure makes the value; in the other the object's closures make it.
 use Rattle.spin_world_core.proofs.Names.{◌≡◌, ℕ, Bool, true, false, is_some, Option, Some, None, refl, ap, sym, ◌∙◌, subst, arith, true≢false, false≢true, Plain, Phase, Change, completes, is_complete, apply_some, IsOpenStep, entries, is_held, Answer, Hold, Next, Continue, Answers, encoded, says_of, placed, HasPhase, if_completed, is_writer, Memory, Act, store, step_by, change_at, change_by, makes_by, Table, machine_of, completes_by, brought, filled, machine_with}
 use Rattle.spin_model.specs.Asks.{is_completion}
 use Rattle.spin_model.specs.declared.answer.Answer.TheVariants.{Value}
@@ -10,7 +10,7 @@ use Rattle.spin_world_core.proofs.Steps.{told, NextGives, Plays}
 pub uncompleted : {V : Type 0} (old put : Option V) (step : Option Change) → ((q : ℕ) → step ≡ Some (completes q) → ⊥) → old ≡ if_completed old put step
 uncompleted old put step none = grind (arith, none)
 
--- no closure makes the value: no step stores one
+-- The machine in which no closure makes the value: no step stores a value
 
 stores_none : {W V L A : Type 0} (m : Memory W) (i : ℕ) (act : Act W L A) (w : W) → (step_by {V = V} m i act w).placed ≡ None
 stores_none {V} m i act w = grind arith
@@ -47,18 +47,18 @@ module _ {W V C L A : Type 0} {t : Table W V C L A} {n : Notes t} (pays : Pays n
         written = λ s p v shape writes. no_phase _ _;
       }
 
--- closures make the value
+-- The machine in which closures make the value
 
 abbrev is_end : Option Change → Bool
 is_end None = false
 is_end (Some c) = is_completion c
 
--- only a store completes a closure, whichever party makes it, and only in a call that brings this value
+-- only a store completes a closure, and only if the call brings a value; this does not depend on the party
 abbrev pub CompletesRight : {W V L A : Type 0} → Act W L A → ℕ → Option V → Type 0
 CompletesRight (store can operation step next) p value = (is_completion (step p) ≡ is_completion (step 0)) × (is_completion (step p) ≡ true → is_some value ≡ true)
 CompletesRight act p value = is_end (makes_by act p) ≡ false
 
--- an answer that gives a value is given only if there is one
+-- a call answers with a value only if there is one
 abbrev pub TellsSo : Phase → Answer (Unit {0}) → Type 0
 TellsSo phase (Value u) = is_complete phase ≡ true
 TellsSo phase _ = Unit {0}
@@ -70,19 +70,19 @@ TellsOf phase (Answers a after) = TellsSo phase a
 abbrev pub TellsBy : {W L : Type 0} (V : Type 0) → Memory W → ℕ → Act W L (Answer (Unit {0})) → ℕ → Plain → W → Type 0
 TellsBy V m i act p s w = TellsOf (apply_some s (change_by m i act p w)).phase (step_by {V = V} m i act w).next
 
--- what an object shows of its table
+-- what an object whose closures make its value shows of its table
 pub record PaysWith {W V C L : Type 0} {t : Table W V C L (Answer (Unit {0}))} (n : Notes t) (brings : C → Option V) : Type 0 where
   pub pays : Pays n
   pub makes : t.lock_kind.makes_value ≡ true
   pub strong : (c : C) (h : Option Hold) (d : Change) → (t.asks c h).gets_weakly d ≡ false
   pub says : (a : Answer (Unit {0})) → t.says a ≡ says_of a
-  -- nobody holds it
+  -- no party holds the lock
   pub none_writes : (s : Plain) (p : ℕ) → n.Shape s → is_writer (entries p s) ≡ false
   pub none_holds : (s : Plain) → n.Shape s → is_held s ≡ false
   pub completes_right : (p : ℕ) (c : C) (l : L) (h : Option Hold) → CompletesRight (t.act c l h) p (brings c)
   pub tells : (p : ℕ) (c : C) (l : L) (h : Option Hold) (s : Plain) (w : W) → t.memory.numbers w ≡ encoded t.lock_kind s → TellsBy V t.memory (t.word l) (t.act c l h) p s w
 
--- whether there is a value changes only at the end of a closure
+-- whether the phase is complete changes only by a step that completes a closure
 phase-kept : (s : Plain) (p : ℕ) (step : Option Change) (b : Bool) → ((q : ℕ) → step ≡ Some (completes q) → ⊥) → IsOpenStep s p step → is_complete s.phase ≡ b → is_complete (apply_some s step).phase ≡ b
 phase-kept s p step b not may e = grind (arith, not)
 

@@ -14,25 +14,26 @@ use Rattle.spin_world_core.proofs.Reached as reached
 use Rattle.spin_world_core.proofs.Writers.{one_toucher, touched}
 pub use Rattle.spin_world_core.proofs.Schedules.{seen_after-append}
 
--- what a party found under its guard, and the calls that keep it
+-- what a party found under its guard, and the calls that keep this guard
 pub record GuardedRead (C V : Type 0) : Type 0 where
   pub keeps : C → Bool
   pub value : Option V
 
--- after such a step the party still reads
+-- after such a step the party is still in its call, or holds and may read
 abbrev pub ReadsOn : {L A : Type 0} → Next L A → Type 0
 ReadsOn (Continue l) = Unit {0}
 ReadsOn (Answers a None) = ⊥
 ReadsOn (Answers a (Some h)) = may_read h ≡ true
 
--- a party in a call that keeps its guard reads, and still does after each step of the call
+-- A party that reads and is in a call that keeps its guard is a reader in the plain lock. It still reads after each step
+-- of the call.
 pub record KeepsGuard {W V C L A B : Type 0} {t : Table W V C L A} {m : Machine W V C L B} {n : Notes t} (f : Plays m n) (keeps : C → Bool) : Type 0 where
   pub reads : (p : ℕ) (c : C) (l : L) (h : Hold) (s : Plain) (span : List Mark) → keeps c ≡ true → may_read h ≡ true → Knows n c l (Some h) p s span
       → is_reader (entries p s) ≡ true
   pub steps : (c : C) (l : L) (h : Hold) (w : W) (v : Option V) → keeps c ≡ true → may_read h ≡ true → ReadsOn (m.step w v c l (Some h)).next
   pub refuses : (c : C) (l : L) (h : Hold) (next : Next L B) → keeps c ≡ true → may_read h ≡ true → m.refuse c l (Some h) ≡ Some next → ReadsOn next
 
--- for a party with a guard, or one that is gone since: the value last written is still the one that it found
+-- the party has a guard (or is gone), and the value last written is still the one that it found under this guard
 abbrev Guard : {V C L : Type 0} → GuardedRead C V → Option V → Option (Seat C L) → Type 0
 Guard r w (Some (Calling c l (Some h))) = (r.keeps c ≡ true) × (may_read h ≡ true) × (w ≡ r.value)
 Guard r w (Some (Holding h)) = (may_read h ≡ true) × (w ≡ r.value)
@@ -40,22 +41,22 @@ Guard r w (Some (Leaked h)) = (may_read h ≡ true) × (w ≡ r.value)
 Guard r w (Some (Gone h)) = Unit {0}
 Guard r w _ = ⊥
 
--- so it is a reader, or gone
+-- the party is a reader in the plain lock, or is gone
 abbrev ReaderOrGone : {C L : Type 0} → Plain → ℕ → Option (Seat C L) → Type 0
 ReaderOrGone s p (Some (Gone h)) = Unit {0}
 ReaderOrGone s p _ = is_reader (entries p s) ≡ true
 
 module _ {V C L : Type 0} (r : GuardedRead C V) (w v : Option V) where
-  -- if it is no reader, it is gone
+  -- a party with a guard that is no reader in the plain lock is gone
   no_reader : (s : Plain) (p : ℕ) (o : Option (Seat C L)) → ReaderOrGone s p o → (is_reader (entries p s) ≡ true → ⊥) → Guard r w o → Guard r v o
   no_reader s p o reads none guard = grind (arith, none)
 
-  -- if a closure completes, nobody has a guard
+  -- a closure completes only while nobody has a guard, so a party's guard stays right
   completed : (s : Plain) (p : ℕ) (o : Option (Seat C L)) (step : Option Change) → ReaderOrGone s p o → ((q : ℕ) → step ≡ Some (completes q) → is_held s ≡ false)
       → Guard r w o → Guard r (if_completed w v step) o
   completed s p o step reads alone guard = grind (arith, no_reader s p o reads, touched s p, alone)
 
-  -- the owner's use makes a leaked party gone, and the owner writes only if nobody has a guard
+  -- the owner's use of the value leaves `Guard` true: a leaked party is then gone, and no other party has a guard
   gone_for : (o : Option (Seat C L)) → ((x : Seat C L) → o ≡ Some x → yields_to_owner x ≡ true) → Guard r w o → Guard r v (option_map seen_by_owner o)
   gone_for None away guard = guard
   gone_for (Some x) away guard = grind (arith, away x refl)
@@ -164,7 +165,7 @@ module _ {W V C L A B : Type 0} {t : Table W V C L A} {by : Machine W V C L B} {
         (and_parts (not (e.0 == p) || is_quiet_move r.keeps e.1) (is_quiet r.keeps p es) quiet).1
         (guard_kept seen p e.0 good guard e.1 (λ is. grind arith))
 
-  -- a party that finds a value has a guard
+  -- a party whose read finds a value has a guard
   module _ (s : State W V C L) (p : ℕ) where
     guarded : (r : GuardedRead C V) (w : Option V) (o : Option (Seat C L)) → s.value ≡ w → (moves_at m s p Read o).outcome ≡ outcome.Value r.value → Guard r w o
     guarded r w o same e = grind arith
@@ -189,7 +190,7 @@ module _ {W V C L A B : Type 0} {t : Table W V C L A} {by : Machine W V C L B} {
       (sym (seen_after-append m (opening m parties) past es)) guard_later in
       found_again later.state p r later.written t (seat_of later p) (reached.good f parties (past ++ es)).written guard_there second_there
 
-  -- no call keeps its guard
+  -- here no call counts as one that keeps the guard
   pub reads_agree : (parties : ℕ) (past : List (ℕ × Move C V)) → ReadsAgree m parties past
   reads_agree parties past =
       reads_agree_across (λ c. false)

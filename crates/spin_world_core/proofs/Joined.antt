@@ -1,4 +1,4 @@
--- Runs one after another are one run.
+-- Several runs, one after another, are one run of their joined schedules.
 use Rattle.spin_world_core.proofs.Names.{◌≡◌, ℕ, suc, ◌+◌, ◌≤◌, ◌==◌, ◌&&◌, Option, Some, None, List, [], ◌∷◌, ◌++◌, length, map, take, drop, if◌then◌else◌, refl, ap, sym, ◌∙◌, subst, arith, append_assoc, append-nil, take-append-drop, Move, Event, Machine, State, after, at_first, events_of, with_begins, last_begin, is_begun, Seen, Scene, scene, opening, AfterAnyPast, seen_after, Lawful, scenes, EachTells, TellsAfterAnyPast, joined}
 use Rattle.std.proofs.Math.Seq.{drop-append_seam, take-append_seam}
 use Rattle.spin_world_core.specs.Joined.{IsCut, Promised, RunsAreOne, after_runs, began_from, event_from, transcripts_of}
@@ -30,7 +30,7 @@ module _ {W V C L A : Type 0} (m : Machine W V C L A) where
 
 -- Where calls began
 
--- nothing is told of a call that began before the start
+-- a run that starts later tells no place of a call that began before its start
 none_from : {W V A : Type 0} (start p k : ℕ) (found : Option ℕ) (xs : List (Event W V A)) → k + length xs ≤ start → began_from start found ≡ None
     → began_from start (last_begin p k found xs) ≡ None
 none_from start p k found [] le none = none
@@ -38,7 +38,7 @@ none_from start p k found (x ∷ xs) le none =
     let b = (x.party == p) && is_begun x.outcome in
     grind (arith, none_from start p (k + 1) (if b then Some k else found) xs)
 
--- a call that began later is told with its place counted from the start
+-- of a call that began after its start, the run tells the place as counted from this start
 last_from : {W V A : Type 0} (start p k : ℕ) (found here : Option ℕ) (xs : List (Event W V A)) → began_from start found ≡ here
     → began_from start (last_begin p (start + k) found xs) ≡ last_begin p k here xs
 last_from start p k found here [] is = is
@@ -55,13 +55,13 @@ length-with_begins : {W V A : Type 0} (before xs : List (Event W V A)) → lengt
 length-with_begins before [] = refl
 length-with_begins before (x ∷ xs) = ap suc (length-with_begins (before ++ x ∷ []) xs)
 
--- the events of a run that starts after others
+-- the events of a run that starts after other events, and tells places from its own start
 with_begins_from : {W V A : Type 0} (xs before ys : List (Event W V A)) → with_begins before ys ≡ map (event_from (length xs)) (with_begins (xs ++ before) ys)
 with_begins_from xs before [] = refl
 with_begins_from xs before (y ∷ ys) =
     grind (arith, begin_from y.party xs before, with_begins_from xs (before ++ y ∷ []) ys, append_assoc xs before (y ∷ []))
 
--- a run that is cut in two
+-- the transcripts of two runs are that of one run, cut in two
 cut_in_two : {W V C L A : Type 0} (m : Machine W V C L A) (s : State W V C L) (first second : List (ℕ × Move C V)) (place : ℕ) (es fs : List (Event W V A))
     → length first ≡ place → es ≡ with_begins [] (events_of m s first) → fs ≡ with_begins [] (events_of m (after m s first) second)
     → IsCut place (with_begins [] (events_of m s (first ++ second))) es fs
@@ -77,7 +77,7 @@ cut_in_two m s first second place es fs at front back =
       back = grind (arith, back, with_begins_from xs [] ys, here, append-nil xs, drop-append_seam heads (with_begins xs ys), so_long, whole);
     }
 
--- Two runs of one world: the second continues where the first has stopped, on the same object
+-- Two runs of one world: the second run starts in the state in which the first has stopped, on the same object
 module _ {O W V C L A : Type 0} (machine : O → Machine W V C L A) (old now : O) (s between : State W V C L) (first second schedule : List (ℕ × Move C V)) where
   pub record PlaysOn : Type 0 where
     pub object : now ≡ old

@@ -1,4 +1,4 @@
--- A machine that plays a table which pays is lawful.
+-- A machine that plays a table (`Plays`) is lawful.
 use Rattle.spin_model.specs.Machines.{Machine}
 use Rattle.spin_model.specs.Acts.{Table}
 use Rattle.spin_world_core.specs.Lawful.{Lawful}

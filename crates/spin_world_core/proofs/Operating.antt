@@ -1,20 +1,20 @@
--- The steps of a table as operations, and what its shapes show by themselves.
+-- The steps of a table as operations on one word, and what the form of a step shows by itself.
 use Rattle.std.proofs.lemmas.Bool.{not-true}
 use Rattle.spin_world_core.proofs.Names.{AnyOf, own_steps, list_all, Said, ◌≡◌, ℕ, Bool, true, false, not, ◌&&◌, ◌||◌, Option, Some, None, is_some, slice_set, unwrap_or, refl, ap, subst, arith, and_parts, Change, Hold, Answer, Next, LockKind, is_step_of, Asked, performed, Performs, IsOneOperation, RefusesAsLost, Stepwise, Memory, one_number, number_at, Act, weak_exchange, place_of, made_if, change_at, refusal_by, makes_by, operation_by, is_section, step_by, Table, machine_of, machine_with}
 
 -- What has to be shown
 
--- The plain step is one that this kind of lock makes. What such a call gets by a weak exchange it gets by no other
--- step. And a step is a section only in a kind of lock that has sections.
+-- The plain step is one that this kind of lock makes. What a call gets by a weak exchange it gets by no other step.
+-- `fits_act`: also, a step is a section only in a kind of lock that has sections.
 abbrev pub fits_step : LockKind → Asked → Bool → Option Change → Bool
 fits_step kind what weakly None = true
 fits_step kind what weakly (Some c) = is_step_of kind c && (weakly || not (what.gets_weakly c))
 
--- its calls are those of its kind of lock
+-- the promise of each call of the table is one of its kind of lock
 abbrev pub CallsFit : {W V C L A : Type 0} → Table W V C L A → Type 0
 CallsFit {C = C} t = (c : C) (h : Option Hold) → (n : ℕ) × AnyOf (λ what. t.asks c h ≡ what) (t.lock_kind.calls n h)
 
--- a call that begins makes the plain steps of its kind of lock
+-- a call that may begin makes only plain steps that its kind of lock makes
 abbrev pub OwnFits : {W V C L A : Type 0} → Table W V C L A → Type 0
 OwnFits {C = C} t =
     (c : C) (h : Option Hold) (said : Said) (p : ℕ) → (t.asks c h).begins h ≡ true → list_all (list_all (is_step_of t.lock_kind)) (own_steps ((t.asks c h).answers said) p) ≡ true
@@ -26,13 +26,13 @@ may_be_section false is = not is
 abbrev pub fits_act : {W L A : Type 0} → LockKind → Asked → Act W L A → ℕ → Bool
 fits_act kind what act p = fits_step kind what (is_some (refusal_by act)) (makes_by act p) && may_be_section kind.steps_in_sections (is_section act)
 
--- a step that is no section makes its operation on its word, and does not change the others
+-- a step that is no section makes its operation on its word, and does not change the other words
 abbrev pub Operates : {W V C L A : Type 0} → Table W V C L A → Type 0
 Operates {W} {V} {C} {L} t =
     (c : C) (l : L) (h : Option Hold) (w : W) → is_section (t.act c l h) ≡ false
     → (let i = place_of (t.word l) (t.act c l h) in t.memory.numbers (step_by {V = V} t.memory (t.word l) (t.act c l h) w).words ≡ slice_set (t.memory.numbers w) i (performed (operation_by (t.act c l h)) (number_at t.memory i w)))
 
--- a new number changes only its own place
+-- a number that is put at the place i changes only the number at this place
 pub record IsPlace {W : Type 0} (m : Memory W) (i : ℕ) : Type 0 where
   pub stays : (w : W) → slice_set (m.numbers w) i (number_at m i w) ≡ m.numbers w
   pub put : (k : ℕ) (w : W) → m.numbers (m.put i k w) ≡ slice_set (m.numbers w) i k
@@ -40,7 +40,7 @@ pub record IsPlace {W : Type 0} (m : Memory W) (i : ℕ) : Type 0 where
 pub one_place : (i : ℕ) → IsPlace one_number i
 one_place i = grind arith
 
--- The plain step that a shape makes is the one that it names
+-- The plain step that a step makes is the one that the table names for it
 
 pub made_named : {X : Type 0} (o : Option X) (c d : Change) → made_if o c ≡ Some d → Some c ≡ Some d
 made_named o c d is = grind arith
@@ -48,13 +48,13 @@ made_named o c d is = grind arith
 pub change_is : {W L A : Type 0} (n : ℕ) (act : Act W L A) (p : ℕ) (w : W) (d : Change) → change_at n act p w ≡ Some d → makes_by act p ≡ Some d
 change_is n act p w d is = grind arith
 
--- so it is one that the lock makes, and what is got weakly is got by a weak exchange
+-- so the kind of lock makes this plain step, and a call makes it by a weak exchange if it gets it weakly
 pub fits_made : (kind : LockKind) (what : Asked) (weakly : Bool) (o : Option Change) (d : Change) → fits_step kind what weakly o ≡ true → o ≡ Some d → (is_step_of kind d ≡ true) × (what.gets_weakly d ≡ true → weakly ≡ true)
 fits_made kind what weakly o d fit is = grind arith
 
--- The machines
+-- The operations
 
--- a table with such places makes its operations
+-- a table makes its operations if each place of its memory is as `IsPlace` says
 pub operates_by : {W V C L A : Type 0} (t : Table W V C L A) → ((i : ℕ) → IsPlace t.memory i) → Operates t
 operates_by t places c l h w one = let place = places (place_of (t.word l) (t.act c l h)) in grind (arith, one, place.stays w, place.put)
 

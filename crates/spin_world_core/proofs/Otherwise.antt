@@ -1,5 +1,5 @@
--- What shows that a lock is wrong: a part of a claim that fails, four undisturbed steps of a party, and a step that is
--- no single operation.
+-- Ways to show that a lock is wrong: a part of a claim is false, a party takes four undisturbed steps without an answer,
+-- or a step is no single operation.
 use Rattle.std.proofs.Common.{◌≡◌, ℕ, zero, ◌+◌, ◌-◌, ◌<◌, ◌⊎◌, true, false, List, [], ◌∷◌, ◌++◌, slice_set, get_or, refl, subst, arith, ⊎_elim}
 use Rattle.std.proofs.lemmas.Bool.{true≢false}
 use Rattle.spin_model.specs.StepKinds.{is_weak}
@@ -8,11 +8,11 @@ use Rattle.spin_world_core.specs.Spans.{own_count}
 use Rattle.spin_world_core.specs.Undisturbed.{is_open_now, Leaves, AllOf, UndisturbedTakes}
 use Rattle.spin_model.specs.Operations.{Operation, exchanges, adds, subtracts, sets_lowest_bit, stores, performed}
 
--- what is left if the first part is wrong
+-- what is left of a claim if its first part is false
 pub otherwise : {X : Type 0} → (true ≡ false) ⊎ X → X
 otherwise claim = ⊎_elim (λ (e : true ≡ false). absurd (true≢false e)) (λ x. x) claim
 
--- a step of the party's own, which is no spurious failure
+-- the step m is the party's own, and is no spurious failure
 pub record IsOwn (p : ℕ) (m : Mark) : Type 0 where
   pub party : m.party ≡ p
   pub strong : is_weak m.step_kind ≡ false
@@ -24,7 +24,7 @@ owns : (kind : LockKind) (p : ℕ) (ms : List Mark) → AllOf (IsOwn p) ms → A
 owns kind p [] are = tt
 owns kind p (m ∷ ms) are = (leaves kind p m are.0, owns kind p ms are.1)
 
--- after so many such steps a call that continues breaks the law
+-- a call that continues after k such steps breaks the law that allows fewer
 pub too_many : (kind : LockKind) (p : ℕ) (what : Asked) (k : ℕ) (recent : List Mark) (first : Mark) (older : List Mark) → UndisturbedTakes (λ n. n < k) kind p what (recent ++ first ∷ older)
     → is_open_now p what older first.before ≡ true → AllOf (IsOwn p) (recent ++ first ∷ []) → own_count p (recent ++ first ∷ []) ≡ k → ⊥
 too_many kind p what k recent first older law may own count =
@@ -36,12 +36,12 @@ pub four_steps : (kind : LockKind) (p : ℕ) (what : Asked) {a b c d : Mark} {ol
     → is_open_now p what older d.before ≡ true → IsOwn p a → IsOwn p b → IsOwn p c → IsOwn p d → own_count p (a ∷ b ∷ c ∷ d ∷ []) ≡ 4 → ⊥
 four_steps kind p what {a} {b} {c} {d} {older} law may own_a own_b own_c own_d count = too_many kind p what 4 (a ∷ b ∷ c ∷ []) d older law may (own_a, (own_b, (own_c, (own_d, tt)))) count
 
--- a step that adds to a word as long as there is room
+-- the operation on the i-th word of a lock with one word turns the word w into `to`
 
 abbrev Becomes : ℕ → Operation → ℕ → ℕ → Type 0
 Becomes i operation w to = to ∷ [] ≡ slice_set (w ∷ []) i (performed operation (get_or (w ∷ []) i 0))
 
--- an exchange that changes a word has found the number that it expects
+-- an exchange has found the number that it expects, or leaves the word unchanged
 exchanged : (from to w x : ℕ) → x ≡ performed (exchanges from to) w → (w ≡ from) ⊎ (x ≡ w)
 exchanged from to w x is = grind arith
 

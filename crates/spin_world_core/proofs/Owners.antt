@@ -24,13 +24,13 @@ yields_at s q span (Some x) stands away = grind (arith, away x refl)
 yields : {C L : Type 0} (s : Plain) (q : ℕ) (x : Seat C L) → YieldsToOwner s q (Some x) → yields_to_owner x ≡ true
 yields s q x may = grind arith
 
--- the owner's move changes no call
+-- an owner's move leaves every other party that is in a call at its point
 leaves_calls : {C L : Type 0} (seats : List (Seat C L)) {p : ℕ} (q : ℕ) (c : C) (l : L) (h : Option Hold) → (p ≡ q → ⊥)
     → slice_get seats q ≡ Some (Calling c l h) → slice_get (map seen_by_owner seats) q ≡ Some (Calling c l h)
 leaves_calls seats q c l h ne is = slice_get-map seen_by_owner seats q ∙ ap (option_map seen_by_owner) is
 
 module _ {W V C L A : Type 0} (m : Machine W V C L A) where
-  -- if the owner has the lock to itself, its move is open
+  -- if every party leaves the value to the owner, the owner's move is open
   pub none_owns : (seen : Seen W V C L) → is_owners m seen.state ≡ false → m.owned ≡ true → IsOwners seen → ⊥
   none_owns seen closed owned all =
       true≢false (sym (and_from m.owned (list_all yields_to_owner seen.state.seats) owned

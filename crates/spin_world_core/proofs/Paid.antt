@@ -1,4 +1,4 @@
--- What holds at a step of a party, from what its table pays.
+-- What holds at a step of a party, by what the object shows of its table (`Pays`).
 use Rattle.spin_world_core.proofs.Names.{LockKind, ◌≡◌, ℕ, zero, suc, ◌+◌, ◌<◌, ◌≤◌, ◌==◌, Bool, true, false, not, is_some, Option, Some, None, List, [], ◌∷◌, ◌++◌, option_to_list, get_or, if◌then◌else◌, refl, ap, sym, ◌∙◌, subst, arith, and_parts, false≢true, true≢false, eqb-true, Plain, is_empty, Ask, Change, gets, is_open, is_open_to, apply_some, IsOpenStep, entries, bit, Hold, Next, Continue, Answers, Stepped, Move, Step, Weak, StepKind, plain, again, look, weak, is_again, by_step, Asked, encoded, is_step_of, BelongsTo, Said, own_steps, AnyOf, Mark, first_word, Limit, arrived, is_open_now, steps_alone, Way, way_of, is_due_by, LooksElse, Gets, mark_of, Machine, entries_held, own, failures, changes, IsBeginning, RightBy, ContinuesWithin, number_at, Act, load, load_if, load_for, enter, exchange, weak_exchange, attempt, retry, store, section, swap, tried, guessed, either, stays, passing, becomes, retried, step_by, made_if, change_by, can_by, refusal_by, makes_by, look_kind, step_kind_by, Table, begin_of, performed, HasPhase, tries_of, goes_of, limit}
 use Rattle.spin_world_core.proofs.Steps.{told, played, GoesOnOpen, ContinuesCounted, Moves, NextIs, AnswersWithin, AtStep, Plays}
 use Rattle.spin_world_core.proofs.Operating.{made_named, fits_made}
@@ -16,7 +16,7 @@ aims_sure tries due act made ask p none is aims = grind arith
 aims_try : {W L A : Type 0} (tries due : Option Ask) (act : Act W L A) (made : List Change) (ask : Ask) (p : ℕ) → tries ≡ Some ask → made ≡ [] → Aimed tries due act made p → aim_by (Some ask) act p ≡ aimed p (Some ask) (aim_by (Some ask) act p)
 aims_try tries due act made ask p is none aims = subst (λ cs. Aimed (Some ask) due act cs p) none (subst (λ k. Aimed k due act made p) is aims)
 
--- only a call that waits goes for anything so, and it is no try
+-- a call that tries a request without a look first waits, and is no try
 goes_waiting : (what : Asked) (made : List Change) (ask : Ask) → goes_of what made ≡ Some ask → (what.waits ≡ true) × (tries_of what ≡ None)
 goes_waiting what made ask is = grind arith
 
@@ -27,7 +27,7 @@ finds_another what some is = grind arith
 no_retry : (b : Bool) → is_again (by_step (either b look plain)) ≡ false
 no_retry b = grind arith
 
--- a step that continues the call without its plain step is counted, if that step is open
+-- a step is counted (`ContinuesCounted`) if it is a retry whenever it makes no plain step though that plain step is open
 counted_of : {W L A : Type 0} (change : W → Option Change) (s : Plain) (next : Next L A) (o : Option Change) (r : StepKind)
     → ((w : W) (d : Change) → change w ≡ Some d → is_open s d ≡ true → o ≡ None → is_again r ≡ true) → ContinuesCounted change s next o r
 counted_of change s next o r counts = grind (arith, counts)
@@ -36,7 +36,7 @@ abbrev move_of : {C V : Type 0} → Bool → Move C V
 move_of true = Weak
 move_of false = Step
 
--- a step by these branches shows what a try asks
+-- a step with the result `finds_open` or `loses` shows that what a try asks is open
 abbrev Aims : Branch → Type 0 → Type 0
 Aims finds_open Open = Open
 Aims loses Open = Open
@@ -163,7 +163,7 @@ module _ {W V C L A B : Type 0} {t : Table W V C L A} {m : Machine W V C L B} {n
     abbrev Takes : Option Change → StepKind → W → Next L A → Type 0
     Takes step r u next = Moves n Step p c h s span step r u (told t.says next)
 
-    -- What is shown of a step. Its plain step by the words is `change`, and `aim` is the one of a try.
+    -- What is shown of a step. At other words its plain step is the one of `change`; `aim` is the plain step of a try.
     record Done (st : Stepped W V L A) (step : Option Change) (r : StepKind) (change : W → Option Change) (aim : Ask → Option Change) : Type 0 where
       takes : Takes step r st.words st.next
       counted : ContinuesCounted change s (told t.says st.next) step r
@@ -172,7 +172,7 @@ module _ {W V C L A B : Type 0} {t : Table W V C L A} {m : Machine W V C L B} {n
     unretried : {b : Bool} {X : Type 0} → b ≡ false → b ≡ true → X
     unretried single made = absurd (false≢true (sym single ∙ made))
 
-    -- a try continues only if it may
+    -- a try continues only as `MayTryOn` allows
     tried_on : (ask : Ask) (r : StepKind) (branch : Branch) (next : Next L A) → tries_of what ≡ Some ask → Aims branch (is_open_to s p ask ≡ true)
         → Comes false None r branch next → GoesOnOpen ask p span s (told t.says next) None
     tried_on ask r branch next is shows follows = grind (arith, is, tries_open ask p span s)
@@ -202,7 +202,7 @@ module _ {W V C L A B : Type 0} {t : Table W V C L A} {m : Machine W V C L B} {n
           tried = λ ask is aim. tried_on ask r branch next is (shows ask aim) follows;
         }
 
-    -- new words, and a plain step
+    -- a step that makes a plain step and changes the words
     make : {X : Type 0} (put : X → W) (r : StepKind) (x : X) (d : Change) (next : Next L A) (change : W → Option Change)
         → is_step_of kind d ≡ true → MeansHere d put (Some x) → Comes false (Some d) r goes next → Done (stays (put x) next) (Some d) r change (λ ask. Some d)
     make put r x d next change own means follows =
@@ -258,7 +258,7 @@ module _ {W V C L A B : Type 0} {t : Table W V C L A} {m : Machine W V C L B} {n
     attempted put (Some to) d won lost change own f g last =
         let both = f to refl in make put plain to d won change own both.0 both.1
 
-    -- the number is as it was found, or another party has changed it since
+    -- a retry: the number is still the one that was found, or another party has changed it since
     made_again : (put : ℕ → W) (b : Bool) (o : Option ℕ) (d : Change) (won found missed : Next L A) (change : W → Option Change)
         → is_step_of kind d ≡ true
         → (b ≡ true → is_some o ≡ true) → failures p span + bit (not b) ≤ changes kind p span → MeansHere d put o
@@ -307,7 +307,7 @@ module _ {W V C L A B : Type 0} {t : Table W V C L A} {m : Machine W V C L B} {n
     can_is : (i : ℕ) (act : Act W L A) → OwesHere i act → can_by t.memory i act w ≡ true
     can_is i act owes = grind arith
 
-    -- the plain step that it makes whenever that is open
+    -- a step makes the plain step of `sure_by` whenever this plain step is open
     got_is : (i : ℕ) (act : Act W L A) (e : Change) → OwesHere i act → sure_by act p ≡ Some e → is_open s e ≡ true → change_by t.memory i act p w ≡ Some e
     got_is i act e owes is may = grind arith
 
@@ -322,13 +322,13 @@ module _ {W V C L A B : Type 0} {t : Table W V C L A} {m : Machine W V C L B} {n
         )
     refusal_is i _ next owes is = absurd (cc (is))
 
-    -- what is due, and open, the call gets
+    -- if a try is due and what it asks is open, the call gets it by this step
     due_is : (act : Act W L A) (ask : Ask) (way : Way) (step : Option Change) → Needs (need (Some ask) way (rests act) (peeks act)) p span
         → sure_by act p ≡ aimed p (Some ask) (sure_by act p) → ((e : Change) → sure_by act p ≡ Some e → is_open s e ≡ true → step ≡ Some e)
         → is_due_by way p span ≡ true → is_open_to s p ask ≡ true → step ≡ Some (gets p ask)
     due_is act ask way step needs aim got is may = grind (arith, got (gets p ask))
 
-    -- and otherwise it looks
+    -- if no try is due, the step is a look
     looks_else : (act : Act W L A) (what : Asked) (ask : Ask) (way : Way) → what.waits ≡ true → Needs (need (Some ask) way (rests act) (peeks act)) p span → LooksElse way p span (by_step (step_kind_by what act))
     looks_else act what ask way waiting needs = grind arith
 
@@ -409,7 +409,7 @@ module _ {W V C L A B : Type 0} {t : Table W V C L A} {m : Machine W V C L B} {n
     knows_beside span q step r ne shape may belongs knows =
         others_at q step r span (row_of n c l h) ne may (pays.others p q c l h s step r span ne shape may belongs) knows
 
-    -- and this it knows when its call begins
+    -- what a party knows when its call begins
     begins_at : (o : Option Row) → entries p s ≡ entries_held p h → BeginsRow n c l h p s o → KnowsRow n (call_of n c) l h p s [] o
     begins_at None mine begins = absurd begins
     begins_at (Some row) mine begins =

@@ -6,7 +6,7 @@ use Rattle.spin_world_core.proofs.Lists.{get-set_other, take_next}
 use Rattle.spin_model.proofs.Schedules.{after-append}
 use Rattle.spin_world_core.proofs.Schedules.{events_of-append, length-events_of, with_begins-append, last_begin-append, stranger, length-happens}
 
--- nobody's call has begun
+-- in the table that a run starts with, no party's call has begun
 none_begun : (begins : List (Option ℕ)) (p : ℕ) → begin_of (map (λ b. None) begins) p ≡ None
 none_begun begins p = grind (arith, slice_get-map {B = Option ℕ} (λ b. None) begins p)
 
@@ -72,12 +72,12 @@ module _ {W V C L A : Type 0} (m : Machine W V C L A) where
       let front : length (take k schedule) ≡ k = length-take-le k schedule (omega arith) in
       rw (take_next schedule k entry lt read, added, put, told_o, same_words) (rw front at more)
 
-  -- all of it has been played
+  -- the whole schedule has been played
   pub played_all : (from now : State W V C L) (begins : List (Option ℕ)) (events : List (Event W V A)) (schedule : List (ℕ × Move C V)) (k : ℕ)
       → Played from now begins events (take k schedule) → length schedule ≤ k → Played from now begins events schedule
   played_all from now begins events schedule k played all = subst (Played from now begins events) (take_all k schedule all) played
 
-  -- after the part played so far, the next step is possible
+  -- after the part of the schedule that has been played, each party in a call can take its next step
   pub can_next : (from now : State W V C L) (begins : List (Option ℕ)) (events : List (Event W V A)) (schedule : List (ℕ × Move C V)) (k : ℕ)
       → Played from now begins events (take k schedule) → CanAlways m from schedule → CanStep m now
   can_next from now begins events schedule k played can = subst (CanStep m) (sym played.table) (can k)
@@ -93,7 +93,7 @@ module _ {W V C L A : Type 0} (m : Machine W V C L A) where
             ∙ (ap (λ u. (happens m u p move).next) led.2 ∙ sym (ap (λ h. h.next) is)),
       ))
 
-  -- and has as many parties
+  -- the next state has as many parties
   pub parties_next : (s t : State W V C L) (p : ℕ) (move : Move C V) (o : Outcome A V)
       → (let h : Happened W V C L A = record { outcome = o; next = t } in h ≡ happens m s p move) → length t.seats ≡ length s.seats
   parties_next s t p move o is = ap (λ h. length h.next.seats) is ∙ length-happens m s p move

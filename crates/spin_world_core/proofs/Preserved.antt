@@ -1,4 +1,4 @@
--- One event keeps all that is promised, for any machine that plays a table which pays.
+-- One event keeps all that is promised, for any machine that plays a table (`Plays`).
 use Rattle.spin_world_core.proofs.Names.{Outcome, seat_of, slice_get_within, ◌≡◌, ℕ, ◌≤◌, ◌==◌, Bool, true, false, Option, Some, None, List, [], ◌∷◌, ◌++◌, suc, if◌then◌else◌, is_some, slice_get, slice_set, refl, ap, sym, ◌∙◌, subst, arith, ne_eqb, true≢false, Plain, Ask, Change, apply_some, IsOpenStep, Entries, entries, IsExclusive, entries-other, entries-own, Hold, Seat, Calling, Holding, Leaked, Next, Continue, Answers, Move, Step, Weak, Leak, StepKind, is_weak, by_step, encoded, BelongsTo, Mark, Machine, skipped, seated, goes_on, placed, resting, may_read, may_write, Seen, Scene, scene_at, scene_of, mark_of, own, own_count, failures, changes, if_completed, is_open_move, entries_of, entries_held, StandsFor, is_reader, is_writer, MaySkip, ComesTo, Keeps, IsRight, IsInTime, UndisturbedTakes, AnsweredSoon, Gets, GetsWhenDue, TriesOn, tries_of, Table, Phase, HasPhase}
 use Rattle.spin_world_core.specs.Runs.{InItsCall, InTime, IsCounted, IsWeakCall, LeavesCalls, MayTouch, OwnSteps, StepLeaves, asked, entries_so_far, is_in_place}
 use Rattle.spin_step.proofs.Exclusive.{exclusive-kept}
@@ -13,7 +13,7 @@ use Rattle.spin_world_core.proofs.Paid.{at_step, knows_beside, knows_first}
 use Rattle.spin_world_core.proofs.Undisturbed.{RunsOn, GoesWithin, LeftBy, stepped, beside, runs_fresh, more_left}
 use Rattle.spin_world_core.proofs.Events.{seat_with, OfBegin, OfRead, OfWrite}
 
--- a party whose hold reads the value is a reader in the plain lock, and one whose hold may replace it is a writer
+-- A party whose hold lets it read is a reader in the plain lock. A party whose hold lets it write is a writer there.
 
 pub reader_of : (p : ℕ) (h : Hold) → is_reader (entries_of p h) ≡ may_read h
 reader_of p h = grind arith
@@ -21,32 +21,32 @@ reader_of p h = grind arith
 pub writer_of : (p : ℕ) (h : Hold) → is_writer (entries_of p h) ≡ may_write h
 writer_of p h = grind arith
 
--- the party's own seat is now x, and the others' are unchanged
+-- to show P of every party after the party p takes the seat x, show P of p in this seat, and of the others in their old seats
 at_seat : {C L : Type 0} (P : ℕ → Option (Seat C L) → Type 0) (seats : List (Seat C L)) (p : ℕ) (x y : Seat C L) → slice_get seats p ≡ Some y
     → P p (Some x) → ((q : ℕ) → (p ≡ q → ⊥) → P q (slice_get seats q)) → (q : ℕ) → P q (slice_get (slice_set seats p x) q)
 at_seat P seats p x y there here away q =
     get-set (P q) seats p q x (slice_get_within seats p y there) (λ e. subst (λ i. P i (Some x)) e here) (away q)
 
--- so a party in a call stays there
+-- another party that is in a call stays at its point
 still_calling : {C L : Type 0} (seats : List (Seat C L)) (p : ℕ) (x : Seat C L) (q : ℕ) (c : C) (l : L) (h : Option Hold) → (p ≡ q → ⊥)
     → slice_get seats q ≡ Some (Calling c l h) → slice_get (slice_set seats p x) q ≡ Some (Calling c l h)
 still_calling seats p x q c l h ne is = get-set_other seats p q x ne ∙ is
 
--- a party that does not step keeps its entries
+-- another party's step keeps what the seat of q says of its entries
 stands_beside : {C L : Type 0} (s : Plain) (p q : ℕ) (step : Option Change) (r : StepKind) (span : List Mark) (o : Option (Seat C L)) → (p ≡ q → ⊥)
     → IsOpenStep s p step → StandsFor s q span o → StandsFor (apply_some s step) q (mark_of p step r s ∷ span) o
 stands_beside s p q step r span o ne may stands = grind (arith, entries-other s p q step ne may)
 
--- a party that steps has made the step
+-- after its own step a party has the entries of its span with this step
 stands_stepped : (s : Plain) (p : ℕ) (step : Option Change) (r : StepKind) (span : List Mark) (e : Entries) → IsOpenStep s p step
     → entries p s ≡ entries_so_far p span e → entries p (apply_some s step) ≡ entries_so_far p (mark_of p step r s ∷ span) e
 stands_stepped s p step r span e may stands = grind (arith, entries-own s p step may)
 
--- only a closure that completes changes the value
+-- a step changes the value only if a closure completes by it
 leaves : {V : Type 0} (old new put : Option V) (step : Option Change) → new ≡ if_completed old put step → StepLeaves step old new
 leaves old new put step is = grind arith
 
--- an owner replaces a value by a value
+-- `HasPhase` stays true if the owner replaces a value by another value
 pub phase_set : {V : Type 0} (makes : Bool) (phase : Phase) (old v : V) → HasPhase makes phase (Some old) → HasPhase makes phase (Some v)
 phase_set makes phase old v is = grind (arith, is)
 
@@ -95,12 +95,12 @@ module _ {W V C L A B : Type 0} {t : Table W V C L A} {by : Machine W V C L B} {
     pub in_time : IsInTime m s
     pub good : Invariant s.after
 
-  -- for a party in no call
+  -- `OfParty` for a party that is in no call
   rests : (w : W) (s : Plain) (p : ℕ) (span : List Mark) (after : Option Hold) → entries p s ≡ entries_held p after
       → failures p span ≤ changes m.lock_kind p span → OfParty w s p span (Some (resting after))
   rests w s p span after stands retries = record { stands = grind arith; knows = grind arith; retries = retries; undisturbed = grind arith }
 
-  -- after a party has got another seat, without a step
+  -- the invariant still holds after a party gets another seat without a step
   good_seated : (seen : Seen W V C L) (p : ℕ) (x y : Seat C L) (span : ℕ → List Mark) → Invariant seen → seat_of seen p ≡ Some y
       → ((q : ℕ) → (p ≡ q → ⊥) → span q ≡ seen.span q) → OfParty seen.state.words seen.plain p (span p) (Some x)
       → Invariant (record { state = seated seen.state p x; plain = seen.plain; span = span; written = seen.written })
@@ -115,7 +115,7 @@ module _ {W V C L A B : Type 0} {t : Table W V C L A} {by : Machine W V C L B} {
             subst (λ ms. OfParty seen.state.words seen.plain q ms (seat_of seen q)) (sym (same q ne)) (good.parties q));
       }
 
-  -- what is promised of a step of a call; of any other event it holds by itself
+  -- what has to be shown of a step of a call; of any other event these properties hold by themselves
   pub record StepKeeps (s : Scene W V C L B) : Type 0 where
     pub opens : IsOpenStep s.before.plain s.party s.change
     pub belongs : BelongsTo m.lock_kind s.change
@@ -128,7 +128,7 @@ module _ {W V C L A B : Type 0} {t : Table W V C L A} {by : Machine W V C L B} {
     pub due : GetsWhenDue m.lock_kind s.party s.outcome s.move (asked m s.seat) (s.before.span s.party) s.before.plain s.change s.step_kind
     pub tries_on : TriesOn s.party s.outcome s.move (asked m s.seat) (s.before.span s.party) s.before.plain s.change
 
-  -- an event that is not skipped, from what holds after it
+  -- an event that is not skipped is preserved if the invariant holds after it and these premises hold of it
   pub happened_kept : (s : Scene W V C L B) → Invariant s.after → StepKeeps s → ((r : Option V) → s.outcome ≡ outcome.Value r → r ≡ s.before.written)
       → MayTouch s.before s.party s.outcome s.move → (s.outcome ≡ outcome.Skipped → ⊥) → is_open_move m s.before.state s.move s.seat ≡ true
       → is_in_place m.owned s.move s.seat ≡ true → ComesTo s.move s.change s.before.state.value s.after.state.value s.outcome
@@ -204,7 +204,7 @@ module _ {W V C L A B : Type 0} {t : Table W V C L A} {by : Machine W V C L B} {
     abbrev longer : Option Change → StepKind → ℕ → List Mark
     longer step r q = mark_of p step r seen.plain ∷ seen.span q
 
-    -- what holds of a party during another party's step
+    -- `OfParty` of another party q is kept by a step of p
     of_others : (q : ℕ) (w : W) (step : Option Change) (r : StepKind) (o : Option (Seat C L)) → seat_of seen q ≡ o → (p ≡ q → ⊥)
         → IsOpenStep seen.plain p step → BelongsTo m.lock_kind step
         → (encoded m.lock_kind (plain_by step) ≡ encoded m.lock_kind seen.plain → w ≡ seen.state.words)
@@ -225,7 +225,7 @@ module _ {W V C L A B : Type 0} {t : Table W V C L A} {by : Machine W V C L B} {
             knows_beside f q c l h seen.plain (seen.span q) p step r ne good.shape may belongs knows
         knows_after _ knows = tt
 
-    -- after a step of a call
+    -- the invariant holds after a step of p's call
     good_stepped : (x y : Seat C L) (step : Option Change) (r : StepKind) (w : W) (v wr : Option V) → seat_of seen p ≡ Some y
         → IsOpenStep seen.plain p step → BelongsTo t.lock_kind step → t.memory.numbers w ≡ encoded t.lock_kind (plain_by step)
         → n.Shape (plain_by step) → HasPhase t.lock_kind.makes_value (plain_by step).phase v → v ≡ wr
@@ -248,12 +248,12 @@ module _ {W V C L A B : Type 0} {t : Table W V C L A} {by : Machine W V C L B} {
               (λ e. f.pays.numbers_tell w seen.state.words (encodes ∙ (e ∙ sym good.encodes))) (good.parties q));
         }
 
-    -- for its own call
+    -- the party p is in this call
     module _ (c : C) (l : L) (h : Option Hold) (there : seat_of seen p ≡ Some (Calling c l h)) where
       abbrev is : AtStep by n p c l h seen.plain seen.state.value seen.state.words (seen.span p)
       is = at_step f _ (in_call p good there) good.phase
 
-      -- how many steps are left after its own step, if nobody has disturbed it
+      -- what is left of the call after p's own step, if nobody has disturbed it
       left_by : (step : Option Change) (r : StepKind) (w : W) (next : Next L B)
           → (is_weak r ≡ false → (j : ℕ) → AnswersWithin m (suc j) seen.state.words c l h → GoesWithin m j w c h next)
           → UndisturbedTakes (LeftBy m w p c h next) t.lock_kind p (t.asks c h) (longer step r p)

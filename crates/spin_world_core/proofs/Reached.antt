@@ -1,4 +1,4 @@
--- What holds of the state that a schedule leads to, and what the row of a call says of its party there.
+-- What holds of the state that a schedule leads to, and what the row of a party's point says of the party there.
 use Rattle.std.proofs.Common.{◌≡◌, ℕ, Bool, true, false, Option, Some, None, List, slice_get, ap, sym, ◌∙◌}
 use Rattle.spin_step.specs.Plain.{Plain}
 use Rattle.spin_step.specs.Parties.{Entries, entries}
@@ -20,9 +20,9 @@ use Rattle.spin_world_core.proofs.Shapes.{InCall, KnowsRow, call_of, row_of}
 use Rattle.spin_world_core.proofs.Preserved.{Invariant, standing, in_call}
 use Rattle.spin_world_core.proofs.Every.{good_first, good_after, state-seen_after}
 
--- The row of a call says what its party has there, and which plain steps the call has made
+-- The row of a point says what the party has there in the plain lock, and which plain steps its call has made.
 
--- there is a row, and it passes a test; `passes_all`: if there is a row, it passes
+-- there is a row and it passes the test; `passes_all`: there is no row, or it passes the test
 abbrev pub passes_some : (Row → Bool) → Option Row → Bool
 passes_some test None = false
 passes_some test (Some row) = test row
@@ -31,7 +31,7 @@ abbrev pub passes_all : (Row → Bool) → Option Row → Bool
 passes_all test None = true
 passes_all test (Some row) = test row
 
--- if the entries and plain steps of a party pass a test, a row of its call passes it
+-- A test of rows that depends on the party's entries and plain steps: the row of the party's point passes it.
 module _ {W V C L A : Type 0} {t : Table W V C L A} (n : Notes t) (c : C) (l : L) (h : Option Hold) (p : ℕ) (s : Plain) (span : List Mark) where
   pub row_passes : (test : Row → Bool) → ((row : Row) → entries p s ≡ entries_at p row.stand → own p span ≡ row.made p → test row ≡ true) → (o : Option Row)
       → KnowsRow n (call_of n c) l h p s span o → passes_some test o ≡ true
@@ -43,11 +43,11 @@ module _ {W V C L A : Type 0} {t : Table W V C L A} (n : Notes t) (c : C) (l : L
   row_tells test (Some row) knows is = ap test knows.0.stand ∙ is
   row_tells test None knows is = absurd knows
 
--- a point at which a party has entries that pass this test
+-- the point has a row, and the entries that the row gives the party pass this test
 abbrev pub StandsSo : {W V C L A : Type 0} {t : Table W V C L A} → Notes t → (Entries → Bool) → ℕ → C → L → Option Hold → Type 0
 StandsSo n test p c l h = passes_some (λ row. test (entries_at p row.stand)) (row_of n c l h) ≡ true
 
--- The state after these entries
+-- The state after the schedule `past`
 
 module _ {W V C L A B : Type 0} {t : Table W V C L A} {by : Machine W V C L B} {n : Notes t} (f : Plays by n) (parties : ℕ) (past : List (ℕ × Move C V)) where
   abbrev m : Machine W V C L B

@@ -1,4 +1,4 @@
--- What a party in a call knows of itself and of its span, and how its own steps and those of others keep it.
+-- What a party in a call knows of its entries and of its span, and how each step of any party keeps this knowledge.
 use Rattle.spin_world_core.proofs.Names.{◌≡◌, ℕ, suc, ◌+◌, ◌≤◌, ◌⊎◌, ◌==◌, Bool, true, false, not, ◌&&◌, ◌||◌, is_some, Option, Some, None, List, [], ◌∷◌, ◌++◌, option_to_list, nat_lt, if◌then◌else◌, refl, ◌∙◌, arith, inl, inr, ⊎_elim, Plain, Ask, Change, gets, is_open, is_open_to, apply_some, IsOpenStep, entries, is_held, bit, entries-other, Hold, StepKind, is_again, is_look, LockKind, Asked, Said, Mark, AnyOf, first_word, Limit, registers_after, mark_of, own, own_count, failures, changes, EndsWithin, ContinuesWithin, is_due, Way, by_looks, past_looks, way_of, MayTryOn, Act, load, load_if, load_for, attempt, retry, true≢false, ap, list_any, goes_of}
 use Rattle.spin_world_core.proofs.Lists.{eqb_self}
 use Rattle.spin_world_core.proofs.Stands.{Stand, entries_at, stand_of}
@@ -8,10 +8,10 @@ use Rattle.spin_step.specs.Plain.{is_empty}
 use Rattle.spin_model.specs.Calls.{got_or_starved, means, moment, own_steps, limit, FindsClosed, changes_within, gets_within, grant, within, within_changes, Meaning, got, grants, same_ask}
 use Rattle.spin_model.specs.Calls as meaning
 
--- The count of its steps
+-- The count of the call's steps
 
--- an own step is on its way, finds that a plain step is open, is a retry that failed, or finds that a plain step is
--- closed
+-- The result of a party's own step. The call just goes on, or has found a plain step open, or has lost a retry, or has
+-- found a plain step closed.
 pub data Branch : Type 0 where
   goes : Branch
   finds_open : Branch
@@ -24,7 +24,7 @@ Branched finds_open s step r = Unit {0}
 Branched loses s step r = (is_again r ≡ true) × (step ≡ None)
 Branched (misses c) s step r = is_open s c ≡ false
 
--- of what the limit counts, at most k steps are spent
+-- at most k of the steps that the limit counts have been spent
 abbrev pub Spends : Limit → ℕ → ℕ → List Mark → Type 0
 Spends (within n) k p span = own_count p span ≤ k
 Spends (within_changes n) k p span = own_count p span ≤ failures p span + k
@@ -32,8 +32,8 @@ Spends (gets_within ask n) k p span = own p span ≡ [] → (own_count p span �
 Spends (changes_within n) k p span = own p span ≡ [] → own_count p span ≤ k
 Spends _ k p span = Unit {0}
 
--- A step by this branch may raise the steps that are spent from j to k. The list has the plain steps made by then, and
--- the span includes this step. That a call registers in time, an object shows from what its party knows.
+-- A step with this result may raise the number of spent steps from j to k. The list has the plain steps made by then,
+-- and the span includes this step. If the limit is to register in time, the object itself shows that the call does.
 abbrev pub MaySpend : Limit → Branch → List Change → ℕ → ℕ → ℕ → LockKind → List Mark → Type 0
 MaySpend (within n) t cs j k p kind span = nat_lt j k ≡ true
 MaySpend (within_changes n) loses cs j k p kind span = nat_lt j (suc k) ≡ true
@@ -46,7 +46,8 @@ MaySpend (changes_within n) t [] j k p kind span = nat_lt j k ≡ true
 MaySpend (registers_after n i) t cs j k p kind span = ContinuesWithin (registers_after n i) kind p span
 MaySpend _ t cs j k p kind span = Unit {0}
 
--- a try that has found its plain step closed continues no longer; it continues by a look alone only if it may
+-- A try that has found its plain step closed does not continue. A try continues by a step that just goes on only as
+-- `MayTryOn` allows.
 abbrev pub MayContinue : Option Ask → Branch → Option Change → ℕ → Plain → List Mark → Type 0 → Type 0
 MayContinue (Some ask) (misses c) step p s span Spend = ⊥
 MayContinue (Some ask) goes None p s span Spend = Spend × MayTryOn ask p span s
@@ -60,7 +61,7 @@ may_spend tries branch step p s span Spend may = grind arith
 pub tries_open : (ask : Ask) (p : ℕ) (span : List Mark) (s : Plain) → is_open_to s p ask ≡ true → MayTryOn ask p span s
 tries_open ask p span s may = grind arith
 
--- with so many steps spent a call may continue
+-- a call that has spent k steps has a step left
 abbrev pub is_timely : Limit → List Change → ℕ → Bool
 is_timely (within n) cs k = nat_lt k n
 is_timely (within_changes n) cs k = nat_lt k n
@@ -73,12 +74,12 @@ module _ (p : ℕ) (s : Plain) (step : Option Change) (r : StepKind) (span : Lis
   spent-mine what kind t cs j k how is may spent =
       grind (arith, nil_left (own p span), own-mine p step r s span, own_count-mine p step r s span, failures-mine p step r s span, spent)
 
--- a call may continue like this, and be answered by the next step
+-- a call with a step left may continue within its limit (`goes_within`), and is answered within it (`ends_within`)
 
 pub goes_within : (what : Limit) (kind : LockKind) (t : Branch) (cs : List Change) (j k p : ℕ) (span : List Mark) → own p span ≡ cs → is_timely what cs k ≡ true → failures p span ≤ changes kind p span → MaySpend what t cs j k p kind span → Spends what k p span → ContinuesWithin what kind p span
 goes_within what kind t cs j k p span is timely retries may spent = grind (arith, spent)
 
--- what an answer must show of its call's time: a call that registers in time shows it from what its party knows
+-- what the object has to show of the time of a call that is answered: only for a limit to register in time
 abbrev pub OwesEnd : Limit → LockKind → ℕ → List Mark → Type 0
 OwesEnd (registers_after n i) kind p span = EndsWithin (registers_after n i) kind p span
 OwesEnd _ kind p span = Unit {0}
@@ -87,9 +88,9 @@ pub ends_within : (what : Limit) (kind : LockKind) (cs : List Change) (k p : ℕ
     → OwesEnd what kind p (mark_of p step r s ∷ span) → EndsWithin what kind p (mark_of p step r s ∷ span)
 ends_within what kind cs k p s step r span timely retries spent owed = grind (arith, own_count-mine p step r s span, changes-mine kind p step r s span)
 
--- Its plain steps, and the moment of a grant
+-- The call's plain steps, and the moment of a grant
 
--- every plain step of the span was its party's own, and open
+-- every plain step of the span was open, and was a step of the party that made it
 abbrev pub Opened : List Mark → Type 0
 Opened [] = Unit {0}
 Opened (m ∷ ms) = IsOpenStep m.before m.party m.change × Opened ms
@@ -112,7 +113,7 @@ any_passes P test (x ∷ xs) f any = grind (arith, f, any_passes P test xs f)
 granted_here : (p : ℕ) (ask : Ask) (m : Mark) (b : Bool) (step : Option Change) → (m.party == p) ≡ b → m.change ≡ step → IsOpenStep m.before m.party step → AnyOf (λ c. c ≡ gets p ask) (if b then option_to_list step else []) → grants p ask m ≡ true
 granted_here p ask m b step mine is may any = grind (arith, same_ask_self ask)
 
--- a grant has its moment by the steps that the call has made
+-- if the call has made the plain step that gets `ask`, its grant has a moment
 pub granted_at : (p : ℕ) (ask : Ask) (span : List Mark) → Opened span → AnyOf (λ c. c ≡ gets p ask) (own p span) → list_any (grants p ask) span ≡ true
 granted_at p ask [] opened any = absurd any
 granted_at p ask (m ∷ ms) opened any =
@@ -124,7 +125,7 @@ granted_at p ask (m ∷ ms) opened any =
 pub granted_moment : (p : ℕ) (ask : Ask) (span : List Mark) → Opened span → AnyOf (λ steps. own p span ≡ steps) (grant p ask ∷ []) → list_any (grants p ask) span ≡ true
 granted_moment p ask span opened is = grind (arith, granted_at p ask span opened)
 
--- what an answer owes of its moment: a grant has it by the steps that the call has made
+-- what has to be shown of an answer's moment: nothing of a grant, whose moment follows from the call's plain steps
 abbrev pub OwesMoment : Meaning → ℕ → List Mark → Type 0
 OwesMoment (got ask) p span = Unit {0}
 OwesMoment (got_or_starved a b) p span = Unit {0}
@@ -137,7 +138,7 @@ moment_of meaning.never p span opened is owed = owed
 moment_of (meaning.found test) p span opened is owed = owed
 moment_of (means steps right) p span opened is owed = owed
 
--- only a weak try may fail spuriously
+-- nothing has to be shown of a moment if the answer may be a spurious failure
 abbrev pub OwesUnless : Bool → Type 0 → Type 0
 OwesUnless true Owed = Unit {0}
 OwesUnless false Owed = Owed
@@ -153,13 +154,13 @@ weakly_right false right Owed shown owed = shown owed
 
 pub record Row : Type 0 where
   pub stand : Stand
-  pub made : ℕ → List Change  -- its plain steps so far
-  pub rest : ℕ → List Change  -- those that are left to an answer that says so
+  pub made : ℕ → List Change  -- the plain steps of the call so far
+  pub rest : ℕ → List Change  -- the plain steps left before an answer that says `said`
   pub said : Said
-  pub spent : ℕ  -- of the call's limit
+  pub spent : ℕ  -- how many steps of the call's limit are spent
 
--- A point of a call. At `looked k` the party holds what it held when the call began. It has made no plain step, and has
--- spent k of the limit's steps. A point `onward` has a row of its own, and `nowhere` has no row.
+-- A point of a call. At `looked k` the party holds what it held when the call began. The call has made no plain step,
+-- and has spent k steps of its limit. A point `onward` has a row of its own, and `nowhere` has no row.
 pub data Point : Type 0 where
   nowhere : Point
   looked : ℕ → Point
@@ -182,7 +183,7 @@ row_at what h nowhere = None
 row_at what h (onward row) = Some row
 row_at what h (looked k) = Some (row_looked h k (λ p. first_of (own_steps (what.answers what.most) p)) what.most)
 
--- a row leaves time for a step, and leads to an answer
+-- at this row the call has a step left, and its plain steps so far and those that are left are the ones of an answer
 abbrev pub IsSound : LockKind → Asked → ℕ → Option Row → Type 0
 IsSound kind what p None = Unit {0}
 IsSound kind what p (Some row) = (is_timely (limit kind what) (row.made p) row.spent ≡ true) × AnyOf (λ steps. row.made p ++ row.rest p ≡ steps) (own_steps (what.answers row.said) p)
@@ -202,30 +203,31 @@ sound_at kind what h p nowhere sound = tt
 sound_at kind what h p (looked k) sound = (sound.0, first_is _ sound.1)
 sound_at kind what h p (onward row) sound = sound
 
--- so is the beginning of a call that has a step and an answer
+-- the point at which a call begins is sound, if the point `looked 0` is
 pub starts_sound : {L : Type 0} (kind : LockKind) (what : Asked) (p : ℕ) (o : Option L) → SoundAt kind what p (looked 0) → SoundAt kind what p (starts o)
 starts_sound kind what p None sound = tt
 starts_sound kind what p (Some l) sound = sound
 
--- Where the next step is a retry that expects k: others have changed the first word at least as often as retries have
--- failed, and once more if the word is no longer k. The step function admits k.
+-- If the next step is a retry that expects k, then others have changed the first word at least as often as retries have
+-- failed, and once more if the word is no longer k. Also, the step function does not refuse k.
 abbrev pub Expects : {W L A : Type 0} → LockKind → Act W L A → ℕ → Plain → List Mark → Type 0
 Expects kind (retry k f step won found missed) p s span = (failures p span + bit (not (first_word kind s == k)) ≤ changes kind p span) × (is_some (f k) ≡ true)
 Expects kind _ p s span = Unit {0}
 
--- what a step must show if a retry follows: it finds n in the first word, and the retry expects n
+-- What a step has to show if a retry follows. The step makes no plain step, and finds n in the first word. The retry
+-- expects n, which the step function does not refuse.
 abbrev pub RetryOwes : {W L A : Type 0} → Act W L A → ℕ → Option Change → Type 0
 RetryOwes (retry k f step won found missed) n made = (made ≡ None) × (n ≡ k) × (is_some (f k) ≡ true)
 RetryOwes _ n made = Unit {0}
 
--- whether a try has to be due at a point: either way is fine, it is due, it is not due, or no such point exists
+-- whether a try is due at a point: it may or may not be (`free`), it is, it is not, or there is no such point
 pub data Need : Type 0 where
   free : Need
   due : Need
   undue : Need
   never : Need
 
--- a load, or an exchange that may fail although its plain step is open
+-- the step is a load, or an exchange that may fail although its plain step is open
 abbrev pub rests : {W L A : Type 0} → Act W L A → Bool
 rests (load next) = true
 rests (load_if test a b) = true
@@ -238,7 +240,7 @@ abbrev pub peeks : {W L A : Type 0} → Act W L A → Bool
 peeks (load_if test a b) = true
 peeks _ = false
 
--- the need of a point, by whether its next step is such a load or exchange, and whether it is a look
+-- the need of a point, by whether its next step is such a load or exchange (`rests`), and whether the step is a look
 abbrev pub need : Option Ask → Way → Bool → Bool → Need
 need None way resting peeking = free
 need (Some ask) by_looks true true = undue
@@ -256,7 +258,7 @@ Needs due p span = is_due p span ≡ true
 Needs undue p span = is_due p span ≡ false
 Needs never p span = ⊥
 
--- after such a step a try is due: it makes a plain step, or it is a look that finds the lock free
+-- after such a step a try is due: the step makes a plain step, or is a look that finds the lock free
 abbrev pub makes_due : Option Change → StepKind → Plain → Bool
 makes_due step r s = is_some step || (is_look r && not (is_held s))
 
@@ -284,7 +286,7 @@ pub record Known {W L A : Type 0} (kind : LockKind) (what : Asked) (act : Act W 
   pub needs : Needs (need_of kind what (row.made p) act) p span
   pub opened : Opened span
 
--- after a step of its own
+-- after a step of the party's own
 
 module _ (p : ℕ) (s : Plain) (step : Option Change) (r : StepKind) (span : List Mark) where
   pub expects-mine : {W L A : Type 0} (kind : LockKind) (act : Act W L A) (n : ℕ) → n ≡ first_word kind s
@@ -308,7 +310,7 @@ none_expected kind act p s none = grind arith
 
 -- after another party's step
 
--- a change of the first word is one more change by others
+-- the bound of `Expects` still holds after another party changes the first word from x to y
 pub moved : (a b n x y : ℕ) → a + bit (not (x == n)) ≤ b → a + bit (not (y == n)) ≤ b + bit (not (y == x))
 moved a b n x y le = grind arith
 

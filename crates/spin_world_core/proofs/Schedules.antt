@@ -9,7 +9,7 @@ with_begins-append before [] ys = ap (λ b. with_begins b ys) (sym (append-nil b
 with_begins-append before (x ∷ xs) ys =
     grind (arith, with_begins-append (before ++ x ∷ []) xs ys, append_assoc before (x ∷ []) xs)
 
--- the last beginning among events that follow others
+-- the last event that begins a call of the party, in two lists of events one after the other
 pub last_begin-append : {W V A : Type 0} (p k : ℕ) (found : Option ℕ) (xs ys : List (Event W V A))
     → last_begin p k found (xs ++ ys) ≡ last_begin p (k + length xs) (last_begin p k found xs) ys
 last_begin-append p k found [] ys = ap (λ n. last_begin p n found ys) (omega arith)
@@ -30,7 +30,7 @@ module _ {W V C L A : Type 0} (m : Machine W V C L A) where
   seen_after-append seen [] ys = refl
   seen_after-append seen (x ∷ xs) ys = seen_after-append (scene m seen x.0 x.1).after xs ys
 
-  -- a party that does not exist is skipped
+  -- each move of a party that does not exist is skipped
   pub stranger : (s : State W V C L) (p : ℕ) (move : Move C V) → length s.seats ≤ p → (happens m s p move).outcome ≡ outcome.Skipped
   stranger s p move past = ap (λ o. (moves_at m s p move o).outcome) (slice_get_past s.seats p past)
 

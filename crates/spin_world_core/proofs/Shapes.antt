@@ -1,28 +1,28 @@
--- What the table of an object must show, point by point. Its machine then shows all local facts.
+-- What an object has to show of its table, point by point. All promises of its machine then follow.
 use Rattle.spin_world_core.proofs.Names.{own_steps, tries_of, goes_of, ◌≡◌, ℕ, zero, suc, ◌≤◌, Bool, true, false, ◌||◌, ◌==◌, is_some, Option, Some, None, List, [], ◌∷◌, ◌++◌, option_to_list, Plain, Ask, Change, gets, apply, is_open, is_empty, apply_some, IsOpenStep, IsExclusive, Hold, Next, Continue, Answers, StepKind, plain, again, weak, by_step, Asked, encoded, BelongsTo, Mark, AnyOf, Limit, registers_after, arrived, steps_alone, opening_plain, mark_of, failures, changes, number_at, Act, load, load_if, load_for, enter, exchange, weak_exchange, attempt, retry, store, section, swap, tried, guessed, passing, place_of, step_by, makes_by, look_kind, Table, begin_of, machine_of, performed, limit}
 use Rattle.spin_world_core.proofs.Operating.{fits_act, CallsFit, OwnFits, Operates}
 use Rattle.spin_world_core.proofs.Stands.{stand_of, stand_after}
 use Rattle.spin_world_core.proofs.Rows.{Branch, goes, finds_open, loses, misses, MaySpend, MayContinue, OwesRight, OwesEnd, Row, Point, row_at, SoundAt, RetryOwes, need_of, FoundBy, NoRetry, BeginsBy, Known}
 
--- What the table and the notes say of a call. What has to be shown of the call depends on nothing else.
+-- What the table and the notes say of one call. What has to be shown of this call depends on nothing else.
 pub record CallOf (W L A : Type 0) : Type 1 where
   pub asks : Option Hold → Asked
   pub act : L → Option Hold → Act W L A
   pub point : L → Option Hold → Point
   pub Knows : L → Option Hold → ℕ → Plain → List Mark → Type 0
 
--- An exchange that is repeated expects another number, and the step function admits that number. Only a call that
--- registers in time has to show that the number is another one.
+-- A retry that lost has found a number that the step function does not refuse. For a limit to register in time, this
+-- number also differs from the expected one.
 abbrev pub FindsAnother : Limit → Bool → Bool → Type 0
 FindsAnother (registers_after n i) same some = (same ≡ false) × (some ≡ true)
 FindsAnother _ same some = some ≡ true
 
--- an exchange that shows nothing when it fails is the last step of its call
+-- the call ends here
 abbrev pub is_answer : {L A : Type 0} → Next L A → Bool
 is_answer (Continue l) = false
 is_answer (Answers a after) = true
 
--- the plain step that a step makes whenever it is open
+-- the plain step that a step makes whenever this plain step is open
 abbrev pub sure_by : {W L A : Type 0} → Act W L A → ℕ → Option Change
 sure_by (enter test step won lost) p = Some (step p)
 sure_by (exchange operation step won lost) p = Some (step p)
@@ -31,13 +31,13 @@ sure_by (store can operation step next) p = Some (step p)
 sure_by (section can f step won lost) p = Some (step p)
 sure_by _ p = None
 
--- for a try, also the plain step that it looks for
+-- the plain step at which a step aims: for a try, also the plain step that a load only looks for
 abbrev pub aim_by : {W L A : Type 0} → Option Ask → Act W L A → ℕ → Option Change
 aim_by (Some ask) (load_for f step found missed) p = Some (step p)
 aim_by (Some ask) act p = makes_by act p
 aim_by None act p = sure_by act p
 
--- what the next plain step of a call gets, if the call tries, or goes for it without a look
+-- the request that the call's next plain step gets, if the call is a try or begins without a look
 abbrev pub aim_of : Option Ask → Option Ask → List Change → Option Ask
 aim_of (Some ask) due [] = Some ask
 aim_of (Some ask) due (c ∷ cs) = None
@@ -51,14 +51,14 @@ abbrev pub aimed_at : ℕ → Asked → Option Row → Option Change → Option 
 aimed_at p what None step = step
 aimed_at p what (Some row) step = aimed p (aim_of (tries_of what) (goes_of what (row.made p)) (row.made p)) step
 
--- what the next point gives, or x if the call ends
+-- the value of f at the next point, or x if the call ends
 abbrev pub goes_by : {L A X : Type 0} → Next L A → X → (L → X) → X
 goes_by (Continue l) x f = f l
 goes_by (Answers a after) x f = x
 
 module _ {W V C L A : Type 0} (t : Table W V C L A) where
-  -- what an object notes with its table: the shape of its plain lock, the row of each point, and what else a party
-  -- knows there
+  -- What an object notes beside its table: the shape of its plain lock, the row of each point, and what else a party
+  -- knows at a point.
   pub record Notes : Type 1 where
     pub Shape : Plain → Type 0
     pub point : C → L → Option Hold → Point
@@ -78,7 +78,7 @@ module _ {W V C L A : Type 0} {t : Table W V C L A} (n : Notes t) where
   abbrev pub call_of : C → CallOf W L A
   call_of c = record { asks = λ h. t.asks c h; act = λ l h. t.act c l h; point = λ l h. n.point c l h; Knows = λ l h p s span. n.Knows c l h p s span }
 
-  -- what a party in a call knows, by the row of its point
+  -- what a party in a call knows at a point with this row
   abbrev pub KnowsRow : CallOf W L A → L → Option Hold → ℕ → Plain → List Mark → Option Row → Type 0
   KnowsRow k l h p s span None = ⊥
   KnowsRow k l h p s span (Some row) = Known t.lock_kind (k.asks h) (k.act l h) row p s span × k.Knows l h p s span
@@ -99,14 +99,14 @@ module _ {W V C L A : Type 0} {t : Table W V C L A} (n : Notes t) where
 
   -- What has to be shown
 
-  -- If the step function gives a number, the plain step is open and the party's own, and the number makes the words
-  -- after it. If the function refuses, the plain step is closed.
+  -- If the step function gives a number, the plain step is open and is the party's own, and the words with this number are
+  -- those after the plain step. If the step function refuses, the plain step is closed.
   abbrev pub Means : {X : Type 0} → ℕ → Plain → Change → (X → W) → Option X → Type 0
   Means p s c put None = is_open s c ≡ false
   Means p s c put (Some x) = IsOpenStep s p (Some c) × (t.memory.numbers (put x) ≡ encoded t.lock_kind (apply s c)) × n.Shape (apply s c)
 
   module _ (p : ℕ) (k : CallOf W L A) (h : Option Hold) (s : Plain) (w : W) (span : List Mark) (row : Row) where
-    -- The call continues correctly: the row of the next point is this one after the step
+    -- The call continues correctly: the step turns this row into the row `to` of the next point.
     pub record LeadsTo (step : Option Change) (r : StepKind) (branch : Branch) (l : L) (to : Row) : Type 0 where
       pub stands : stand_after s.next step row.stand ≡ Some to.stand
       pub made : row.made p ++ option_to_list step ≡ to.made p
@@ -115,7 +115,7 @@ module _ {W V C L A : Type 0} {t : Table W V C L A} (n : Notes t) where
       pub finds : FoundBy (need_of t.lock_kind (k.asks h) (to.made p) (k.act l h)) (RetryOwes (k.act l h) (number_at t.memory 0 w) step) step r s
       pub knows : k.Knows l h p (apply_some s step) (mark_of p step r s ∷ span)
 
-    -- or it is answered correctly
+    -- The call is answered correctly.
     pub record EndsBy (weakly : Bool) (step : Option Change) (r : StepKind) (a : A) (after : Option Hold) : Type 0 where
       pub stands : stand_after s.next step row.stand ≡ Some (stand_of after)
       pub made : AnyOf (λ steps. row.made p ++ option_to_list step ≡ steps) (own_steps ((k.asks h).answers (t.says a)) p)
@@ -126,12 +126,12 @@ module _ {W V C L A : Type 0} {t : Table W V C L A} (n : Notes t) where
     FollowsRow step r branch l None = ⊥
     FollowsRow step r branch l (Some to) = LeadsTo step r branch l to
 
-    -- by this step and this branch
+    -- the call continues or is answered correctly, after this step with this result
     abbrev pub Follows : Bool → Option Change → StepKind → Branch → Next L A → Type 0
     Follows weakly step r branch (Continue l) = FollowsRow step r branch l (row_at (k.asks h) h (k.point l h))
     Follows weakly step r branch (Answers a after) = EndsBy weakly step r a after
 
-    -- on the i-th word, which is n
+    -- what has to be shown of an act on the i-th word, if this word is the number n
     abbrev pub OwesOn : ℕ → ℕ → Act W L A → Type 0
     OwesOn i n (load next) = Follows false None plain goes (next n)
     OwesOn i n (load_if test a b) =
@@ -174,7 +174,7 @@ module _ {W V C L A : Type 0} {t : Table W V C L A} (n : Notes t) where
   abbrev pub OwesAt : ℕ → C → L → Option Hold → Plain → W → List Mark → Type 0
   OwesAt p c l h s w span = OwesRow p (call_of c) l h s w span (row_of c l h)
 
-  -- a call that may wait is answered in so many steps, if what it asks is open and nobody else steps in between
+  -- if what a waiting call asks is open, `soon` is true: the call is answered in time if no other party steps in between
   abbrev pub AnswersRow : ℕ → CallOf W L A → L → Option Hold → Plain → W → List Mark → Bool → Bool → Option Row → Type 0
   AnswersRow p k l h s w span soon true (Some row) =
       AtPoint p k l h s w span (Some row) → (k.asks h).is_open_next (is_empty (row.made p)) (arrived p span) p s ≡ true → soon ≡ true
@@ -184,7 +184,7 @@ module _ {W V C L A : Type 0} {t : Table W V C L A} (n : Notes t) where
   OwesSoon p c l h s w span =
       AnswersRow p (call_of c) l h s w span (answers_by t (steps_alone (t.asks c h)) w c l h) (t.asks c h).waits (row_of c l h)
 
-  -- a call begins with a row that says this
+  -- what has to be shown of the row at which a call begins
   abbrev pub BeginsRow : C → L → Option Hold → ℕ → Plain → Option Row → Type 0
   BeginsRow c l h p s None = ⊥
   BeginsRow c l h p s (Some row) =
@@ -198,14 +198,14 @@ module _ {W V C L A : Type 0} {t : Table W V C L A} (n : Notes t) where
   abbrev pub AimsAt : ℕ → C → L → Option Hold → Type 0
   AimsAt p c l h = aim_by (tries_of (t.asks c h)) (t.act c l h) p ≡ aimed_at p (t.asks c h) (row_of c l h) (aim_by (tries_of (t.asks c h)) (t.act c l h) p)
 
-  -- at every point of every call
+  -- what has to be shown at every point of every call
   abbrev pub OwesAll : Type 0
   OwesAll = (p : ℕ) (c : C) (l : L) (h : Option Hold) (s : Plain) (w : W) (span : List Mark) → OwesAt p c l h s w span
 
   abbrev pub SoonAll : Type 0
   SoonAll = (p : ℕ) (c : C) (l : L) (h : Option Hold) (s : Plain) (w : W) (span : List Mark) → OwesSoon p c l h s w span
 
-  -- what an object shows of its table
+  -- all that an object has to show of its table
   pub record Pays : Type 0 where
     pub fits : (p : ℕ) (c : C) (l : L) (h : Option Hold) → fits_act t.lock_kind (t.asks c h) (t.act c l h) p ≡ true
     pub calls : CallsFit t

@@ -1,8 +1,8 @@
--- A party's own steps in a span with one more step.
+-- What one more step of a span changes in the counts of a party's own steps.
 use Rattle.spin_world_core.proofs.Names.{◌≡◌, ℕ, ◌+◌, ◌<◌, ◌≤◌, ◌==◌, true, not, ◌&&◌, is_some, Option, None, List, [], ◌∷◌, ◌++◌, option_to_list, if◌then◌else◌, refl, ap, ◌∙◌, arith, ne_eqb, append-nil, Plain, Change, apply_some, bit, StepKind, is_again, LockKind, first_word, Mark, mark_of, own, own_count, failures, changes}
 use Rattle.spin_world_core.proofs.Lists.{eqb_self}
 
--- after a step of its own
+-- after a step of the party p
 module _ (p : ℕ) (step : Option Change) (r : StepKind) (s : Plain) (span : List Mark) where
   pub own-mine : own p (mark_of p step r s ∷ span) ≡ own p span ++ option_to_list step
   own-mine = ap (λ b. own p span ++ (if b then option_to_list step else [])) (eqb_self p)
@@ -18,7 +18,7 @@ pub changes-mine : (kind : LockKind) (p : ℕ) (step : Option Change) (r : StepK
 changes-mine kind p step r s span =
     omega (arith, ap (λ b. bit (not b && not (first_word kind (apply_some s step) == first_word kind s))) (eqb_self p))
 
--- after another party's
+-- after a step of another party
 module _ (p q : ℕ) (step : Option Change) (r : StepKind) (s : Plain) (span : List Mark) (ne : q ≡ p → ⊥) where
   pub own-other : own p (mark_of q step r s ∷ span) ≡ own p span
   own-other = ap (λ b. own p span ++ (if b then option_to_list step else [])) (ne_eqb q p ne) ∙ append-nil (own p span)
@@ -38,7 +38,7 @@ pub nil_left : {X : Type 0} (xs ys : List X) → xs ++ ys ≡ [] → xs ≡ []
 nil_left [] ys e = refl
 nil_left (x ∷ xs) ys e = absurd (cc (e))
 
--- if a failed exchange is due to another party, there are at most as many of them as changes by others
+-- a step keeps at most as many failures as changes by others, if it fails only while there are fewer failures
 pub retries-mine : (kind : LockKind) (p : ℕ) (step : Option Change) (r : StepKind) (s : Plain) (span : List Mark) → failures p span ≤ changes kind p span
     → (is_again r ≡ true → step ≡ None → failures p span < changes kind p span)
     → failures p (mark_of p step r s ∷ span) ≤ changes kind p (mark_of p step r s ∷ span)

@@ -1,4 +1,4 @@
--- What a party has in a call, and how its own plain steps change it.
+-- What a party has in the plain lock during a call, and how its own plain steps change this.
 use Rattle.std.proofs.Common.{◌≡◌, ℕ, Bool, true, false, Option, Some, None, [], ◌∷◌, if◌then◌else◌, refl, arith}
 use Rattle.spin_step.specs.Plain.{Plain, Kind, reading, upgradable, writing, holder, same_kind, ticket as queued, Effect, comes, becomes, enters, runs, effect, Change, gets, releases, serves, stops_starving, turns, completes, fails, arrives}
 use Rattle.spin_step.specs.Parties.{apply_some, IsOpenStep, Entries, entries, no_entries}
@@ -15,7 +15,7 @@ pub data Stand : Type 0 where
   holds : Kind → Stand
   starves : Stand
   holds_and_starves : Kind → Stand
-  queues : ℕ → Bool → Stand  -- with this ticket, which has or hasn't entered
+  queues : ℕ → Bool → Stand  -- with this ticket; the Bool says whether it has entered
 
 abbrev pub entries_at : ℕ → Stand → Entries
 entries_at p absent = no_entries
@@ -36,7 +36,7 @@ pub held_at : (p : ℕ) (h : Option Hold) → entries_held p h ≡ entries_at p 
 held_at p (Some Read) = refl
 held_at p _ = refl
 
--- What a step of its own changes, if n is the next ticket's number. `None`: no such step is made there.
+-- What the party has after it gets this, if n is the next ticket's number. `None`: no call makes such a step there.
 abbrev pub after_getting : ℕ → Effect → Stand → Option Stand
 after_getting n (comes k) absent = Some (holds k)
 after_getting n (comes k) starves = Some (holds_and_starves k)
@@ -60,6 +60,6 @@ stand_after n (Some (fails p)) stand = Some stand
 stand_after n (Some (arrives p)) stand = Some stand
 stand_after n _ _ = None
 
--- after a step of its own
+-- what the party has after a plain step of its own
 pub stand-mine : (s : Plain) (p : ℕ) (step : Option Change) (stand to : Stand) → IsOpenStep s p step → entries p s ≡ entries_at p stand → stand_after s.next step stand ≡ Some to → entries p (apply_some s step) ≡ entries_at p to
 stand-mine s p step stand to may mine is = grind (arith, entries-own s p step may, eqb_self p)

@@ -1,4 +1,4 @@
--- A transcript tells the scenes, and a place tells what its party's moves and entries say.
+-- A transcript tells the scenes of its schedule. A place agrees with the party's moves and with its entries.
 use Rattle.spin_world_core.proofs.Names.{seat_of, eq-eqb, ne_eqb, ◌≡◌, ℕ, ◌<◌, ◌≤◌, ◌==◌, Bool, Option, Some, None, List, [], ◌∷◌, ◌++◌, length, map, slice_get, slice_set, if◌then◌else◌, refl, ap, sym, ◌∙◌, subst, arith, option_map, length-replicate, slice_get-map, slice_get_within, slice_get_cases, Plain, Hold, Seat, Idle, Calling, Holding, Leaked, Gone, Next, Continue, Answers, Move, Step, Weak, Outcome, Event, Mark, Machine, opening_plain, State, happens, goes_on, resting, seen_by_owner, events_of, with_begins, Seen, Scene, scene, scene_of, Every, Keeps, KeepsAll, StandsFor, opening, seen_after, scenes, EachTells, TellsAfterAnyPast}
 use Rattle.spin_model.specs.declared.place.Place.{Place}
 use Rattle.spin_model.specs.declared.schedule.Outcome.TheVariants as outcome
@@ -72,7 +72,7 @@ says_at n p s span None past within stands = (past refl, stands)
 says_at n p s span (Some seat) past within stands = (within seat refl, stands_at s p span seat stands)
 
 module _ {W V C L A : Type 0} (m : Machine W V C L A) where
-  -- an event brings every party p to the stage of its seat
+  -- after an event, the stage of p's seat is the stage that the event's outcome gives p
   abbrev Brings : ℕ → Scene W V C L A → Type 0
   Brings p sc =
       let before = stage_of (seat_of sc.before p) in
@@ -127,7 +127,7 @@ module _ {W V C L A : Type 0} (m : Machine W V C L A) where
   length-seen_after seen [] = refl
   length-seen_after seen (e ∷ es) = length-seen_after (scene m seen e.0 e.1).after es ∙ length-happens m seen.state e.0 e.1
 
-  -- what every place implies, after any schedule
+  -- after any schedule, each party's entries are those that its seat implies
   stand_after : (seen : Seen W V C L) (es : List (ℕ × Move C V)) → Every (Keeps m) m seen es
       → ((q : ℕ) → StandsFor seen.plain q (seen.span q) (seat_of seen q))
       → (q : ℕ) → StandsFor (seen_after m seen es).plain q ((seen_after m seen es).span q) (seat_of (seen_after m seen es) q)

@@ -4,7 +4,7 @@ use Rattle.spin_world_core.specs.Spans.{own_count}
 use Rattle.spin_world_core.proofs.Steps.{AnswersWithin}
 use Rattle.spin_world_core.proofs.Lists.{eqb_self}
 
--- One mark more: what it does to the number of steps taken since each earlier mark, and what begins with it
+-- How one more mark of a span changes the number of steps taken since each earlier mark, and which stretch begins with it
 module _ (kind : LockKind) (p : ℕ) (what : Asked) (m : Mark) (span : List Mark) (P Q : ℕ → Type 0) (begins : is_open_now p what span m.before ≡ true → P 0)
     (step : (n : ℕ) → Leaves kind p m → P n → Q (n + (if m.party == p then 1 else 0))) where
   takes_on : UndisturbedTakes P kind p what span → UndisturbedTakes Q kind p what (m ∷ span)
@@ -31,11 +31,11 @@ module _ {W V C L A : Type 0} (m : Machine W V C L A) where
   RunsOn w p span (Some (Calling c l h)) = UndisturbedTakes (Left w p c l h) m.lock_kind p (m.asks c h) span
   RunsOn w p span _ = Unit {0}
 
-  -- wherever a step leads
+  -- at each point to which the step may lead, the call is answered within k steps
   abbrev pub GoesWithin : ℕ → W → C → Option Hold → Next L A → Type 0
   GoesWithin k w c h next = (l : L) → next ≡ Continue l → AnswersWithin m k w c l h
 
-  -- what is left after a step of its own
+  -- what is left of a call after a step of its own
   pub record LeftBy (w : W) (p : ℕ) (c : C) (h : Option Hold) (next : Next L A) (taken : ℕ) : Type 0 where
     pub steps : ℕ
     pub few : taken + steps ≤ steps_alone (m.asks c h)
@@ -46,7 +46,7 @@ module _ {W V C L A : Type 0} (m : Machine W V C L A) where
     begun_by : AnswersWithin m (steps_alone (m.asks c h)) w c l h → Left w p c l h 0
     begun_by answers = record { steps = steps_alone (m.asks c h); few = omega arith; answers = answers }
 
-    -- a step of its own, which uses one of those left
+    -- after a step of the call's own, one step fewer is left
     one_taken : (next : Next L A) (taken now k : ℕ) → taken + k ≤ steps_alone (m.asks c h) → now ≡ taken + 1 → AnswersWithin m k w c l h
         → ((j : ℕ) → AnswersWithin m (suc j) w c l h → GoesWithin j w' c h next) → LeftBy w' p c h next now
     one_taken next taken now zero few is answers steps = absurd answers
@@ -60,7 +60,7 @@ module _ {W V C L A : Type 0} (m : Machine W V C L A) where
         takes_on m.lock_kind p (m.asks c h) (mark_of p step r s) span (Left w p c l h) (LeftBy w' p c h next) (λ may. begun_by (begins may))
         (λ n leaves left. one_taken next n _ left.steps left.few (ap (λ b. n + (if b then 1 else 0)) (eqb_self p)) left.answers (steps (leaves.strong refl))) runs
 
-  -- a step of another party: if it does not disturb this one, it does not change the words
+  -- a step of another party keeps what is left of a call, if a step that does not disturb the call leaves the words unchanged
   pub beside : (w w' : W) (p q : ℕ) (s : Plain) (step : Option Change) (r : StepKind) (span : List Mark) (o : Option (Seat C L)) → (p ≡ q → ⊥)
       → (encoded m.lock_kind (apply_some s step) ≡ encoded m.lock_kind s → w' ≡ w)
       → ((c : C) (l : L) (h : Option Hold) → o ≡ Some (Calling c l h) → is_open_now q (m.asks c h) span s ≡ true

@@ -1,4 +1,4 @@
--- The laws that users rely on.
+-- Proofs of the laws that users rely on.
 use Rattle.spin_world_core.proofs.Names.{arith, ◌≡◌, ℕ, List, [], ◌∷◌, refl, ap, sym, ◌∙◌, Move, Machine, State, after, at_first, Seen, Every, Keeps, KeepsAll, opening, scene, seen_after, FindsLastWritten, RunsJoin}
 use Rattle.spin_world_core.proofs.Every.{state-seen_after}
 use Rattle.spin_model.proofs.Schedules.{after-append}

@@ -11,7 +11,7 @@ two a b c d e f = grind arith
 
 -- The shape
 
--- nobody queues, or nobody holds
+-- a lock without a queue, and a lock without holders, have no holders or no tickets
 pub no_queue : (s : Plain) → s.tickets ≡ [] → (is_empty s.holders || is_empty s.tickets) ≡ true
 no_queue s none = grind arith
 
@@ -20,11 +20,11 @@ no_holders s none = grind arith
 
 -- Tests
 
--- what fails does not pass
+-- a test that is false does not pass
 pub never : {X : Type 0} → false ≡ true → X
 never passes = absurd (false≢true passes)
 
--- if the second fails, the first holds
+-- if one of two tests passes and the second does not, the first does
 pub only_left : (a b : Bool) → b ≡ false → (a || b) ≡ true → a ≡ true
 only_left a b none is = grind arith
 

@@ -7,7 +7,7 @@ use Rattle.spin_world_core.proofs.Preserved.{Invariant, in_call}
 use Rattle.spin_world_core.proofs.Every.{kept, every, good_first}
 
 module _ {W V C L A : Type 0} (m : Machine W V C L A) where
-  -- a call that continues has the value as its step left it
+  -- whether a call continues or is answered, the value is as its step left it
   value-goes_on : (s : State W V C L) (p : ℕ) (c : C) (h : Option Hold) (next : Next L A) → (goes_on s p c h next).next.value ≡ s.value
   value-goes_on s p c h next = grind arith
 
@@ -26,7 +26,7 @@ module _ {W V C L A B : Type 0} {t : Table W V C L A} {by : Machine W V C L B} {
   abbrev m : Machine W V C L B
   m = played t by
 
-  -- an event that is no step of a call
+  -- the promises of values hold of an event that is no step of a call
   still : (s : Scene W V C L B) → Invariant f s.after → Brings m s.change s.seat s.after.state.value → GivesAt m s.move s.outcome s.after.state.value
       → KeepsValue m s
   still s after brings gives = record { phase = after.phase; brings = brings; gives = gives }
@@ -43,7 +43,7 @@ module _ {W V C L A B : Type 0} {t : Table W V C L A} {by : Machine W V C L B} {
       still _ after tt (gives-weak m seen.state p c h (m.refuse c l h) (f.refusal_gives c l h seen.state.value))
   keeps_at seen p _ _ good there after = still _ after tt tt
 
-  -- one event
+  -- the promises of values hold of each event from a state with the invariant
   pub keeps_value : (seen : Seen W V C L) (p : ℕ) (move : Move C V) → Invariant f seen → KeepsValue m (scene m seen p move)
   keeps_value seen p move good = keeps_at seen p move (seat_of seen p) good refl (kept f seen p move good).good
 

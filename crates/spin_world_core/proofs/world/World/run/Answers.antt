@@ -23,7 +23,7 @@ further m s t schedule is reached =
     ∥∥₁_map reached (λ led.
     (led.0, led.1 ++ schedule, after-append m (at_first m led.0) led.1 schedule ∙ (ap (λ u. after m u schedule) led.2 ∙ sym is)))
 
--- what is written back into a vector of this length
+-- the first n elements of what is written back into a vector of length n have this length
 kept_length : {X : Type 0} (n : ℕ) (xs ys : List X) → length xs ≡ n → length (take n (xs ++ ys)) ≡ length xs
 kept_length n xs ys is = length-take-le n (xs ++ ys) (omega (arith, length-append xs ys, is)) ∙ sym is
 
