@@ -1,4 +1,4 @@
--- What the barrier's table must show.
+-- What has to be shown of the barrier's table.
 use Rattle.spin_world.proofs.BarrierNames.{◌≡◌, ℕ, ◌+◌, ◌/◌, ◌%◌, ◌^◌, ◌≤◌, ◌==◌, false, ◌&&◌, is_some, Option, Some, None, List, ◌∷◌, refl, sym, subst, arith, inr, max, Plain, Change, arrives, apply, count_word, generation_word, IsBarrier, is_leading, generation_at, barrier_arrive-words, barrier_count-below, barrier_may_leave-tells, barrier_may_leave-full, Hold, BarrierWords, BarrierCall, BarrierPoint, Arrive, Leave, arrived, mark_of, passes, is_arrival, barrier_table, barrier_machine, []}
 use Rattle.std.proofs.Math.Bool.{and-false}
 use Rattle.std.proofs.Math.Nat.{mod-le, div-le_self}
@@ -26,11 +26,11 @@ point_of Arrive None = looked 0
 point_of (Leave g) None = onward (record { stand = absent; made = λ p. arrives p ∷ []; rest = λ p. []; said = follows; spent = 0 })
 point_of l (Some h) = nowhere
 
--- the party's own step is this arrival
+-- the step m is the party's own arrival, the k-th of all arrivals
 abbrev Arrives : ℕ → ℕ → Mark → Type 0
 Arrives p k m = (m.party ≡ p) × (m.change ≡ Some (arrives p)) × (m.after.arrivals ≡ k)
 
--- it follows where its group is full
+-- at some step of the span, the group of the k-th arrival is full
 abbrev IsFull : ℕ → List Mark → Type 0
 IsFull k span = list_any (λ m. nat_le (filled_by m.before k) m.before.arrivals) span ≡ true
 
@@ -45,8 +45,7 @@ follows_right : (p k : ℕ) (all span : List Mark) → AnyOf (λ m. Arrives p k 
 follows_right p k all [] made full = absurd made
 follows_right p k all (m ∷ ms) made full = grind (arith, follows_here p k all m, follows_right p k all ms)
 
--- A party that has arrived knows the number of its arrival, which does not lead, and so the generation that it found
--- then.
+-- What a party that waits knows. It has arrived, its arrival does not lead, and the generation at its arrival was g.
 pub record Waits (g p : ℕ) (s : Plain) (span : List Mark) : Type 0 where
   pub come : arrived p span ≤ s.arrivals
   pub found : generation_at s (arrived p span) ≡ g
@@ -57,7 +56,7 @@ abbrev pub KnowsAt : BarrierPoint → ℕ → Plain → List Mark → Type 0
 KnowsAt Arrive p s span = Unit {0}
 KnowsAt (Leave g) p s span = Waits g p s span
 
--- nobody holds it or queues, and its groups have this size
+-- the shape of a barrier with groups of n: no party holds or queues
 pub record IsOf (n : ℕ) (s : Plain) : Type 0 where
   pub no_holders : s.holders ≡ []
   pub group : s.group ≡ n
@@ -65,11 +64,11 @@ pub record IsOf (n : ℕ) (s : Plain) : Type 0 where
 abbrev pub barrier_notes : (n : ℕ) → Notes (barrier_table n)
 barrier_notes n = record { Shape = λ s. IsOf n s; point = λ c l h. point_of l h; Knows = λ c l h p s span. KnowsAt l p s span }
 
--- the step adds one arrival if it is an arrival
+-- a step adds one to the number of arrivals exactly if it is an arrival
 pub one_more : (s : Plain) (step : Option Change) → BelongsTo barrier step → (apply_some s step).arrivals ≡ s.arrivals + bit (passes is_arrival step)
 one_more s step belongs = grind arith
 
--- a step that is not the party's own arrival does not change what the party knows
+-- a step other than the party's own arrival does not change what the party knows
 waits-on : (g p q : ℕ) (s : Plain) (step : Option Change) (r : StepKind) (span : List Mark) → ((q == p) && is_some step) ≡ false → BelongsTo barrier step → Waits g p s span → Waits g p (apply_some s step) (mark_of q step r s ∷ span)
 waits-on g p q s step r span none belongs waits =
     let same : arrived p (mark_of q step r s ∷ span) ≡ arrived p span = grind arith in
@@ -84,7 +83,7 @@ module _ (n : ℕ) where
   pub is_barrier : (s : Plain) (w : BarrierWords) → w.count ∷ w.generation ∷ [] ≡ count_word s ∷ generation_word s ∷ [] → IsOf n s → IsBarrier s n w.count w.generation
   is_barrier s w encodes of = record { group = of.group; counts = cc (encodes); generations = cc (encodes) }
 
-  -- the party's own arrival, which does not lead
+  -- what a party knows after its own arrival, if this arrival does not lead
   waits_from : (p : ℕ) (s : Plain) (r : StepKind) (span : List Mark) (g : ℕ) → generation_word s ≡ g → is_leading s (s.arrivals + 1) ≡ false → generation_at s (s.arrivals + 1) ≡ g → Waits g p (apply s (arrives p)) (mark_of p (Some (arrives p)) r s ∷ span)
   waits_from p s r span g is behind same = grind arith
 

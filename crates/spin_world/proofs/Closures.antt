@@ -1,4 +1,4 @@
--- What users of a `Once` may rely on when closures begin, also after one that failed.
+-- Proofs of what users of a `Once` may rely on when a closure begins, also after another closure has failed.
 use Rattle.spin_world.proofs.OnceNames.{◌≡◌, ℕ, true, Option, Some, ◌∷◌, ◌++◌, slice_get, refl, arith, ap, ◌∙◌, ◌⊎◌, Hold, Calling, Step, to_begin, gets, Seen, step_at, happens, at_first, OnceCall, OncePoint, Look, TryBegin, Await, Run, asks_of, OnceMachine, once_machine, Entries, once_after, RunsClosure, seen_at, has_just_looked, has_closure, MayRunAgain, LooksFirst, after-append, Invariant, in_call, []}
 use Rattle.spin_model.specs.declared.place.Seat.{Seat}
 use Rattle.spin_model.proofs.Lists.{get-set_same}
@@ -9,7 +9,7 @@ module _ {V : Type 0} (value : Option V) where
   abbrev m : OnceMachine V
   m = once_machine value
 
-  -- if the word is 0, a look does not change it and leads to the exchange, and the exchange leads to the closure
+  -- If the word is 0, a look leaves the word at 0 and leads to the exchange. The exchange then leads to the closure.
 
   abbrev next_point : OncePoint → OncePoint
   next_point Look = TryBegin

@@ -1,4 +1,4 @@
--- The shape of a fair lock, how its steps keep it, and what a party finds.
+-- The shape of a fair lock, how steps keep this shape, and what a party finds in the word.
 use Rattle.spin_world.proofs.FairNames.{◌≡◌, ℕ, ◌%◌, ◌==◌, true, false, not, ◌&&◌, ◌||◌, ◌∷◌, ◌++◌, length, refl, ap, sym, ◌∙◌, arith, length-append, min, eq-eqb, Plain, holder, writing, is_empty, is_starver, is_holder, fair_word, releases, apply, Entries, entries, is_held, most_starvers, OneHolds, empty_is, is_empty-none, is_empty-some, length-without_holder, is_starver-from_entries, flag_is, starves, holds_and_starves, entries_at, only_left, is_holder-own, []}
 
 -- the shape of the lock: at most one holder, no queue, and the cap
@@ -7,14 +7,14 @@ pub record IsFair (cap : ℕ) (s : Plain) : Type 0 where
   pub queue : s.tickets ≡ []
   pub room : s.cap ≡ min cap most_starvers
 
--- a party may hold if nobody does
+-- if nobody holds, a new holder keeps the shape
 pub comes : (cap p : ℕ) (s : Plain) → IsFair cap s → is_empty s.holders ≡ true → IsFair cap (record s { holders = s.holders ++ holder p writing ∷ [] })
 comes cap p s shape free = record { one = omega (arith, length-append s.holders (holder p writing ∷ []), ap length (empty_is s.holders free)); queue = shape.queue; room = shape.room }
 
 pub goes_away : (cap p : ℕ) (s : Plain) → IsFair cap s → is_holder p writing s.holders ≡ true → IsFair cap (apply s (releases p writing))
 goes_away cap p s shape found = record { one = omega (arith, shape.one, length-without_holder p writing s.holders found); queue = shape.queue; room = shape.room }
 
--- a party among the starvers
+-- a party whose entries are those of a starver is among the starvers
 
 pub is_starving : (p : ℕ) (s : Plain) → entries p s ≡ entries_at p starves → is_starver p s.starvers ≡ true
 is_starving p s mine = is_starver-from_entries p s.starvers (ap (λ (e : Entries). e.starvers) mine)
@@ -22,7 +22,7 @@ is_starving p s mine = is_starver-from_entries p s.starvers (ap (λ (e : Entries
 pub is_starving_still : (p : ℕ) (s : Plain) → entries p s ≡ entries_at p (holds_and_starves writing) → is_starver p s.starvers ≡ true
 is_starving_still p s mine = is_starver-from_entries p s.starvers (ap (λ (e : Entries). e.starvers) mine)
 
--- a starver with nothing else does not hold, so what it asks is to get the lock
+-- a starver with no other entries does not hold, so what its call asks next is to get the lock
 pub not_there : (p : ℕ) (s : Plain) → entries p s ≡ entries_at p starves → ((is_starver p s.starvers && is_empty s.holders) || is_holder p writing s.holders) ≡ true → (is_starver p s.starvers && is_empty s.holders) ≡ true
 not_there p s mine free = only_left _ _ (is_holder-own p writing s.holders ∙ ap (λ (e : Entries). is_holder p writing e.holders) mine) free
 
@@ -31,11 +31,11 @@ pub set_by_holder : (cap p w : ℕ) (s : Plain) → IsFair cap s → fair_word s
 set_by_holder cap p w s shape is found =
     let one : w % 2 ≡ 1 = omega (arith, sym (flag_is s w shape.one is).0, shape.one, length-without_holder p writing s.holders found) in eq-eqb (w % 2) 1 one
 
--- what a starver finds if the lock is open to it
+-- if nobody holds, a starver finds the flag clear
 pub flag_clear : (w : ℕ) (s : Plain) → fair_word s ≡ w → is_empty s.holders ≡ true → w % 2 ≡ 0
 flag_clear w s is free = omega (arith, sym is, ap length (empty_is s.holders free))
 
--- why a newcomer is refused
+-- what the word says of the reason for which a newcomer is refused
 
 pub word_locked : (w : ℕ) (s : Plain) → OneHolds s → fair_word s ≡ w → w ≡ 1 → (is_held s && is_empty s.starvers) ≡ true
 word_locked w s one is e = rw (is_empty-some s.holders (omega (arith, (flag_is s w one is).0, e)), is_empty-none s.starvers (omega (arith, (flag_is s w one is).1, e))) refl

@@ -1,4 +1,4 @@
--- What the fair lock's table must show.
+-- What has to be shown of the fair lock's table.
 use Rattle.spin_world.proofs.FairNames.{◌≡◌, ℕ, ◌<◌, ◌+◌, ◌-◌, ◌%◌, ◌==◌, true, false, ◌&&◌, nat_lt, Option, Some, None, List, ◌∷◌, refl, ap, arith, and_parts, eqb-true, Plain, writing, to_lock_unregistered, to_lock_starving, to_lock_starving_alone, to_starve, Change, gets, releases, stops_starving, is_empty, is_starver, fair_word, apply_some, Entries, entries, is_held, empty_is, is_holder-from_entries, length-without_starver, is_set, lock, starve, lock_fair, fair_lock-grants, fair_starve-grants, fair_lock_fair-grants, fair_lock_starved-grants, fair_unstarve-gives, fair_unlock-gives, fair_is_locked-tells, Hold, Write, Starver, FairCall, Lock, TryLock, TryLockStarver, IsLocked, Starve, StarverTryLockFair, StarverTryLock, StarverLock, StarverDrop, Release, FairPoint, First, Attempt, Look, Load, Register, SetFlag, Await, Unregister, StepKind, plain, again, weak, Mark, granted, fair, mark_of, own_count, changes, RegistersInTime, tried, fair_table, fair_machine, holds, starves, holds_and_starves, entries_at, Row, Point, nowhere, looked, onward, Notes, Means, OwesAll, SoonAll, Pays, no_queue, []}
 use Rattle.spin_model.specs.Operations.{sets_lowest_bit}
 use Rattle.spin_world_core.proofs.Operating.{one_place, operates_by}
@@ -7,11 +7,11 @@ use Rattle.spin_world_core.proofs.Filled.{plays_of}
 use Rattle.spin_world.proofs.Registering.{sooner, MayBeBlind, blind-other, blind_after_step, blind_after_free, blind_after_late, allowed, none_left, few_to_load, few_to_register, Looking, Loading, Registering, none_yet, starving-other, looking-other, loading-other, registering-other, goes_on, missed, looked_free, looked_held, looked_late, loaded, retried, full, registered, looked_starving}
 use Rattle.spin_world.proofs.FairKnowledge.{IsFair, comes, goes_away, is_starving, is_starving_still, set_by_holder, flag_clear, word_locked, word_starved, not_there}
 
--- a starver tries to get the lock, after these plain steps
+-- the row of a starver that waits for the lock, after these plain steps
 abbrev pub starving_row : (ℕ → List Change) → Row
 starving_row made = record { stand = starves; made = made; rest = λ p. gets p to_lock_starving ∷ stops_starving p ∷ []; said = granted; spent = 0 }
 
--- it has the lock, and is still registered
+-- the row of a starver that holds the lock and is still registered
 abbrev pub leaving_row : ℕ → (ℕ → List Change) → Row
 leaving_row spent made = record { stand = holds_and_starves writing; made = made; rest = λ p. stops_starving p ∷ []; said = granted; spent = spent }
 
@@ -39,8 +39,8 @@ point_of StarverDrop First (Some Starver) = looked 0
 point_of Release First (Some Write) = looked 0
 point_of _ _ _ = nowhere
 
--- what else a party knows: how many looks its `lock` has made, compared with its patience, and that its next step may
--- be blind if it is
+-- What else a party knows: how many looks its `lock` has made, compared with its patience. If its next step is blind,
+-- the party also knows that this step may be.
 abbrev pub KnowsAt : ℕ → FairCall → FairPoint → ℕ → Plain → List Mark → Type 0
 KnowsAt patience Lock (Attempt n) p s span = Looking patience n p span × MayBeBlind patience p span
 KnowsAt patience Lock (Look n) p s span = Looking patience n p span
@@ -58,7 +58,7 @@ module _ {V : Type 0} (v : V) (cap patience : ℕ) where
   abbrev IsMeant : ℕ → Plain → Change → Option ℕ → Type 0
   IsMeant p s c o = Means (fair_notes v cap patience) p s c (λ k. k) o
 
-  -- what the step functions mean there
+  -- what the step functions mean in a state of this shape
   module _ (p : ℕ) (s : Plain) (w : ℕ) (word : fair_word s ≡ w) (shape : IsFair cap s) where
     held : is_held s ≡ is_set w
     held = fair_is_locked-tells s w shape.one shape.queue word
@@ -85,14 +85,14 @@ module _ {V : Type 0} (v : V) (cap patience : ℕ) where
         let found = is_holder-from_entries p writing s.holders (ap (λ (e : Entries). e.holders) mine) in
         grind (arith, set_by_holder cap p w s shape word found, fair_unlock-gives s p writing w word found, goes_away cap p s shape found)
 
-    -- what it finds if the lock is open to it
+    -- if nobody holds or starves, a newcomer finds the word 0
     free_word : (is_empty s.holders && is_empty s.starvers) ≡ true → w ≡ 0
     free_word free = grind (arith, word, empty_is s.holders, empty_is s.starvers)
 
     clear_word : (is_starver p s.starvers && is_empty s.holders) ≡ true → w % 2 ≡ 0
     clear_word free = flag_clear w s word (and_parts (is_starver p s.starvers) (is_empty s.holders) free).1
 
-  -- in the steps that are left
+  -- a call that may starve has steps left in which it registers in time
   abbrev InTime : ℕ → List Mark → Type 0
   InTime p span = RegistersInTime (λ recent. own_count p recent < 2 + changes fair p recent) p patience span
 
@@ -157,8 +157,8 @@ module _ {V : Type 0} (v : V) (cap patience : ℕ) where
   owes p Release First (Some Write) s w span = grind (arith, unlock_means p s w)
   owes p _ _ _ s w span = tt
 
-  -- Undisturbed, the exchange acquires a free lock, at once or after a look.
-  -- A party that has begun to register does so, gets the lock, and stops starving.
+  -- If nobody disturbs the call, its exchange acquires a free lock, at once or after a look. A party that has begun to
+  -- register then registers, gets the lock, and stops starving.
   soon : SoonAll (fair_notes v cap patience)
   soon p Lock l h s w span = grind (arith, free_word p s w, clear_word p s w, not_there p s)
   soon p StarverLock l h s w span = grind (arith, clear_word p s w)

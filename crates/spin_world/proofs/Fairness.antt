@@ -1,4 +1,4 @@
--- What users of a fair lock may rely on, from what each event keeps.
+-- Proofs of what users of a fair lock may rely on, from what each event keeps.
 use Rattle.spin_world.proofs.FairNames.{◌≡◌, ℕ, true, false, Option, List, ◌∷◌, arith, Plain, Kind, writing, Holder, Change, is_holder, is_starver, is_only_starver, without_holder, fair_word, apply_some, IsOpenStep, empty_is, is_empty-none, BelongsTo, fair, IsFree, []}
 
 pub free_when_zero : (w : ℕ) (s : Plain) → w ∷ [] ≡ fair_word s ∷ [] → w ≡ 0 → IsFree s
@@ -11,7 +11,7 @@ zero_when_free w s encodes free = grind (arith, encodes, free)
 is_one_of : (p : ℕ) (qs : List ℕ) → is_only_starver p qs ≡ true → is_starver p qs ≡ true
 is_one_of p qs only = grind arith
 
--- a party that holds after another's release held before it
+-- a party that holds after another party's release held before this release
 held_before : (p q : ℕ) (k : Kind) (hs : List Holder) → is_holder p writing (without_holder q k hs) ≡ true → is_holder p writing hs ≡ true
 held_before p q k [] held = held
 held_before p q k (h ∷ hs) held = grind (arith, held_before p q k hs)

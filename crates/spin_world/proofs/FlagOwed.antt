@@ -1,4 +1,4 @@
--- What the flag's table must show.
+-- What has to be shown of the flag's table.
 use Rattle.std.proofs.Common.{◌≡◌, ℕ, Bool, Option, List, [], refl, arith}
 use Rattle.spin_step.specs.Plain.{Plain, writing}
 use Rattle.spin_step.proofs.Holders.{is_holder-from_entries, length-held}
@@ -17,8 +17,8 @@ use Rattle.spin_world_core.proofs.Usual.{no_queue}
 use Rattle.spin_world_core.proofs.Filled.{plays_of}
 use Rattle.spin_model.specs.declared.flag.FlagCall.TheVariants.{Release}
 
--- At each point the call is as at its beginning: it has made no plain step, and only `Lock`, which has no limit, makes
--- more than one step.
+-- At each point the row is that of the beginning, since the call has made no plain step. Only `Lock` makes more than one
+-- step, and it has no limit.
 abbrev pub flag_notes : {V : Type 0} (v : V) → Notes (flag_table v)
 flag_notes v = record { Shape = λ s. s.tickets ≡ []; point = λ c l h. starts (begin_of (flag_table v) c h); Knows = λ c l h p s span. Unit {0} }
 
@@ -34,7 +34,7 @@ module _ {V : Type 0} (v : V) where
   flag_pays =
       record {
         fits = λ p c l h. grind arith;
-        -- an exchange that fails finds a set flag, and does not change it
+        -- an exchange that fails finds the flag set, and leaves it set
         operates = λ c l h w one. grind arith;
         first = refl;
         shape_first = refl;

@@ -1,5 +1,5 @@
--- A starver that has set the flag is at a point where its next step is granted. A starver that waits is at a point
--- where its step sets a clear flag.
+-- A starver that has set the flag is at a point whose step answers `Granted`. A starver that waits is at a point whose
+-- step sets a clear flag, or looks at the flag.
 use Rattle.spin_world.proofs.FairNames.{◌≡◌, ℕ, ◌+◌, ◌%◌, ◌==◌, ◌⊎◌, Bool, true, not, ◌&&◌, Option, Some, List, refl, ap, sym, ◌∙◌, arith, inl, inr, ⊎_elim, eq-eqb, and_from, is_empty, fair_word, Entries, Hold, Continue, Answer, opening, entries_at, row_of, FairCall, FairPoint, SetFlag, Await, Unregister, asks_of, fair_machine, IsGrantedNext, SetsAClearFlag, GoesForAClearFlag}
 use Rattle.spin_model.specs.declared.place.Seat.TheVariants.{Calling}
 use Rattle.spin_model.specs.declared.schedule.Move.{Move}
@@ -31,7 +31,7 @@ module _ {V : Type 0} (v : V) (cap patience : ℕ) where
       let both = calls_so (fair_facts v cap patience) n past holds_starving p there (ap holds_starving is) in
       ap (λ o. (moves_at m (after m (at_first m n) past) p Step o).outcome) (there ∙ ap (λ l. Some (Calling c l h)) (leaves_at p c l h both))
 
-  -- a waiting starver is at a point where it sets the flag, or looks at it
+  -- a waiting starver is at a point whose step sets the flag or looks at the flag
 
   sets : (c : FairCall) (h : Option Hold) → SetsAClearFlag m c SetFlag h
   sets c h w value clear = rw (eq-eqb (w % 2) 0 clear) refl

@@ -1,4 +1,4 @@
--- What users of a barrier may rely on.
+-- Proofs of what users of a barrier may rely on.
 use Rattle.spin_world.proofs.BarrierNames.{◌≡◌, ℕ, ◌+◌, ◌%◌, ◌==◌, ◌↔◌, true, Option, Some, None, ◌∷◌, slice_get, ap, sym, ◌∙◌, arith, max, arrives, may_leave, barrier_arrive-words, barrier_may_leave-tells, Leader, Follower, Hold, BarrierWords, BarrierCall, BarrierPoint, Seen, scene, step_at, opening, own, arrived, seen_after, passes, steps_made, BarrierMachine, leads, barrier_machine, is_arrival, Entries, seen_at, arrivals, InGroups, FollowersLeave, []}
 use Rattle.spin_model.specs.declared.place.Seat.{Seat}
 use Rattle.spin_model.specs.declared.place.Seat.TheVariants.{Calling}
@@ -32,7 +32,7 @@ module _ (n : ℕ) where
       let here = kept f seen e.0 e.1 good in
       omega (arith, one_more seen.plain (scene m seen e.0 e.1).change here.keeps.belongs, counted (scene m seen e.0 e.1).after es here.good)
 
-  -- by the party's seat: the number is that of the next arrival in its group, or 0
+  -- by the party's seat; `last` is the place of the next arrival in its group, or 0 if this arrival fills the group
   leads_at : (s : BarrierState) (p last : ℕ) (o : Option (Seat BarrierCall BarrierPoint)) → leads n s.words ≡ (last == 0)
       → ((moves_at m s p Step o).outcome ≡ Answered Leader None) ↔ ((passes is_arrival (step_at m s p Step o) ≡ true) × (last ≡ 0))
   leads_at s p last o leading = grind arith

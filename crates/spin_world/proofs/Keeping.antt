@@ -1,4 +1,4 @@
--- What users of a `Once` may rely on: one closure at a time, and one value.
+-- Proofs of what users of a `Once` may rely on: one closure runs at a time, and there is one value.
 use Rattle.spin_world.proofs.OnceNames.{Plays, ◌≡◌, ℕ, ◌==◌, true, false, is_some, Option, Some, None, ◌∷◌, ◌++◌, slice_get, refl, arith, ap, sym, ◌∙◌, subst, and_parts, running, Change, once_word, IsOpenStep, Answer, Value, Hold, Calling, Step, State, happens, after, at_first, Seen, scene, opening, last_written, placed_at, MayTouch, OnceCall, Get, OncePoint, Run, runs, asks_of, OnceMachine, once_machine, Entries, once_after, seen_at, keeps_value, is_shared, ValueStays, RunsClosure, OneRuns, wants_value, AnswersAtOnce, GetAgrees, after-append, InCall, Invariant, []}
 use Rattle.spin_model.specs.declared.schedule.Move.{Move}
 use Rattle.spin_model.specs.declared.schedule.Outcome.{Outcome}
@@ -64,7 +64,7 @@ module _ {V : Type 0} (value : Option V) where
   word_at : (n : ℕ) (past : Entries V) → (once_after m n past).words ≡ once_word (seen_at m n past).plain
   word_at n past = cc (numbers_are f n past)
 
-  -- a party at the end of a closure runs it, and nobody else runs one
+  -- a party at the point `Run` runs its closure, and no other party runs one
 
   module _ (n : ℕ) (past : Entries V) (p : ℕ) (c : OnceCall V) (l : OncePoint) (h : Option Hold) (there : slice_get (once_after m n past).seats p ≡ Some (Calling c l h)) where
     in_call_at : InCall (once_notes value) p c l h (seen_at m n past).plain (seen_at m n past).state.words ((seen_at m n past).span p)
@@ -97,7 +97,7 @@ module _ {V : Type 0} (value : Option V) where
 
   -- If there is a value
 
-  -- then the word is 2
+  -- if there is a value, the word is 2
   made_at : (n : ℕ) (past : Entries V) (v : V) → (once_after m n past).value ≡ Some v → (once_after m n past).words ≡ 2
   made_at n past v is = grind (arith, word_at n past, (a_value_stays n past []).complete)
 

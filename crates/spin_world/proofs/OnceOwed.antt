@@ -1,10 +1,10 @@
--- What the table of a `Once` must show.
+-- What has to be shown of the table of a `Once`.
 use Rattle.spin_world.proofs.OnceNames.{◌≡◌, ℕ, true, Option, Some, None, List, ◌∷◌, refl, arith, Plain, running, to_begin, Change, gets, completes, fails, runs-others, Hold, OnceCall, CallOnce, TryCallOnceOk, TryCallOnceErr, InitFromRef, Wait, Poll, Get, IsCompleted, OncePoint, Look, TryBegin, Run, Mark, Said, gives_value, failed, brings_of, once_table, once_machine, has_just_looked, Plays, Point, nowhere, looked, onward, Notes, no_holders, []}
 use Rattle.spin_world_core.proofs.Stands.{absent}
 use Rattle.spin_world_core.proofs.Operating.{one_place, operates_by}
 use Rattle.spin_world_core.proofs.Filled.{PaysWith, plays_with}
 
--- a call with a closure looks until it runs its closure; then only the end of the closure is left
+-- a call with a closure has made no plain step until it runs the closure; then only the end of the closure is left
 abbrev pub run_point : (ℕ → Change) → Said → OncePoint → Option Hold → Point
 run_point end said l (Some h) = nowhere
 run_point end said Run None = onward (record { stand = absent; made = λ p. gets p to_begin ∷ []; rest = λ p. end p ∷ []; said = said; spent = 0 })
@@ -21,7 +21,7 @@ point_of Get Look None = looked 0
 point_of IsCompleted Look None = looked 0
 point_of _ _ _ = nowhere
 
--- a party that tries to begin its closure has just looked, and one that runs it knows that it does
+-- A party that is about to begin its closure has just looked. A party that runs its closure knows that the phase says so.
 abbrev pub RunsAt : OncePoint → ℕ → Plain → List Mark → Type 0
 RunsAt TryBegin p s span = has_just_looked p span ≡ true
 RunsAt Run p s span = s.phase ≡ running p

@@ -1,4 +1,4 @@
--- What users of a ticket lock may rely on.
+-- Proofs of what users of a ticket lock may rely on.
 use Rattle.spin_world.proofs.TicketNames.{◌≡◌, ℕ, ◌+◌, Option, Some, List, ◌∷◌, ◌++◌, slice_get, ap, arith, Plain, Change, serving_word, apply_some, IsOpenStep, Entries, bit, Numbered, serving-moves, entered_is_served, Answer, Holding, Move, TicketCall, TicketPoint, TicketWords, after, at_first, Seen, scene, opening, ticket_machine, seen_after, Plays, passes, serves_one, tickets_gone, InOrder, InTurn, []}
 use Rattle.spin_model.specs.declared.place.Hold.TheVariants as hold
 use Rattle.spin_model.specs.Machines.{Machine}
@@ -39,7 +39,7 @@ module _ {V : Type 0} (v : V) (first : ℕ) where
       let has = ap (λ (e : Entries). e.tickets) (stands f n past p there) in
       (entered_is_served (seen_after m (opening m n) past).plain p t order.numbered order.one_entered has).1
 
-  -- the served number after further entries
+  -- the served number after `further` is the one before, plus the number of tickets that have left
   served_later : (n : ℕ) (past further : List (ℕ × Move TicketCall V))
       → serving_word (seen_after m (opening m n) (past ++ further)).plain
       ≡ (after m (at_first m n) past).words.serving + tickets_gone m (seen_after m (opening m n) past) further

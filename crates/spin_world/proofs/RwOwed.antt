@@ -1,4 +1,4 @@
--- What the table of the read-write lock must show.
+-- What has to be shown of the table of the read-write lock.
 use Rattle.spin_world.proofs.RwNames.{◌≡◌, ℕ, ◌+◌, ◌/◌, ◌≤◌, true, false, Option, Some, None, List, ◌∷◌, ◌++◌, length, nat_lt, refl, ap, sym, ◌∙◌, arith, eq-eqb, length-append, Plain, Kind, reading, upgradable, asking, writing, weight, Holder, holder, to_read, to_read_upgradable, to_write, to_upgrade, to_upgrade_asked, Change, gets, releases, turns, may_come, is_empty, is_holder, may_turn, with_kind, rw_word, Entries, entries, IsExclusive, reader_limit, tells, read, read_upgradable, write, upgrade, upgrade_asked, released, is_holder-from_entries, is_holder-own, length-without_holder, empty_is, room_to_come, one_of_each, read-word, upgradable_read-word, upgradable-word, tells-holder, readers-word, writers-word, only_upgradable-word, only_asking-word, empty-word, Hold, RwCall, TryRead, Read, TryUpgradeableRead, UpgradeableRead, TryWrite, TryWriteWeak, Write, ReaderCount, WriterCount, TryUpgrade, TryUpgradeWeak, Upgrade, Downgrade, DowngradeToUpgradeable, Release, RwPoint, First, Exchange, Asking, Mark, holds, entries_at, Notes, Means, OwesAll, SoonAll, Pays, no_queue, [], turned_to}
 use Rattle.std.specs.Prelude.{min, max}
 use Rattle.spin_step.proofs.Sums.{length-with_kind}
@@ -11,11 +11,11 @@ use Rattle.spin_world_core.proofs.Rows.{Row, Point, nowhere, looked, onward}
 use Rattle.spin_world_core.proofs.Operating.{one_place, operates_by}
 use Rattle.spin_world_core.proofs.Filled.{plays_of}
 
--- a reader that has asked to upgrade becomes the writer
+-- the row of a reader that has asked to upgrade, and waits to become the writer
 abbrev pub asking_row : Row
 asking_row = record { stand = holds asking; made = λ p. turns p upgradable asking ∷ []; rest = λ p. gets p to_upgrade_asked ∷ []; said = calls.granted; spent = 0 }
 
--- where each call may be; a call that has looked has made one step
+-- the points of each call; a call that has looked has made one step
 abbrev pub point_of : RwCall → RwPoint → Option Hold → Point
 point_of TryRead First None = looked 0
 point_of TryRead (Exchange n) None = looked 1
@@ -51,7 +51,7 @@ pub record Within (cap : ℕ) (s : Plain) : Type 0 where
 abbrev pub rw_notes : {V : Type 0} (v : V) (cap : ℕ) → Notes (rw_table v cap)
 rw_notes v cap = record { Shape = λ s. Within cap s; point = point_of; Knows = λ c l h p s span. Unit {0} }
 
--- a party with these entries is a holder
+-- a party with the entries of a holder is a holder
 pub holder_by : (p : ℕ) (k : Kind) (s : Plain) → entries p s ≡ entries_at p (holds k) → is_holder p k s.holders ≡ true
 holder_by p k s mine = is_holder-from_entries p k s.holders (ap (λ (e : Entries). e.holders) mine)
 
@@ -74,7 +74,7 @@ module _ {V : Type 0} (v : V) (cap : ℕ) where
   turned : (s : Plain) (p : ℕ) (k l : Kind) → Within cap s → Within cap (record s { holders = with_kind p k l s.holders })
   turned s p k l shape = grind (arith, shape, length-with_kind p k l s.holders)
 
-  -- What the step functions mean
+  -- What the step functions mean in a state of this shape
 
   module _ (p : ℕ) (s : Plain) (w : ℕ) (word : rw_word s ≡ w) (exclusive : IsExclusive s) (shape : Within cap s) where
     read_means : IsMeant p s (gets p to_read) (read cap w)
@@ -97,7 +97,7 @@ module _ {V : Type 0} (v : V) (cap : ℕ) where
         let found = holder_by p asking s mine in
         grind (arith, rw_upgrade_asked-grants s p w (one_of_each s exclusive) found word, turned s p asking writing shape)
 
-    -- What holders find, and what a conversion and a release mean
+    -- What a holder finds in the word, and what a conversion and a release mean
 
     finds : (k : Kind) → is_holder p k s.holders ≡ true → tells k w ≡ true
     finds k found = ap (tells k) (sym word) ∙ tells-holder s p k exclusive (omega (arith, shape.few, shape.room)) found
@@ -115,7 +115,7 @@ module _ {V : Type 0} (v : V) (cap : ℕ) where
     finds_room : is_holder p upgradable s.holders ≡ true → nat_lt (w / weight reading) reader_limit ≡ true
     finds_room found = grind (arith, word, upgradable-word s p exclusive (omega (arith, shape.few, shape.room)) found)
 
-    -- and what a party finds that the lock admits
+    -- what a party that the lock admits finds in the word
 
     reads : may_come reading s ≡ true → read cap w ≡ Some (w + weight reading)
     reads may = rw (sym (read-word s w cap (one_of_each s exclusive) shape.room word) ∙ may) refl
@@ -154,7 +154,7 @@ module _ {V : Type 0} (v : V) (cap : ℕ) where
   owes p Release First (Some hold.Write) s w span = λ at. grind (arith, release_means p s w (cc (at.encodes)) at.exclusive at.shape writing at.knows.0.stand)
   owes p _ _ _ s w span = tt
 
-  -- Undisturbed, the exchange succeeds on a word that admits the party, at once or after a look
+  -- if nobody disturbs the call, its exchange succeeds on a word that admits the party, at once or after a look
 
   soon : SoonAll (rw_notes v cap)
   soon p Read First None s w span = grind (arith, reads p s w, eq-eqb w w)

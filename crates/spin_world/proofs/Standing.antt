@@ -1,4 +1,4 @@
--- What users of a read-write lock may rely on.
+-- Proofs of what users of a read-write lock may rely on.
 use Rattle.spin_world.proofs.RwNames.{◌≡◌, ℕ, ◌+◌, ◌==◌, ◌↔◌, Bool, true, false, Option, Some, None, List, ◌∷◌, ◌++◌, slice_get, ap, sym, ◌∙◌, arith, Plain, Kind, reading, upgradable, asking, writing, Change, is_holder, is_only, count_kind, rw_word, weight, apply_some, IsOpenStep, entries, IsExclusive, bit, empty_is, is_holder-own, reader_goes, one_of_each, only_asking-word, empty-word, word_of, Answer, Hold, RwCall, RwPoint, Mark, Stand, holds, holds_and_starves, entries_at, row_of, []}
 use Rattle.spin_step_more.proofs.Upgrading.{readers_only_go, alone_when_gone}
 use Rattle.spin_model.specs.declared.answer.Answer.TheVariants.{Granted, Done}
@@ -22,7 +22,7 @@ use Rattle.spin_world_core.proofs.Every.{kept}
 use Rattle.spin_model.proofs.Schedules.{after-append}
 use Rattle.spin_world_core.proofs.Guards.{reads_agree_across, seen_after-append}
 
--- Who holds together with a reader that asks to upgrade
+-- Which parties hold together with a reader that asks to upgrade
 
 goes_some : (s : Plain) (p q : ℕ) (step : Option Change) → IsExclusive s → is_holder p asking s.holders ≡ true → IsOpenStep s q step → is_holder p asking (apply_some s step).holders ≡ true
     → count_kind reading (apply_some s step).holders + bit (passes reader_goes step) ≡ count_kind reading s.holders
@@ -32,7 +32,7 @@ goes_some s p q step alone found may stays = grind (arith, readers_only_go s p, 
 keeps_writers_out : (p : ℕ) (k : Kind) (s : Plain) → is_holder p k s.holders ≡ true → KeepsWritersOut p s
 keeps_writers_out p k s found = λ q ne. grind (arith, found, ne)
 
--- the party's part is that of a reader that asks
+-- a party with this `Stand` may be a holder that asks to upgrade
 abbrev may_ask : Stand → Bool
 may_ask (holds asking) = true
 may_ask (holds_and_starves k) = true
@@ -42,7 +42,7 @@ asks_by : (p : ℕ) (s : Plain) (stand : Stand) → is_holder p asking s.holders
 asks_by p s stand asks is = grind (arith, is_holder-own p asking s.holders)
 
 module _ {V : Type 0} (v : V) (cap : ℕ) where
-  -- a party that asks is in its upgrade, and expects the word of one reader that asks
+  -- the next step of a call answers `Granted` exactly if the word is that of one reader that asks to upgrade
   abbrev Upgrades : State ℕ V RwCall RwPoint → ℕ → RwCall → RwPoint → Option Hold → Type 0
   Upgrades s p c l h = ((moves_at (rw_machine v cap) s p Step (Some (Calling c l h))).outcome ≡ Answered Granted None) ↔ ((s.words == weight asking) ≡ true)
 
@@ -125,12 +125,12 @@ module _ {V : Type 0} (v : V) (cap : ℕ) where
       × (slice_get (moves_at m s p Step (Some (Calling c l h))).next.seats p ≡ Some (Holding held))
   downgraded s p c l h held is there = grind (arith, λ (now : Hold). get-set_same s.seats p (Holding now) (Calling c l h) there)
 
-  -- a party that is in such a call holds
+  -- a party in a call that downgrades is a holder
   holds_there : (p : ℕ) (c : RwCall) (l : RwPoint) (h : Option Hold) (held : Hold) (s : Plain) (span : List Mark) → less c ≡ Some held → Knows (rw_notes v cap) c l h p s span → KeepsWritersOut p s
   holds_there p c l h held s span is knows =
       grind (arith, knows, holder_by p writing s, holder_by p upgradable s, keeps_writers_out p writing s, keeps_writers_out p upgradable s)
 
-  -- and it still holds after it
+  -- after the downgrade the party is still a holder
   holds_after : (p : ℕ) (held : Hold) (c : RwCall) (s : Plain) → less c ≡ Some held → entries p s ≡ entries_of p held → KeepsWritersOut p s
   holds_after p held c s is mine =
       grind (arith, holder_by p reading s, holder_by p upgradable s, keeps_writers_out p reading s, keeps_writers_out p upgradable s)

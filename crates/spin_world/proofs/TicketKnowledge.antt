@@ -1,4 +1,4 @@
--- What a party finds in a queue of tickets, and what its steps result in.
+-- What a party finds in a queue of tickets, and what answers follow from this.
 use Rattle.spin_world.proofs.TicketNames.{any_passes, ◌≡◌, ℕ, ◌==◌, ◌≤◌, ◌⊎◌, Bool, true, false, not, None, List, ◌∷◌, arith, Plain, ticket_limit, to_take_and_enter, is_empty, is_open_to, serving_word, is_held, Numbered, nobody_stands, somebody_stands, plain, mark_of, is_left, []}
 use Rattle.spin_model.specs.Calls.{AnyOf, Mark}
 use Rattle.spin_model.specs.Asks.{same}
@@ -10,26 +10,26 @@ pub record Queue (s : Plain) : Type 0 where
   pub numbered : Numbered s
   pub in_range : is_empty s.tickets ≡ false → s.next ≤ ticket_limit
 
--- at some moment of the span there was a ticket
+-- before some step of the span, some party had a ticket
 abbrev pub Stood : List Mark → Type 0
 Stood span = AnyOf (λ m. is_empty m.before.tickets ≡ false) span
 
--- since the party found the number k next, or served, either k is still served or there was a ticket
+-- the number k is served now, or before some step of the span some party had a ticket
 abbrev pub Stays : ℕ → Plain → List Mark → Type 0
 Stays k s span = Stood span ⊎ (serving_word s ≡ k)
 
--- and the served number has not fallen
+-- also, the served number is not below k
 abbrev pub Rises : ℕ → Plain → List Mark → Type 0
 Rises k s span = (k ≤ serving_word s) × Stays k s span
 
 -- what a try and a look find
 
--- a refused try
+-- the refusal of a try has a moment
 pub try_refused : (p n : ℕ) (s : Plain) (span : List Mark) → Stays n s span → (serving_word s ≡ n → s.next ≡ n → is_left s.next ≡ false) → list_any (λ m. not (is_open_to m.before p to_take_and_enter)) (mark_of p None plain s ∷ span) ≡ true
 try_refused p n s span stays up =
     grind (arith, up, any_passes (λ m. is_empty m.before.tickets ≡ false) (λ m. not (is_open_to m.before p to_take_and_enter)) span)
 
--- a load of the next number, after k was found served
+-- the answer of a load of the next number has a moment, if the party found k served before
 pub look_right : (b : Bool) (p k : ℕ) (s : Plain) (span : List Mark) → Queue s → Rises k s span → (s.next == k) ≡ b
     → list_any (λ m. same (not b) (is_held m.before)) (mark_of p None plain s ∷ span) ≡ true
 look_right true p k s span queue found is = grind (arith, nobody_stands s.next s.tickets, queue)

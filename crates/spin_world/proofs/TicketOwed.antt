@@ -1,4 +1,4 @@
--- What the ticket lock's table must show.
+-- What has to be shown of the ticket lock's table.
 use Rattle.spin_world.proofs.TicketNames.{serving-advances, ◌≡◌, ℕ, ◌+◌, ◌-◌, ◌≤◌, ◌==◌, true, false, filter, Option, Some, None, List, ◌∷◌, refl, ap, sym, ◌∙◌, arith, Plain, is_first, effect, to_take_ticket, to_enter, to_take_and_enter, Change, gets, serves, next_word, serving_word, Entries, entries, take, enters_in_turn, numbered-given, numbered-serves, serving-taken, serving-entered, entered_is_served, stands, Hold, TicketWords, TicketCall, Lock, TryLock, IsLocked, Release, TicketPoint, LoadNext, Take, Await, TryLoadNext, TryLoadServing, TryTake, LookServing, LookNext, Serve, own_count, plain, passing, is_left, ticket_table, ticket_machine, Plays, queues, entries_at, any_map, Point, nowhere, looked, onward, Notes, Means, OwesAll, SoonAll, Pays, two, no_holders, two_places, [], Queued, queued}
 use Rattle.spin_step.specs.Parties.{first_alone_entered}
 use Rattle.spin_step.proofs.TicketSteps.{ticket_take-grants_alone, ticket_serve-gives}
@@ -22,8 +22,8 @@ point_of IsLocked (LookNext k) None = looked 1
 point_of Release (Serve t) (Some (hold.Ticket u)) = looked 0
 point_of _ _ _ = nowhere
 
--- What else a party knows: since it found the number, there was a ticket or that number is still served. And its point
--- names the ticket that it holds.
+-- What else a party knows. Since it found a number, some party had a ticket, or this number is still served. A holder's
+-- point names the ticket with which it holds.
 abbrev KnowsAt : TicketPoint → Option Hold → ℕ → Plain → List Mark → Type 0
 KnowsAt (TryLoadServing n) h p s span = Stays n s span × AnyOf (λ m. (m.party ≡ p) × (next_word m.before ≡ n)) span × (own_count p span ≡ 1)
 KnowsAt (TryTake n) h p s span = Rises n s span × (own_count p span ≡ 2)
@@ -43,14 +43,14 @@ module _ {V : Type 0} (v : V) (first : ℕ) where
   abbrev IsMeant : ℕ → Plain → Change → (ℕ → TicketWords) → Option ℕ → Type 0
   IsMeant p s c put o = Means (ticket_notes v first) p s c put o
 
-  -- what the step functions mean there
+  -- what the step functions mean in such a queue
   module _ (p : ℕ) (s : Plain) (w : TicketWords) (queue : Queue s) (next_is : s.next ≡ w.next) (serving_is : serving_word s ≡ w.serving) where
     take_means : IsMeant p s (gets p to_take_ticket) (λ n. record w { next = n }) (take w.next)
     take_means =
         let numbered = numbered-given s p (effect to_take_ticket) queue.numbered in
         grind (arith, queue, serving-taken s p false queue.numbered, numbered)
 
-    -- if the number is served
+    -- what it means to take the next ticket if the next number is served
     take_alone_means : w.next ≤ serving_word s → IsMeant p s (gets p to_take_and_enter) (λ n. record w { next = n }) (take w.next)
     take_alone_means le =
         let numbered = numbered-given s p (effect to_take_and_enter) queue.numbered in
@@ -79,7 +79,7 @@ module _ {V : Type 0} (v : V) (first : ℕ) where
   owes p IsLocked (LookNext k) None s w span = grind (arith, look_right (w.next == k) p k s span)
   owes p c l h s w span = grind (arith, take_means p s w, enter_means p s w, serve_means p s w, own_count-mine p None plain s span)
 
-  -- Undisturbed, the party takes the next ticket, at once or after a look, and enters if it is served
+  -- If nobody disturbs the call, the party takes the next ticket, at once or after a look, and enters if this is served.
 
   soon : SoonAll (ticket_notes v first)
   soon p c l h s w span = grind (arith, enters_in_turn s p w.serving, λ (t : ℕ). not_entered p t s.tickets)

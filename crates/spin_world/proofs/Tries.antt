@@ -1,4 +1,4 @@
--- A try finds its number by two loads.
+-- A try does not end by its first load, nor by its second if the number that it found is served then.
 use Rattle.spin_world.proofs.TicketNames.{◌≡◌, ℕ, ◌<◌, ◌≤◌, Option, Some, List, ◌∷◌, arith, Plain, ticket_limit, to_take_and_enter, serving_word, Hold, Calling, Move, Step, GoingOn, TicketCall, TicketPoint, TicketWords, State, moves_at, after, at_first, opening, own_count, seen_after, asks_of, ticket_machine, FoundNext, TriesByTwoLoads, []}
 use Rattle.spin_model.specs.Calls.{Mark}
 use Rattle.spin_world_core.proofs.Shapes.{Knows}
@@ -6,18 +6,18 @@ use Rattle.spin_world_core.proofs.Reached.{numbers_are, calls}
 use Rattle.spin_world.proofs.TicketOwed.{ticket_notes, ticket_facts}
 use Rattle.spin_world_core.specs.Order.{tries_of}
 
--- a call that has found a number has made a step
+-- a call that has found a next number has made a step
 counted : (p k : ℕ) (span : List Mark) → FoundNext p k span → 1 ≤ own_count p span
 counted p k [] found = absurd found
 counted p k (m ∷ ms) found = grind (arith, counted p k ms)
 
--- after its only step it has found one number
+-- after one step a call has found only one next number
 only_one : (p a b : ℕ) (span : List Mark) → own_count p span ≡ 1 → FoundNext p a span → FoundNext p b span → a ≡ b
 only_one p a b [] one x y = absurd x
 only_one p a b (m ∷ ms) one x y = grind (arith, counted p a ms, counted p b ms, only_one p a b ms)
 
 module _ {V : Type 0} (v : V) (first : ℕ) where
-  -- the result of its next step
+  -- the next step of a call does not end the call
   abbrev Continues : State TicketWords V TicketCall TicketPoint → ℕ → TicketCall → TicketPoint → Option Hold → Type 0
   Continues s p c l h = (moves_at (ticket_machine v first) s p Step (Some (Calling c l h))).outcome ≡ GoingOn
 

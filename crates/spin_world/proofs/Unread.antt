@@ -1,4 +1,4 @@
--- No step of a `Once` uses the value while the word does not say that there is one.
+-- No step of a `Once` uses the value unless the word says that there is one.
 use Rattle.spin_world.proofs.OnceNames.{Option, arith, once_machine, LooksWhereComplete}
 
 pub looks_where_complete : {V : Type 0} (value : Option V) → LooksWhereComplete (once_machine value)
