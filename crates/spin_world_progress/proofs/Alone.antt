@@ -1,4 +1,4 @@
--- A call whose ask is open is answered in so many rounds, or another party changes a word.
+-- Suppose that what a call asks is open. In as many rounds as the call promises it is answered, or another party changes a word.
 use Rattle.spin_world_progress.proofs.Names.{seat_of, ◌≡◌, ℕ, ◌+◌, ◌-◌, ◌<◌, ◌≤◌, ◌⊎◌, ◌==◌, ◌&&◌, ◌||◌, Bool, true, false, not, Option, Some, None, List, [], ◌∷◌, ◌++◌, length, slice_get, if◌then◌else◌, refl, ap, sym, ◌∙◌, subst, arith, inl, inr, ⊎_elim, cases_eq, cases_lt, eqb-true, ne_eqb, false≢true, Plain, Change, Hold, Seat, Calling, Next, Continue, Answers, Move, Step, Weak, Outcome, Mark, joined, Machine, Seen, Scene, scene, scene_at, opening, State, happens, after, at_first, goes_on, seen_after, eqb_self, get-set_same, of_event, state-seen_after, Test, occurs, MovesOn, AreRounds, is_step, placed_at, owner_writes}
 use Rattle.spin_world_core.proofs.Names.{StepKind, by_step, AllOf, Leaves, UndisturbedTakes, is_open_now, steps_alone, Lawful, Every, IsInTime, Keeps, OwnerSet, and_from, encoded, mark_of, scene_of}
 use Rattle.spin_world_core.specs.Spans.{own_count}
@@ -31,7 +31,7 @@ module _ {W V C L A : Type 0} (m : Machine W V C L A) (p : ℕ) (c : C) (h : Opt
   abbrev steps_own : Test V C L A
   steps_own r move o x = (r == p) && is_step o
 
-  -- the call is answered or refused, or another party disturbs it
+  -- the call is answered, or its exchange fails spuriously, or another party disturbs the call
   abbrev Stops : State W V C L → List (ℕ × Move C V) → Type 0
   Stops s es = (occurs m stop s es ≡ true) ⊎ (disturbs m p s es ≡ true)
 
@@ -52,7 +52,7 @@ module _ {W V C L A : Type 0} (m : Machine W V C L A) (p : ℕ) (c : C) (h : Opt
     abbrev most : ℕ
     most = steps_alone (m.asks c h)
 
-    -- the marks since the call was open: the first was made in that state, and none disturbs the call
+    -- the marks of the span since the state `start`: the first was made in that state, and none of them disturbs the call
     abbrev Since : List Mark → ℕ → Type 0
     Since span taken = (recent : List Mark) × (first : Mark) × (span ≡ recent ++ first ∷ older) × (first.before ≡ start) × AllOf (Leaves m.lock_kind p) (recent ++ first ∷ []) × (own_count p (recent ++ first ∷ []) ≡ taken)
 
@@ -63,7 +63,7 @@ module _ {W V C L A : Type 0} (m : Machine W V C L A) (p : ℕ) (c : C) (h : Opt
     one_more now span taken mark before leaves (inl none) = ([], mark, ap (λ xs. mark ∷ xs) none.0, before ∙ none.1, (leaves, tt), omega (arith, none.2))
     one_more now span taken mark before leaves (inr y) = (mark ∷ y.0, y.1, ap (λ xs. mark ∷ xs) y.2, y.3, (leaves, y.4), ap (λ n. n + (if mark.party == p then 1 else 0)) y.5)
 
-    -- since then the call continues, and nobody has disturbed it
+    -- the call still continues, and nobody has disturbed it since the state `start`
     record Quiet (seen : Seen W V C L) (taken : ℕ) : Type 0 where
       point : L
       at : seat_of seen p ≡ Some (Calling c point h)
@@ -79,7 +79,7 @@ module _ {W V C L A : Type 0} (m : Machine W V C L A) (p : ℕ) (c : C) (h : Opt
       Comes sc = (stop sc.party sc.move sc.outcome (seat_of sc.after sc.party) ≡ true) ⊎ ((disturbs_at sc.party seen.state sc.after.state ≡ true) ⊎ Quiet sc.after (now sc.party sc.outcome))
 
       module _ (r : ℕ) (ne : r ≡ p → ⊥) where
-        -- what another party's event does not change, and its mark
+        -- another party's event leaves the plain lock and p's span unchanged, or adds its mark to the span
         abbrev Noted : Scene W V C L A → Type 0
         Noted sc = ((sc.after.plain ≡ seen.plain) × (sc.after.span p ≡ seen.span p)) ⊎ ((mark : Mark) × (mark.party ≡ r) × (mark.before ≡ seen.plain) × (mark.after ≡ sc.after.plain) × (sc.after.span p ≡ mark ∷ seen.span p))
 
@@ -128,7 +128,7 @@ module _ {W V C L A : Type 0} (m : Machine W V C L A) (p : ℕ) (c : C) (h : Opt
                 inr (inr (quiet (inr (subst (λ xs. Since xs taken) (sym y.4) (subst (Since (y.0 ∷ seen.span p)) count since))))))
                 (noted move)
 
-      -- its own step
+      -- a step of the call's own
       own_went : (step : Option Change) (kind : StepKind) (value : Option V) (s : State W V C L) (next : Next L A) → s.seats ≡ seen.state.seats
           → let sc = scene_of seen p Step (Some (Calling c q.point h)) (goes_on s p c h next) step (by_step kind) value in Keeps m sc → IsInTime m sc → Comes sc
       own_went step kind value s (Answers a rest) same keeps time = inl (eqb_self p)
@@ -165,7 +165,7 @@ module _ {W V C L A : Type 0} (m : Machine W V C L A) (p : ℕ) (c : C) (h : Opt
       event r move keeps time =
           ⊎_elim (λ (same : r ≡ p). subst (λ i. Keeps m (scene m seen i move) → IsInTime m (scene m seen i move) → Comes (scene m seen i move)) (sym same) (own move) keeps time) (λ (ne : r ≡ p → ⊥). beside r ne move keeps) (cases_eq r p)
 
-    -- after further entries
+    -- what holds of the call after further entries
     record Later (seen : Seen W V C L) (es : List (ℕ × Move C V)) (taken : ℕ) : Type 0 where
       now_taken : ℕ
       more : taken ≤ now_taken

@@ -1,9 +1,9 @@
--- A turn that leads back to its beginning, again and again. It is fair if, from each of its places, the rest of it and
--- one more turn are a round.
+-- A turn is a stretch of entries that leads back to the state in which it began. Its endless repetition is fair if, from
+-- each place of the turn, the rest of it and one more turn are a round.
 use Rattle.spin_model.specs.Calls.{Asked}
 use Rattle.spin_world_progress.proofs.Names.{◌≡◌, ℕ, zero, suc, ◌+◌, ◌==◌, ◌&&◌, ◌||◌, Bool, true, false, Option, Some, List, [], ◌∷◌, ◌++◌, slice_get, refl, ap, sym, ◌∙◌, subst, arith, and_parts, Hold, Seat, Idle, Calling, Holding, Leaked, Gone, Move, Machine, State, happens, after, at_first, may_read, not, Test, occurs, is_awaited, MovesOn, IsRound, AreRounds, stretch, IsFair, ends_or_weak, MayStarve}
 
--- an entry and the rest of a turn, and then turn after turn
+-- the endless schedule of an entry x and the rest xs of a turn, followed by the turn `e ∷ es` again and again
 abbrev pub around : {X : Type 0} → X → List X → X → List X → ℕ → X
 around e es x xs zero = x
 around e es x [] (suc i) = around e es e es i
@@ -13,12 +13,12 @@ later : {X : Type 0} (f : ℕ → X) (a n : ℕ) → stretch f (suc a) n ≡ str
 later f a zero = refl
 later f a (suc n) = ap (λ xs. f (suc a) ∷ xs) (later f (suc a) n)
 
--- so many entries as the list has, and n more
+-- the length of the list, plus n
 abbrev beyond : {X : Type 0} → List X → ℕ → ℕ
 beyond [] n = n
 beyond (x ∷ xs) n = suc (beyond xs n)
 
--- the stretch begins with the rest of the list
+-- such a stretch begins with the rest of the turn
 rest_first : {X : Type 0} (e : X) (es : List X) (x : X) (xs : List X) (n : ℕ) → stretch (around e es x xs) 0 (beyond (x ∷ xs) n) ≡ x ∷ xs ++ stretch (around e es e es) 0 n
 rest_first e es x [] n = ap (λ ys. x ∷ ys) (later (around e es x []) 0 n)
 rest_first e es x (y ∷ ys) n = ap (λ zs. x ∷ zs) (later (around e es x (y ∷ ys)) 0 (beyond (y ∷ ys) n) ∙ rest_first e es y ys n)
@@ -27,7 +27,7 @@ module _ {W V C L A : Type 0} (m : Machine W V C L A) where
   abbrev Turn : Type 0
   Turn = List (ℕ × Move C V)
 
-  -- a round, as a test of a schedule
+  -- whether the entries are a round, as a test
   abbrev moves_on : State W V C L → Turn → ℕ → Seat C L → Bool
   moves_on s es p (Calling c l h) = occurs m (λ q move o x. (q == p) && is_awaited m (Some (Calling c l h)) move o) s es
   moves_on s es p (Holding h) = not (may_read h) || occurs m (λ q move o x. (q == p) && is_awaited m (Some (Holding h)) move o) s es
@@ -51,7 +51,7 @@ module _ {W V C L A : Type 0} (m : Machine W V C L A) where
   all_is s es p zero (x ∷ xs) is = subst (λ q. MovesOn m s es q (Some x)) (omega arith) (moves_is s es p x (and_parts (moves_on s es p x) (all_move s es (suc p) xs) is).0)
   all_is s es p (suc i) (x ∷ xs) is = subst (λ q. MovesOn m s es q (slice_get xs i)) (omega arith) (all_is s es (suc p) i xs (and_parts (moves_on s es p x) (all_move s es (suc p) xs) is).1)
 
-  -- from each place of the rest, what is left of it and a whole turn are a round
+  -- from each place of the rest of the turn, what is left of the rest and a whole turn are a round
   abbrev pub is_fair_turn : Turn → State W V C L → Turn → Bool
   is_fair_turn whole s [] = true
   is_fair_turn whole s (x ∷ xs) = all_move s (x ∷ xs ++ whole) 0 s.seats && is_fair_turn whole (happens m s x.0 x.1).next xs
@@ -87,7 +87,7 @@ module _ {W V C L A : Type 0} (m : Machine W V C L A) where
       abbrev MovesFrom : State W V C L → (ℕ → ℕ × Move C V) → ℕ → ℕ → Type 0
       MovesFrom s schedule place p = let there = after m s (stretch schedule 0 place) in (n : ℕ) × MovesOn m there (stretch schedule place n) p (slice_get there.seats p)
 
-      -- a place later, from the state after the first entry
+      -- what holds from the state after the first entry holds one place later
       place_later : (s : State W V C L) (schedule : ℕ → ℕ × Move C V) (place p : ℕ) → MovesFrom (happens m s (schedule 0).0 (schedule 0).1).next (λ i. schedule (suc i)) place p → MovesFrom s schedule (suc place) p
       place_later s schedule place p moves =
           let next = (happens m s (schedule 0).0 (schedule 0).1).next in (
@@ -113,7 +113,7 @@ module _ {W V C L A : Type 0} (m : Machine W V C L A) where
       pub never_around : (place : ℕ) → occurs m test start (stretch (around e es e es) 0 place) ≡ false
       never_around place = never place start e es first
 
-  -- so from this state on no event of such a schedule passes the test
+  -- from some reached state on, no event of a fair schedule passes the test
   abbrev pub Forever : (ℕ → Test V C L A) → ℕ → Asked → Type 0
   Forever test n what =
       (past : Turn) × (schedule : ℕ → ℕ × Move C V) × (p : ℕ) × (c : C) × (l : L) × (h : Option Hold)
@@ -137,7 +137,7 @@ module _ {W V C L A : Type 0} (m : Machine W V C L A) where
       → slice_get s.seats p ≡ Some (Calling c l h) → Within (ends_or_weak p) s e es s (e ∷ es) → MayStarve m n (m.asks c h)
   starves = forever (λ p. ends_or_weak p)
 
-  -- rounds, as a test of schedules
+  -- whether the stretches are rounds, as a test
   abbrev pub are_rounds : State W V C L → List Turn → Bool
   are_rounds s [] = true
   are_rounds s (es ∷ rounds) = all_move s es 0 s.seats && are_rounds (after m s es) rounds

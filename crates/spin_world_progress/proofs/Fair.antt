@@ -1,6 +1,6 @@
--- While a starver waits, a fair lock is granted within five rounds. Its holder leaves within two. The starver takes
--- three: it finds the flag clear, sets it, and stops starving. A party that sets the flag before it is granted the lock
--- by its next step.
+-- While a starver waits, a fair lock is granted within five rounds. The holder leaves within two rounds. The starver then
+-- takes three: it finds the flag clear, sets the flag, and stops starving. If another party sets the flag earlier, this
+-- party is granted the lock by its next step.
 use Rattle.spin_world_progress.proofs.Names.{seat_of, cases_eq, Next, suc, Bool, entries, entries-other, empty_is, if◌then◌else◌, ◌-◌, resting, ◌≡◌, ℕ, ◌==◌, true, false, Option, Some, None, List, [], ◌∷◌, length, refl, ap, ◌∙◌, arith, not, ◌≤◌, ◌⊎◌, inl, inr, ⊎_elim, Plain, Kind, writing, Holder, is_empty, is_holder, is_starver, without_holder, holder, IsOpenStep, Hold, filter, subst, Answer, Seat, Calling, Holding, Move, Step, Machine, after, at_first, get-set_same, Seen, Scene, scene_at, opening, seen_after, eqb_self, Plays, Invariant, in_call, row_tells, calls_so, StandsSo, fair_machine}
 use Rattle.spin_world.proofs.FairNames.{fair, fair_is_locked-tells, Write, Starver, FairCall, Lock, StarverLock, Release, FairPoint, First, SetFlag, Await, Unregister, asks_of, is_set}
 use Rattle.spin_world.proofs.FairOwed.{fair_notes, fair_facts}
@@ -13,7 +13,7 @@ use Rattle.spin_world_progress.proofs.Loads as walk
 abbrev FairSeat : Type 0
 FairSeat = Seat FairCall FairPoint
 
--- the calls in which it waits, and their points
+-- the calls in which a starver waits, and their points
 abbrev its_call : FairCall → Option Hold → Type 0
 its_call Lock None = Unit {0}
 its_call StarverLock (Some Starver) = Unit {0}
@@ -33,7 +33,7 @@ starves_own : (p : ℕ) (qs : List ℕ) → is_starver p qs ≡ true → not (is
 starves_own p [] found = found
 starves_own p (q ∷ qs) found = grind (arith, found, starves_own p qs)
 
--- how many moves are left: for the waiting party if nobody holds, and for a holder with this seat
+-- how many moves the waiting party has left if nobody holds; `theirs_by`: how many a holder with this seat has left
 abbrev mine_by : Bool → FairPoint → ℕ
 mine_by clear Unregister = if clear then 3 else 1
 mine_by clear SetFlag = if clear then 2 else 0
@@ -100,7 +100,7 @@ module _ {V : Type 0} (v : V) (cap patience : ℕ) where
       others_same : (q o : ℕ) (d : FairCall) (i : FairPoint) (j : Option Hold) → IsOpenStep s q (sc seen q d i j).change → (q ≡ o → ⊥) → theirs_by (holds_lock (entries o (sc seen q d i j).after.plain)) (seat_of seen o) ≤ theirs_by (holds_lock (entries o s)) (seat_of seen o)
       others_same q o d i j opens ne = omega (arith, ap (λ e. theirs_by (holds_lock e) (seat_of seen o)) (entries-other s q o (sc seen q d i j).change ne opens))
 
-      -- its own step
+      -- a step of the waiting party's own
       module _ (there : seat_of seen p ≡ Some (Calling c l h)) where
         abbrev y : Scene ℕ V FairCall FairPoint (Answer V)
         y = sc seen p c l h
@@ -154,7 +154,7 @@ module _ {V : Type 0} (v : V) (cap patience : ℕ) where
         one_left : is_empty s.holders ≡ true → 1 ≤ n
         one_left is = grind (arith, at, within.mine, is)
 
-        -- nobody else begins to hold, or it sets a clear flag
+        -- a step of a party that does not hold makes nobody a holder, or sets a clear flag
         other_steps : holds_lock (entries q s) ≡ false → (b : Bool) → is_empty s.holders ≡ b → walk.Falls f x seen l q (sc seen q d i j) n
         other_steps none true is =
             ⊎_elim

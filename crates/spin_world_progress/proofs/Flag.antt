@@ -1,5 +1,5 @@
--- A flag is granted within four rounds: its holder leaves within two, and a waiting party takes two to make its
--- exchange.
+-- A flag is granted within four rounds. Its holder leaves within two rounds, and a waiting party takes two rounds to make
+-- its exchange.
 use Rattle.spin_world_progress.proofs.Names.{seat_of, ◌≡◌, ℕ, ◌≤◌, ◌⊎◌, ◌||◌, Bool, true, false, Option, Some, None, List, [], ◌∷◌, slice_get, refl, arith, inl, inr, ◌==◌, Holder, is_empty, entries, Hold, Calling, Next, Continue, Answers, Answer, Move, Step, Weak, Machine, goes_on, after, at_first, Seen, scene_at, entries_after, empty_is, ◌-◌, filter, not, Done, flag_machine, get-set_same, eqb_self, Invariant, StandsSo, Test, grants_any, refuses_weakly}
 use Rattle.spin_model.specs.declared.flag.FlagCall.{FlagCall}
 use Rattle.spin_model.specs.declared.flag.FlagCall.TheVariants.{Lock, Release}
@@ -11,7 +11,7 @@ use Rattle.spin_world_progress.proofs.Endless.{at_last}
 use Rattle.spin_world_progress.proofs.Progress.{holds_lock}
 use Rattle.spin_world_progress.proofs.Leaving as leaving
 
--- how many steps it makes if the flag is clear
+-- how many steps the waiting party makes if the flag is clear
 abbrev rank_by : FlagPoint → ℕ
 rank_by Second = 2
 rank_by l = 1
@@ -34,14 +34,14 @@ module _ {V : Type 0} (v : V) where
     abbrev Nobody : World → Type 0
     Nobody seen = (q : ℕ) → holds_lock (entries q seen.plain) ≡ false
 
-    -- its own step
+    -- a step of the waiting party's own
     own : (seen : World) (l : FlagPoint) → Invariant (flag_facts v) seen → seat_of seen p ≡ Some (Calling Lock l h) → (b : Bool) → seen.state.words ≡ b → let x = scene_at m seen p Step (Some (Calling Lock l h)) in
         (goal p Step x.outcome (seat_of x.after p) ≡ true) ⊎ ((i : FlagPoint) × (seat_of x.after p ≡ Some (Calling Lock i h)) × Unit {0} × (Nobody seen → rank_by i ≤ rank_by l - 1))
     own seen First good there false is = inl (rw is refl)
     own seen Second good there false is = inr (First, rw is (get-set_same seen.state.seats p (Calling Lock First h) _ there), tt, λ none. omega arith)
     own seen l good there true is = inr (Second, grind (arith, is, get-set_same seen.state.seats p (Calling Lock Second h) _ there), tt, λ none. absurd (grind (arith, is, good.encodes, nobody_holds seen.plain.holders none)))
 
-    -- a step that makes its party a holder is a grant
+    -- a step that makes a party a holder is a grant
     comes : (seen : World) (q : ℕ) (c : FlagCall) (l : FlagPoint) (h : Option Hold) (b : Bool) → seen.state.words ≡ b → holds_lock (entries q seen.plain) ≡ false
         → let x = scene_at m seen q Step (Some (Calling c l h)) in (goal q Step x.outcome (seat_of x.after q) ≡ true) ⊎ (holds_lock (entries_after seen.plain x.change (entries q seen.plain)) ≡ false)
     comes seen q c l h b is none = grind (arith, is, none, empty_is (entries q seen.plain).holders)

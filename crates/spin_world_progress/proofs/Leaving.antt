@@ -1,12 +1,12 @@
--- A walk that several locks share. If holders of a kind only release, they leave within two rounds, all at once. Then
--- the waiting party can continue.
+-- A proof that several locks share. If the holders of one kind only release, all of them leave within the same two
+-- rounds. Then the waiting party can continue.
 use Rattle.spin_world_progress.proofs.Names.{seat_of, apply_some, seen_after, opening, cases_eq, suc, ◌<◌, cases_lt, ◌≡◌, ℕ, ◌≤◌, ◌⊎◌, ◌+◌, Bool, true, false, Option, Some, None, List, length, slice_get, refl, ap, sym, ◌∙◌, subst, arith, inl, inr, ⊎_elim, IsOpenStep, entries, entries-other, entries-own, Hold, Seat, Idle, Calling, Next, Answers, Move, Step, Weak, Machine, goes_on, resting, may_read, after, at_first, Seen, Scene, scene_at, joined, entries_of, StandsFor, Table, machine_of, ◌-◌, no_entries, entries_after, get-set_same, Plays, Invariant, Notes, StandsSo, Test, occurs, AreRounds}
 use Rattle.spin_step.specs.Parties.{Entries}
 use Rattle.spin_world_progress.proofs.Progress.{is_busy}
 use Rattle.spin_world_progress.proofs.Loads.{Wait}
 use Rattle.spin_world_progress.proofs.Loads as walk
 
--- how many moves a holder makes until it has left: it begins to release, and does
+-- the load of a holder: a round for the beginning of its release and one for its step, and then the bound of the waiting party
 abbrev load_by : {C L : Type 0} → ℕ → Bool → Option (Seat C L) → ℕ
 load_by bound true (Some (Calling c l h)) = bound + 1
 load_by bound true o = bound + 2
@@ -44,16 +44,16 @@ module _ {W V C L A : Type 0} {t : Table W V C L A} {n : Notes t} (f : Plays (ma
   Nobody seen = (q : ℕ) → test (entries q seen.plain) ≡ false
 
   pub record Leaves : Type 0 where
-    -- a party without entries holds nothing, nor does the waiting one; and a party that holds in this way holds the
-    -- lock
+    -- A party without entries does not pass the test, and neither does the waiting party. A party whose hold passes the test
+    -- may read.
     pub none : test no_entries ≡ false
     pub not_its : (l : L) → At l → StandsSo n test p c l h → ⊥
     pub reads : (q : ℕ) (h : Hold) → test (entries_of q h) ≡ true → may_read h ≡ true
-    -- its own step, which lowers its rank if nobody holds, and a spurious failure
+    -- the waiting party's own step, which lowers its rank if nobody holds; `weak`: its spurious failure
     pub own : (seen : World) (l : L) → Invariant f seen → seat_of seen p ≡ Some (Calling c l h) → At l
         → let sc = scene_at m seen p Step (Some (Calling c l h)) in Reaches sc ⊎ ((i : L) × (seat_of sc.after p ≡ Some (Calling c i h)) × At i × (Nobody seen → rank i ≤ rank l - 1))
     pub weak : (seen : World) (l : L) (next : Next L A) → At l → m.refuse c l h ≡ Some next → let x = goes_on seen.state p c h next in goal p Weak x.outcome (slice_get x.next.seats p) ≡ true
-    -- a step makes nobody a holder, unless it reaches the goal
+    -- a step makes no party a holder, unless the step reaches the goal
     pub comes : (seen : World) (l : L) (q : ℕ) (d : C) (i : L) (j : Option Hold) → Waits seen l → seat_of seen q ≡ Some (Calling d i j) → holds q seen ≡ false
         → let sc = scene_at m seen q Step (Some (Calling d i j)) in IsOpenStep seen.plain q sc.change → Reaches sc ⊎ (test (entries_after seen.plain sc.change (entries q seen.plain)) ≡ false)
     -- a holder's call releases by its next step, which does not fail
@@ -66,7 +66,7 @@ module _ {W V C L A : Type 0} {t : Table W V C L A} {n : Notes t} (f : Plays (ma
     sits : (seen : World) → Invariant f seen → (q : ℕ) → holds q seen ≡ true → walk.SitsSo n test q (seat_of seen q)
     sits seen good q found = walk.sits_so n test seen good q found
 
-    -- the party that steps no longer holds; or it begins to hold, which is the goal
+    -- after its step the party does not hold, or the step reaches the goal
     gone : (seen : World) (l : L) (q : ℕ) (d : C) (i : L) (j : Option Hold) → Waits seen l → seat_of seen q ≡ Some (Calling d i j)
         → let sc = scene_at m seen q Step (Some (Calling d i j)) in walk.After f x seen q sc → Reaches sc ⊎ (holds q sc.after ≡ false)
     gone seen l q d i j w there made = by (holds q seen) refl
@@ -138,7 +138,7 @@ module _ {W V C L A : Type 0} {t : Table W V C L A} {n : Notes t} (f : Plays (ma
           some = λ seen l w none. omega (arith, none.mine, leaves.some l);
         }
 
-    -- in two rounds more than its own the goal is reached
+    -- the goal is reached in two rounds more than the waiting party takes alone
     pub two_rounds : (number : ℕ) (past : List (ℕ × Move C V)) (rounds : List (List (ℕ × Move C V))) (l : L) → let s = after m (at_first m number) past in slice_get s.seats p ≡ Some (Calling c l h) → At l
         → AreRounds m s rounds → 2 + bound ≤ length rounds → occurs m goal s (joined rounds) ≡ true
     two_rounds number past rounds l there at are long =

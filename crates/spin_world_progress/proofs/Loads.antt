@@ -1,7 +1,6 @@
--- Progress in rounds. A party waits in a call. Meanwhile each party has a load: after at most so many rounds it lets
--- the others continue.
--- A round lowers the highest loads by one, or reaches the goal. Below is what a step of each party has to show. All
--- other moves are alike in every object.
+-- Progress in rounds. A party waits in a call. Meanwhile each party has a load: the number of rounds after which it lets
+-- the others continue, at most. A round lowers the highest loads by one, or reaches the goal. The record `Walks` below
+-- has what is to be shown of the steps of each object. All other moves are alike in every object.
 use Rattle.spin_world_progress.proofs.Names.{suc, max, if◌then◌else◌, eqb_self, ne_eqb, eq-eqb, entries, Idle, Gone, may_read, entries_of, Table, machine_of, StandsFor, entries_held, Mark, Notes, StandsSo, row_passes, ◌≡◌, ℕ, ◌<◌, ◌≤◌, ◌⊎◌, ◌==◌, ◌||◌, Bool, true, false, Option, Some, None, List, [], ◌∷◌, length, slice_get, refl, ap, sym, ◌∙◌, subst, arith, inl, inr, ⊎_elim, cases_eq, cases_lt, false≢true, Plain, IsOpenStep, Hold, Seat, Calling, Holding, Leaked, Next, Move, Begin, Step, Weak, BelongsTo, Machine, goes_on, resting, is_owners, Seen, Scene, scene, scene_at, opening, joined, seen_after, after, at_first, ◌-◌, get-set_same, of_event, Plays, Invariant, kept, good_after, state-seen_after, seen_after-append, state_is, seat_is, Test, occurs, IsRound, AreRounds}
 use Rattle.spin_world_progress.specs.Rounds.{is_release}
 use Rattle.spin_world_progress.proofs.Progress.{or_left, or_right, or_rest, has_left, is_busy, is_idle, calls_not, holds_not, unawaited, awaited_of, same_beside, no_owner, left_never, moves_on, occurs-append, step_first}
@@ -13,7 +12,7 @@ use Rattle.spin_world_core.specs.Runs.{seat_of, scene_of}
 use Rattle.spin_world_core.proofs.Steps.{played, KnowsAt}
 use Rattle.spin_world_core.proofs.Reached as reached
 
--- the party sits with entries that pass this test
+-- the party's seat implies entries that pass this test
 
 module _ {W V C L A : Type 0} {t : Table W V C L A} (n : Notes t) (test : Entries → Bool) where
   abbrev pub SitsSo : ℕ → Option (Seat C L) → Type 0
@@ -35,13 +34,13 @@ module _ {W V C L A : Type 0} {t : Table W V C L A} (n : Notes t) (test : Entrie
   pub sits_so : {f : Plays (machine_of t) n} (seen : Seen W V C L) → Invariant f seen → (p : ℕ) → test (entries p seen.plain) ≡ true → SitsSo p (seat_of seen p)
   sits_so seen good p has = sits_by p seen.plain (seen.span p) _ (good.parties p).stands (good.parties p).knows has
 
-  -- so others may wait for it
+  -- others may wait for a party with such a seat
   pub busy_so : (p : ℕ) (o : Option (Seat C L)) → test (entries_held p None) ≡ false → ((h : Hold) → test (entries_of p h) ≡ true → may_read h ≡ true) → SitsSo p o → is_busy o ≡ true
   busy_so p o none reads sits = grind (arith, none, reads, sits)
 
--- A party that waits: for an event that passes the test. Then its call and what it holds; the points of the call, and
--- what is known there; what holds at the end of the rounds; its own load, by the plain lock and the point; and the load
--- of each other party, which depends on that party's seat too.
+-- A party that waits for an event that passes the test `goal`. `At` are the points of its call, and `Known` is known
+-- there. `Fine` has to hold at the end of the rounds. `mine` is the load of the waiting party, by the plain lock and the
+-- point. `theirs` is the load of another party, which also depends on that party's seat.
 pub record Wait (W V C L A : Type 0) : Type 1 where
   pub goal : Test V C L A
   pub party : ℕ
@@ -69,7 +68,7 @@ module _ {W V C L A B : Type 0} {t : Table W V C L B} {given : Machine W V C L A
   abbrev p : ℕ
   p = x.party
 
-  -- it waits at this point
+  -- the party waits at this point of its call
   abbrev pub Sits : World → L → Type 0
   Sits seen l = seat_of seen p ≡ Some (Calling x.call l x.hold)
 
@@ -79,7 +78,7 @@ module _ {W V C L A B : Type 0} {t : Table W V C L B} {given : Machine W V C L A
   abbrev pub theirs : World → L → ℕ → ℕ
   theirs seen l q = x.theirs seen.plain l q (seat_of seen q)
 
-  -- no load is above this one
+  -- no load is above n
   pub record Within (seen : World) (l : L) (n : ℕ) : Type 0 where
     pub mine : x.mine seen.plain l ≤ n
     pub theirs : (q : ℕ) → (q ≡ p → ⊥) → x.theirs seen.plain l q (seat_of seen q) ≤ n
@@ -90,11 +89,11 @@ module _ {W V C L A B : Type 0} {t : Table W V C L B} {given : Machine W V C L A
   abbrev pub Reaches : Event → Type 0
   Reaches sc = x.goal sc.party sc.move sc.outcome (seat_after sc) ≡ true
 
-  -- no other party's load has risen above this one
+  -- no load of a party other than p and q has risen above n
   abbrev pub Others : World → L → ℕ → Event → L → ℕ → Type 0
   Others seen l q sc i n = (o : ℕ) → (o ≡ p → ⊥) → (q ≡ o → ⊥) → x.theirs sc.after.plain i o (seat_of seen o) ≤ max (theirs seen l o) n
 
-  -- after a step of another party its load is at most n, and no load has risen above that
+  -- after a step of another party q, the load of q is at most n, and no other load has risen above n
   pub record Falls (seen : World) (l : L) (q : ℕ) (sc : Event) (n : ℕ) : Type 0 where
     pub his : theirs sc.after l q ≤ n
     pub mine : x.mine sc.after.plain l ≤ max (x.mine seen.plain l) n
@@ -112,7 +111,7 @@ module _ {W V C L A B : Type 0} {t : Table W V C L B} {given : Machine W V C L A
   abbrev Refuses : World → ℕ → C → Option Hold → Next L A → Type 0
   Refuses seen q c h next = let n = goes_on seen.state q c h next in x.goal q Weak n.outcome (slice_get n.next.seats q) ≡ true
 
-  -- its own step, which reaches the goal, or leads to a point of its call
+  -- the waiting party's own step, which reaches the goal or leads to a point of its call
   abbrev pub Own : World → L → ℕ → Event → Type 0
   Own seen l n sc = Reaches sc ⊎ ((i : L) × Sits sc.after i × x.At i × (x.mine sc.after.plain i ≤ n) × Others seen l p sc i n)
 
@@ -120,23 +119,23 @@ module _ {W V C L A B : Type 0} {t : Table W V C L B} {given : Machine W V C L A
     pub fine : (seen : World) (q : ℕ) (move : Move C V) → Invariant f seen → x.Fine (scene m seen q move).after → x.Fine seen
     -- what is known stays true at each event that does not reach the goal
     pub keeps : (seen : World) (q : ℕ) (move : Move C V) (l : L) → Waits seen l → let sc = scene m seen q move in Reaches sc ⊎ x.Known sc.after
-    -- its own step, and another party's
+    -- the waiting party's own step; `steps`: a step of another party
     pub own : (seen : World) (l : L) (n : ℕ) → Waits seen l → Within seen l (suc n) → let sc = scene_at m seen p Step (Some (Calling x.call l x.hold)) in After seen p sc → Own seen l n sc
     pub steps : (seen : World) (l : L) (n : ℕ) → Waits seen l → Within seen l (suc n) → (q : ℕ) (d : C) (i : L) (j : Option Hold) → (q ≡ p → ⊥) → seat_of seen q ≡ Some (Calling d i j)
         → let sc = scene_at m seen q Step (Some (Calling d i j)) in After seen q sc → Reaches sc ⊎ Falls seen l q sc n
-    -- a spurious failure
+    -- a spurious failure of the waiting party; `refuses`: of another party
     pub weak : (seen : World) (l : L) (next : Next L A) → x.At l → m.refuse x.call l x.hold ≡ Some next → Refuses seen p x.call x.hold next
     pub refuses : (seen : World) (l : L) → Waits seen l → (q : ℕ) (d : C) (i : L) (j : Option Hold) (next : Next L A) → (q ≡ p → ⊥) → seat_of seen q ≡ Some (Calling d i j) → m.refuse d i j ≡ Some next
         → Refuses seen q d j next ⊎ ((o : Option (Seat C L)) → x.theirs seen.plain l q o ≤ theirs seen l q - 1)
-    -- a beginning, in particular of a release
+    -- a call that another party begins, in particular a release
     pub begins : (seen : World) (l : L) → Waits seen l → (q : ℕ) (d : C) (i : L) (j : Option Hold) → (q ≡ p → ⊥) → seat_of seen q ≡ Some (resting j) → m.begin d j ≡ Some i
         → (x.theirs seen.plain l q (Some (Calling d i j)) ≤ theirs seen l q) × (is_release (m.asks d j) ≡ true → x.theirs seen.plain l q (Some (Calling d i j)) ≤ theirs seen l q - 1)
     pub leaks : (s : Plain) (l : L) (q : ℕ) (h : Hold) → x.theirs s l q (Some (Leaked h)) ≤ x.theirs s l q (Some (Holding h))
-    -- others may wait for each party with a load, and some party has one
+    -- others may wait for each party with a load; `some`: some party has a load
     pub busy : (seen : World) (l : L) (q : ℕ) → Waits seen l → (q ≡ p → ⊥) → 1 ≤ theirs seen l q → is_busy (seat_of seen q) ≡ true
     pub some : (seen : World) (l : L) → Waits seen l → Within seen l 0 → ⊥
 
-  -- what holds of the plain lock stays true if the parties' steps keep it, since no other event changes that lock
+  -- if steps keep a property of the plain lock, every event keeps it, since no other event changes the plain lock
   pub plain_kept : (P : Plain → Type 0) (seen : World) (l : L) → Waits seen l → (q : ℕ) → P seen.plain
       → ((d : C) (i : L) (j : Option Hold) → seat_of seen q ≡ Some (Calling d i j) → let sc = scene_at m seen q Step (Some (Calling d i j)) in IsOpenStep seen.plain q sc.change → Reaches sc ⊎ P sc.after.plain)
       → (move : Move C V) → Reaches (scene m seen q move) ⊎ P (scene m seen q move).after.plain
@@ -172,12 +171,12 @@ module _ {W V C L A B : Type 0} {t : Table W V C L B} {given : Machine W V C L A
   abbrev awaited : ℕ → Option (Seat C L) → Test V C L A
   awaited q o = awaited_of m q o
 
-  -- the load is at most n, or n + 1 until the party has made its awaited move
+  -- the load is at most n, or is at most n + 1 while the party's awaited move is still to come
   abbrev Pays : World → L → ℕ → Turn → ℕ → Type 0
   Pays seen l n es q = (load seen l q ≤ n) ⊎ ((load seen l q ≤ suc n) × (occurs m (awaited q (seat_of seen q)) seen.state es ≡ true))
 
   module _ (walks : Walks) (seen : World) (l : L) (w : Waits seen l) (n : ℕ) (es : Turn) where
-    -- the same before an event
+    -- the same from before an event, whose own move may be the awaited one
     abbrev Pays_by : Event → ℕ → Type 0
     Pays_by sc q =
         let o = seat_of seen q in
@@ -204,7 +203,7 @@ module _ {W V C L A B : Type 0} {t : Table W V C L B} {given : Machine W V C L A
           theirs = λ q ne. omega (arith, within_all sc pays q, other_load seen.plain l q (seat_of seen q) ne);
         }
 
-    -- the loads of the parties that do not step
+    -- what the waiting party and each other party show of their loads, for a party that does not step
     by_whom : (sc : Event) (i : L) (o : ℕ) → ((o ≡ p) → x.mine sc.after.plain i ≤ max (x.mine seen.plain l) n) → ((o ≡ p → ⊥) → x.theirs sc.after.plain i o (seat_of seen o) ≤ max (theirs seen l o) n)
         → load_by sc.after.plain i o (seat_of seen o) ≤ max (load seen l o) n
     by_whom sc i o mine other =
@@ -219,23 +218,23 @@ module _ {W V C L A B : Type 0} {t : Table W V C L B} {given : Machine W V C L A
     stays sc i q same le idle (inr y) =
         inr (omega (arith, le, y.0, ap (load_by sc.after.plain i q) same), subst (λ o. occurs m (awaited q o) sc.after.state es ≡ true) (sym same) (or_rest _ _ y.1 (unawaited m q sc.party _ sc.move sc.outcome idle)))
 
-    -- it still waits, at the same point
+    -- the party still waits, at the same point
     waits_on : (q : ℕ) (sc : Event) → After seen q sc → seat_of sc.after p ≡ seat_of seen p → ((q : ℕ) → Pays sc.after l n es q) → Reaches sc ⊎ On sc
     waits_on q sc made mine pays = inr (record { point = l; waits = (mine ∙ w.0, w.1, made.known, made.good); pays = pays })
 
-    -- an event that moves nobody
+    -- an event that changes no seat
     quiet : (q : ℕ) (sc : Event) → sc.after.plain ≡ seen.plain → sc.after.state.seats ≡ seen.state.seats → is_idle sc.outcome ≡ true → After seen q sc → Goes sc
     quiet q sc plain seats idle made pays =
         waits_on q sc made (ap (λ xs. slice_get xs p) seats) (λ o. stays sc l o (ap (λ xs. slice_get xs o) seats) (omega (arith, ap (λ s. load_by s l o (seat_of seen o)) plain)) (λ e. idle) (pays o))
 
     module _ (q : ℕ) (ne : q ≡ p → ⊥) where
-      -- an event of this party only, which then has this load
+      -- an event that changes only the seat of its party q, which then has this load
       one_moves : (sc : Event) → sc.party ≡ q → After seen q sc → ((q : ℕ) → Pays_by sc q) → Pays sc.after l n es q → ((o : ℕ) → (q ≡ o → ⊥) → load_by sc.after.plain l o (seat_of seen o) ≤ max (load seen l o) n) → Reaches sc ⊎ On sc
       one_moves sc party after pays his others =
           waits_on q sc after (after.others p ne)
           (λ o. ⊎_elim (λ (same : q ≡ o). subst (λ i. Pays sc.after l n es i) same his) (λ (other : q ≡ o → ⊥). stays sc l o (after.others o other) (others o other) (λ e. absurd (other (sym party ∙ e))) (pays o)) (cases_eq q o))
 
-      -- it moves on to this seat, and the plain lock is unchanged
+      -- the party q gets this seat, and the plain lock is unchanged
       moves_to : (y : Option (Seat C L)) (sc : Event) → sc.party ≡ q → sc.after.plain ≡ seen.plain → seat_of sc.after q ≡ y → After seen q sc → ((q : ℕ) → Pays_by sc q)
           → (load_by seen.plain l q y ≤ n) ⊎ ((load_by seen.plain l q y ≤ suc n) × (occurs m (awaited q y) sc.after.state es ≡ true)) → Reaches sc ⊎ On sc
       moves_to y sc party plain seat made pays his =
@@ -282,7 +281,7 @@ module _ {W V C L A B : Type 0} {t : Table W V C L B} {given : Machine W V C L A
       abbrev leak_at : Hold → Event
       leak_at h = scene_at m seen q Leak (Some (Holding h))
 
-      -- nobody waits for a party that has leaked
+      -- a party that leaks has at most the load n, since nobody waits for it
       leaks_on : (h : Hold) → seat_of seen q ≡ Some (Holding h) → Pays_by (leak_at h) q → load_by seen.plain l q (Some (Leaked h)) ≤ n
       leaks_on h at (inl low) = omega (arith, low, walks.leaks seen.plain l q h, ap (load_by seen.plain l q) at, his_load (Some (Leaked h)), his_load (Some (Holding h)))
       leaks_on h at (inr y) =
@@ -365,7 +364,7 @@ module _ {W V C L A B : Type 0} {t : Table W V C L B} {given : Machine W V C L A
     fine_before seen [] good is = is
     fine_before seen (e ∷ es) good is = walks.fine seen e.0 e.1 good (fine_before (scene m seen e.0 e.1).after es (kept f seen e.0 e.1 good).good is)
 
-    -- the call still waits, and no load is above this one
+    -- the party still waits, and no load is above n
     abbrev Waiting : World → ℕ → Type 0
     Waiting seen n = (l : L) × Waits seen l × Within seen l n
 
@@ -379,7 +378,7 @@ module _ {W V C L A B : Type 0} {t : Table W V C L B} {given : Machine W V C L A
         (λ (on : On walks seen l w n es sc). ⊎_elim (λ (r : occurs m x.goal sc.after.state es ≡ true). inl (or_right _ _ r)) inr (through sc.after on.point n es on.waits fine on.pays))
         (goes walks seen l w n es e.0 e.1 (fine_before sc.after es (kept f seen e.0 e.1 w.3).good fine) pays)
 
-    -- a round lowers the highest loads
+    -- a round lowers the highest loads by one, or reaches the goal
     one_round : (seen : World) (l : L) (n : ℕ) (es : Turn) → Waits seen l → x.Fine (seen_after m seen es) → Within seen l (suc n) → IsRound m seen.state es → (occurs m x.goal seen.state es ≡ true) ⊎ Waiting (seen_after m seen es) n
     one_round seen l n es w fine within round =
         through seen l n es w fine
@@ -393,7 +392,7 @@ module _ {W V C L A B : Type 0} {t : Table W V C L B} {given : Machine W V C L A
             ⊎_elim (λ (is : q ≡ p). ap is_busy (ap (seat_of seen) is ∙ w.0))
             (λ (ne : q ≡ p → ⊥). walks.busy seen l q w ne (omega (arith, high, other_load seen.plain l q (seat_of seen q) ne))) (cases_eq q p)
 
-    -- as many rounds as the highest load are enough
+    -- the goal is reached in as many rounds as the highest load says
     in_rounds : (rounds : List Turn) (seen : World) (l : L) → Waits seen l → x.Fine (seen_after m seen (joined rounds)) → AreRounds m seen.state rounds → Within seen l (length rounds) → occurs m x.goal seen.state (joined rounds) ≡ true
     in_rounds [] seen l w fine are within = absurd (walks.some seen l w within)
     in_rounds (es ∷ rounds) seen l w fine are within =
@@ -406,7 +405,7 @@ module _ {W V C L A B : Type 0} {t : Table W V C L B} {given : Machine W V C L A
         or_right _ _ (subst (λ s. occurs m x.goal s (joined rounds) ≡ true) at (in_rounds rounds next y.0 y.1 fine_there (subst (λ s. AreRounds m s rounds) (sym at) are.1) y.2)))
         (one_round seen l (length rounds) es w (fine_before next (joined rounds) (good_after f seen es w.3) fine_there) within are.0)
 
-    -- this holds after any schedule
+    -- the goal is reached so from the state after any schedule
     pub ends : (n : ℕ) (past : Turn) (rounds : List Turn) (l : L)
         → let seen = seen_after m (opening m n) past in let s = after m (at_first m n) past in
         slice_get s.seats p ≡ Some (Calling x.call l x.hold) → x.At l → x.Known seen → x.Fine (seen_after m seen (joined rounds)) → AreRounds m s rounds → (Waits seen l → Within seen l (length rounds))

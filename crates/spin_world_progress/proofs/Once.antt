@@ -1,4 +1,4 @@
--- A call with a closure is answered in four rounds, if no closure fails.
+-- In any four rounds a call with a closure is answered, or some closure fails.
 use Rattle.spin_world_progress.proofs.Names.{seat_of, Bool, suc, eqb-true, eq-eqb, Seat, Outcome, ◌≡◌, ℕ, ◌≤◌, ◌⊎◌, ◌==◌, true, false, Option, Some, None, List, [], ◌∷◌, slice_get, if◌then◌else◌, refl, ap, sym, ◌∙◌, subst, arith, inl, inr, ⊎_elim, cases_eq, ne_eqb, Plain, Phase, nothing, running, complete, Change, is_running, once_word, apply_some, IsOpenStep, Answer, Hold, Calling, Next, Move, Step, BelongsTo, Seen, Scene, scene, scene_at, opening, State, seen_after, once_machine, eqb_self, get-set_same, Plays, of_event, Invariant, in_call, kept, good_first, state_is, numbers_are}
 use Rattle.spin_world.proofs.OnceNames.{OnceCall, CallOnce, TryCallOnceOk, TryCallOnceErr, InitFromRef, OncePoint, Look, TryBegin, Await, Run, asks_of, Entries, once_after, has_closure, OnceMachine}
 use Rattle.spin_world.proofs.OnceOwed.{once_notes, once_facts}
@@ -10,8 +10,8 @@ use Rattle.spin_world_progress.proofs.Progress.{is_busy, calls_not, holds_not, s
 use Rattle.spin_world_progress.proofs.Loads.{Wait}
 use Rattle.spin_world_progress.proofs.Loads as walk
 
--- How many moves a call with a closure makes, including its last one, by the phase and its point. If another party's
--- closure runs, it waits for that one.
+-- How many moves a call with a closure has left, by the phase and the call's point. While another party's closure runs,
+-- the call waits for this closure.
 abbrev mine_by : Phase → ℕ → OncePoint → ℕ
 mine_by complete p l = 1
 mine_by (running q) p l = if q == p then 1 else 0
@@ -21,7 +21,7 @@ mine_by nothing p l = 4
 abbrev theirs_by : Phase → ℕ → ℕ
 theirs_by phase q = if is_running q phase then 2 else 0
 
--- where its own step leads while there is no value, and the phase after it
+-- the point and the phase after a step of the call's own, while there is no value
 abbrev onward : Phase → ℕ → OncePoint → OncePoint × Phase
 onward nothing p TryBegin = (Run, running p)
 onward nothing p l = (TryBegin, nothing)
@@ -34,17 +34,17 @@ loads_fit s p q l = grind arith
 theirs_run : (s : Phase) (q : ℕ) → 1 ≤ theirs_by s q → s ≡ running q
 theirs_run s q some = grind (arith, some, eqb-true)
 
--- a closure of another party begins, and a running one ends
+-- the loads when a closure of another party begins; the next lemma: when a running closure ends
 begins_running : (q r p n : ℕ) (l : OncePoint) → (r ≡ p → ⊥) → mine_by nothing p l ≤ suc n → (theirs_by (running r) r ≤ n) × (mine_by (running r) p l ≤ n) × ((r ≡ q → ⊥) → theirs_by (running r) q ≤ n)
 begins_running q r p n l ne few = grind (arith, ne, few)
 
--- another party's step begins a closure, or does not change the phase, unless it ends the running closure
+-- A step that does not end the running closure begins a closure, or does not change the phase.
 phase_beside : (s : Plain) (r : ℕ) (step : Option Change) → IsOpenStep s r step → BelongsTo once step → is_running r s.phase ≡ false
     → ((apply_some s step).phase ≡ s.phase) ⊎ ((s.phase ≡ nothing) × ((apply_some s step).phase ≡ running r))
 phase_beside s r None may belongs other = inl refl
 phase_beside s r (Some c) may belongs other = grind (arith, may, belongs, other)
 
--- no step of another party makes this one run a closure
+-- if a party runs a closure after another party's step, it already ran the closure before this step
 runs_before : (s : Plain) (r q : ℕ) (step : Option Change) → IsOpenStep s r step → BelongsTo once step → (r ≡ q → ⊥) → (apply_some s step).phase ≡ running q → s.phase ≡ running q
 runs_before s r q None may belongs ne is = is
 runs_before s r q (Some c) may belongs ne is = grind (arith, may, belongs, ne, is)
@@ -89,11 +89,11 @@ module _ {V : Type 0} (value : Option V) where
       → let sc = scene_at m seen p Step (Some (Calling c l h)) in answers p p Step sc.outcome (seat_of sc.after p) ≡ true
   told_by seen p c l h good there is = grind (arith, word_is seen good, is, eqb_self p, (in_call f p good there).knows)
 
-  -- whether or not closures may fail, an answer is an answer
+  -- an event that passes the test `answers` also passes the test of the goal
   answered : (p q : ℕ) (move : Move (OnceCall V) V) (o : Outcome (Answer V) V) (x : Option (Seat (OnceCall V) OncePoint)) → answers p q move o x ≡ true → answers_or_fails m p q move o x ≡ true
   answered p q move o x is = grind (arith, is)
 
-  -- The party that runs its closure is in its call
+  -- The party q is in a call that runs its closure
 
   abbrev Runs : World → ℕ → Type 0
   Runs seen q = (c : OnceCall V) × (h : Option Hold) × (seat_of seen q ≡ Some (Calling c Run h))
@@ -142,7 +142,7 @@ module _ {V : Type 0} (value : Option V) where
         (at.0, at.1, same_beside m seen r q q at.0 Run at.1 at.2 move ne ∙ at.2))
         (cases_eq r q)
 
-  -- this holds after any schedule
+  -- while the phase says that a closure runs, its party is in its call, after any schedule
   runner_after : (seen : World) (es : Entries V) → Invariant f seen → RunnerIn seen → RunnerIn (seen_after m seen es)
   runner_after seen [] good runner = runner
   runner_after seen (e ∷ es) good runner = runner_after (scene m seen e.0 e.1).after es (kept f seen e.0 e.1 good).good (runner_kept seen good runner e.0 e.1)
@@ -161,7 +161,7 @@ module _ {V : Type 0} (value : Option V) where
       abbrev sc : Event
       sc = scene_at m seen p Step (Some (Calling c l h))
 
-      -- its own step, while its closure runs, while there is a value, and while there is none yet
+      -- the call's own step: `ended` if its closure runs; then the cases with a value, and without one
       ended : l ≡ Run → walk.Reaches f x sc
       ended is = grind (arith, is, closure, eqb_self p)
 
@@ -192,7 +192,7 @@ module _ {V : Type 0} (value : Option V) where
       run_ends q d Run j at e = absurd (in_call f q w.3 at).knows
       run_ends q d i j at e = absurd (grind (arith, e))
 
-      -- another party's step: its closure ends, or one begins, or the phase does not change
+      -- another party's step ends its closure, or begins one, or does not change the phase
       steps : (n : ℕ) → walk.Within f x seen l (suc n) → (q : ℕ) (d : OnceCall V) (i : OncePoint) (j : Option Hold) → (q ≡ p → ⊥) → seat_of seen q ≡ Some (Calling d i j)
           → let y = scene_at m seen q Step (Some (Calling d i j)) in walk.After f x seen q y → walk.Reaches f x y ⊎ walk.Falls f x seen l q y n
       steps n within q d i j ne at made = by (is_running q s.phase) refl

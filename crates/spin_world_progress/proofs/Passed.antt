@@ -7,11 +7,11 @@ module _ {V : Type 0} (v : V) (first : ℕ) where
   abbrev m : Machine TicketWords V TicketCall TicketPoint (Answer V)
   m = ticket_machine v first
 
-  -- party 0 tries to take the number k, which is next and served, and party 1 is idle
+  -- party 0 is about to take the number k, which is the next and the served number, and party 1 is idle
   abbrev behind : ℕ → State TicketWords V TicketCall TicketPoint
   behind k = record { words = record { next = k; serving = k }; value = Some v; seats = Calling Lock (Take k) None ∷ Idle ∷ [] }
 
-  -- party 1 takes that ticket and enters, before party 0 makes its exchange
+  -- party 1 takes the ticket with this number and enters, before party 0 makes its exchange
   abbrev round : List (ℕ × Move TicketCall V)
   round = (1, Begin Lock) ∷ (1, Step) ∷ (1, Step) ∷ (1, Step) ∷ (0, Step) ∷ (1, Begin Release) ∷ (1, Step) ∷ []
 

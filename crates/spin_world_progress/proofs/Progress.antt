@@ -1,4 +1,4 @@
--- What events keep: for a party that waits in a call, for one that has leaked, and for others.
+-- What events keep of a party that waits in a call, of a party that has leaked, and of others.
 use Rattle.spin_world_progress.proofs.Names.{seat_of, not, is_empty, goes_on, ◌⊎◌, inl, inr, ⊎_elim, subst, cases_eq, is_step, eqb_self, ◌≡◌, ℕ, ◌==◌, ◌&&◌, ◌||◌, Bool, true, false, Option, Some, None, List, [], ◌∷◌, ◌++◌, slice_get, refl, ap, sym, ◌∙◌, arith, eqb-true, false≢true, may_read, and_parts, list_all, Machine, State, happens, owner_writes, resting, after, is_owners, Seen, Scene, scene, Hold, Seat, Idle, Calling, Holding, Leaked, Gone, Next, Continue, Answers, Move, Outcome, Test, occurs, is_awaited, MovesOn, get-set_other, seat_with, of_event}
 use Rattle.spin_world_core.proofs.Names.{true≢false, option_map, seen_by_owner, slice_get-map, yields_to_owner}
 use Rattle.spin_world_core.proofs.Owners.{all-get}
@@ -14,7 +14,7 @@ or_right a b is = grind (arith, is)
 pub or_rest : (a b : Bool) → (a || b) ≡ true → a ≡ false → b ≡ true
 or_rest a b is none = grind (arith, is, none)
 
--- a party that has leaked, and one that others may wait for
+-- the party has leaked or is gone; `is_busy`: others may wait for the party
 
 abbrev pub has_left : {C L : Type 0} → Option (Seat C L) → Bool
 has_left (Some (Leaked h)) = true
@@ -39,7 +39,7 @@ seen_left o left = grind (arith, left)
 rests_here : (C L : Type 0) (h : Option Hold) → has_left {C = C} {L = L} (Some (resting h)) ≡ false
 rests_here C L h = grind arith
 
--- a party that rests, holds or has leaked is in no call
+-- a party that is idle, holds or has leaked is in no call
 
 pub calls_not : {C L : Type 0} (h : Option Hold) (c : C) (l : L) (held : Option Hold) → Some (resting h) ≡ Some (Calling c l held) → ⊥
 calls_not None c l held e = cc (e)
@@ -62,7 +62,7 @@ module _ {W V C L A : Type 0} (m : Machine W V C L A) where
   no_owner seen p c l h there may =
       false≢true (all-get yields_to_owner seen.state.seats p (Calling c l h) (and_parts m.owned (list_all yields_to_owner seen.state.seats) may).1 there)
 
-  -- what a move of the party q changes
+  -- what a move of the party q changes for the party d
   module _ (seen : Seen W V C L) (q d : ℕ) where
     abbrev seats : List (Seat C L)
     seats = seen.state.seats
@@ -89,7 +89,7 @@ module _ {W V C L A : Type 0} (m : Machine W V C L A) where
         })
         move
 
-    -- a party that has leaked stays so, and moves no more
+    -- a party that has leaked stays so or is gone, and moves no more
     module _ (left : has_left (slice_get seats d) ≡ true) where
       abbrev Away : Scene W V C L A → Type 0
       Away sc = (has_left (seat_of sc.after d) ≡ true) × (q ≡ d → is_idle sc.outcome ≡ true)
@@ -124,7 +124,7 @@ module _ {W V C L A : Type 0} (m : Machine W V C L A) where
   abbrev pub awaited_of : ℕ → Option (Seat C L) → Test V C L A
   awaited_of d o q move what x = (q == d) && is_awaited m o move what
 
-  -- a move with an idle outcome is not that move, nor is a move of another party
+  -- a move with an idle outcome is not the awaited move, and neither is a move of another party
   pub unawaited : (d q : ℕ) (o : Option (Seat C L)) (move : Move C V) (what : Outcome A V) → (q ≡ d → is_idle what ≡ true) → ((q == d) && is_awaited m o move what) ≡ false
   unawaited d q o move what idle = grind (arith, idle, eqb-true)
 
@@ -172,7 +172,7 @@ module _ {W V C L A : Type 0} (m : Machine W V C L A) where
         sets = λ v y there may. absurd (no_owner seen q c l h at may);
       })
 
-  -- so a party in a call takes a step of it before it begins the release of a hold
+  -- so a party in a call takes a step of this call before it begins the release of a hold
   pub step_first : (seen : Seen W V C L) (es : List (ℕ × Move C V)) (d : ℕ) (c : C) (l : L) (h : Option Hold) (held : Hold) → seat_of seen d ≡ Some (Calling c l h)
       → occurs m (awaited_of d (Some (Holding held))) seen.state es ≡ true → occurs m (awaited_of d (Some (Calling c l h))) seen.state es ≡ true
   step_first seen [] d c l h held there found = found

@@ -1,5 +1,4 @@
--- A party that has asked to upgrade gets its upgrade in three rounds. The other readers leave at the same time, each in
--- two.
+-- A party that has asked to upgrade gets its upgrade in three rounds. The other readers leave within the same two rounds.
 use Rattle.spin_step.specs.Plain.{to_read_upgradable, to_write, to_lock_unregistered, to_lock_starving, to_lock_starving_alone, to_upgrade, to_upgrade_asked, comes, given}
 use Rattle.spin_world_progress.proofs.Names.{Plays, seat_of, ◌≡◌, ℕ, ◌≤◌, ◌==◌, Bool, true, false, Option, Some, None, List, [], ◌∷◌, slice_get, refl, ap, sym, ◌∙◌, arith, Plain, Kind, reading, upgradable, asking, writing, Holder, Change, gets, releases, turns, is_holder, with_kind, count_kind, weight, rw_word, entries, apply_some, IsOpenStep, IsExclusive, ◌-◌, ◌⊎◌, ◌||◌, filter, inl, inr, ⊎_elim, sum_by-cons, list_any, same_kind, without_holder, effect, apply, is_open, is_open_to, Ask, to_read, entries_after, entries-own, against, one_of, by_kinds, all_kinds, sum-less, Answer, Done, Hold, Seat, Calling, Next, Continue, Answers, Move, Step, Weak, Machine, after, at_first, goes_on, Seen, Scene, scene_at, opening, seen_after, get-set_same, eqb_self, Invariant, in_call, StandsSo, calls_so, RwCall, Upgrade, RwPoint, Asking, rw_machine, rw_notes, rw_facts, holder_by, Test, grants, refuses_weakly, UpgradesInThree, UpgradesAtLast}
 use Rattle.spin_step.proofs.Exclusive.{Lets, lets}
@@ -11,7 +10,7 @@ use Rattle.spin_world_progress.proofs.Endless.{at_last}
 use Rattle.spin_model.specs.declared.place.Hold.TheVariants as hold
 use Rattle.spin_world_progress.proofs.Leaving as leaving
 
--- While a party asks, a party that does not read does not begin to
+-- While a party asks to upgrade, no other party begins to read.
 
 without_other : (q r : ℕ) (k : Kind) (hs : List Holder) → is_holder q reading hs ≡ false → is_holder q reading (without_holder r k hs) ≡ false
 without_other q r k [] none = none
@@ -97,14 +96,14 @@ module _ {V : Type 0} (v : V) (cap : ℕ) where
       asks : is_holder p asking seen.plain.holders ≡ true
       asks = holder_by p asking seen.plain (in_call f p good there).knows.0.stand
 
-      -- nobody begins to read
+      -- a step makes nobody a reader
       no_reader : (q : ℕ) (step : Option Change) → any_of reading (entries q seen.plain) ≡ false → IsOpenStep seen.plain q step → any_of reading (entries_after seen.plain step (entries q seen.plain)) ≡ false
       no_reader q step none opens =
           let after = apply_some seen.plain step in
           ap (any_of reading) (sym (entries-own seen.plain q step opens))
           ∙ (any_own reading q after.holders ∙ not_reading_some seen.plain p q q step good.exclusive asks (sym (any_own reading q seen.plain.holders) ∙ none) opens)
 
-      -- without readers the word is that of the one that asks
+      -- if nobody reads, the word is that of one reader that asks to upgrade
       open_now : ((q : ℕ) → any_of reading (entries q seen.plain) ≡ false) → (seen.state.words == weight asking) ≡ true
       open_now none =
           let word : rw_word seen.plain ≡ seen.state.words = cc (good.encodes) in

@@ -1,5 +1,5 @@
 -- A read-write lock is free of deadlock. The readers leave in the same two rounds. A holder that does more than read is
--- then alone, and each round takes a move from it.
+-- then alone, and makes one of its moves in each round.
 use Rattle.spin_world_progress.proofs.Names.{seat_of, Knows, good, cases_eq, scene, eqb-true, empty_is, ◌<◌, one_of, eq-eqb, row_tells, in_call, StandsFor, ne_eqb, entries-other, Holding, Upgrade, Asking, max, suc, not, resting, ◌≡◌, ℕ, ◌+◌, ◌≤◌, ◌==◌, Bool, true, false, Option, Some, None, List, [], ◌∷◌, length, slice_get, refl, ap, sym, ◌∙◌, arith, Plain, Kind, reading, upgradable, asking, writing, Holder, Change, releases, turns, count_kind, weight, rw_word, apply_some, IsOpenStep, IsExclusive, ◌-◌, ◌⊎◌, ◌||◌, ◌&&◌, subst, inl, inr, ⊎_elim, nat_lt, min, if◌then◌else◌, lt-ltb, sum_by-cons, same_kind, upgrader, all_kinds, by_kinds, reader_limit, Answer, Hold, Seat, Idle, Calling, Next, Continue, Answers, Move, Step, Weak, Mark, Machine, after, at_first, goes_on, get-set_same, Seen, Scene, scene_at, opening, seen_after, eqb_self, Plays, Invariant, calls, RwCall, RwPoint, rw_machine, rw_notes, rw_facts, Test, grants_any, without_holder, with_kind, filter, list_any, list_all, entries, is_empty}
 use Rattle.spin_world_progress.specs.Rw.{GrantsSomebody, RwIsDeadlockFree, refuses_any, leading, rounds_by, rounds_beside}
 use Rattle.spin_world.proofs.RwNames.{Write, Exchange, Release, Entries, Read, UpgradeableRead, may_turn, read, read_upgradable}
@@ -22,7 +22,7 @@ at_come UpgradeableRead = Unit {0}
 at_come Write = Unit {0}
 at_come _ = ⊥
 
--- Who holds: one party, which may do more than read, and others, which read
+-- Who holds: the party u, which may do more than read, and others, which read
 
 abbrev its : ℕ → List Holder → List Holder
 its u hs = filter (λ h. h.party == u) hs
@@ -59,17 +59,17 @@ kind_turned : (u : ℕ) (j k : Kind) (hs : List Holder) → kind_of u hs ≡ Som
 kind_turned u j k [] is = absurd (cc (is))
 kind_turned u j k (h ∷ hs) is = grind (arith, is, kind_turned u j k hs)
 
--- all holders are its own if nobody holds with it
+-- all holders are those of u if no other party holds
 all_its : (u : ℕ) (hs : List Holder) → beside u hs ≡ false → its u hs ≡ hs
 all_its u [] none = refl
 all_its u (h ∷ hs) none = grind (arith, none, all_its u hs)
 
--- a holder that only reads does read
+-- if somebody holds and all holders only read, somebody reads
 reads_some : (hs : List Holder) → is_empty hs ≡ false → only_read hs ≡ true → reads hs ≡ true
 reads_some [] some all = absurd (cc (some))
 reads_some (h ∷ hs) some all = grind (arith, all)
 
--- who holds with it
+-- some party other than u holds
 witness : (u : ℕ) (hs : List Holder) → beside u hs ≡ true → (q : ℕ) × (q ≡ u → ⊥) × (is_empty (its q hs) ≡ false)
 witness u [] some = absurd (cc (some))
 witness u (h ∷ hs) some = by (h.party == u) refl (witness u hs)
@@ -121,7 +121,7 @@ one_word k [] few is = absurd (cc (is))
 one_word k (h ∷ []) few is = grind (arith, is, sum_by-cons (λ (g : Holder). weight g.kind) h [])
 one_word k (h ∷ i ∷ hs) few is = absurd (omega (arith, few))
 
--- At the start: the party that does more than read, or p, which holds nothing
+-- the party u at the start: the one that does more than read, or else p, which holds nothing
 
 abbrev lead : ℕ → List Holder → ℕ
 lead p [] = p
@@ -186,8 +186,7 @@ abbrev leaves : Option RwSeat → Bool
 leaves (Some (Calling Release l h)) = true
 leaves _ = false
 
--- the load of readers that hold with that party, which leave at the same time; then comes what that party has left to
--- do
+-- how many rounds are left at most once the readers beside u have left, by the kind with which u holds
 abbrev base : Option Kind → ℕ
 base None = 2
 base (Some reading) = 3
@@ -195,7 +194,7 @@ base (Some upgradable) = 4
 base (Some asking) = 1
 base (Some writing) = 4
 
--- the load of that party alone, by whether the call is a `write`, whether there is room for two, and whether it leaves
+-- the load of u if no other party holds. `w`: the waiting call is a `write`. `room`: two parties may hold. `out`: u is releasing.
 abbrev alone : Bool → Bool → Kind → Bool → ℕ
 alone w room reading out = if w then (if out then 2 else 3) else if room then 0 else (if out then 3 else 4)
 alone w room upgradable out = if out then 3 else if w || room then 4 else 5
@@ -210,7 +209,7 @@ abbrev is_asking : Option Kind → Bool
 is_asking (Some asking) = true
 is_asking _ = false
 
--- by whether somebody holds with it; whether it is that party, or reads; and whether it leaves
+-- the load of a party. `b`: somebody holds beside u. `own`: the party is u. `reader`: it reads. `out`: it is releasing.
 abbrev theirs_of : Bool → Bool → Option Kind → Bool → Bool → Bool → Bool → ℕ
 theirs_of w room k b own reader out =
     if own then (if b then (if is_asking k then 1 else 0) else its_load w room k out) else if reader then base k + (if out then 1 else 2) else 0
@@ -222,7 +221,7 @@ abbrev is_write : RwCall → Bool
 is_write Write = true
 is_write c = false
 
--- how many steps it makes if nobody holds, and if one reader leaves it room
+-- how many steps the waiting call makes if nobody holds; the next function: if one reader leaves room for it
 abbrev own_rank : RwCall → RwPoint → ℕ
 own_rank Write l = 1
 own_rank c (Exchange k) = if k == 0 then 1 else 2
@@ -243,7 +242,7 @@ mine_of c room l k b = if b then 0 else mine_alone c room l k
 abbrev mine_by : RwCall → Bool → ℕ → List Holder → RwPoint → ℕ
 mine_by c room u hs l = mine_of c room l (kind_of u hs) (beside u hs)
 
--- when one begins a call, or begins to leave
+-- the load when a party begins a call, or begins its release
 theirs_begun : (w room : Bool) (k : Option Kind) (b own reader out : Bool) → theirs_of w room k b own reader out ≤ theirs_of w room k b own reader false
 theirs_begun w room k b own reader out = grind arith
 
@@ -262,11 +261,11 @@ alone_some c room l a reader out mine theirs = grind (arith, mine, theirs)
 base_some : (k : Option Kind) → 1 ≤ base k
 base_some k = grind arith
 
--- while another reader holds
+-- the load while another reader holds
 reader_long : (w room : Bool) (k : Option Kind) (b out : Bool) (n : ℕ) → theirs_of w room k b false true out ≤ suc n → base k ≤ n
 reader_long w room k b out n few = grind (arith, few)
 
--- at the start
+-- the load at the start
 theirs_start : (w room : Bool) (a : Kind) (k : Option Kind) (b own reader out some : Bool) → (same_kind reading a ≡ true → k ≡ None) → (same_kind reading a ≡ false → k ≡ Some a) → (reader ≡ true → some ≡ true) → theirs_of w room k b own reader out ≤ rounds_by a some
 theirs_start w room reading k b own reader out some none leads reads = let is = none refl in grind (arith, is, reads)
 theirs_start w room a k b own reader out some none leads reads = let is = leads refl in grind (arith, is, reads)
@@ -275,7 +274,7 @@ mine_start : (c : RwCall) (room : Bool) (l : RwPoint) (a : Kind) (k : Option Kin
 mine_start c room l reading k b some none leads = let is = none refl in grind (arith, is)
 mine_start c room l a k b some none leads = let is = leads refl in grind (arith, is)
 
--- when a reader leaves
+-- the loads when a reader leaves
 theirs_gone : (w room : Bool) (k : Option Kind) (b later own reader out : Bool) (n : ℕ) → base k ≤ n → ((j : Kind) → k ≡ Some j → (room ≡ true) × (same_kind writing j ≡ false)) → (b ≡ false → later ≡ false)
     → theirs_of w room k later own reader out ≤ max (theirs_of w room k b own reader out) n
 theirs_gone w room None b later own reader out n few two less = grind (arith, few, less)
@@ -284,14 +283,14 @@ theirs_gone w room (Some j) b later own reader out n few two less = let is = two
 mine_gone : (c : RwCall) (room : Bool) (l : RwPoint) (k : Option Kind) (b later : Bool) (n : ℕ) → base k ≤ n → (b ≡ false → later ≡ false) → mine_of c room l k later ≤ max (mine_of c room l k b) n
 mine_gone c room l k b later n few less = grind (arith, few, less)
 
--- when the other one leaves
+-- the loads when the party u leaves
 theirs_left : (w room : Bool) (k : Option Kind) (b reader out : Bool) (n : ℕ) → is_asking k ≡ false → theirs_of w room None b false reader out ≤ max (theirs_of w room k b false reader out) n
 theirs_left w room k b reader out n asks = grind (arith, asks)
 
 mine_left : (c : RwCall) (room : Bool) (l : RwPoint) (k : Kind) (b reader : Bool) (n : ℕ) → theirs_of (is_write c) room (Some k) b true reader true ≤ suc n → at_come c → is_asking (Some k) ≡ false → mine_of c room l None b ≤ max (mine_of c room l (Some k) b) n
 mine_left c room l k b reader n few comes asks = grind (arith, few, comes, asks)
 
--- when it gets a lesser hold
+-- the loads when the party u gets a lesser hold
 its_turned : (w room : Bool) (j k : Kind) (b reader : Bool) (n : ℕ) → may_turn j k ≡ true → theirs_of w room (Some j) b true reader false ≤ suc n → (b ≡ true → 1 ≤ n) → theirs_of w room (Some k) b true reader false ≤ n
 its_turned w room j k b reader n may few beside = grind (arith, may, few, beside)
 
@@ -301,7 +300,7 @@ theirs_turned w room j k b reader out n may = grind (arith, may)
 mine_turned : (c : RwCall) (room : Bool) (l : RwPoint) (j k : Kind) (b reader : Bool) (n : ℕ) → may_turn j k ≡ true → theirs_of (is_write c) room (Some j) b true reader false ≤ suc n → mine_of c room l (Some k) b ≤ max (mine_of c room l (Some j) b) n
 mine_turned c room l j k b reader n may few = grind (arith, may, few)
 
--- what its step function answers
+-- what the step function of the waiting call returns
 abbrev lets : ℕ → RwCall → ℕ → Option ℕ
 lets cap Read w = read cap w
 lets cap UpgradeableRead w = read_upgradable cap w
@@ -313,7 +312,7 @@ from (Some (releases q k)) = Some k
 from (Some (turns q j k)) = Some j
 from _ = None
 
--- a holder leaves, or gets a lesser hold
+-- by this plain step a holder leaves; otherwise it gets a lesser hold
 abbrev is_out : Option Change → Bool
 is_out (Some (releases q k)) = true
 is_out _ = false
@@ -351,7 +350,7 @@ module _ {V : Type 0} (v : V) (cap : ℕ) (some : 1 ≤ cap) where
   abbrev Sits : (Entries → Bool) → ℕ → Option RwSeat → Type 0
   Sits = walk.SitsSo (rw_notes v cap)
 
-  -- a party that holds nothing, or reads, as the flag says
+  -- the party reads and does no more if `reader`; otherwise it holds nothing
   abbrev reads_so : Bool → Entries → Bool
   reads_so reader e = only_read e.holders && (if reader then reads e.holders else not (reads e.holders))
 
@@ -360,7 +359,7 @@ module _ {V : Type 0} (v : V) (cap : ℕ) (some : 1 ≤ cap) where
       Grants seen q c l h ⊎ (((y.change ≡ None) × (reader ≡ false)) ⊎ ((y.change ≡ Some (releases q reading)) × (reader ≡ true) × (leaves (Some (Calling c l h)) ≡ true) × (seat_of y.after q ≡ Some Idle)))
   others_step seen q c l h reader there so = grind (arith, so, get-set_same seen.state.seats q Idle _ there)
 
-  -- a step of the other party, which holds in this way
+  -- a step of the party u, which holds in this way
   its_step : (seen : World) (u : ℕ) (c : RwCall) (l : RwPoint) (h : Option Hold) (kind : Option Kind) → seat_of seen u ≡ Some (Calling c l h) → Sits (λ e. same_kinds kind (kind_in e.holders)) u (Some (Calling c l h)) → let y = sc seen u c l h in
       Grants seen u c l h ⊎ ((y.change ≡ None) ⊎ ((same_kinds kind (from y.change) ≡ true) × ((is_out y.change ≡ true) × (is_asking kind ≡ false) × (leaves (Some (Calling c l h)) ≡ true) × (seat_of y.after u ≡ Some Idle) ⊎ (is_turn y.change ≡ true) × (leaves (Some (Calling c l h)) ≡ false) × (leaves (seat_of y.after u) ≡ false))))
   its_step seen u c l h kind there so =
@@ -373,7 +372,7 @@ module _ {V : Type 0} (v : V) (cap : ℕ) (some : 1 ≤ cap) where
         get-set_same seen.state.seats u (Calling Upgrade Asking (Some hold.Upgradable)) _ there,
       )
 
-  -- if it is alone it makes a plain step, or is granted
+  -- if u holds alone, its step makes a plain step or is a grant
   its_step_alone : (seen : World) (u : ℕ) (c : RwCall) (l : RwPoint) (h : Option Hold) (kind : Kind) → seen.state.words ≡ weight kind → Sits (λ e. same_kinds (Some kind) (kind_in e.holders)) u (Some (Calling c l h)) → (sc seen u c l h).change ≡ None → Grants seen u c l h
   its_step_alone seen u c l h kind word so none = grind (arith, word, so, none)
 
@@ -400,7 +399,7 @@ module _ {V : Type 0} (v : V) (cap : ℕ) (some : 1 ≤ cap) where
       sits : (test : Entries → Bool) (q : ℕ) → test (entries q s) ≡ true → walk.SitsSo (rw_notes v cap) test q (seat_of seen q)
       sits test q is = walk.sits_so (rw_notes v cap) test seen good q is
 
-      -- if it is alone it has the word to itself
+      -- the party u is one holder at most
       one : length (its u s.holders) ≤ 1
       one = by (nat_lt 1 (length (its u s.holders))) refl
         where
@@ -426,11 +425,11 @@ module _ {V : Type 0} (v : V) (cap : ℕ) (some : 1 ≤ cap) where
         abbrev y : Scene ℕ V RwCall RwPoint (Answer V)
         y = sc seen q d i j
 
-        -- its load before the step
+        -- the load of q before its step
         before : theirs_by (is_write c) room u s.holders q (Some (Calling d i j)) ≤ suc n
         before = subst (λ o. theirs_by (is_write c) room u s.holders q o ≤ suc n) at (within.theirs q ne)
 
-        -- a step that does not change the plain lock changes nobody else's load
+        -- a step that does not change the plain lock changes no other party's load
         unchanged : y.change ≡ None → theirs_by (is_write c) room u s.holders q (seat_of y.after q) ≤ n → walk.Falls f x seen l q y n
         unchanged none his =
             let same : y.after.plain ≡ s = ap (apply_some s) none in
@@ -476,7 +475,7 @@ module _ {V : Type 0} (v : V) (cap : ℕ) (some : 1 ≤ cap) where
               (others_step seen q d i j reader at (subst (Sits (reads_so reader) q) at (sits (reads_so reader) q (grind (arith, known q other)))))
 
         module _ (is : q ≡ u) where
-          -- each party that holds with it has a load
+          -- if somebody holds beside u, at most n rounds are left once the readers beside u have left
           beside_long : b ≡ true → base kind ≤ n
           beside_long some =
               let z = reader_beside known mine_at some in
@@ -541,7 +540,7 @@ module _ {V : Type 0} (v : V) (cap : ℕ) (some : 1 ≤ cap) where
               inr (⊎_elim (λ (out : Leaves). out_falls y.change refl g.0 out.0 out.1 out.2 out.3) (λ (turn : Turns). turn_falls y.change refl g.0 turn.0 turn.1 turn.2) g.1)) z)
               (its_step seen q d i j kind at so)
 
-      -- its own step
+      -- the waiting party's own step
 
       module _ (l : RwPoint) (n : ℕ) (within : walk.Within f x seen l (suc n)) (there : seat_of seen p ≡ Some (Calling c l None)) where
         abbrev mine_sc : Scene ℕ V RwCall RwPoint (Answer V)
@@ -557,7 +556,7 @@ module _ {V : Type 0} (v : V) (cap : ℕ) (some : 1 ≤ cap) where
         goes : (o : Option ℕ) → lets cap c seen.state.words ≡ o → Grants seen p c l None ⊎ GoesTo (onward o)
         goes o is = grind (arith, comes, is, get-set_same seen.state.seats p (Calling c (onward o) None) _ there)
 
-        -- if nobody holds, and if one reader leaves it room
+        -- the step if nobody holds; the next lemma: if one reader leaves room for the call
         goes_free : seen.state.words ≡ 0 → Grants seen p c l None ⊎ (GoesTo (Exchange 0) × (own_rank c (Exchange 0) ≤ own_rank c l - 1))
         goes_free zero = grind (arith, comes, zero, lt-ltb 0 (min cap reader_limit) (omega (arith, some)), get-set_same seen.state.seats p (Calling c (Exchange 0) None) _ there)
 
@@ -609,7 +608,7 @@ module _ {V : Type 0} (v : V) (cap : ℕ) (some : 1 ≤ cap) where
         by true none = absurd (omega (arith, long, its_none seen.plain.holders q (seat_of seen q) (empty_is (its q seen.plain.holders) none)))
         by false some = walk.busy_so (rw_notes v cap) holds_lock q _ refl (λ h so. grind (arith, so)) (walk.sits_so (rw_notes v cap) holds_lock seen good q (ap not some))
 
-    -- a party that rests asks nothing
+    -- a party that is in no call has not asked to upgrade
     asks_not : (seen : World) → Invariant f seen → (q : ℕ) (j : Option Hold) → seat_of seen q ≡ Some (resting j) → (q == u) ≡ true → is_asking (kind_of u seen.plain.holders) ≡ false
     asks_not seen good q j at is = by (is_asking (kind_of u seen.plain.holders)) refl
       where
@@ -651,7 +650,7 @@ module _ {V : Type 0} (v : V) (cap : ℕ) (some : 1 ≤ cap) where
         same : (d : RwCall) (i : RwPoint) (j : Option Hold) → IsOpenStep seen.plain q (sc seen q d i j).change → (o : ℕ) → (q ≡ o → ⊥) → its o (sc seen q d i j).after.plain.holders ≡ its o seen.plain.holders
         same d i j opens o ne = ap (λ (e : Entries). e.holders) (entries-other seen.plain q o (sc seen q d i j).change ne opens)
 
-    -- somebody has a load
+    -- some party has a load
     some_load : (seen : World) (l : RwPoint) → walk.Waits f x seen l → walk.Within f x seen l 0 → ⊥
     some_load seen l w none = by (beside u hs) refl (kind_of u hs) refl
       where
@@ -689,7 +688,7 @@ module _ {V : Type 0} (v : V) (cap : ℕ) (some : 1 ≤ cap) where
           some = some_load;
         }
 
-  -- an upgrade holds
+  -- a waiting call of a party that holds nothing is no upgrade
   come_at : (c : RwCall) (l : RwPoint) (p : ℕ) (s : Plain) (span : List Mark) → (asks_of c None).waits ≡ true → Knows (rw_notes v cap) c l None p s span → at_come c
   come_at c l p s span asks knows = grind (arith, asks, knows)
 

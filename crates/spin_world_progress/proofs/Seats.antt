@@ -1,5 +1,5 @@
--- A seat is granted within four rounds: parties that sit leave within two, and a waiting party takes two to look and
--- make its exchange.
+-- A seat is granted within four rounds. Parties that have a seat leave within two rounds, and a waiting party takes two
+-- rounds to look and make its exchange.
 use Rattle.spin_world_progress.proofs.Names.{seat_of, cases_eq, ◌≡◌, ℕ, ◌≤◌, ◌⊎◌, ◌==◌, Bool, true, false, Option, Some, None, List, nat_lt, refl, arith, inl, inr, entries, Hold, Calling, Answers, Answer, Move, Step, after, at_first, Seen, scene_at, ◌-◌, ⊎_elim, if◌then◌else◌, entries_after, empty_is, seats, lt-ltb, Done, SeatsMachine, seats_machine, get-set_same, Invariant, StandsSo, Test, grants_any}
 use Rattle.spin_seats.specs.declared.calls.SeatsCall.{SeatsCall}
 use Rattle.spin_seats.specs.declared.calls.SeatsCall.TheVariants.{Enter, Leave}
@@ -12,7 +12,7 @@ use Rattle.spin_world_progress.proofs.Flag.{nobody_holds}
 use Rattle.spin_world_progress.proofs.Progress.{holds_lock}
 use Rattle.spin_world_progress.proofs.Leaving as leaving
 
--- how many steps it makes if nobody sits: it looks, and makes its exchange
+-- how many steps the waiting party makes if nobody has a seat: it looks, and makes its exchange
 abbrev rank_by : SeatsPoint → ℕ
 rank_by (Exchange k) = if k == 0 then 1 else 2
 rank_by l = 2
@@ -30,7 +30,7 @@ module _ (n : ℕ) (some : 1 ≤ n) where
   room : nat_lt 0 (seats n) ≡ true
   room = lt-ltb 0 (seats n) (omega (arith, some))
 
-  -- its next point, by whether there is room
+  -- the waiting party's point after a look, by whether there is room
   abbrev onward : World → Bool → SeatsPoint
   onward seen b = if b then Exchange seen.state.words else First
 
@@ -42,12 +42,12 @@ module _ (n : ℕ) (some : 1 ≤ n) where
         (goal p Step x.outcome (seat_of x.after p) ≡ true) ⊎ (seat_of x.after p ≡ Some (Calling Enter (onward seen b) h))
     goes seen l there b is = grind (arith, is, get-set_same seen.state.seats p (Calling Enter (onward seen b) h) _ there)
 
-    -- if nobody sits
+    -- the waiting party's own step if nobody has a seat
     step : (seen : World) (l : SeatsPoint) → seat_of seen p ≡ Some (Calling Enter l h) → seen.state.words ≡ 0 → let x = scene_at m seen p Step (Some (Calling Enter l h)) in
         (goal p Step x.outcome (seat_of x.after p) ≡ true) ⊎ ((seat_of x.after p ≡ Some (Calling Enter (Exchange 0) h)) × (rank_by (Exchange 0) ≤ rank_by l - 1))
     step seen l there is = grind (arith, is, room, get-set_same seen.state.seats p (Calling Enter (Exchange 0) h) _ there)
 
-    -- its own step
+    -- the waiting party's own step
     own : (seen : World) (l : SeatsPoint) → Invariant (seats_facts n) seen → seat_of seen p ≡ Some (Calling Enter l h) → let x = scene_at m seen p Step (Some (Calling Enter l h)) in
         (goal p Step x.outcome (seat_of x.after p) ≡ true) ⊎ ((i : SeatsPoint) × (seat_of x.after p ≡ Some (Calling Enter i h)) × Unit {0} × (Nobody seen → rank_by i ≤ rank_by l - 1))
     own seen l good there =
@@ -56,7 +56,7 @@ module _ (n : ℕ) (some : 1 ≤ n) where
         (λ (ne : seen.state.words ≡ 0 → ⊥). ⊎_elim inl (λ on. inr (onward seen b, on, tt, λ none. absurd (ne (grind (arith, good.encodes, nobody_holds seen.plain.holders none))))) (goes seen l there b refl))
         (cases_eq seen.state.words 0)
 
-    -- a step that makes its party a holder is a grant
+    -- a step that makes a party a holder is a grant
     comes : (seen : World) (q : ℕ) (c : SeatsCall) (l : SeatsPoint) (h : Option Hold) → holds_lock (entries q seen.plain) ≡ false
         → let x = scene_at m seen q Step (Some (Calling c l h)) in (goal q Step x.outcome (seat_of x.after q) ≡ true) ⊎ (holds_lock (entries_after seen.plain x.change (entries q seen.plain)) ≡ false)
     comes seen q c l h none = grind (arith, none, empty_is (entries q seen.plain).holders)

@@ -1,4 +1,4 @@
--- Turns in which a call starves.
+-- For each kind of call that may starve: a turn of a schedule in which the call starves.
 use Rattle.spin_world_progress.proofs.Names.{◌≡◌, ℕ, zero, suc, ◌≤◌, nat_lt, min, Bool, true, Option, Some, None, [], ◌∷◌, refl, arith, lt-ltb, to_read, to_read_upgradable, reader_limit, most_starvers, Idle, Calling, Holding, Begin, Step, flag_machine, rw_machine, fair_machine, seats, seats_machine, once_machine, MayStarve}
 use Rattle.spin_world.specs.BarrierTable.{barrier_machine}
 use Rattle.spin_world_progress.specs.Starving.{MayDeadlock, grants_or_weak}
@@ -18,13 +18,13 @@ use Rattle.spin_model.specs.declared.once.OncePoint.TheVariants as once_point
 use Rattle.spin_world.specs.declared.barrier.BarrierCall.TheVariants as barrier
 use Rattle.spin_world.specs.declared.barrier.BarrierPoint.TheVariants as barrier_point
 
--- party 0 makes its exchange while the other holds, and looks after it has released
+-- party 0 makes its exchange while the other party holds, and looks after the other party has released
 pub flag_starves : {V : Type 0} (v : V) → MayStarve (flag_machine v) 2 waits_to_write
 flag_starves v =
     starves (flag_machine v) 2 ((0, Begin flag.Lock) ∷ []) _ refl (1, Begin flag.Lock) ((1, Step) ∷ (0, Step) ∷ (1, Begin flag.Release) ∷ (1, Step) ∷ (0, Step) ∷ []) 0 flag.Lock flag_point.First None refl
     (record { fair = refl; back = refl; none = refl })
 
--- party 0 looks while the other writes
+-- party 0 looks while the other party writes
 module _ {V : Type 0} (v : V) (cap : ℕ) where
   pub read_starves : MayStarve (rw_machine v cap) 2 (waits to_read)
   read_starves =
@@ -36,7 +36,7 @@ module _ {V : Type 0} (v : V) (cap : ℕ) where
       starves (rw_machine v cap) 2 ((0, Begin rw_call.UpgradeableRead) ∷ []) _ refl (1, Begin rw_call.Write) ((1, Step) ∷ (0, Step) ∷ (1, Begin rw_call.Release) ∷ (1, Step) ∷ []) 0 rw_call.UpgradeableRead
       rw_point.First None refl (record { fair = refl; back = refl; none = refl })
 
-  -- party 0 makes its exchange while the other reads
+  -- party 0 makes its exchange while the other party reads
   pub write_starves : 1 ≤ cap → MayStarve (rw_machine v cap) 2 spins_to_write
   write_starves some =
       let room : nat_lt 0 (min cap reader_limit) ≡ true = lt-ltb 0 (min cap reader_limit) (omega (arith, some)) in
@@ -52,7 +52,7 @@ module _ {V : Type 0} (v : V) (cap patience : ℕ) where
       (record { words = 2; value = Some v; seats = Calling fair.Lock (fair_point.Attempt 0) None ∷ Holding hold.Starver ∷ [] }) (grind (arith, room)) (0, Step) ((0, Step) ∷ []) 0 fair.Lock (fair_point.Attempt 0) None refl
       (record { fair = refl; back = refl; none = refl })
 
-  -- and nobody is granted
+  -- party 1 is an idle starver, and nobody is granted anything
   pub newcomers_deadlock : 1 ≤ cap → MayDeadlock (fair_machine v cap patience) 2 (waits_or_starves patience)
   newcomers_deadlock some =
       let room : nat_lt 0 (min cap most_starvers) ≡ true = lt-ltb 0 (min cap most_starvers) (omega (arith, some)) in
@@ -60,7 +60,7 @@ module _ {V : Type 0} (v : V) (cap patience : ℕ) where
       (record { words = 2; value = Some v; seats = Calling fair.Lock (fair_point.Attempt 0) None ∷ Holding hold.Starver ∷ [] }) (grind (arith, room)) (0, Step) ((0, Step) ∷ []) 0 fair.Lock (fair_point.Attempt 0) None refl
       (record { fair = refl; back = refl; none = refl })
 
-  -- two starvers: the other takes the lock whenever party 0 looks
+  -- two starvers: the other starver holds the lock whenever party 0 looks
   pub starver_starves : 2 ≤ cap → MayStarve (fair_machine v cap patience) 2 waits_starving
   starver_starves two =
       let room : nat_lt 0 (min cap most_starvers) ≡ true = lt-ltb 0 (min cap most_starvers) (omega (arith, two)) in
@@ -70,7 +70,7 @@ module _ {V : Type 0} (v : V) (cap patience : ℕ) where
       ((1, Step) ∷ (0, Step) ∷ (1, Step) ∷ (1, Begin fair.Release) ∷ (1, Step) ∷ (1, Begin fair.Starve) ∷ (1, Step) ∷ (1, Step) ∷ (0, Step) ∷ []) 0 fair.StarverLock fair_point.SetFlag (Some hold.Starver) refl
       (record { fair = grind (arith, more); back = grind (arith, more); none = grind (arith, more) })
 
--- the other takes a seat before each exchange of party 0, and leaves it afterwards; without seats nobody enters
+-- the other party takes a seat before each exchange of party 0, and leaves it afterwards; if there are no seats, nobody enters
 pub seats_starve : (n : ℕ) → MayStarve (seats_machine n) 2 (waits to_read)
 seats_starve zero = starves (seats_machine 0) 2 ((0, Begin seats_call.Enter) ∷ []) _ refl (0, Step) [] 0 seats_call.Enter seats_point.First None refl (record { fair = refl; back = refl; none = refl })
 seats_starve (suc n) = by_room (nat_lt 1 (seats (suc n))) refl
@@ -84,7 +84,7 @@ seats_starve (suc n) = by_room (nat_lt 1 (seats (suc n))) refl
         (1, Begin seats_call.TryEnter) ((1, Step) ∷ (1, Step) ∷ (0, Step) ∷ (1, Begin seats_call.Leave) ∷ (1, Step) ∷ (0, Step) ∷ []) 0 seats_call.Enter (seats_point.Exchange 0) None refl
         (record { fair = grind (arith, first, more); back = grind (arith, first, more); none = grind (arith, first, more) })
 
--- the other parties of its group never arrive
+-- the other parties of the group never arrive
 pub barrier_starves : (n : ℕ) → 2 ≤ n → MayStarve (barrier_machine n) 1 meets
 barrier_starves n two =
     let more : nat_lt 1 n ≡ true = lt-ltb 1 n two in

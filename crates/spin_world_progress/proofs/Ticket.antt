@@ -1,4 +1,4 @@
--- In how many rounds a `lock` is granted: until it has its ticket, and then with it.
+-- In how many rounds a `lock` is granted: first until the call has its ticket, and then with this ticket.
 use Rattle.spin_world_progress.proofs.Names.{seat_of, Knows, empty_is, max, ◌++◌, ◌⊎◌, cases_lt, resting, if◌then◌else◌, ◌≡◌, ℕ, ◌+◌, ◌-◌, ◌<◌, ◌≤◌, ◌==◌, Bool, true, false, not, Option, Some, None, List, [], ◌∷◌, refl, ap, sym, ◌∙◌, arith, filter, slice_get, Plain, Change, is_empty, apply_some, IsOpenStep, entries, Seen, scene, opening, ticket_machine, Plays, after, at_first, seen_after, zero, ticket_limit, Answer, Hold, Calling, Holding, Move, Step, TicketWords, TicketCall, TicketPoint, Take, suc, ◌*◌, ◌&&◌, subst, inl, inr, ⊎_elim, length, nat_lt, and_parts, cases_eq, eqb-true, ne_eqb, eq-eqb, lt-ltb, Seat, Next, BelongsTo, Mark, joined, Machine, occurs, AreRounds, grants, Scene, StandsFor, scene_at, State, happens, eqb_self, get-set_same, Invariant, in_call, good_after, state-seen_after, good, state_is, numbers_are, StandsSo, calls_so, calls, EntersInRounds, IsNeverStarved, LocksInRounds, slice_get_past, no_entries, length-happens}
 use Rattle.spin_world.proofs.TicketNames.{Entries, Numbered, enters_in_turn, serving-taken, serving-entered, stands, serving-moves, asks_of, bit, Lock, Release, Await, queued, Queued, LoadNext, Serve, is_first, serving_word}
 use Rattle.spin_world.proofs.TicketOwed.{ticket_notes, ticket_facts}
@@ -22,17 +22,17 @@ abbrev first_party : List Queued → ℕ
 first_party [] = 0
 first_party (t ∷ ts) = t.party
 
--- a ticket's number is one of those in the queue
+-- the number of p's ticket is one of the numbers in the queue
 in_queue : (p n k : ℕ) (ts : List Queued) → numbered_from k ts → own p ts ≡ queued p n false ∷ [] → (k ≤ n) × (n < k + length ts)
 in_queue p n k [] numbers e = absurd (cc (e))
 in_queue p n k (t ∷ ts) numbers e = grind (arith, in_queue p n (suc k) ts)
 
--- a ticket that isn't the first has a later number
+-- if p has a ticket that is not the first, its number is later than that of the first
 later : (p n k : ℕ) (ts : List Queued) → numbered_from k ts → own p ts ≡ queued p n false ∷ [] → (first_party ts ≡ p → ⊥) → k < n
 later p n k [] numbers e ne = absurd (cc (e))
 later p n k (t ∷ ts) numbers e ne = grind (arith, in_queue p n (suc k) ts, ne)
 
--- if there is no ticket, there is none until one is taken
+-- an empty queue stays empty until a party takes a ticket
 stays_empty : (s : Plain) (q : ℕ) (step : Option Change) → is_empty s.tickets ≡ true → IsOpenStep s q step → (apply_some s step).next ≤ s.next → (apply_some s step).tickets ≡ []
 stays_empty s q None none opens same = empty_is s.tickets none
 stays_empty s q (Some c) none opens same = grind (arith, none, opens, same, empty_is s.tickets none)
@@ -42,7 +42,7 @@ first_own : (ts : List Queued) → is_empty ts ≡ false → is_empty (own (firs
 first_own [] some = some
 first_own (t ∷ ts) some = grind (arith, eqb_self)
 
--- if the first party's only ticket has not entered, it is that ticket's turn
+-- if the first ticket is p's and has not entered, this ticket may enter
 first_turn : (p n : ℕ) (ts : List Queued) → own p ts ≡ queued p n false ∷ [] → p ≡ first_party ts → is_first p false ts ≡ true
 first_turn p n [] mine is = absurd (cc (mine))
 first_turn p n (t ∷ ts) mine is = grind (arith, eqb_self, mine, is)
@@ -56,7 +56,7 @@ leaves_first s q (Some c) some numbered ne may belongs =
 
 -- How long it takes until the first ticket leaves
 
--- how many moves its party makes until then: it enters, begins to release, and serves the next number
+-- how many moves the party of the first ticket makes until then: it enters, begins to release, and serves the next number
 abbrev left_to : Option (Seat TicketCall TicketPoint) → ℕ
 left_to (Some (Calling Lock l h)) = 3
 left_to (Some (Holding h)) = 2
@@ -74,7 +74,7 @@ ahead_most t s ts q his = grind arith
 left_few : (his : Option (Seat TicketCall TicketPoint)) → left_to his ≤ 3
 left_few his = grind arith
 
--- for the first ticket's party, and for another one
+-- `ahead` of the party of the first ticket; the next lemma: of any other party
 ahead_own : (t s : ℕ) (ts : List Queued) (his : Option (Seat TicketCall TicketPoint)) → is_empty ts ≡ false → ahead t s ts (first_party ts) his ≡ 3 * (t - s) + left_to his - 2
 ahead_own t s [] his some = absurd (true≢false some)
 ahead_own t s (x ∷ xs) his some = rw (eqb_self x.party) refl
@@ -83,7 +83,7 @@ ahead_other : (t s : ℕ) (ts : List Queued) (q : ℕ) (his : Option (Seat Ticke
 ahead_other t s [] q his ne = refl
 ahead_other t s (x ∷ xs) q his ne = grind (arith, ne)
 
--- it does not change while the first ticket is the same
+-- `ahead` does not rise while the first ticket's party is the same
 ahead_same : (t s : ℕ) (ts us : List Queued) (q : ℕ) (his : Option (Seat TicketCall TicketPoint)) → is_empty ts ≡ false → first_party us ≡ first_party ts → ahead t s us q his ≤ ahead t s ts q his
 ahead_same t s ts us q his some same = grind (arith, some, same)
 
@@ -108,7 +108,7 @@ few : (n : ℕ) (ts : List Queued) → ((q : ℕ) → length (own q ts) ≤ 1) �
 few zero ts each = omega arith
 few (suc n) ts each = omega (arith, few n ts each, each n)
 
--- without one of them there is one less
+-- if one of the n parties has no ticket, there are fewer tickets than parties
 fewer : (p n : ℕ) (ts : List Queued) → ((q : ℕ) → length (own q ts) ≤ 1) → is_empty (own p ts) ≡ true → p < n → total n ts + 1 ≤ n
 fewer p zero ts each none lt = absurd (omega (arith, lt))
 fewer p (suc n) ts each none lt = grind (arith, few n ts each, fewer p n ts each none, each n, none, cases_eq p n)
@@ -121,9 +121,9 @@ next_grows : (s : Plain) (step : Option Change) → s.next ≤ (apply_some s ste
 next_grows s None = omega arith
 next_grows s (Some c) = grind arith
 
--- How many rounds a party at the doorway waits for the tickets of others at most. `taken` is how many tickets are still
--- to be taken, its own included. `next` says whether its next step goes for the next number. If only its own ticket is
--- still to be taken, the queue moves on in the meantime.
+-- How many rounds a party without a ticket waits at most until it has one and enters. `taken` is how many tickets are
+-- still to be taken, its own included. `next` says whether its next step tries to take the next number. If only its own
+-- ticket is still to be taken, the queue moves on in the meantime.
 abbrev doorway : ℕ → ℕ → Bool → ℕ
 doorway n taken next = (if nat_lt taken 2 then 2 else max 2 (3 * n - 2)) + taken - (if next then 1 else 0)
 
@@ -157,12 +157,12 @@ at_most_one a b p r (inr some) = grind (arith, some)
 abbrev has_ticket : Entries → Bool
 has_ticket e = not (is_empty e.tickets)
 
--- with this one, which hasn't entered
+-- the ticket t is in the queue and has not entered
 abbrev waits_by : ℕ → List Queued → Bool
 waits_by t [] = false
 waits_by t (x ∷ xs) = (x.number == t) && not x.entered
 
--- with its ticket it waits for others; without one, some number is left at the end
+-- a point of a `lock`; before the call has a ticket, some number has to be left at the end of the rounds
 abbrev at_lock : ℕ → TicketPoint → Type 0
 at_lock N (Await t) = Unit {0}
 at_lock N LoadNext = N < ticket_limit
@@ -174,12 +174,12 @@ at_door LoadNext = Unit {0}
 at_door (Take j) = Unit {0}
 at_door _ = ⊥
 
--- the number that it tries to take is next
+-- the number that the party tries to take is the next one
 abbrev is_fresh : TicketPoint → ℕ → Bool
 is_fresh (Take j) next = j == next
 is_fresh l next = false
 
--- the load of p, which waits at this point, and that of the party q
+-- the load of p, which waits at this point; `theirs_by`: the load of another party q
 abbrev mine_by : ℕ → ℕ → ℕ → Plain → TicketPoint → ℕ
 mine_by p n N s (Await t) = if first_party s.tickets == p then 1 else 0
 mine_by p n N s l = doorway n (N - s.next) (is_fresh l s.next)
@@ -263,8 +263,8 @@ module _ {V : Type 0} (v : V) (first : ℕ) where
 
       -- A step of another party, while p has the ticket t, or tries to take it
 
-      -- the party that stepped keeps that ticket waiting for at most r rounds, and no other party for longer than
-      -- before, or than that
+      -- After its step, the party q keeps the ticket t waiting for at most r rounds. Each other party keeps it waiting for
+      -- at most as long as before, or at most r rounds.
       record Turned (t r q : ℕ) (sc : Scene TicketWords V TicketCall TicketPoint (Answer V)) : Type 0 where
         mine : ahead t (serving_word sc.after.plain) sc.after.plain.tickets q (seat_of sc.after q) ≤ r
         others : (o : ℕ) → (q ≡ o → ⊥) → ahead t (serving_word sc.after.plain) sc.after.plain.tickets o (seat_of seen o) ≤ max (ahead t (serving_word s) s.tickets o (seat_of seen o)) r
@@ -321,11 +321,11 @@ module _ {V : Type 0} (v : V) (first : ℕ) where
         some : is_empty s.tickets ≡ false
         some = stands p t false s.tickets mine
 
-        -- the first ticket's party, if it is another's
+        -- if the first ticket is another party's, the served number is below t
         behind : (d ≡ p → ⊥) → serving_word s < t
         behind ne = later p t (serving_word s) s.tickets numbered.1 mine ne
 
-        -- it is behind at most as many tickets as there are other parties
+        -- p is behind at most as many tickets as there are other parties
         near : t - serving_word s + 1 ≤ n
         near = let here = in_queue p t (serving_word s) s.tickets numbered.1 mine in omega (arith, here.0, here.1, w.2, most_tickets seen w.3, numbered.0)
 
@@ -350,7 +350,7 @@ module _ {V : Type 0} (v : V) (first : ℕ) where
     no_ticket seen (Take j) w door = ap (λ (e : Entries). is_empty e.tickets) (in_call f p w.3 w.0).knows.0.stand
     no_ticket seen l w door = absurd (grind (arith, door))
 
-    -- without its own ticket, the queue is shorter by one
+    -- while p has no ticket, there are fewer tickets than parties
     queue_few : (seen : World) (l : TicketPoint) → walk.Waits f x seen l → at_door l → seen.plain.next - serving_word seen.plain + 1 ≤ n
     queue_few seen l w door =
         let ts = seen.plain.tickets in
@@ -363,7 +363,7 @@ module _ {V : Type 0} (v : V) (first : ℕ) where
       left_is : N < ticket_limit → seen.plain.next ≤ N → nat_lt seen.state.words.next ticket_limit ≡ true
       left_is room low = lt-ltb seen.state.words.next ticket_limit (omega (arith, next_is seen l w, low, room))
 
-      -- it tries to take the next number
+      -- the call's step finds the next number, and the call then tries to take it
       goes_for_next : N < ticket_limit → mine_by p n N seen.plain l ≡ doorway n (N - seen.plain.next) false → ((o : ℕ) (his : Option TicketSeat) → theirs_by N seen.plain (Take seen.state.words.next) o his ≡ theirs_by N seen.plain l o his)
           → seat_of sc.after p ≡ Some (Calling Lock (Take seen.state.words.next) None) → sc.after.plain ≡ seen.plain → walk.Own f x seen l r sc
       goes_for_next room stale same at plain =
@@ -376,7 +376,7 @@ module _ {V : Type 0} (v : V) (first : ℕ) where
             rw plain (λ o other not_its. omega (arith, same o (seat_of seen o))),
           )
 
-    -- it takes its ticket, whose number was next
+    -- the party takes its ticket, whose number was the next one
     own_taken : (seen : World) (j r : ℕ) → (w : walk.Waits f x seen (Take j)) → walk.Within f x seen (Take j) (suc r) → walk.After f x seen p (its seen (Take j)) → seen.state.words.next ≡ j → nat_lt seen.state.words.next ticket_limit ≡ true → walk.Own f x seen (Take j) r (its seen (Take j))
     own_taken seen j r w within made e left =
         inr (Await j, at, tt, omega (arith, bit_few (first_party sc.after.plain.tickets == p), some_wait), λ o other not_its. others_now o other)
@@ -460,7 +460,7 @@ module _ {V : Type 0} (v : V) (first : ℕ) where
         abbrev soon : ℕ → Option TicketSeat → ℕ
         soon o his = ahead next (serving_word y.after.plain) y.after.plain.tickets o his
 
-        -- some were
+        -- some tickets were taken
         others_more : seen.plain.next < next → (o : ℕ) (his : Option TicketSeat) → (if N - next == 1 then soon o his else 0) ≤ r
         others_more more o his = by (N - next == 1) refl
           where
@@ -470,7 +470,7 @@ module _ {V : Type 0} (v : V) (first : ℕ) where
                 omega (arith, queue_few y.after l (made.others p ne ∙ w.0, w.1, made.known, made.good) door, ahead_most next (serving_word y.after.plain) y.after.plain.tickets o his, left_few his, doorway_long n (N - seen.plain.next) r (is_fresh l seen.plain.next) (omega (arith, more, one)) fits)
             by false not_last = omega arith
 
-        -- none was
+        -- no ticket was taken
         door_turned : N - seen.plain.next ≡ 1 → next ≡ seen.plain.next → theirs_by N seen.plain l q (seat_of seen q) ≡ ahead seen.plain.next (serving_word seen.plain) seen.plain.tickets q (seat_of seen q) → Turned seen l w seen.plain.next r q y
         door_turned last same is = by (is_empty seen.plain.tickets) refl
           where
@@ -557,7 +557,7 @@ module _ {V : Type 0} (v : V) (first : ℕ) where
     door_few : (seen : World) (l : TicketPoint) → walk.Waits f x seen l → at_door l → (q : ℕ) → (if N - seen.plain.next == 1 then ahead seen.plain.next (serving_word seen.plain) seen.plain.tickets q (seat_of seen q) else 0) ≤ max 2 (3 * n - 2) + (N - seen.plain.next)
     door_few seen l w door q = grind (arith, queue_few seen l w door, ahead_most seen.plain.next (serving_word seen.plain) seen.plain.tickets q (seat_of seen q), left_few (seat_of seen q))
 
-    -- how long it waits at most
+    -- the loads at the start are at most the bound
     loads_few : (seen : World) (l : TicketPoint) → walk.Waits f x seen l → walk.Within f x seen l (max 2 (3 * n - 2) + (N - seen.plain.next))
     loads_few seen (Await t) w = record { mine = omega (arith, bit_few (first_party seen.plain.tickets == p)); theirs = λ q ne. omega (arith, near seen (Await t) w t refl, ahead_most t (serving_word seen.plain) seen.plain.tickets q (seat_of seen q), left_few (seat_of seen q)) }
     loads_few seen LoadNext w = record { mine = (doorway_fits n (N - seen.plain.next) false).1; theirs = λ q ne. door_few seen LoadNext w tt q }
@@ -589,7 +589,7 @@ module _ {V : Type 0} (v : V) (first : ℕ) where
   await_at t p Lock (Await n) None is = ap (λ i. Some (Calling Lock (Await i) None)) (eqb-true n t (and_parts (n == t) true is).0)
   await_at t p c l h is = absurd (grind (arith, is))
 
-  -- a call of `lock` holds nothing
+  -- a waiting call is at a point of a `lock`
   lock_at : (N p : ℕ) (c : TicketCall) (l : TicketPoint) (h : Option Hold) (s : Plain) (span : List Mark) → (asks_of c h).waits ≡ true → Knows (ticket_notes v first) c l h p s span → N < ticket_limit → (Some (Calling c l h) ≡ Some (Calling Lock l None)) × at_lock N l
   lock_at N p c l h s span asks knows room = grind (arith, asks, knows, room)
 
@@ -604,7 +604,7 @@ module _ {V : Type 0} (v : V) (first : ℕ) where
     abbrev now : State TicketWords V TicketCall TicketPoint
     now = after m (at_first m n) past
 
-    -- the numbers there, and at the end of the rounds
+    -- the words have the numbers of the plain lock, at the start and at the end of the rounds
     numbers : (now.words.next ≡ seen.plain.next) × (now.words.serving ≡ serving_word seen.plain)
     numbers = grind (arith, numbers_are f n past)
 
