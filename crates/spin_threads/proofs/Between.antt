@@ -1,5 +1,5 @@
--- If the trace of a lock on threads is a run of its model, all that the model's laws say of that schedule holds of the
--- lock.
+-- If the trace of a lock on threads is a run of its model, then all that the model's laws say of this schedule holds of
+-- the lock.
 use Rattle.std.proofs.Common.{◌≡◌, ℕ, suc, ◌+◌, Option, Some, None, List, [], ◌∷◌, ◌++◌, length, map, slice_get, refl, sym, ap, ◌∙◌, subst, arith}
 use Rattle.std.specs.List.{All}
 use Rattle.std.proofs.lemmas.List.{append_assoc, append-nil, length-append}
@@ -22,7 +22,7 @@ module _ {W V C L A X S : Type 0} (m : Machine W V C L A) (seat_of : X → Seat 
   abbrev seats : List (Option (X × ℕ)) → List (Seat C L)
   seats us = map (sits m seat_of words_of) (map kind us)
 
-  -- each party that is present sits where its view says, at the place of its number
+  -- P holds of each party that is present, if it holds of each party whose seat is the one of its view
   sit : (P : Numbered X → Type 0) (k : ℕ) (front : List (Seat C L)) (came : List (Option (X × ℕ))) → k ≡ length front
       → ((v : Numbered X) → slice_get (front ++ seats came) v.1 ≡ Some (seat_of v.0) → P v) → All P (present_from k came)
   sit P k front [] is each = All-nil P
@@ -37,7 +37,7 @@ module _ {W V C L A X S : Type 0} (m : Machine W V C L A) (seat_of : X → Seat 
       (sit P (suc k) more us (let a = length-append front (seat_of u.0 ∷ []) in omega (arith, is, a))
       (λ v at. each v (subst (λ l. slice_get l v.1 ≡ Some (seat_of v.0)) (append_assoc front (seat_of u.0 ∷ []) (seats us)) at)))
 
-  -- it holds of the parties, whatever their marks count
+  -- if `Between` holds of the parties with some marks, it holds of them with their own marks
   pub of_counted : (log : List (Entry C V)) (words : ℕ × S) (marks : Numbered X → ℕ) (parties : List (Numbered X)) → Between m seat_of words_of log words (map (λ v. (v.0, v.1, marks v)) parties) → Between m seat_of words_of log words parties
   of_counted log words marks parties is =
       record { came = is.came; seen = is.seen; led = is.led; encodes = is.encodes; words_are = is.words_are; exclusive = is.exclusive; stand = each (λ v. StandsFor is.seen.plain v.1 (is.seen.span v.1) (Some (seat_of v.0))) (λ v so. so) parties is.stand }

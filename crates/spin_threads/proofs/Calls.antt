@@ -1,4 +1,4 @@
--- A call of a pass in the history: where its steps are, and where it is answered.
+-- A call of a pass in the history: where its steps stand, and where it is answered.
 use Rattle.std.proofs.Common.{◌≡◌, ◌⊎◌, ℕ, zero, suc, ◌+◌, ◌==◌, if◌then◌else◌, Bool, true, false, Option, Some, None, List, [], ◌∷◌, ◌++◌, length, replicate, slice_get, refl, sym, ap, ◌∙◌, subst, arith, eq-eqb}
 use mathlib.Core.List.{IsPrefix}
 use mathlib.Core.Logic.{inl, inr}
@@ -39,7 +39,7 @@ module _ {W V C L A B : Type 0} {t : Table W V C L B} {by : Machine W V C L A} {
   abbrev pub event : Seen W V C L → Entry C V → Scene W V C L A
   event seen x = scene m seen x.0 x.1
 
-  -- the span of a party behind its step
+  -- the span of a party after its next step
   abbrev pub span_of : ℕ → Seen W V C L → List Mark
   span_of p seen = (event seen (p, Step)).after.span p
 
@@ -51,12 +51,12 @@ module _ {W V C L A B : Type 0} {t : Table W V C L B} {by : Machine W V C L A} {
   longer old xs x (rest, is) = (rest ++ x ∷ [], sym (append_assoc old rest (x ∷ [])) ∙ ap (λ z. z ++ x ∷ []) is)
 
   module _ (p : ℕ) (start : Seen W V C L) (old new : Schedule) where
-    -- the step was made after a prefix of `new` that has `old` as a prefix, and the party was then in this call
+    -- The step was made after some prefix of `new`, and `old` is a prefix of that prefix. The party was then in this call.
     abbrev pub IsBetween : C → Option Hold → Mark → Type 0
     IsBetween c h mark =
         (past : Schedule) × IsPrefix old past × IsPrefix past new × (mark.before ≡ (seen_after m start past).plain) × ((l : L) × (seat_of (seen_after m start past) p ≡ Some (Calling c l h)))
 
-    -- The call gets this answer by a step of the party after a prefix of `new`. Its span has n steps of its own.
+    -- The call gets this answer by a step of the party after a prefix of `new`. The call's span has n steps of the party.
     pub record IsAnswered (c : C) (h : Option Hold) (a : A) (n : ℕ) : Type 0 where
       pub past : Schedule
       pub seen : Seen W V C L
@@ -110,7 +110,7 @@ module _ {W V C L A B : Type 0} {t : Table W V C L B} {by : Machine W V C L A} {
     another : (q : ℕ) → (q == p) ≡ false → q ≡ p → ⊥
     another q other same = absurd (cc (other, eq-eqb q p same))
 
-    -- the state after a beginning of `new` that contains `old`, with this rest
+    -- `seen` is the world after `xs`, where `xs` begins with `old`, and `new` is `xs` followed by `es`
     record IsAt (xs es : Schedule) (seen : Seen W V C L) : Type 0 where
       leads : seen ≡ seen_after m start xs
       known : IsPrefix old xs
@@ -126,7 +126,7 @@ module _ {W V C L A B : Type 0} {t : Table W V C L B} {by : Machine W V C L A} {
           fine = (kept facts seen x.0 x.1 at.fine).good;
         }
 
-    -- From here on, for a party that is in its call
+    -- what follows from the entries `es` for a party that is in its call
     abbrev Walks : Schedule → Type 0
     Walks es =
         (xs : Schedule) (seen : Seen W V C L) → IsAt xs es seen → (c : C) (l : L) (h : Option Hold) → seat_of seen p ≡ Some (Calling c l h) → All (IsBetween c h) (seen.span p)
@@ -217,7 +217,7 @@ module _ {W V C L A B : Type 0} {t : Table W V C L B} {by : Machine W V C L A} {
     starts [] = λ xs seen at c i a made came. absurd (cc (made))
     starts (x ∷ es) = first_event x es (starts es)
 
-  -- What a party knows of one call that it has made since it knew `old`, with this answer
+  -- What a party knows of the one call that it has made since it knew `old`, and that got this answer
   pub record Call {X : Type 0} (c : C) (a : A) (view : Option (Numbered X)) (old new : Schedule) : Type 0 where
     pub party : ℕ
     pub is_number : IsNumber party view
@@ -228,7 +228,7 @@ module _ {W V C L A B : Type 0} {t : Table W V C L B} {by : Machine W V C L A} {
     pub answered : IsAnswered party (opening m parties) old new c held a steps
     pub more : Schedule
     pub grown : new ≡ old ++ more
-    -- its beginning and its steps
+    -- the party's moves are the beginning of the call and its steps
     pub moves : length (entries_by party more) ≡ suc steps
 
   pub call_of : {X : Type 0} (c : C) (a : A) (view now : Option (Numbered X)) (old new : Schedule) → Made m view old now new (IsCall c a) → Call c a now old new

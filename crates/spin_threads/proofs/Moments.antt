@@ -1,5 +1,5 @@
--- The moment of an answer: what the model's laws say of the steps of a call holds of some state of the history during
--- the call.
+-- The moment of an answer. What the model's laws say of a state before a step of the call holds of a state of the
+-- history during the call.
 use Rattle.std.proofs.Common.{◌≡◌, ℕ, Bool, true, false, ◌||◌, Option, Some, None, List, [], ◌∷◌, refl, subst, arith}
 use Rattle.std.specs.List.{All, list_any}
 use Rattle.std.proofs.lemmas.Bool.{false≢true}
@@ -32,7 +32,7 @@ use Rattle.spin_threads.proofs.Calls.{event, span_of, IsBetween, IsAnswered, Cal
 pub same_is : (there said : Bool) → same said there ≡ true → there ≡ said
 same_is there said is = grind (arith, is)
 
--- one passes the test, and that one is of a moment between
+-- some mark passes the test, and Q holds of this mark
 abbrev Picked : (Mark → Bool) → (Mark → Type 0) → Type 0
 Picked test Q = (mark : Mark) × (test mark ≡ true) × Q mark
 
@@ -57,7 +57,7 @@ module _ {W V C L A B : Type 0} {t : Table W V C L B} {by : Machine W V C L A} {
     right : (p : ℕ) (start : Seen W V C L) (old new : List (Entry C V)) (h : Option Hold) (n : ℕ) (it : IsAnswered facts p start old new c h a n) → HasMoment (m.asks c h) (m.says a) p (span_of facts p it.seen)
     right p start old new h n it = right_by p it.point h (span_of facts p it.seen) (event facts it.seen (p, Step)).outcome (event facts it.seen (p, Step)).seat it.there it.comes (kept facts it.seen p Step it.fine).right
 
-    -- Such an answer says that a state passed this test, so one did at a moment; and so was Q, where it follows for the party in its call
+    -- Such an answer says that some state of the call passed this test. So that state also satisfied Q, if Q follows from the test for a party in this call.
     module _ (test : ℕ → Plain → Bool) (says : (h : Option Hold) → (m.asks c h).answers (m.says a) ≡ meaning.found test) where
       right_so : (p : ℕ) (h : Option Hold) (span : List Mark) → HasMoment (m.asks c h) (m.says a) p span → list_any (λ mark. test p mark.before) span ≡ true
       right_so p h span is = subst (λ what. moment what p span ≡ true) (says h) is

@@ -58,7 +58,7 @@ is_plain _ = false
 abbrev are_plain : List Made → Bool
 are_plain es = list_all (λ e. is_plain e.1) es
 
--- ---- if a party's closure does not fail, the schedule has its moves unchanged
+-- If a party's closure does not fail, the object's schedule has the party's moves unchanged.
 none_fails : (p : ℕ) (es : List Made) → are_plain (entries_by p es) ≡ true → will_fail es p ≡ false
 none_fails p [] is = refl
 none_fails p (e ∷ es) is = by_turn (e.0 == p) e.1 is (none_fails p es)
@@ -104,7 +104,7 @@ module _ (given : Option (Unit {0})) where
   abbrev HasIt : World → Type 0
   HasIt s = s.words ≡ 2 → s.value ≡ Some tt
 
-  -- so a step has the same outcome with the present value
+  -- so a step has the same outcome with the present value as with the value `tt`
   step_same : (s : World) → HasIt s → (c : OnceCall (Unit {0})) (l : OncePoint) (h : Option Hold) → (t given).step s.words (Some tt) c l h ≡ (t given).step s.words s.value c l h
   step_same s has c l h = by_word (s.words == 2) refl
     where
@@ -112,7 +112,7 @@ module _ (given : Option (Unit {0})) where
       by_word true is = ap (λ v. (t given).step s.words v c l h) (sym (has (eqb-true s.words 2 is)))
       by_word false other = looks_where_complete given s.words (Some tt) s.value c l h (λ e. eqb-false s.words 2 other e)
 
-  -- the outcome of a step with this ending
+  -- the outcome of a step after which the call continues or ends so
   abbrev out : Ending → Outcome (Answer (Unit {0})) (Unit {0})
   out (Continue l) = GoingOn
   out (Answers a after) = Answered a None
@@ -157,11 +157,11 @@ module _ (given : Option (Unit {0})) where
       ap (λ o. (moves_at (t given) (object f s) p (renamed move (f p)) o).outcome) (named_get f s.seats p)
       ∙ ap (λ b. (moves_at (t given) (object f s) p (renamed move b) (option_map (λ y. seat_named y b) (slice_get s.seats p))).outcome) fine ∙ same_at f s p move (slice_get s.seats p) has plain
 
-  -- for each beginning of these entries
+  -- after each beginning of these entries, if the word says that there is a value, there is one
   abbrev HasAlways : World → List Made → Type 0
   HasAlways s es = (ys zs : List Made) → es ≡ ys ++ zs → HasIt (after (m given) s ys)
 
-  -- so the party's moves have the same outcomes
+  -- the party's moves have the same outcomes in the object's schedule as in the history
   outs_same : (p : ℕ) (es : List Made) (s : World) → list_all is_played (outcomes (m given) s es) ≡ true → HasAlways s es → are_plain (entries_by p es) ≡ true
       → outcomes_by (t given) p (object (will_fail es) s) (foretold es) ≡ outcomes_by (m given) p s es
   outs_same p [] s played has plain = refl
@@ -242,7 +242,7 @@ module _ (given : Option (Unit {0})) where
       subst HasIt (after-append (m given) (From n) old ys)
       (has_it n (old ++ ys) (played_till (old ++ ys) zs (From n) (subst (λ l. list_all is_played (outcomes (m given) (From n) l) ≡ true) (ap (λ l. old ++ l) is ∙ sym (append_assoc old ys zs)) played)))
 
-  -- A call of a pass is one of the object
+  -- A call of a pass is a call of the object
   pub called : (c : OnceCall (Unit {0})) (a : Answer (Unit {0})) (before now : Option (Numbered View)) (old new : List Made) → Called given c a before old now new → passes.Made (t given) before (foretold_till old new) now (foretold new) (IsCall c a)
   called c a before now old new (p, may, is, own, outs, (more, least, new_is, mine, played, came), (rest, comes, own_is, outs_is, (i, rest_is, comes_are))) =
       let own_are : own ≡ Begin c ∷ (replicate i Step ++ Step ∷ []) = own_is ∙ ap (λ l. Begin c ∷ l) rest_is in
@@ -267,13 +267,13 @@ module _ (given : Option (Unit {0})) where
         (rest, comes, own_is, outs_is, (i, rest_is, comes_are)),
       )
 
-  -- so what holds of the object's answers holds here
+  -- so what the object's laws say of a moment of the call holds for the pass
   pub found_in : (c : OnceCall (Unit {0})) (a : Answer (Unit {0})) (test : Plain → Bool) (P : Plain → Type 0) → ((h : Option Hold) → ((t given).asks c h).answers ((t given).says a) ≡ meaning.found (λ p s. test s)) → ((s : Plain) → test s ≡ true → P s)
       → (before now : Option (Numbered View)) (old new : List Made) → Called given c a before old now new → AtAMoment (t given) c now (foretold_till old new) (foretold new) P
   found_in c a test P says so before now old new made =
       found (once_facts given) (λ p s. test s) says (λ p l h seen call is. so seen.plain is) before now (foretold_till old new) (foretold new) (called c a before now old new made)
 
-  -- after a step that gives a value there is one
+  -- after a step that answers with a value, there is a value
   given_there : (seen : Seen ℕ (Unit {0}) (OnceCall (Unit {0})) OncePoint) (p : ℕ) → Invariant (once_facts given) seen → (event (once_facts given) seen (p, Step)).outcome ≡ Answered (Value tt) None
       → is_complete (event (once_facts given) seen (p, Step)).after.plain.phase ≡ true
   given_there seen p good comes =
