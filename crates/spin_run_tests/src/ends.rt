@@ -42,8 +42,7 @@ impl Paper {
     }
 
     /// Compares what was written with the beginning of the text for which there is room. If there is no room for the
-    /// whole
-    /// text, a write has failed.
+    /// whole text, a write has failed.
     pub fn shows(&self, rt: &impl Abort, text: &[u8]) {
         let (fits, rest) = text.split_at(text.len().min(self.room));
         assert_eq!(rt; self.bytes.as_slice(), fits);

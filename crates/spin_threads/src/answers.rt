@@ -80,8 +80,8 @@ pub fn a_refused_try_found_the_fair_mutex_held_or_starved<T>()
 {}
 
 /// If a pass tried once to acquire a `FairMutex` and failed with a reason, the reason was right at a moment of the
-/// call.
-/// `Locked`: a party held the lock then, and none was registered as a starver. `Starved`: a party was registered then.
+/// call. `Locked`: a party held the lock then, and none was registered as a starver. `Starved`: a party was registered
+/// then.
 ///
 /// # Contract
 /// `Found`: at a moment of the call the plain lock passed the test of the clause `locked` or `starved`.
@@ -200,8 +200,7 @@ pub fn a_look_at_a_once_was_so_at_a_moment()
 {}
 
 /// If a pass called `get` or `poll` of a `Once` and got no value, there was no value at a moment of the call. After
-/// `poll`,
-/// it is also known that no closure ran at that moment.
+/// `poll`, it is also known that no closure ran at that moment.
 ///
 /// # Contract
 /// `FoundOnce`: at a moment of the call `has_value` was false. For `poll` the phase was `nothing` at that moment.

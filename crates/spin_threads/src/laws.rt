@@ -23,8 +23,7 @@ ghost use Rattle.spin_ticket.specs.declared.ticket.rule.View.{View as TicketMute
 ghost use Rattle.spin_threads.specs.Between.{Between};
 
 /// Between any two steps of the threads that use a `SpinMutex`, the lock's word is 1 if a party holds the lock, else 0.
-/// At
-/// most one party holds the lock. Each party holds or waits in the plain lock as its view says.
+/// At most one party holds the lock. Each party holds or waits in the plain lock as its view says.
 ///
 /// # Contract
 /// `Between` says this of the word and the parties of the lock's cell, after the moves in the cell's trace.
@@ -34,8 +33,7 @@ pub fn between_any_two_steps_of_a_spin_mutex<T>()
 
 /// Between any two steps of the threads that use a `TicketMutex`, the lock's words are the next number and the served
 /// number of a queue of tickets. At most one ticket has entered. Each party holds or waits in the plain lock as its
-/// view
-/// says.
+/// view says.
 ///
 /// # Contract
 /// `Between` says this of the words and the parties of the lock's cell, after the moves in the cell's trace.
@@ -53,8 +51,7 @@ pub fn between_any_two_steps_of_a_fair_mutex<T>()
 {}
 
 /// Between any two steps of the threads that use a `Seats`, the lock's word is the number of parties that have a seat.
-/// Each
-/// party holds or waits in the plain lock as its view says.
+/// Each party holds or waits in the plain lock as its view says.
 ///
 /// # Contract
 /// `Between` says this of the word and the parties of the lock's cell, after the moves in the cell's trace.
@@ -63,8 +60,7 @@ pub fn between_any_two_steps_of_seats()
 {}
 
 /// Between any two steps of the threads that use an `RwLock`, the lock's word encodes exactly its holders. A writer
-/// holds
-/// alone, and at most one reader may upgrade. Each party holds or waits in the plain lock as its view says.
+/// holds alone, and at most one reader may upgrade. Each party holds or waits in the plain lock as its view says.
 ///
 /// # Contract
 /// `Between` says this of the word and the parties of the lock's cell, after the moves in the cell's trace.

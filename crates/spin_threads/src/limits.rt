@@ -66,8 +66,7 @@ pub fn a_call_of_seats_keeps_its_limit()
 {}
 
 /// Suppose that a pass acquired a `TicketMutex` by `lock` with the ticket t. Take any moment before that, and let s be
-/// the
-/// number served then. From that moment until the pass acquired the lock, exactly t - s tickets left the queue.
+/// the number served then. From that moment until the pass acquired the lock, exactly t - s tickets left the queue.
 ///
 /// # Contract
 /// `EntersInTurn` says this by the history that the pass knows after the call.

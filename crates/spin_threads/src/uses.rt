@@ -1,6 +1,5 @@
 //! How a caller uses the laws. It first calls the function of a law, and so learns what the law states. Then it makes
-//! the
-//! call of its pass.
+//! the call of its pass.
 ghost use Rattle.std.specs.Prelude.{◌≡◌, ◌⊎◌, true, false, IfErr};
 ghost use Rattle.spin_fair.specs.Fair as fair_mutex;
 ghost use Rattle.spin_fair.specs.FairPasses as fair_passes;

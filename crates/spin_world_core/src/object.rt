@@ -12,9 +12,8 @@ use spin_model::Hold;
 /// # Contract
 /// Each method agrees with the object's `machine`. The machine also says what each step does to the plain lock. Callers
 /// of [`World::run`](crate::World::run) get four of the `laws`: `keeps`, `moments`, `counts` and `values`. These laws
-/// hold
-/// of every schedule from the opening state. [`looks_under_one_guard_agree`](crate::looks_under_one_guard_agree) gives
-/// the law `agree`.
+/// hold of every schedule from the opening state. [`looks_under_one_guard_agree`](crate::looks_under_one_guard_agree)
+/// gives the law `agree`.
 pub trait Object: Drop {
     /// The words that all parties share.
     type Words: Copy;
@@ -66,8 +65,8 @@ pub trait Object: Drop {
     ///
     /// # Contract
     /// The step has to be possible (`can` of the machine). Its result is then that of `step` of the machine
-    /// (`result_of`).
-    /// It may fail spuriously if `refuse` of the machine says how the call then continues (`refusal_of`).
+    /// (`result_of`). It may fail spuriously if `refuse` of the machine says how the call then continues
+    /// (`refusal_of`).
     fn next_act(
         &self,
         words: Self::Words,

@@ -98,8 +98,7 @@ impl<O: Object, A: Allocator + Copy> World<O, A> {
     ///
     /// # Contract
     /// The place is the one of the party's seat (`place_of`). The party's own moves and the owner's moves led to this
-    /// place
-    /// (`SaysAfterAnyPast`). The place implies the party's entries in the plain lock.
+    /// place (`SaysAfterAnyPast`). The place implies the party's entries in the plain lock.
     ///
     /// # Examples
     /// ```

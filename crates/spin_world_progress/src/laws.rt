@@ -2,10 +2,9 @@
 //! what the law states.
 //!
 //! A *round* is a stretch of the schedule (`IsRound`). Each party that is in a call when the round starts makes a step
-//! of
-//! that call in the round. Each party that holds the lock begins to release it, and no party has leaked it. An endless
-//! schedule is *fair* (`IsFair`) if, from each of its places on, each party does so some time later. A party that waits
-//! only has to get its steps.
+//! of that call in the round. Each party that holds the lock begins to release it, and no party has leaked it. An
+//! endless schedule is *fair* (`IsFair`) if, from each of its places on, each party does so some time later. A party
+//! that waits only has to get its steps.
 ghost use Rattle.std.specs.Prelude.{◌≡◌, ◌≤◌, ℕ, List, None};
 ghost use Rattle.spin_step.specs.Plain.{to_write, to_read, to_read_upgradable, to_lock_starving};
 ghost use Rattle.spin_model.specs.Asks.{waits, waits_to_write, spins_to_write, waits_or_starves, waits_starving, initializes, waits_for_value, polls, meets};
@@ -65,8 +64,7 @@ pub fn a_lock_of_a_flag_may_starve<V: Copy>()
 {}
 
 /// States that a party with a ticket is granted the lock within three rounds for each ticket before its own, and one
-/// more
-/// round. It does not matter who takes a ticket later.
+/// more round. It does not matter who takes a ticket later.
 pub fn a_ticket_is_granted_in_rounds<V: Copy>()
     ensures { (object : Ticket V) (n : ℕ) (past : List (ℕ × Move TicketCall V)) (rounds : List (List (ℕ × Move TicketCall V))) → EntersInRounds (⟦<Ticket<V> as Object>⟧.machine object) n past rounds }
 {}
@@ -77,8 +75,7 @@ pub fn a_ticket_is_never_starved<V: Copy>()
 {}
 
 /// States how soon a `lock` of one of `n` parties is granted: within 3 n - 2 rounds (2 if n is 1), and one more round
-/// for
-/// each ticket taken meanwhile, its own included. At the end the next number has to be below the limit.
+/// for each ticket taken meanwhile, its own included. At the end the next number has to be below the limit.
 ///
 /// As long as the party has no ticket, each ticket that another party takes may cost it an exchange.
 pub fn a_lock_is_granted_in_rounds<V: Copy>()
@@ -100,8 +97,7 @@ pub fn somebody_is_granted_beside_a_starver_in_five_rounds<V: Copy>()
 {}
 
 /// States that starvers are free of deadlock: in each endless fair schedule, while a starver waits, some party is
-/// granted
-/// the lock some time later.
+/// granted the lock some time later.
 pub fn starvers_are_free_of_deadlock<V: Copy>()
     ensures { (object : Fair V) (n : ℕ) (past : List (ℕ × Move FairCall V)) (schedule : ℕ → ℕ × Move FairCall V) → StarversAreDeadlockFree (⟦<Fair<V> as Object>⟧.machine object) n past schedule }
 {}
@@ -130,16 +126,14 @@ pub fn an_upgrade_is_granted_in_three_rounds<V: Copy>()
 {}
 
 /// States that a party that has asked to upgrade never starves. In each endless fair schedule its upgrade is granted
-/// some
-/// time later, or its exchange fails spuriously.
+/// some time later, or its exchange fails spuriously.
 pub fn an_upgrade_is_never_starved<V: Copy>()
     ensures { (object : Rw V) (n : ℕ) (past : List (ℕ × Move RwCall V)) (schedule : ℕ → ℕ × Move RwCall V) → UpgradesAtLast (⟦<Rw<V> as Object>⟧.machine object) n past schedule }
 {}
 
 /// States how soon some party is granted what it asks while a party that holds nothing waits. It takes at most six
 /// rounds, or some exchange fails spuriously. The number of rounds depends on the holders (`rounds_beside`). The cap
-/// has
-/// to be at least 1.
+/// has to be at least 1.
 ///
 /// The number of readers does not matter, since all readers leave in the same round.
 pub fn somebody_is_granted_in_the_rounds_of_the_holders<V: Copy>()
@@ -168,8 +162,7 @@ pub fn a_writer_may_starve<V: Copy>()
 {}
 
 /// States that in any four rounds a call with a closure is answered, or some closure fails. A closure ends by one step
-/// of
-/// its party.
+/// of its party.
 pub fn a_call_with_a_closure_is_answered_in_four_rounds<V: Copy>()
     ensures { (object : OnceObject V) (n : ℕ) (past : List (ℕ × Move (OnceCall V) V)) (rounds : List (List (ℕ × Move (OnceCall V) V))) → AnswersInFour (⟦<OnceObject<V> as Object>⟧.machine object) n past rounds }
 {}
@@ -225,8 +218,7 @@ pub fn seats_are_free_of_deadlock()
 {}
 
 /// States that an `enter` may starve, with any number of seats: in some endless fair schedule of two parties the call
-/// is
-/// never answered.
+/// is never answered.
 pub fn an_enter_may_starve()
     ensures { (object : Seats) → MayStarve (⟦<Seats as Object>⟧.machine object) 2 (waits to_read) }
 {}

@@ -1,6 +1,5 @@
 //! Laws of the lock of seats. Each law is the contract of a function that does nothing. A caller that calls this
-//! function
-//! learns what the law states.
+//! function learns what the law states.
 ghost use Rattle.std.specs.Prelude.{◌≡◌, ◌≤◌, ℕ, List, length};
 ghost use Rattle.spin_model.specs.declared.schedule.Move.{Move};
 ghost use Rattle.spin_model.specs.Schedules.{after, at_first};

@@ -79,8 +79,7 @@ fn played_again<O: OfHeader>(
 }
 
 /// Returns the state of a world if one of its two runs was refused with this many bytes left. Returns `None` if the
-/// bytes
-/// suffice.
+/// bytes suffice.
 fn cut_short<O: OfHeader>(
     rt: &impl Abort,
     alloc: Global,

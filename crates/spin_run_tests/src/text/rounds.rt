@@ -78,8 +78,7 @@ impl Round {
     }
 
     /// Checks that each party has done what it had to do. Checks that the bound is reached if and only if the round is
-    /// the
-    /// last one.
+    /// the last one.
     fn ends(&self, rt: &impl Abort, shows: &str, number: usize, rounds: usize) {
         let is_last = number == rounds.saturating_sub(1);
         holds(rt, shows, number, self.owing == [None, None, None]);
@@ -164,8 +163,7 @@ const ROUNDS: &[Rounds] = &[
         Some(0),
     ),
     // Two tickets are taken in the rounds, so the bound is 4 rounds and 2 more. The other party's ticket costs this
-    // party
-    // an exchange. This party gets its own ticket in the same round.
+    // party an exchange. This party gets its own ticket in the same round.
     (
         "a lock of two parties is granted four rounds after the tickets",
         "ticket 5 0 2\n0 begin lock\n1 begin lock",

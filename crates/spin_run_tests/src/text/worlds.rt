@@ -24,8 +24,7 @@ pub struct Opening {
 }
 
 /// Creates a world in that opening. Callers of this function, of [`run`], of [`numbers`] and of [`value`] learn nothing
-/// of
-/// what these ensure: the tests check the results themselves.
+/// of what these ensure: the tests check the results themselves.
 pub fn world<O: OfHeader, A: Allocator + Copy>(
     rt: &impl Abort,
     alloc: A,
@@ -79,8 +78,7 @@ impl Alike for Shown {
 }
 
 /// Returns the state of a world. If the world had a place beyond that of the last party, the answer would have one
-/// place
-/// too many.
+/// place too many.
 pub fn look_at<O: OfHeader, A: Allocator + Copy>(
     rt: &impl Abort,
     alloc: Global,

@@ -25,16 +25,14 @@ pub fn starvers_come_first<V: Copy>()
 {}
 
 /// States that a starver that has set the flag is granted the lock by its next step, whatever other parties do. So such
-/// a
-/// starver has the flag without an answer only while it does not step.
+/// a starver has the flag without an answer only while it does not step.
 pub fn a_starver_with_the_flag_is_granted_next<V: Copy>()
     ensures { (object : Fair V) (n : ℕ) (past : List (ℕ × Move FairCall V)) → IsGrantedNext (⟦<Fair<V> as Object>⟧.machine object) n past }
 {}
 
 /// States that a waiting starver goes for a clear flag. If the starver steps while no party holds the lock, this step
-/// sets
-/// the flag, or the starver's next step does if the flag is clear then. So other parties that register and leave cannot
-/// keep the starver from the lock.
+/// sets the flag, or the starver's next step does if the flag is clear then. So other parties that register and leave
+/// cannot keep the starver from the lock.
 pub fn a_starver_goes_for_a_clear_flag<V: Copy>()
     ensures { (object : Fair V) (n : ℕ) (past : List (ℕ × Move FairCall V)) → GoesForAClearFlag (⟦<Fair<V> as Object>⟧.machine object) n past }
 {}

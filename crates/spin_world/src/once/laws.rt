@@ -14,15 +14,13 @@ pub fn a_value_stays<V: Copy>()
 {}
 
 /// States that at most one party runs a closure at a time, and none does once there is a value. The next step of a
-/// party
-/// that runs a closure ends the closure.
+/// party that runs a closure ends the closure.
 pub fn one_closure_runs_at_a_time<V: Copy>()
     ensures { (object : OnceObject V) (n : ℕ) (past : Entries V) → OneRuns (⟦<OnceObject<V> as Object>⟧.machine object) n past }
 {}
 
 /// States that if there is a value, a call that wants a value answers with it by its next step. If there is no value
-/// and
-/// no closure runs, the next step of a `poll` answers `NoValue`.
+/// and no closure runs, the next step of a `poll` answers `NoValue`.
 pub fn a_value_is_answered_at_once<V: Copy>()
     ensures { (object : OnceObject V) (n : ℕ) (past : Entries V) → AnswersAtOnce (⟦<OnceObject<V> as Object>⟧.machine object) n past }
 {}
@@ -33,8 +31,7 @@ pub fn a_later_get_agrees<V: Copy>()
 {}
 
 /// States that a closure that fails leaves the word at 0. When the word is 0, a call with a closure begins the closure
-/// by
-/// its next step or the one after that, if no other party steps in between.
+/// by its next step or the one after that, if no other party steps in between.
 pub fn a_later_closure_may_run<V: Copy>()
     ensures { (object : OnceObject V) (n : ℕ) (past : Entries V) → MayRunAgain (⟦<OnceObject<V> as Object>⟧.machine object) n past }
 {}

@@ -13,8 +13,7 @@ use crate::rw::Rw;
 use spin_world_core::Object;
 
 /// States that a writer holds the lock alone. At most one holder may upgrade, whether or not this holder has asked to.
-/// No
-/// more parties hold the lock than its cap allows. The word is the sum of the holders' weights.
+/// No more parties hold the lock than its cap allows. The word is the sum of the holders' weights.
 pub fn readers_stand_beside_no_writer<V: Copy>()
     ensures { (object : Rw V) (n : ℕ) (past : List (ℕ × Move RwCall V)) → let m = ⟦<Rw<V> as Object>⟧.machine object in StandTogether object.cap (after m (at_first m n) past).words (seen_after m (opening m n) past).plain }
 {}
@@ -31,8 +30,7 @@ pub fn a_downgrade_keeps_writers_out<V: Copy>()
 {}
 
 /// States that no reader joins while a party asks to upgrade. The upgrade is open exactly if all readers that held
-/// beside
-/// this party have released. The upgrade's next step succeeds exactly then.
+/// beside this party have released. The upgrade's next step succeeds exactly then.
 pub fn an_upgrade_opens_by_releases<V: Copy>()
     ensures { (object : Rw V) (n : ℕ) (past further : List (ℕ × Move RwCall V)) → Opens (⟦<Rw<V> as Object>⟧.machine object) n past further }
 {}

@@ -28,8 +28,7 @@ pub fn tickets_enter_by_releases<V: Copy>()
 {}
 
 /// States that a `try_lock` never answers by its first step, which finds the next number. The second step answers only
-/// if
-/// that number is not the served one, or no ticket is left.
+/// if that number is not the served one, or no ticket is left.
 pub fn a_try_finds_its_number_by_two_loads<V: Copy>()
     ensures { (object : Ticket V) (n : ℕ) (past : List (ℕ × Move TicketCall V)) → TriesByTwoLoads (⟦<Ticket<V> as Object>⟧.machine object) n past }
 {}

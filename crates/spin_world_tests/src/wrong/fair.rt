@@ -65,8 +65,7 @@ pub fn a_lock_waits_by_looks<V: Copy>()
 {}
 
 /// A `lock` that counts only each second look, and so registers too late. While the call finds the lock held, each of
-/// its
-/// steps has to be a look that counts.
+/// its steps has to be a look that counts.
 pub fn a_lock_counts_each_look<V: Copy>()
     ensures { (value : V) → CountsAll (counts_each_second_look value) 2 lock_beside_a_holder → ⊥ }
 {}
@@ -77,8 +76,7 @@ pub fn a_starver_that_holds_is_answered<V: Copy>()
 {}
 
 /// A `starver_lock` that, once it has set the flag, stops starving by an exchange. It repeats this exchange while
-/// others
-/// register and leave, though its next step has to grant the lock.
+/// others register and leave, though its next step has to grant the lock.
 pub fn a_starver_leaves_in_one_step<V: Copy>()
     ensures { (value : V) → IsGrantedNext (leaves_by_exchange value) 1 lock_of_a_starver → ⊥ }
 {}

@@ -15,8 +15,7 @@ pub fn a_second_closure_does_not_run<V: Copy>()
 {}
 
 /// A closure that fails and leaves the word at running. The answer says that the closure has failed, but its call has
-/// not
-/// made that plain step.
+/// not made that plain step.
 pub fn a_failure_lets_go<V: Copy>()
     ensures { KeepsAll (sticks V) 1 one_failure → ⊥ }
 {}

@@ -62,8 +62,7 @@ pub fn an_upgrade_never_lets_go<V: Copy>()
 {}
 
 /// A `reader_count` that does not count the upgradable reader, and one that does not count a reader that asks to
-/// upgrade.
-/// At no moment of the call do as many parties read as it answers.
+/// upgrade. At no moment of the call do as many parties read as it answers.
 pub fn a_count_tells_the_upgradable_reader<V: Copy>()
     ensures upgradable { (value : V) → MomentsAll (counts_without_upgradable value) 2 count_beside_an_upgradable → ⊥ }
     ensures asking { (value : V) → MomentsAll (counts_without_asking value) 2 count_beside_an_asking_reader → ⊥ }
@@ -142,8 +141,7 @@ pub fn a_try_is_refused_where_it_finds_it_closed<V: Copy>()
 {}
 
 /// An `upgrade` that looks between its exchanges. Once a party has asked to upgrade, each step of its call has to
-/// succeed
-/// if the upgrade is open.
+/// succeed if the upgrade is open.
 pub fn an_upgrade_makes_its_exchange_again<V: Copy>()
     ensures { (value : V) → CountsAll (upgrades_by_looks value) 1 upgrade_after_a_refusal → ⊥ }
 {}

@@ -1,6 +1,5 @@
 //! Each function here states that a wrong ticket lock breaks a law, in most cases on a named schedule. So they show
-//! what
-//! the laws keep out. Begin with [`a_look_loads_the_served_number_first`].
+//! what the laws keep out. Begin with [`a_look_loads_the_served_number_first`].
 ghost use Rattle.std.specs.Prelude.{◌≡◌, []};
 ghost use Rattle.spin_model.specs.Operations.{Stepwise};
 ghost use Rattle.spin_world_core.specs.Runs.{KeepsAll, MomentsAll, CountsAll};
@@ -75,8 +74,7 @@ pub fn a_try_lock_asks_to_enter<V: Copy>()
 {}
 
 /// A `try_lock` that takes the served number, in two steps. Also a `try_lock` that loads the served number before the
-/// next
-/// number.
+/// next number.
 pub fn a_try_loads_the_next_number_first<V: Copy>()
     ensures hurries { (value : V) → TriesByTwoLoads (tries_by_one_load value) 1 one_load → ⊥ }
     ensures swaps { (value : V) → TriesByTwoLoads (swaps_its_loads value) 2 let_go_between → ⊥ }

@@ -305,8 +305,7 @@ pub const RW: &[Worked] = &[
         ",
     ),
     // Line 13: the exchange finds an upgradable reader, so the call tries again. Line 16: that reader now asks to
-    // upgrade,
-    // so the call looks again.
+    // upgrade, so the call looks again.
     (
         "calls wait for the writer and for readers",
         "rw 1 9 3\n\
