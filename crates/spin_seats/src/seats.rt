@@ -16,8 +16,8 @@ mod rule;
 pub use self::pass::Pass;
 pub use self::rule::{Entry, View};
 
-/// A lock of `N` seats, or of [`MAX_SEATS`](crate::steps::MAX_SEATS) if `N` exceeds that. At most as many
-/// threads as it has seats have a guard at the same time.
+/// A lock of `N` seats, or of [`MAX_SEATS`](crate::steps::MAX_SEATS) if `N` exceeds that. Each guard takes one seat,
+/// so no more threads have a guard at the same time than there are seats.
 ///
 /// Waiting threads may overtake each other.
 ///

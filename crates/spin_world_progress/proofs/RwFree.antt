@@ -69,6 +69,15 @@ reads_some : (hs : List Holder) → is_empty hs ≡ false → only_read hs ≡ t
 reads_some [] some all = absurd (cc (some))
 reads_some (h ∷ hs) some all = grind (arith, all)
 
+-- a test and its negation: one of the two passes
+same_answer : (b : Bool) → (if b then b else not b) ≡ true
+same_answer true = refl
+same_answer false = refl
+
+-- a party whose holders all read passes the test of a reader, or that of a party that holds nothing
+reads_or_not : (hs : List Holder) → only_read hs ≡ true → (only_read hs && (if reads hs then reads hs else not (reads hs))) ≡ true
+reads_or_not hs all = rw all (same_answer (reads hs))
+
 -- some party other than u holds
 witness : (u : ℕ) (hs : List Holder) → beside u hs ≡ true → (q : ℕ) × (q ≡ u → ⊥) × (is_empty (its q hs) ≡ false)
 witness u [] some = absurd (cc (some))
@@ -472,7 +481,7 @@ module _ {V : Type 0} (v : V) (cap : ℕ) (some : 1 ≤ cap) where
               (λ (z : ((y.change ≡ None) × (reader ≡ false)) ⊎ ((y.change ≡ Some (releases q reading)) × (reader ≡ true) × (leaves (Some (Calling d i j)) ≡ true) × (seat_of y.after q ≡ Some Idle))).
               inr (⊎_elim (λ (stays : (y.change ≡ None) × (reader ≡ false)). unchanged stays.0 (rw (ne_eqb q u (λ e. absurd (other e)), stays.1) (omega arith)))
               (λ (gone : (y.change ≡ Some (releases q reading)) × (reader ≡ true) × (leaves (Some (Calling d i j)) ≡ true) × (seat_of y.after q ≡ Some Idle)). reader_gone gone.0 gone.1 gone.2 gone.3) z))
-              (others_step seen q d i j reader at (subst (Sits (reads_so reader) q) at (sits (reads_so reader) q (grind (arith, known q other)))))
+              (others_step seen q d i j reader at (subst (Sits (reads_so reader) q) at (sits (reads_so reader) q (reads_or_not (its q s.holders) (known q other)))))
 
         module _ (is : q ≡ u) where
           -- if somebody holds beside u, at most n rounds are left once the readers beside u have left
@@ -643,7 +652,7 @@ module _ {V : Type 0} (v : V) (cap : ℕ) (some : 1 ≤ cap) where
         (λ z. inr (⊎_elim (λ (none : (y.change ≡ None) × (reader ≡ false)) o other. ap (λ c. only_read (its o (apply_some seen.plain c).holders)) none.0 ∙ w.2 o other)
         (λ (gone : (y.change ≡ Some (releases q reading)) × (reader ≡ true) × (leaves (Some (Calling d i j)) ≡ true) × (seat_of y.after q ≡ Some Idle)) o other.
         ap (λ c. only_read (its o (apply_some seen.plain c).holders)) gone.0 ∙ read_on o q reading seen.plain.holders (w.2 o other)) z))
-        (others_step seen q d i j reader at (subst (Sits (reads_so reader) q) at (sits seen w.3 (reads_so reader) q (grind (arith, w.2 q ne))))))
+        (others_step seen q d i j reader at (subst (Sits (reads_so reader) q) at (sits seen w.3 (reads_so reader) q (reads_or_not (its q seen.plain.holders) (w.2 q ne))))))
         (cases_eq q u))
         move
       where
