@@ -183,7 +183,7 @@ module _ {W V C L A B : Type 0} {t : Table W V C L B} {by : Machine W V C L A} {
     walk [] = λ xs seen at c l h there span i a made came. absurd (nothing_made i made)
     walk (x ∷ es) = one_event x es (walk es)
 
-    -- the same for a party that begins its call
+    -- what follows from the entries `es` for a party whose first move in them begins its call
     abbrev Starts : Schedule → Type 0
     Starts es =
         (xs : Schedule) (seen : Seen W V C L) → IsAt xs es seen → (c : C) (i : ℕ) (a : A) → entries_by p es ≡ by_party p (Begin c ∷ to_make i) → outcomes_by m p seen.state es ≡ Begun ∷ to_come i a

@@ -11,7 +11,7 @@ use Rattle.spin_model.specs.Schedules.{Entry}
 use Rattle.spin_world_core.specs.Runs.{opening, own_count, failures, changes, EndsWithin}
 use Rattle.spin_world_core.specs.Users.{seen_after}
 
--- the steps of all parties since this party's last call began, in a world of so many parties
+-- the steps of all parties since the last call of `party` began, in a world of `parties` parties
 abbrev pub steps_since : {W V C L A : Type 0} → Machine W V C L A → ℕ → ℕ → List (Entry C V) → List Mark
 steps_since m parties party history = (seen_after m (opening m parties) history).span party
 

@@ -54,7 +54,7 @@ Loading patience p span = Going (few_to_load p) patience p span
 abbrev pub Registering : ℕ → ℕ → ℕ → Plain → List Mark → Type 0
 Registering patience w p s span = Going (few_to_register p s w) patience p span
 
--- when the call begins
+-- `RegistersInTime` holds when a call begins
 pub none_yet : {p n : ℕ} → RegistersInTime none_left p n []
 none_yet {p} {n} = record { looking = refl; soon = λ recent m older is late. absurd (no_split recent older m is); patient = λ recent m older is register. absurd (no_split recent older m is) }
   where

@@ -28,7 +28,7 @@ goes_some : (s : Plain) (p q : ℕ) (step : Option Change) → IsExclusive s →
     → count_kind reading (apply_some s step).holders + bit (passes reader_goes step) ≡ count_kind reading s.holders
 goes_some s p q step alone found may stays = grind (arith, readers_only_go s p, alone)
 
--- a party that holds keeps other parties from writing
+-- while a party holds, no other party may become the writer
 keeps_writers_out : (p : ℕ) (k : Kind) (s : Plain) → is_holder p k s.holders ≡ true → KeepsWritersOut p s
 keeps_writers_out p k s found = λ q ne. grind (arith, found, ne)
 

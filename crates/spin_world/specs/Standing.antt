@@ -18,8 +18,8 @@ use Rattle.spin_model.specs.Schedules.{after, at_first}
 use Rattle.spin_world_core.specs.Runs.{Seen, scene, opening}
 use Rattle.spin_world_core.specs.Users.{seen_after, outcome_after, steps_made}
 
--- A lock with this cap has this word and this plain lock. A writer holds alone, and at most one holder may upgrade. At
--- most one party holds, or at most as many parties as the cap and the reader limit allow.
+-- A lock with this cap has this word and this plain lock. A writer holds alone, and at most one holder may upgrade. No
+-- more parties hold than the cap and the reader limit allow, but one party may always hold.
 pub record StandTogether (cap w : ℕ) (s : Plain) : Type 0 where
   pub word : w ≡ rw_word s
   pub writer : 0 < count_kind writing s.holders → length s.holders ≡ 1

@@ -96,7 +96,7 @@ module _ {W V C L A B : Type 0} {t : Table W V C L A} {by : Machine W V C L B} {
       answered w c l a None rest on guard = absurd guard
       answered w c l a (Some j) rest on guard = grind (arith, on j refl)
 
-      -- after an event
+      -- `Guard` of the party p after an event
       abbrev After : Scene W V C L B → Type 0
       After sc = Guard r sc.after.written (seat_of sc.after p)
 

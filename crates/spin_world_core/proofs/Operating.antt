@@ -48,7 +48,7 @@ made_named o c d is = grind arith
 pub change_is : {W L A : Type 0} (n : ℕ) (act : Act W L A) (p : ℕ) (w : W) (d : Change) → change_at n act p w ≡ Some d → makes_by act p ≡ Some d
 change_is n act p w d is = grind arith
 
--- so the kind of lock makes this plain step, and a call makes it by a weak exchange if it gets it weakly
+-- So the kind of lock makes this plain step. If the call gets this plain step weakly, it does so by a weak exchange.
 pub fits_made : (kind : LockKind) (what : Asked) (weakly : Bool) (o : Option Change) (d : Change) → fits_step kind what weakly o ≡ true → o ≡ Some d → (is_step_of kind d ≡ true) × (what.gets_weakly d ≡ true → weakly ≡ true)
 fits_made kind what weakly o d fit is = grind arith
 

@@ -27,7 +27,7 @@ finds_another what some is = grind arith
 no_retry : (b : Bool) → is_again (by_step (either b look plain)) ≡ false
 no_retry b = grind arith
 
--- a step is counted (`ContinuesCounted`) if it is a retry whenever it makes no plain step though that plain step is open
+-- `ContinuesCounted` holds if the step is a retry whenever its plain step is open but is not made
 counted_of : {W L A : Type 0} (change : W → Option Change) (s : Plain) (next : Next L A) (o : Option Change) (r : StepKind)
     → ((w : W) (d : Change) → change w ≡ Some d → is_open s d ≡ true → o ≡ None → is_again r ≡ true) → ContinuesCounted change s next o r
 counted_of change s next o r counts = grind (arith, counts)

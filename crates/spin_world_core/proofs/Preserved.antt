@@ -37,7 +37,7 @@ stands_beside : {C L : Type 0} (s : Plain) (p q : ℕ) (step : Option Change) (r
     → IsOpenStep s p step → StandsFor s q span o → StandsFor (apply_some s step) q (mark_of p step r s ∷ span) o
 stands_beside s p q step r span o ne may stands = grind (arith, entries-other s p q step ne may)
 
--- after its own step a party has the entries of its span with this step
+-- after a party's own step, the party's entries are those of its span with this step
 stands_stepped : (s : Plain) (p : ℕ) (step : Option Change) (r : StepKind) (span : List Mark) (e : Entries) → IsOpenStep s p step
     → entries p s ≡ entries_so_far p span e → entries p (apply_some s step) ≡ entries_so_far p (mark_of p step r s ∷ span) e
 stands_stepped s p step r span e may stands = grind (arith, entries-own s p step may)
@@ -128,7 +128,7 @@ module _ {W V C L A B : Type 0} {t : Table W V C L A} {by : Machine W V C L B} {
     pub due : GetsWhenDue m.lock_kind s.party s.outcome s.move (asked m s.seat) (s.before.span s.party) s.before.plain s.change s.step_kind
     pub tries_on : TriesOn s.party s.outcome s.move (asked m s.seat) (s.before.span s.party) s.before.plain s.change
 
-  -- an event that is not skipped is preserved if the invariant holds after it and these premises hold of it
+  -- an event is `Preserved` if it is not skipped, the invariant holds after it, and the other premises hold of it
   pub happened_kept : (s : Scene W V C L B) → Invariant s.after → StepKeeps s → ((r : Option V) → s.outcome ≡ outcome.Value r → r ≡ s.before.written)
       → MayTouch s.before s.party s.outcome s.move → (s.outcome ≡ outcome.Skipped → ⊥) → is_open_move m s.before.state s.move s.seat ≡ true
       → is_in_place m.owned s.move s.seat ≡ true → ComesTo s.move s.change s.before.state.value s.after.state.value s.outcome

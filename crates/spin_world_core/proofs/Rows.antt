@@ -183,7 +183,8 @@ row_at what h nowhere = None
 row_at what h (onward row) = Some row
 row_at what h (looked k) = Some (row_looked h k (λ p. first_of (own_steps (what.answers what.most) p)) what.most)
 
--- at this row the call has a step left, and its plain steps so far and those that are left are the ones of an answer
+-- At this row the call has a step left. Its plain steps so far, followed by those that are left, are the plain steps of
+-- an answer.
 abbrev pub IsSound : LockKind → Asked → ℕ → Option Row → Type 0
 IsSound kind what p None = Unit {0}
 IsSound kind what p (Some row) = (is_timely (limit kind what) (row.made p) row.spent ≡ true) × AnyOf (λ steps. row.made p ++ row.rest p ≡ steps) (own_steps (what.answers row.said) p)
@@ -220,7 +221,7 @@ abbrev pub RetryOwes : {W L A : Type 0} → Act W L A → ℕ → Option Change 
 RetryOwes (retry k f step won found missed) n made = (made ≡ None) × (n ≡ k) × (is_some (f k) ≡ true)
 RetryOwes _ n made = Unit {0}
 
--- whether a try is due at a point: it may or may not be (`free`), it is, it is not, or there is no such point
+-- whether a try is due at a point (`free`: it may be due or not; `never`: there is no such point)
 pub data Need : Type 0 where
   free : Need
   due : Need

@@ -8,7 +8,7 @@ use Rattle.spin_model.specs.declared.place.Hold.TheVariants.{Read, Upgradable, W
 use Rattle.spin_world_core.specs.Runs.{entries_held}
 use Rattle.spin_world_core.proofs.Lists.{eqb_self}
 
--- What a party has
+-- What a party has in the plain lock
 
 pub data Stand : Type 0 where
   absent : Stand
@@ -36,7 +36,7 @@ pub held_at : (p : ℕ) (h : Option Hold) → entries_held p h ≡ entries_at p 
 held_at p (Some Read) = refl
 held_at p _ = refl
 
--- What the party has after it gets this, if n is the next ticket's number. `None`: no call makes such a step there.
+-- What a party that has this `Stand` has after it gets this `Effect`; n is the next ticket's number. `None`: no call does so there.
 abbrev pub after_getting : ℕ → Effect → Stand → Option Stand
 after_getting n (comes k) absent = Some (holds k)
 after_getting n (comes k) starves = Some (holds_and_starves k)

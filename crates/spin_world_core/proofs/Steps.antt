@@ -7,7 +7,7 @@ use Rattle.spin_world_core.proofs.Shapes.{Notes, Knows, Pays}
 abbrev pub played : {W V C L A B : Type 0} → Table W V C L A → Machine W V C L B → Machine W V C L B
 played t m = machine_by t m.refuse m.step m.says m.brings m.gives
 
--- how a step continues its call, where an answer is replaced by what it says
+-- how the call continues after a step, with each answer replaced by what the answer says (`Said`)
 abbrev pub told : {L A : Type 0} → (A → Said) → Next L A → Next L Said
 told says (Continue l) = Continue l
 told says (Answers a after) = Answers (says a) after

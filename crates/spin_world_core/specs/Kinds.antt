@@ -3,7 +3,7 @@ use Rattle.std.specs.Prelude.{◌≡◌, ℕ, true, is_some, Option, List, [], �
 use Rattle.spin_model.specs.declared.place.Hold.{Hold}
 use Rattle.spin_model.specs.Machines.{Machine}
 
--- each call of the list may begin when its party holds what stands beside the call
+-- each call of the list may begin when its party holds what the list has beside the call
 abbrev pub BeginAt : {W V C L A : Type 0} → Machine W V C L A → List (C × Option Hold) → Type 0
 BeginAt m [] = ⊤
 BeginAt m (call ∷ more) = (is_some (m.begin call.0 call.1) ≡ true) × BeginAt m more

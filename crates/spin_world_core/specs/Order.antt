@@ -45,7 +45,7 @@ abbrev pub LooksElse : Way → ℕ → List Mark → StepKind → Type 0
 LooksElse by_looks p span r = is_due p span ≡ false → is_look r ≡ true
 LooksElse way p span r = Unit {0}
 
--- by a step that is due, the call gets what it asks if this is open; its other steps are as its `Way` says
+-- by a step that is due, the call gets what it asks if that is open; the call's other steps are as its `Way` says
 abbrev pub Gets : LockKind → ℕ → Asked → List Mark → Plain → Option Change → StepKind → Type 0
 Gets kind p what span s step r =
     (ask : Ask) → goes_of what (own p span) ≡ Some ask
@@ -56,8 +56,9 @@ GetsWhenDue kind p outcome.GoingOn Step (Some what) span s step r = Gets kind p 
 GetsWhenDue kind p (outcome.Answered a b) Step (Some what) span s step r = Gets kind p what span s step r
 GetsWhenDue kind p _ _ _ span s step r = Unit {0}
 
--- Before its plain step, a try continues only by a step at which what it asks is open. A try on a queue reads two words:
--- it also continues by its first step, and by a step that finds served the next number that it found before.
+-- Before its plain step, a try continues only by a step at which what it asks is open. A try on a queue reads two words.
+-- It also continues by its first step, and by a step at which the served number equals the next number at an earlier
+-- step of the party.
 abbrev pub MayTryOn : Ask → ℕ → List Mark → Plain → Type 0
 MayTryOn to_take_and_enter p span s = (is_open_to s p to_take_and_enter ≡ true) ⊎ (own_count p span ≡ 0) ⊎ AnyOf (λ m. (m.party ≡ p) × (next_word m.before ≡ serving_word s)) span
 MayTryOn ask p span s = is_open_to s p ask ≡ true

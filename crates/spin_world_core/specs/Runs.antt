@@ -291,7 +291,7 @@ pub record Keeps {W V C L A : Type 0} (m : Machine W V C L A) (s : Scene W V C L
   pub opens : IsOpenStep s.before.plain s.party s.change
   -- the event makes no plain step, or one that this kind of lock makes
   pub belongs : BelongsTo m.lock_kind s.change
-  -- after the event the words are those of the plain lock
+  -- after the event the words are the encoding of the plain lock
   pub encodes : m.numbers s.after.state.words ≡ encoded m.lock_kind s.after.plain
   -- after the event every party holds and waits in the plain lock as its seat says
   pub places : (q : ℕ) → StandsFor s.after.plain q (s.after.span q) (seat_of s.after q)
@@ -379,8 +379,8 @@ InTime kind p span (outcome.Answered a b) (Some what) = EndsWithin (limit kind w
 InTime kind p span outcome.GoingOn (Some what) = ContinuesWithin (limit kind what) kind p span
 InTime kind p span _ _ = Unit {0}
 
--- A step makes no plain step and its call continues. If at other words this step makes a plain step, and that plain step
--- is open now, then the step is an exchange that the call repeats. It counts as a failed exchange.
+-- Suppose that a step makes no plain step and its call continues. If this step makes a plain step at some other words,
+-- and that plain step is open now, then the step is an exchange that the call repeats. It counts as a failed exchange.
 abbrev pub IsCounted : {W V C L A : Type 0} → Machine W V C L A → ℕ → Outcome A V → Move C V → Option (Seat C L) → Option Change → StepKind → Plain → Type 0
 IsCounted {W} m p outcome.GoingOn Step (Some (Calling c l h)) None step_kind s = (w : W) (d : Change) → m.change p w c l h ≡ Some d → is_open s d ≡ true → is_again step_kind ≡ true
 IsCounted m p _ _ _ _ _ _ = Unit {0}

@@ -11,7 +11,7 @@ use Rattle.spin_model.specs.Calls.{Said, gives_value}
 use Rattle.spin_model.specs.Machines.{Machine, opening_plain}
 use Rattle.spin_world_core.specs.Runs.{Scene, Every, opening}
 
--- if closures make the value, the world has a value exactly if a closure has completed
+-- if closures make the value, the world has a value exactly if the phase is complete
 abbrev pub HasPhase : {V : Type 0} → Bool → Phase → Option V → Type 0
 HasPhase true phase value = is_complete phase ≡ is_some value
 HasPhase false phase value = Unit {0}

@@ -1,5 +1,5 @@
 -- A turn is a stretch of entries that leads back to the state in which it began. Its endless repetition is fair if, from
--- each place of the turn, the rest of it and one more turn are a round.
+-- each place of the turn, the rest of the turn and one more turn are a round.
 use Rattle.spin_model.specs.Calls.{Asked}
 use Rattle.spin_world_progress.proofs.Names.{◌≡◌, ℕ, zero, suc, ◌+◌, ◌==◌, ◌&&◌, ◌||◌, Bool, true, false, Option, Some, List, [], ◌∷◌, ◌++◌, slice_get, refl, ap, sym, ◌∙◌, subst, arith, and_parts, Hold, Seat, Idle, Calling, Holding, Leaked, Gone, Move, Machine, State, happens, after, at_first, may_read, not, Test, occurs, is_awaited, MovesOn, IsRound, AreRounds, stretch, IsFair, ends_or_weak, MayStarve}
 
@@ -132,7 +132,7 @@ module _ {W V C L A : Type 0} (m : Machine W V C L A) where
         (there, refl, fair_around (test p) s e es turns, never_around (test p) s e es turns),
   )
 
-  -- so a call may starve
+  -- if no event of the repeated turn ends the call or fails spuriously, a call with this promise may starve
   pub starves : (n : ℕ) (past : Turn) (s : State W V C L) → after m (at_first m n) past ≡ s → (e : ℕ × Move C V) (es : Turn) (p : ℕ) (c : C) (l : L) (h : Option Hold)
       → slice_get s.seats p ≡ Some (Calling c l h) → Within (ends_or_weak p) s e es s (e ∷ es) → MayStarve m n (m.asks c h)
   starves = forever (λ p. ends_or_weak p)

@@ -28,11 +28,11 @@ is_busy (Some (Leaked h)) = may_read h
 is_busy (Some (Gone h)) = may_read h
 is_busy _ = false
 
--- a party holds something of the lock
+-- with these entries a party holds the lock
 abbrev pub holds_lock : Entries → Bool
 holds_lock e = not (is_empty e.holders)
 
--- the seat after the owner has used the value
+-- a party that has leaked or is gone is still so after the owner's use of the value
 seen_left : {C L : Type 0} (o : Option (Seat C L)) → has_left o ≡ true → has_left (option_map seen_by_owner o) ≡ true
 seen_left o left = grind (arith, left)
 

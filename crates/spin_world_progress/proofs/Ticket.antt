@@ -442,7 +442,7 @@ module _ {V : Type 0} (v : V) (first : ℕ) where
     own_by seen (Take j) r w within made = own_take seen j r w within made
     own_by seen l r w within made = absurd (grind (arith, w.1))
 
-    -- A step of another party, by whether tickets were taken by it
+    -- A step of another party, by whether this step takes a ticket
 
     module _ (seen : World) (l : TicketPoint) (w : walk.Waits f x seen l) (r : ℕ) (within : walk.Within f x seen l (suc r)) (q : ℕ) (c : TicketCall) (i : TicketPoint) (h : Option Hold) (ne : q ≡ p → ⊥) (at : seat_of seen q ≡ Some (Calling c i h)) where
       abbrev y : Scene TicketWords V TicketCall TicketPoint (Answer V)

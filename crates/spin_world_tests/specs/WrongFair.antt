@@ -82,7 +82,7 @@ two_starve = (0, Begin Starve) ∷ (0, Step) ∷ (0, Step) ∷ (1, Begin Starve)
 abbrev pub never_registers : {V : Type 0} → V → FairMachine V
 never_registers v = lock_by v (λ l act. elim l [ Look n ↦ load_if is_set (λ w. Continue (Look (n + 1))) (λ w. Continue (Attempt n)) | _ ↦ act ])
 
--- one party holds; the other's `lock` makes an exchange and four looks
+-- one party holds; the `lock` of the other party makes an exchange and four looks
 abbrev pub lock_beside_a_holder : {V : Type 0} → Entries V
 lock_beside_a_holder = (0, Begin TryLock) ∷ (0, Step) ∷ (1, Begin Lock) ∷ (1, Step) ∷ (1, Step) ∷ (1, Step) ∷ (1, Step) ∷ (1, Step) ∷ []
 
@@ -202,7 +202,7 @@ starves_again v = let m = fair_machine v 2 1 in record m { begin = λ c h. elim 
 abbrev pub tries_alone : {V : Type 0} → V → FairMachine V
 tries_alone v = let m = fair_machine v 2 1 in record m { asks = λ c h. elim c [ StarverTryLock ↦ tries_in 2 to_lock_starving_alone | other ↦ m.asks other h ] }
 
--- a starver is registered at first, but it is no party
+-- the word says at first that a starver is registered, but no party is a starver
 abbrev pub opens_with_a_starver : {V : Type 0} → V → FairMachine V
 opens_with_a_starver v = let m = fair_machine v 2 1 in record m { words = 2 }
 

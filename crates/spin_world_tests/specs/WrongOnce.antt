@@ -142,7 +142,7 @@ a_look_and_chance v = (0, Begin (CallOnce v)) ∷ (0, Step) ∷ (0, Weak) ∷ []
 abbrev pub opens_at_nothing : {V : Type 0} → V → OnceMachine V
 opens_at_nothing {V} v = let m : OnceMachine V = once_machine (Some v) in record m { words = 0 }
 
--- a call that waits for a closure, and then finds no value, looks once more before it begins
+-- a call that waits for a closure, and then finds no value, looks once more before it begins its own closure
 abbrev pub hesitates : (V : Type 0) → OnceMachine V
 hesitates V =
     with_steps None (λ w value c l h step. elim c [ CallOnce v ↦ elim l [ Await ↦ either (w == 0) (stays w (Continue Look)) step | _ ↦ step ] | _ ↦ step ])

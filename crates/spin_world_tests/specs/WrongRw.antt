@@ -105,7 +105,7 @@ read_and_regret _ = store (λ w. true) (adds (weight reading)) (λ p. gets p to_
 abbrev pub reads_and_regrets : {V : Type 0} → V → RwMachine V
 reads_and_regrets v = with_steps v (λ c l h act. elim c [ TryRead ↦ read_and_regret l | _ ↦ act ])
 
--- the same, but the table names no plain step for its steps
+-- the same `try_read`, but the machine names no plain steps for it
 abbrev pub reads_and_regrets_unseen : {V : Type 0} → V → RwMachine V
 reads_and_regrets_unseen {V} v =
     let m : RwMachine V = reads_and_regrets v in record m { change = λ p w c l h. elim c [ TryRead ↦ None | other ↦ m.change p w other l h ] }
@@ -146,7 +146,7 @@ two_steps_of_an_upgrade = upgrade_alone ++ (0, Step) ∷ []
 abbrev pub read_beside_an_asking_reader : {V : Type 0} → Entries V
 read_beside_an_asking_reader = upgrade_alone ++ (1, Begin TryRead) ∷ (1, Step) ∷ []
 
--- a `reader_count` that counts like this
+-- a lock whose `reader_count` answers `count` of the word
 abbrev counts_by : {V : Type 0} → V → (ℕ → ℕ) → RwMachine V
 counts_by v count = with_steps v (λ c l h act. elim c [ ReaderCount ↦ load (λ w. Answers (Count (count w)) h) | _ ↦ act ])
 

@@ -99,7 +99,7 @@ enters_or_not =
     let as_try : SeatsCall → SeatsCall = λ c. elim c [ call.Enter ↦ call.TryEnter | other ↦ other ] in
     machine_of (record t { act = λ c l h. act_of 2 (as_try c) l h; asks = λ c h. asks_of (as_try c) h })
 
--- a seat is taken at first, but by no party
+-- the word says at first that a seat is taken, but no party has a seat
 abbrev pub opens_taken : SeatsMachine
 opens_taken = let t : SeatsTable = seats_table 2 in machine_of (record t { words = 1 })
 
@@ -132,6 +132,6 @@ looks_on =
 abbrev pub enter_in_vain : Entries
 enter_in_vain = (0, Begin call.Enter) ∷ (0, Step) ∷ (0, Step) ∷ (0, Step) ∷ (0, Step) ∷ []
 
--- its kind of lock has no `leave` for a party with a seat
+-- the kind of lock has no `leave` for a party with a seat
 abbrev pub keeps_all : SeatsMachine
 keeps_all = let t : SeatsTable = seats_table 2 in machine_of (record t { asks = λ c h. elim c [ call.Leave ↦ gives_back (λ hold. false) h | other ↦ asks_of other h ] })

@@ -112,7 +112,7 @@ try_in_vain = (0, Begin TryLock) ∷ (0, Step) ∷ (0, Step) ∷ (0, Weak) ∷ [
 abbrev pub lock_in_vain : {V : Type 0} → Entries V
 lock_in_vain = (0, Begin Lock) ∷ (0, Step) ∷ (0, Weak) ∷ []
 
--- a ticket is in the queue at first, but it is no party's
+-- the words say at first that a ticket is in the queue, but no party has a ticket
 abbrev pub opens_with_a_ticket : {V : Type 0} → V → TicketMachine V
 opens_with_a_ticket {V} v = let m : TicketMachine V = ticket_machine v 0 in record m { words = record { next = 1; serving = 0 } }
 

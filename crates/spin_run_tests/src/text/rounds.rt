@@ -31,7 +31,7 @@ fn due_in_round(rt: &impl Abort, place: Option<Place>) -> Option<Owed> {
     }
 }
 
-/// What the parties still have to do in a round, and whether a call that counts was answered in it.
+/// What the parties still have to do in a round, and whether a call that counts was answered in this round.
 #[derive(Drop)]
 struct Round {
     owing: [Option<Owed>; 3],

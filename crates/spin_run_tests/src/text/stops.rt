@@ -142,7 +142,7 @@ fn is_in_order(rt: &impl Abort, opening: Opening, run: &Run) {
     holds(rt, shows, at, encodes || is_unsettled(places));
 }
 
-/// Returns an event as told by a run that starts at this place: it does not say where an earlier call began.
+/// Returns an event as told by a run that starts at this place. Such a run does not say where an earlier call began.
 fn told_from(start: usize, event: Told) -> Told {
     let outcome = match event.outcome {
         Outcome::Answered { answer, began } => Outcome::Answered {

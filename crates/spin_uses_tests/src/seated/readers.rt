@@ -49,7 +49,7 @@ fn a_writer_goes_on_as_a_reader(rt: HostRuntime) {
     equal(&rt, b.holds().is_none(), true);
 }
 
-// Adds 1 each time it acquires the lock, and then reads its own number as a reader.
+// Acquires the lock as a writer some times, and adds 1 each time. Then downgrades, and reads the number that it wrote.
 fn add_some<R: Wait>(rt: &R, lock: &SeatedRwLock, mut pass: RwPass) -> (RwPass, bool)
     requires { IsPassOf lock.now pass × (holds pass.known ≡ None) }
     ensures { IsPassOf lock.now result.0 × (holds result.0.known ≡ None) }
@@ -74,7 +74,8 @@ fn add_some<R: Wait>(rt: &R, lock: &SeatedRwLock, mut pass: RwPass) -> (RwPass, 
     (pass, same && added == TIMES)
 }
 
-// Reads each time it acquires the lock. Returns whether no number was less than an earlier one.
+// Acquires the lock as a reader some times, and reads each time. Returns whether it read this many times, and no number
+// was less than an earlier one.
 fn read_some<R: Wait>(rt: &R, lock: &SeatedRwLock, mut pass: RwPass) -> (RwPass, bool)
     requires { IsPassOf lock.now pass × (holds pass.known ≡ None) }
     ensures { IsPassOf lock.now result.0 × (holds result.0.known ≡ None) }

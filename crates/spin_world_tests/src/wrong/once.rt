@@ -46,12 +46,13 @@ pub fn an_answer_is_the_value_placed<V: Copy>()
     ensures { (u v : V) → (u ≡ v → ⊥) → ValuesAll (tells_another u v) 1 (one_closure u) → ⊥ }
 {}
 
-/// A closure in place of whose value another one is stored and answered.
+/// A call that stores and answers another value than that of its closure.
 pub fn a_value_is_the_closures_own<V: Copy>()
     ensures { (u v : V) → (u ≡ v → ⊥) → ValuesAll (places_another v) 1 (one_closure u) → ⊥ }
 {}
 
-/// A closure that never ends. Once it runs, its call has to be answered by its fourth step if nobody disturbs it.
+/// A closure that never ends. Once a closure runs, its call has to be answered by its fourth step if nobody disturbs
+/// it.
 pub fn a_closure_ends<V: Copy>()
     ensures { (v : V) → CountsAll (runs_on V) 1 (six_steps v) → ⊥ }
 {}

@@ -67,7 +67,7 @@ pub fn nobody_sits_where_there_are_no_seats()
     ensures { KeepsAll seats_one_on_none 1 one_sits → ⊥ }
 {}
 
-/// A `count` that tells how many seats are free. At no moment of the call do as many parties have a seat.
+/// A `count` that tells how many seats are free. At no moment of the call do that many parties have a seat.
 pub fn a_count_tells_the_seated_parties()
     ensures { MomentsAll counts_free 1 count_alone → ⊥ }
 {}
