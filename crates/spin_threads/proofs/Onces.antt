@@ -129,7 +129,7 @@ module _ (given : Option (Unit {0})) where
   begun_same s o p c d h None = refl
   begun_same s o p c d h (Some l) = refl
 
-  -- a move of a party whose closure does not fail has the same outcome
+  -- a move of a party whose closure does not fail has the same outcome in the object's schedule
   own_same : (f : ℕ → Bool) (s : World) (p : ℕ) (move : OneMove) (y : Seat (OnceCall (Unit {0})) Point) → HasIt s → is_plain move ≡ true
       → (moves (t given) (object f s) p (renamed move false) (seat_named y false)).outcome ≡ (moves (m given) s p move y).outcome
   own_same f s p (Begin c) Idle has plain = ap (λ d. (begun {A = Answer (Unit {0})} (object f s) p d None ((t given).begin d None)).outcome) (named_kept c) ∙ begun_same s (object f s) p c c None ((t given).begin c None)

@@ -311,7 +311,7 @@ module _ {W V C L A B : Type 0} {t : Table W V C L A} {m : Machine W V C L B} {n
     got_is : (i : ℕ) (act : Act W L A) (e : Change) → OwesHere i act → sure_by act p ≡ Some e → is_open s e ≡ true → change_by t.memory i act p w ≡ Some e
     got_is i act e owes is may = grind arith
 
-    -- a weak exchange is its call's first plain step
+    -- a spurious failure of a weak exchange: the call may fail so, and has made exactly the plain steps before this exchange
     refusal_is : (i : ℕ) (act : Act W L A) (next : Next L A) → OwesHere i act → refusal_by act ≡ Some next
         → Moves n Weak p c h s span None weak w (told t.says next) × (what.is_weak ≡ true) × (own p span ≡ what.before_weakly p)
     refusal_is i (weak_exchange k f step won lost) next owes is =

@@ -264,7 +264,7 @@ module _ {W V C L A B : Type 0} {t : Table W V C L A} {by : Machine W V C L B} {
       abbrev result : Next L B → Outcome B V
       result next = (goes_on seen.state p c h next).outcome
 
-      -- what is shown of a move of the call: it makes this plain step, if any, stores this value, and leaves these words
+      -- what is shown of a move of the call that makes this plain step, if any, stores this value, and leaves these words
       record Goes (move : Move C V) (step : Option Change) (r : StepKind) (stored : Option V) (w : W) (v : Option V) (next : Next L B) : Type 0 where
         moves : Moves n move p c h seen.plain (seen.span p) step r w (told by.says next)
         phase : HasPhase t.lock_kind.makes_value (plain_by step).phase v

@@ -31,7 +31,7 @@ abbrev pub passes_all : (Row → Bool) → Option Row → Bool
 passes_all test None = true
 passes_all test (Some row) = test row
 
--- A test of rows that depends on the party's entries and plain steps: the row of the party's point passes it.
+-- If every row with the party's entries and plain steps passes a test, then the row of the party's point passes it.
 module _ {W V C L A : Type 0} {t : Table W V C L A} (n : Notes t) (c : C) (l : L) (h : Option Hold) (p : ℕ) (s : Plain) (span : List Mark) where
   pub row_passes : (test : Row → Bool) → ((row : Row) → entries p s ≡ entries_at p row.stand → own p span ≡ row.made p → test row ≡ true) → (o : Option Row)
       → KnowsRow n (call_of n c) l h p s span o → passes_some test o ≡ true

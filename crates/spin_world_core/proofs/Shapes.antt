@@ -64,7 +64,7 @@ module _ {W V C L A : Type 0} (t : Table W V C L A) where
     pub point : C → L → Option Hold → Point
     pub Knows : C → L → Option Hold → ℕ → Plain → List Mark → Type 0
 
-  -- if the table runs on the words alone, it answers the call by its k-th step from here
+  -- whether the call is answered by its k-th step from this point, if no other party steps in between
   abbrev pub answers_by : ℕ → W → C → L → Option Hold → Bool
   answers_by zero w c l h = false
   answers_by (suc k) w c l h =

@@ -251,7 +251,7 @@ module _ {V : Type 0} (value : Option V) where
   answers_at_last n past schedule p c l h there closure fair =
       at_last m (answers_or_fails m p) (once_after m n past) 4 (λ rounds are long. answers_in_four n past rounds p c l h there closure are (omega (arith, long))) schedule fair
 
-  -- Once there is a value
+  -- While there is a value
 
   complete_stays : (s : Plain) (q : ℕ) (step : Option Change) → s.phase ≡ complete → IsOpenStep s q step → BelongsTo once step → (apply_some s step).phase ≡ complete
   complete_stays s q None is opens belongs = is

@@ -359,7 +359,7 @@ module _ {V : Type 0} (v : V) (cap : ℕ) (some : 1 ≤ cap) where
   abbrev Sits : (Entries → Bool) → ℕ → Option RwSeat → Type 0
   Sits = walk.SitsSo (rw_notes v cap)
 
-  -- the party reads and does no more if `reader`; otherwise it holds nothing
+  -- if `reader`, the party reads and does no more; otherwise the party holds nothing
   abbrev reads_so : Bool → Entries → Bool
   reads_so reader e = only_read e.holders && (if reader then reads e.holders else not (reads e.holders))
 
@@ -419,7 +419,7 @@ module _ {V : Type 0} (v : V) (cap : ℕ) (some : 1 ≤ cap) where
       word_is : b ≡ false → seen.state.words ≡ sum_by (λ (h : Holder). weight h.kind) (its u s.holders)
       word_is none = let word : seen.state.words ≡ rw_word s = cc (good.encodes) in word ∙ ap (λ hs. sum_by (λ (h : Holder). weight h.kind) hs) (sym (all_its u s.holders none))
 
-      -- the waiting party holds nothing, so somebody else reads with it
+      -- the waiting party p holds nothing; `reader_beside`: so some party that holds beside u is not p, and it reads
       nothing_mine : (l : RwPoint) → seat_of seen p ≡ Some (Calling c l None) → is_empty (its p s.holders) ≡ true
       nothing_mine l mine_at = row_tells (rw_notes v cap) c l None p s (seen.span p) (λ e. is_empty e.holders) _ (in_call f p good mine_at).knows (grind (arith, comes))
 

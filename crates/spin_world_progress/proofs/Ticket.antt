@@ -56,7 +56,7 @@ leaves_first s q (Some c) some numbered ne may belongs =
 
 -- How long it takes until the first ticket leaves
 
--- how many moves the party of the first ticket makes until then: it enters, begins to release, and serves the next number
+-- how many moves the party of the first ticket makes until its ticket leaves: it enters, begins to release, and serves the next number
 abbrev left_to : Option (Seat TicketCall TicketPoint) → ℕ
 left_to (Some (Calling Lock l h)) = 3
 left_to (Some (Holding h)) = 2
@@ -116,7 +116,7 @@ fewer p (suc n) ts each none lt = grind (arith, few n ts each, fewer p n ts each
 abbrev two : Entries → Bool
 two e = nat_lt 1 (length e.tickets)
 
--- other parties' steps can only raise the next number
+-- a step never lowers the next number
 next_grows : (s : Plain) (step : Option Change) → s.next ≤ (apply_some s step).next
 next_grows s None = omega arith
 next_grows s (Some c) = grind arith
@@ -312,7 +312,7 @@ module _ {V : Type 0} (v : V) (first : ℕ) where
             })
             (cases_eq d q)
 
-      -- With its ticket
+      -- The party p waits with its ticket t
 
       module _ (t : ℕ) (at : l ≡ Await t) where
         mine : own p s.tickets ≡ queued p t false ∷ []
@@ -343,7 +343,7 @@ module _ {V : Type 0} (v : V) (first : ℕ) where
         mine_there : own p seen.plain.tickets ≡ queued p t false ∷ []
         mine_there = mine seen (Await t) w t refl
 
-    -- Before it has a ticket
+    -- Before p has a ticket
 
     no_ticket : (seen : World) (l : TicketPoint) → walk.Waits f x seen l → at_door l → is_empty (own p seen.plain.tickets) ≡ true
     no_ticket seen LoadNext w door = ap (λ (e : Entries). is_empty e.tickets) (in_call f p w.3 w.0).knows.0.stand

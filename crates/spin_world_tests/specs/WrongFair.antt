@@ -174,7 +174,7 @@ lock_beside_a_starver =
     (1, Begin Starve) ∷ (1, Step) ∷ (1, Step) ∷ (0, Begin Starve) ∷ (0, Step) ∷ (0, Step)
     ∷ (0, Begin StarverLock) ∷ (0, Step) ∷ (0, Step) ∷ (0, Step) ∷ (0, Step) ∷ (0, Step) ∷ []
 
--- a starver that has set the flag stops starving by an exchange of the word found, until it succeeds
+-- a starver that has set the flag stops starving by an exchange of the word found, and repeats this exchange until it succeeds
 abbrev pub leaves_by_exchange : {V : Type 0} → V → FairMachine V
 leaves_by_exchange v = starver_lock_by v (λ l act. elim l [
   | Unregister ↦ load (λ w. Continue (Register w))

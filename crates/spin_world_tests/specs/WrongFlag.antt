@@ -58,7 +58,7 @@ look_beside_a_holder = (0, Begin TryLock) ∷ (0, Step) ∷ (1, Begin IsLocked) 
 abbrev pub never_releases : {V : Type 0} → V → FlagMachine V
 never_releases {V} v = let m : FlagMachine V = flag_machine v in record m { begin = λ c h. elim c [ Release ↦ None | other ↦ m.begin other h ] }
 
--- a `lock` that asks to read; to be granted that, it would have to make a plain step that no flag makes
+-- a `lock` that asks to read, though such a grant needs a plain step that no flag makes
 abbrev pub locks_to_read : {V : Type 0} → V → FlagMachine V
 locks_to_read {V} v = let m : FlagMachine V = flag_machine v in record m { asks = λ c h. elim c [ Lock ↦ waits to_read | other ↦ m.asks other h ] }
 

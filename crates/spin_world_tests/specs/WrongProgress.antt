@@ -58,7 +58,7 @@ one_before_it = (1, Begin ticket.Lock) ∷ (1, Step) ∷ (1, Step) ∷ (0, Begin
 abbrev pub four_turns : {V : Type 0} → List (List (ℕ × Move TicketCall V))
 four_turns = ((0, Step) ∷ (1, Step) ∷ []) ∷ ((0, Step) ∷ (1, Begin ticket.Release) ∷ []) ∷ ((0, Step) ∷ (1, Step) ∷ []) ∷ ((0, Step) ∷ []) ∷ []
 
--- A read-write lock whose upgrade withdraws its ask by its next step, and asks again
+-- A read-write lock whose upgrade takes back its request by the next step, and then asks again
 
 abbrev gives_up_act : {V : Type 0} → ℕ → RwCall → RwPoint → Option Hold → Act ℕ RwPoint (Answer V)
 gives_up_act cap rw.Upgrade rw_point.Asking h = store (λ w. true) (subtracts (weight asking - weight upgradable)) (λ p. turns p asking upgradable) (Continue rw_point.First)

@@ -72,7 +72,7 @@ enters_in_one =
     let at_once : SeatsAct = section (λ w. true) (entered 2) (λ p. gets p to_read) (λ w. granted) (λ w. Answers Refused None) in
     with_steps 2 (λ c l h act. elim c [ call.TryEnter ↦ at_once | _ ↦ act ])
 
--- `enter` guesses that nobody sits; a wrong guess does not count as a failed exchange
+-- `enter` guesses that nobody has a seat; a wrong guess does not count as a failed exchange
 abbrev pub enters_by_a_guess : SeatsMachine
 enters_by_a_guess =
     let guess : SeatsAct = exchange (exchanges 0 1) (λ p. gets p to_read) granted goes_for in

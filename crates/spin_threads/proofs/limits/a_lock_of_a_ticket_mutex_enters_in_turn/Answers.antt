@@ -24,7 +24,7 @@ use Rattle.spin_threads.specs.Turns.{EntersInTurn}
 use Rattle.spin_threads.proofs.Calls.{event, one_more, longer, Call, call_of}
 use Rattle.spin_threads.proofs.limits.a_lock_of_a_ticket_mutex_enters_in_turn.Goals as goal
 
--- the ticket with which a step made at this point is granted
+-- the number of the ticket with which a step at this point enters
 abbrev ticket_of : TicketPoint → ℕ
 ticket_of (Await t) = t
 ticket_of (TryTake n) = n
