@@ -33,10 +33,10 @@ use std::sync::Wait;
 /// of others. A pass is as large as a reference to the lock. It can be sent, and a lock can have any number of passes.
 ///
 /// # Contract
-/// Each call takes the pass, or a guard and what the pass knew when it got the guard, and returns them. It ensures
-/// `Called`: among the new moves of the history, those of this pass are exactly one call with the returned answer. In
-/// the lock's model that call gets this answer, at its place among the moves of all threads. No move of the history is
-/// skipped.
+/// A call takes the pass, or a guard with what the pass knew when it got the guard, and returns either of them. It
+/// ensures `Called`: among the new moves of the history, those of this pass are exactly one call with the returned
+/// answer. In the lock's model that call gets this answer, at its place among the moves of all threads. No move of the
+/// history is skipped.
 ///
 /// A writer that releases or downgrades writes the value that it leaves into the history first (`Wrote`). So the value
 /// of a guard is the one written last there, until the owner borrows it by `get_mut` (`found`).
@@ -210,8 +210,8 @@ impl<'a, T, R: RelaxStrategy> Pass<'a, T, R> {
     /// [`with`](spin_core::lock::Lock::with) does.
     ///
     /// # Contract
-    /// The closure has to be always callable. Its answer is returned (`answers`). The pass made one `Write`, and then
-    /// one `Release` behind a write of the value that it left (`made`). Whether and when the call returns is not
+    /// The closure has to be always callable. Its answer is returned (`answers`). The pass made one `Write`. Then it
+    /// wrote the value that it left, and made one `Release` (`made`). Whether and when the call returns is not
     /// promised.
     ///
     /// # Examples
@@ -254,7 +254,7 @@ impl<'a, T, R: RelaxStrategy> Pass<'a, T, R> {
 }
 
 impl<'a, T, R> Pass<'a, T, R> {
-    /// Tries to acquire shared access as [`RwLock::try_read`] does. Fails with the pass.
+    /// Tries to acquire shared access as [`RwLock::try_read`] does. A failure returns the pass.
     ///
     /// # Contract
     /// The call is one `TryRead`, with the answer `Granted` and a guard (`granted`), or else `Refused` (`refused`). The
@@ -278,7 +278,7 @@ impl<'a, T, R> Pass<'a, T, R> {
         Coming::<_, Reader, Tries, _>::try_to_lend(rt, permit, seen)
     }
 
-    /// Tries to acquire upgradable shared access as [`RwLock::try_upgradeable_read`] does. Fails with the pass.
+    /// Tries to acquire upgradable shared access as [`RwLock::try_upgradeable_read`] does. A failure returns the pass.
     ///
     /// # Contract
     /// The call is one `TryUpgradeableRead`, with the answer `Granted` and a guard (`granted`), or else `Refused`
