@@ -116,7 +116,7 @@ impl<T, F: FnOnce() -> T, R> LazyLock<T, F, R> {
     /// Creates a `LazyLock` whose initialiser is `f`. It runs nothing, and promises nothing of the value.
     ///
     /// # Contract
-    /// The `initialiser` of the `LazyLock` is `f`. It opens without a value (`opens`).
+    /// The `initialiser` of the `LazyLock` is `f`. The `LazyLock` opens without a value (`opens`).
     pub fn new(f: F) -> Self
         ensures made { initialiser result ≡ f }
         ensures opens { (lies_in (opening result).value ≡ []) × ((opening result).told ≡ true) }
@@ -129,7 +129,8 @@ impl<T, F, R, M: Promise<T>> LazyLock<T, F, R, M> {
     /// Creates a `LazyLock` whose initialiser is `f`, with a promise that the value will keep. It runs nothing.
     ///
     /// # Contract
-    /// The `initialiser` of the `LazyLock` is `f`, and its `promise` is `promised`. It opens without a value (`opens`).
+    /// The `initialiser` of the `LazyLock` is `f`, and its `promise` is `promised`. The `LazyLock` opens without a
+    /// value (`opens`).
     ///
     /// # Examples
     /// ```

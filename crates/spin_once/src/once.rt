@@ -201,8 +201,8 @@ impl<T, R: RelaxStrategy> Once<T, R> {
         self.core.account().wait::<R, W>(rt).value()
     }
 
-    /// Returns the value, or `None` if there is none and no closure runs. While a closure runs, it spins until that
-    /// closure has ended.
+    /// Returns the value, or `None` if there is none and no closure runs. While a closure runs, the call spins until
+    /// that closure has ended.
     ///
     /// # Contract
     /// Whether and when the call returns is not promised.

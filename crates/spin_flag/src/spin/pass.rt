@@ -81,8 +81,8 @@ impl<T, R> SpinMutex<T, R> {
     ///
     /// # Contract
     /// `seen` has to be what [`Pass::lock`] or [`Pass::try_lock`] returned with the guard (`Holds`). The release is the
-    /// next call of the pass (`made`). Just before it the history gets a write of the guard's value (`wrote`). So that
-    /// value is the one written last (`left`).
+    /// next call of the pass (`made`). Just before the release the pass writes the guard's value into the history
+    /// (`wrote`). So this value is the one written last (`left`).
     pub fn unlock<'a>(guard: SpinMutexGuard<'a, T, R>, seen: Watch<Entry<T>>) -> Pass<'a, T, R>
         requires { Holds guard seen }
         ensures made { Left (guard_key guard.entry).value (λ x. Unit {0}) (Some (guard_view guard.entry)) seen.entries result.permit.view result.seen.entries }
@@ -226,7 +226,8 @@ impl<'a, T> Waiting<'a, T> {
         unreachable!()
     }
 
-    // A load comes first, so that waiting threads share the cache line and do not write it.
+    // Looks, and tries if the flag is clear. The load comes first, so that waiting threads share the cache line and do
+    // not write it.
     fn look_and_try(self) -> Result<Grant<'a, T>, Waiting<'a, T>>
         ensures { GoesOn self.entry result }
     {
@@ -240,7 +241,7 @@ impl<'a, T> Waiting<'a, T> {
     }
 }
 
-// The exchange of `lock`, for a call that begins or that found the flag clear.
+// Makes the exchange of `lock`, for a call that begins or that found the flag clear.
 pub(super) fn try_with<'a, T>(
     permit: Permit<'a, T, Party, FlagRule>,
     seen: Watch<Entry<T>>,
