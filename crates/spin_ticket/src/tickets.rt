@@ -3,8 +3,8 @@ use crate::ticket::TicketMutex;
 
 /// Returns the number of the next ticket.
 ///
-/// The first ticket of [`TicketMutex::new`] has the number 0. So this is how many tickets were taken, without a counter
-/// beside the lock.
+/// The first ticket of [`TicketMutex::new`] has the number 0. So the answer is how many tickets were taken. No counter
+/// beside the lock is needed.
 ///
 /// # Contract
 /// Only that the call returns.

@@ -78,8 +78,8 @@ impl<T, R> TicketMutex<T, R> {
     ///
     /// # Contract
     /// `seen` has to be what [`Pass::lock`] or [`Pass::try_lock`] returned with the guard (`Holds`). The release is the
-    /// next call of the pass (`made`). Just before it the history gets a write of the guard's value (`wrote`). So that
-    /// value is the one written last (`left`).
+    /// next call of the pass (`made`). Just before the release the pass writes the guard's value into the history
+    /// (`wrote`). So this value is the one written last (`left`).
     pub fn unlock<'a>(guard: TicketMutexGuard<'a, T, R>, seen: Watch<Entry<T>>) -> Pass<'a, T, R>
         requires { Holds guard seen }
         ensures made { Left (guard_key guard.entry) (λ x. Unit {0}) (Some (guard_view guard.entry)) seen.entries result.permit.view result.seen.entries }
@@ -183,7 +183,8 @@ impl<'a, T, R> Pass<'a, T, R> {
             seen,
             strategy,
         } = self;
-        // The served number first: it only grows, so it is at most the next number, which is loaded later.
+        // The served number is loaded first. The next number is never below the served one, and only grows. So the next
+        // number, which is loaded later, is at least the served number found.
         let (serving, account) = Account { permit, seen }.look_served();
         let (next, account) = account.look_next(serving);
         let Account { permit, seen } = account;
@@ -211,7 +212,7 @@ impl<'a, T, R> Pass<'a, T, R> {
     }
 }
 
-// Begins a call of `lock`.
+// Begins a call of `lock` with the load of the next number.
 pub(super) fn go<'a, T>(account: Account<'a, T>) -> Going<'a, T>
     requires { IsOut Idle (what account.permit.view) }
     ensures { IsIn model Lock (here account.entry) (here result.account) }
@@ -267,8 +268,8 @@ impl<'a, T> Going<'a, T> {
         unreachable!()
     }
 
-    // Takes the ticket. `Err` is a call that tries the number that it found instead. If no ticket is left, it tries the
-    // same number again.
+    // Tries to take the ticket with the number found next. After a failed exchange `Err` returns a call that tries the
+    // number that the exchange found. If no ticket is left, `Err` returns the call as it was.
     fn take(self) -> Result<Place<'a, T>, Going<'a, T>>
         ensures { GoesFor self.entry result }
     {
@@ -312,8 +313,8 @@ impl<'a, T> Place<'a, T> {
         unreachable!()
     }
 
-    // The next thread in turn looks again after one hint. A thread with others before it looks seldom, so that it does
-    // not disturb them.
+    // Returns how many hints to give before the next look. The thread that is next gives one. A thread with others
+    // before it looks seldom, so that it does not disturb them.
     fn pause(&self) -> u32 {
         if self.ahead <= 1 {
             return 1;
