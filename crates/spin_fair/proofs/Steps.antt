@@ -298,7 +298,7 @@ none_alone c n = at c (n == 2)
     at StarverTryLockFair _ = refl
     at _ _ = refl
 
--- Each step keeps the rule, and appends its moves
+-- Each step keeps the rule, and appends its moves to the trace
 
 abbrev pub mutex : {T : Type 0} → Opening T → Mutex ℕ T FairCall FairPoint View (Unit {0})
 mutex opening = record { plain = fair; model = model opening.value; seat_of = seat_of; words_of = words_of; opening = opening; idle_sits = refl }

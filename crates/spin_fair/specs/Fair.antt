@@ -117,7 +117,7 @@ StarversFirst parties = (i j : ℕ) (v w : Numbered View) → slice_get parties 
 unfoldable pub IsFair : {T : Type 0} → Opening T → ℕ → Trace (Done T) (Unit {0}) → List (Numbered View) → Type 0
 IsFair opening word trace parties = Runs (model opening.value) seat_of words_of (λ n second vs. Word n second vs × StarversFirst parties) opening.name word trace parties
 
--- the value that nobody holds is the one written last
+-- while nobody holds the lock, its value is the one written last
 unfoldable pub known_of : {T : Type 0} → Opening T → Knowledge (Trace (Done T) (Unit {0})) T
 known_of = last
 
@@ -131,7 +131,8 @@ Told v = Tells (model v) seat_of words_of
 
 -- The steps. The number that a step finds decides its outcomes and the next view of its party.
 
--- The course of one step for each of these outcomes. With `true` the call is under way. With `false` the course first begins the call `c`.
+-- The course with one step for each of these outcomes. With `true` the call is under way. With `false` the course first begins the call
+-- `c`.
 abbrev pub AreSteps : {T : Type 0} → Bool → FairCall → List (Ending T) → Course T FairCall (Answer T)
 AreSteps true c ends own outs = (own ≡ map (λ _. Step) ends) × (outs ≡ ends)
 AreSteps false c ends own outs = (own ≡ Begin c ∷ map (λ _. Step) ends) × (outs ≡ Begun ∷ ends)
@@ -199,7 +200,7 @@ abbrev pub missed_alone : {T : Type 0} → FairCall → List (Ending T)
 missed_alone StarverTryLockFair = answered answer.Refused ∷ []
 missed_alone _ = []
 
--- the view after such an exchange: the other calls set the flag next
+-- the view after such an exchange: `try_lock_fair` has ended, and the other calls set the flag next
 abbrev pub not_alone : FairCall → View
 not_alone StarverTryLockFair = Starving
 not_alone c = Setting c
@@ -216,7 +217,7 @@ alone_by c = steps_by false c (λ n. if n == 2 then GoingOn ∷ answered answer.
 abbrev pub gives_up_by : {T : Type 0} → Turn T
 gives_up_by = steps_by false StarverDrop (λ n. answered answer.Done ∷ []) (λ n. Idle)
 
--- the release: the holder writes the value that it leaves
+-- the release: the holder first writes the value that it leaves in the lock
 abbrev pub frees_by : {T : Type 0} → Says T
 frees_by = leaves_by (λ x. Unit {0}) Release answer.Done Idle
 
@@ -268,8 +269,8 @@ abbrev pub no_room_end : {T : Type 0} → FairCall → Ending T
 no_room_end Lock = GoingOn
 no_room_end _ = answered answer.Refused
 
--- The outcome of the model's load, which comes before a first exchange of the code that succeeds. That exchange expects 0, and counts as
--- the model's load and exchange. If it fails, it counts as the load alone. Before a later exchange there is no load.
+-- The outcomes before that of an exchange that registers. The code's first exchange expects 0. If it succeeds, it stands for the model's
+-- load and exchange. If it fails, it stands for the load alone. Before a later exchange there is no load.
 abbrev pub loads : {T : Type 0} → Option View → List (Ending T)
 loads (Some (Registering c n)) = []
 loads _ = GoingOn ∷ []

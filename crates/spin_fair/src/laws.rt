@@ -24,7 +24,8 @@ pub fn every_run_of_a_fair_mutex_is_a_schedule<T>()
 
 /// States that a newcomer that holds a `FairMutex` acquired it before each registered starver made its last move.
 ///
-/// So no newcomer acquires the lock while a starver is registered: its move would be the later one.
+/// So no newcomer acquires the lock while a starver is registered: the newcomer's move would be later than the
+/// starver's.
 ///
 /// # Contract
 /// The rule has to hold (`IsFair`). The last move of a newcomer that holds is the one by which it acquired the lock. Its

@@ -107,7 +107,7 @@ module _ {T : Type 0} (opening : Opening T) where
   release_moves x w value v is =
       rw is (Write x ∷ Begin Release ∷ Step ∷ [], Written ∷ Begun ∷ Answered Done None ∷ [], (refl, (x, refl, (Begin Release ∷ Step ∷ [], Begun ∷ Answered Done None ∷ [], refl, refl, (refl, refl)))), refl, refl, false, Some x, refl, refl, refl)
 
-  -- Each step keeps the rule, and appends its moves
+  -- Each step keeps the rule, and appends its moves to the trace
 
   pub starts : (t : Trace (flags.Done T) (Unit {0})) → t.name ≡ opening.name → t.entries ≡ [] → Meets (IsFlag opening) (flag_ways opening) 0 t []
   starts t named empty = mutexes.starts (mutex opening) 0 t named empty refl (plays.begins flag 0 0 0 tt (omega arith) refl refl)

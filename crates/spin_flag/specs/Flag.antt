@@ -90,7 +90,7 @@ module _ {T : Type 0} where
   abbrev pub IsFlag : Opening T → ℕ → Trace (Done T) (Unit {0}) → List (Numbered View) → Type 0
   IsFlag opening = Runs (model opening.value) seat_of words_of Word opening.name
 
-  -- each holder has the value to itself; the value that nobody holds is the one written last
+  -- each holder has the value to itself; while nobody holds the lock, its value is the one written last
   abbrev pub flag_ways : Opening T → Ways T (Numbered View) (Trace (Done T) (Unit {0}))
   flag_ways opening = (alone, use_of_party, last opening)
 
@@ -116,7 +116,7 @@ module _ {T : Type 0} where
   abbrev pub looked_by : Says T
   looked_by = step_by true Lock (λ n. GoingOn) (if_clear Trying Looking)
 
-  -- the release: the holder writes the value that it leaves
+  -- the release: the holder first writes the value that it leaves in the lock
   abbrev pub frees_by : Says T
   frees_by = leaves_by (λ x. Unit {0}) Release answer.Done Idle
 

@@ -1,4 +1,4 @@
--- Each step keeps the rule of a value that is made once, and appends its moves.
+-- Each step keeps the rule of a value that is made once, and appends its moves to the trace.
 use Rattle.std.proofs.Common.{◌≡◌, ◌≢◌, Bool, true, false, ℕ, zero, suc, ◌+◌, replicate, ◌==◌, ◌<◌, List, [], ◌∷◌, map, Option, Some, None, refl, sym, ap, ◌∙◌, subst, arith}
 use prog.Atomic.{either}
 use Rattle.spin_step.specs.Plain.{Plain, gets, completes, fails, to_begin, once_word}

@@ -25,11 +25,11 @@ use Rattle.spin_once.specs.declared.once_core.rule.View.TheVariants.{Idle}
 abbrev pub Place : Type 0 → Type 0 → Type 0
 Place T S = Key T S × Option (Numbered View) × Watch (Valued T)
 
--- from the first point to the second the party has made exactly the moves of this course, in one cell
+-- from the point `p` to the point `q` the party has made exactly the moves of this course, in one cell
 abbrev pub Since : {T S : Type 0} → Place T S → Moving → Place T S → Type 0
 Since p course q = (q.0 ≡ p.0) × (q.2.name ≡ p.2.name) × Moves (given_of p.0.opening.value) course p.1 (bare p.2.entries) q.1 (bare q.2.entries)
 
--- From the first point to the second the party has made the next step of its call, which found the word `n`. A party that was in no call
+-- From the point `p` to the point `q` the party has made the next step of its call, which found the word `n`. A party that was in no call
 -- began the call `c`.
 abbrev pub Turned : {T S : Type 0} → OnceCall (Unit {0}) → ℕ → Place T S → Place T S → Type 0
 Turned c n p q =

@@ -1,4 +1,4 @@
--- What a pass knows: the history of its `Once` so far, and which of its moves are the pass's own.
+-- What a pass of a `Once` knows: the history up to the pass's last step, and which moves of the history are its own.
 use Rattle.std.specs.Prelude.{ℕ, Bool, Option, Some, None, List, Result, Ok, Err}
 use Rattle.spin_core.specs.Own.{Numbered}
 use Rattle.spin_core.specs.Passes.{IsCall}

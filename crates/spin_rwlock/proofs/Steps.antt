@@ -369,7 +369,7 @@ module _ {T : Type 0} (v₀ : T) where
   peek_first old new grant w value v is false e =
       (once call.ReaderCount, with (Answered (Count (readers_in w)) None), (is, rw e (refl, refl)), refl, refl, w, value, grind (arith, is, e), refl, grind (arith, e))
 
--- Each step keeps the rule, and appends its moves
+-- Each step keeps the rule, and appends its moves to the trace
 
 -- a party that is idle in the plain lock does not write the value
 pub none_writes : (view : Option View) → part_before part view ≡ idle → use_of use_of_view view ≢ writes

@@ -15,7 +15,7 @@ use Rattle.spin_rwlock.specs.declared.rwlock.rule.View.{View}
 use Rattle.spin_rwlock.specs.Rw.{Done}
 
 module _ {T R : Type 0} where
-  -- the value that a guard shows; there always is one
+  -- the value that a guard shows; it is never `None`
   abbrev pub shared_value : {K : Type 0} {kind : Ghosts K} → SharedGuard T K R kind → Option T
   shared_value it = it.permit.value
 

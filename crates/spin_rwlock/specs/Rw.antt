@@ -101,7 +101,7 @@ module _ {T : Type 0} where
   abbrev pub IsRw : Opening T → ℕ → Trace (Done T) (Unit {0}) → List (Numbered View) → Type 0
   IsRw opening = Runs (model opening.value) seat_of words_of Word opening.name
 
-  -- readers share the value, or one writer has it; the value that nobody writes is the one written last
+  -- readers share the value, or one writer has it; while nobody writes, the value is the one written last
   abbrev pub rw_ways : Opening T → Ways T (Numbered View) (Trace (Done T) (Unit {0}))
   rw_ways opening = (lends, use_of_party, last opening)
 
@@ -183,7 +183,7 @@ module _ {T : Type 0} where
   abbrev pub Seeks : RwCall → ℕ → OneCourse T
   Seeks call n = Begins call (Left (still call n))
 
-  -- what a step tells of its moves, for a lock that opened with this value
+  -- what a step tells of its moves, in a lock that opened with the value `v`
   abbrev pub Told : T → Says T → Option (Numbered View) → List (Done T) → List (Done T) → ℕ → Numbered View → Type 0
   Told v = Tells (model v) seat_of words_of
 
@@ -251,7 +251,7 @@ abbrev pub asks : View → Ask
 asks Upgradable = to_read_upgradable
 asks _ = to_read
 
--- this view is one that a call to read can get
+-- a call that wants to read can get this view
 abbrev pub Comes : View → Type 0
 Comes Reading = Unit {0}
 Comes Upgradable = Unit {0}

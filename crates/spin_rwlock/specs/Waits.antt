@@ -21,13 +21,13 @@ module _ {T K R : Type 0} {k : kind.Ghosts K} where
   abbrev pub IsReader : OneCourse T → Spot T → SharedGuard T K R k × Watch (Done T) → Type 0
   IsReader course p lent = (ReadsWith lent.0 lent.1 × ReadsLast lent.0 lent.1) × Since course p (lent_at lent)
 
--- For a call that wants to read. The spot `p`, at which the call began, may be any.
+-- For a call that wants to read, which may have begun at any spot `p`
 module _ {T K M R : Type 0} {k : kind.Ghosts K} {m : mode.Ghosts M} where
   abbrev pub here : Coming T K M R k m → Spot T
   here it = spot it.permit it.seen
 
   module _ (call : RwCall) (was : Coming T K M R k m) where
-    -- the call began at `p`, and by `was` it has found a word that keeps it waiting, or by which it tries again or has failed
+    -- The call began at `p`. Last it has found the word of `was`, by which it waits, tries again or has failed.
     abbrev Sought : Spot T → Type 0
     Sought p = Since (Seeks call was.word) p (here was)
 
@@ -43,7 +43,7 @@ module _ {T K M R : Type 0} {k : kind.Ghosts K} {m : mode.Ghosts M} where
     abbrev pub IsRefused : Pass T R → Type 0
     IsRefused pass = (p : Spot T) → Sought p → Since (IsCall call Refused) p (spot pass.permit pass.seen)
 
--- For `write` and `upgrade`. The spot `p`, at which the call began, may be any.
+-- For a `write` or an `upgrade`, which may have begun at any spot `p`
 module _ {T : Type 0} (call : RwCall) (was : Spot T) where
   -- the call still waits
   abbrev pub WaitsOn : Spot T → Type 0

@@ -132,7 +132,7 @@ module _ {T : Type 0} (key : Key T) where
   serve_moves x n w value v is =
       rw is (Write x ∷ Begin Release ∷ Step ∷ [], Written ∷ Begun ∷ Answered Done None ∷ [], (refl, (x, refl, (Begin Release ∷ Step ∷ [], Begun ∷ Answered Done None ∷ [], refl, refl, (refl, refl)))), refl, refl, record w { serving = n + 1 }, Some x, grind (arith, eq-eqb n n refl), grind (arith, eq-eqb n n refl), refl)
 
--- Each step keeps the rule, and appends its moves
+-- Each step keeps the rule, and appends its moves to the trace
 
 goes_if : (view : Option View) (s : Plain) (p : ℕ) → (Reaches queue view (Going s.next) s p s.next (serving_word s)) → Reaches queue view Coming s p s.next (serving_word s) → (b : Bool) → Reaches queue view (if b then Going s.next else Coming) s p s.next (serving_word s)
 goes_if view s p left none true = left

@@ -84,7 +84,7 @@ module _ {T : Type 0} where
   abbrev pub IsQueue : Key T → ℕ → Trace (Made T) ℕ → List (Numbered View) → Type 0
   IsQueue key = Runs (model key) seat_of words_of Word key.0.name
 
-  -- each holder has the value to itself; the value that nobody holds is the one written last
+  -- each holder has the value to itself; while nobody holds the lock, its value is the one written last
   abbrev pub queue_ways : Key T → Ways T (Numbered View) (Trace (Made T) ℕ)
   queue_ways key = (alone, use_of_party, last key.0)
 
@@ -169,7 +169,7 @@ finds number own outs n v = ((n ≡ number) × (number < ticket_limit) × (v ≡
 abbrev pub finds_by : {T : Type 0} → Option View → Says T
 finds_by view = finds (number_of view)
 
--- the store that releases the lock: the holder first writes the value that it leaves
+-- the store that releases the lock: the holder first writes the value that it leaves in the lock
 abbrev pub serves_by : {T : Type 0} → Says T
 serves_by = leaves_by (λ x. Unit {0}) Release Done Idle
 
