@@ -266,7 +266,8 @@ module _ {T : Type 0} (first : Account T) where
   abbrev call : FairCall
   call = call_of (view_of first)
 
-  -- The party has found this word. If the word has room for a starver, the party exchanges it next.
+  -- The party has found this word. If the word has room for a starver, the party exchanges it next. If not, `lock` looks again, and
+  -- `starve` has failed.
   abbrev Has_found : ℕ → Option ℕ → Account T → Type 0
   Has_found word room now =
       (view_of now ≡ Some (if is_some room then Registering call word else finds_no_room call))

@@ -1,5 +1,4 @@
--- The steps of a lock of one flag keep its rule. Each step is the plain step of its step function, and is certain moves of the lock's
--- model.
+-- The steps of a lock of one flag keep its rule. Each step makes the plain step of its step function, and its moves of the lock's model.
 use Rattle.std.proofs.Common.{◌≡◌, ℕ, [], ◌∷◌, ◌==◌, Bool, true, false, Option, Some, None, if◌then◌else◌, refl, ap, subst, arith, length, inl, inr}
 use prog.Atomic.{either}
 use Rattle.spin_step.specs.Plain.{writing, releases, to_write, flag_word}
@@ -169,7 +168,7 @@ module _ {T : Type 0} (p q : Spot T) (same : q.0 ≡ p.0) (named : p.0.name ≡ 
       subst (λ x. Stepped model_at goes_on c (if x then won else lost) (if x then taken else away) p q) is
       (stepped goes_on c (if_clear won lost) (if_clear taken away) moved)
 
--- the code's test of the flag agrees with that of the model: the flag is clear; below, the flag is set
+-- if the code's test finds the flag clear, the word is 0; below, if the test finds the flag set, the word is not 0
 pub is_clear : (n : ℕ) → false ≡ flags.set n → (n == 0) ≡ true
 is_clear n is = at (n == 0) is where
   at : (b : Bool) → false ≡ (if b then false else true) → b ≡ true

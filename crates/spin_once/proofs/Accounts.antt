@@ -106,7 +106,7 @@ module _ {T S : Type 0} (makes : S → T → Type 0) where
       made p q found knew named same (turn_by c view) moved (λ n. view_of d (next_at d l n)) (λ n. IsStep (has_begun view) d (outcome_of (next_at d l n)))
       (λ own outs n v said. said)
 
--- ---- one after another
+-- ---- steps one after another
 module _ {T S : Type 0} (p q : Place T S) where
   pub weaker : (P Q : Moving) → ((own : List OneMove) (outs : List Ending) → P own outs → Q own outs) → Since p P q → Since p Q q
   unfolding Moves
@@ -189,7 +189,7 @@ module _ {T S : Type 0} (b : Bool) (p q : Place T S) (since : Since p Waits q) w
   attempts_on (Ok found) later = claims_on found later
   attempts_on (Err account) later = (and_waits p q (here account) since later.0, later.1)
 
--- a party that begins to run its closure has such a view
+-- the view of a party that may run its closure passes the test `is_running`
 pub runs_closure : (b : Bool) (view : Option (Numbered View)) → what view ≡ Some (in_closure b Run) → IsSomeAnd (what view) (λ v. is_running v ≡ true)
 runs_closure b view is = rw is (by b)
   where
@@ -256,7 +256,7 @@ module _ {T S : Type 0} (makes : S → T → Type 0) (me : InitPermit T S) (p : 
       stored to course means = let it = made makes p q 0 knows permit_named key says moved to course means in
           (since_same (running me) p q (course 0) same it.0, it.1)
 
-      -- a party that no longer writes, after the store
+      -- what a party knows that no longer writes after the store
       pub keeps_end : (u : View) → what q.1 ≡ Some u → use_of_view u ≢ writes → (shown shown' : Option (MaybeStable (Stage T S)))
           → Keeps (once_ways makes p.0) p.1 q.1 shown shown' → Found (once_ways makes p.0) p.1 q.1 shown shown' q.2
           → (q.0.opening.name ≡ q.2.name) × (mark_of q.1 ≡ length q.2.entries) × Sees q.0.opening q.2.entries (use_of use_of_party q.1) shown'
@@ -274,7 +274,8 @@ module _ {T S : Type 0} (makes : S → T → Type 0) (me : InitPermit T S) (p : 
         (turned makes (CallOnce tt) p q 0 knows permit_named key moved) (Value tt) (ap (λ st. st.next) (as_sure call.0 Run 0)) in
         (since_same (running me) p q (Ends (Value tt)) same it.0, it.1)
 
--- ---- a party that is in no call the next step of a party in no call is a load
+-- ---- a party that is in no call
+-- the next step of such a party is a load
 pub looks_first : (view : Option View) → is_out view ≡ true → is_load (point_of view) ≡ true
 looks_first None out = refl
 looks_first (Some Idle) out = refl

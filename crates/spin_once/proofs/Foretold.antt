@@ -177,7 +177,7 @@ module _ (given : Option (Unit {0})) where
       subst (λ xs. Leads (object (will_fail xs) s) (foretold es) (object (λ p. false) (after (m given) s es))) (append-nil es)
       (subst (λ ys. Leads (object (will_fail (es ++ [])) s) ys (object (λ p. false) (after (m given) s es))) (before_nil es) (run_alike es [] s (subst (λ xs. list_all is_played (outcomes (m given) s xs) ≡ true) (sym (append-nil es)) played)))
 
--- ---- from the beginning to the seats of all parties between two steps
+-- ---- a run from the beginning leads to the seats of all parties
 pub named_kept : (c : Call) → named c false ≡ c
 named_kept (TryCallOnceOk v) = refl
 named_kept c = refl

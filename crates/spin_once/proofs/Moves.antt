@@ -155,7 +155,7 @@ Loads (Continue _) n = Unit {0}
 Loads (Answers a None) n = Quietly (answered a) n
 Loads (Answers a (Some h)) n = ⊥
 
--- a load that answers with the value if it finds 2, and continues as `other` says if it finds another word
+-- The step of a load that finds the word `n`. If `n` is 2 the call is answered with the value. If not, the call continues as `other` says.
 there : (n : ℕ) (other : Onward) → Loads (filled (Some tt) other) n → Loads (filled (Some tt) (either (n == 2) (Answers (Value tt) None) other)) n
 there n other so =
     (elim (n == 2) as (λ b. (n == 2) ≡ b
@@ -217,7 +217,7 @@ module _ (b : Bool) where
   pub as_sure : (l : OncePoint) (n : ℕ) → table c l n ≡ table (CallOnce tt) l n
   as_sure l n = elim b as (λ t. table (closure_call t) l n ≡ table (CallOnce tt) l n) [ true ↦ refl | false ↦ refl ]
 
-  -- the exchange
+  -- the exchange by which a call begins to run its closure: the next word, and below the next view
   pub begin_words : (n : ℕ) → (table c TryBegin n).words ≡ either (n == 0) 1 n
   begin_words n = ap (λ st. st.words) (as_sure TryBegin n) ∙ by (n == 0) refl
     where
@@ -233,7 +233,7 @@ module _ (b : Bool) where
       by false true is is' = rw (is, is') refl
       by false false is is' = rw (is, is') tt
 
-  -- the store of a value
+  -- the store after a closure that gave a value
   pub end_words : (n : ℕ) → (table c Run n).words ≡ 2
   end_words n = ap (λ st. st.words) (as_sure Run n)
 

@@ -1,5 +1,4 @@
--- The steps of a value that is made once keep its rule. Each step is the plain step of its step function, and is certain moves of the
--- model.
+-- The steps of a value that is made once keep its rule. Each step makes the plain step of its step function, and its moves of the model.
 use Rattle.std.proofs.Common.{◌≡◌, true, ℕ, zero, suc, ◌+◌, ◌==◌, ◌<◌, List, [], ◌∷◌, ◌++◌, Option, Some, None, refl, sym, ap, subst, arith, ◌∙◌, eq-eqb}
 use mathlib.Core.Logic.{◌⊎◌, inl, inr}
 use mathlib.Core.Option.{some}

@@ -81,7 +81,8 @@ module _ {T : Type 0} (opening : Opening T) where
 
   -- What a step tells of the value
   module _ (view view' : Option (Numbered View)) (before after : Option T) (seen : Watch (Done T)) (known : Found (rw_ways opening) view view' before after seen) (kept : Kept (rw_ways opening) view view' before after) where
-    -- The value that the party now sees is the one written last. The party did not write before, or now reads.
+    -- The value that the party now sees is the one written last. This holds for a party that did not write before the step, or that now
+    -- reads.
     pub shown_last : (use_of use_of_party view ≡ writes → use_of use_of_party view' ≡ reads) → IfSome after (λ x. IsLast opening seen.entries x)
     shown_last so = shows_last opening (use_of use_of_party view) (use_of use_of_party view') before after seen.entries known so kept.0
 

@@ -1,4 +1,4 @@
--- The steps of a read-write lock keep its rule. Each step is the plain step of its step function, and is certain moves of the lock's model.
+-- The steps of a read-write lock keep its rule. Each step makes the plain step of its step function, and its moves of the lock's model.
 use Rattle.std.proofs.Common.{◌≡◌, ◌≢◌, ℕ, ◌+◌, ◌-◌, ◌%◌, ◌^◌, ◌<◌, ◌≤◌, Bool, true, false, List, [], ◌∷◌, length, ◌==◌, Option, Some, None, if◌then◌else◌, refl, sym, ap, ◌∙◌, subst, arith, eq-eqb, ne_eqb}
 use Rattle.std.specs.List.{list_all}
 use mathlib.Core.Logic.{inl, inr}

@@ -1,4 +1,4 @@
--- The steps of a lock of tickets keep its rule. Each step is the plain step of its step function, and is certain moves of the lock's model.
+-- The steps of a lock of tickets keep its rule. Each step makes the plain step of its step function, and its moves of the lock's model.
 use Rattle.std.proofs.Common.{◌≡◌, ℕ, ◌+◌, ◌<◌, ◌≤◌, ◌&&◌, Bool, true, false, if◌then◌else◌, ◌==◌, [], ◌∷◌, Option, Some, None, refl, sym, ap, ◌∙◌, subst, arith}
 use Rattle.std.proofs.lemmas.Bool.{eqb-true, eq-eqb, and_parts}
 use prog.Atomic.{either}
