@@ -136,8 +136,8 @@ impl<T, R> FairMutex<T, R> {
     /// It makes one compare-exchange.
     ///
     /// # Contract
-    /// A guard belongs to a holder of the lock (`IsHolder`), which came as a newcomer (its view is `Holding`): it found
-    /// no starver registered. `None` promises nothing. The call returns.
+    /// The guard in `Some` belongs to a holder of the lock (`IsHolder`). The holder came as a newcomer (its view is
+    /// `Holding`), so it found no starver registered. `None` promises nothing. The call returns.
     #[must_use = "dropping the guard at once releases the lock: bind the answer, or write `drop(..)`"]
     pub fn try_lock<'a>(&'a self) -> Option<FairMutexGuard<'a, T, R>>
         ensures holder { IfSome result (IsHolder use_of_party) }

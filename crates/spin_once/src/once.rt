@@ -79,8 +79,8 @@ impl<T, R> Once<T, R> {
         self.core.get()
     }
 
-    /// Returns `true` if [`get`](Once::get) finds a value. It stays `true` while the `Once` is shared, since a value
-    /// stays.
+    /// Returns `true` if [`get`](Once::get) finds a value. After that the answer stays `true` while the `Once` is
+    /// shared, since a value stays.
     pub fn is_completed(&self) -> bool {
         self.pass().is_completed().0
     }
@@ -88,7 +88,7 @@ impl<T, R> Once<T, R> {
     /// Returns a mutable reference to the value, or `None` if there is none.
     ///
     /// The borrow shows that no other thread has the `Once`. What is written through the reference is the value from
-    /// then on. From the borrow on the history does not tell the value.
+    /// then on. After the borrow the history no longer tells the value.
     pub fn get_mut(&mut self) -> Option<&mut T> {
         self.core.get_mut()
     }
