@@ -382,7 +382,7 @@ pub(super) fn upgradable_to_read<'a, T>(
     (party, seen)
 }
 
-/// Releases the writer's exclusive access, and writes its value into the history. The party is then idle.
+/// Writes the writer's value into the history, and releases the exclusive access. The party is then idle.
 pub(super) fn release_write<'a, T>(
     writer: Writer<'a, T>,
     seen: Watch<Entry<T>>,
