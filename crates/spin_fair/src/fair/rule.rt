@@ -45,9 +45,9 @@ pub enum View {
 /// Callers need not name it: it is a parameter of the guard's type.
 ///
 /// # Contract
-/// `IsFair`: the word is that of a plain lock of these parties. The trace is a schedule of the lock's model, which
-/// leads to this word, with each party in the seat that its view names. The value that nobody holds is the one that
-/// this schedule writes last (`IsLast`), until the owner borrows it.
+/// `IsFair`: the word is that of a plain lock of these parties. The trace is a schedule of the lock's model. The
+/// schedule leads to this word, and to the seat that each party's view names. While nobody holds the lock, its value is
+/// the one that this schedule writes last (`IsLast`), until the owner borrows it.
 pub struct FairRule;
 
 impl<T> Rule<T, Party> for FairRule {

@@ -30,8 +30,8 @@ pub enum View {
 ///
 /// # Contract
 /// `IsFlag`: the word is that of a plain lock whose holders are the parties that hold. The trace is a schedule of the
-/// lock's model. The schedule leads to this word and to each party's view. A value that nobody holds is the one that
-/// this schedule writes last (`IsLast`), until the owner borrows it.
+/// lock's model. The schedule leads to this word and to each party's view. While nobody holds the lock, its value is
+/// the one that this schedule writes last (`IsLast`), until the owner borrows it.
 pub struct FlagRule;
 
 impl<T> Rule<T, Party> for FlagRule {

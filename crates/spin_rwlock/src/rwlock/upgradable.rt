@@ -35,7 +35,7 @@ impl<'a, T, R> SharedGuard<'a, T, Upgrader, R> {
     /// still admitted.
     ///
     /// # Contract
-    /// The guard that is returned, of either kind, has the value that this one had. The call returns.
+    /// The returned guard, of either kind, has the value that this guard had. The call returns.
     ///
     /// # Examples
     /// ```
@@ -60,7 +60,8 @@ impl<'a, T, R> SharedGuard<'a, T, Upgrader, R> {
 
     /// Like [`try_upgrade`](Self::try_upgrade), for a guard that a [`Pass`](super::Pass) acquired.
     ///
-    /// The call takes what the pass knows of the lock's history, and returns this with the steps of the call added.
+    /// The call takes what the pass knows of the lock's history. It returns what the pass knows afterwards, its own
+    /// steps included.
     ///
     /// # Contract
     /// `seen` has to be what the pass knew when it got this guard (`ReadsWith`). The pass makes one call, `TryUpgrade`.
@@ -123,7 +124,8 @@ impl<'a, T, R> SharedGuard<'a, T, Upgrader, R> {
 
     /// Like [`downgrade`](Self::downgrade), for a guard that a [`Pass`](super::Pass) acquired.
     ///
-    /// The call takes what the pass knows of the lock's history, and returns this with the steps of the call added.
+    /// The call takes what the pass knows of the lock's history. It returns what the pass knows afterwards, its own
+    /// steps included.
     ///
     /// # Contract
     /// `seen` has to be what the pass knew when it got this guard (`ReadsWith`). The pass makes one call, `Downgrade`
@@ -181,7 +183,8 @@ impl<'a, T, R: RelaxStrategy> SharedGuard<'a, T, Upgrader, R> {
 
     /// Like [`upgrade`](Self::upgrade), for a guard that a [`Pass`](super::Pass) acquired.
     ///
-    /// The call takes what the pass knows of the lock's history, and returns this with the steps of the call added.
+    /// The call takes what the pass knows of the lock's history. It returns what the pass knows afterwards, its own
+    /// steps included.
     ///
     /// # Contract
     /// `seen` has to be what the pass knew when it got this guard (`ReadsWith`). The pass makes one call, `Upgrade`.

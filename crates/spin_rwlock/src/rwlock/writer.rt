@@ -81,7 +81,8 @@ impl<'a, T, R> RwLockWriteGuard<'a, T, R> {
 
     /// Like [`downgrade`](Self::downgrade), for a guard that a [`Pass`](super::Pass) acquired.
     ///
-    /// The call takes what the pass knows of the lock's history, and returns this with the steps of the call added.
+    /// The call takes what the pass knows of the lock's history. It returns what the pass knows afterwards, its own
+    /// steps included.
     ///
     /// # Contract
     /// `seen` has to be what the pass knew when it got this guard (`WritesWith`). The pass writes the guard's value
@@ -128,7 +129,8 @@ impl<'a, T, R> RwLockWriteGuard<'a, T, R> {
     /// Like [`downgrade_to_upgradeable`](Self::downgrade_to_upgradeable), for a guard that a [`Pass`](super::Pass)
     /// acquired.
     ///
-    /// The call takes what the pass knows of the lock's history, and returns this with the steps of the call added.
+    /// The call takes what the pass knows of the lock's history. It returns what the pass knows afterwards, its own
+    /// steps included.
     ///
     /// # Contract
     /// `seen` has to be what the pass knew when it got this guard (`WritesWith`). The pass writes the guard's value

@@ -38,8 +38,8 @@ pub enum View {
 ///
 /// # Contract
 /// `IsQueue`: the words are those of a plain lock whose tickets are those of the parties that wait or have entered. The
-/// trace is a schedule of the lock's model. The schedule leads to these words and to each party's view. A value that
-/// nobody holds is the one that this schedule writes last (`IsLast`), until the owner borrows it.
+/// trace is a schedule of the lock's model. The schedule leads to these words and to each party's view. While nobody
+/// holds the lock, its value is the one that this schedule writes last (`IsLast`), until the owner borrows it.
 pub struct TicketRule;
 
 impl<T> Rule<T, Party> for TicketRule {
