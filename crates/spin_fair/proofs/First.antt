@@ -1,4 +1,4 @@
--- Starvers go first: what a step keeps true of the order of the last moves of all parties.
+-- Starvers go first: each step preserves `StarversFirst`, an order among the last moves of the parties.
 use Rattle.std.proofs.Common.{◌≡◌, ℕ, zero, suc, ◌<◌, ◌≤◌, List, [], ◌∷◌, ◌++◌, length, Option, Some, None, sym, ap, ◌∙◌, subst, arith, slice_set, inl, inr}
 use Rattle.std.specs.Prelude.{slice_get, ◌⊎◌}
 use Rattle.spin_core.specs.Cell.{after}
@@ -8,7 +8,7 @@ use Rattle.spin_fair.specs.declared.fair.rule.View.TheVariants.{Holding}
 use Rattle.spin_fair.specs.Fair.{Done, model, seat_of, words_of, views_of, starver, StarversFirst}
 
 module _ {X : Type 0} where
-  -- at that place is the party that made the step, or one that was there before
+  -- the party `v` at the place `i` is the one that made the step, or was at this place before the step
   abbrev Stood : List X → X → ℕ → X → Type 0
   Stood vs w i v = (v ≡ w) ⊎ (slice_get vs i ≡ Some v)
 
@@ -34,12 +34,12 @@ module _ {X : Type 0} where
   still (y ∷ before) behind v zero x at = (zero, at)
   still (y ∷ before) behind v (suc i) x at = let r = still before behind v i x at in (suc r.0, r.1)
 
--- a party leaves
+-- the order holds after a party has left
 pub first_without : (before behind : List (Numbered View)) (v : Numbered View) → StarversFirst (before ++ v ∷ behind) → StarversFirst (before ++ behind)
 first_without before behind v order i j x u at_i at_j holds starves = let a = still before behind v i x at_i in let b = still before behind v j u at_j in order a.0 b.0 x u a.1 b.1 holds starves
 
--- A party makes its last move after those of all others, which are within this length. If it begins to hold as a
--- newcomer, it finds no starver.
+-- The order holds after a step, on three conditions. Before the step all marks are at most `len`. The party that makes the step gets a mark
+-- of at least `len`. If this party gets the view `Holding`, no party is a starver.
 pub first_after : (id : ℕ) (view : Option (Numbered View)) (vs : List (Numbered View)) (w : Numbered View) (len : ℕ) → ((i : ℕ) (v : Numbered View) → slice_get vs i ≡ Some v → v.2 ≤ len) → len ≤ w.2
     → (w.0 ≡ Holding → (j : ℕ) (u : Numbered View) → slice_get vs j ≡ Some u → 0 < starver u.0 → ⊥) → StarversFirst vs → StarversFirst (after id view vs w)
 first_after id view vs w len marks late alone order i j v u at_i at_j holds starves = both (stood id view vs w i v at_i) (stood id view vs w j u at_j)
@@ -56,7 +56,7 @@ within schedule k (None ∷ us) i v rest at = within schedule (suc k) us i v res
 within schedule k (Some u ∷ us) zero v rest at = let same : (u.0, k, u.1) ≡ v = cc (at) in subst (λ (x : Numbered View). x.2 ≤ length schedule) same rest.0.0
 within schedule k (Some u ∷ us) (suc i) v rest at = within schedule (suc k) us i v rest.1 at
 
--- no party has made a move after the end of the trace
+-- the mark of each party is at most the length of the trace
 pub marks_within : {T : Type 0} (v₀ : T) (schedule : List (Done T)) (s : ℕ × Unit {0}) (vs : List (Numbered View)) → IsRun (model v₀) seat_of words_of schedule s vs → (i : ℕ) (v : Numbered View) → slice_get vs i ≡ Some v → v.2 ≤ length schedule
 marks_within v₀ schedule s vs run i v at = within schedule 0 run.0 i v run.7 (subst (λ l. slice_get l i ≡ Some v) run.3 at)
 

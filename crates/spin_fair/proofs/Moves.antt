@@ -1,4 +1,4 @@
--- Which moves of the model each step of a fair mutex is.
+-- Which moves of the lock's model each step of a fair mutex makes.
 use Rattle.std.proofs.Common.{◌≡◌, ℕ, ◌+◌, ◌-◌, ◌%◌, ◌^◌, ◌/◌, ◌*◌, ◌==◌, [], ◌∷◌, Option, Some, None, if◌then◌else◌, refl, sym, ap, ◌∙◌, arith, eq-eqb, ne_eqb, bit_or, is_some}
 use Rattle.std.proofs.lemmas.Nat.{or_shifted, or_block}
 use Rattle.std.specs.Int.Bits.{or_zero_r}
@@ -36,21 +36,21 @@ set_is n = dite (ℕ_discrete (n % 2) 0)
 words_set : (w : ℕ) → words_of (if w % 2 == 0 then w + 1 else w) ≡ words_of (bit_or w 1)
 words_set w = ap words_of (sym (set_is w))
 
--- A subtraction leaves no number below 0: the word counts the party that makes it
+-- A subtraction from the word never wraps, since the word counts the party that subtracts.
 
 abbrev pub Takes : ℕ → ℕ → Type 0
 Takes by n = (n + (2 ^ 64 - by)) % 2 ^ 64 ≡ n - by
 
--- Of a lock that opened with this value
+-- For a lock that opened with the value `v₀`
 module _ {T : Type 0} (v₀ : T) where
   abbrev pub Moves : Option View → (ℕ → ℕ) → (ℕ → View → Type 0) → Says T → Type 0
   Moves view f = AreMoves (model v₀) seat_of words_of view (on_first f) first
 
-  -- of a step of a call
+  -- `Moves` for a step of a call
   abbrev pub MovesBy : Option View → (ℕ → ℕ) → Turn T → Type 0
   MovesBy view f turn = Moves view f (λ n v. v ≡ turn.to n) (says_of turn)
 
-  -- A newcomer
+  -- The moves of a newcomer
 
   pub load_moves : MovesBy None (λ n. n) looks_by
   load_moves w value v is =
@@ -81,9 +81,10 @@ module _ {T : Type 0} (v₀ : T) where
   pub look_moves : (n : ℕ) → MovesBy (Some (Looking n)) (λ n. n) (looked_by (Some (Looking n)))
   look_moves n w value v is = rw is (Step ∷ [], GoingOn ∷ [], (refl, (refl, refl)), refl, refl, w, value, grind arith, grind arith, refl)
 
-  -- A party that registers. If its first exchange, of 0, wins, it is the model's load and exchange; if it loses, only the load.
+  -- The moves of a party that registers. Its first exchange expects 0. An exchange that succeeds is the model's load and exchange. One that
+  -- fails is the load alone.
 
-  -- the outcome of the model's load, or of its exchange that loses
+  -- the outcome of the model's load, or of a model's exchange that fails
   abbrev missed : FairCall → ℕ → Ending T
   missed c w = if is_some (starve most_starvers w) then GoingOn else no_room_end c
 
@@ -113,9 +114,10 @@ module _ {T : Type 0} (v₀ : T) where
       (λ e. rw (is, e, eq-eqb old old refl) (Step ∷ [], GoingOn ∷ [], (refl, (refl, refl)), refl, refl, new, value, grind (arith, may, eq-eqb old old refl), grind (arith, may, eq-eqb old old refl), refl))
       (λ ne. rw (is, ne_eqb w old ne) (Step ∷ [], missed Lock w ∷ [], (refl, (refl, refl)), refl, grind arith, w, value, grind (arith, ne_eqb w old ne), grind (arith, ne_eqb w old ne), refl))
 
-  -- A starver
+  -- The moves of a starver
 
-  -- the only one makes the two steps of its call at once; beside others `try_lock_fair` is refused, and its other calls have begun
+  -- The exchange with which a starver begins a call. If it succeeds, it is both steps of the call at once. If it fails, `try_lock_fair` has
+  -- failed, and any other call has only begun.
   abbrev pub Alone : FairCall → Type 0
   Alone c = MovesBy (Some Starving) (λ n. either (n == 2) 1 n) (alone_by c)
 
@@ -166,7 +168,7 @@ module _ {T : Type 0} (v₀ : T) where
   pub give_up_moves : Moves (Some Starving) (λ n. (n + (2 ^ 64 - 2)) % 2 ^ 64) (λ n v. (v ≡ Idle) × Takes 2 n) (says_of gives_up_by)
   give_up_moves w value v is = rw is.0 (Begin StarverDrop ∷ Step ∷ [], Begun ∷ Answered Done None ∷ [], (refl, (refl, refl)), refl, refl, w - 2, value, refl, refl, ap words_of (sym is.1))
 
-  -- the holder writes the value x
+  -- the release of a holder, which first writes the value `x`
   pub release_moves : (x : T) (u : View) → seat_of u ≡ seat.Holding Write
       → Moves (Some u) (λ n. (n + (2 ^ 64 - 1)) % 2 ^ 64) (λ n v. (v ≡ Idle) × Takes 1 n) (leaves_by (λ y. y ≡ x) Release Done Idle)
   release_moves x u holds w value v is = rw (is.0, holds) (

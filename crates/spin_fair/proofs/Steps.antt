@@ -1,5 +1,4 @@
--- The steps of a fair mutex keep its rule. Each is the plain step that its step function makes, and moves of the lock's
--- model.
+-- The steps of a fair mutex keep its rule. Each step makes the plain step of its step function, and its moves of the lock's model.
 use Rattle.std.proofs.Common.{◌≡◌, ℕ, ◌+◌, ◌-◌, ◌%◌, ◌^◌, ◌<◌, ◌≤◌, true, false, if◌then◌else◌, List, [], ◌∷◌, map, length, ◌==◌, Bool, Option, Some, None, refl, sym, ap, ◌∙◌, arith, subst, eq-eqb, ne_eqb, bit_or, length-append, set, inl, inr, unwrap_or, is_some, nat_lt}
 use Rattle.std.proofs.lemmas.List.Sums.{sum_by-le-sum_by}
 use Rattle.std.specs.Prelude.{slice_get}
@@ -76,32 +75,33 @@ Each view P = (s : Plain) (p : ℕ) → s.cap ≡ most_starvers → IsInOrder s 
 of_each : (view : Option View) (P : Plain → ℕ → Type 0) → Each view P → EachOf fair view P
 of_each view P each s p vs room order is has small = each s p room order (one_holds part (λ v. (facts v).1) vs s order is) has small
 
--- where a step leads, by the number found, and what is known of that number
+-- from `view`, a step that applies `f` to the word leads to some next view that satisfies `says`, given the number found
 abbrev Leads : Option View → (ℕ → ℕ) → (ℕ → View → Type 0) → Type 0
 Leads view f says = Allows Word (ways fair) view f says
 
 allows : (view : Option View) (f : ℕ → ℕ) (says : ℕ → View → Type 0) → Each view (λ s p. (w : View) × Reaches fair view w s p (f (fair_word s)) tt × says (fair_word s) w) → Leads view f says
 allows view f says makes = allows_among fair view f says (of_each view (λ s p. (w : View) × Reaches fair view w s p (f (fair_word s)) tt × says (fair_word s) w) makes)
 
--- what a party gets by an exchange if it finds the word given to the step function
+-- The exchange expects the word `old`, to which the step function was applied. If it finds that word the party's view is `won`, else
+-- `lost`.
 gets_at : (view : Option View) (ask : Ask) (won : View) (lost : ℕ → View) (old new : ℕ) → ((s : Plain) (p : ℕ) → entries_after s (Some (gets p ask)) (entries_of p (part_before part view)) ≡ entries_of p (part won)) → ((s : Plain) → Knows s (part won))
     → ((n : ℕ) → part_before part view ≡ part (lost n)) → ((s : Plain) (n : ℕ) → Knows s (part (lost n))) → Each view (λ s p. fair_word s ≡ old → Decides s (gets p ask) fair_word (Some new))
     → Leads view (λ n. either (n == old) new n) (λ n v. v ≡ (if n == old then won else lost n))
 gets_at view ask won lost old new comes knows same still plain = plays.gets_at fair view ask won lost old new comes knows same still (of_each view (λ s p. fair_word s ≡ old → Decides s (gets p ask) fair_word (Some new)) plain)
 
--- what a party knows that has nothing, or starves
+-- the parties of this lock need to know nothing of a plain lock
 knows_none : (s : Plain) (v : View) → Knows s (part v)
 knows_none s Idle = tt
 knows_none s _ = tt
 
--- What a newcomer does
+-- The steps of a newcomer
 
 attempts_plain : (view : Option View) (lost : View) → part_before part view ≡ idle → part lost ≡ idle → (taken : ℕ) → ((s : Plain) (p : ℕ) → fair_word s ≡ 0 → Decides s (gets p to_lock_unregistered) fair_word (Some taken))
     → Leads view (λ n. either (n == 0) taken n) (λ n v. v ≡ (if n == 0 then Holding else lost))
 attempts_plain view lost nothing none taken plain =
     gets_at view to_lock_unregistered Holding (λ n. lost) 0 taken (λ s p. rw nothing refl) (λ s. tt) (λ n. nothing ∙ sym none) (λ s n. knows_none s lost) (λ s p room order one has small e. plain s p e)
 
--- it becomes a starver in this call, or tries the word that it found
+-- the party that failed to register is still idle in the plain lock; below, one that has registered starves there
 part_of_next : (c : FairCall) (n : ℕ) → part (goes_for c n) ≡ idle
 part_of_next c n = at c (is_some (starve most_starvers n))
   where
@@ -119,12 +119,12 @@ registers_plain : (view : Option View) → part_before part view ≡ idle → (w
 registers_plain view nothing word more plain = let c = call_of view in
     gets_at view to_starve (registered c) (goes_for c) word more (λ s p. rw (nothing, part_registered c) refl) (λ s. knows_none s (registered c)) (λ n. nothing ∙ sym (part_of_next c n)) (λ s n. knows_none s (goes_for c n)) (λ s p room order one has small e. plain s p one room e)
 
--- What a starver does
+-- The steps of a starver
 
 less : (n by : ℕ) → 0 < by → by ≤ n → n < words → (n + (2 ^ 64 - by)) % 2 ^ 64 ≡ n - by
 less n by some least small = omega (arith, some, least, small)
 
--- it sets the flag if it finds it clear
+-- a starver sets the flag if the flag is clear
 sets_plain : (v won lost : View) → part v ≡ starves → part won ≡ holds_starving → part lost ≡ starves → Leads (Some v) (λ n. bit_or n 1) (λ n u. u ≡ (if n % 2 == 0 then won else lost))
 sets_plain v won lost is wins loses = allows (Some v) (λ n. bit_or n 1) (λ n u. u ≡ (if n % 2 == 0 then won else lost)) (λ s p room order one has small.
     let n : ℕ = fair_word s in
@@ -142,7 +142,7 @@ sets_plain v won lost is wins loses = allows (Some v) (λ n. bit_or n 1) (λ n u
       sym (ap (λ b. if b then won else lost) (ne_eqb (n % 2) 0 odd)),
     )))
 
--- it stops starving, and still holds what it held
+-- a starver ends its registration, and stays a holder if it was one
 stops_plain : (v left : View) → ((p : ℕ) → (entries_of p (part v)).starvers ≡ p ∷ []) → ((s : Plain) (p : ℕ) → entries_after s (Some (stops_starving p)) (entries_of p (part v)) ≡ entries_of p (part left))
     → Leads (Some v) (λ n. (n + (2 ^ 64 - 2)) % 2 ^ 64) (λ n u. (u ≡ left) × Takes 2 n)
 stops_plain v left starver own = allows (Some v) (λ n. (n + (2 ^ 64 - 2)) % 2 ^ 64) (λ n u. (u ≡ left) × Takes 2 n) (λ s p room order one has small.
@@ -180,9 +180,9 @@ alone_plain c taken plain three id n m vs meets at below =
     subst Serves (sym (eq-eqb n 2 e)) (left.0, subst (λ us. meet 1 us) (set-set vs id holding left.0) left.1, left.2.0))
     (λ ne. subst Serves (sym (ne_eqb n 2 ne)) (subst Takes_it (ne_eqb n 2 ne) found))
 
--- What the holder does
+-- The release
 
--- a newcomer, or the party that was served
+-- the holder, a newcomer or a served starver, releases the lock
 frees_plain : (v : View) → part v ≡ holds writing → Leads (Some v) (λ n. (n + (2 ^ 64 - 1)) % 2 ^ 64) (λ n u. (u ≡ Idle) × Takes 1 n)
 frees_plain v holder = allows (Some v) (λ n. (n + (2 ^ 64 - 1)) % 2 ^ 64) (λ n u. (u ≡ Idle) × Takes 1 n) (λ s p room order one has small.
     let own : entries p s ≡ entries_of p (holds writing) = has.0 ∙ ap (entries_of p) holder in
@@ -192,7 +192,7 @@ frees_plain v holder = allows (Some v) (λ n. (n + (2 ^ 64 - 1)) % 2 ^ 64) (λ n
       (refl, is),
     ))
 
--- An addition does not depend on the word
+-- Each operation that is made without a load first gives the word that its step function gives
 
 within : (s : Plain) → s.cap ≡ most_starvers → IsInOrder s → OneHolds s → fair_word s < words
 within s room order one = omega (arith, room, order.starvers_fit, one)
@@ -238,7 +238,7 @@ nobody_starves word second vs rule free j u at some =
     let least = starver_goes word second (views_of vs) j rule (ap (λ e. e.starvers) ((rule.3 j).0 ∙ ap (entries_of j) (part-there part j u.0 (views_of vs) (viewed vs j u at))) ∙ starves_in j u.0 some) in
     omega (arith, least.0, free)
 
--- a step makes no party a newcomer that holds, unless it finds the word 0
+-- a step after which the party is a newcomer that holds the lock has found the word 0
 abbrev Frees : {T : Type 0} → Says T → Type 0
 Frees {T} says = (own : List (Move FairCall T)) (outs : List (Ending T)) (n : ℕ) (v : View) → says own outs n v → v ≡ Holding → n ≡ 0
 
@@ -298,12 +298,12 @@ none_alone c n = at c (n == 2)
     at StarverTryLockFair _ = refl
     at _ _ = refl
 
--- Each step keeps the rule, and appends its moves
+-- Each step keeps the rule, and appends its moves to the trace
 
 abbrev pub mutex : {T : Type 0} → Opening T → Mutex ℕ T FairCall FairPoint View (Unit {0})
 mutex opening = record { plain = fair; model = model opening.value; seat_of = seat_of; words_of = words_of; opening = opening; idle_sits = refl }
 
--- a party that is out has nothing, and does not use the value
+-- a party that is in no call, and holds nothing, is idle in the plain lock and does not use the value
 nothing : (view : Option View) → IsOut Idle view → part_before part view ≡ idle
 nothing = as_new Idle (part_before part) refl
 
@@ -321,7 +321,7 @@ out_may_register None out = out
 out_may_register (Some Loading) out = tt
 out_may_register (Some _) out = out
 
--- such parties do not use the value, nor does a starver before it is served
+-- A party that may make the exchange of `lock` does not use the value. Nor does a starver until it is served.
 
 try_off : (n : ℕ) (view : Option View) → MayTry n view → use_of use_of_view view ≡ off
 try_off n None may = refl
@@ -371,7 +371,7 @@ are_steps_leave : {T : Type 0} (goes_on : Bool) (c : FairCall) (ends : List (End
 are_steps_leave true c ends own outs are v = ap (λ o. left o v) are.0 ∙ steps_leave ends v
 are_steps_leave false c ends own outs are v = ap (λ o. left o v) are.0 ∙ steps_leave ends v
 
--- what a party needs to register
+-- what a party needs for the exchange that registers it
 abbrev Ready : {T : Type 0} → T → Option View → ℕ → ℕ → Type 0
 Ready v₀ now word more = (part_before part now ≡ idle) × Moves v₀ now (λ n. either (n == word) more n) (λ n v. v ≡ registered_by now word n)
     (says_of (registers_by now word))
@@ -386,7 +386,7 @@ module _ {T : Type 0} (opening : Opening T) where
   abbrev Leaving : Option View → Option T → Says T → Type 0
   Leaving = mutexes.Leaving (mutex opening)
 
-  -- steps of a party that does not use the value
+  -- the steps of a party that does not use the value leave the value as it is
   unused : (view : Option View) (shown : Option T) → use_of use_of_view view ≡ off → (turn : Turn T) → Leaving view shown (says_of turn)
   unused view shown is turn own outs n u said = subst (λ z. Leaves z (use_of_view u) shown own) (sym is)
       (are_steps_leave turn.goes_on turn.call (turn.ends n) own outs said.1)
@@ -426,7 +426,7 @@ module _ {T : Type 0} (opening : Opening T) where
       (out_moves (mutex opening) now out (λ n. n) to (says_of looks_by) (load_moves v₀))
       (stays_at fair now (λ n. Idle) (λ n. nothing now out) (λ s n. tt))
 
-  -- the lemma of the step function says that the lock is free if it grants
+  -- The exchange of a newcomer's try. The premise about `Decides` is the lemma of the step function.
   abbrev Attempts : FairCall → Type 0
   Attempts c =
       (view : Option (Numbered View)) (shown : Option T) → IsOut Idle (what view) → (taken : ℕ) → taken ≡ 1
@@ -547,7 +547,7 @@ module _ {T : Type 0} (opening : Opening T) where
       turns view shown (λ n. (n + (2 ^ 64 - 2)) % 2 ^ 64) (λ n v. (v ≡ Idle) × Takes 2 n) gives_up_by (ap (use_of use_of_view) is)
       (frees_none gives_up_by (λ n. refl)) (rw is (give_up_moves v₀)) (rw is gives_up_plain)
 
-  -- the holder writes the value that it leaves
+  -- the release: the holder writes the value that it leaves in the lock
   pub frees : (v : Numbered View) (x : T) → use_of_view v.0 ≡ writes → Keeps (Some v) (Some x) (λ n. (n + (2 ^ 64 - 1)) % 2 ^ 64) frees_by
   unfolding Told
   frees v x held =
@@ -563,7 +563,7 @@ module _ {T : Type 0} (opening : Opening T) where
       ready_of Served e = (release_moves v₀ x Served refl, frees_plain Served refl)
       ready_of _ e = absurd cc
 
--- Who may leave
+-- Which parties may leave the cell
 
 module _ {T : Type 0} (opening : Opening T) where
   pub rests : (view : Option (Numbered View)) → IsOut Idle (what view) → Rests (IsFair opening) use_of_party view

@@ -1,4 +1,4 @@
--- What a party that knew the lock's history learns by a step, and how the steps of a call follow one another.
+-- What a party that knew the lock's history learns by a step, and how the steps of a call add up to the call.
 use Rattle.std.proofs.Common.{◌≡◌, ◌≢◌, ℕ, zero, suc, ◌++◌, ◌∷◌, [], ◌%◌, ◌==◌, if◌then◌else◌, Bool, true, false, List, Option, Some, None, length, map, replicate, is_some, nat_lt, ◌+◌, inl, inr, refl, sym, ap, ◌∙◌, subst, arith, eq-eqb, ne_eqb}
 use Rattle.std.specs.Prelude.{◌⊎◌}
 use mathlib.Core.Logic.{dite}
@@ -37,7 +37,7 @@ use Rattle.spin_fair.specs.declared.fair.rule.View.{View}
 use Rattle.spin_fair.specs.declared.fair.rule.View.TheVariants.{Idle, Holding, Served, Trying, Looking, Loading, Registering, Setting, Awaiting}
 use Rattle.spin_fair.proofs.Steps.{mutex}
 
--- after these outcomes the call continues, or is answered
+-- after these outcomes the call continues (`None`), or has this answer
 abbrev pub Comes_to : {T : Type 0} → List (Ending T) → Option (Answer T) → Type 0
 Comes_to ends None = (n : ℕ) × (ends ≡ replicate n GoingOn)
 Comes_to ends (Some a) = (n : ℕ) × (ends ≡ replicate n GoingOn ++ answered a ∷ [])
@@ -65,7 +65,7 @@ pub may_know : {T : Type 0} (opening : Opening T) (before : Watch (Done T)) → 
 unfolding IsFair
 may_know opening before = passes.may_know (IsFair opening) (fair_ways opening) opening.name (λ n t vs is. is.0) before.name
 
--- a step keeps the watch on its trace
+-- after a step the party watches the same trace as before
 pub same_name : {T : Type 0} (before now : Watch (Done T)) (named : Type 0) (told : List (Done T) → List (Done T) → ℕ → Numbered View → Type 0)
     (n : ℕ) (view : Option (Numbered View)) → named → Moved (Watches named before now told n) view → now.name ≡ before.name
 same_name before now named told n None is moved = absurd moved
@@ -74,11 +74,11 @@ same_name before now named told n (Some v) is moved = moved.0 is
 abbrev Party : Type 0 → Type 0
 Party T = Permit T (Numbered View) FairRule (Opening T) (Trace (Done T) (Unit {0}))
 
--- the watch of an account is of its lock's trace
+-- an account watches the trace of its own lock
 pub watches : {T : Type 0} (me : Account T) → MayKnow (IsFair me.permit.key) (fair_ways me.permit.key) me.seen
 watches me = inr (may_know me.permit.key me.seen me.named)
 
--- What a step tells a party that knew all up to its last step
+-- What a step tells a party that knew all moves up to its previous step
 module _ {T : Type 0} (me : Account T) (it : Party T) (now : Watch (Done T)) (n : ℕ) (same : it.key ≡ me.permit.key) (turn : Turn T)
     (moved : Moved (Watches (Named (IsFair me.permit.key) (fair_ways me.permit.key) me.seen.name) me.seen now
     (Told me.permit.key.value (says_of turn) me.permit.view) n) it.view) where
@@ -86,7 +86,7 @@ module _ {T : Type 0} (me : Account T) (it : Party T) (now : Watch (Done T)) (n 
   Knows view =
       record { named : it.key.name ≡ now.name; knows : mark_of view ≡ length now.entries; finds : (x : T) → it.value ≡ Some x → IsLast it.key now.entries x }
 
-  -- it knows all again, by a watch of the same trace; and if it comes to use the value, that is the one written last
+  -- After the step the party knows all moves up to this step, in the trace of its lock. A value that it now sees is the one written last.
   pub knows_again : use_of use_of_view (view_of me) ≡ off → Found (fair_ways me.permit.key) me.permit.view it.view me.permit.value it.value now → Knows it.view
   unfolding Told known_of
   knows_again unused known = at it.view moved known
@@ -102,7 +102,7 @@ module _ {T : Type 0} (me : Account T) (it : Party T) (now : Watch (Done T)) (n 
             (finds (mutex me.permit.key) me.permit.view (Some v) me.permit.value it.value now x known unused is);
       }
 
-  -- the moves of its call, and where it led
+  -- the moves that the step made in the party's call, and the view to which it led
   pub turned : (what it.view ≡ Some (turn.to n)) × Since model_at (AreSteps turn.goes_on turn.call (turn.ends n)) (here me) (spot it now)
   unfolding Told
   turned =
@@ -110,7 +110,7 @@ module _ {T : Type 0} (me : Account T) (it : Party T) (now : Watch (Done T)) (n 
       (λ n. AreSteps turn.goes_on turn.call (turn.ends n)) (λ own outs n v said. said) moved in
       (so.1, so.0)
 
--- after a step the call goes on, or is answered
+-- after one step the call goes on (`None`), or has this answer
 pub made : {T : Type 0} (turn : Turn T) (n : ℕ) (was now : Account T) (o : Option (Answer T)) → Turned turn n was now → Comes_to (turn.ends n) o
     → Goes (Comes turn.goes_on turn.call o) was now
 made turn n was now o step end = (
@@ -121,7 +121,7 @@ made turn n was now o step end = (
   step.1.2,
 )
 
--- moves of a call, and then further ones of it
+-- moves of a call, followed by further moves of the same call, are moves of that call
 pub and_then : {T : Type 0} (v₀ : T) (goes_on : Bool) (c : FairCall) (o : Option (Answer T)) (u v w : Option (Numbered View)) (old seen new : List (Done T))
     → Moves v₀ (Comes goes_on c None) u old v seen → Moves v₀ (Comes true c o) v seen w new → Moves v₀ (Comes goes_on c o) u old w new
 and_then v₀ true c None u v w old seen new = and_waits (model v₀) u v w old seen new
@@ -139,7 +139,7 @@ module _ {T : Type 0} (p q : Spot T) where
     two.2 ∙ one.2,
   )
 
-  -- the party of a guard, and what it knows
+  -- a course up to the spot `q` is a course up to the guard whose party is at `q`
   pub as_held : {P R S : Type 0} (course : Course T FairCall (Answer T)) (held : Held T P R S)
       → (Some (guard_view held.0) ≡ q.1) × (guard_key held.0 ≡ q.0) × (held.1 ≡ q.2) → Since model_at course p q → Since model_at course p (held_at held)
   as_held course held (at, lock, is) so = subst (λ (z : Spot T). Since model_at course p z) (λ i. (sym lock i, sym at i, sym is i)) so
@@ -152,7 +152,7 @@ pub got : {T P R S : Type 0} (course : Course T FairCall (Answer T)) (was : Acco
 got course was held ((holder, holds, last), (made, named, same)) =
     ((holder, holds), (named, same), subst (λ k. IsLast k held.1.entries (guard_value held.0)) same last, made)
 
--- the outcome of a step, by what the code found
+-- the outcome of a step, by the number that the code found
 pub granted_at : {T : Type 0} (n expected : ℕ) (won lost : Answer T) → n ≡ expected → Comes_to (answered (if n == expected then won else lost) ∷ []) (Some won)
 granted_at n expected won lost e = (0, ap (λ b. answered (if b then won else lost) ∷ []) (eq-eqb n expected e))
 
@@ -194,13 +194,13 @@ reason_so {T} n = at (n == 1)
     at true = refl
     at false = refl
 
--- a new party makes its whole `starve`
+-- the moves of a party that was in no call are those of a whole `starve`
 pub comes_whole : {T : Type 0} (p q : Spot T) (view : Option View) (o : FairCall → Option (Answer T)) → IsOut Idle view
     → Since model_at (Comes (in_call view) (call_of view) (o (call_of view))) p q → Since model_at (Comes false Starve (o Starve)) p q
 comes_whole p q None o out so = so
 comes_whole p q (Some v) o out so = subst (λ v. Since model_at (Comes (in_call (Some v)) (call_of (Some v)) (o (call_of (Some v)))) p q) out so
 
--- A party that looks
+-- Steps of a party that looks
 
 pub looks_in : (view : Option View) (n : ℕ) → in_call (Some (looked view n)) ≡ true
 looks_in view n = at (is_set n) (nat_lt (looks_of view) patience)
@@ -214,13 +214,13 @@ pub loading : (view : Option View) (spins n : ℕ) → view ≡ Some (Looking sp
 loading view spins n is set enough =
     ap (λ v. Some (looked v n)) is ∙ ap (λ b. Some (if b then (if nat_lt spins patience then Looking (spins + 1) else Loading) else Trying spins)) (sym set) ∙ ap (λ b. Some (if b then Looking (spins + 1) else Loading)) enough
 
--- a `lock` that has begun to register continues
+-- the moves by which a `lock` registers are further moves of that `lock`
 pub turns : {T : Type 0} (p q : Spot T) (view : Option View) (o : FairCall → Option (Answer T)) → view ≡ Some Loading → o Lock ≡ None
     → Since model_at (Comes (in_call view) (call_of view) (o (call_of view))) p q → Since model_at (Comes true Lock None) p q
 turns p q view o is none so =
     subst (λ z. Since model_at (Comes true Lock z) p q) none (subst (λ v. Since model_at (Comes (in_call v) (call_of v) (o (call_of v))) p q) is so)
 
--- A party that registers
+-- Steps of a party that registers
 
 module _ (T : Type 0) where
   loads_is : (view : Option View) → (loads {T = T} view ≡ []) ⊎ (loads {T = T} view ≡ GoingOn ∷ [])
@@ -238,7 +238,7 @@ module _ (T : Type 0) where
   has_won view word found e =
       subst (λ b. Comes_to {T = T} (if b then loads view ++ registered_end (call_of view) ∷ [] else (if is_some (starve most_starvers found) then GoingOn else no_room_end (call_of view)) ∷ []) (registered_so (call_of view))) (sym (eq-eqb found word e)) (won (loads view) (loads_is view) (call_of view))
 
-  -- whether it found a word with room
+  -- the answer, if any, of a call whose exchange failed and found the word `n`: none if that word has room for a starver
   abbrev pub room_so : FairCall → ℕ → Option (Answer T)
   room_so c n = if is_some (starve most_starvers n) then None else no_room_so c
 
@@ -255,7 +255,7 @@ module _ (T : Type 0) where
   flag_was_set StarverTryLock = (0, refl)
   flag_was_set _ = (1, refl)
 
-  -- a starver goes for the flag, which is clear, or set
+  -- what comes of a starver's operation that sets the flag: the flag was clear, or (`set_at`) was set
   pub clear_at : (c : FairCall) (n : ℕ) → (n % 2 == 0) ≡ true → Comes_to {T = T} ((if n % 2 == 0 then GoingOn else flag_set_end c) ∷ []) None
   clear_at c n even = (1, ap (λ b. (if b then GoingOn else flag_set_end c) ∷ []) even)
 
@@ -266,13 +266,14 @@ module _ {T : Type 0} (first : Account T) where
   abbrev call : FairCall
   call = call_of (view_of first)
 
-  -- a party that registers found a word, with room or without
+  -- The party has found this word. If the word has room for a starver, the party exchanges it next. If not, `lock` looks again, and
+  -- `starve` has failed.
   abbrev Has_found : ℕ → Option ℕ → Account T → Type 0
   Has_found word room now =
       (view_of now ≡ Some (if is_some room then Registering call word else finds_no_room call))
       × Goes (Comes (in_call (view_of first)) call (if is_some room then None else no_room_so call)) first now
 
-  -- it stands where it stood, or goes for the word that it found
+  -- the party has made no step since `first` (the word is 0), or has found this word
   abbrev pub HasReached : ℕ → Account T → Type 0
   HasReached word now = ((word ≡ 0) × (here now ≡ here first)) ⊎ Has_found word (starve most_starvers word) now
 
@@ -290,7 +291,7 @@ module _ {T : Type 0} (first : Account T) where
       stays_in (inl at) = ap (λ z. call_of (what z.1)) at.1
       stays_in (inr at) = ap call_of (subst (λ o. Has_found word o now) (sym room) at).0
 
-      -- a step of its call, after those before
+      -- a further step of the party's call, after those that it has made since `first`
       pub goes_further : (o : FairCall → Option (Answer T)) (next : Account T) → HasReached word now
           → GoesOn (call_of (view_of now)) (o (call_of (view_of now))) now next → GoesOn call (o call) first next
       goes_further o next (inl at) so =
@@ -300,7 +301,7 @@ module _ {T : Type 0} (first : Account T) where
           and_on (here first) (here now) (in_call (view_of first)) call (o call) (here next) went.1
           (subst (λ v. Since model_at (Comes (in_call v) (call_of v) (o (call_of v))) (here now) (here next)) went.0 so)
 
--- A starver
+-- Steps of a starver
 
 pub waiting_sets : (view : Option View) → MayAwait view → MaySet view
 waiting_sets (Some (Setting Lock)) may = refl

@@ -1,4 +1,4 @@
--- What a pass knows: the lock's history so far, and which of its moves are the pass's own.
+-- What a pass knows: the lock's history up to the pass's last step, and which moves of the history are its own.
 use Rattle.std.specs.Prelude.{◌≡◌, ℕ, Bool, Option, List}
 use Rattle.spin_core.specs.Own.{Numbered}
 use Rattle.spin_core.specs.declared.tie.Opening.{Opening}
@@ -15,17 +15,19 @@ module _ {T R : Type 0} where
   abbrev pub history : Pass T R → List (Done T)
   history it = it.account.seen.entries
 
-  -- the name of a lock's history; also by a pass of the lock
+  -- the name of a lock's history
   abbrev pub name_of : FairMutex T R → ℕ
   name_of lock = lock.cell.name
 
+  -- the same name, by a pass of the lock
   abbrev pub lock_of : Pass T R → ℕ
   lock_of it = it.account.seen.name
 
-  -- what was settled when a lock was made, and of the lock of a pass: that name, and the value that the lock opened with
+  -- what was fixed when the lock was made: the name of its history, and the value that it opened with
   abbrev pub opening : FairMutex T R → Opening T
   opening lock = lock.cell
 
+  -- the same, by a pass of the lock
   abbrev pub opening_of : Pass T R → Opening T
   opening_of it = it.account.permit.key
 
@@ -33,7 +35,7 @@ module _ {T R : Type 0} where
   abbrev pub party : Pass T R → Option (Numbered View)
   party it = it.account.permit.view
 
-  -- the same of a pass that starves
+  -- the same four functions, for a pass that is registered as a starver
   abbrev pub starving_history : StarvingPass T R → List (Done T)
   starving_history it = it.account.seen.entries
 
@@ -46,17 +48,17 @@ module _ {T R : Type 0} where
   abbrev pub starving_party : StarvingPass T R → Option (Numbered View)
   starving_party it = it.account.permit.view
 
-  -- since then the pass has called `is_locked` once, with this answer
+  -- from `before` to `now` the pass has made one call, `is_locked`, with this answer
   abbrev pub Looked : Bool → Pass T R → Pass T R → Type 0
   Looked set before now = Called (opening_of before).value IsLocked (Is set) (party before) (history before) (party now) (history now)
 
-  -- since then the pass has acquired the lock and released it, once; it left a value
+  -- from `before` to `now` the pass has acquired the lock once by `lock`, and has released it; it left some value
   abbrev pub HeldOnce : Pass T R → Pass T R → Type 0
   HeldOnce before now =
       (held : Option (Numbered View)) × (seen : List (Done T)) × (lock : Opening T) × (lock ≡ opening_of before) × Called (opening_of before).value Lock Granted (party before) (history before) held seen
       × Left lock.value (λ x. Unit {0}) held seen (party now) (history now)
 
-  -- since it starved so it has acquired the lock and released it, once; it left a value
+  -- from `before` to `now` the registered pass has acquired the lock once by `lock`, and has released it; it left some value
   abbrev pub ServedOnce : StarvingPass T R → Pass T R → Type 0
   ServedOnce before now =
       (held : Option (Numbered View)) × (seen : List (Done T)) × (lock : Opening T) × (lock ≡ starving_opening_of before)

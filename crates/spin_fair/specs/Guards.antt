@@ -10,9 +10,10 @@ use Rattle.spin_fair.specs.Fair.{Done, use_of_party}
 use Rattle.spin_fair.specs.declared.fair.rule.View.{View}
 
 module _ {T P R S : Type 0} where
+  -- `seen` is the history of the guard's lock up to the last step of the guard's party
   abbrev pub Holds : Guard T (Numbered View) P R (Opening T) S → Watch (Done T) → Type 0
   Holds guard seen = ((guard_key guard).name ≡ seen.name) × ((guard_view guard).2 ≡ length seen.entries)
 
-  -- it is new: its value is the one that was written last
+  -- The lock has just granted the guard, whose value is the one written last in the history `seen`.
   abbrev pub IsGranted : Guard T (Numbered View) P R (Opening T) S → Watch (Done T) → Type 0
   IsGranted guard seen = IsHolder use_of_party guard × Holds guard seen × IsLast (guard_key guard) seen.entries (guard_value guard)

@@ -31,33 +31,34 @@ module _ {T : Type 0} where
   abbrev pub here : Account T → Spot T
   here it = spot it.permit it.seen
 
-  -- since it was so, it has made exactly the moves of this course
+  -- from `was` to `now` the party has made exactly the moves of this course
   abbrev pub Goes : Course T FairCall (Answer T) → Account T → Account T → Type 0
   Goes course was now = Since model_at course (here was) (here now)
 
-  -- its party may make this step, which applies f to the word
+  -- the party of `it` may make the step `turn`, which applies `f` to the word
   abbrev pub May : (ℕ → ℕ) → Turn T → Account T → Type 0
   May f turn it =
       let p = it.permit in (use_of use_of_view (what p.view) ≡ off) × Traces (IsFair p.key) (fair_ways p.key) p.view p.value f
       (Told p.key.value (says_of turn) p.view)
 
-  -- it has made this step, and found n
+  -- from `was` to `now` the party has made the step `turn`, which found the number `n`
   abbrev pub Turned : Turn T → ℕ → Account T → Account T → Type 0
   Turned turn n was now = (view_of now ≡ Some (turn.to n)) × Goes (AreSteps turn.goes_on turn.call (turn.ends n)) was now
 
-  -- moves of a call, from its beginning or from where it was; then it waits, or has this answer
+  -- Since `was` the party has made moves of the call `c`: the rest of it if it was under way, else all of it. The call now waits (`None`),
+  -- or has this answer.
   abbrev pub GoesOn : FairCall → Option (Answer T) → Account T → Account T → Type 0
   GoesOn c answer was = Goes (Comes (in_call (view_of was)) c answer) was
 
-  -- the party is now registered
+  -- since `was` the party has registered
   abbrev pub IsRegistered : Account T → Account T → Type 0
   IsRegistered was now = let c = call_of (view_of was) in (view_of now ≡ Some (registered c)) × GoesOn c (registered_so c) was now
 
-  -- the party found that no more may starve
+  -- since `was` the party has found too many parties registered
   abbrev pub FindsNoRoom : Account T → Account T → Type 0
   FindsNoRoom was now = let c = call_of (view_of was) in (view_of now ≡ Some (finds_no_room c)) × GoesOn c (no_room_so c) was now
 
-  -- a starver found the flag set
+  -- since `was` a starver has found the flag set
   abbrev pub FindsFlagSet : Account T → Account T → Type 0
   FindsFlagSet was now = let c = call_of (view_of was) in (view_of now ≡ Some (finds_flag_set c)) × Goes (Comes true c (flag_set_so c)) was now
 
@@ -69,18 +70,18 @@ module _ {T P R S : Type 0} where
   abbrev pub held_at : Held T P R S → Spot T
   held_at (guard, seen) = (guard_key guard, Some (guard_view guard), seen)
 
-  -- since then it has made exactly the moves of this course, and holds the lock by this guard
+  -- since `was` the party has made exactly the moves of this course, and it now holds the lock by this guard
   abbrev pub Gets : Course T FairCall (Answer T) → Account T → Held T P R S → Type 0
   Gets course was held = IsGranted held.0 held.1 × Since model_at course (here was) (held_at held)
 
-  -- an attempt of `lock`: it is granted the lock, or continues with a look
+  -- the result of an attempt of `lock`: the call has the guard, or its next step is a look
   abbrev pub LocksOrWaits : Bool → Account T → Result (Held T P R S) (Waiting T) → Type 0
   LocksOrWaits goes_on was r = IfOk r (Gets (Comes goes_on Lock (Some Granted)) was) × IfErr r (λ next. Goes (Comes goes_on Lock None) was next.account)
 
-  -- a starver that continues is granted the lock
+  -- a starver's call that was under way at `was` is granted the lock
   abbrev pub IsServed : Account T → Held T P R S → Type 0
   IsServed = Gets (Ends Granted)
 
-  -- an attempt of a waiting starver: it is granted the lock, or continues with a look
+  -- the result of an attempt of a waiting starver: the call has the guard, or its next step is a look
   abbrev pub Awaits : Account T → Result (Held T P R S) (Awaiting T) → Type 0
   Awaits was r = IfOk r (IsServed was) × IfErr r (λ next. Goes Waits was next.account)

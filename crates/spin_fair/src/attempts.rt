@@ -1,7 +1,7 @@
-//! A `lock` in single attempts, for a caller with other work to do between them. Begin at [`begin`].
+//! Splits a `lock` into single attempts, for a caller that has other work to do between them. Begin at [`begin`].
 //!
-//! A [`Waiting`] counts its looks as a waiting `lock` does, and cannot be given up: make attempts until there is a
-//! guard.
+//! A [`Waiting`] counts its looks as a waiting `lock` does. A caller cannot give it up: repeat the attempts until one
+//! returns a guard.
 ghost use Rattle.std.specs.Prelude.{IfOk};
 ghost use Rattle.spin_core.specs.Guard.{IsHolder};
 ghost use Rattle.spin_fair.specs.Fair.{use_of_party};
@@ -12,7 +12,7 @@ use crate::fair::{FairMutex, FairMutexGuard};
 use spin_core::relax::RelaxStrategy;
 use std::sync::Wait;
 
-/// Begins a call of `lock`, and returns it if it has to wait.
+/// Begins a call of `lock` with its first attempt. Returns the guard, or the call if the call has to wait.
 ///
 /// # Contract
 /// The guard belongs to a holder of the lock (`IsHolder`).
@@ -52,7 +52,8 @@ pub fn begin<'a, T, R>(
     }
 }
 
-/// Makes one of the attempts that a waiting `lock` repeats. An attempt that starves waits for its guard.
+/// Makes one of the attempts that a waiting `lock` repeats. An attempt that registers as a starver waits until it has
+/// the guard.
 ///
 /// # Contract
 /// The guard belongs to a holder of the lock (`IsHolder`).
@@ -68,7 +69,7 @@ pub fn look_and_try<'a, T, R: RelaxStrategy, W: Wait>(
     }
 }
 
-/// Returns how many looks have found the lock held, until there are enough to starve.
+/// Returns how many looks have found the lock held. The count stops once there are enough looks to starve.
 pub fn looks<T>(waiting: &Waiting<'_, T>) -> usize {
     waiting.spins
 }

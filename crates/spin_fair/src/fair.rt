@@ -30,13 +30,14 @@ pub use self::starving::StarvingPass;
 pub use spin_core::laws::{a_guard_reads_the_last_value_written, two_guards_read_one_value};
 pub use spin_step_more::fair::LockRejectReason;
 
-/// The patience of [`FairMutex::lock`]. After more looks than this that found the lock held, it starves.
+/// The patience of [`FairMutex::lock`]. A call starves after more looks than this that found the lock held.
 pub const STARVATION_SPINS: usize = 1024;
 
 /// A spinning mutual exclusion lock in which a thread that has waited for long goes before newcomers.
 ///
 /// A thread that waits for long registers as a starver. While a starver is registered, only starvers acquire the lock.
-/// Starvers may overtake each other, and so may newcomers. A waiting thread passes the time with the strategy `R`.
+/// Starvers may overtake each other. Newcomers may overtake each other too. A waiting thread passes the time with the
+/// strategy `R`.
 ///
 /// While a guard or a hold of the lock lives, no other call acquires it. A newcomer that holds the lock acquired it
 /// before the last move of each registered starver (`no_newcomer_holds_that_came_behind_a_starver`). A guard gives a
@@ -113,7 +114,7 @@ impl<T, R: RelaxStrategy> FairMutex<T, R> {
     ///
     /// After a failed attempt the thread pauses with strategy `R`, and looks at the word before it tries again. After
     /// more than [`STARVATION_SPINS`] looks that found the lock held it starves (see [`starve`](Self::starve)), unless
-    /// too many do. The call never returns if its own thread holds the lock.
+    /// too many threads starve. The call never returns if its own thread holds the lock.
     ///
     /// # Contract
     /// The guard belongs to a holder of the lock (`IsHolder`). Whether and when the call returns is not promised.
@@ -135,8 +136,8 @@ impl<T, R> FairMutex<T, R> {
     /// It makes one compare-exchange.
     ///
     /// # Contract
-    /// A guard belongs to a holder of the lock (`IsHolder`), which came as a newcomer (its view is `Holding`): it found
-    /// no starver registered. `None` promises nothing. The call returns.
+    /// The guard in `Some` belongs to a holder of the lock (`IsHolder`). The holder came as a newcomer (its view is
+    /// `Holding`), so it found no starver registered. `None` promises nothing. The call returns.
     #[must_use = "dropping the guard at once releases the lock: bind the answer, or write `drop(..)`"]
     pub fn try_lock<'a>(&'a self) -> Option<FairMutexGuard<'a, T, R>>
         ensures holder { IfSome result (IsHolder use_of_party) }
@@ -149,7 +150,7 @@ impl<T, R> FairMutex<T, R> {
     /// Like [`try_lock`](Self::try_lock), but returns the reason for a failure.
     ///
     /// # Contract
-    /// `Ok` is as `Some` of `try_lock`. `Err` promises nothing. The call returns.
+    /// `Ok` promises what `Some` of `try_lock` promises. `Err` promises nothing. The call returns.
     ///
     /// # Examples
     /// ```

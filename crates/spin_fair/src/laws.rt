@@ -12,8 +12,8 @@ ghost use Rattle.spin_fair.specs.Fair.{Done, IsFair, model, seat_of, words_of, s
 
 /// Each run of a [`FairMutex`](crate::fair::FairMutex) on threads is a schedule of its model.
 ///
-/// The lock's cell keeps the list of all moves that threads have made in it: which party, and which move. The list is
-/// ghost state, and takes no memory.
+/// The lock's cell keeps the list of all moves that threads have made in it. An entry names the party and its move. The
+/// list is ghost state, and takes no memory.
 ///
 /// # Contract
 /// The law holds between any two steps of threads (`IsFair`): no move of the list is skipped in the model. After all
@@ -24,7 +24,8 @@ pub fn every_run_of_a_fair_mutex_is_a_schedule<T>()
 
 /// States that a newcomer that holds a `FairMutex` acquired it before each registered starver made its last move.
 ///
-/// So no newcomer acquires the lock while a starver is registered: its move would be the later one.
+/// So no newcomer acquires the lock while a starver is registered: the newcomer's move would be later than the
+/// starver's.
 ///
 /// # Contract
 /// The rule has to hold (`IsFair`). The last move of a newcomer that holds is the one by which it acquired the lock. Its
@@ -39,8 +40,8 @@ pub fn no_newcomer_holds_that_came_behind_a_starver<T>()
 /// of them loads the word first.
 ///
 /// # Contract
-/// On each word that the rule allows, the result is that of the step function (`unlocked`, `unstarved`,
-/// `lock_starved`). If `lock_starved` gives none, the word does not change.
+/// On each word that the rule allows, the operation gives the word that the step function gives (`unlocked`,
+/// `unstarved`, `lock_starved`). If `lock_starved` gives none, the operation leaves the word as it is.
 pub fn an_addition_is_its_step_function<T>()
     ensures unlock { (opening : Opening T) (word : ℕ) (trace : Trace (Done T) (Unit {0})) (parties : List (Numbered View)) (p : ℕ) → IsFair opening word trace parties → HoldsAt (views_of parties) p → (is_set word ≡ true) × ((word + (2 ^ 64 - holder_weight)) % 2 ^ 64 ≡ unlocked word) }
     ensures unstarve { (opening : Opening T) (word : ℕ) (trace : Trace (Done T) (Unit {0})) (parties : List (Numbered View)) (p : ℕ) → IsFair opening word trace parties → StarvesAt (views_of parties) p → (starver_weight ≤ word) × ((word + (2 ^ 64 - starver_weight)) % 2 ^ 64 ≡ unstarved word) }

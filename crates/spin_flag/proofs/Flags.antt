@@ -1,5 +1,4 @@
--- The steps of a lock of one flag keep its rule. Each is the plain step that its step function makes, and moves of the
--- lock's model.
+-- The steps of a lock of one flag keep its rule. Each step makes the plain step of its step function, and its moves of the lock's model.
 use Rattle.std.proofs.Common.{◌≡◌, ℕ, [], ◌∷◌, ◌==◌, Bool, true, false, Option, Some, None, if◌then◌else◌, refl, ap, subst, arith, length, inl, inr}
 use prog.Atomic.{either}
 use Rattle.spin_step.specs.Plain.{writing, releases, to_write, flag_word}
@@ -59,7 +58,7 @@ flag = record {
 abbrev pub mutex : {T : Type 0} → Opening T → Mutex Bool T FlagCall FlagPoint View (Unit {0})
 mutex opening = record { plain = flag; model = model opening.value; seat_of = seat_of; words_of = words_of; opening = opening; idle_sits = refl }
 
--- the word after an exchange of the flag
+-- the word after an exchange that sets a clear flag
 abbrev swapped : ℕ → ℕ
 swapped n = either (n == 0) 1 n
 
@@ -72,7 +71,7 @@ module _ {T : Type 0} (opening : Opening T) where
   abbrev Keeps : Option (Numbered View) → Option T → (ℕ → ℕ) → Says T → Type 0
   Keeps = mutexes.Keeps (mutex opening)
 
-  -- The moves of each step: its one move, after the beginning of its call if it begins one
+  -- The moves of each step: one step of the model, after the beginning of the call if the step begins one. The release also writes a value.
 
   abbrev MovesTo : Option View → (ℕ → ℕ) → (ℕ → View) → Says T → Type 0
   MovesTo view f to = mutexes.Moves (mutex opening) view f (λ n v. v ≡ to n)
@@ -102,12 +101,12 @@ module _ {T : Type 0} (opening : Opening T) where
   look_moves false value v is = rw is (Step ∷ [], GoingOn ∷ [], (refl, (refl, refl)), refl, refl, false, value, refl, refl, refl)
   look_moves true value v is = rw is (Step ∷ [], GoingOn ∷ [], (refl, (refl, refl)), refl, refl, true, value, refl, refl, refl)
 
-  -- the holder writes the value x
+  -- the release of a holder, which first writes the value `x`
   release_moves : (x : T) → MovesTo (Some Holding) (λ _. 0) (λ n. Idle) (leaves_by (λ y. y ≡ x) Release Done Idle)
   release_moves x w value v is =
       rw is (Write x ∷ Begin Release ∷ Step ∷ [], Written ∷ Begun ∷ Answered Done None ∷ [], (refl, (x, refl, (Begin Release ∷ Step ∷ [], Begun ∷ Answered Done None ∷ [], refl, refl, (refl, refl)))), refl, refl, false, Some x, refl, refl, refl)
 
-  -- Each step keeps the rule, and appends its moves
+  -- Each step keeps the rule, and appends its moves to the trace
 
   pub starts : (t : Trace (flags.Done T) (Unit {0})) → t.name ≡ opening.name → t.entries ≡ [] → Meets (IsFlag opening) (flag_ways opening) 0 t []
   starts t named empty = mutexes.starts (mutex opening) 0 t named empty refl (plays.begins flag 0 0 0 tt (omega arith) refl refl)
@@ -161,7 +160,7 @@ module _ {T : Type 0} (p q : Spot T) (same : q.0 ≡ p.0) (named : p.0.name ≡ 
       → Stepped model_at goes_on c (end found) (to found) p q
   stepped = spots.stepped model_at seat_of words_of p q same knew (is_named (mutex p.0) p.2 named) found
 
-  -- an exchange, by whether it found the flag clear
+  -- the step of an exchange; `b` says whether the exchange found the flag clear
   pub by_clear : (b : Bool) → (found == 0) ≡ b → (goes_on : Bool) (c : FlagCall) (won lost : Ending T) (taken away : View)
       → Steps (step_by goes_on c (if_clear won lost) (if_clear taken away))
       → Stepped model_at goes_on c (if b then won else lost) (if b then taken else away) p q
@@ -169,7 +168,7 @@ module _ {T : Type 0} (p q : Spot T) (same : q.0 ≡ p.0) (named : p.0.name ≡ 
       subst (λ x. Stepped model_at goes_on c (if x then won else lost) (if x then taken else away) p q) is
       (stepped goes_on c (if_clear won lost) (if_clear taken away) moved)
 
--- the flag is clear, as the code tests it
+-- if the code's test finds the flag clear, the word is 0; below, if the test finds the flag set, the word is not 0
 pub is_clear : (n : ℕ) → false ≡ flags.set n → (n == 0) ≡ true
 is_clear n is = at (n == 0) is where
   at : (b : Bool) → false ≡ (if b then false else true) → b ≡ true

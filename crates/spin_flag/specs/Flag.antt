@@ -1,5 +1,5 @@
--- The rule of a lock of one flag. Its word is that of a plain lock whose holders are the holding parties. Its trace
--- is a schedule of the lock's model. The schedule leads to this word and to the views of these parties.
+-- The rule of a lock of one flag. The word of the lock is that of a plain lock whose holders are the parties that hold. The trace is a
+-- schedule of the lock's model. The schedule leads to this word and to the views of these parties.
 use Rattle.std.specs.Prelude.{◌≡◌, ℕ, List, Bool, true, false, Option, Some, None, ◌==◌, if◌then◌else◌, ◌⊎◌}
 use Rattle.spin_step.specs.Plain.{writing, flag_word}
 use Rattle.spin_step.specs.Steps.{bit}
@@ -46,27 +46,27 @@ seat_of Holding = seat.Holding Write
 seat_of Trying = seat.Calling Lock First None
 seat_of Looking = seat.Calling Lock Second None
 
--- the words of the lock, from those of the model
+-- the lock's two words for this flag of the model; the second word is empty
 abbrev pub words_of : Bool → ℕ × Unit {0}
 words_of b = (bit b, tt)
 
 abbrev pub Word : ℕ → Unit {0} → List View → Type 0
 Word = Encodes part 0 flag_word no_word
 
--- the word is that of a set flag
+-- whether this word is that of a set flag
 abbrev pub set : ℕ → Bool
 set n = if n == 0 then false else true
 
--- one of two, by whether a step found the flag clear
+-- `one` if the step found the flag clear, else `other`
 abbrev pub if_clear : {A : Type 0} → A → A → ℕ → A
 if_clear one other n = if n == 0 then one else other
 
--- the party has begun its `lock`
+-- whether the party is in a `lock` whose next step is the exchange
 abbrev pub has_begun : Option View → Bool
 has_begun (Some Trying) = true
 has_begun _ = false
 
--- the party has just begun its call, or continues with its exchange
+-- the party may make the exchange of `lock`: its call begins with it, or continues with it
 abbrev pub MayTry : Option View → Type 0
 MayTry view = IsOut Idle view ⊎ (view ≡ Some Trying)
 
@@ -79,7 +79,7 @@ abbrev pub Says : Type 0 → Type 1
 Says T = passes.Says T FlagCall (Answer T) View
 
 module _ {T : Type 0} where
-  -- the model, with this value at the opening
+  -- the model of a lock that opens with this value
   abbrev pub model : T → Machine Bool T FlagCall FlagPoint (Answer T)
   model = flag_machine
 
@@ -90,42 +90,44 @@ module _ {T : Type 0} where
   abbrev pub IsFlag : Opening T → ℕ → Trace (Done T) (Unit {0}) → List (Numbered View) → Type 0
   IsFlag opening = Runs (model opening.value) seat_of words_of Word opening.name
 
-  -- each holder has the value to itself; the value that nobody holds is the one written last
+  -- each holder has the value to itself; while nobody holds the lock, its value is the one written last
   abbrev pub flag_ways : Opening T → Ways T (Numbered View) (Trace (Done T) (Unit {0}))
   flag_ways opening = (alone, use_of_party, last opening)
 
-  -- what a step tells of its moves, for a lock that opened with this value
+  -- what a step tells of its moves, in a lock that opened with the value `v`
   abbrev pub Told : T → Says T → Option (Numbered View) → List (Done T) → List (Done T) → ℕ → Numbered View → Type 0
   Told v = Tells (model v) seat_of words_of
 
-  -- The steps: the outcome and the next view of each, by the number found
+  -- The steps. The number that a step finds decides its outcome and the next view of its party.
 
+  -- the load of `is_locked`
   abbrev pub looks_by : Says T
   looks_by = step_by false IsLocked (λ n. Answered (Is (set n)) None) (λ n. Idle)
 
+  -- the exchange of `try_lock`
   abbrev pub tries_by : Says T
   tries_by = step_by false TryLock (if_clear (Answered Granted None) (Answered Refused None)) (if_clear Holding Idle)
 
-  -- the exchange of `lock`, in a call under way (true) or in a new one, and its look
+  -- the exchange of `lock`: with `true` the call is under way, with `false` it begins here
   abbrev pub tried_by : Bool → Says T
   tried_by goes_on = step_by goes_on Lock (if_clear (Answered Granted None) GoingOn) (if_clear Holding Looking)
 
+  -- the look of `lock`
   abbrev pub looked_by : Says T
   looked_by = step_by true Lock (λ n. GoingOn) (if_clear Trying Looking)
 
-  -- the release: the holder writes the value that it leaves
+  -- the release: the holder first writes the value that it leaves in the lock
   abbrev pub frees_by : Says T
   frees_by = leaves_by (λ x. Unit {0}) Release answer.Done Idle
 
-  -- For a pass of a lock that opened with the value v: since it knew `old` it has made exactly the moves of this
-  -- course
+  -- For a pass of a lock that opened with the value `v`. Since the pass knew `old`, it has made the moves of this course and no others.
   abbrev pub Moves : T → Course T FlagCall (Answer T) → Between T FlagCall View
   Moves v course view old view' new = Made (model v) view old view' new course
 
-  -- it has made exactly this call, with this answer
+  -- since then the pass has made exactly the call `c`, which had the answer `a`
   abbrev pub Called : T → FlagCall → Answer T → Between T FlagCall View
   Called v c a = Moves v (IsCall c a)
 
-  -- it has written a value that satisfies Q, and then released the lock
+  -- since then the pass has written a value that satisfies `Q`, and then released the lock
   abbrev pub Left : T → (T → Type 0) → Between T FlagCall View
   Left v Q = Moves v (WritesSome Q (IsCall Release answer.Done))

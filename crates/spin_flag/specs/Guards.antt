@@ -9,5 +9,6 @@ use Rattle.spin_flag.specs.Flag.{Done}
 use Rattle.spin_flag.specs.declared.spin.rule.View.{View}
 
 module _ {T P R S : Type 0} where
+  -- `seen` is the history of the guard's lock up to the last step of the guard's party
   abbrev pub Holds : Guard T (Numbered View) P R (Opening T) S → Watch (Done T) → Type 0
   Holds guard seen = ((guard_key guard).name ≡ seen.name) × ((guard_view guard).2 ≡ length seen.entries)

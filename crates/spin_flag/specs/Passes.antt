@@ -1,4 +1,4 @@
--- What a pass knows: the lock's history so far, and which of its moves are the pass's own.
+-- What a pass knows: the lock's history up to the pass's last step, and which moves of the history are its own.
 use Rattle.std.specs.Prelude.{◌≡◌, ℕ, Bool, Option, List}
 use Rattle.spin_core.specs.Own.{Numbered}
 use Rattle.spin_model.specs.declared.answer.Answer.TheVariants.{Granted, Is}
@@ -14,17 +14,19 @@ module _ {T R : Type 0} where
   abbrev pub history : Pass T R → List (Done T)
   history it = it.seen.entries
 
-  -- the name of a lock's history; also by a pass of the lock
+  -- the name of a lock's history
   abbrev pub name_of : SpinMutex T R → ℕ
   name_of lock = lock.cell.name
 
+  -- the same name, by a pass of the lock
   abbrev pub lock_of : Pass T R → ℕ
   lock_of it = it.seen.name
 
-  -- what was fixed when the lock was made: that name, and the opening value; also by a pass of the lock
+  -- what was fixed when the lock was made: the name of its history, and the value that it opened with
   abbrev pub opening : SpinMutex T R → Opening T
   opening lock = lock.cell
 
+  -- the same, by a pass of the lock
   abbrev pub opening_of : Pass T R → Opening T
   opening_of it = it.permit.key
 
@@ -32,11 +34,11 @@ module _ {T R : Type 0} where
   abbrev pub party : Pass T R → Option (Numbered View)
   party it = it.permit.view
 
-  -- since then the pass has called `is_locked` once, with this answer
+  -- from `before` to `now` the pass has made one call, `is_locked`, with this answer
   abbrev pub Looked : Bool → Pass T R → Pass T R → Type 0
   Looked set before now = Called (opening_of before).value IsLocked (Is set) (party before) (history before) (party now) (history now)
 
-  -- since then the pass has acquired the lock and released it, once; it left a value that satisfies Q
+  -- From `before` to `now` the pass has acquired the lock once by `lock`, and has released it. It left a value that satisfies `Q`.
   abbrev pub HeldWith : (T → Type 0) → Pass T R → Pass T R → Type 0
   HeldWith Q before now =
       (view : Option (Numbered View)) × (seen : List (Done T)) × (lock : Opening T) × (lock ≡ opening_of before) × Called (opening_of before).value Lock Granted (party before) (history before) view seen

@@ -22,13 +22,13 @@ module _ {T : Type 0} where
   abbrev pub granted : Grant T → Spot T
   granted it = (it.writer.key, Some it.writer.view, it.seen)
 
-  -- an exchange is granted, or the call waits
+  -- the result of an exchange of `lock`: the call is granted the lock, or waits
   abbrev pub Exchanges : Bool → Spot T → Result (Grant T) (Waiting T) → Type 0
   Exchanges goes_on p r =
       IfOk r (λ grant. Since model_at (IsStep goes_on Lock (Answered Granted None)) p (granted grant)) × IfErr r
       (λ next. Since model_at (IsStep goes_on Lock GoingOn) p (here next))
 
-  -- a call that waits is granted, or continues to wait
+  -- the result of a look, with the exchange after it: the call that waited is granted the lock, or still waits
   abbrev pub GoesOn : Waiting T → Result (Grant T) (Waiting T) → Type 0
   GoesOn was r =
       (p : Spot T) → IsIn model_at Lock p (here was)

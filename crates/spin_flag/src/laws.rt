@@ -8,8 +8,8 @@ ghost use Rattle.spin_flag.specs.declared.spin.rule.View.{View};
 
 /// States that each run of a [`SpinMutex`](crate::spin::SpinMutex) on threads is a schedule of its model.
 ///
-/// The lock's cell keeps the list of all moves that threads have made in it: which party, and which move. The list is
-/// ghost state, and takes no memory.
+/// The lock's cell keeps the list of all moves that threads have made in it. An entry names the party and its move. The
+/// list is ghost state, and takes no memory.
 ///
 /// # Contract
 /// The law holds between any two steps of threads (`IsFlag`): no move of the list is skipped in the model. After all

@@ -132,7 +132,8 @@ impl<T, R: RelaxStrategy> SpinMutex<T, R> {
     pub fn lock<W: Wait>(&self, rt: &W) -> SpinMutexGuard<'_, T, R>
         ensures { IsHolder use_of_party result }
     {
-        // This repeats `Pass::lock`: calling that would make the path for a free lock two instructions longer.
+        // This repeats `Pass::lock`. A call of `Pass::lock` would make the path for a free lock two instructions
+        // longer.
         let Grant { writer, seen: _ } = match try_with(self.cell.enter(), self.cell.watch()) {
             Ok(grant) => grant,
             Err(waiting) => waiting.wait::<R, W>(rt),
@@ -147,7 +148,7 @@ impl<T, R> SpinMutex<T, R> {
     /// It makes one compare-exchange.
     ///
     /// # Contract
-    /// A guard belongs to a holder of the lock (`IsHolder`). `None` promises nothing. The call returns.
+    /// The guard in `Some` belongs to a holder of the lock (`IsHolder`). `None` promises nothing. The call returns.
     ///
     /// # Examples
     /// ```
@@ -172,7 +173,7 @@ impl<T, R> SpinMutex<T, R> {
     /// does.)
     ///
     /// # Contract
-    /// That of `try_lock`.
+    /// Like that of `try_lock`.
     #[must_use = "dropping the guard at once releases the lock: bind the answer, or write `drop(..)`"]
     pub fn try_lock_weak<'a>(&'a self) -> Option<SpinMutexGuard<'a, T, R>>
         ensures { IfSome result (IsHolder use_of_party) }

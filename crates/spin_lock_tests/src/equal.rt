@@ -1,4 +1,4 @@
-//! What each test asserts: the found value is the wanted one.
+//! The assertion of each test: the value found is the value wanted.
 use std::fmt::Debug;
 use std::process::Abort;
 

@@ -1,5 +1,5 @@
-//! What has to succeed: tries of a lock as a trait, shared access with other readers, and registrations in any number.
-//! Also who waits, and for whom.
+//! What has to succeed: the tries of the trait `Lock`, shared access beside other readers, and registrations in any
+//! number. Also which thread waits for which.
 use crate::equal::equal;
 use crate::waiting::{await_number, comes_to, has_turn, pause};
 use spin_core::lock::{Lock, SharedLock};
@@ -43,7 +43,7 @@ fn a_shared_try_is_granted_beside_a_reader(rt: HostRuntime) {
     drop(writer);
 }
 
-// Returns `true` if the other thread arrived while this one read.
+// Returns `true` if the other thread arrived while this thread had shared access.
 fn meet<R: Wait>(rt: &R, lock: &RwLock<u64, Yield>, came: &AtomicU64) -> bool {
     lock.with_shared(rt, |_value| {
         came.fetch_add(1, SeqCst);
@@ -59,7 +59,8 @@ fn two_share_a_lock_at_once(rt: HostRuntime) {
     equal(&rt, met, (true, true));
 }
 
-// Waits until the other thread waits, and then releases what it waits for. The other thread has to continue.
+// Waits until the other thread waits, and then drops the guard for which that thread waits. The other thread has to
+// continue.
 fn lets_go<G: Drop, R: Abort + Wait>(rt: &R, guard: G, came: &AtomicU64, done: &AtomicU64) {
     await_number(rt, came, 1);
     pause(rt);
@@ -164,7 +165,7 @@ impl RelaxStrategy for Slow {
 
 const SLOW_LOOKS: u32 = 200;
 
-// Returns `true` if a reader is refused within this many looks.
+// Returns `true` if a `try_read` fails within `SLOW_LOOKS` looks.
 fn comes_to_ask<R: Wait>(rt: &R, lock: &RwLock<u64, Slow>) -> bool {
     for _ in 0..SLOW_LOOKS {
         if lock.try_read(rt).is_none() {
@@ -198,7 +199,7 @@ fn an_upgrade_asks_before_it_relaxes(rt: HostRuntime) {
 
 const TURNS: u64 = 600_000;
 
-// Returns `true` if each try succeeded, while turns are left.
+// Reads while turns are left. Returns `true` if each try succeeded.
 fn reads_beside_counts<R: Wait>(rt: &R, lock: &RwLock<u64>, turns: &AtomicU64) -> bool {
     let mut granted = true;
     for _ in 0..TURNS {

@@ -28,7 +28,7 @@ fn many_read_or_one_writes(rt: HostRuntime) {
 
 const TURNS: u64 = 2000;
 
-// Adds to both numbers, with a read in between. A reader always sees equal numbers.
+// Adds to both numbers under one guard, and reads both under another. A reader always sees equal numbers.
 fn add_and_read<W: Wait>(rt: &W, latch: &Latch<(u64, u64)>) -> bool {
     let mut same = true;
     for _ in 0..TURNS {

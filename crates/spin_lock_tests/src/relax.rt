@@ -1,4 +1,4 @@
-//! How long a call that backs off pauses, which no contract says.
+//! How long a call pauses when it backs off. No contract says this.
 use crate::equal::equal;
 use spin_core::relax::{MAX_HINTS, RelaxStrategy};
 use std::cell::Cell;
@@ -20,7 +20,7 @@ impl RelaxStrategy for Strict {
     }
 }
 
-// More attempts than it takes for a doubled number to overflow.
+// So many attempts that a number doubled after each one would overflow.
 const ATTEMPTS: u32 = 100;
 
 #[test]

@@ -1,6 +1,6 @@
-//! The locks ask of their value as much as a `&mut` to it, or a `&` to it, whatever the strategy is. These tests show
-//! that this is enough. The edits of the crates show that less is not, except for the `Sync` of a `Held`, which asks
-//! more than it needs.
+//! The locks ask of their value as much as a `&mut` to the value, or a `&` to the value, whatever the strategy is.
+//! These tests show that these bounds are enough. The must-fail edits of the crates show that weaker bounds are not.
+//! The exception is the `Sync` of a `Held`, which asks more than it needs.
 use spin_core::relax::Spin;
 use spin_fair::fair::{FairMutex, FairMutexGuard, Starvation};
 use spin_flag::spin::{SpinMutex, SpinMutexGuard};
@@ -49,7 +49,8 @@ fn are_shared<'a, T: Sync + 'a, R: 'a>() {
     is_sync::<RwLockWriteGuard<'a, T, R>>();
 }
 
-// These lend their value to several threads. An initialiser need not be shared, since nobody reads it through a `&`.
+// These locks lend their value to several threads. An initialiser need not be `Sync`, since nobody reads it through a
+// `&`.
 fn travel_and_are_shared<'a, T: Send + Sync + 'a, F: Send, R: 'a>() {
     is_sync::<RwLock<T, R>>();
     is_send::<RwLockReadGuard<'a, T, R>>();

@@ -1,4 +1,4 @@
-//! The steps and the small locks of `spin_core_tests`: who finds what, and who is refused.
+//! The steps and the small locks of `spin_core_tests`: what each party finds, and which party is refused.
 ghost use Rattle.std.specs.Prelude.{◌<◌};
 
 use crate::equal::equal;

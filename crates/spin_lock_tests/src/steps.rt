@@ -1,4 +1,4 @@
-//! What the contracts of the step functions leave to a run: each returns the word that it should.
+//! What the contracts of the step functions leave to tests: each function returns the right word.
 
 mod rw;
 

@@ -1,4 +1,4 @@
-//! The texts as they are printed, also with options. Printing does not change a lock.
+//! The texts that `{:?}` and `{}` print, also with options. Printing does not change a lock.
 use crate::equal::equal;
 use spin_core::relax::Yield;
 use spin_fair::fair::FairMutex;
@@ -17,7 +17,7 @@ fn debug_is<T: Debug>(rt: &(impl Abort + AllocGlobal), value: &T, text: &str) {
     equal(rt, found.as_str(), text);
 }
 
-// Checks both texts of a guard.
+// Checks the texts that `{:?}` and `{}` print for a guard.
 fn prints<G: Debug + Display>(
     rt: &(impl Abort + AllocGlobal),
     guard: &G,

@@ -1,4 +1,4 @@
--- What a step tells a party that keeps a record of its calls, and how that record grows from step to step.
+-- What a step tells a party that keeps a record of its calls, and how the party's steps add up to its calls.
 use Rattle.std.proofs.Common.{◌≡◌, ℕ, ◌+◌, Bool, true, false, Option, Some, None, List, [], ◌∷◌, ◌++◌, replicate, length, ◌≢◌, refl, sym, ap, ◌∙◌, subst}
 use Rattle.std.proofs.lemmas.List.{append_assoc}
 use Rattle.std.specs.Prelude.{Result, Ok, Err, IsSomeAnd}
@@ -50,7 +50,7 @@ module _ {T S : Type 0} (makes : S → T → Type 0) where
   unfolding IsOnce
   may_know key seen named = passes.may_know (IsOnce key.opening) (once_ways makes key) key.opening.name (λ n t vs is. is.0.0) seen.name named
 
-  -- of a party at p that makes a step, and is then at q
+  -- for a party that makes one step, from the point `p` to the point `q`
   module _ (p q : Place T S) (found : ℕ) (knew : mark_of p.1 ≡ length p.2.entries) (named : p.0.opening.name ≡ p.2.name) (same : q.0 ≡ p.0) (says : Says)
       (moved : Moved (Watches (Of p.0 p.2.name) p.2 q.2 (Told p.0.opening says p.1) found) q.1) where
     abbrev m : Machine ℕ (Unit {0}) (OnceCall (Unit {0})) Point (Answer (Unit {0}))
@@ -65,7 +65,7 @@ module _ {T S : Type 0} (makes : S → T → Type 0) where
     knew_all : mark_of p.1 ≡ length before.entries
     knew_all = knew ∙ sym (as_long p.2.entries)
 
-    -- it knows all again, by a watch of the same trace, and the value where it uses it
+    -- After the step the party knows all moves up to this step, in the trace of its cell. If it uses the content, it sees the content.
     pub keeps : (shown shown' : Option (MaybeStable (Stage T S)))
         → (use_of use_of_party p.1 ≡ use_of use_of_party q.1 → Sees p.0.opening p.2.entries (use_of use_of_party p.1) shown)
         → Keeps (once_ways makes p.0) p.1 q.1 shown shown' → Found (once_ways makes p.0) p.1 q.1 shown shown' q.2
@@ -87,7 +87,7 @@ module _ {T S : Type 0} (makes : S → T → Type 0) where
           (passes.learns m seat_of words_of says (Of p.0 p.2.name) p.1 before now found v knew_all bare_moved).1 ∙ as_long q.2.entries,
         )
 
-    -- where it is, and which moves it made, if a step says so
+    -- the party's next view and its moves, if the step says that the number found decides them
     pub made : (to : ℕ → View) (course : ℕ → Moving)
         → ((own : List OneMove) (outs : List Ending) (n : ℕ) (v : View) → says own outs n v → (v ≡ to n) × course n own outs)
         → Since p (course found) q × (what q.1 ≡ Some (to found))
@@ -98,7 +98,7 @@ module _ {T S : Type 0} (makes : S → T → Type 0) where
         (bared makes p.0 says (Of p.0 p.2.name) p.1 p.2 q.2 found q.1 moved) in
         ((same, it.named, it.made), it.is)
 
-  -- the next step of its call
+  -- the next step of the party's call
   pub turned : (c : OnceCall (Unit {0})) (p q : Place T S) (found : ℕ) → mark_of p.1 ≡ length p.2.entries → p.0.opening.name ≡ p.2.name → q.0 ≡ p.0
       → Moved (Watches (Of p.0 p.2.name) p.2 q.2 (Told p.0.opening (turn_by c (what p.1)) p.1) found) q.1 → Turned c found p q
   turned c p q found knew named same moved =
@@ -106,7 +106,7 @@ module _ {T S : Type 0} (makes : S → T → Type 0) where
       made p q found knew named same (turn_by c view) moved (λ n. view_of d (next_at d l n)) (λ n. IsStep (has_begun view) d (outcome_of (next_at d l n)))
       (λ own outs n v said. said)
 
--- ---- one after another
+-- ---- steps one after another
 module _ {T S : Type 0} (p q : Place T S) where
   pub weaker : (P Q : Moving) → ((own : List OneMove) (outs : List Ending) → P own outs → Q own outs) → Since p P q → Since p Q q
   unfolding Moves
@@ -138,7 +138,7 @@ module _ {T S : Type 0} (p q r : Place T S) where
   pub since_same : (P : Moving) → Same p q → Since q P r → Since p P r
   since_same P same made = subst (λ x. Since x P r) (one p q same) made
 
-  -- and is shown the value
+  -- the same for a party that has found the value
   pub shown : (P : Moving) (value : T) → Since p P q → Same q r → IsValue r.0.opening r.2.entries value → Since p P r × IsValue p.0.opening r.2.entries value
   shown P value made same is = let since = same_since P made same in (since, subst (λ k. IsValue k.opening r.2.entries value) since.0 is)
 
@@ -189,7 +189,7 @@ module _ {T S : Type 0} (b : Bool) (p q : Place T S) (since : Since p Waits q) w
   attempts_on (Ok found) later = claims_on found later
   attempts_on (Err account) later = (and_waits p q (here account) since later.0, later.1)
 
--- and now runs its closure
+-- the view of a party that may run its closure passes the test `is_running`
 pub runs_closure : (b : Bool) (view : Option (Numbered View)) → what view ≡ Some (in_closure b Run) → IsSomeAnd (what view) (λ v. is_running v ≡ true)
 runs_closure b view is = rw is (by b)
   where
@@ -212,7 +212,7 @@ module _ {T S : Type 0} (p q : Place T S) (c : OnceCall (Unit {0})) (n : ℕ) wh
   abbrev At : Option View → Onward → Type 0
   At view next = let d = call_from c view in Since p (IsStep (has_begun view) d (outcome_of next)) q × (what q.1 ≡ Some (view_of d next))
 
-  -- the first one
+  -- the first step of a call
   module _ (out : is_out (what p.1) ≡ true) (step : Turned c n p q) where
     first : At None (next_at c Look n)
     first = by (what p.1) out step
@@ -229,7 +229,7 @@ module _ {T S : Type 0} (p q : Place T S) (c : OnceCall (Unit {0})) (n : ℕ) wh
     pub comes_in : (l : OncePoint) → next_at c Look n ≡ Continue l → Since p (Begins c Waits) q × (what q.1 ≡ Some (InCall c l))
     comes_in l is = let it = subst (At None) is first in (begins p q c it.0, it.1)
 
-  -- a later one
+  -- a later step of a call
   module _ (d : OnceCall (Unit {0})) (l : OncePoint) (at : what p.1 ≡ Some (InCall d l)) (step : Turned c n p q) where
     next : At (Some (InCall d l)) (next_at d l n)
     next = subst (λ view. At view (next_at (call_from c view) (point_of view) n)) at step
@@ -240,7 +240,7 @@ module _ {T S : Type 0} (p q : Place T S) (c : OnceCall (Unit {0})) (n : ℕ) wh
     pub goes_by : (k : OncePoint) → next_at d l n ≡ Continue k → Since p Waits q × (what q.1 ≡ Some (InCall d k))
     goes_by k is = let it = subst (At (Some (InCall d l))) is next in (goes p q d it.0, it.1)
 
--- Of a party with the right to run its closure: at p its permit is taken apart, and by a store it comes to q.
+-- For a party with the right to run its closure. At `p` its permit has been taken apart. By a store the party comes to `q`.
 module _ {T S : Type 0} (makes : S → T → Type 0) (me : InitPermit T S) (p : Place T S) (same : Same (running me) p) where
   pub permit_named : p.0.opening.name ≡ p.2.name
   permit_named = subst (λ x. x.0.opening.name ≡ x.2.name) (sym (one (running me) p same)) me.named
@@ -256,7 +256,7 @@ module _ {T S : Type 0} (makes : S → T → Type 0) (me : InitPermit T S) (p : 
       stored to course means = let it = made makes p q 0 knows permit_named key says moved to course means in
           (since_same (running me) p q (course 0) same it.0, it.1)
 
-      -- it no longer writes
+      -- what a party knows that no longer writes after the store
       pub keeps_end : (u : View) → what q.1 ≡ Some u → use_of_view u ≢ writes → (shown shown' : Option (MaybeStable (Stage T S)))
           → Keeps (once_ways makes p.0) p.1 q.1 shown shown' → Found (once_ways makes p.0) p.1 q.1 shown shown' q.2
           → (q.0.opening.name ≡ q.2.name) × (mark_of q.1 ≡ length q.2.entries) × Sees q.0.opening q.2.entries (use_of use_of_party q.1) shown'
@@ -275,7 +275,7 @@ module _ {T S : Type 0} (makes : S → T → Type 0) (me : InitPermit T S) (p : 
         (since_same (running me) p q (Ends (Value tt)) same it.0, it.1)
 
 -- ---- a party that is in no call
--- its next step is a load
+-- the next step of such a party is a load
 pub looks_first : (view : Option View) → is_out view ≡ true → is_load (point_of view) ≡ true
 looks_first None out = refl
 looks_first (Some Idle) out = refl

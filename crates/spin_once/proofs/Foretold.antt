@@ -1,6 +1,5 @@
--- A run of a `Once` on threads is a schedule of its object. It leads to the same words and value, and to the same
--- seats.
--- In these each call is named by whether its closure will fail.
+-- A run of a `Once` on threads is a schedule of its object. The schedule leads to the same words and value, and to the same seats. In the
+-- seats of the object the name of each call says whether its closure will fail.
 use Rattle.std.proofs.Common.{◌≡◌, ℕ, zero, suc, ◌+◌, ◌≤◌, ◌==◌, if◌then◌else◌, Bool, true, false, ◌&&◌, Option, Some, None, List, [], ◌∷◌, ◌++◌, length, map, take, drop, replicate, slice_get, slice_set, refl, sym, ap, ◌∙◌, subst, arith, eq-eqb, ne_eqb, eqb-true}
 use Rattle.std.specs.Option.{option_map}
 use Rattle.std.specs.List.{list_all}
@@ -28,7 +27,7 @@ use Rattle.spin_once.specs.declared.once_core.rule.View.TheVariants.{Reading, In
 use Rattle.spin_once.proofs.Resting.{Call, World, is_step, rests, rests_after}
 use Rattle.spin_once.proofs.Named.{Object, seat_named, seats_named, object, Alike, renamed, t, m, named_get, named_set, named_alike, named_idle, put_same, moves_alike}
 
--- the part of the object's schedule for these moves, if others follow them
+-- the part of the object's schedule for the moves `es`, if the moves `later` follow them
 abbrev before : List Made → List Made → List Made
 before [] later = []
 before (e ∷ es) later = told_of e.0 e.1 (will_fail (es ++ later) e.0) (before es later)
@@ -57,12 +56,12 @@ till es later = ap (λ k. take k (foretold (es ++ later))) (sym (as_long es late
 before_nil : (es : List Made) → before es [] ≡ foretold es
 before_nil es = sym (append-nil (before es [])) ∙ sym (joined es []) ∙ ap foretold (append-nil es)
 
--- so the schedule is that part, and then the part for the later moves
+-- so the object's schedule is the part for the moves `es`, followed by the part for the moves `later`
 pub split : (es later : List Made) → foretold (es ++ later) ≡ take (length (foretold es)) (foretold (es ++ later)) ++ foretold later
 split es later = joined es later ∙ ap (λ l. l ++ foretold later) (sym (till es later))
 
 module _ (given : Option (Unit {0})) where
-  -- a party in no call makes no step before it begins one, and no closure of it fails
+  -- A party that is in no call makes no step before it begins a call. Until then no closure of this party fails.
   own_quiet : (s : World) (q : ℕ) (move : OneMove) (later : Bool) (o : Option (Seat Call Point)) → rests o ≡ true → is_played (moves_at (m given) s q move o).outcome ≡ true → ((is_step move ≡ true → ⊥) → later ≡ false)
       → fails_by move later ≡ false
   own_quiet s q (Begin c) later o is played still = refl
@@ -88,7 +87,7 @@ module _ (given : Option (Unit {0})) where
       let each = and_parts (is_played (happens (m given) s e.0 e.1).outcome) (list_all is_played (outcomes (m given) s' es)) played in
       quiet_by s e.0 p e.1 (will_fail es p) is each.0 (λ ne. quiet es s' p each.1 (rests_after given s e.0 p is e.1 (slice_get s.seats e.0) ne)) (e.0 == p) refl
 
-  -- from this state these entries lead the object to that state, and none of them is skipped
+  -- from the state `o` these entries lead the object to the state `end`, and none of them is skipped
   abbrev Leads : Object → List Made → Object → Type 0
   Leads o es end = (after (t given) o es ≡ end) × (list_all is_played (outcomes (t given) o es) ≡ true)
 
@@ -104,7 +103,7 @@ module _ (given : Option (Unit {0})) where
       → Alike f (happens (m given) s p move) (happens (t given) (object f s) p (renamed move (f p)))
   happens_alike f s p move still ne = rw (named_get f s.seats p) (at_alike f s p move (slice_get s.seats p) refl still ne)
 
-  -- the closure fails; in the object the call had that name from its beginning
+  -- a closure fails: the object's seats stay as they are, since the call had that name from its beginning
   failed_seats : (f g : ℕ → Bool) (xs : List (Seat Call Point)) (p : ℕ) (v : Unit {0}) (h : Option Hold) → slice_get xs p ≡ Some (Calling (TryCallOnceOk v) (at Run) h) → f p ≡ true → ((q : ℕ) → (p ≡ q → ⊥) → f q ≡ g q)
       → seats_named f xs ≡ seats_named g (slice_set xs p (Calling (TryCallOnceOk v) failed h))
   failed_seats f g xs p v h there fails others =
@@ -125,7 +124,7 @@ module _ (given : Option (Unit {0})) where
       ap (λ xs. let o : Object = record { words = s.words; value = s.value; seats = xs } in o) (failed_seats (will_fail ((p, Weak) ∷ es)) (will_fail es) s.seats p v h there (rw (eq-eqb p p refl) refl) (λ q ne. rw (ne_eqb p q ne) refl))
   weak_alike s p es _ there played = absurd (let d : false ≡ true = played in cc)
 
-  -- later moves name another party's call as before, and say nothing of a party that rests
+  -- Later moves decide how the object names the present calls. If the next move is not `Weak`, the moves after it give the same names.
   pub named_later : (s : World) (p : ℕ) (move : OneMove) (es : List Made) (o : Option (Seat Call Point)) → slice_get s.seats p ≡ o → is_played (moves_at (m given) s p move o).outcome ≡ true → (move ≡ Weak → ⊥)
       → object (will_fail ((p, move) ∷ es)) s ≡ object (will_fail es) s
   named_later s p move es o there played ne =
@@ -167,18 +166,18 @@ module _ (given : Option (Unit {0})) where
       one_more s p Weak es later head tail ends = subst (λ o. Leads o (before es later) (object (will_fail later) (after (m given) s ((p, Weak) ∷ es)))) (sym (weak_alike s p (es ++ later) (slice_get s.seats p) refl head)) ends
       one_more s p move es later head tail ends = other_alike s p move (es ++ later) (before es later) (object (will_fail later) (after (m given) s ((p, move) ∷ es))) head tail (λ e. absurd (cc e)) ends
 
-  -- if others follow these moves, their part of the schedule leads the object to where they lead
+  -- if the moves `later` follow the moves `es`, the part of the schedule for `es` leads the object where `es` lead the model
   pub leads_on : (es later : List Made) (s : World) → list_all is_played (outcomes (m given) s (es ++ later)) ≡ true
       → after (t given) (object (will_fail (es ++ later)) s) (take (length (foretold es)) (foretold (es ++ later))) ≡ object (will_fail later) (after (m given) s es)
   leads_on es later s played = ap (after (t given) (object (will_fail (es ++ later)) s)) (till es later) ∙ (run_alike es later s played).0
 
-  -- and so does the whole schedule
+  -- the whole schedule leads the object where all moves lead the model
   pub all_alike : (es : List Made) (s : World) → list_all is_played (outcomes (m given) s es) ≡ true → Leads (object (will_fail es) s) (foretold es) (object (λ p. false) (after (m given) s es))
   all_alike es s played =
       subst (λ xs. Leads (object (will_fail xs) s) (foretold es) (object (λ p. false) (after (m given) s es))) (append-nil es)
       (subst (λ ys. Leads (object (will_fail (es ++ [])) s) ys (object (λ p. false) (after (m given) s es))) (before_nil es) (run_alike es [] s (subst (λ xs. list_all is_played (outcomes (m given) s xs) ≡ true) (sym (append-nil es)) played)))
 
--- ---- from the beginning to the seats of all parties between two steps
+-- ---- a run from the beginning leads to the seats of all parties
 pub named_kept : (c : Call) → named c false ≡ c
 named_kept (TryCallOnceOk v) = refl
 named_kept c = refl

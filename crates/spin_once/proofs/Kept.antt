@@ -1,4 +1,4 @@
--- Each step keeps the rule of a value that is made once, and appends its moves.
+-- Each step keeps the rule of a value that is made once, and appends its moves to the trace.
 use Rattle.std.proofs.Common.{◌≡◌, ◌≢◌, Bool, true, false, ℕ, zero, suc, ◌+◌, replicate, ◌==◌, ◌<◌, List, [], ◌∷◌, map, Option, Some, None, refl, sym, ap, ◌∙◌, subst, arith}
 use prog.Atomic.{either}
 use Rattle.spin_step.specs.Plain.{Plain, gets, completes, fails, to_begin, once_word}
@@ -41,7 +41,7 @@ load_reads (Some (InCall c Look)) is e = absurd (let d : off ≡ writes = e in c
 load_reads (Some (InCall c Await)) is e = absurd (let d : off ≡ writes = e in cc)
 load_reads (Some _) is e = absurd (cc is)
 
--- where a closure ends, the word is 1, and there was no value
+-- while a closure runs the word is 1, and the history has no value
 abbrev at_one : ℕ → Type 0
 at_one n = n ≡ 1
 
@@ -51,7 +51,7 @@ none_yet n vs few one = few.0 (λ two. absurd (let d : 1 ≡ 2 = sym one ∙ two
 abbrev stored : Says → Says
 stored says own outs n v = says own outs 0 v
 
--- which call it is whose closure runs
+-- the call of a party that runs its closure is one of the two kinds
 pub running_call : (v : View) → is_running v ≡ true → (b : Bool) × (v ≡ in_closure b Run)
 running_call (InCall (CallOnce u) Run) is = (false, refl)
 running_call (InCall (TryCallOnceOk u) Run) is = (true, refl)
@@ -80,7 +80,7 @@ module _ {T S : Type 0} (makes : S → T → Type 0) (key : Key T S) where
   traces view shown f leads says moves allows =
       tie.traces (model given) seat_of words_of Word name Content (steps.way makes key) use_of_view no_fact view shown f leads says moves (λ own outs n u said t word p. tt) allows
 
-  -- the next step of a call, if it writes nothing
+  -- the next step of the party's call, if this step writes nothing
   module _ (c : OnceCall (Unit {0})) (view : Option (Numbered View)) (shown : Option Content) where
     abbrev was : Option View
     was = what view
@@ -120,7 +120,7 @@ module _ {T S : Type 0} (makes : S → T → Type 0) (key : Key T S) where
         (ap (λ st. use_of_view (view_of c st.next)) (as_sure b TryBegin 1))
         (ap (λ st. use_of_view (view_of c st.next)) (as_sure b TryBegin 2)) new decides))
 
-    -- the last step of a call whose closure gave a value is a write of it
+    -- the last step of a call whose closure gave a value is a write of that value
     ends_at : (first : OnceCall (Unit {0})) (p mark : ℕ) (new : ℕ) (value : T) → new ≡ 2
         → ((s : Plain) (p : ℕ) → once_word s ≡ 1 → Gives s (completes p) once_word new) → makes key.seed.value value
         → Stores (Some (in_closure b Run, p, mark)) (Some (maybe_stable (Done value))) (λ _. new) (turn_by first (Some (in_closure b Run)))
@@ -221,7 +221,8 @@ module _ {T S : Type 0} (makes : S → T → Type 0) (key : Key T S) where
   made_of_any any (Done value) done = any key.seed.value value
   made_of_any any _ done = absurd cc
 
-  -- where one reads the value it was made, and any that was made may take its place, if the trace tells it no more
+  -- The content that some party reads is a value that was made. Once the trace does not tell the value any more, any other value that was
+  -- made may replace it.
   pub stabilizes : key.opening.told ≡ false → ((it : S) (value : T) → makes it value) → StableAt (IsOnce key.opening) (once_ways makes key) is_done 2
   unfolding IsOnce
   stabilizes untold any t x lies =
@@ -239,7 +240,7 @@ module _ {T S : Type 0} (makes : S → T → Type 0) (key : Key T S) where
       untold_knows t zero y a = (untold_is (made key.opening.value t.entries) y, a)
       untold_knows t (suc w) y a = a
 
--- the owner may borrow the value: from then on the trace tells it no more
+-- the owner may borrow the value; from then on the trace does not tell the value
 module _ {T S : Type 0} (makes : S → T → Type 0) (key : Key T S) where
   less : (t : Trace (Valued T) (Unit {0})) (w : ℕ) (x : MaybeStable (Stage T S)) (A : Type 0) → Knowing (once_ways makes key).2 t w x A → Knowing (once_ways makes (lent_key key)).2 t w x A
   less t zero x A known = (at x.value, known.1)

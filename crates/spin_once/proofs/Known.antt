@@ -1,4 +1,4 @@
--- If threads may share a stage, they may share it inside the cell.
+-- If threads may share a content (`Stage`), they may share it inside the cell.
 use denote.RattleType.{RattleType}
 use denote.Param.Send.{IsSync, sendable}
 use Rattle.spin_core.specs.CellMemory.{Common}

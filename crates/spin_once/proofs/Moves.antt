@@ -1,5 +1,5 @@
--- The moves of each step of a value that is made once: a call of the model and its first step, or the next step of a
--- call under way. They are those of the model's table.
+-- The moves of each step of a value that is made once. Either the step begins a call of the model and makes its first step, or it is the
+-- next step of a call under way. The model's table has each of these steps.
 use Rattle.std.proofs.Common.{◌≡◌, ◌≢◌, Bool, true, false, ℕ, ◌==◌, [], ◌∷◌, Option, Some, None, refl, sym, ap, subst, ◌∙◌, ne_eqb, eqb-true}
 use Rattle.std.specs.List.{list_all}
 use Rattle.spin_core.specs.Run.{AreMoves, is_played, on_first, first}
@@ -36,13 +36,13 @@ Onward = Next OncePoint (Answer (Unit {0}))
 abbrev pub table : Call → OncePoint → ℕ → Stepped ℕ (Unit {0}) OncePoint (Answer (Unit {0}))
 table c l n = let m : OnceMachine (Unit {0}) = once_machine None in m.step n (Some tt) c l None
 
--- a party that is answered holds nothing
+-- a party whose call this step answers holds nothing
 abbrev pub IsFree : Onward → Type 0
 IsFree (Continue l) = Unit {0}
 IsFree (Answers a None) = seat_of (answered a) ≡ seat.Idle
 IsFree (Answers a (Some h)) = ⊥
 
--- what a step says, where it finds a number with Q
+-- what a step says that finds a number with the property `Q`
 abbrev pub finding : (ℕ → Type 0) → Says → Says
 finding Q says own outs n v = says own outs n v × Q n
 
@@ -70,7 +70,7 @@ World = State ℕ (Unit {0}) Call Point
 abbrev at_point : Call → OncePoint → ℕ → Option (Unit {0}) → World
 at_point c l n value = record { words = n; value = value; seats = seat.Calling c (at l) None ∷ [] }
 
--- where a step leads
+-- where the step of a call leads the model, if it finds the word `n`
 record Led (c : Call) (l : OncePoint) (n : ℕ) (value : Option (Unit {0})) (next : Onward) : Type 0 where
   is : (goes_on (at_point c l n value) 0 c None (onward next)).next ≡ record { words = n; value = value; seats = seat_of (view_of c next) ∷ [] }
   outcome : (goes_on (at_point c l n value) 0 c None (onward next)).outcome ≡ outcome_of next
@@ -127,7 +127,7 @@ module _ (given : Option (Unit {0})) where
           ap words_of (words n),
         )
 
-  -- the next step of the party's call, or the first of this one
+  -- the next step of the party's call; a party in no call makes the first step of the call `c`
   pub turn_moves : (c : Call) (view : Option View) (f : ℕ → ℕ) (Q : ℕ → Type 0) → ((n : ℕ) → (table (call_from c view) (point_of view) n).words ≡ f n)
       → ((n : ℕ) → IsFree (next_at (call_from c view) (point_of view) n))
       → Moves view f (Turns c view Q) (finding Q (turn_by c view))
@@ -136,14 +136,14 @@ module _ (given : Option (Unit {0})) where
   turn_moves c (Some Reading) f Q words free = first_moves c f Q words free
   turn_moves c (Some (InCall d l)) f Q words free = next_moves d f Q l words free
 
-  -- its closure has failed: the model's call continues as one whose closure fails
+  -- the closure of the party's call has failed: the model's call continues as one whose closure fails
   pub fail_moves : (f : ℕ → ℕ) → ((n : ℕ) → f n ≡ 0) → Moves (Some (in_closure true Run)) f (ComesTo (λ n. Idle) (λ n. n ≡ 1)) (finding (λ n. n ≡ 1) fails_by)
   fail_moves f zero_is n value v is =
       rw (is.0, zero_is n) (Weak ∷ Step ∷ [], GoingOn ∷ Answered Failed None ∷ [], ((refl, (refl, refl)), is.1), refl, refl, 0, value, refl, refl, refl)
 
 -- ---- the loads
 
--- A load leaves the word. Its party then has no use for the value, or finds it and reads it.
+-- A load leaves the word as it is. After the load its party does not use the value, or has found the value and reads it.
 abbrev Quietly : View → ℕ → Type 0
 Quietly Idle n = Unit {0}
 Quietly Reading n = n ≡ 2
@@ -155,7 +155,7 @@ Loads (Continue _) n = Unit {0}
 Loads (Answers a None) n = Quietly (answered a) n
 Loads (Answers a (Some h)) n = ⊥
 
--- whether there is the value, and whether another closure runs
+-- The step of a load that finds the word `n`. If `n` is 2 the call is answered with the value. If not, the call continues as `other` says.
 there : (n : ℕ) (other : Onward) → Loads (filled (Some tt) other) n → Loads (filled (Some tt) (either (n == 2) (Answers (Value tt) None) other)) n
 there n other so =
     (elim (n == 2) as (λ b. (n == 2) ≡ b
@@ -213,11 +213,11 @@ module _ (b : Bool) where
   abbrev pub c : Call
   c = closure_call b
 
-  -- the table has one line for both kinds of closures
+  -- the table has the same steps for both kinds of closures
   pub as_sure : (l : OncePoint) (n : ℕ) → table c l n ≡ table (CallOnce tt) l n
   as_sure l n = elim b as (λ t. table (closure_call t) l n ≡ table (CallOnce tt) l n) [ true ↦ refl | false ↦ refl ]
 
-  -- the exchange
+  -- the exchange by which a call begins to run its closure: the next word, and below the next view
   pub begin_words : (n : ℕ) → (table c TryBegin n).words ≡ either (n == 0) 1 n
   begin_words n = ap (λ st. st.words) (as_sure TryBegin n) ∙ by (n == 0) refl
     where
@@ -233,7 +233,7 @@ module _ (b : Bool) where
       by false true is is' = rw (is, is') refl
       by false false is is' = rw (is, is') tt
 
-  -- the store of a value
+  -- the store after a closure that gave a value
   pub end_words : (n : ℕ) → (table c Run n).words ≡ 2
   end_words n = ap (λ st. st.words) (as_sure Run n)
 

@@ -1,5 +1,5 @@
--- The seats of the object, where each call is named by whether its closure will fail. A party's move has the same
--- outcome there.
+-- The seats of the object. There the name of each call says whether its closure will fail. A party's move has the same outcome in the
+-- object as in the model.
 use Rattle.std.proofs.Common.{◌≡◌, ℕ, zero, suc, Bool, true, false, Option, Some, None, List, [], ◌∷◌, map, replicate, slice_get, slice_set, refl, sym, ap, ◌∙◌}
 use Rattle.std.specs.Option.{option_map}
 use Rattle.std.specs.List.{list_all}
@@ -135,7 +135,7 @@ module _ (f : ℕ → Bool) (s : World) (p : ℕ) where
   sets_alike v true = put_alike v s.value
   sets_alike v false = (refl, refl)
 
--- the table's step, without the present value
+-- the table's step; the present value of the `Once` plays no part in it
 abbrev raw : ℕ → Call → OncePoint → Option Hold → Stepped ℕ (Unit {0}) OncePoint (Answer (Unit {0}))
 raw w c l h = step_by one_number 0 (act_of c l h) w
 
@@ -155,7 +155,7 @@ module _ (given : Option (Unit {0})) where
   begins_named c b h = refl
 
   module _ (f : ℕ → Bool) (s : World) (p : ℕ) where
-    -- by the same step of the table
+    -- both outcomes come from the same step of the table
     by_step : (c d : Call) (h : Option Hold) (st : Stepped ℕ (Unit {0}) OncePoint (Answer (Unit {0}))) (put v v' : Option (Unit {0})) → ((l : OncePoint) → st.next ≡ Continue l → d ≡ named c (f p))
         → Alike f (goes_on (record s { words = st.words; value = placed put s.value }) p c h (onward (filled v st.next))) (goes_on (record (object f s) { words = st.words; value = placed put s.value }) p d h (filled v' st.next))
     by_step c d h st put v v' is = goes_alike f (record s { words = st.words; value = placed put s.value }) p c d h st.next v v' is

@@ -1,4 +1,4 @@
--- A party in no call of a `Once` gets into a call only by beginning it.
+-- A party that is in no call of a `Once` gets into a call only by a move that begins one.
 use Rattle.std.proofs.Common.{◌≡◌, ℕ, zero, suc, Bool, true, false, Option, Some, None, List, [], ◌∷◌, map, slice_get, slice_set, refl, ap}
 use Rattle.spin_model.specs.declared.answer.Answer.{Answer}
 use Rattle.spin_model.specs.declared.once.OnceCall.{OnceCall}

@@ -1,5 +1,4 @@
--- The steps of a value that is made once keep its rule. Each is the plain step that its step function makes, and moves
--- of the model.
+-- The steps of a value that is made once keep its rule. Each step makes the plain step of its step function, and its moves of the model.
 use Rattle.std.proofs.Common.{◌≡◌, true, ℕ, zero, suc, ◌+◌, ◌==◌, ◌<◌, List, [], ◌∷◌, ◌++◌, Option, Some, None, refl, sym, ap, subst, arith, ◌∙◌, eq-eqb}
 use mathlib.Core.Logic.{◌⊎◌, inl, inr}
 use mathlib.Core.Option.{some}
@@ -21,7 +20,7 @@ use Rattle.spin_once.specs.declared.once_core.rule.View.TheVariants.{Idle, Readi
 use Rattle.spin_once.specs.declared.once_core.rule.Stage.{Stage}
 use Rattle.spin_once.specs.declared.once_core.rule.Stage.TheVariants.{Seed, Done}
 
--- how many read the value and how many run a closure, after a party has got another view
+-- how many parties read the value, after a party has got another view; below, how many run a closure
 see_after : (id : ℕ) (view : Option View) (vs : List View) (w : View) → Stands id view vs → readers (after id view vs w) + reading (use_of use_of_view view) ≡ readers vs + reading (use_of_view w)
 see_after id None vs w at = moves (λ v. reading (use_of_view v)) id None vs w at
 see_after id (Some v) vs w at = moves (λ v. reading (use_of_view v)) id (Some v) vs w at
@@ -36,7 +35,7 @@ stands_somewhere [] few = absurd (omega (arith, few))
 stands_somewhere (InCall c Run ∷ vs) few = (0, c, refl)
 stands_somewhere (_ ∷ vs) few = let later = stands_somewhere vs few in (suc later.0, later.1, later.2)
 
--- the rule by numbers only: the word, how many read, and how many run a closure
+-- the rule by numbers only: the word, how many parties read, and how many run a closure
 abbrev Numbers : ℕ → ℕ → ℕ → Type 0
 Numbers zero r w = (r ≡ 0) × (w ≡ 0)
 Numbers (suc zero) r w = (r ≡ 0) × (w ≡ 1)
@@ -56,18 +55,18 @@ is_word (suc zero) m vs has e = let at = stands_somewhere vs (omega (arith, has)
 is_word (suc (suc zero)) m vs has e = (complete, has, refl, e)
 is_word (suc (suc (suc n))) m vs has e = absurd has
 
--- for a step that does not change the word: its party gets a view that uses nothing, or one that reads if it found 2
+-- A step that does not change the word leads to these views. The party uses nothing, or it reads, and has found the word 2.
 abbrev pub Leads : (ℕ → View) → Type 0
 Leads to = (n : ℕ) → (use_of_view (to n) ≡ off) ⊎ ((use_of_view (to n) ≡ reads) × (n ≡ 2))
 
--- the party gets this view, by the number found, of which Q holds
+-- the number found satisfies `Q`, and the party gets the view that `to` gives for it
 abbrev pub ComesTo : (ℕ → View) → (ℕ → Type 0) → ℕ → View → Type 0
 ComesTo to Q n v = (v ≡ to n) × Q n
 
 abbrev pub Any : ℕ → Type 0
 Any n = Unit {0}
 
--- if somebody reads, there is the value
+-- if some party reads, the word is 2 (complete)
 read_at : (n r w : ℕ) → Numbers n r w → 0 < r → n ≡ 2
 read_at zero r w has few = absurd (omega (arith, has, few))
 read_at (suc zero) r w has few = absurd (omega (arith, has, few))

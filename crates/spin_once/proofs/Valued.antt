@@ -1,5 +1,5 @@
--- A step that is moves of the model, in the history that has the value. The last step of a call whose closure gave a value is a write of it there.
--- It keeps what is known of the value.
+-- A step that makes moves of the model, in the history with the values. In this history the last step of a call whose closure gave a value
+-- is a write of that value. Each step keeps what is known of the value.
 use Rattle.std.proofs.Common.{◌≡◌, ◌≢◌, ℕ, suc, ◌≤◌, Bool, true, false, Option, Some, None, is_some, List, [], ◌∷◌, ◌++◌, map, length, refl, sym, ap, ◌∙◌, subst, arith}
 use Rattle.std.proofs.lemmas.List.{append_assoc, append-nil, map-append}
 use mathlib.Core.List.{IsPrefix}
@@ -49,7 +49,7 @@ module _ {T : Type 0} where
   values_by p [] = refl
   values_by p (move ∷ own) = ap (λ l. value_of move ++ l) (values_by p own)
 
-  -- moves that write nothing
+  -- the moves of the history for moves of the model that write nothing
   abbrev plain_move : OneMove → ValueMove T
   plain_move (Begin c) = Begin c
   plain_move Weak = Weak
@@ -74,19 +74,19 @@ module _ {T : Type 0} where
     made_by : (log : List (Valued T)) (p : ℕ) (own : List (ValueMove T)) → made first (log ++ by_party p own) ≡ made first log ++ values_of own
     made_by log p own = made-append log (by_party p own) ∙ ap (λ l. made first log ++ l) (values_by p own)
 
-  -- the only value of a list that goes on to at most one
+  -- a list with at most one value, which begins with `v`, has only `v`
   only : (v : T) (more : List T) → length (v ∷ more) ≤ 1 → v ∷ more ≡ v ∷ []
   only v [] few = refl
   only v (x ∷ xs) few = absurd (omega (arith, few))
 
--- two histories, of which one goes on from the other, have the same value
+-- if one history extends another, both have the same value
 pub agree : {T S : Type 0} (opening : Opening (Stage T S)) (old new : List (Valued T)) (x y : T)
     → opening.told ≡ true → IsPrefix old new → IsValue opening old x → IsValue opening new y → x ≡ y
 agree opening old new x y told more is is' =
     let longer : y ∷ [] ≡ x ∷ values more.0 =
     sym (is' told) ∙ ap (made opening.value) (sym more.1) ∙ made-append opening.value old more.0 ∙ ap (λ l. l ++ values more.0) (is told) in sym (cc (longer))
 
--- where nobody wrote before
+-- what is known of the content carries over from a party that did not write
 pub carries_on : {X : Type 0} (φ ψ : X → Type 0) (u u' : Use) (shown : Option X) → u ≢ writes
     → ((x : X) → φ x → ψ x) → Carries φ ψ u u' shown
 carries_on φ ψ off u' shown ne on = on
@@ -116,7 +116,7 @@ module _ {T S : Type 0} (makes : S → T → Type 0) (key : Key T S) where
     abbrev pub Each : (List OneMove → ℕ → View → Type 0) → Type 0
     Each P = (own : List OneMove) (outs : List Ending) (n : ℕ) (u : View) → exact own outs n u → P own n u
 
-    -- such moves keep that there is at most one value, and what is known of it
+    -- the condition on such moves: there is still at most one value, and what is known of the value carries over
     abbrev pub Leaving : Type 0
     Leaving = Each (λ own n u. (vs : List T) → AtMostOne n vs
         → AtMostOne (f n) (vs ++ values_of (put own)) × Carries (Is vs) (Is (vs ++ values_of (put own))) (use_of use_of_party view) (use_of_view u) shown)
@@ -146,7 +146,7 @@ module _ {T S : Type 0} (makes : S → T → Type 0) (key : Key T S) where
           (subst (λ l. Tells m seat_of words_of says view (bare t.entries) l n w) (sym same) (own, outs, is, mark, none, mine, less own outs n w.0 said), few.1),
         )
 
-  -- moves that write nothing, of a party that does not write
+  -- the condition holds for moves that write nothing, of a party that does not write
   pub writes_none : (view : Option (Numbered View)) (shown : Option Content) (f : ℕ → ℕ) (says : Says)
       → use_of use_of_party view ≢ writes → ((n : ℕ) → n ≡ 2 → f n ≡ 2) → Leaving view shown f says says plainly
   writes_none view shown f says ne two own outs n u said vs few =
@@ -174,7 +174,7 @@ module _ {T S : Type 0} (makes : S → T → Type 0) (key : Key T S) where
     grows (Some v) (same, (log, es, known, is, (tells, few))) =
         (known.0 ++ es, is ∙ ap (λ l. l ++ es) (sym known.1) ∙ append_assoc before.entries known.0 es, subst (λ l. length (made first l) ≤ 1) (sym is) few)
 
-    -- a value that was the only one is the only one still
+    -- a value that was the only one before the step is still the only one
     pub stays : (view' : Option (Numbered View)) → Moved (Watches named before now (Told key.opening says view) n) view'
         → (v : T) → IsValue key.opening before.entries v → IsValue key.opening now.entries v
     stays view' moved v so is_told =
@@ -182,7 +182,8 @@ module _ {T S : Type 0} (makes : S → T → Type 0) (key : Key T S) where
         let one : made first now.entries ≡ v ∷ values g.0 = ap (made first) g.1 ∙ made-append first before.entries g.0 ∙ ap (λ l. l ++ values g.0) (so is_told) in
         one ∙ only v (values g.0) (subst (λ l. length l ≤ 1) one g.2)
 
-  -- what a party is shown where it uses the value after a step: what it was shown, if it used it so before, and else what it finds
+  -- What a party that uses the content sees after a step. If it had the same use before, it sees what it saw before. If not, it sees what
+  -- it finds.
   module _ (old new : List (Valued T)) (stays_on : (v : T) → IsValue key.opening old v → IsValue key.opening new v) where
     some_is : (before after : Option Content) → SameValue before after → is_some after ≡ true
     some_is None after same = ap is_some same.1

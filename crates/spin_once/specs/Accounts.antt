@@ -1,4 +1,4 @@
--- What a party's record of its calls says from one of its steps to a later one: which moves it has made in between.
+-- What a party's record of its calls says from one of its steps to a later one: which moves the party has made in between.
 use Rattle.std.specs.Prelude.{◌≡◌, ℕ, Bool, Option, Some, Result, Ok, Err}
 use Rattle.spin_core.specs.Cell.{use_of, writes}
 use Rattle.spin_core.specs.Own.{Numbered, what}
@@ -21,16 +21,16 @@ use Rattle.spin_once.specs.declared.once_core.rule.Stage.TheVariants.{Seed}
 use Rattle.spin_once.specs.declared.once_core.rule.View.{View}
 use Rattle.spin_once.specs.declared.once_core.rule.View.TheVariants.{Idle}
 
--- a point of a record: the key of its cell, the party's view, and what it knows of the trace
+-- a point of a record: the key of the cell, the party's view, and what the party knows of the trace
 abbrev pub Place : Type 0 → Type 0 → Type 0
 Place T S = Key T S × Option (Numbered View) × Watch (Valued T)
 
--- from the first point to the second the party has made exactly the moves of this course, in one cell
+-- from the point `p` to the point `q` the party has made exactly the moves of this course, in one cell
 abbrev pub Since : {T S : Type 0} → Place T S → Moving → Place T S → Type 0
 Since p course q = (q.0 ≡ p.0) × (q.2.name ≡ p.2.name) × Moves (given_of p.0.opening.value) course p.1 (bare p.2.entries) q.1 (bare q.2.entries)
 
--- from the first point to the second the party has made the next step of its call, which found n; if it was in no call,
--- it began this one
+-- From the point `p` to the point `q` the party has made the next step of its call, which found the word `n`. A party that was in no call
+-- began the call `c`.
 abbrev pub Turned : {T S : Type 0} → OnceCall (Unit {0}) → ℕ → Place T S → Place T S → Type 0
 Turned c n p q =
     let view = what p.1 in let d = call_from c view in let next = next_at d (point_of view) n in
@@ -46,7 +46,7 @@ module _ {T S : Type 0} where
   abbrev pub running : InitPermit T S → Place T S
   running it = (it.writer.key, Some it.writer.view, it.seen)
 
-  -- what its value is made from
+  -- what the value of the account's cell is made from
   abbrev pub seed_of : Account T S → S
   seed_of it = it.party.key.seed.value
 
@@ -54,21 +54,21 @@ module _ {T S : Type 0} where
   abbrev pub FindsSeed : Account T S → Type 0
   FindsSeed it = use_of use_of_party it.party.view ≡ writes → it.party.value ≡ Some (maybe_stable (Seed (seed_of it)))
 
-  -- the cell has the seed
+  -- the seed is still in the cell
   abbrev pub HasSeed : InitPermit T S → Type 0
   HasSeed permit = permit.writer.value ≡ maybe_stable (Seed permit.writer.key.seed.value)
 
-  -- a call with a closure is answered; or its party has the right to run its closure, and the seed is still there
+  -- A call with a closure has its answer. Or the party has the right to run its closure, and the seed is still in the cell.
   abbrev pub Claims : Bool → Place T S → Claim T S → Type 0
   Claims may_fail p (claim.Found found) = Since p (Ends (Value tt)) (here found.account)
   Claims may_fail p (claim.Init permit) = Since p Waits (running permit) × HasSeed permit × (permit.writer.view.0 ≡ in_closure may_fail Run)
 
-  -- or another closure runs
+  -- the result of a try to begin: like `Claims`, or the call waits since another closure runs
   abbrev pub Attempts : Bool → Place T S → Result (Claim T S) (Account T S) → Type 0
   Attempts may_fail p (Ok claim) = Claims may_fail p claim
   Attempts may_fail p (Err account) = Since p Waits (here account) × (what account.party.view ≡ Some (in_closure may_fail Await))
 
-  -- a whole call of `poll`
+  -- the party has made a whole call of `poll`, with this result
   abbrev pub IsPolled : Place T S → Result (Found T S) (Account T S) → Type 0
   IsPolled p (Ok found) = Since p (IsCall Poll (Value tt)) (here found.account)
   IsPolled p (Err none) = Since p (IsCall Poll NoValue) (here none) × (what none.party.view ≡ Some Idle)

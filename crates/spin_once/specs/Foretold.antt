@@ -1,6 +1,6 @@
--- A run of a `Once` on threads, as a schedule of its object. The object's table names from the beginning whether a
--- closure fails. So a call whose closure fails later is named so where it begins, and the move that reports the failure
--- is left out.
+-- A run of a `Once` on threads, as a schedule of its object. In the object's table the name of a call says from the beginning whether its
+-- closure fails. So the schedule gives a call whose closure fails later that name where the call begins, and leaves out the move that
+-- reports the failure.
 use Rattle.std.specs.Prelude.{ℕ, Bool, true, false, None, List, [], ◌∷◌, length, take, if◌then◌else◌, ◌==◌}
 use Rattle.spin_core.specs.Own.{Numbered}
 use Rattle.spin_model.specs.declared.once.OnceCall.{OnceCall}
@@ -14,23 +14,23 @@ use Rattle.spin_once.specs.Once.{OneMove}
 use Rattle.spin_once.specs.declared.once_core.rule.View.{View}
 use Rattle.spin_once.specs.declared.once_core.rule.View.TheVariants.{Idle, Reading, InCall}
 
--- the closure of the party's call fails by this move, or by a later one before another call begins
+-- whether the closure of the party's call fails, by this move or (`later`) by a later one before another call begins
 abbrev pub fails_by : OneMove → Bool → Bool
 fails_by Weak later = true
 fails_by (Begin c) later = false
 fails_by _ later = later
 
--- by these entries the closure of the party's present call fails
+-- whether the closure of the party's present call fails by these entries
 abbrev pub will_fail : List Made → ℕ → Bool
 will_fail [] p = false
 will_fail (e ∷ es) p = if e.0 == p then fails_by e.1 (will_fail es p) else will_fail es p
 
--- the call, with the name that the object gives it
+-- the name that the object gives the call, by whether its closure fails
 abbrev pub named : OnceCall (Unit {0}) → Bool → OnceCall (Unit {0})
 named (TryCallOnceOk v) true = TryCallOnceErr
 named c fails = c
 
--- an entry, followed by those for the later ones
+-- the object's entry for this move, if it has one, before the entries for the later moves
 abbrev pub told_of : ℕ → OneMove → Bool → List Made → List Made
 told_of p (Begin c) fails later = (p, Begin (named c fails)) ∷ later
 told_of p Weak fails later = later
@@ -40,12 +40,12 @@ abbrev pub foretold : List Made → List Made
 foretold [] = []
 foretold (e ∷ es) = told_of e.0 e.1 (will_fail es e.0) (foretold es)
 
--- where a party sits in the object; one that reads has its answer
+-- where a party sits in the object; a party that reads has its answer, so it is idle there
 abbrev pub place_of : View → Seat (OnceCall (Unit {0})) OncePoint
 place_of Idle = seat.Idle
 place_of Reading = seat.Idle
 place_of (InCall c l) = seat.Calling c l None
 
--- the party, with its mark counted in the object's schedule
+-- the party with its mark as a length of the object's schedule
 abbrev pub counted : List Made → Numbered View → Numbered View
 counted log v = (v.0, v.1, length (foretold (take v.2 log)))

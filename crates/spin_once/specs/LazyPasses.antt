@@ -1,4 +1,4 @@
--- What a pass of a `LazyLock` knows: its history so far, and which of its moves are the pass's own.
+-- What a pass of a `LazyLock` knows: the history up to the pass's last step, and which moves of the history are its own.
 use Rattle.std.specs.Prelude.{ℕ, List}
 use Rattle.spin_core.specs.Passes.{IsCall}
 use Rattle.spin_model.specs.declared.answer.Answer.TheVariants.{Value}
@@ -16,27 +16,29 @@ module _ {T F R M : Type 0} where
   abbrev pub history : Pass T F R M → List (Valued T)
   history it = it.account.seen.entries
 
-  -- the name of a `LazyLock`'s history; also by a pass of it
+  -- the name of a `LazyLock`'s history
   abbrev pub name_of : LazyLock T F R M → ℕ
   name_of lazy = lazy.core.cell.opening.name
 
+  -- the same name, by a pass of the `LazyLock`
   abbrev pub lock_of : Pass T F R M → ℕ
   lock_of it = it.account.seen.name
 
-  -- what was settled when a `LazyLock` was made, and of the `LazyLock` of a pass: that name, and what lay there at first
+  -- what was fixed when the `LazyLock` was made: the name of its history, and what lay in its cell at first
   abbrev pub opening : LazyLock T F R M → Opening (Stage T (Initialiser F M))
   opening lazy = lazy.core.cell.opening
 
+  -- the same, by a pass of the `LazyLock`
   abbrev pub opening_of : Pass T F R M → Opening (Stage T (Initialiser F M))
   opening_of it = it.account.party.key.opening
 
-  -- the initialiser of the `LazyLock` of a pass, and what is promised of its value
+  -- the initialiser of the `LazyLock`, by a pass of it; below, what is promised of the value
   abbrev pub initialiser_of : Pass T F R M → F
   initialiser_of it = (seed_of it.account).f.inner
 
   abbrev pub promise_of : Pass T F R M → M
   promise_of it = (seed_of it.account).promise
 
-  -- since then the pass has called `force` once, and got the value
+  -- from `before` to `now` the pass has made one call, `force`, and got the value
   abbrev pub Forced : Pass T F R M → Pass T F R M → Type 0
   Forced before now = Since (here before.account) (IsCall (CallOnce tt) (Value tt)) (here now.account)

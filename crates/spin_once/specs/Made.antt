@@ -1,4 +1,4 @@
--- A value that was made, as its owner changes it.
+-- A value that was made, which its owner may change.
 use Rattle.std.specs.Prelude.{refl}
 use denote.RattleType.{RattleType}
 use Rattle.spin_core.specs.declared.cell.stable.Stabilizes.{Ghosts}

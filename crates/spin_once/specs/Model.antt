@@ -1,7 +1,6 @@
--- The model of a `Once` on threads: the table of its object, with one difference. The table names from the beginning
--- whether a closure fails. On threads that shows only at its end.
--- Then the move `Weak` says that the closure has failed, and the call's last step is that of a call whose closure
--- fails.
+-- The model of a `Once` on threads: the table of its object, with one difference. In the table the name of a call says from the beginning
+-- whether its closure fails. On threads this shows only when the closure ends. Then the move `Weak` says that the closure has failed, and
+-- the last step of the call is that of a call whose closure fails.
 use Rattle.std.specs.Prelude.{ℕ, Option, Some, None}
 use Rattle.std.specs.Option.{option_map}
 use Rattle.spin_model.specs.declared.answer.Answer.{Answer}
@@ -16,12 +15,12 @@ use Rattle.spin_model.specs.declared.step.Stepped.{Stepped}
 use Rattle.spin_model.specs.Machines.{Machine}
 use Rattle.spin_model.specs.Once.{OnceMachine, once_machine}
 
--- a point of the table; or the call's closure has failed
+-- where a call is: at a point of the table, or after its closure has failed
 pub data Point : Type 0 where
   at : OncePoint → Point
   failed : Point
 
--- once the closure has failed, the call is one whose closure fails
+-- the call of the table; once the closure has failed, it is a call whose closure fails
 abbrev pub call_at : OnceCall (Unit {0}) → Point → OnceCall (Unit {0})
 call_at c (at l) = c
 call_at c failed = TryCallOnceErr
@@ -37,12 +36,12 @@ onward (Answers a h) = Answers a h
 abbrev on_points : Stepped ℕ (Unit {0}) OncePoint (Answer (Unit {0})) → Stepped ℕ (Unit {0}) Point (Answer (Unit {0}))
 on_points st = record { words = st.words; placed = st.placed; next = onward st.next }
 
--- the running closure fails, if it may
+-- the move `Weak`: the closure that runs fails, if it may fail
 abbrev pub fails_at : OnceCall (Unit {0}) → Point → Option Hold → Option (Next Point (Answer (Unit {0})))
 fails_at (TryCallOnceOk v) (at Run) h = Some (Continue failed)
 fails_at _ _ h = None
 
--- with this opening value, or with none; there is only one value to answer
+-- The model of a `Once` that opened with this value, or with none. All values are one value of the model, the only one of its type.
 abbrev pub model : Option (Unit {0}) → Machine ℕ (Unit {0}) (OnceCall (Unit {0})) Point (Answer (Unit {0}))
 model given =
     let m : OnceMachine (Unit {0}) = once_machine given in

@@ -1,4 +1,4 @@
--- What a pass knows: the history of its `Once` so far, and which of its moves are the pass's own.
+-- What a pass of a `Once` knows: the history up to the pass's last step, and which moves of the history are its own.
 use Rattle.std.specs.Prelude.{ℕ, Bool, Option, Some, None, List, Result, Ok, Err}
 use Rattle.spin_core.specs.Own.{Numbered}
 use Rattle.spin_core.specs.Passes.{IsCall}
@@ -25,21 +25,23 @@ module _ {T R : Type 0} where
   abbrev pub history : Pass T R → List (Valued T)
   history it = it.account.seen.entries
 
-  -- the same without the values, as the model has them
+  -- the same moves without the values, as the model has them
   abbrev pub schedule : Pass T R → List Made
   schedule it = bare (history it)
 
-  -- the name of a `Once`'s history; also by a pass of it
+  -- the name of a `Once`'s history
   abbrev pub name_of : Once T R → ℕ
   name_of once = once.core.cell.opening.name
 
+  -- the same name, by a pass of the `Once`
   abbrev pub lock_of : Pass T R → ℕ
   lock_of it = it.account.seen.name
 
-  -- what was settled when a `Once` was made, and of the `Once` of a pass: that name, and what lay there at first
+  -- what was fixed when the `Once` was made: the name of its history, and what lay in its cell at first
   abbrev pub opening : Once T R → Opening (Stage T (Unit {0}))
   opening once = once.core.cell.opening
 
+  -- the same, by a pass of the `Once`
   abbrev pub opening_of : Pass T R → Opening (Stage T (Unit {0}))
   opening_of it = it.account.party.key.opening
 
@@ -51,19 +53,19 @@ module _ {T R : Type 0} where
   abbrev pub party : Pass T R → Option (Numbered View)
   party it = it.account.party.view
 
-  -- since then the pass has made exactly this call, with this answer
+  -- from `before` to `now` the pass has made exactly this call, with this answer
   abbrev pub Called : OnceCall (Unit {0}) → Answer (Unit {0}) → Pass T R → Pass T R → Type 0
   Called c a before now = Since (here before.account) (IsCall c a) (here now.account)
 
-  -- since then it has made one call with a closure that may fail; it got the value, or its closure failed
+  -- From `before` to `now` the pass has made one call with a closure that may fail. Either the call got the value, or its closure failed.
   abbrev pub Tried : {X E : Type 0} → Result X E → Pass T R → Pass T R → Type 0
   Tried (Ok value) before now = Called (TryCallOnceOk tt) (Value tt) before now
   Tried (Err e) before now = Since (here before.account) IsFailedCall (here now.account)
 
-  -- since then it has called `call_once` once, and got the value
+  -- from `before` to `now` the pass has made one call, `call_once`, and got the value
   abbrev pub CalledOnce : Pass T R → Pass T R → Type 0
   CalledOnce before now = Called (CallOnce tt) (Value tt) before now
 
-  -- since then it has asked once whether there is a value, with this answer
+  -- from `before` to `now` the pass has made one call, `is_completed`, with this answer
   abbrev pub Looked : Bool → Pass T R → Pass T R → Type 0
   Looked there before now = Called IsCompleted (Is there) before now

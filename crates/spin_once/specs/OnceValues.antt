@@ -1,4 +1,5 @@
--- The value in the history of a value that is made once. A call whose closure gave a value ends by a write of it there, where the model has a step.
+-- The value in the history of a cell whose value is made once. A call whose closure gave a value ends with a write of that value in the
+-- history. In the model the same call ends with a step.
 use Rattle.std.specs.Prelude.{◌≡◌, ◌≢◌, ◌≤◌, ℕ, Bool, true, false, Option, Some, None, is_some, List, [], ◌∷◌, ◌++◌, map, length}
 use Rattle.spin_core.specs.Cell.{Use, off}
 use Rattle.spin_core.specs.Stable.{maybe_stable}
@@ -15,7 +16,7 @@ use Rattle.spin_once.specs.declared.once_core.rule.Key.{Key}
 use Rattle.spin_once.specs.declared.once_core.rule.Stage.{Stage}
 use Rattle.spin_once.specs.declared.once_core.rule.Stage.TheVariants.{Done}
 
--- an entry of the history, and one of the model's schedule
+-- an entry of the history; below, an entry of the model's schedule
 abbrev pub Valued : Type 0 → Type 0
 Valued T = Entry (OnceCall (Unit {0})) T
 
@@ -23,7 +24,7 @@ abbrev pub Made : Type 0
 Made = Entry (OnceCall (Unit {0})) (Unit {0})
 
 module _ {T : Type 0} where
-  -- the move of the model
+  -- the model's move for a move of the history: a write becomes a step
   abbrev pub bare_move : Move (OnceCall (Unit {0})) T → Move (OnceCall (Unit {0})) (Unit {0})
   bare_move (Begin c) = Begin c
   bare_move Step = Step
@@ -34,7 +35,7 @@ module _ {T : Type 0} where
   bare_move OwnerGet = OwnerGet
   bare_move (OwnerSet v) = OwnerSet tt
 
-  -- the schedule of the model that a history is
+  -- the model's schedule for a history
   abbrev pub bare : List (Valued T) → List Made
   bare es = map (λ e. (e.0, bare_move e.1)) es
 
@@ -44,7 +45,7 @@ module _ {T : Type 0} where
   abbrev pub bare_watch : Watch (Valued T) → Watch Made
   bare_watch w = record { marker = record {}; name = w.name; entries = bare w.entries }
 
-  -- the value that a move writes
+  -- the value, if any, that a move writes
   abbrev pub value_of : Move (OnceCall (Unit {0})) T → List T
   value_of (Write v) = v ∷ []
   value_of _ = []
@@ -58,43 +59,43 @@ module _ {T : Type 0} where
   values [] = []
   values (e ∷ es) = value_of e.1 ++ values es
 
-  -- where the word is n: there is no value before the word says so, and never a second one
+  -- Which values a history may have if the word is `n`. There is none unless the word is 2 (complete), and there is never a second one.
   abbrev pub AtMostOne : ℕ → List T → Type 0
   AtMostOne n vs = (n ≢ 2 → vs ≡ []) × (length vs ≤ 1)
 
--- whether it is a use of the value
+-- whether a party with this use uses the content at all
 abbrev pub uses : Use → Bool
 uses off = false
 uses _ = true
 
 module _ {T S : Type 0} where
-  -- the value that lies there
+  -- the value, if any, that lies in the cell
   abbrev pub lies_in : Stage T S → List T
   lies_in (Done v) = v ∷ []
   lies_in _ = []
 
-  -- whether there was one at first
+  -- whether this content, with which the cell opened, is a value
   abbrev pub given_of : Stage T S → Option (Unit {0})
   given_of (Done v) = Some tt
   given_of _ = None
 
-  -- the value that there was at first, and those that closures gave by this history
+  -- the values of a cell: the one with which it opened, if any, and those that this history writes
   abbrev pub made : Stage T S → List (Valued T) → List T
   made first es = lies_in first ++ values es
 
-  -- a value that lies there is the one that was made
+  -- A value that lies in the cell is the only one of these values. Nothing is said once the owner has borrowed the value (`told` is false).
   abbrev pub IsMade : Bool → List T → Stage T S → Type 0
   IsMade told vs (Done v) = told ≡ true → vs ≡ v ∷ []
   IsMade told vs _ = Unit {0}
 
-  -- The value is the only one in this history of a lock that opened so. It is so until the owner borrows it
+  -- The value `v` is the only one of a cell with this opening and this history. This holds until the owner borrows the value.
   abbrev pub IsValue : Opening (Stage T S) → List (Valued T) → T → Type 0
   IsValue opening es v = opening.told ≡ true → made opening.value es ≡ v ∷ []
 
-  -- a party that uses what lies there is shown it, and a value is the one that was made
+  -- A party that uses the content sees it. If it sees a value, this value is the only one of the cell.
   abbrev pub Sees : Opening (Stage T S) → List (Valued T) → Use → Option (MaybeStable (Stage T S)) → Type 0
   Sees opening es u shown = uses u ≡ true → (is_some shown ≡ true) × ((v : T) → shown ≡ Some (maybe_stable (Done v)) → IsValue opening es v)
 
-  -- the same cell once its owner has borrowed the value
+  -- the key of the cell once its owner has borrowed the value
   abbrev pub lent_key : Key T S → Key T S
   lent_key key = record { seed = key.seed; opening = untold key.opening }

@@ -5,7 +5,7 @@ ghost use base.Fml.{ftrue};
 
 use std::marker::Model;
 
-/// A value that a `&` does not show, so that it may be shared if it may be sent.
+/// A value that a `&` does not show. So it may be shared if it may be sent.
 pub(crate) struct Exclusive<F> {
     inner: F,
 }
@@ -35,7 +35,7 @@ impl<F: Drop> Drop for Exclusive<F> {
     }
 }
 
-// SAFETY: it owns only the value.
+// SAFETY: an `Exclusive` owns only the value.
 unsafe impl<F: Send> Send for Exclusive<F> {}
 
 // SAFETY: a `&` to it does not show the value. Only its owner, maybe in another thread, moves the value out.

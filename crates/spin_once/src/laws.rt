@@ -14,10 +14,11 @@ ghost use Rattle.spin_once.specs.declared.once_core.rule.View.{View};
 /// Each run of a [`Once`](crate::once::Once) or a [`LazyLock`](crate::lazylock::LazyLock) on threads is a schedule of
 /// its object.
 ///
-/// The cell keeps the list of all moves that threads have made in it so far: which party, and which move. The list is
-/// ghost state, and takes no memory. In the object's table the name of a call says whether its closure will fail. On
-/// threads this shows only when the closure ends. So in the schedule each such call is named by how it ended, and the
-/// moves that tell this are left out (`foretold`). A write of the list is the last step of its call there (`bare`).
+/// The cell keeps the list of all moves that threads have made in it so far. An entry names the party and its move. The
+/// list is ghost state, and takes no memory. In the object's table the name of a call says whether its closure will
+/// fail. On threads this shows only when the closure ends. So the schedule names each call by how its closure ended,
+/// and leaves out the moves that report failures (`foretold`). A write in the list is the last step of its call in the
+/// schedule (`bare`).
 ///
 /// # Contract
 /// The law holds between any two steps of threads (`IsOnce`): no move of the schedule is skipped in the object. After
@@ -27,14 +28,15 @@ pub fn every_run_of_a_once_is_a_schedule<T, S>()
     ensures { (opening : Opening (Stage T S)) (word : ℕ) (trace : Trace (Valued T) (Unit {0})) (parties : List (Numbered View)) → IsOnce opening word trace parties → IsRun (once_machine (given_of opening.value)) place_of words_of (foretold (bare trace.entries)) (word, trace.word) (map (counted (bare trace.entries)) parties) }
 {}
 
-/// All calls of one `Once` or `LazyLock` that answer with its value answer with the same one.
+/// All calls of one `Once` or `LazyLock` that answer with a value answer with the same value.
 ///
 /// Each call of a [`Pass`](crate::once::Pass) that answers with a reference says that its value is the only one in the
-/// history that the pass knows (`found`). Of two passes one history is a beginning of the other (`compare`).
+/// history that the pass knows (`found`). Of the histories that two passes know, one is a prefix of the other
+/// (`compare`).
 ///
 /// # Contract
-/// Let `x` be the value of a history `old`, and `y` that of a history `new` that begins with it (`IsValue`). Then both
-/// are one value.
+/// Let `x` be the value of a history `old`, and `y` that of a history `new` that begins with it (`IsValue`). Then `x`
+/// and `y` are one value.
 pub fn two_answers_of_a_once_agree<T, S>()
     ensures { (opening : Opening (Stage T S)) (old new : List (Valued T)) (x y : T) → opening.told ≡ true → IsPrefix old new → IsValue opening old x → IsValue opening new y → x ≡ y }
 {}

@@ -91,10 +91,11 @@ impl<T, F, M: Promise<T>> Seed<T> for Initialiser<F, M> {
 
 /// A value that its initialiser makes when a thread first asks for it.
 ///
-/// The initialiser runs at most once. If a thread asks while the initialiser runs, it spins until the initialiser has
-/// ended. Then it gets the same value. An initialiser that asks for the value of its own `LazyLock` never returns.
+/// The initialiser runs at most once. A thread that asks while the initialiser runs spins until the initialiser has
+/// ended. Then the thread gets the same value. An initialiser that asks for the value of its own `LazyLock` never
+/// returns.
 ///
-/// `M` says what is promised of the value, and the initialiser keeps it. By default that is nothing.
+/// `M` says what is promised of the value, and the initialiser keeps this promise. By default nothing is promised.
 ///
 /// # Examples
 /// ```
@@ -115,7 +116,7 @@ impl<T, F: FnOnce() -> T, R> LazyLock<T, F, R> {
     /// Creates a `LazyLock` whose initialiser is `f`. It runs nothing, and promises nothing of the value.
     ///
     /// # Contract
-    /// Its `initialiser` is `f`. There is no value in it at first (`opens`).
+    /// The `initialiser` of the `LazyLock` is `f`. The `LazyLock` opens without a value (`opens`).
     pub fn new(f: F) -> Self
         ensures made { initialiser result ≡ f }
         ensures opens { (lies_in (opening result).value ≡ []) × ((opening result).told ≡ true) }
@@ -128,7 +129,8 @@ impl<T, F, R, M: Promise<T>> LazyLock<T, F, R, M> {
     /// Creates a `LazyLock` whose initialiser is `f`, with a promise that the value will keep. It runs nothing.
     ///
     /// # Contract
-    /// Its `initialiser` is `f`, and its `promise` is the one given. There is no value in it at first (`opens`).
+    /// The `initialiser` of the `LazyLock` is `f`, and its `promise` is `promised`. The `LazyLock` opens without a
+    /// value (`opens`).
     ///
     /// # Examples
     /// ```
@@ -163,10 +165,10 @@ impl<T, F, R, M: Promise<T>> LazyLock<T, F, R, M> {
 }
 
 impl<T, F: Makes<T, M>, R: RelaxStrategy, M: Promise<T>> LazyLock<T, F, R, M> {
-    /// Returns the value. If no caller has run the initialiser yet, it runs it first.
+    /// Returns the value. If no caller has run the initialiser yet, the call runs it first.
     ///
-    /// While another caller runs the initialiser, the thread waits with strategy `R` until that has ended. The call
-    /// never returns if the initialiser asks for the value of this `LazyLock`.
+    /// While another caller runs the initialiser, the thread waits with strategy `R` until the initialiser has ended.
+    /// The call never returns if the initialiser asks for the value of this `LazyLock`.
     ///
     /// # Contract
     /// The initialiser has to be able to make the value (`can`). For a closure that means: its precondition holds, and
@@ -218,7 +220,7 @@ impl<T, F: Makes<T, M>, R: RelaxStrategy, M: Promise<T>> LazyLock<T, F, R, M> {
     }
 }
 
-// SAFETY: it owns its cell, which owns the initialiser, the promise and the value.
+// SAFETY: a `LazyLock` owns its cell, which owns the initialiser, the promise and the value.
 unsafe impl<T: Send, F: Send, R, M: Promise<T> + Send> Send for LazyLock<T, F, R, M> {}
 
 // SAFETY: any thread may run the initialiser, and does so alone. Then all threads may read the value at once.

@@ -16,7 +16,7 @@ mod texts;
 pub use self::pass::Pass;
 pub use crate::laws::two_answers_of_a_once_agree;
 
-/// A `Once` starts without anything, so a caller's closure may give any value.
+/// The seed of a `Once` is empty, so a caller's closure may give any value.
 impl<T> Seed<T> for () {
     ghost makes = { λ _ _. Unit {0} };
 }
@@ -24,7 +24,7 @@ impl<T> Seed<T> for () {
 /// A value that is made at most once, by a closure of one of its callers.
 ///
 /// Once there is a value it stays, and reading it costs one load. At most one closure runs at a time, and none runs
-/// once there is a value. A caller that finds one running spins until it has ended.
+/// once there is a value. A caller that finds a closure running spins until that closure has ended.
 ///
 /// A closure that waits for the value of its own `Once` never returns. A call that does not wait, such as
 /// [`get`](Once::get), finds that there is no value yet.
@@ -49,7 +49,7 @@ impl<T, R> Once<T, R> {
     /// Creates a `Once` without a value.
     ///
     /// # Contract
-    /// There is no value in it at first, and its history will have the one that a closure gives (`opens`).
+    /// The `Once` opens without a value, and its history will have the value that a closure gives (`opens`).
     pub fn new() -> Self
         ensures opens { (lies_in (opening result).value ≡ []) × ((opening result).told ≡ true) }
     {
@@ -62,7 +62,7 @@ impl<T, R> Once<T, R> {
     /// Creates a `Once` that holds `value`.
     ///
     /// # Contract
-    /// The value is there at first, so none is made (`opens`).
+    /// The `Once` opens with this value, so none is made (`opens`).
     pub fn initialized(value: T) -> Self
         ensures opens { (lies_in (opening result).value ≡ value ∷ []) × ((opening result).told ≡ true) }
     {
@@ -79,8 +79,8 @@ impl<T, R> Once<T, R> {
         self.core.get()
     }
 
-    /// Returns `true` if [`get`](Once::get) finds a value. It stays `true` while the `Once` is shared, since a value
-    /// stays.
+    /// Returns `true` if [`get`](Once::get) finds a value. After that the answer stays `true` while the `Once` is
+    /// shared, since a value stays.
     pub fn is_completed(&self) -> bool {
         self.pass().is_completed().0
     }
@@ -88,7 +88,7 @@ impl<T, R> Once<T, R> {
     /// Returns a mutable reference to the value, or `None` if there is none.
     ///
     /// The borrow shows that no other thread has the `Once`. What is written through the reference is the value from
-    /// then on. From the borrow on the history does not tell the value.
+    /// then on. After the borrow the history no longer tells the value.
     pub fn get_mut(&mut self) -> Option<&mut T> {
         self.core.get_mut()
     }
@@ -112,8 +112,8 @@ impl<T, R> Once<T, R> {
 impl<T, R: RelaxStrategy> Once<T, R> {
     /// Calls `f` to make the value if there is none yet. Then returns the value.
     ///
-    /// While another caller's closure runs, the thread waits with strategy `R` until that one has ended. Then `f` is
-    /// called only if that closure left no value. The call never returns if `f` waits for the value of this `Once`.
+    /// While another caller's closure runs, the thread waits with strategy `R` until that closure has ended. Then `f`
+    /// is called only if that closure left no value. The call never returns if `f` waits for the value of this `Once`.
     ///
     /// # Contract
     /// The precondition of `f` has to hold. The caller knows of the value what its type `T` says. Whether and when the
@@ -201,8 +201,8 @@ impl<T, R: RelaxStrategy> Once<T, R> {
         self.core.account().wait::<R, W>(rt).value()
     }
 
-    /// Returns the value, or `None` if there is none and no closure runs. While one runs, it spins until that one has
-    /// ended.
+    /// Returns the value, or `None` if there is none and no closure runs. While a closure runs, the call spins until
+    /// that closure has ended.
     ///
     /// # Contract
     /// Whether and when the call returns is not promised.
@@ -241,7 +241,7 @@ impl<T, R> From<T> for Once<T, R> {
     }
 }
 
-// SAFETY: it owns its cell, which owns the value.
+// SAFETY: a `Once` owns its cell, which owns the value.
 unsafe impl<T: Send, R> Send for Once<T, R> {}
 
 // SAFETY: all threads may read the value at once, and any of them may drop it.

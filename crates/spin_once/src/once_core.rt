@@ -14,8 +14,8 @@ pub(crate) use self::rule::{Seed, Sure, Unsure};
 
 /// A cell that holds a seed, and later the value made from it.
 ///
-/// A thread that begins has the seed to itself. It gives a value, or leaves the seed for the next thread. Once there is
-/// a value, all threads see it.
+/// A thread that begins to make the value has the seed to itself. It stores a value, or leaves the seed for the next
+/// thread. Once there is a value, all threads see it.
 #[derive(Drop)]
 pub(crate) struct OnceCore<T, S: Seed<T>> {
     cell: SeedCell<T, S>,
@@ -54,7 +54,7 @@ impl<T, S: Seed<T>> OnceCore<T, S> {
         }
     }
 
-    /// Returns the value that its one load finds.
+    /// Returns the value if there is one, by one load.
     pub(crate) fn get(&self) -> Option<&T>
         ensures { IfSome result (λ value. S.makes self.now.cell.seed.value value.now) }
     {

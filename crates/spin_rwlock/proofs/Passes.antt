@@ -1,4 +1,4 @@
--- What the steps of a read-write lock tell a pass, and how the steps of a call that wants to read follow one another.
+-- What the steps of a read-write lock tell a pass, and how the steps of a call that wants to read add up to the call.
 use Rattle.std.proofs.Common.{◌≡◌, ◌≢◌, ℕ, eq-eqb, ne_eqb, Bool, true, false, List, [], ◌∷◌, ◌++◌, length, Option, Some, None, if◌then◌else◌, refl, sym, ap, ◌∙◌, subst, arith}
 use Rattle.std.specs.Prelude.{◌⊎◌, IfSome}
 use mathlib.Core.Logic.{inl, inr}
@@ -24,7 +24,7 @@ use Rattle.spin_rwlock.specs.declared.rwlock.rule.View.TheVariants.{Idle, Readin
 use Rattle.spin_rwlock.specs.Steps.{Party, Writer, Knows, IsPass, WritesLast, Makes, MakesWriter, EndsWriting, Spot, Since, model_at}
 use Rattle.spin_rwlock.specs.Rw.{Done, IsRw, rw_ways, Told, Says, leaves_with, leaves_by, ends_by, counts_by, tries_by, either_at, OneMove, Ending, OneCourse, seat_of, use_of_view, use_of_party, model, words_of, is_out, call_of, Comes, still, missed, IsGrant, Left, Seeks, Moves, Called, Wrote}
 
--- the value that is there
+-- what holds of the value that is shown holds of `x`, if `x` is shown
 is_there : {T : Type 0} (P : T → Type 0) (shown : Option T) (x : T) → Some x ≡ shown → IfSome shown P → P x
 is_there P shown x is known = subst (λ o. IfSome o P) (sym is) known
 
@@ -32,7 +32,7 @@ module _ {T : Type 0} (opening : Opening T) where
   named_so : (before : Watch (Done T)) → opening.name ≡ before.name → Named (IsRw opening) (rw_ways opening) before.name
   named_so before same = passes.may_know (IsRw opening) (rw_ways opening) opening.name (λ n t vs is. is.0) before.name same
 
-  -- the watch is of the lock's trace, or knows nothing
+  -- a watch with the lock's name is of the lock's trace; the other watches know nothing
   pub may : (before : Watch (Done T)) → (before.entries ≡ []) ⊎ (opening.name ≡ before.name) → (before.entries ≡ []) ⊎ Named (IsRw opening) (rw_ways opening) before.name
   may before (inl nothing) = inl nothing
   may before (inr same) = inr (named_so before same)
@@ -41,12 +41,12 @@ module _ {T : Type 0} (opening : Opening T) where
   may_as other before same (inl nothing) = inl nothing
   may_as other before same (inr is) = inr (ap (λ o. o.name) same ∙ is)
 
-  -- what a step tells whose play says this
+  -- what a step tells if its play says `says`
   abbrev Steps : Says T → Watch (Done T) → Watch (Done T) → Option (Numbered View) → Option (Numbered View) → ℕ → Type 0
   Steps says before now view view' found = Moved (Watches (Named (IsRw opening) (rw_ways opening) before.name) before now (Told opening.value says view) found) view'
 
   module _ (view view' : Option (Numbered View)) (before now : Watch (Done T)) (found : ℕ) where
-    -- where that step led
+    -- the party's view after that step, by the number found
     pub stood : (says : Says T) (to : ℕ → View) → ((own : List (OneMove T)) (outs : List (Ending T)) (n : ℕ) (v : View) → says own outs n v → v ≡ to n) → (at : Option (Numbered View)) → Steps says before now view at found → what at ≡ Some (to found)
     stood says to means None moved = absurd moved
     stood says to means (Some v) moved = ap Some (means moved.1.4.0 moved.1.4.1 found v.0 moved.1.4.6)
@@ -55,13 +55,14 @@ module _ {T : Type 0} (opening : Opening T) where
       abbrev Learnt : (OneCourse T) → Type 0
       Learnt course = ((other.name ≡ now.name) × (mark_of view' ≡ length now.entries)) × (now.name ≡ before.name) × Moves opening.value course view before.entries view' now.entries
 
-      -- a party that knew the whole history knows it again, and has made just these moves
+      -- A party that knew the whole history before the step knows the whole history after it. In the step it has made just the moves of
+      -- this course.
       pub told : (says : Says T) (to : ℕ → View) (course : ℕ → OneCourse T) → ((own : List (OneMove T)) (outs : List (Ending T)) (n : ℕ) (v : View) → says own outs n v → (v ≡ to n) × course n own outs) → Steps says before now view view' found → Learnt (course found)
       told says to course means moved =
           let t = passes.learnt (model opening.value) seat_of words_of says to course means (Named (IsRw opening) (rw_ways opening) before.name) (named_so before knew.0) view view' before now found knew.1 moved in
           ((ap (λ o. o.name) same ∙ knew.0 ∙ sym t.named, t.knows), t.named, t.made)
 
-      -- a call by which a writer ends, and leaves x
+      -- a call by which a writer ends, and leaves the value `x`
       module _ (x : T) (last : IsLast opening now.entries x) (call : RwCall) (to : View) where
         abbrev Told_left : T → Type 0
         Told_left y = opening.told ≡ true → y ≡ x
@@ -80,22 +81,23 @@ module _ {T : Type 0} (opening : Opening T) where
 
   -- What a step tells of the value
   module _ (view view' : Option (Numbered View)) (before after : Option T) (seen : Watch (Done T)) (known : Found (rw_ways opening) view view' before after seen) (kept : Kept (rw_ways opening) view view' before after) where
-    -- to a party that now reads it, or now writes it and did not before
+    -- The value that the party now sees is the one written last. This holds for a party that did not write before the step, or that now
+    -- reads.
     pub shown_last : (use_of use_of_party view ≡ writes → use_of use_of_party view' ≡ reads) → IfSome after (λ x. IsLast opening seen.entries x)
     shown_last so = shows_last opening (use_of use_of_party view) (use_of use_of_party view') before after seen.entries known so kept.0
 
-    -- to a party that did not write it, and now reads or writes it
+    -- the same for a party that did not write before the step
     pub reads_found : use_of use_of_view (what view) ≢ writes → (key : Opening T) → key ≡ opening → IfSome after (λ x. IsLast key seen.entries x)
     reads_found not key same = subst (λ k. IfSome after (λ x. IsLast k seen.entries x)) (sym same) (shown_last (λ e. absurd (not (tie.same_use use_of_view view ∙ e))))
 
     pub writes_found : use_of use_of_view (what view) ≢ writes → (key : Opening T) → key ≡ opening → (x : T) → Some x ≡ after → IsLast key seen.entries x
     writes_found not key same x is = is_there (λ y. IsLast key seen.entries y) after x is (reads_found not key same)
 
-    -- to a reader that has gone
+    -- the value that a reader saw is still the one written last, after it has left
     pub still_last : use_of use_of_view (what view) ≡ reads → use_of use_of_view (what view') ≡ off → IfSome before (λ x. IsLast opening seen.entries x)
     still_last read gone = read_last opening (use_of use_of_party view) (use_of use_of_party view') before after seen.entries known (sym (tie.same_use use_of_view view) ∙ read) (sym (tie.same_use use_of_view view') ∙ gone)
 
-    -- to a writer that now reads, and to one that has gone
+    -- for a writer that had the value `x`, and now reads (`left_reading`) or has left (`left_gone`)
     module _ (x : T) (here : before ≡ Some x) where
       pub still_shown : use_of use_of_view (what view') ≡ reads → after ≡ Some x
       still_shown on = subst (λ (z : Use × Option T). Shows z.0 z.1 after) (λ i. ((sym (tie.same_use use_of_view view') ∙ on) i, here i)) kept.0
@@ -110,18 +112,18 @@ module _ {T : Type 0} (opening : Opening T) where
         left_gone held gone =
             subst (λ k. IsLast k seen.entries x) same (gave opening (use_of use_of_party view) (use_of use_of_party view') before after seen.entries x known held (sym (tie.same_use use_of_view view') ∙ gone) here)
 
--- what was written, whatever it was
+-- a party that wrote a value with the property `Q` wrote some value
 pub wrote_some : {T : Type 0} (v₀ : T) (Q : T → Type 0) (call : RwCall) (view view' : Option (Numbered View)) (old new : List (Done T)) → Wrote v₀ Q call view old view' new → Wrote v₀ (λ x. Unit {0}) call view old view' new
 wrote_some v₀ Q call view view' old new = passes.weaker (model v₀) view view' old new (WritesSome Q (IsCall call Ended)) (WritesSome (λ x. Unit {0}) (IsCall call Ended)) (λ own outs (x, so, by). (x, tt, by))
 
--- an exchange, by whether it found the number that it expected
+-- the result of an exchange that found the number that it expected; below, of one that found another number
 pub won_by : {X : Type 0} (old found : ℕ) (won lost : X) → found ≡ old → either_at old won lost found ≡ won
 won_by old found won lost is = ap (λ b. if b then won else lost) (eq-eqb found old is)
 
 pub lost_by : {X : Type 0} (old found : ℕ) (won lost : X) → found ≢ old → either_at old won lost found ≡ lost
 lost_by old found won lost other = ap (λ b. if b then won else lost) (ne_eqb found old other)
 
--- A call that wants to read
+-- The steps of a call that wants to read
 
 left_by : {T : Type 0} (b : Bool) (own : List (OneMove T)) (outs : List (Ending T)) → own ≡ Step ∷ []
     → outs ≡ (if b then GoingOn else Answered Refused None) ∷ [] → Left b own outs
@@ -141,7 +143,7 @@ module _ {T : Type 0} (call : RwCall) (p q : Spot T) where
   since_weaker : (P Q : OneCourse T) → ((own : List (OneMove T)) (outs : List (Ending T)) → P own outs → Q own outs) → Since P p q → Since Q p q
   since_weaker P Q so (made, named, same) = (weaker (model_at p.0) p.1 q.1 p.2.entries q.2.entries P Q so made, named, same)
 
-  -- the exchange that begins it
+  -- the exchange that begins the call is granted, or (`begins_missed`) has failed
   pub begins_granted : Since (IsGrant false call) p q → Since (IsCall call Granted) p q
   begins_granted = since_weaker (IsGrant false call) (IsCall call Granted)
       (λ own outs s. (Step ∷ Step ∷ [], GoingOn ∷ Answered Granted None ∷ [], s.0, s.1, (1, refl, refl)))
@@ -150,7 +152,7 @@ module _ {T : Type 0} (call : RwCall) (p q : Spot T) where
   begins_missed n = since_weaker (IsStep false call (missed call n)) (Seeks call n)
       (λ own outs s. (Step ∷ [], missed call n ∷ [], s.0, s.1, left_by (still call n) (Step ∷ []) (missed call n ∷ []) refl refl))
 
-  -- a refusal is the answer of the call
+  -- a try that was refused has its answer
   pub is_refused : (n : ℕ) → still call n ≡ false → Since (Seeks call n) p q → Since (IsCall call Refused) p q
   is_refused n kept so_far = subst (λ b. Since (Begins call (Left b)) p q) kept so_far
 
@@ -158,7 +160,7 @@ module _ {T : Type 0} (call : RwCall) (p q : Spot T) where
     begun : Since (Begins call Waits) p q
     begun = subst (λ b. Since (Begins call (Left b)) p q) goes so_far
 
-    -- an exchange of a call under way
+    -- a further exchange of the call is granted, or (`then_missed`) has failed
     pub then_granted : Since (IsStep true call (Answered Granted None)) q r → Since (IsCall call Granted) p r
     then_granted = is_answered model_at call p q r begun Granted
 
@@ -181,7 +183,7 @@ then_looked won cm p q r n m so_far step =
     let call = call_of won true in
     subst (λ b. Since (Begins call (Left b)) p r) (sym (waiting won cm m)) (stays_in model_at call p q r (begun call p q r n (waiting won cm n) so_far) step)
 
--- What a party that uses the value is shown
+-- What a party that uses the value sees after a step
 same_as : {X : Type 0} (u : Use) (before after : Option X) → u ≢ off → Shows u before after → before ≢ None → after ≡ before
 same_as off before after uses shows some = absurd (uses refl)
 same_as u None after uses shows some = absurd (some refl)
@@ -197,7 +199,7 @@ some_as writes (Some x) after uses is e = let no : Some x ≡ None = sym is ∙ 
 
 -- A step of a party. `r` is its result: the number found, the party, and what it then knows.
 module _ {T P S : Type 0} (it : Party T P S) (seen : Watch (Done T)) (r : ℕ × Party T P S × Watch (Done T)) where
-  -- its next view and its moves depend on the number found
+  -- the number found decides the party's next view and its moves
   module _ (to : ℕ → View) (course : ℕ → OneCourse T)
       (moved : Steps it.key (λ own outs n v. (v ≡ to n) × course n own outs) seen r.2 it.view r.1.view r.0) where
     abbrev says : Says T
@@ -220,11 +222,11 @@ module _ {T P S : Type 0} (it : Party T P S) (seen : Watch (Done T)) (r : ℕ ×
       (λ n. IsStep false call (Answered (Count (count n)) None)) (λ own outs n v said. said.1) moved in
       ((ap is_out out, t.0), t.1, whole (model it.key.value) it.view r.1.view seen.entries r.2.entries call (Count (count r.0)) t.2)
 
-  -- a whole call
+  -- a whole call of one step
   pub calls : (call : RwCall) (a : Answer T) → Makes (IsStep false call (Answered a None)) it seen r.1 r.2 → Makes (IsCall call a) it seen r.1 r.2
   calls call a made knew = let t = made knew in (t.0, t.1, whole (model it.key.value) it.view r.1.view seen.entries r.2.entries call a t.2)
 
-  -- one by one step, whatever that found
+  -- a whole call of one step, whose answer and next view do not depend on the number found
   pub calls_by : (call : RwCall) (a : Answer T) (to : View) → Steps it.key (ends_by call (λ n. a) (λ n. to)) seen r.2 it.view r.1.view r.0
       → r.1.key ≡ it.key → Makes (IsCall call a) it seen r.1 r.2
   calls_by call a to moved same =
@@ -241,7 +243,7 @@ module _ {T P S : Type 0} (it : Party T P S) (seen : Watch (Done T)) (r : ℕ ×
       pub is_shown : r.1.value ≢ None
       is_shown = some_as (use_of use_of_party r.1.view) it.value r.1.value (λ e. uses (sym uses_as ∙ e)) kept.0
 
--- An exchange of this word by which a party may become the writer
+-- An exchange that expects the word `old`, and by which a party may become the writer
 module _ {T P S : Type 0} (it : Party T P S) (seen : Watch (Done T)) (r : ℕ × Party T P S × Watch (Done T))
     (goes_on : Bool) (call : RwCall) (old : ℕ) (end : Ending T) (won lost : View)
     (moved : Steps it.key (tries_by goes_on call old end won lost) seen r.2 it.view r.1.view r.0) (key : r.1.key ≡ it.key) where
@@ -254,7 +256,7 @@ module _ {T P S : Type 0} (it : Party T P S) (seen : Watch (Done T)) (r : ℕ ×
   abbrev course : ℕ → OneCourse T
   course n = IsStep goes_on call (either_at old granted end n)
 
-  -- it found another word
+  -- the exchange found another word
   module _ (other : r.0 ≢ old) where
     pub lost_at : what r.1.view ≡ Some lost
     lost_at = stands it seen r to course moved lost (lost_by old r.0 won lost other)
@@ -262,7 +264,7 @@ module _ {T P S : Type 0} (it : Party T P S) (seen : Watch (Done T)) (r : ℕ ×
     pub lost_makes : Makes (IsStep goes_on call end) it seen r.1 r.2
     lost_makes = makes it seen r to course moved key (IsStep goes_on call end) (ap (IsStep goes_on call) (lost_by old r.0 granted end other))
 
-  -- it found this one
+  -- the exchange found the word `old`
   module _ (is : r.0 ≡ old) where
     won_at : what r.1.view ≡ Some won
     won_at = stands it seen r to course moved won (won_by old r.0 won lost is)
@@ -287,13 +289,13 @@ module _ {T P S : Type 0} (it : Party T P S) (seen : Watch (Done T)) (r : ℕ ×
         pub won_value : use_of_view won ≢ off → it.value ≢ None → it.value ≡ Some w.value
         won_value uses some = sym (same.1 ∙ keeps_value it seen r won won_at kept uses some)
 
--- a whole call by which it becomes the writer
+-- a whole call of one step by which a party becomes the writer
 pub calls_writer : {T P S : Type 0} (it : Party T P S) (seen now : Watch (Done T)) (w : Writer T P S) (call : RwCall) (a : Answer T)
     → MakesWriter (IsStep false call (Answered a None)) it seen w now → MakesWriter (IsCall call a) it seen w now
 calls_writer it seen now w call a made knew =
     let t = made knew in (t.0, t.1, whole (model it.key.value) it.view (Some w.view) seen.entries now.entries call a t.2)
 
--- A step by which a writer ends, once it is a party again
+-- A step by which a writer ends. Before the step the writer `w` has become the party `it`.
 module _ {T P S : Type 0} (w : Writer T P S) (it : Party T P S) (seen : Watch (Done T)) (r : ℕ × Party T P S × Watch (Done T)) (key : it.key ≡ w.key) (same : (it.view ≡ Some w.view) × (it.value ≡ Some w.value))
     (call : RwCall) (to : View) (moved : Steps it.key (leaves_by call to) seen r.2 it.view r.1.view r.0) where
   pub becomes : what r.1.view ≡ Some to
@@ -304,7 +306,7 @@ module _ {T P S : Type 0} (w : Writer T P S) (it : Party T P S) (seen : Watch (D
     last_of other is (inl on) = left_reading it.key it.view r.1.view it.value r.1.value r.2 found kept w.value same.1 other is (ap (use_of use_of_view) becomes ∙ on)
     last_of other is (inr gone) = left_gone it.key it.view r.1.view it.value r.1.value r.2 found kept w.value same.1 other is (ap (use_of use_of_party) same.0 ∙ held) (ap (use_of use_of_view) becomes ∙ gone)
 
-    -- the value that it leaves is the one written last
+    -- the value that the writer leaves is the one written last
     pub leaves_last : IsLast w.key r.2.entries w.value
     leaves_last = last_of w.key key ends
 

@@ -17,13 +17,13 @@ use Rattle.spin_rwlock.proofs.Steps.{fits_cap, bounded}
 abbrev one_if : Bool → ℕ
 one_if b = cond b 1 0
 
--- a party that holds in this way is one holder of this kind
+-- a party whose part is of the kind `k` is one holder of this kind in the plain lock, and any other party is none
 one_holder : (k : Kind) (p : ℕ) (x : Part) → one_if (is_of_kind k x) ≡ count_kind k (entries_of p x).holders
 one_holder k p (holds j) = omega (arith, sum_by-cons (λ (h : Holder). one_of k h.kind) (holder p j) [])
 one_holder k p holds_starving = omega (arith, sum_by-cons (λ (h : Holder). one_of k h.kind) (holder p writing) [])
 one_holder k p _ = refl
 
--- as many parties hold in this way as the plain lock has holders of this kind
+-- as many parties are of the kind `k` as the plain lock has holders of this kind
 as_many : (k : Kind) (word : ℕ) (vs : List View) (rule : Word word tt vs) → held k vs ≡ count_kind k rule.0.holders
 as_many k word vs rule =
     exactly (λ h. h.party) (λ h. one_if (same_kind k h.kind)) part (λ v. one_if (has_kind k v)) (λ p x. count_kind k (entries_of p x).holders) (λ p v. one_holder k p (part v)) vs rule.0.holders
@@ -44,7 +44,7 @@ readers_or_one_writer word vs rule = let s = rule.0 in
 pub zero_when_free : (word : ℕ) (vs : List View) → Word word tt vs → (word ≡ 0 → holders vs ≡ 0) × (holders vs ≡ 0 → word ≡ 0)
 zero_when_free word vs rule = let e = counts_parties word vs rule in ((λ z. omega (arith, e, z)), (λ z. omega (arith, e, z)))
 
--- A blind addition gives what the step function gives
+-- An addition that is made without a load first gives the word that the step function gives
 
 stands : (vs : List View) (p : ℕ) (k : Kind) (word : ℕ) (rule : Word word tt vs) → HoldsAt vs p k → is_holder p k rule.0.holders ≡ true
 stands vs p k word rule at = is_holder-from_entries p k rule.0.holders (ap (λ e. e.holders) (rule.3 p).0 ∙ ap (λ x. (entries_of p x).holders) at)

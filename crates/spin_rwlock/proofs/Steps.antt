@@ -1,5 +1,4 @@
--- The steps of a read-write lock keep its rule. Each is the plain step that its step function makes, and moves of the
--- lock's model.
+-- The steps of a read-write lock keep its rule. Each step makes the plain step of its step function, and its moves of the lock's model.
 use Rattle.std.proofs.Common.{◌≡◌, ◌≢◌, ℕ, ◌+◌, ◌-◌, ◌%◌, ◌^◌, ◌<◌, ◌≤◌, Bool, true, false, List, [], ◌∷◌, length, ◌==◌, Option, Some, None, if◌then◌else◌, refl, sym, ap, ◌∙◌, subst, arith, eq-eqb, ne_eqb}
 use Rattle.std.specs.List.{list_all}
 use mathlib.Core.Logic.{inl, inr}
@@ -67,18 +66,18 @@ rw-lock = record {
 
 -- The word and the holders
 
--- no sum wraps below the cap
+-- the sum of the holders' weights does not wrap, while their number is at most `reader_limit`
 pub bounded : (hs : List Holder) → length hs ≤ reader_limit → word_of hs < 2 ^ 63
 bounded hs within = omega (arith, by_kinds weight hs, all_kinds hs, within)
 
 pub fits_cap : (s : Plain) → s.cap ≡ reader_limit → IsInOrder s → length s.holders ≤ reader_limit
 fits_cap s room order = omega (arith, order.holders_fit, room)
 
--- the number found satisfies P, and the party gets this view by it
+-- the number found satisfies `P`, and the party gets the view that `to` gives for it
 abbrev To : (ℕ → Type 0) → (ℕ → View) → ℕ → View → Type 0
 To P to n v = P n × (v ≡ to n)
 
--- no sum of the word and a weight wraps
+-- the sum of the word and a weight does not wrap
 fits_in : (n k : ℕ) → n < 2 ^ 63 → k < 2 ^ 63 → (n + k) % 2 ^ 64 ≡ n + k
 fits_in n k small less = omega (arith, small, less)
 
@@ -88,7 +87,7 @@ seat_idle : (s : Seat RwCall RwPoint) → rws.is_idle s ≡ true → s ≡ seat.
 seat_idle seat.Idle is = refl
 seat_idle _ is = absurd cc
 
--- a party that is out holds nothing
+-- a party that is in no call, and holds nothing, is idle in the plain lock
 out_holds_none : (view : Option View) → IsOut view → part_before part view ≡ idle
 out_holds_none None out = refl
 out_holds_none (Some Idle) out = refl
@@ -113,7 +112,7 @@ turns_by v w k l by was now knows down less = allows rw-lock (Some v) (λ n. (n 
 goes : (v : View) (k : Kind) → ((p : ℕ) → entries_of p (part v) ≡ entries_of p (holds k)) → Allows Word (ways rw-lock) (Some v) (λ n. (n + (2 ^ 64 - weight k)) % 2 ^ 64) (To (Weighs (weight k)) (λ n. Idle))
 goes v k was = leaves_at rw-lock weight (λ s. refl) (λ s room order. bounded s.holders (fits_cap s room order)) v k was
 
--- a free lock admits everyone
+-- a free lock admits each reader
 pub opens_free : (won : View) → Comes won → (waits : Bool) → grants (call_of won waits) 0 ≡ None → ⊥
 opens_free Reading cm true none = absurd cc
 opens_free Reading cm false none = absurd cc
@@ -121,7 +120,7 @@ opens_free Upgradable cm true none = absurd cc
 opens_free Upgradable cm false none = absurd cc
 opens_free _ cm waits none = absurd cm
 
--- the exchange of these words admits a reader of this view
+-- an exchange of the word `old` for the word `new` admits a reader with the view `won`
 abbrev Admits : View → ℕ → ℕ → Type 0
 Admits won old new = (s : Plain) (p : ℕ) → OneOfEach s → s.cap ≡ reader_limit → rw_word s ≡ old → Decides s (gets p (asks won)) rw_word (Some new)
 
@@ -152,7 +151,7 @@ upgrades_asked_at : (old new : ℕ) → ((s : Plain) (p : ℕ) → OneOfEach s �
 upgrades_asked_at old new plain = gets_at rw-lock (Some Asking) to_upgrade_asked WritingAsked (λ n. Asking) old new (λ s p. rw (eq-eqb p p refl) refl) (λ s. tt) (λ n. refl) (λ s n. tt)
     (λ s p vs room order is has small e. plain s p (one_of_each s order.exclusive) (is_holder-from_entries p asking s.holders (ap (λ e. e.holders) has.0)) e)
 
--- a party that writes, whether it asked or not
+-- a party that writes is a writer in the plain lock, whether or not it asked before
 writes_as : (v : View) → use_of_view v ≡ writes → (p : ℕ) → entries_of p (part v) ≡ entries_of p (holds writing)
 writes_as Writing e p = refl
 writes_as WritingAsked e p = refl
@@ -165,7 +164,7 @@ not_in_call (Some v) out = ap rws.is_calling (seat_idle (seat_of v) out)
 abbrev swaps : ℕ → ℕ → ℕ → ℕ
 swaps old new n = either (n == old) new n
 
--- while the word that it found admits it, a call continues
+-- a call continues if the word that it found admits the reader
 pub lets_in : (won : View) (waits : Bool) → Comes won → (n next : ℕ) → grants (call_of won waits) n ≡ Some next → still (call_of won waits) n ≡ true
 lets_in Reading false cm n next grant = rw grant refl
 lets_in Reading true cm n next grant = rw grant refl
@@ -178,10 +177,10 @@ sits_idle Reading cm n none = rw none refl
 sits_idle Upgradable cm n none = rw none refl
 sits_idle _ cm n none = absurd cm
 
--- The moves of each step: a call of the model and its only step, or a step of a call under way
+-- The moves of each step: those of a whole call of one step, or a step of a call under way
 
 module _ {T : Type 0} (v₀ : T) where
-  -- a call of one step, and its outcomes
+  -- the moves of a whole call of one step
   abbrev once : RwCall → List (OneMove T)
   once c = Begin c ∷ Step ∷ []
 
@@ -194,7 +193,7 @@ module _ {T : Type 0} (v₀ : T) where
   abbrev alone : ℕ → Option T → Seat RwCall RwPoint → State ℕ T RwCall RwPoint
   alone w value sits = record { words = w; value = value; seats = sits ∷ [] }
 
-  -- a party that is out sits in the model as a new one
+  -- a party that is in no call, and holds nothing, sits in the model as a new party does
   module _ (f : ℕ → ℕ) (so : ℕ → View → Type 0) (says : Says T) where
     abbrev FromSeat : Seat RwCall RwPoint → Type 0
     FromSeat sits =
@@ -259,7 +258,7 @@ module _ {T : Type 0} (v₀ : T) where
   downgrade_moves w value v (small, is) =
       rw is (once call.Downgrade, with (Answered Done None), (refl, (refl, refl)), refl, refl, w + 6, value, refl, refl, rw (fits_in w 6 small.1 (omega arith)) refl)
 
-  -- a writer that ends, whether it asked before or not; it first writes the value x
+  -- a call by which a writer ends, whether or not the writer asked before; it first writes the value `x`
   writer_moves : (x : T) (u : View) → use_of_view u ≡ writes → (f : ℕ → ℕ) (so : ℕ → View → Type 0) (c : RwCall) (to : View)
       → ((w : ℕ) (v : View) → so w v → (v ≡ to)
       × ((value : Option T) → Goes (model v₀) seat_of words_of (Some Writing) to w value (f w, tt) (λ own outs. leaves_with (λ y. y ≡ x) c to own outs w to)))
@@ -271,7 +270,7 @@ module _ {T : Type 0} (v₀ : T) where
   abbrev ended : List (Ending T)
   ended = Written ∷ with (Answered Done None)
 
-  -- its moves: it writes the value, and then makes the call
+  -- the moves of a writer that ends: it writes the value, and then makes the call
   abbrev ending : T → RwCall → List (OneMove T)
   ending x c = Write x ∷ once c
 
@@ -313,7 +312,7 @@ module _ {T : Type 0} (v₀ : T) where
   abbrev fails : RwCall → ℕ → List (Ending T)
   fails c w = with (missed c w)
 
-  -- the exchange of 0, which begins it: two steps of the model if it succeeds, otherwise one
+  -- the exchange that begins the call expects 0; it is two steps of the model if it succeeds, otherwise one
   first_leads : (won : View) (waits : Bool) → Comes won → (new : ℕ) → grants (call_of won waits) 0 ≡ Some new
       → Leads None 0 new (came won (call_of won waits) 0) (comes_by false won (call_of won waits) 0)
   first_leads Reading false cm new grant w value v is true e =
@@ -334,7 +333,7 @@ module _ {T : Type 0} (v₀ : T) where
       (once call.UpgradeableRead, fails call.UpgradeableRead w, (is, rw e (refl, refl)), refl, grind arith, w, value, grind (arith, is, e, grant), grind (arith, e), grind (arith, e))
   first_leads _ waits cm new grant w value v is b e = absurd cm
 
-  -- a further exchange, of the word found
+  -- a further exchange, which expects the word found
   again_leads : (won : View) (waits : Bool) → Comes won → (old new : ℕ) → grants (call_of won waits) old ≡ Some new
       → Leads (Some (Coming (call_of won waits) old)) old new (came won (call_of won waits) old) (comes_by true won (call_of won waits) old)
   again_leads Reading false cm old new grant w value v is true e = (Step ∷ [], granted, (is, rw e (refl, refl)), refl, refl, new, value, grind (arith, is, e, grant), grind (arith, is, e, grant), grind (arith, e))
@@ -358,21 +357,21 @@ module _ {T : Type 0} (v₀ : T) where
       rw (is, lets_in won waits cm old new grant)
       (by_found (Some (Coming c old)) old new (came won c old) (comes_by true won c old) (again_leads won waits cm old new grant))
 
-  -- the load of a call that waits, after a word that does not admit it
+  -- the load of a call that waits, after a word that did not admit the reader
   look_moves : (won : View) → Comes won → (old : ℕ) → grants (call_of won true) old ≡ None → Moves (Some (Coming (call_of won true) old)) (λ n. n) (λ n v. v ≡ Coming (call_of won true) n) (looks_by (call_of won true))
   look_moves Reading cm old none w value v is = rw is (Step ∷ [], GoingOn ∷ [], (refl, (refl, refl)), refl, refl, w, value, grind (arith, none), grind (arith, none), refl)
   look_moves Upgradable cm old none w value v is = rw is (Step ∷ [], GoingOn ∷ [], (refl, (refl, refl)), refl, refl, w, value, grind (arith, none), grind (arith, none), refl)
   look_moves _ cm old none w value v is = absurd cm
 
-  -- the exchange of `{:?}`: a whole `try_read` if it succeeds, otherwise a count
+  -- the exchange of `{:?}`: a whole `try_read` if it succeeds, otherwise a `reader_count`
   peek_first : (old new : ℕ) → grants call.TryRead old ≡ Some new → Leads None old new (either_at old Reading Idle) (peeks_by old)
   peek_first old new grant w value v is true e = (Begin call.TryRead ∷ Step ∷ Step ∷ [], Begun ∷ GoingOn ∷ Answered Granted None ∷ [], (is, rw e (refl, refl)), refl, refl, new, value, grind (arith, is, e, grant), grind (arith, is, e, grant), grind (arith, e))
   peek_first old new grant w value v is false e =
       (once call.ReaderCount, with (Answered (Count (readers_in w)) None), (is, rw e (refl, refl)), refl, refl, w, value, grind (arith, is, e), refl, grind (arith, e))
 
--- Each step keeps the rule, and appends its moves
+-- Each step keeps the rule, and appends its moves to the trace
 
--- parties that do not write the value
+-- a party that is idle in the plain lock does not write the value
 pub none_writes : (view : Option View) → part_before part view ≡ idle → use_of use_of_view view ≢ writes
 none_writes None none e = absurd cc
 none_writes (Some v) none e = let no : off ≡ writes = ap use_of_part (sym none) ∙ e in absurd cc
@@ -384,7 +383,7 @@ pub is_not_writing : (u : View) → use_of_view u ≢ writes → (view : Option 
 is_not_writing u not view is = rw is not
 
 module _ {T : Type 0} where
-  -- moves that write nothing, and moves that write x last
+  -- moves that write nothing leave the value as it was; below, moves that write `x` last leave `x`
   writes_none : (u u' : Use) (shown : Option T) (own : List (OneMove T)) → u ≢ writes → ((v : T) → left own v ≡ v) → Leaves u u' shown own
   writes_none off u' shown own not same = same
   writes_none reads u' shown own not same = same
@@ -419,7 +418,7 @@ module _ {T : Type 0} (opening : Opening T) where
   abbrev Keeps : Option (Numbered View) → Option T → (ℕ → ℕ) → Says T → Type 0
   Keeps view shown f says = Traces (IsRw opening) (rw_ways opening) view shown f (Told opening.value says view)
 
-  -- what the moves must show of the value
+  -- what the rule asks of the value that the moves of a step leave
   abbrev Leaving : Option View → Option T → Says T → Type 0
   Leaving view shown says = (own : List (OneMove T)) (outs : List (Ending T)) (n : ℕ) (u : View) → says own outs n u → Leaves (use_of use_of_view view) (use_of_view u) shown own
 
@@ -428,12 +427,12 @@ module _ {T : Type 0} (opening : Opening T) where
       tie.traces (model opening.value) seat_of words_of Word opening.name T lends use_of_view (last opening) view shown f so says moves
       (λ own outs n u said t word p. owed opening own t word p (use_of use_of_view (what view)) (use_of_view u) shown (leaves own outs n u said)) allows
 
-  -- for a party that does not write the value
+  -- `keeps` for a party that does not write the value
   keeps_still : (view : Option (Numbered View)) (shown : Option T) → use_of use_of_view (what view) ≢ writes → (f : ℕ → ℕ) (so : ℕ → View → Type 0) (says : Says T) → WritesNothing says → Moves opening.value (what view) f so says → Allows Word (ways rw-lock) (what view) f so
       → Keeps view shown f says
   keeps_still view shown not f so says none = keeps view shown f so says (λ own outs n u said. writes_none (use_of use_of_view (what view)) (use_of_view u) shown own not (none own outs n u said))
 
-  -- for a writer, which writes the value that it leaves
+  -- `keeps` for a writer, which writes the value that it leaves
   keeps_written : (v : Numbered View) (x : T) → use_of_view v.0 ≡ writes → (f : ℕ → ℕ) (so : ℕ → View → Type 0) (c : RwCall) (to : View) → Moves opening.value (Some v.0) f so (leaves_with (λ y. y ≡ x) c to) → Allows Word (ways rw-lock) (Some v.0) f so
       → Keeps (Some v) (Some x) f (leaves_by c to)
   keeps_written v x e f so c to moves allows =
@@ -470,7 +469,7 @@ module _ {T : Type 0} (opening : Opening T) where
         let c = call_of won true in
         keeps_still view shown (is_not_writing (Coming c old) (λ e. absurd cc) (what view) is) (λ n. n) (λ n v. v ≡ Coming c n) (looks_by c) (nothing_by true c (λ n. GoingOn) (Coming c)) (rw is (look_moves opening.value won cm old none)) (rw is (looks_again c old))
 
-    -- an exchange by which it may become the writer
+    -- an exchange by which the party may become the writer
     tries : use_of use_of_view (what view) ≢ writes → (goes_on : Bool) (c : RwCall) (old : ℕ) (end : Ending T) (won lost : View)
         → Tries opening.value (what view) goes_on c old end won lost
         → Allows Word (ways rw-lock) (what view) (swaps old 1) (λ n v. v ≡ either_at old won lost n)
@@ -556,7 +555,7 @@ module _ {T : Type 0} (opening : Opening T) where
     writer_leaves =
         keeps_written v x e (λ n. (n + (2 ^ 64 - 1)) % 2 ^ 64) (To (Weighs 1) (λ n. Idle)) call.Release Idle (writer_leaves_moves opening.value x v.0 e) (goes v.0 writing (writes_as v.0 e))
 
-  -- Who may leave
+  -- Which parties may leave the cell
 
   rests_at : (v : View) → seat_of v ≡ seat.Idle → part v ≡ part Idle → (m k : ℕ) → Rests (IsRw opening) use_of_party (Some (v, m, k))
   rests_at v sits is m k = tie.rests (model opening.value) seat_of words_of Word opening.name T lends use_of_view (last opening) (v, m, k) sits (plays.rests rw-lock v (rw is refl) (λ p. rw is refl))
@@ -564,16 +563,16 @@ module _ {T : Type 0} (opening : Opening T) where
   pub idle_rests : (v : Numbered View) → v.0 ≡ Idle → Rests (IsRw opening) use_of_party (Some v)
   idle_rests v is = rw is (rests_at Idle refl refl v.1 v.2)
 
-  -- a party that is out
+  -- a party that is in no call, and holds nothing
   pub out_rests : (view : Option (Numbered View)) → IsOut (what view) → Rests (IsRw opening) use_of_party view
   out_rests None out = tt
   out_rests (Some v) out = rests_at v.0 (seat_idle (seat_of v.0) out) (out_holds_none (Some v.0) out) v.1 v.2
 
-  -- an exchange that found another word
+  -- a party whose only exchange found another word
   pub missed_rests : (won : View) (old found : ℕ) → found ≢ old → (v : Numbered View) → v.0 ≡ either_at old won Idle found → Rests (IsRw opening) use_of_party (Some v)
   missed_rests won old found other v is = idle_rests v (is ∙ ap (λ b. if b then won else Idle) (ne_eqb found old other))
 
--- a try that found a word that does not admit it has failed, so its party is out
+-- A try has failed if the word that it found does not admit the reader. Its party is then in no call, and holds nothing.
 pub refused_out : (won : View) → Comes won → (n : ℕ) → grants (call_of won false) n ≡ None → (view : Option View) → view ≡ Some (Coming (call_of won false) n) → IsOut view
 refused_out won cm n none view is = rw is (ap rws.is_idle (sits_idle won cm n none))
 

@@ -15,7 +15,7 @@ use Rattle.spin_rwlock.specs.declared.rwlock.rule.View.{View}
 use Rattle.spin_rwlock.specs.Rw.{Done}
 
 module _ {T R : Type 0} where
-  -- the value that a guard shows; there always is one
+  -- the value that a guard shows; it is never `None`
   abbrev pub shared_value : {K : Type 0} {kind : Ghosts K} → SharedGuard T K R kind → Option T
   shared_value it = it.permit.value
 
@@ -54,7 +54,7 @@ module _ {T R : Type 0} where
   abbrev pub write_opening : RwLockWriteGuard T R → Opening T
   write_opening it = it.writer.key
 
-  -- the pass that acquired the guard knows the lock's whole history, up to its own last step
+  -- `seen` is what the pass that acquired the guard knows: the lock's whole history, up to the pass's last step
   abbrev pub ReadsWith : {K : Type 0} {kind : Ghosts K} → SharedGuard T K R kind → Watch (Done T) → Type 0
   ReadsWith it seen = (it.permit.key.name ≡ seen.name) × (mark_of it.permit.view ≡ length seen.entries)
 

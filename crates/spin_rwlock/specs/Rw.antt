@@ -1,5 +1,5 @@
--- The rule of a read-write lock. Its word is that of a plain lock with the same holders. Its trace is a schedule of the
--- lock's model that leads to this word and these parties.
+-- The rule of a read-write lock. The word of the lock is that of a plain lock with the same holders. The trace is a schedule of the lock's
+-- model. The schedule leads to this word and to the views of these parties.
 use Rattle.std.specs.Prelude.{◌≡◌, ◌≢◌, ◌⊎◌, ℕ, List, [], ◌∷◌, Bool, true, false, Option, Some, None, is_some, ◌==◌, if◌then◌else◌, map}
 use Rattle.spin_step.specs.Plain.{Plain, reading, upgradable, asking, writing, weight, Ask, to_read, to_read_upgradable, rw_word}
 use Rattle.spin_step.specs.Orders.{IsInOrder}
@@ -48,7 +48,7 @@ use_of_view = used_by part
 abbrev pub use_of_party : Numbered View → Use
 use_of_party v = use_of_view v.0
 
--- the word after a call to read, if the word found admits it
+-- the next word if a call that wants to read is granted at the word `n`; `None` if `n` does not admit the reader
 abbrev pub grants : RwCall → ℕ → Option ℕ
 grants TryRead n = read reader_limit n
 grants Read n = read reader_limit n
@@ -56,8 +56,8 @@ grants TryUpgradeableRead n = read_upgradable reader_limit n
 grants UpgradeableRead n = read_upgradable reader_limit n
 grants _ n = None
 
--- Where such a call sits in the model after a word that does not admit it. A call that waits is at its first step again.
--- A call that tries has failed, so its party is in no call.
+-- Where the party of such a call sits in the model after the call has found a word that does not admit the reader. A call that waits is at
+-- its first step again. A call that tries has failed, so its party is in no call.
 abbrev pub kept_out : RwCall → Seat RwCall RwPoint
 kept_out Read = seat.Calling Read point.First None
 kept_out UpgradeableRead = seat.Calling UpgradeableRead point.First None
@@ -74,7 +74,7 @@ seat_of WritingAsked = seat.Holding hold.Write
 seat_of (Coming call n) = either (is_some (grants call n)) (seat.Calling call (point.Exchange n) None) (kept_out call)
 seat_of WaitingToWrite = seat.Calling Write point.First None
 
--- the words of the lock, from those of the model
+-- the lock's two words for this word of the model; the second word is empty
 abbrev pub words_of : ℕ → ℕ × Unit {0}
 words_of n = (n, tt)
 
@@ -93,7 +93,7 @@ abbrev pub Done : Type 0 → Type 0
 Done T = Entry RwCall T
 
 module _ {T : Type 0} where
-  -- the model that opens with this value
+  -- the model of a lock that opens with this value
   abbrev pub model : T → Machine ℕ T RwCall RwPoint (Answer T)
   model v = rw_machine v reader_limit
 
@@ -101,7 +101,7 @@ module _ {T : Type 0} where
   abbrev pub IsRw : Opening T → ℕ → Trace (Done T) (Unit {0}) → List (Numbered View) → Type 0
   IsRw opening = Runs (model opening.value) seat_of words_of Word opening.name
 
-  -- readers share the value, or one writer has it; the value that nobody writes is the one written last
+  -- readers share the value, or one writer has it; while nobody writes, the value is the one written last
   abbrev pub rw_ways : Opening T → Ways T (Numbered View) (Trace (Done T) (Unit {0}))
   rw_ways opening = (lends, use_of_party, last opening)
 
@@ -115,7 +115,7 @@ IsRwWord word = (s : Plain) × (s.cap ≡ reader_limit) × IsInOrder s × (word 
 
 -- Where a party is in its calls
 
--- a party with this seat is in a call
+-- whether a party with this seat is in a call
 abbrev pub is_calling : Seat RwCall RwPoint → Bool
 is_calling (seat.Calling call point held) = true
 is_calling _ = false
@@ -124,7 +124,7 @@ abbrev pub in_call : Option View → Bool
 in_call None = false
 in_call (Some v) = is_calling (seat_of v)
 
--- the party is in no call, and holds nothing
+-- whether a party with this seat is in no call and holds nothing
 abbrev pub is_idle : Seat RwCall RwPoint → Bool
 is_idle seat.Idle = true
 is_idle _ = false
@@ -141,7 +141,7 @@ IsOut view = is_out view ≡ true
 abbrev pub OneCourse : Type 0 → Type 1
 OneCourse T = Course T RwCall (Answer T)
 
--- whether a call that wants to read continues after its exchange found this word
+-- whether a call that wants to read continues after its exchange failed and found the word `n`
 abbrev pub still : RwCall → ℕ → Bool
 still call n = in_call (Some (Coming call n))
 
@@ -149,45 +149,45 @@ still call n = in_call (Some (Coming call n))
 abbrev pub either_at : {X : Type 0} → ℕ → X → X → ℕ → X
 either_at old won lost n = if n == old then won else lost
 
--- the next view after the exchange of a call that wants to read
+-- the next view after the exchange of a call that wants to read: `won` if the exchange found the word `old`
 abbrev pub came : View → RwCall → ℕ → ℕ → View
 came won call old n = if n == old then won else Coming call n
 
--- The steps: the moves, their outcomes and the next view of each, by the number found
+-- The steps. The number that a step finds decides its moves, their outcomes and the next view of its party.
 
 abbrev pub Says : Type 0 → Type 1
 Says T = List (OneMove T) → List (Ending T) → ℕ → View → Type 0
 
 module _ {T : Type 0} where
-  -- the outcome of an exchange that found this other word
+  -- the outcome of an exchange that failed, and found the word `n`
   abbrev pub missed : RwCall → ℕ → Ending T
   missed call n = if still call n then GoingOn else Answered Refused None
 
-  -- The exchange that admits the reader. If it begins the call (false), the model's party first looks, and finds a free
-  -- lock.
+  -- The course of an exchange that admits the reader. With `true` the call is under way. With `false` the exchange begins the call. Then
+  -- the model's party first looks, and finds a free lock.
   abbrev pub IsGrant : Bool → RwCall → OneCourse T
   IsGrant true call own outs = IsStep true call (Answered Granted None) own outs
   IsGrant false call own outs = (own ≡ Begin call ∷ Step ∷ Step ∷ []) × (outs ≡ Begun ∷ GoingOn ∷ Answered Granted None ∷ [])
 
-  -- any exchange, by whether it found the word that it expected
+  -- the course of any exchange; the second `Bool` says whether it found the word that it expected
   abbrev pub IsArrival : Bool → RwCall → Bool → ℕ → OneCourse T
   IsArrival goes_on call true n = IsGrant goes_on call
   IsArrival goes_on call false n = IsStep goes_on call (missed call n)
 
-  -- the call continues, or has been refused
+  -- the course of steps after which the call continues (`true`), or has been refused
   abbrev pub Left : Bool → OneCourse T
   Left true = Waits
   Left false = Ends Refused
 
-  -- a call that wants to read has begun, and found this word last
+  -- the course of a call that wants to read, up to an exchange or look that found the word `n`
   abbrev pub Seeks : RwCall → ℕ → OneCourse T
   Seeks call n = Begins call (Left (still call n))
 
-  -- what a step tells of its moves, for a lock that opened with this value
+  -- what a step tells of its moves, in a lock that opened with the value `v`
   abbrev pub Told : T → Says T → Option (Numbered View) → List (Done T) → List (Done T) → ℕ → Numbered View → Type 0
   Told v = Tells (model v) seat_of words_of
 
-  -- a whole call in one step, with its answer
+  -- a whole call of one step; the number found decides the answer and the next view
   abbrev pub ends_by : RwCall → (ℕ → Answer T) → (ℕ → View) → Says T
   ends_by call answer to = step_by false call (λ n. Answered (answer n) None) to
 
@@ -195,7 +195,8 @@ module _ {T : Type 0} where
   abbrev pub counts_by : RwCall → (ℕ → ℕ) → Says T
   counts_by call count own outs n v = IsRwWord n × ends_by call (λ m. Count (count m)) (λ m. Idle) own outs n v
 
-  -- an exchange of this word that grants the call, or else has this outcome: the next view by either
+  -- An exchange that expects the word `old`. If it finds that word, the call is granted, and the next view is `won`. If not, the outcome is
+  -- `end`, and the next view is `lost`.
   abbrev pub tries_by : Bool → RwCall → ℕ → Ending T → View → View → Says T
   tries_by goes_on call old end won lost = step_by goes_on call (either_at old (Answered Granted None) end) (either_at old won lost)
 
@@ -211,7 +212,7 @@ module _ {T : Type 0} where
   abbrev pub comes_by : Bool → View → RwCall → ℕ → Says T
   comes_by goes_on won call old own outs n v = (v ≡ came won call old n) × IsArrival goes_on call (n == old) n own outs
 
-  -- the exchange of `{:?}`: a whole `try_read` if it succeeds, otherwise one more count
+  -- the exchange of `{:?}`: a whole `try_read` if it succeeds, otherwise one more `reader_count`
   abbrev pub IsPeek : Bool → ℕ → OneCourse T
   IsPeek true n = IsGrant false TryRead
   IsPeek false n = IsStep false ReaderCount (Answered (Count (readers_in n)) None)
@@ -219,7 +220,7 @@ module _ {T : Type 0} where
   abbrev pub peeks_by : ℕ → Says T
   peeks_by old own outs n v = (v ≡ either_at old Reading Idle n) × IsPeek (n == old) n own outs
 
-  -- the call by which a writer ends: it writes the value that it leaves, which satisfies Q, and gets this view
+  -- The call by which a writer ends. The party first writes the value that it leaves, which satisfies `Q`. The next view is `to`.
   abbrev pub leaves_with : (T → Type 0) → RwCall → View → Says T
   leaves_with Q call to own outs n v = (v ≡ to) × WritesSome Q (IsStep false call (Answered answer.Done None)) own outs
 
@@ -228,39 +229,40 @@ module _ {T : Type 0} where
 
 -- The calls that want to read
 
--- the call that acquires with this view, and waits (true) or tries
+-- the call by which a party gets this view: the one that waits (`true`), or the one that tries
 abbrev pub call_of : View → Bool → RwCall
 call_of Upgradable true = UpgradeableRead
 call_of Upgradable false = TryUpgradeableRead
 call_of _ true = Read
 call_of _ false = TryRead
 
--- the weight of a reader of this view in the word
+-- the weight in the word of a reader with this view
 abbrev pub weight_of : View → ℕ
 weight_of Upgradable = weight upgradable
 weight_of _ = weight reading
 
--- the call by which a writer becomes a reader of this view
+-- the call by which a writer becomes a reader with this view
 abbrev pub downgrade_to : View → RwCall
 downgrade_to Upgradable = DowngradeToUpgradeable
 downgrade_to _ = Downgrade
 
--- what the call asks of the plain lock
+-- what a call that wants this view asks of the plain lock
 abbrev pub asks : View → Ask
 asks Upgradable = to_read_upgradable
 asks _ = to_read
 
--- a call that wants to read acquires with this view
+-- a call that wants to read can get this view
 abbrev pub Comes : View → Type 0
 Comes Reading = Unit {0}
 Comes Upgradable = Unit {0}
 Comes _ = ⊥
 
--- The call begins with this exchange, which expects a free lock. Or the call is under way, and found this word.
+-- The party may make the exchange of the word `n`. Either the call begins with it, and `n` is the word of a free lock. Or the call is under
+-- way, and found the word `n`.
 abbrev pub MayCome : RwCall → ℕ → Option View → Type 0
 MayCome call n view = (IsOut view × (n ≡ 0)) ⊎ (view ≡ Some (Coming call n))
 
--- `write` begins, or waits
+-- the party may make the exchange of `write`: the call begins with it, or waits
 abbrev pub MayWrite : Option View → Type 0
 MayWrite view = IsOut view ⊎ (view ≡ Some WaitingToWrite)
 
@@ -268,15 +270,15 @@ MayWrite view = IsOut view ⊎ (view ≡ Some WaitingToWrite)
 abbrev pub IsLent : {T P K S : Type 0} → Permit T (Numbered View) P K S → View → Type 0
 IsLent it v = (what it.view ≡ Some v) × (it.value ≢ None)
 
--- For a pass of a lock that opened with this value: since it knew `old`, its moves are exactly those of this course
+-- For a pass of a lock that opened with the value `v`. Since the pass knew `old`, it has made the moves of this course and no others.
 module _ {T : Type 0} (v : T) where
   abbrev pub Moves : OneCourse T → Option (Numbered View) → List (Done T) → Option (Numbered View) → List (Done T) → Type 0
   Moves course view old view' new = Made (model v) view old view' new course
 
-  -- it has made exactly this call, with this answer
+  -- since then the pass has made exactly this call, which had this answer
   abbrev pub Called : RwCall → Answer T → Option (Numbered View) → List (Done T) → Option (Numbered View) → List (Done T) → Type 0
   Called call answer = Moves (IsCall call answer)
 
-  -- it has written a value that satisfies Q, and then made this call
+  -- since then the pass has written a value that satisfies `Q`, and then made this call
   abbrev pub Wrote : (T → Type 0) → RwCall → Option (Numbered View) → List (Done T) → Option (Numbered View) → List (Done T) → Type 0
   Wrote Q call = Moves (WritesSome Q (IsCall call answer.Done))

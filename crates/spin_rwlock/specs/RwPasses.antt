@@ -1,4 +1,4 @@
--- What a pass knows: the lock's history so far, and which of its moves are the pass's own.
+-- What a pass knows: the lock's history up to the pass's last step, and which moves of the history are its own.
 use Rattle.std.specs.Prelude.{◌≡◌, ℕ, Option, List}
 use Rattle.spin_core.specs.Own.{Numbered}
 use Rattle.spin_core.specs.declared.tie.Opening.{Opening}
@@ -15,17 +15,19 @@ module _ {T R : Type 0} where
   abbrev pub history : Pass T R → List (Done T)
   history it = it.seen.entries
 
-  -- the name of a lock's history; also by a pass of the lock
+  -- the name of a lock's history
   abbrev pub name_of : {P S : Type 0} → RwLock T R (Numbered View) P (Opening T) S → ℕ
   name_of lock = lock.cell.name
 
+  -- the same name, by a pass of the lock
   abbrev pub lock_of : Pass T R → ℕ
   lock_of it = it.seen.name
 
-  -- what was fixed when a lock was made: that name, and the opening value; also by a pass of the lock
+  -- what was fixed when the lock was made: the name of its history, and the value that it opened with
   abbrev pub opening : {P S : Type 0} → RwLock T R (Numbered View) P (Opening T) S → Opening T
   opening lock = lock.cell
 
+  -- the same, by a pass of the lock
   abbrev pub opening_of : Pass T R → Opening T
   opening_of it = it.permit.key
 
@@ -33,21 +35,21 @@ module _ {T R : Type 0} where
   abbrev pub party : Pass T R → Option (Numbered View)
   party it = it.permit.view
 
-  -- since then the pass has counted the readers once, with this answer
+  -- from `before` to `now` the pass has made one call, `reader_count`, with this answer
   abbrev pub CountedReaders : ℕ → Pass T R → Pass T R → Type 0
   CountedReaders readers before now = Called (opening_of before).value ReaderCount (Count readers) (party before) (history before) (party now) (history now)
 
-  -- since then the pass has counted the writers once, with this answer
+  -- from `before` to `now` the pass has made one call, `writer_count`, with this answer
   abbrev pub CountedWriters : ℕ → Pass T R → Pass T R → Type 0
   CountedWriters writers before now = Called (opening_of before).value WriterCount (Count writers) (party before) (history before) (party now) (history now)
 
-  -- since then the pass has read once, and has released the lock
+  -- from `before` to `now` the pass has acquired the lock once by `read`, and has released it
   abbrev pub ReadOnce : Pass T R → Pass T R → Type 0
   ReadOnce before now =
       (view : Option (Numbered View)) × (seen : List (Done T)) × (lock : Opening T) × (lock ≡ opening_of before) × Called (opening_of before).value Read Granted (party before) (history before) view seen
       × Called lock.value Release answer.Done view seen (party now) (history now)
 
-  -- since then the pass has acquired the lock as a writer and released it, once; it left a value that satisfies Q
+  -- From `before` to `now` the pass has acquired the lock once by `write`, and has released it. It left a value that satisfies `Q`.
   abbrev pub WroteWith : (T → Type 0) → Pass T R → Pass T R → Type 0
   WroteWith Q before now =
       (view : Option (Numbered View)) × (seen : List (Done T)) × (lock : Opening T) × (lock ≡ opening_of before) × Called (opening_of before).value Write Granted (party before) (history before) view seen
@@ -56,7 +58,8 @@ module _ {T R : Type 0} where
   abbrev pub WroteOnce : Pass T R → Pass T R → Type 0
   WroteOnce = WroteWith (λ x. Unit {0})
 
-  -- since then the pass has acquired the lock as an upgradable reader, become the writer, and released the lock, once
+  -- From `before` to `now` the pass has acquired the lock once by `upgradeable_read`. Then it has become the writer by `upgrade`, and has
+  -- released the lock. It left some value.
   abbrev pub RaisedOnce : Pass T R → Pass T R → Type 0
   RaisedOnce before now =
       (reader : Option (Numbered View)) × (seen : List (Done T)) × Called (opening_of before).value UpgradeableRead Granted (party before) (history before) reader seen

@@ -6,7 +6,7 @@ use Rattle.spin_core.specs.Views.{Part, holds, holds_starving, part_at}
 use Rattle.spin_rwlock.specs.Rw.{part}
 use Rattle.spin_rwlock.specs.declared.rwlock.rule.View.{View}
 
--- a party with this part holds the lock with this kind
+-- whether a party with this part is a holder of this kind
 abbrev pub is_of_kind : Kind → Part → Bool
 is_of_kind k (holds j) = same_kind k j
 is_of_kind k holds_starving = same_kind k writing
@@ -15,7 +15,7 @@ is_of_kind k _ = false
 abbrev pub has_kind : Kind → View → Bool
 has_kind k v = is_of_kind k (part v)
 
--- how many parties hold with this kind
+-- how many parties are holders of this kind
 abbrev pub held : Kind → List View → ℕ
 held k vs = count_by (has_kind k) vs
 
@@ -40,6 +40,6 @@ pub record ReadersOrWriter (vs : List View) : Type 0 where
   pub writer_alone : 0 < writers vs → holders vs ≡ 1
   pub within_limit : holders vs ≤ reader_limit
 
--- the party with this number holds the lock with this kind
+-- the party with this number is a holder of this kind
 abbrev pub HoldsAt : List View → ℕ → Kind → Type 0
 HoldsAt vs p k = part_at part vs p ≡ holds k

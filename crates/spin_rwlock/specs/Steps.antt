@@ -28,7 +28,7 @@ module _ {T : Type 0} where
   abbrev pub model_at : Opening T → Machine ℕ T RwCall RwPoint (Answer T)
   model_at opening = model opening.value
 
-  -- between the two spots the party has made exactly the moves of this course, in one lock
+  -- from the first spot to the second the party has made exactly the moves of this course, in one lock
   abbrev pub Since : OneCourse T → Spot T → Spot T → Type 0
   Since = spots.Since model_at
 
@@ -36,21 +36,21 @@ module _ {T : Type 0} where
   written_at held = (held.0.key, Some held.0.view, held.1)
 
 module _ {T P S : Type 0} where
-  -- it knows the lock's whole history, up to the party's last step
+  -- `seen` is the lock's whole history, up to the party's last step
   abbrev pub Knows : Party T P S → Watch (Done T) → Type 0
   Knows it seen = (it.key.name ≡ seen.name) × (mark_of it.view ≡ length seen.entries)
 
   abbrev pub KnowsWriter : Writer T P S → Watch (Done T) → Type 0
   KnowsWriter it seen = (it.key.name ≡ seen.name) × (it.view.2 ≡ length seen.entries)
 
-  -- it watches the lock's history, or knows nothing
+  -- `seen` is part of the history of this lock, or is empty
   abbrev pub MayKnow : Party T P S → Watch (Done T) → Type 0
   MayKnow it seen = (seen.entries ≡ []) ⊎ (it.key.name ≡ seen.name)
 
   abbrev pub MayKnowWriter : Writer T P S → Watch (Done T) → Type 0
   MayKnowWriter it seen = (seen.entries ≡ []) ⊎ (it.key.name ≡ seen.name)
 
-  -- the party of a pass that is in no call
+  -- a party with its watch, as in a pass: it is in no call, holds nothing, and knows the history up to its last step
   abbrev pub IsPass : Party T P S → Watch (Done T) → Type 0
   IsPass it seen = IsOut (what it.view) × Knows it seen
 
@@ -61,15 +61,16 @@ module _ {T P S : Type 0} where
   abbrev pub WritesLast : Writer T P S → Watch (Done T) → Type 0
   WritesLast it seen = IsLast it.key seen.entries it.value
 
-  -- If the party knew the whole history before, it knows it all afterwards, and has made the moves of this course.
+  -- The party knows the whole history afterwards, if it knew the whole history before. In between it has made exactly the moves of this
+  -- course.
   abbrev pub Makes : OneCourse T → Party T P S → Watch (Done T) → Party T P S → Watch (Done T) → Type 0
   Makes course it seen it' seen' = Knows it seen → Knows it' seen' × (seen'.name ≡ seen.name) × Moves it.key.value course it.view seen.entries it'.view seen'.entries
 
-  -- the same for a step by which it becomes the writer
+  -- like `Makes`, for a step by which the party becomes the writer
   abbrev pub MakesWriter : OneCourse T → Party T P S → Watch (Done T) → Writer T P S → Watch (Done T) → Type 0
   MakesWriter course it seen it' seen' = Knows it seen → KnowsWriter it' seen' × (seen'.name ≡ seen.name) × Moves it.key.value course it.view seen.entries (Some it'.view) seen'.entries
 
-  -- and for one by which a writer ends: it has written the value that it leaves, and made this call
+  -- like `Makes`, for a step by which a writer ends: the party has written the value that it leaves, and then made this call
   abbrev pub EndsWriting : RwCall → Writer T P S → Watch (Done T) → Party T P S → Watch (Done T) → Type 0
   EndsWriting call it seen it' seen' =
       KnowsWriter it seen → Knows it' seen' × (seen'.name ≡ seen.name) × Wrote it.key.value (λ x. it.key.told ≡ true → x ≡ it.value) call (Some it.view) seen.entries it'.view seen'.entries

@@ -17,36 +17,39 @@ module _ {T K R : Type 0} {k : kind.Ghosts K} where
   abbrev pub lent_at : SharedGuard T K R k × Watch (Done T) → Spot T
   lent_at lent = spot lent.0.permit lent.1
 
-  -- it has done this since, and reads the value that was written last
+  -- since the spot `p` the party has made exactly the moves of this course; it now reads the value written last
   abbrev pub IsReader : OneCourse T → Spot T → SharedGuard T K R k × Watch (Done T) → Type 0
   IsReader course p lent = (ReadsWith lent.0 lent.1 × ReadsLast lent.0 lent.1) × Since course p (lent_at lent)
 
--- For a call that wants to read, wherever it began
+-- For a call that wants to read, which may have begun at any spot `p`
 module _ {T K M R : Type 0} {k : kind.Ghosts K} {m : mode.Ghosts M} where
   abbrev pub here : Coming T K M R k m → Spot T
   here it = spot it.permit it.seen
 
   module _ (call : RwCall) (was : Coming T K M R k m) where
+    -- The call began at `p`. Last it has found the word of `was`, by which it waits, tries again or has failed.
     abbrev Sought : Spot T → Type 0
     Sought p = Since (Seeks call was.word) p (here was)
 
-    -- it has found another word since, by which it waits, tries again or has failed
+    -- since `was` the call has found the word of `now`, by which it waits, tries again or has failed
     abbrev pub SeeksOn : Coming T K M R k m → Type 0
     SeeksOn now = (p : Spot T) → Sought p → Since (Seeks call now.word) p (here now)
 
+    -- the call has been granted
     abbrev pub IsLetIn : SharedGuard T K R k × Watch (Done T) → Type 0
     IsLetIn lent = (p : Spot T) → Sought p → IsReader (IsCall call Granted) p lent
 
+    -- the call has been refused
     abbrev pub IsRefused : Pass T R → Type 0
     IsRefused pass = (p : Spot T) → Sought p → Since (IsCall call Refused) p (spot pass.permit pass.seen)
 
--- For `write` and `upgrade`, wherever they began
+-- For a `write` or an `upgrade`, which may have begun at any spot `p`
 module _ {T : Type 0} (call : RwCall) (was : Spot T) where
-  -- it still waits
+  -- the call still waits
   abbrev pub WaitsOn : Spot T → Type 0
   WaitsOn now = (p : Spot T) → Since (Begins call Waits) p was → Since (Begins call Waits) p now
 
-  -- it is granted, and finds the value that was written last
+  -- the call is granted, and the writer finds the value written last
   abbrev pub IsGranted : {P S : Type 0} → Writer T P S × Watch (Done T) → Type 0
   IsGranted held =
       KnowsWriter held.0 held.1 × WritesLast held.0 held.1 × ((p : Spot T) → Since (Begins call Waits) p was → Since (IsCall call Granted) p (written_at held))

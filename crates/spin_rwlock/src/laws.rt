@@ -12,8 +12,8 @@ ghost use Rattle.spin_rwlock.specs.Standing.{readers, upgradables, askers, write
 
 /// Each run of an [`RwLock`](crate::rwlock::RwLock) on threads is a schedule of its model.
 ///
-/// The lock's cell keeps the list of all moves that threads have made in it: which party, and which move. The list is
-/// ghost state, and takes no memory.
+/// The lock's cell keeps the list of all moves that threads have made in it. An entry names the party and its move. The
+/// list is ghost state, and takes no memory.
 ///
 /// # Contract
 /// The law holds between any two steps of threads (`IsRw`): no move of the list is skipped in the model. After all
@@ -52,7 +52,7 @@ pub fn the_word_of_a_rwlock_is_zero_when_nobody_holds<T>()
 /// A holder releases by a subtraction, and downgrades or asks to upgrade by an addition. Neither loads the word first.
 ///
 /// # Contract
-/// On each word that the rule allows, the result is that of the step function (`released`, `turned`).
+/// On each word that the rule allows, the operation gives the word that the step function gives (`released`, `turned`).
 pub fn an_addition_is_its_step_function<T>()
     ensures release { (opening : Opening T) (word : ℕ) (trace : Trace (Done T) (Unit {0})) (parties : List (Numbered View)) (p : ℕ) (k : Kind) → IsRw opening word trace parties → HoldsAt (views parties) p k → (tells k word ≡ true) × ((word + (2 ^ 64 - weight k)) % 2 ^ 64 ≡ released k word) }
     ensures downgrade { (opening : Opening T) (word : ℕ) (trace : Trace (Done T) (Unit {0})) (parties : List (Numbered View)) (p : ℕ) (j k : Kind) → IsRw opening word trace parties → HoldsAt (views parties) p j → may_turn j k ≡ true → (tells j word ≡ true) × ((word + (weight k - weight j)) % 2 ^ 64 ≡ turned j k word) }

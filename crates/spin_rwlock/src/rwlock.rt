@@ -27,10 +27,10 @@ pub use spin_core::laws::{a_guard_reads_the_last_value_written, two_guards_read_
 
 /// A reader-writer lock: many readers share the value, or one writer has it alone. A waiting thread spins.
 ///
-/// One reader at a time may be upgradable: it may become the writer without releasing the lock. It admits other readers
-/// until its [`upgrade`](RwLockUpgradableGuard::upgrade) asks; from then on no new reader is admitted. Writers are not
-/// preferred: readers that keep acquiring the lock may keep a writer out. A waiting thread relaxes with strategy `R`.
-/// `V` is always `Party` and `P` always `RwRule<T>`, and neither is ever named.
+/// One reader at a time may be upgradable: it may become the writer without releasing the lock. The lock admits other
+/// readers until this reader's [`upgrade`](RwLockUpgradableGuard::upgrade) asks. From then on no new reader is
+/// admitted. Writers are not preferred: readers that keep acquiring the lock may keep a writer out. A waiting thread
+/// relaxes with strategy `R`. `V` is always `Party` and `P` is always `RwRule<T>`. Callers never name them.
 ///
 /// # Contract
 /// While the guard or the hold of a writer lives, no other guard gives access to the value. A guard gives a value of
@@ -86,7 +86,8 @@ impl<T, R> RwLock<T, R> {
     /// word.
     ///
     /// # Contract
-    /// A guard is that of a reader. `None` promises nothing. Whether and when the call returns is not promised.
+    /// The guard in `Some` is that of a reader. `None` promises nothing. Whether and when the call returns is not
+    /// promised.
     #[must_use = "dropping the guard at once releases the lock: bind the answer, or write `drop(..)`"]
     pub fn try_read<W: Wait>(&self, rt: &W) -> Option<RwLockReadGuard<'_, T, R>> {
         match self.pass().try_read(rt) {
@@ -101,8 +102,8 @@ impl<T, R> RwLock<T, R> {
     /// compare-exchange if there are readers, and more only while other threads change the word.
     ///
     /// # Contract
-    /// A guard is that of the upgradable reader. `None` promises nothing. Whether and when the call returns is not
-    /// promised.
+    /// The guard in `Some` is that of the upgradable reader. `None` promises nothing. Whether and when the call returns
+    /// is not promised.
     #[must_use = "dropping the guard at once releases the lock: bind the answer, or write `drop(..)`"]
     pub fn try_upgradeable_read<W: Wait>(&self, rt: &W) -> Option<RwLockUpgradableGuard<'_, T, R>> {
         match self.pass().try_upgradeable_read(rt) {
@@ -116,7 +117,7 @@ impl<T, R> RwLock<T, R> {
     /// It makes one compare-exchange.
     ///
     /// # Contract
-    /// A guard is that of the writer. `None` promises nothing. The call returns.
+    /// The guard in `Some` is that of the writer. `None` promises nothing. The call returns.
     ///
     /// # Examples
     /// ```
@@ -140,7 +141,7 @@ impl<T, R> RwLock<T, R> {
     /// does.)
     ///
     /// # Contract
-    /// That of `try_write`.
+    /// Like that of `try_write`.
     #[must_use = "dropping the guard at once releases the lock: bind the answer, or write `drop(..)`"]
     pub fn try_write_weak<'a>(&'a self) -> Option<RwLockWriteGuard<'a, T, R>> {
         self.try_write()
@@ -322,8 +323,8 @@ impl<T, R: RelaxStrategy> SharedLock<T> for RwLock<T, R> {
     }
 }
 
-// SAFETY: its cell, which owns the value, is sent too. No value of the rule exists.
+// SAFETY: sending the lock sends its cell, which owns the value. No value of the rule exists.
 unsafe impl<T: Send, R, V, P: Rule<T, V>> Send for RwLock<T, R, V, P> {}
 
-// SAFETY: any thread may write the value, and several may read it at once. The cell asks it of the rule.
+// SAFETY: any thread may write the value, and several may read it at once. The cell also asks that its rule is `Sync`.
 unsafe impl<T: Send + Sync, R, V, P: Rule<T, V> + Sync> Sync for RwLock<T, R, V, P> {}

@@ -1,4 +1,4 @@
--- What a step tells a party that knows the lock's history, and what the steps of a call make together.
+-- What a step tells a party that knows the lock's history, and how the steps of a call add up to the call.
 use Rattle.std.proofs.Common.{◌≡◌, ℕ, Bool, true, false, Some, None, List, ◌==◌, if◌then◌else◌, sym, ap, ◌∙◌, subst}
 use Rattle.std.specs.Prelude.{Result, Ok, Err}
 use mathlib.Core.Logic.{inr}
@@ -35,7 +35,7 @@ use Rattle.spin_ticket.proofs.Queue.{mutex}
 abbrev Party : Type 0 → Type 0
 Party T = Permit T (Numbered View) TicketRule (Key T) (Trace (Made T) ℕ)
 
--- Of a step from this account
+-- For a step that the party of the account `me` makes
 module _ {T : Type 0} (me : Account T) where
   abbrev IsNamed : Type 0
   IsNamed = Named (IsQueue me.permit.key) (queue_ways me.permit.key) me.seen.name
@@ -53,7 +53,7 @@ module _ {T : Type 0} (me : Account T) where
     abbrev Steps : Bool → TicketCall → Ending T → View → Type 0
     Steps goes_on c end to = Stepped model goes_on c end to (here me) (spot it now)
 
-    -- its play says this of its moves
+    -- the party's moves and its next view, if the step's play says that the number found decides them
     pub took : (says : Says T) (to : ℕ → View) (course : ℕ → Course T TicketCall (Answer T))
         → ((own : List (Move TicketCall T)) (outs : List (Ending T)) (n : ℕ) (v : View) → says own outs n v → (v ≡ to n) × course n own outs)
         → Tells says → Since model (course found) (here me) (spot it now) × (what it.view ≡ Some (to found))
@@ -63,7 +63,7 @@ module _ {T : Type 0} (me : Account T) where
         → Tells (step_by goes_on c end to) → Steps goes_on c (end found) (to found)
     stepped = spots.stepped model seat_of words_of (here me) (spot it now) same me.knows is_named found
 
-    -- a look that waits with this ticket, by whether it found its number served
+    -- a look of a party that waits with this ticket; `b` says whether the look found the ticket's number served
     pub found_turn : (number : ℕ) (b : Bool) → what me.permit.view ≡ Some (Waiting number) → b ≡ (found == number)
         → Tells (awaits_by (what me.permit.view))
         → Steps true Lock (if b then Answered Granted None else GoingOn) (if b then Entered number else Waiting number)
@@ -71,7 +71,7 @@ module _ {T : Type 0} (me : Account T) where
         let step = stepped true Lock (answers_turn number) (entered number) (subst (λ o. Tells (awaits_by o)) at moved) in
         subst (λ x. Steps true Lock (if x then Answered Granted None else GoingOn) (if x then Entered number else Waiting number)) (sym is) step
 
-    -- the exchange of a `try_lock`, by whether it found the number that it expected
+    -- the exchange of a `try_lock`; `b` says whether the exchange found the number that it expected
     pub found_next : (next : ℕ) (b : Bool) → (found == next) ≡ b
         → Tells (step_by true TryLock (answers_attempt next) (attempted next))
         → Steps true TryLock (if b then Answered Granted None else Answered Refused None) (if b then Entered next else Idle)
@@ -79,7 +79,7 @@ module _ {T : Type 0} (me : Account T) where
         let step = stepped true TryLock (answers_attempt next) (attempted next) moved in
         subst (λ x. Steps true TryLock (if x then Answered Granted None else Answered Refused None) (if x then Entered next else Idle)) is step
 
--- Of a `try_lock` that found this number next, and this one served
+-- For a `try_lock` that found the number `next`, and then the number `served`
 module _ {T : Type 0} (p q r : Spot T) (next served : ℕ) (first : Stepped model false TryLock GoingOn (LoadedNext next) p q)
     (second : Stepped model true TryLock (answers_free next served) (freed next served) q r) where
   began : IsIn model TryLock p q
@@ -103,7 +103,7 @@ module _ {T : Type 0} (p q r : Spot T) (next served : ℕ) (first : Stepped mode
     is_tried (Err now) so =
         let step = so.1 in (tt, (is_answered model TryLock p r (here now) tries Refused step.0, ap (stands Idle) step.1))
 
--- the store of a holder that leaves this value
+-- the store of a holder that leaves the value `x`
 pub releases : {T : Type 0} (me : Account T) (it : Party T) (now : Watch (Made T)) → it.key ≡ me.permit.key → (x : T) (number : ℕ)
     → what me.permit.view ≡ Some (Entered number) → me.permit.value ≡ Some x
     → Found (queue_ways me.permit.key) me.permit.view it.view me.permit.value it.value now
@@ -112,7 +112,7 @@ releases me it now same x number is shown =
     released mutex Release Done (here me) (spot it now) (IsNamed me) 0 (is_named me) same me.knows me.permit.value it.value x
     (ap (use_of use_of_view) is) shown
 
--- behind the load that finds the holder's own number
+-- the release from `p`: first the load that finds the holder's own number, which is no move, then the store from `q`
 pub released_behind : {T : Type 0} (x : T) (p q r : Spot T) → Since model Nothing p q → Releases x q r → Releases x p r
 released_behind {T} x p q r none so =
     let at : Releases x (p.0, q.1, q.2) r = subst (λ (k : Key T). Releases x (k, q.1, q.2) r) none.2 so in

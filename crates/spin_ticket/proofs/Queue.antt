@@ -1,5 +1,4 @@
--- The steps of a lock of tickets keep its rule. Each is the plain step that its step function makes, and moves of the
--- lock's model.
+-- The steps of a lock of tickets keep its rule. Each step makes the plain step of its step function, and its moves of the lock's model.
 use Rattle.std.proofs.Common.{◌≡◌, ℕ, ◌+◌, ◌<◌, ◌≤◌, ◌&&◌, Bool, true, false, if◌then◌else◌, ◌==◌, [], ◌∷◌, Option, Some, None, refl, sym, ap, ◌∙◌, subst, arith}
 use Rattle.std.proofs.lemmas.Bool.{eqb-true, eq-eqb, and_parts}
 use prog.Atomic.{either}
@@ -56,7 +55,7 @@ queue = record {
   names_nobody = (next_word-up, serving_word-up);
 }
 
--- the party gets this view, by the number found
+-- the party gets the view that `to` gives for the number found
 abbrev Comes : (ℕ → View) → ℕ → View → Type 0
 Comes to n v = v ≡ to n
 
@@ -68,7 +67,7 @@ Compares served n v = (served ≤ n) × (v ≡ Idle)
 abbrev Finds : ℕ → ℕ → View → Type 0
 Finds number n v = (n ≡ number) × (number < ticket_limit) × (v ≡ Entered number)
 
--- What the step function says of a number
+-- What the step function `take` says of a number
 
 pub left_of : (n after : ℕ) → Some after ≡ take n → (is_left n ≡ true) × (after ≡ n + 1)
 left_of n after is = left_if (is_left n) is
@@ -90,7 +89,8 @@ goes_for n left = ap (λ b. if b then Going n else Coming) left
 abbrev pub mutex : {T : Type 0} → Key T → Mutex TicketWords T TicketCall TicketPoint View ℕ
 mutex key = record { plain = queue; model = model key; seat_of = seat_of; words_of = words_of; opening = key.0; idle_sits = refl }
 
--- The moves of each step: a call of the model and its first step, or the next step of a call under way
+-- The moves of each step. Either the step begins a call of the model and makes its first step, or it is the next step of a call under way.
+-- The release also writes a value.
 
 module _ {T : Type 0} (key : Key T) where
   abbrev Moves : Option View → (ℕ → ℕ) → (ℕ → View → Type 0) → Says T → Type 0
@@ -127,12 +127,12 @@ module _ {T : Type 0} (key : Key T) where
   find_moves : (n : ℕ) → MovesSecond (Some (Entered n)) (λ k. k) (Finds n) (finds n)
   find_moves n w value v is = rw is.2 ([], [], ((is.0, is.1, refl), refl, refl), refl, refl, w, value, refl, refl, refl)
 
-  -- the holder writes the value x
+  -- the release of a holder, which first writes the value `x`
   serve_moves : (x : T) (n : ℕ) → MovesSecond (Some (Entered n)) (λ _. n + 1) (Comes gone) (leaves_by (λ y. y ≡ x) Release Done Idle)
   serve_moves x n w value v is =
       rw is (Write x ∷ Begin Release ∷ Step ∷ [], Written ∷ Begun ∷ Answered Done None ∷ [], (refl, (x, refl, (Begin Release ∷ Step ∷ [], Begun ∷ Answered Done None ∷ [], refl, refl, (refl, refl)))), refl, refl, record w { serving = n + 1 }, Some x, grind (arith, eq-eqb n n refl), grind (arith, eq-eqb n n refl), refl)
 
--- Each step keeps the rule, and appends its moves
+-- Each step keeps the rule, and appends its moves to the trace
 
 goes_if : (view : Option View) (s : Plain) (p : ℕ) → (Reaches queue view (Going s.next) s p s.next (serving_word s)) → Reaches queue view Coming s p s.next (serving_word s) → (b : Bool) → Reaches queue view (if b then Going s.next else Coming) s p s.next (serving_word s)
 goes_if view s p left none true = left
@@ -163,7 +163,7 @@ module _ {T : Type 0} (key : Key T) where
       mutexes.starts (mutex key) key.1 t named empty (ap (λ k. (key.1, k)) word)
       (rw word (plays.begins queue 0 key.1 key.1 key.1 (omega (arith, small)) refl (omega arith)))
 
-  -- `lock`
+  -- The steps of `lock`
 
   pub loads : (view : Option (Numbered View)) (shown : Option T) → IsOut Idle (what view) → Keeps view shown (λ n. n) (step_by false Lock goes_on going)
   loads view shown out =
@@ -186,7 +186,7 @@ module _ {T : Type 0} (key : Key T) where
       (sym (serving-taken s p false order.numbered)))
       (goes_if from s p (by_none queue from (Going s.next) s p refl tt) (by_none queue from Coming s p refl tt) (is_left s.next)))))
 
-  -- a party enters exactly if that is open to it
+  -- a look of a waiting party: the party enters exactly if the plain step `to_enter` is open to it
   pub awaits : (view : Option (Numbered View)) (shown : Option T) (number : ℕ) → what view ≡ Some (Waiting number)
       → KeepsSecond view shown (λ k. k) (awaits_by (what view))
   awaits view shown number is =
@@ -197,7 +197,7 @@ module _ {T : Type 0} (key : Key T) where
       let turn = enters_in_turn s p (serving_word s) number order.numbered refl (ap (λ e. e.tickets) has.0) in
       (entered number (serving_word s), enters_if number s p (serving_word s == number) turn, refl)))))
 
-  -- `try_lock`
+  -- The steps of `try_lock`
 
   pub tries : (view : Option (Numbered View)) (shown : Option T) → IsOut Idle (what view)
       → Keeps view shown (λ n. n) (step_by false TryLock goes_on LoadedNext)
@@ -216,7 +216,7 @@ module _ {T : Type 0} (key : Key T) where
       (rw is (allows_second queue (Some (LoadedNext next)) (λ k. k) (Comes (freed next)) (λ s p room order has.
       (freed next (serving_word s), frees_if next s p (is_free next (serving_word s)) refl, refl)))))
 
-  -- a party that found the next number served finds nobody in the queue
+  -- the exchange of `try_lock`: if it succeeds, nobody is in the queue, since the next number was served
   pub attempts : (view : Option (Numbered View)) (shown : Option T) (next after : ℕ) → what view ≡ Some (Trying next) → Some after ≡ take next
       → Keeps view shown (λ n. either (n == next) after n) (step_by true TryLock (answers_attempt next) (attempted next))
   attempts view shown next after is exact =
@@ -229,7 +229,7 @@ module _ {T : Type 0} (key : Key T) where
       by_grant queue from (Entered next) s p to_take_and_enter after (serving_word s) grants (ap (λ n. entries_of p (queues n true)) e) tt
       (sym (serving-taken s p true order.numbered)))))
 
-  -- `is_locked`: the served number only grows, and is at most the next one
+  -- The steps of `is_locked`. The second load finds a next number that is at least the number served.
 
   pub looks : (view : Option (Numbered View)) (shown : Option T) → IsOut Idle (what view)
       → KeepsSecond view shown (λ k. k) (step_by false IsLocked goes_on LoadedServing)
@@ -250,7 +250,7 @@ module _ {T : Type 0} (key : Key T) where
       (rw is (allows queue (Some (LoadedServing served)) (λ n. n) (Compares served) (λ s p room order has.
       (Idle, by_none queue (Some (LoadedServing served)) Idle s p refl tt, (omega (arith, has.1, order.numbered.0), refl))))))
 
-  -- The release
+  -- The steps of the release
 
   pub finds_own : (view : Option (Numbered View)) (shown : Option T) (number : ℕ) → what view ≡ Some (Entered number) → KeepsSecond view shown (λ k. k) (finds_by (what view))
   finds_own view shown number is =
@@ -262,7 +262,7 @@ module _ {T : Type 0} (key : Key T) where
       let served = entered_is_served s p number order.numbered order.exclusive.one_entered (ap (λ e. e.tickets) has.0) in
       (Entered number, by_none queue (Some (Entered number)) (Entered number) s p refl tt, (served.1, omega (arith, order.within_limit, order.numbered.0, first-length p true s.tickets served.0, served.1), refl))))))
 
-  -- the holder writes the value that it leaves
+  -- the release: the holder first writes the value that it leaves
   pub serves_next : (view : Option (Numbered View)) (shown : Option T) (x : T) (number next : ℕ) → what view ≡ Some (Entered number)
       → shown ≡ Some x → next ≡ served number → KeepsSecond view shown (λ _. next) serves_by
   serves_next view shown x number next is here more =
@@ -277,13 +277,13 @@ module _ {T : Type 0} (key : Key T) where
 -- What the load of a release tells the holder
 
 module _ {T : Type 0} (key : Key T) where
-  -- the load of a party that releases is no move: it tells the party its own number
+  -- the load of a party that releases is no move; the load tells the party the number of its own ticket
   pub found_own : (number : ℕ) (view view' : Option (Numbered View)) (before now : Watch (Made T)) (found : ℕ) (named : Type 0) → what view ≡ Some (Entered number)
       → Moved (Watches named before now (Told key (finds_by (what view)) view) found) view' → (found < ticket_limit) × (what view' ≡ Some (Entered found))
   found_own number view None before now found named is moved = absurd moved
   found_own number view (Some v) before now found named is moved = let own = moved.1.4.6.0 in (omega (arith, own.0, own.1), ap Some (own.2 ∙ ap Entered (sym own.0)))
 
-  -- the load of a release keeps the value
+  -- after that load the party sees the same value as before
   pub same_shown : (view view' : Option (Numbered View)) (before after : Option T) (x : T) (n m : ℕ) → what view ≡ Some (Entered n) → what view' ≡ Some (Entered m) → before ≡ Some x → Keeps_value (queue_ways key) view view' before after → after ≡ Some x
   same_shown view view' before after x n m is is' here kept =
       (subst (λ (z : Use × Use × Option T). Preserves alone z.0 z.1 z.2 after) (λ i. ((sym (tie.same_use use_of_view view) ∙ ap (use_of use_of_view) is) i, (sym (tie.same_use use_of_view view') ∙ ap (use_of use_of_view) is') i, here i)) kept).0

@@ -16,7 +16,7 @@ use Rattle.spin_ticket.proofs.ticket.rule.View.TheLaws as views
 abbrev words : Laws u64
 words = of_field u64-field u64-laws refl (copy_shared u64-field u64-copy)
 
--- a party, the rule's key, and the type of the second word
+-- the types of a party, of the rule's key, and of the second word
 abbrev pub Party : RattleType
 Party = numbered view.the_row
 

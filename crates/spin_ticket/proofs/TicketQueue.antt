@@ -1,4 +1,4 @@
--- What the rule of a lock of tickets says.
+-- What the rule of a lock of tickets says of the queue.
 use Rattle.std.proofs.Common.{◌≡◌, ℕ, List, refl, sym, ap, ◌∙◌, arith}
 use Rattle.std.specs.Prelude.{sum_by, count_by}
 use Rattle.spin_step.specs.Plain.{serving_word}

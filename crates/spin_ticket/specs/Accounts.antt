@@ -29,40 +29,41 @@ module _ {T : Type 0} where
   abbrev pub here : Account T → Spot T
   here it = spot it.permit it.seen
 
-  -- an attempt of `lock` to take its ticket: it has one, or tries again
+  -- the result of an attempt of `lock` to take a ticket: the call has one, or tries again
   abbrev pub GoesFor : Going T → Result (Place T) (Going T) → Type 0
   GoesFor was r =
       (p : Spot T) → IsIn model Lock p (here was.account)
       → IfOk r (λ place. IsIn model Lock p (here place.account)) × IfErr r (λ next. IsIn model Lock p (here next.account))
 
-  -- an attempt of `lock` to enter: it is granted, or waits
+  -- the result of an attempt of `lock` to enter: the call is granted the lock, or still waits
   abbrev pub Enters : Place T → Result (Grant T) (Place T) → Type 0
   Enters was r =
       (p : Spot T) → IsIn model Lock p (here was.account)
       → IfOk r (λ grant. HasCalled model Lock Granted p (here grant.account)) × IfErr r (λ next. IsIn model Lock p (here next.account))
 
-  -- a whole `try_lock`
+  -- the result of a whole `try_lock`
   abbrev pub Tries : Spot T → Result (Grant T) (Account T) → Type 0
   Tries p r =
       IfOk r (λ grant. HasCalled model TryLock Granted p (here grant.account))
       × IfErr r (λ now. HasCalled model TryLock Refused p (here now) × IsOut Idle (what now.permit.view))
 
-  -- the exchange of a `try_lock` that found this number next and served
+  -- the result of the exchange of a `try_lock` that found the number `next` both next and served
   abbrev pub Attempts : ℕ → Spot T → Result (Grant T) (Account T) → Type 0
   Attempts next p r =
       IfOk r (λ grant. Stepped model true TryLock (Answered Granted None) (Entered next) p (here grant.account))
       × IfErr r (λ now. Stepped model true TryLock (Answered Refused None) Idle p (here now))
 
-  -- it holds the lock with this ticket, and may write this value
+  -- the party holds the lock with this ticket, and may write the value, which is `x`
   abbrev pub HasTicket : ℕ → T → Account T → Type 0
   HasTicket number x it = (number < ticket_limit) × (what it.permit.view ≡ Some (Entered number)) × (it.permit.value ≡ Some x)
 
-  -- it has written this value, which is now the one written last, and released the lock
+  -- the party has written this value, and then released the lock; the value is the one written last
   abbrev pub Releases : T → Spot T → Spot T → Type 0
   Releases = spots.Releases model (λ (key : Key T). key.0) Release Done
 
 module _ {T P R S : Type 0} where
-  -- it holds the lock by this guard, has made exactly this call since, and has the value that was written last
+  -- Since the spot `p` the party has made exactly this call, which was granted. It holds the lock by this guard, whose value is the one
+  -- written last.
   abbrev pub Gets : TicketCall → Spot T → Guard T (Numbered View) P R (Key T) S × Watch (Made T) → Type 0
   Gets call p (guard, seen) =
       IsHolder use_of_party guard × Holds guard seen × (seen.name ≡ p.2.name) × (guard_key guard ≡ p.0)

@@ -1,5 +1,5 @@
--- The rule of a lock of tickets. Its words are those of a plain lock that has the tickets of all waiting and entered
--- parties. Its trace is a schedule of the lock's model. The schedule leads to these words and to the parties' views.
+-- The rule of a lock of tickets. The words of the lock are those of a plain lock that has the tickets of all parties that wait or have
+-- entered. The trace is a schedule of the lock's model. The schedule leads to these words and to the parties' views.
 use Rattle.std.specs.Prelude.{◌≡◌, ◌==◌, ℕ, ◌<◌, ◌≤◌, true, false, not, List, [], Option, Some, None, if◌then◌else◌, map}
 use Rattle.spin_step.specs.Plain.{ticket_limit, next_word, serving_word}
 use Rattle.spin_core.specs.Cell.{Use, alone, Ways}
@@ -52,12 +52,12 @@ seat_of (LoadedNext n) = seat.Calling TryLock (TryLoadServing n) None
 seat_of (Trying n) = seat.Calling TryLock (TryTake n) None
 seat_of (LoadedServing n) = seat.Calling IsLocked (LookNext n) None
 
--- the words of the lock, from those of the model
+-- the lock's two words for these words of the model
 abbrev pub words_of : TicketWords → ℕ × ℕ
 words_of w = (w.next, w.serving)
 
--- what was fixed when a lock of values of type T was made: its history's name, its value, and the number of its first
--- ticket
+-- what was fixed when a lock of values of type T was made: the name of its history, the value that it opened with, and the number of its
+-- first ticket
 abbrev pub Key : Type 0 → Type 0
 Key T = Opening T × ℕ
 
@@ -68,7 +68,7 @@ Made T = Entry TicketCall T
 abbrev pub Word : ℕ → ℕ → List View → Type 0
 Word = Encodes part 0 next_word serving_word
 
--- the parties without their numbers
+-- the views of the parties
 abbrev pub views : List (Numbered View) → List View
 views vs = map (λ v. v.0) vs
 
@@ -84,11 +84,11 @@ module _ {T : Type 0} where
   abbrev pub IsQueue : Key T → ℕ → Trace (Made T) ℕ → List (Numbered View) → Type 0
   IsQueue key = Runs (model key) seat_of words_of Word key.0.name
 
-  -- each holder has the value to itself; the value that nobody holds is the one written last
+  -- each holder has the value to itself; while nobody holds the lock, its value is the one written last
   abbrev pub queue_ways : Key T → Ways T (Numbered View) (Trace (Made T) ℕ)
   queue_ways key = (alone, use_of_party, last key.0)
 
-  -- the same key once the owner has borrowed the value
+  -- the key of the lock once the owner has borrowed the value
   abbrev pub lent : Key T → Key T
   lent key = (untold key.0, key.1)
 
@@ -96,7 +96,7 @@ module _ {T : Type 0} where
   abbrev pub Told : Key T → Says T → Option (Numbered View) → List (Made T) → List (Made T) → ℕ → Numbered View → Type 0
   Told key = Tells (model key) seat_of words_of
 
--- The steps: the outcome and the next view of each, by the number found
+-- The steps. The number that a step finds decides its outcome and the next view of its party.
 
 abbrev pub goes_on : {T : Type 0} → ℕ → Ending T
 goes_on n = GoingOn
@@ -111,15 +111,16 @@ number_of (Some (Trying n)) = n
 number_of (Some (LoadedServing n)) = n
 number_of _ = 0
 
--- `lock` tries to take the number that it found; if no ticket is left, it looks again
+-- the view in `lock` after the number `n` was found next: the party tries to take this ticket, unless no ticket is left
 abbrev pub going : ℕ → View
 going n = if is_left n then Going n else Coming
 
--- if it found the number that it expected, it has that ticket and waits; else it tries the number that it found
+-- The view after the exchange of `lock`, which expected the number `next`. If the exchange found this number, the party has its ticket and
+-- waits. Else the party tries the number that it found.
 abbrev pub taken : ℕ → ℕ → View
 taken next n = if n == next then Waiting next else going n
 
--- the party with this ticket enters if its number is served
+-- the view after a look of a waiting party: it has entered if the number of its ticket is served
 abbrev pub entered : ℕ → ℕ → View
 entered number n = if n == number then Entered number else Waiting number
 
@@ -129,7 +130,7 @@ answers_turn number n = if n == number then Answered Granted None else GoingOn
 abbrev pub awaits_by : {T : Type 0} → Option View → Says T
 awaits_by view = let number : ℕ = number_of view in step_by true Lock (answers_turn number) (entered number)
 
--- `try_lock` continues if the number that it found next is served, and a ticket is left
+-- the view in `try_lock` after the number `n` was found served: the call continues if `n` is the number `next`, and a ticket is left
 abbrev pub freed : ℕ → ℕ → View
 freed next n = if is_free next n then Trying next else Idle
 
@@ -139,7 +140,7 @@ answers_free next n = if is_free next n then GoingOn else Answered Refused None
 abbrev pub tries_by : {T : Type 0} → Option View → Says T
 tries_by view = let next : ℕ = number_of view in step_by true TryLock (answers_free next) (freed next)
 
--- it enters with the ticket that it expected to be next, or gets none
+-- the view after the exchange of `try_lock`: the party has entered with the ticket `next`, or has none
 abbrev pub attempted : ℕ → ℕ → View
 attempted next n = if n == next then Entered next else Idle
 
@@ -149,37 +150,38 @@ answers_attempt next n = if n == next then Answered Granted None else Answered R
 abbrev pub gone : ℕ → View
 gone n = Idle
 
--- `is_locked` found this number served; it is not above the next number
+-- the answer of `is_locked`, which found the number `served` served and the number `n` next
 abbrev pub answers_look : {T : Type 0} → ℕ → ℕ → Ending T
 answers_look served n = Answered (Is (not (n == served))) None
 
+-- the last load of `is_locked`; the served number is at most the next one
 abbrev pub compares_with : {T : Type 0} → ℕ → Says T
 compares_with served own outs n v = (served ≤ n) × step_by true IsLocked (answers_look served) gone own outs n v
 
 abbrev pub compares_by : {T : Type 0} → Option View → Says T
 compares_by view = compares_with (number_of view)
 
--- The load of a party that releases is no move. It finds the number of the party's own ticket, which `release` of the
--- model knows already.
+-- The load of a party that releases is no move of the model. The load finds the number of the party's own ticket. The model's `release`
+-- knows this number already.
 abbrev pub finds : {T : Type 0} → ℕ → Says T
 finds number own outs n v = ((n ≡ number) × (number < ticket_limit) × (v ≡ Entered number)) × (own ≡ []) × (outs ≡ [])
 
 abbrev pub finds_by : {T : Type 0} → Option View → Says T
 finds_by view = finds (number_of view)
 
--- the store that releases the lock: the holder writes the value that it leaves
+-- the store that releases the lock: the holder first writes the value that it leaves in the lock
 abbrev pub serves_by : {T : Type 0} → Says T
 serves_by = leaves_by (λ x. Unit {0}) Release Done Idle
 
 module _ {T : Type 0} where
-  -- For a pass: since it knew `old` it has made exactly the moves of this course
+  -- For a pass. Since it knew `old`, it has made the moves of this course and no others.
   abbrev pub Moves : Key T → Course T TicketCall (Answer T) → Between T TicketCall View
   Moves key course view old view' new = passes.Made (model key) view old view' new course
 
-  -- it has made exactly this call, with this answer
+  -- since then the pass has made exactly the call `c`, which had the answer `a`
   abbrev pub Called : Key T → TicketCall → Answer T → Between T TicketCall View
   Called key c a = Moves key (IsCall c a)
 
-  -- it has written a value that satisfies Q, and then released the lock
+  -- since then the pass has written a value that satisfies `Q`, and then released the lock
   abbrev pub Left : Key T → (T → Type 0) → Between T TicketCall View
   Left key Q = Moves key (WritesSome Q (IsCall Release Done))

@@ -1,4 +1,4 @@
--- What a pass knows: the lock's history so far, and which of its moves are the pass's own.
+-- What a pass knows: the lock's history up to the pass's last step, and which moves of the history are its own.
 use Rattle.std.specs.Prelude.{◌≡◌, ℕ, Bool, Option, List}
 use Rattle.spin_core.specs.Own.{Numbered}
 use Rattle.spin_model.specs.declared.answer.Answer.TheVariants.{Granted, Is}
@@ -13,24 +13,27 @@ module _ {T R : Type 0} where
   abbrev pub history : Pass T R → List (Made T)
   history it = it.seen.entries
 
-  -- the name of a lock's history; also by a pass of the lock
+  -- the name of a lock's history
   abbrev pub name_of : TicketMutex T R → ℕ
   name_of lock = lock.cell.0.name
 
+  -- the same name, by a pass of the lock
   abbrev pub lock_of : Pass T R → ℕ
   lock_of it = it.seen.name
 
-  -- the number of the first ticket
+  -- the number of a lock's first ticket
   abbrev pub first_ticket : TicketMutex T R → ℕ
   first_ticket lock = lock.cell.1
 
+  -- the same number, by a pass of the lock
   abbrev pub first_of : Pass T R → ℕ
   first_of it = it.permit.key.1
 
-  -- what was fixed when the lock was made; also by a pass of the lock
+  -- what was fixed when the lock was made
   abbrev pub opening : TicketMutex T R → Key T
   opening lock = lock.cell
 
+  -- the same, by a pass of the lock
   abbrev pub opening_of : Pass T R → Key T
   opening_of it = it.permit.key
 
@@ -38,14 +41,15 @@ module _ {T R : Type 0} where
   abbrev pub party : Pass T R → Option (Numbered View)
   party it = it.permit.view
 
+  -- both passes are of locks with the same name and the same first ticket
   abbrev pub IsOfOneLock : Pass T R → Pass T R → Type 0
   IsOfOneLock one other = (lock_of other ≡ lock_of one) × (first_of other ≡ first_of one)
 
-  -- since then the pass has called `is_locked` once, with this answer
+  -- from `before` to `now` the pass has made one call, `is_locked`, with this answer
   abbrev pub Looked : Bool → Pass T R → Pass T R → Type 0
   Looked set before now = Called (opening_of before) IsLocked (Is set) (party before) (history before) (party now) (history now)
 
-  -- since then the pass has acquired the lock and released it, once; it left some value
+  -- from `before` to `now` the pass has acquired the lock once by `lock`, and has released it; it left some value
   abbrev pub HeldOnce : Pass T R → Pass T R → Type 0
   HeldOnce before now =
       (view : Option (Numbered View)) × (seen : List (Made T)) × (key : Key T) × (key ≡ opening_of before) × Called (opening_of before) Lock Granted (party before) (history before) view seen

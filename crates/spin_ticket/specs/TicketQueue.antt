@@ -1,4 +1,4 @@
--- The queue of a lock of tickets, as a plain lock and by the numbers of its parties.
+-- The queue of a lock of tickets, as that of a plain lock and by the numbers of the parties' tickets.
 use Rattle.std.specs.Prelude.{◌≡◌, ℕ, ◌<◌, ◌≤◌, Bool, true, false, List, [], ◌∷◌, length, Some, filter, slice_get, count_by, ◌==◌}
 use Rattle.spin_step.specs.Plain.{Plain, Ticket, ticket, ticket_limit, next_word, serving_word}
 use Rattle.spin_step.specs.Parties.{first_alone_entered}
@@ -6,7 +6,7 @@ use Rattle.spin_step.specs.Tickets.{Numbered}
 use Rattle.spin_ticket.specs.declared.ticket.rule.View.{View}
 use Rattle.spin_ticket.specs.declared.ticket.rule.View.TheVariants.{Waiting, Entered}
 
--- the tickets of a party with this view
+-- the ticket, if any, of a party with this view
 abbrev pub tickets_of : ℕ → View → List Ticket
 tickets_of id (Waiting n) = ticket id n false ∷ []
 tickets_of id (Entered n) = ticket id n true ∷ []
@@ -22,6 +22,7 @@ pub record IsPlainQueue (s : Plain) (next serving : ℕ) (vs : List View) : Type
   pub parties : (id : ℕ) (v : View) → slice_get vs id ≡ Some v → filter (λ t. t.party == id) s.tickets ≡ tickets_of id v
   pub nobody_else : (id : ℕ) → length vs ≤ id → filter (λ t. t.party == id) s.tickets ≡ []
 
+-- whether a party with this view has the ticket `t`
 abbrev pub stands_with : ℕ → View → Bool
 stands_with t (Waiting n) = n == t
 stands_with t (Entered n) = n == t

@@ -11,8 +11,8 @@ ghost use Rattle.spin_ticket.specs.TicketQueue.{IsInTurn, IsPlainQueue};
 /// States that the two words of a `TicketMutex` encode a plain lock, whose tickets are those of its parties.
 ///
 /// # Contract
-/// If the rule holds (`IsQueue`), a plain lock exists with that next number and that served number. In it each party
-/// has just the ticket that its view names (`IsPlainQueue`).
+/// If the rule holds (`IsQueue`), a plain lock exists with that next number and that served number. In this plain lock
+/// each party has just the ticket that its view names (`IsPlainQueue`).
 pub fn the_words_of_a_ticket_mutex_are_its_queue<T>()
     ensures { (key : Key T) (next : ℕ) (trace : Trace (Made T) ℕ) (parties : List (Numbered View)) → IsQueue key next trace parties → (s : Plain) × IsPlainQueue s next trace.word (views parties) }
 {}
@@ -28,8 +28,8 @@ pub fn the_parties_of_a_ticket_mutex_enter_in_turn<T>()
 
 /// States that each run of a [`TicketMutex`](crate::ticket::TicketMutex) on threads is a schedule of its model.
 ///
-/// The lock's cell keeps the list of all moves that threads have made in it: which party, and which move. The list is
-/// ghost state, and takes no memory.
+/// The lock's cell keeps the list of all moves that threads have made in it. An entry names the party and its move. The
+/// list is ghost state, and takes no memory.
 ///
 /// # Contract
 /// The law holds between any two steps of threads (`IsQueue`): no move of the list is skipped in the model, which opens

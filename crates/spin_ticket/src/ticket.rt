@@ -27,7 +27,7 @@ pub use spin_core::laws::{a_guard_reads_the_last_value_written, two_guards_read_
 /// A mutual exclusion lock that serves its threads in the order of their tickets, and on which a waiting thread spins.
 ///
 /// Each call of [`lock`](Self::lock) takes a ticket with the next number, and enters when that number is served. With
-/// more spinning threads than cores it may wait for a thread that is not scheduled. Use `SpinMutex` then, or the
+/// more spinning threads than cores a call may wait for a thread that is not scheduled. Use `SpinMutex` then, or the
 /// strategy `Yield`. A waiting thread relaxes with strategy `R`.
 ///
 /// # Contract
@@ -64,7 +64,8 @@ pub type TicketMutexGuard<'a, T, R = Spin> = Guard<'a, T, Party, TicketRule, R>;
 /// `held_value` is the value that the guard had.
 pub type Held<'a, T, R = Spin> = guard::Held<'a, T, Party, TicketRule, R>;
 
-// The hints of a waiting thread's pause, for each ticket before its own. The thread that is next gives one hint.
+// The hints that a waiting thread gives in a pause, for each ticket before its own. The thread that is next gives one
+// hint.
 const HINTS_EACH: u64 = 8;
 
 impl<T, R> TicketMutex<T, R> {
@@ -103,9 +104,9 @@ impl<T, R> TicketMutex<T, R> {
 
     /// Acquires the mutex, spinning until every thread with an earlier ticket has released it.
     ///
-    /// The call takes a ticket and waits with strategy `R` until its number is served. With [`Spin`] it looks less
-    /// often the more tickets are before it. The call never returns if its own thread holds the lock, or once all
-    /// 2^64 - 1 tickets are used up.
+    /// The call takes a ticket, and waits with strategy `R` until the number of its ticket is served. With [`Spin`] the
+    /// call looks less often the more tickets are before its own. The call never returns if its own thread holds the
+    /// lock, or once all 2^64 - 1 tickets are used up.
     ///
     /// # Contract
     /// The guard belongs to a holder of the lock (`IsHolder`). Whether and when the call returns is not promised.
@@ -123,7 +124,7 @@ impl<T, R> TicketMutex<T, R> {
     /// It makes at most two loads and one compare-exchange.
     ///
     /// # Contract
-    /// A guard belongs to a holder of the lock (`IsHolder`). `None` promises nothing. The call returns.
+    /// The guard in `Some` belongs to a holder of the lock (`IsHolder`). `None` promises nothing. The call returns.
     #[must_use = "dropping the guard at once releases the lock: bind the answer, or write `drop(..)`"]
     pub fn try_lock<'a>(&'a self) -> Option<TicketMutexGuard<'a, T, R>>
         ensures { IfSome result (IsHolder use_of_party) }

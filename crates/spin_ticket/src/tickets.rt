@@ -3,8 +3,8 @@ use crate::ticket::TicketMutex;
 
 /// Returns the number of the next ticket.
 ///
-/// The first ticket of [`TicketMutex::new`] has the number 0. So this is how many tickets were taken, without a counter
-/// beside the lock.
+/// The first ticket of [`TicketMutex::new`] has the number 0. So the answer is how many tickets were taken. No counter
+/// beside the lock is needed.
 ///
 /// # Contract
 /// Only that the call returns.
@@ -25,7 +25,8 @@ pub fn next<T, R>(lock: &TicketMutex<T, R>) -> u64 {
 
 /// Creates an unlocked mutex whose first ticket has the number `first`.
 ///
-/// Tickets are used up after 2^64 - 1 calls. With a late first ticket a caller can try out what its program then does.
+/// Tickets are used up after 2^64 - 1 calls. With a late first ticket a caller can test what its program does when no
+/// ticket is left.
 ///
 /// # Contract
 /// Only that the call returns.

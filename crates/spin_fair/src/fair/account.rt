@@ -16,7 +16,8 @@ use spin_core::cell::Permit;
 use spin_core::guard::Guard;
 use spin_core::trace::Watch;
 
-// A party, and all moves in the lock up to its last step. A value that it is shown is the one that was written last.
+// A party, and all moves in the lock up to the party's last step. If the party sees the value, it is the value written
+// last.
 pub struct Account<'a, T> {
     pub(super) permit: Permit<'a, T, Party, FairRule>,
     pub(super) seen: Watch<Entry<T>>,

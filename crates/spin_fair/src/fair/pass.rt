@@ -30,9 +30,9 @@ use std::sync::Wait;
 /// of others. A pass is as large as a reference to the lock. It can be sent, and a lock can have any number of passes.
 ///
 /// # Contract
-/// Each call takes the pass and returns it. It ensures `Called`: among the new moves of the history, those of this pass
-/// are exactly one call with the returned answer. In the lock's model that call gets this answer, at its place among
-/// the moves of all threads. No move of the history is skipped.
+/// Each call takes the pass and returns it. The call ensures `Called`: among the new moves of the history, the pass's
+/// own moves are those of exactly one call, which has the returned answer. In the lock's model this call gets this
+/// answer, at its place among the moves of all threads. No move of the history is skipped.
 #[must_use = "a pass that is dropped ends: bind it, or write `drop(..)`"]
 pub struct Pass<'a, T, R> {
     pub(super) account: Account<'a, T>,
@@ -60,9 +60,9 @@ impl<T, R> FairMutex<T, R> {
     /// A guard that is dropped releases the lock too, and ends its pass.
     ///
     /// # Contract
-    /// `seen` has to be what the call returned with the guard (`Holds`). The pass makes the call, as its next one,
-    /// behind a write (`made`): it writes the guard's value into the history (`wrote`). So that value is the one
-    /// written last (`left`).
+    /// `seen` has to be what the call that acquired the lock returned with the guard (`Holds`). The pass writes the
+    /// guard's value into the history (`wrote`), and then makes the release as its next call (`made`). So the guard's
+    /// value is the one written last (`left`).
     #[tactic(auto, unfolding(crate::specs::Fair::Told, crate::specs::Fair::known_of))]
     pub fn unlock<'a>(guard: FairMutexGuard<'a, T, R>, seen: Watch<Entry<T>>) -> Pass<'a, T, R>
         requires { Holds guard seen }
@@ -84,8 +84,8 @@ impl<'a, T, R: RelaxStrategy> Pass<'a, T, R> {
     /// Acquires the lock as [`FairMutex::lock`] does. Returns the guard, and what the pass then knows.
     ///
     /// # Contract
-    /// The call is one `Lock` with the answer `Granted`, however often it looked and tried, and also where it starved
-    /// (`made`). The guard belongs to a holder of the lock, and its value is the one written last in the history
+    /// The call is one `Lock` with the answer `Granted` (`made`), however often it looked and tried, and even if it
+    /// starved. The guard belongs to a holder of the lock, and its value is the one written last in the history
     /// (`found`). Whether and when the call returns is not promised.
     pub fn lock<W: Wait>(self, rt: &W) -> (FairMutexGuard<'a, T, R>, Watch<Entry<T>>)
         ensures holder { IsHolder use_of_party result.0 }
@@ -106,7 +106,7 @@ impl<'a, T, R: RelaxStrategy> Pass<'a, T, R> {
 }
 
 impl<'a, T, R> Pass<'a, T, R> {
-    /// Registers the caller as a starver, as [`FairMutex::starve`] does. Returns the pass if too many starve.
+    /// Registers the caller as a starver, as [`FairMutex::starve`] does. Returns the pass if too many threads starve.
     ///
     /// # Contract
     /// The call is one `Starve`. Its answer is `Granted` with a pass that starves (`granted`), else `Refused`
@@ -203,8 +203,9 @@ impl<'a, T, R> Pass<'a, T, R> {
     /// Compares what two passes of one lock know. It does nothing when it runs.
     ///
     /// # Contract
-    /// One of them knows a prefix of the history that the other knows. So both know one history. The longer one has the
-    /// calls of both passes, each once, in the order in which each pass made them.
+    /// The history that one of the passes knows is a prefix of the history that the other knows. So both know one
+    /// history. The longer of the two has the calls of both passes, each once, in the order in which each pass made
+    /// them.
     pub fn compare(&self, other: &Pass<'_, T, R>)
         requires { self.now.account.seen.name ≡ other.now.account.seen.name }
         ensures { IsPrefix self.now.account.seen.entries other.now.account.seen.entries ⊎ IsPrefix other.now.account.seen.entries self.now.account.seen.entries }

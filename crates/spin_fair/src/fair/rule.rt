@@ -45,9 +45,9 @@ pub enum View {
 /// Callers need not name it: it is a parameter of the guard's type.
 ///
 /// # Contract
-/// `IsFair`: the word is that of a plain lock of these parties. The trace is a schedule of the lock's model, which
-/// leads to this word, with each party in the seat that its view names. The value that nobody holds is the one that
-/// this schedule writes last (`IsLast`), until the owner borrows it.
+/// `IsFair`: the word is that of a plain lock of these parties. The trace is a schedule of the lock's model. The
+/// schedule leads to this word, and to the seat that each party's view names. While nobody holds the lock, its value is
+/// the one that this schedule writes last (`IsLast`), until the owner borrows it.
 pub struct FairRule;
 
 impl<T> Rule<T, Party> for FairRule {
@@ -76,11 +76,11 @@ pub(super) const STARVER: u64 = fair::STARVER as u64;
 
 /// A kind of step of a party, other than the release.
 pub(super) trait Turns {
-    // By the party's view, and the word that its exchange expects.
+    // The step, given the party's view and the word that its exchange expects.
     ghost turn: { (T : Type 0) → Option View → ℕ → Turn T };
 }
 
-/// The operation that makes such a step.
+/// The operation that makes a step of the kind `K`.
 pub(super) struct Makes<K> {
     kind: PhantomData<K>,
 }
@@ -110,7 +110,7 @@ impl Turns for AttemptToKnow {
     ghost turn = { λ T view old. tries_by TryLockStarver };
 }
 
-/// The compare-exchange of `lock`, after this many looks that found the lock held.
+/// The compare-exchange of `lock`.
 pub(super) struct Tries;
 
 impl Turns for Tries {
@@ -131,28 +131,28 @@ impl Turns for Register {
     ghost turn = { λ T view old. registers_by view old };
 }
 
-/// The compare-exchange of `try_lock_fair`: a starver holds, and stops starving, if it was the only one.
+/// The compare-exchange of `try_lock_fair`. If it succeeds, the only starver acquires the lock and stops starving.
 pub(super) struct AttemptAlone;
 
 impl Turns for AttemptAlone {
     ghost turn = { λ T view old. alone_by StarverTryLockFair };
 }
 
-/// The same compare-exchange, first in `try_lock`.
+/// The same compare-exchange, as the first operation of a starver's `try_lock`.
 pub(super) struct TryAlone;
 
 impl Turns for TryAlone {
     ghost turn = { λ T view old. alone_by StarverTryLock };
 }
 
-/// The same compare-exchange, first in the `lock` of a starver.
+/// The same compare-exchange, as the first operation of a starver's `lock`.
 pub(super) struct LockAlone;
 
 impl Turns for LockAlone {
     ghost turn = { λ T view old. alone_by StarverLock };
 }
 
-/// The bit operation: if it finds the flag clear, the starver holds the lock.
+/// The operation that sets the flag bit. If it finds the flag clear, the starver holds the lock.
 pub(super) struct SetFlag;
 
 impl Turns for SetFlag {
@@ -166,14 +166,14 @@ impl Turns for Await {
     ghost turn = { λ T view old. awaits_by view };
 }
 
-/// A subtraction: a starver that holds stops starving.
+/// The subtraction by which a starver that holds the lock stops starving.
 pub(super) struct Unregister;
 
 impl Turns for Unregister {
     ghost turn = { λ T view old. served_by view };
 }
 
-/// A subtraction: a starver ends its registration.
+/// The subtraction by which a starver gives up its registration.
 pub(super) struct GivesUp;
 
 impl Turns for GivesUp {

@@ -1,4 +1,4 @@
-//! A thread that starves for a `FairMutex`: it goes before newcomers until it has the lock or gives up. Begin at
+//! A registered starver of a `FairMutex`. The starver goes before newcomers until it has the lock or gives up. Begin at
 //! [`Starvation::lock`].
 ghost use Rattle.std.specs.Prelude.{IfOk};
 ghost use Rattle.spin_core.specs.Guard.{IsHolder};
@@ -15,7 +15,7 @@ use std::sync::Wait;
 /// again.
 ///
 /// # Contract
-/// Its party is registered (its view is `Starving`).
+/// The starver's party is registered (the party's view is `Starving`).
 #[must_use = "a place that is dropped at once no longer starves: call `lock` on it"]
 pub struct Starvation<'a, T, R = Spin> {
     pub(super) pass: StarvingPass<'a, T, R>,
@@ -28,7 +28,8 @@ impl<'a, T, R> Starvation<'a, T, R> {
     /// A failure returns the same starver, which stays registered. The call makes one compare-exchange.
     ///
     /// # Contract
-    /// `Ok` belongs to a holder of the lock (`IsHolder`). `Err` is registered. The call returns.
+    /// The guard in `Ok` belongs to a holder of the lock (`IsHolder`). The starver in `Err` is registered. The call
+    /// returns.
     ///
     /// # Examples
     /// ```
@@ -56,7 +57,8 @@ impl<'a, T, R> Starvation<'a, T, R> {
     /// A failure returns the same starver, which stays registered.
     ///
     /// # Contract
-    /// `Ok` belongs to a holder of the lock (`IsHolder`). `Err` is registered. The call returns.
+    /// The guard in `Ok` belongs to a holder of the lock (`IsHolder`). The starver in `Err` is registered. The call
+    /// returns.
     ///
     /// # Examples
     /// ```
@@ -83,9 +85,9 @@ impl<'a, T, R> Starvation<'a, T, R> {
 impl<'a, T, R: RelaxStrategy> Starvation<'a, T, R> {
     /// Acquires the mutex, spinning until it is free.
     ///
-    /// It tries once as the only starver (see [`try_lock_fair`](Self::try_lock_fair)). Then it sets the flag when it
-    /// finds it clear. After a failed attempt the thread pauses with strategy `R`, and looks at the word before it
-    /// tries again. Other starvers may overtake it.
+    /// It tries once as the only starver (see [`try_lock_fair`](Self::try_lock_fair)). If that try fails, it sets the
+    /// flag, and acquires the lock if the flag was clear. After a failed attempt the thread pauses with strategy `R`,
+    /// and looks at the word before it tries again. Other starvers may overtake it.
     ///
     /// # Contract
     /// The guard belongs to a holder of the lock (`IsHolder`). Whether and when the call returns is not promised.
@@ -109,8 +111,8 @@ impl<T, R> Drop for Starvation<'_, T, R> {
     }
 }
 
-// SAFETY: it is a starver's permit. The thread to which it is sent may use the value with it.
+// SAFETY: a `Starvation` is a starver's permit. The thread that receives it may use the lock's value by it.
 unsafe impl<T: Send, R> Send for Starvation<'_, T, R> {}
 
-// SAFETY: a shared one gives access to nothing. It asks what the lock asks.
+// SAFETY: a shared reference to a `Starvation` gives access to nothing. The bound on `T` is the one that the lock has.
 unsafe impl<T: Send, R> Sync for Starvation<'_, T, R> {}

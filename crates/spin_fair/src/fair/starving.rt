@@ -32,7 +32,8 @@ use std::sync::Wait;
 /// It is a [`Starvation`](super::Starvation) that also keeps track of its calls.
 ///
 /// # Contract
-/// Its party is registered (its view is `Starving`). Each call ensures `Called`, as those of a [`Pass`].
+/// The pass's party is registered (the party's view is `Starving`). Each call ensures `Called`, as the calls of a
+/// [`Pass`] do.
 ///
 /// # Examples
 /// ```
@@ -82,8 +83,8 @@ impl<'a, T, R> StarvingPass<'a, T, R> {
     ///
     /// # Contract
     /// The call is one `StarverTryLock`, with the answer `Granted` and a guard (`granted`), or else `Refused` and the
-    /// pass, which is still a starver (`refused`). A first exchange that fails is no step: it only begins the call. The
-    /// guard's value is the one written last in the history (`found`).
+    /// pass, which is still a starver (`refused`). A first exchange that fails is no step of the model: it only begins
+    /// the call. The guard's value is the one written last in the history (`found`).
     pub fn try_lock(
         self,
     ) -> Result<(FairMutexGuard<'a, T, R>, Watch<Entry<T>>), StarvingPass<'a, T, R>>
@@ -94,8 +95,8 @@ impl<'a, T, R> StarvingPass<'a, T, R> {
         ensures refused { IfErr result (λ pass. Called self.entry.account.permit.key.value StarverTryLock Refused self.entry.account.permit.view self.entry.account.seen.entries pass.account.permit.view pass.account.seen.entries × ((pass.account.seen.name ≡ self.entry.account.seen.name) × (pass.account.permit.key ≡ self.entry.account.permit.key))) }
     {
         let Self { account, strategy } = self;
-        // First it tries as the only starver, by one instruction. Setting a bit and reading the word compiles to a
-        // loop.
+        // The first try, as the only starver, compiles to one instruction. An operation that sets a bit and returns the
+        // word compiles to a loop.
         let (found, account) = account.exchange::<TryAlone>(STARVER, taken_alone());
         if found == STARVER {
             return Ok(account.into_guard());
@@ -186,7 +187,7 @@ impl<'a, T> Awaiting<'a, T> {
         unreachable!()
     }
 
-    // A load comes first, as for the lock's other waiting threads.
+    // Looks, and tries if the flag is clear. The load comes first, as for the lock's other waiting threads.
     fn look_and_try<R>(self) -> Result<Got<'a, T, R>, Awaiting<'a, T>>
         ensures { Awaits self.entry.account result }
     {
@@ -200,8 +201,8 @@ impl<'a, T> Awaiting<'a, T> {
     }
 }
 
-// Sets the flag if it is clear, and then stops starving. It does not try as the only starver first: while others starve
-// that fails though the flag is clear.
+// Sets the flag if it is clear, and then ends the registration. It does not first try as the only starver. While other
+// threads starve that try fails, even if the flag is clear.
 fn set_flag<'a, T, R>(account: Account<'a, T>) -> Result<Got<'a, T, R>, Account<'a, T>>
     requires { MaySet (view_of account) }
     ensures served { IfOk result (IsServed account.entry) }
@@ -215,7 +216,7 @@ fn set_flag<'a, T, R>(account: Account<'a, T>) -> Result<Got<'a, T, R>, Account<
     Ok(account.into_guard())
 }
 
-// The same in a call that waits.
+// Like `set_flag`, in a call that waits: `Err` returns a party whose next step is a look.
 fn await_flag<'a, T, R>(account: Account<'a, T>) -> Result<Got<'a, T, R>, Awaiting<'a, T>>
     requires { MayAwait (view_of account) }
     ensures { Awaits account.entry result }
@@ -240,8 +241,8 @@ pub(super) fn wait_as_starver<'a, T, R: RelaxStrategy, W: Wait>(
     }
 }
 
-// Returns the word after the only starver has acquired the lock and stopped starving. It does both at once, so no
-// thread sees a holder that is still registered.
+// Returns the word after the only starver has acquired the lock and stopped starving. The starver does both at once, so
+// no thread sees a holder that is still registered.
 fn taken_alone() -> u64
     ensures exact { result ≡ 1 }
     ensures plain { (s : Plain) (party : ℕ) → OneHolds s → is_starver party s.starvers ≡ true → fair_word s ≡ 2 → Decides s (gets party to_lock_starving_alone) fair_word (Some 3) }

@@ -34,8 +34,8 @@ impl<'a, T> Waiting<'a, T> {
         unreachable!()
     }
 
-    // A load is first, so that waiting threads share the cache line and do not write it. All pauses are equally long,
-    // so the number of looks measures time.
+    // Looks, and tries if the flag is clear. The load comes first, so that waiting threads share the cache line and do
+    // not write it. All pauses are equally long, so the number of looks measures time.
     pub(crate) fn look_and_try<R: RelaxStrategy, W: Wait>(
         self,
         rt: &W,
@@ -63,7 +63,7 @@ impl<'a, T> Waiting<'a, T> {
     }
 }
 
-// The exchange of `lock`, for a call that begins or that found the flag clear.
+// Makes the exchange of `lock`, for a call that begins or that found the flag clear.
 pub(crate) fn try_with<'a, T, R>(
     account: Account<'a, T>,
     spins: usize,
@@ -81,7 +81,7 @@ pub(crate) fn try_with<'a, T, R>(
     }
 }
 
-// Registers the party as a starver. `Err` found too many registered.
+// Registers the party as a starver. Returns `Err` if it found too many registered.
 pub(super) fn register<'a, T, W: Wait>(
     rt: &W,
     account: Account<'a, T>,
@@ -90,7 +90,8 @@ pub(super) fn register<'a, T, W: Wait>(
     ensures registers { IfOk result (IsRegistered account.entry) }
     ensures no_room { IfErr result (FindsNoRoom account.entry) }
 {
-    // Beginning with 0 saves a load if the word is 0. If it is not, the failed exchange serves as the load.
+    // The first exchange expects 0, which saves a load if the word is 0. If the word is another one, the failed
+    // exchange serves as the load.
     let mut word = 0;
     let mut now = account;
     for _ in rt.forever() {

@@ -33,9 +33,9 @@ use std::sync::Wait;
 /// of others. A pass is as large as a reference to the lock. It can be sent, and a lock can have any number of passes.
 ///
 /// # Contract
-/// Each call takes the pass and returns it. It ensures `Called`: among the new moves of the history, those of this pass
-/// are exactly one call with the returned answer. In the lock's model that call gets this answer, at its place among
-/// the moves of all threads. No move of the history is skipped.
+/// Each call takes the pass and returns it. The call ensures `Called`: among the new moves of the history, the pass's
+/// own moves are those of exactly one call, which has the returned answer. In the lock's model this call gets this
+/// answer, at its place among the moves of all threads. No move of the history is skipped.
 ///
 /// # Examples
 /// ```
@@ -81,8 +81,8 @@ impl<T, R> SpinMutex<T, R> {
     ///
     /// # Contract
     /// `seen` has to be what [`Pass::lock`] or [`Pass::try_lock`] returned with the guard (`Holds`). The release is the
-    /// next call of the pass (`made`). Just before it the history gets a write of the guard's value (`wrote`). So that
-    /// value is the one written last (`left`).
+    /// next call of the pass (`made`). Just before the release the pass writes the guard's value into the history
+    /// (`wrote`). So this value is the one written last (`left`).
     pub fn unlock<'a>(guard: SpinMutexGuard<'a, T, R>, seen: Watch<Entry<T>>) -> Pass<'a, T, R>
         requires { Holds guard seen }
         ensures made { Left (guard_key guard.entry).value (λ x. Unit {0}) (Some (guard_view guard.entry)) seen.entries result.permit.view result.seen.entries }
@@ -196,8 +196,9 @@ impl<'a, T, R> Pass<'a, T, R> {
     /// Compares what two passes of one lock know. It does nothing when it runs.
     ///
     /// # Contract
-    /// One of them knows a prefix of the history that the other knows. So both know one history. The longer one has the
-    /// calls of both passes, each once, in the order in which each pass made them.
+    /// The history that one of the passes knows is a prefix of the history that the other knows. So both know one
+    /// history. The longer of the two has the calls of both passes, each once, in the order in which each pass made
+    /// them.
     pub fn compare(&self, other: &Pass<'_, T, R>)
         requires { self.now.seen.name ≡ other.now.seen.name }
         ensures { IsPrefix self.now.seen.entries other.now.seen.entries ⊎ IsPrefix other.now.seen.entries self.now.seen.entries }
@@ -226,7 +227,8 @@ impl<'a, T> Waiting<'a, T> {
         unreachable!()
     }
 
-    // A load comes first, so that waiting threads share the cache line and do not write it.
+    // Looks, and tries if the flag is clear. The load comes first, so that waiting threads share the cache line and do
+    // not write it.
     fn look_and_try(self) -> Result<Grant<'a, T>, Waiting<'a, T>>
         ensures { GoesOn self.entry result }
     {
@@ -240,7 +242,7 @@ impl<'a, T> Waiting<'a, T> {
     }
 }
 
-// The exchange of `lock`, for a call that begins or that found the flag clear.
+// Makes the exchange of `lock`, for a call that begins or that found the flag clear.
 pub(super) fn try_with<'a, T>(
     permit: Permit<'a, T, Party, FlagRule>,
     seen: Watch<Entry<T>>,

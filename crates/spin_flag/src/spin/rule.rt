@@ -30,8 +30,8 @@ pub enum View {
 ///
 /// # Contract
 /// `IsFlag`: the word is that of a plain lock whose holders are the parties that hold. The trace is a schedule of the
-/// lock's model, which leads to this word and to each party's view. A value that nobody holds is the one that this
-/// schedule writes last (`IsLast`), until the owner borrows it.
+/// lock's model. The schedule leads to this word and to each party's view. While nobody holds the lock, its value is
+/// the one that this schedule writes last (`IsLast`), until the owner borrows it.
 pub struct FlagRule;
 
 impl<T> Rule<T, Party> for FlagRule {
@@ -109,7 +109,7 @@ pub(super) fn word(flag: bool) -> u64
     flag as u64
 }
 
-/// Returns the word that an exchange puts in place of a clear flag's.
+/// Returns the word of a set flag, which an exchange puts in place of that of a clear flag.
 pub(super) fn taken() -> u64
     ensures { result ≡ 1 }
 {

@@ -1,4 +1,4 @@
-//! How the value of each lock is dropped. A lock for readers has three ways, by who had it last.
+//! How the value of each lock is dropped. A reader-writer lock has three cases, by which kind of holder had it last.
 use crate::ends::counted::Counted;
 use crate::equal::equal;
 use spin_fair::fair::{FairMutex, FairMutexGuard};
@@ -9,13 +9,14 @@ use spin_ticket::ticket::{TicketMutex, TicketMutexGuard};
 use std::cell::Cell;
 use std::sync::Wait;
 
-/// How many values are dropped so far: after an unused lock was dropped; after one with a leaked guard; after one with
-/// a dropped hold; after a lock was opened; and after the opened value was dropped.
+/// How many values have been dropped at five moments: after the drop of an unused lock; of a lock with a leaked guard;
+/// of a lock with a dropped hold; after `into_inner` of a lock; and after the drop of the value that it returned.
 type Ends = [u32; 5];
 
 const ONCE: Ends = [1, 2, 3, 3, 4];
 
-// For a lock named `$lock`: what leaks it, what holds it, and what acquires it before it is opened.
+// For a lock named `$lock`: an expression that leaks a guard of it, one that makes a hold, and one that acquires the
+// lock before `into_inner`.
 macro_rules! ends {
     ($Lock:ident, $lock:ident, $leaked:expr, $held:expr, $taken:expr) => {{
         let ends = Cell::new(0);

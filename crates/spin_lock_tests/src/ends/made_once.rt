@@ -1,4 +1,4 @@
-//! The drops of a value that is made once, and of what makes it.
+//! The drops of a value that is made once, and of the closure or initialiser that makes it.
 use crate::ends::counted::Counted;
 use crate::equal::equal;
 use spin_once::lazylock::LazyLock;

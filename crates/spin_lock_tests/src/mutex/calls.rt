@@ -10,8 +10,9 @@ use std::sync::Wait;
 
 type Taken = ([bool; 5], [u64; 2]);
 
-// What a test sees of a free lock: whether it is locked before a try; whether a second try fails; whether it is locked
-// then and after the release; whether a last try succeeds; and the values that the first try and the next call find.
+// Returns what a test sees of a free lock: whether the lock is locked before a try; whether a second try fails; whether
+// the lock is locked then, and after the release; whether a last try succeeds; and the values that the first try and
+// the next call find.
 macro_rules! taken_once {
     ($rt:expr, $Lock:ident) => {{
         let lock: $Lock<u64> = $Lock::new(42);
@@ -106,7 +107,7 @@ fn the_owner_has_the_last_value_and_takes_no_lock(rt: HostRuntime) {
     equal(&rt, seen, [(false, [5, 6, 6]); 4]);
 }
 
-// Returns whether a try is refused during a hold, and the value found after a forced release.
+// Returns whether a try fails during a hold, and the value found after a forced release.
 macro_rules! opened_by_force {
     ($rt:expr, $Lock:ident, $Guard:ident) => {{
         let lock: $Lock<u64> = $Lock::new(1);
@@ -130,7 +131,7 @@ fn a_held_lock_opens_by_force(rt: HostRuntime) {
     equal(&rt, seen, [(true, 3); 4]);
 }
 
-// Returns whether a lock is locked after a hold was dropped, whether a try is refused then, and the last value.
+// Returns whether a lock is locked after a hold was dropped, whether a try then fails, and the last value.
 macro_rules! left_by_a_hold {
     ($rt:expr, $Lock:ident, $Guard:ident) => {{
         let lock: $Lock<u64> = $Lock::new(1);
@@ -153,7 +154,7 @@ fn a_dropped_hold_frees_nothing(rt: HostRuntime) {
     equal(&rt, seen, [([true; 2], 3); 4]);
 }
 
-// Returns whether a try is refused while a leaked value is written, and the last value.
+// Returns whether a try fails while a leaked value is written, and the last value.
 macro_rules! left_by_a_leak {
     ($rt:expr, $Lock:ident, $Guard:ident) => {{
         let lock: $Lock<u64> = $Lock::new(1);

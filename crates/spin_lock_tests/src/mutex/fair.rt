@@ -7,7 +7,7 @@ use std::process::Abort;
 use std::sync::Wait;
 use std::thread;
 
-// Whether a thread holds the lock, and why a newcomer that may starve is refused.
+// Whether a thread holds the lock, and the reason why `try_lock_starver` fails, if it fails.
 pub type Seen = (bool, Option<LockRejectReason>);
 
 pub const OPEN: Seen = (false, None);
@@ -18,7 +18,7 @@ const STARVED: Seen = (false, Some(LockRejectReason::Starved));
 
 const HELD_AND_STARVED: Seen = (true, Some(LockRejectReason::Starved));
 
-// Returns why a newcomer that may starve is refused.
+// Returns the reason why `try_lock_starver` fails, if it fails.
 pub fn refusal<R>(lock: &FairMutex<u64, R>) -> Option<LockRejectReason> {
     lock.try_lock_starver().err()
 }
@@ -58,7 +58,7 @@ fn a_starver_comes_before_newcomers(rt: HostRuntime) {
     shows(&rt, &lock, OPEN);
 }
 
-// Checks that a starver that waits acquires the lock in the end, and that the lock is free afterwards.
+// Checks that a starver acquires the lock by `lock`, and that the lock is free afterwards.
 fn enters_in_the_end<R: RelaxStrategy>(
     rt: &(impl Abort + Wait),
     lock: &FairMutex<u64, R>,

@@ -11,7 +11,7 @@ const MAX_LOOKS: usize = 10_000_000;
 
 const STARVED_LOOKS: u32 = 1_000_000;
 
-// Returns `true` if a newcomer is refused for a starver within this many looks.
+// Returns `true` if a newcomer fails because of a starver within `MAX_LOOKS` looks.
 fn comes_to_starve<R: Wait>(rt: &R, lock: &FairMutex<u64, Yield>) -> bool {
     for _ in 0..MAX_LOOKS {
         if refusal(lock) == Some(LockRejectReason::Starved) {
@@ -22,7 +22,7 @@ fn comes_to_starve<R: Wait>(rt: &R, lock: &FairMutex<u64, Yield>) -> bool {
     false
 }
 
-// Returns `true` if newcomers are refused for a starver at each of many looks.
+// Returns `true` if a newcomer fails because of a starver at each of `STARVED_LOOKS` looks.
 fn stays_starved<R>(lock: &FairMutex<u64, R>) -> bool {
     let mut starved = true;
     for _ in 0..STARVED_LOOKS {
@@ -62,7 +62,8 @@ impl RelaxStrategy for Slow {
     }
 }
 
-// About how often the waiting lock may look while the test looks for a starver. Its patience is 25 times that.
+// About how often the waiting `lock` may look while the test looks for a starver. The patience of `lock` is 25 times
+// that.
 const SLOW_LOOKS: u32 = 40;
 
 #[test]
@@ -92,7 +93,7 @@ fn again<'a, R: Wait>(
     look_and_try(rt, waiting)
 }
 
-// Returns how many looks it takes until one acquires the lock.
+// Returns how many attempts it takes until one acquires the lock.
 fn looks_on<R: Wait>(rt: &R, waiting: Waiting<'_, u64>) -> usize {
     let mut waiting = waiting;
     let mut looked: usize = 0;

@@ -1,4 +1,4 @@
-//! Threads take turns, a look does not disturb them, and a guard may be dropped in another thread.
+//! Threads take turns. A look does not disturb them. A guard may be dropped in another thread.
 use crate::equal::equal;
 use crate::waiting::has_turn;
 use spin_core::lock::Lock;
@@ -66,7 +66,7 @@ fn six_threads_lose_no_addition(rt: HostRuntime) {
     equal(&rt, sums, [6000; 4]);
 }
 
-/// Writes 3 in another thread, which drops the guard.
+/// Writes 3 by the guard in another thread. That thread drops the guard.
 pub fn write_elsewhere<G: DerefMut<Target = u64> + Drop + Send>(rt: &impl Threads, mut guard: G) {
     let write = move || {
         *guard = 3;
@@ -95,7 +95,7 @@ fn a_guard_may_end_in_another_thread(rt: HostRuntime) {
 
 const TURNS: u64 = 1_000_000;
 
-// Returns `true` if no try failed, while turns are left.
+// Tries while turns are left. Returns `true` if no try failed.
 fn try_often<L: Lock<u64>>(lock: &L, turns: &AtomicU64) -> bool {
     let mut granted = true;
     for _ in 0..TURNS {

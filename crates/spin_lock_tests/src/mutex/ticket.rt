@@ -1,5 +1,5 @@
-//! What no contract says of tickets: parties enter in their order, which calls take a ticket, and what happens once all
-//! are used up. Also that a `Mutex` uses tickets.
+//! What no contract says of tickets: threads enter in the order of their tickets, which calls take a ticket, and what
+//! happens once all tickets are used up. Also that a `Mutex` uses tickets.
 use crate::equal::equal;
 use crate::waiting::MAX_LOOKS;
 use spin_core::lock::Lock;
@@ -86,7 +86,7 @@ impl Tickets for Mutex<u64, Yield> {
     }
 }
 
-// Returns `true` if the next ticket's number reaches `number` within the looks.
+// Returns `true` if the number of the next ticket becomes `number` within `MAX_LOOKS` looks.
 fn comes_to<Q: Tickets, R: Wait>(rt: &R, queue: &Q, number: u64) -> bool {
     for _ in 0..MAX_LOOKS {
         if queue.next() == number {
@@ -97,8 +97,9 @@ fn comes_to<Q: Tickets, R: Wait>(rt: &R, queue: &Q, number: u64) -> bool {
     false
 }
 
-// Waits until `before` threads have a ticket, then acquires the lock and appends its digit to the text. It holds the
-// lock until all three have a ticket. The text shows the order in which they entered.
+// Waits until `before` threads have a ticket. Then acquires the lock, and appends the thread's digit to the value. The
+// thread holds the lock until all three threads have a ticket. The digits of the value show the order in which they
+// entered.
 fn enter<Q: Tickets, R: Wait>(rt: &R, queue: &Q, before: u64) -> bool {
     let in_order = comes_to(rt, queue, before);
     let append = |text: &mut u64| {
@@ -131,17 +132,17 @@ fn waiters_enter_in_the_order_in_which_they_came(rt: HostRuntime) {
 const TURNS: u64 = 8_000;
 
 /// A queue in which two threads take turns. Each holds the lock until the other has a ticket. So from the first ticket
-/// to the last one somebody holds it.
+/// to the last one some thread holds the lock.
 #[derive(Drop)]
 struct Relay {
-    // Its value is the number of turns so far.
+    // The lock's value is the number of turns so far.
     lock: TicketMutex<u64, Yield>,
     looked: AtomicBool,
 }
 
 impl Relay {
-    // Takes turns until the looks are over. Each turn lasts until the other thread has the next ticket, or the looks
-    // are over.
+    // Takes turns until the third thread has made its looks. Each turn lasts until the other thread has the next
+    // ticket, or the looks are over.
     fn run<R: Wait>(&self, rt: &R) {
         for _ in 0..TURNS {
             if self.looked.load(SeqCst) {
@@ -164,7 +165,7 @@ impl Relay {
     }
 
     // Returns `true` if each look after the first ticket found the lock held. It makes at most a million looks, however
-    // slow the others are.
+    // slow the other threads are.
     fn look(&self) -> bool {
         let mut locked = true;
         for _ in 0..1_000_000u32 {

@@ -8,7 +8,7 @@ use spin_flag::spin::{SpinMutex, SpinMutexGuard};
 use spin_mutex::mutex::{Mutex, MutexGuard};
 use spin_ticket::ticket::{TicketMutex, TicketMutexGuard};
 
-// A caller's proof, for each guard.
+// Callers' proofs, one for each kind of guard: the old value is returned, and the guard then shows the new one.
 fn swap_in<R>(guard: &mut SpinMutexGuard<'_, u64, R>, value: u64) -> u64
     ensures old_value { result ≡ guard_value guard.old }
     ensures new_value { guard_value guard.new ≡ value }

@@ -11,7 +11,7 @@ fn made_from<T: Copy, R: Wait>(rt: &R, once: &Once<T>, from: &Once<T>) -> T {
     *once.call_once(rt, || *from.wait(rt))
 }
 
-// Calls with a closure that gives the value.
+// Calls `call_once` with a closure that counts its runs and gives the value.
 fn make<R: Wait>(rt: &R, once: &Once<u64>, runs: &Cell<u32>, value: u64) -> u64 {
     let give = || {
         runs.set(runs.get().wrapping_add(1));
@@ -20,7 +20,7 @@ fn make<R: Wait>(rt: &R, once: &Once<u64>, runs: &Cell<u32>, value: u64) -> u64 
     *once.call_once(rt, give)
 }
 
-// Calls with a closure that fails.
+// Calls `try_call_once` with a closure that counts its runs and fails.
 fn fail<R: Wait>(rt: &R, once: &Once<u64>, runs: &Cell<u32>) -> Result<u64, ()> {
     let give = || {
         runs.set(runs.get().wrapping_add(1));

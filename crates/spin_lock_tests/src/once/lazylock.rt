@@ -1,4 +1,4 @@
-//! When the initialiser runs, and proved callers: what is known of the value that it made.
+//! When the initialiser runs, and what proved callers know of the value that it made.
 ghost use Rattle.std.specs.Prelude.{◌≡◌};
 ghost use Rattle.spin_once.specs.Lazy.{initialiser, promise};
 
@@ -29,7 +29,7 @@ impl Promise<u64> for Is {
     ghost keeps = { λ promised value. value ≡ promised.0 };
 }
 
-// A caller's proof: what is promised of the initialiser's answers holds of the value.
+// A caller's proof: the value keeps the promise that each answer of the initialiser keeps.
 fn ninety_two<W: Wait>(rt: &W) -> u64
     ensures { result ≡ 92 }
 {
@@ -53,7 +53,7 @@ fn a_promise_is_kept(rt: HostRuntime) {
     equal(&rt, seen_twice(&rt, &lazy), 7);
 }
 
-/// Forty-two, as the type itself says.
+/// The number 42: the type's invariant says so.
 #[derive(Drop)]
 struct FortyTwo {
     number: u64,

@@ -1,5 +1,5 @@
-//! A thread that finds another's closure running waits for it, continues with its value, and runs no closure of its
-//! own.
+//! A thread that finds the closure of another thread running waits for it. Then it continues with the value of that
+//! closure, and runs no closure of its own.
 
 use crate::equal::equal;
 use crate::waiting::{await_number, pause};
@@ -21,7 +21,7 @@ struct Shared {
 }
 
 impl Shared {
-    // Begins once a thread waits for it, and runs until all four do.
+    // Makes the value. The closure begins once a thread waits for the value, and runs until all four threads wait.
     fn make<R: Wait>(&self, rt: &R) -> u64 {
         await_number(rt, &self.came, 1);
         pause(rt);
@@ -45,7 +45,7 @@ impl Shared {
         *self.once.call_once(rt, || self.begin())
     }
 
-    // The same, with a closure that fails.
+    // Like `call`, with a closure that would fail.
     fn try_call<R: Wait>(&self, rt: &R) -> Option<u64> {
         await_number(rt, &self.begun, 1);
         self.came.fetch_add(1, SeqCst);
@@ -65,7 +65,7 @@ impl Shared {
     fn act<R: Wait>(&self, rt: &R, index: usize) -> Option<u64> {
         match index {
             0 => Some(self.make(rt)),
-            // It begins to wait before a closure runs.
+            // This thread begins to wait before a closure runs.
             1 => {
                 self.came.fetch_add(1, SeqCst);
                 Some(*self.once.wait(rt))

@@ -17,10 +17,10 @@ const WRITTEN: Granted = [false; 3];
 
 const READ: Granted = [true, true, false];
 
-// One of the readers may upgrade.
+// One of the readers is upgradable.
 const READ_UPGRADABLY: Granted = [true, false, false];
 
-// Compares what a lock shows: which tries succeed, and then how many threads read and how many write.
+// Checks which tries succeed, and then how many threads read and how many write.
 fn shows<R: Abort + Wait>(rt: &R, lock: &RwLock<u64>, granted: Granted, counts: [usize; 2]) {
     let reads = lock.try_read(rt).is_some();
     let upgrades = lock.try_upgradeable_read(rt).is_some();

@@ -1,4 +1,4 @@
-//! Locks and guards in several threads.
+//! `RwLock` and its guards in several threads.
 
 use crate::equal::equal;
 use crate::mutex::threads::write_elsewhere;
@@ -26,7 +26,7 @@ fn guards_of_two_threads_read_one_lock(rt: HostRuntime) {
     equal(&rt, (lock.reader_count(), refused), (2, true));
 }
 
-// Tries to read until a try is refused.
+// Tries to read until a try fails. Returns `true` if one did.
 fn is_kept_out<R: Wait>(rt: &R, lock: &RwLock<u64, Yield>) -> bool {
     for _ in 0..MAX_LOOKS {
         if lock.try_read(rt).is_none() {
@@ -37,7 +37,7 @@ fn is_kept_out<R: Wait>(rt: &R, lock: &RwLock<u64, Yield>) -> bool {
     false
 }
 
-// The upgrade ends when the readers, which are in another thread, have released.
+// The upgrade ends once the other thread has released its readers.
 #[test]
 fn no_reader_comes_once_an_upgrade_has_asked(rt: HostRuntime) {
     let lock: RwLock<u64, Yield> = RwLock::new(1);
@@ -62,7 +62,8 @@ fn come_to_write<R: Wait>(rt: &R, lock: &RwLock<u64, Yield>, comes: &AtomicU64) 
     *guard = guard.wrapping_mul(2);
 }
 
-// When the other thread acquires, it finds this writer, or later a reader.
+// Writes and then reads. The other thread, which waits to write, finds the lock held by this writer, and later by this
+// reader.
 fn write_and_read<R: Wait>(
     rt: &R,
     mut writer: RwLockWriteGuard<'_, u64, Yield>,
@@ -89,7 +90,7 @@ fn a_writer_waits_for_a_writer_and_for_a_reader(rt: HostRuntime) {
     equal(&rt, *lock.try_write().expect(&rt, "free"), 6);
 }
 
-// So many that some tries of two threads overlap, or overlap a look that takes the lock.
+// So many turns that some tries of two threads overlap each other, or overlap a look that would take the lock.
 const TURNS: u64 = 1_000_000;
 
 fn read_often<R: Wait>(rt: &R, lock: &RwLock<u64>, turns: &AtomicU64) -> bool {
@@ -128,8 +129,8 @@ fn a_try_to_read_that_lost_a_race_tries_again(rt: HostRuntime) {
     equal(&rt, granted, (true, true));
 }
 
-// The first thread adds under one guard, and the others read. A reader sees all of the addition or nothing. Returns
-// `true` if none saw a part.
+// The first thread makes all its additions under one guard, and the others read. A reader sees all of the additions or
+// none. Returns `true` if this thread never saw only a part of them.
 fn add_or_read<R: Wait>(rt: &R, lock: &RwLock<u64, Yield>, index: usize) -> bool {
     let mut sound = true;
     if index == 0 {

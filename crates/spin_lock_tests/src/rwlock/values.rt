@@ -1,4 +1,5 @@
-//! Callers' proofs: what was seen under one guard is found under the next one, and what was written is read back.
+//! Callers' proofs: the value seen under one guard is found under the guard that it becomes, and what was written is
+//! read back.
 ghost use Rattle.std.specs.Prelude.{◌≡◌};
 
 use crate::equal::equal;
@@ -17,7 +18,7 @@ fn sees_the_same_after_upgrade<R: RelaxStrategy, W: Wait>(
     (seen, *guard)
 }
 
-// The same whether the try succeeds or not.
+// Proves the same for `try_upgrade`, whether the try succeeds or not.
 fn sees_the_same_after_a_try<R>(guard: RwLockUpgradableGuard<'_, u64, R>) -> (u64, u64)
     ensures { result.0 ≡ result.1 }
 {

@@ -2,7 +2,7 @@
 use crate::equal::equal;
 use spin_step_more::rw;
 
-/// Words with a cap, and the word after a reader acquires, and after an upgradable reader does.
+/// Words with a cap, the word after a reader acquires, and the word after an upgradable reader acquires.
 const READS: &[(usize, usize, Option<usize>, Option<usize>)] = &[
     (0, 2, Some(8), Some(2)),
     (1, 2, None, None),

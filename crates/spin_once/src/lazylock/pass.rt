@@ -54,7 +54,7 @@ impl<'a, T, F, R, M: Promise<T>> Pass<'a, T, F, R, M> {
     /// Compares what two passes of one `LazyLock` know. It does nothing when it runs.
     ///
     /// # Contract
-    /// One of them knows a prefix of the history that the other knows.
+    /// The history that one of the passes knows is a prefix of the history that the other knows.
     pub fn compare(&self, other: &Pass<'_, T, F, R, M>)
         requires { self.now.account.seen.name ≡ other.now.account.seen.name }
         ensures { IsPrefix self.now.account.seen.entries other.now.account.seen.entries ⊎ IsPrefix other.now.account.seen.entries self.now.account.seen.entries }

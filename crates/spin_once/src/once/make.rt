@@ -28,7 +28,7 @@ pub(super) fn find_or_make<'a, T, R: RelaxStrategy, F: FnOnce() -> T, W: Wait>(
     }
 }
 
-/// The same with a closure that may fail. Returns its error with the account.
+/// Like `find_or_make`, with a closure that may fail. If the closure fails, returns its error with the account.
 pub(super) fn find_or_try<'a, T, R: RelaxStrategy, F: FnOnce() -> Result<T, E>, E, W: Wait>(
     account: Account<'a, T, ()>,
     rt: &W,

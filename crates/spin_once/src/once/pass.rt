@@ -21,9 +21,9 @@ use std::sync::Wait;
 /// calls of others. A pass is as large as a reference. It can be sent, and a `Once` can have any number of passes.
 ///
 /// # Contract
-/// Each call takes the pass and returns it. It ensures `Called`: among the new moves of the history, those of this pass
-/// are exactly one call with the returned answer. In the model of a `Once` on threads that call gets this answer, at
-/// its place among the moves of all threads. No move of the history is skipped.
+/// Each call takes the pass and returns it. The call ensures `Called`: among the new moves of the history, the pass's
+/// own moves are those of exactly one call, which has the returned answer. In the model of a `Once` on threads this
+/// call gets this answer, at its place among the moves of all threads. No move of the history is skipped.
 ///
 /// # Examples
 /// ```
@@ -97,8 +97,9 @@ impl<'a, T, R> Pass<'a, T, R> {
     /// Compares what two passes of one `Once` know. It does nothing when it runs.
     ///
     /// # Contract
-    /// One of them knows a prefix of the history that the other knows. So both know one history. The longer one has the
-    /// calls of both passes, each once, in the order in which each pass made them.
+    /// The history that one of the passes knows is a prefix of the history that the other knows. So both know one
+    /// history. The longer of the two has the calls of both passes, each once, in the order in which each pass made
+    /// them.
     pub fn compare(&self, other: &Pass<'_, T, R>)
         requires { self.now.account.seen.name ≡ other.now.account.seen.name }
         ensures { IsPrefix self.now.account.seen.entries other.now.account.seen.entries ⊎ IsPrefix other.now.account.seen.entries self.now.account.seen.entries }

@@ -39,10 +39,10 @@ pub(crate) struct Found<'a, T, S: Seed<T>> {
     ghost reads: { what account.party.view ≡ Some Reading },
 }
 
-/// What a thread gets that claims the value.
+/// What a thread gets when it claims the value.
 pub(crate) enum Claim<'a, T, S: Seed<T>> {
     Found(Found<'a, T, S>),
-    /// The right to make the value: no thread had begun, or the last one left the seed.
+    /// The right to make the value: no thread had begun to make it, or the last one left the seed.
     Init(InitPermit<'a, T, S>),
 }
 
@@ -92,7 +92,7 @@ impl<'a, T, S: Seed<T>> Account<'a, T, S> {
         self.seen.compare(&other.seen);
     }
 
-    // Makes the next step of its call, which is a load. A party that is in no call begins this one.
+    // Makes the next step of the party's call, which is a load. A party in no call begins the call `C`.
     fn load<C: Call>(self) -> (u64, Account<'a, T, S>)
         requires { is_load (point_of (what self.party.view)) ≡ true }
         ensures { Turned C.call result.0 (here self.entry) (here result.1) }
@@ -102,7 +102,7 @@ impl<'a, T, S: Seed<T>> Account<'a, T, S> {
         (found, Account { party, seen })
     }
 
-    /// Loads the word once, and finds the value or none.
+    /// Finds the value, or none, by one load.
     pub(crate) fn get(self) -> Result<Found<'a, T, S>, Account<'a, T, S>>
         requires { is_out (what self.party.view) ≡ true }
         ensures found { IfOk result (λ found. Since (here self.entry) (IsCall Get (Value tt)) (here found.account)) }
@@ -116,7 +116,7 @@ impl<'a, T, S: Seed<T>> Account<'a, T, S> {
         }
     }
 
-    /// Returns whether its one load finds a value.
+    /// Returns whether one load finds a value.
     pub(crate) fn is_completed(self) -> (bool, Account<'a, T, S>)
         requires { is_out (what self.party.view) ≡ true }
         ensures made { Since (here self.entry) (IsCall IsCompleted (Is result.0)) (here result.1) }
@@ -126,7 +126,7 @@ impl<'a, T, S: Seed<T>> Account<'a, T, S> {
         (found == COMPLETE as u64, account)
     }
 
-    /// Finds the value by its one load, or begins a call with a closure of this kind. The call continues by
+    /// Begins a call with a closure of kind `C`, by one load. If the load finds no value, the call continues by
     /// [`claim`](Account::claim).
     pub(crate) fn come<C: Closure>(self) -> Result<Found<'a, T, S>, Account<'a, T, S>>
         requires { is_out (what self.party.view) ≡ true }
@@ -170,7 +170,7 @@ impl<'a, T, S: Seed<T>> Account<'a, T, S> {
         unreachable!()
     }
 
-    // Tries to begin if no other thread makes the value.
+    // Looks, and tries to begin if no other thread makes the value.
     fn look_and_begin<C: Closure>(self) -> Result<Claim<'a, T, S>, Account<'a, T, S>>
         requires { what self.party.view ≡ Some (in_closure C.may_fail Await) }
         ensures { Attempts C.may_fail (here self.entry) result }
@@ -200,7 +200,7 @@ impl<'a, T, S: Seed<T>> Account<'a, T, S> {
         Ok(Claim::Init(InitPermit::new(account)))
     }
 
-    // The exchange by which a call begins to run its closure. The seed is still there.
+    // Makes the exchange by which a call begins to run its closure. A party that begins finds the seed still there.
     fn exchange<C: Closure>(self) -> (u64, Account<'a, T, S>)
         requires { what self.party.view ≡ Some (in_closure C.may_fail TryBegin) }
         ensures turned { Turned (closure_call C.may_fail) result.0 (here self.entry) (here result.1) }
@@ -247,7 +247,7 @@ impl<'a, T, S: Seed<T>> Account<'a, T, S> {
         unreachable!()
     }
 
-    /// Spins while a thread makes the value, and then finds it, or none.
+    /// Spins while a thread makes the value. Then finds the value, or none.
     pub(crate) fn poll<R: RelaxStrategy, W: Wait>(
         self,
         rt: &W,

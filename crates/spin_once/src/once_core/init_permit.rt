@@ -1,5 +1,5 @@
-//! The right to make the value, without its party's account. It ends by [`InitPermit::complete`] or
-//! [`InitPermit::fail`].
+//! The right to make the value. It ends by [`InitPermit::complete`] or [`InitPermit::fail`], which return the party's
+//! account.
 ghost use Rattle.std.specs.Prelude.{◌≡◌, Some, true, length, IsSomeAnd};
 ghost use Rattle.spin_core.specs.Own.{what};
 ghost use Rattle.spin_core.specs.Passes.{Ends};
@@ -16,7 +16,7 @@ use spin_core::trace::Watch;
 use spin_step::once;
 use std::mem::{self, ManuallyDrop};
 
-/// The right of the party that began: it has the cell's content to itself.
+/// The right of the party that began to make the value: this party has the cell's content to itself.
 pub(crate) struct InitPermit<'a, T, S: Seed<T>> {
     writer: Writer<'a, T, S>,
     seen: Watch<Entry<T>>,
@@ -89,8 +89,8 @@ impl<'a, T, S: Seed<T>> InitPermit<'a, T, S> {
     }
 }
 
-// Forgets what was there, without a test: the thread with the permit knows that it is no value. This saves two tests in
-// a first `call_once`.
+// Forgets the old content without a test, since the thread with the permit knows that it is no value. This saves two
+// tests in a first `call_once`.
 fn spend<T, S>(stage: Stage<T, S>) {
     let _gone = unsafe { ManuallyDrop::new_unchecked(stage) };
 }

@@ -4,7 +4,7 @@ ghost use Rattle.std.specs.Ptr.{as_ptr};
 
 use std::ptr;
 
-/// Returns the value, which is proved to exist. Nothing may be read through null, so the compiler leaves no test.
+/// Returns the value, which is proved to exist. A null address may not be read, so the compiler leaves out the test.
 pub(super) fn known<'a, T>(value: Option<&'a T>) -> &'a T
     requires { IsSome value }
     ensures { IfSome value.entry (λ there. result.now ≡ there.now) }

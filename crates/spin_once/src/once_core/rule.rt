@@ -60,7 +60,7 @@ pub struct Key<T, S> {
 #[derive(Drop)]
 pub enum Stage<T, S> {
     Seed(S),
-    /// The party that runs its closure has the seed.
+    /// A party runs its closure, and has taken the seed out.
     Taken,
     Done(T),
 }
@@ -89,10 +89,10 @@ impl<T, S> Stabilizes for Stage<T, S> {
     ghost stable = { is_done };
 }
 
-/// The word is that of a plain lock in whose phase these parties are. The trace, without its values, is a schedule of
-/// the model, which leads to this word, with each party in the seat that its view names. It has one value at most, and
-/// none before the word is that of a value. The value that lies there is that one (`IsMade`), until the owner borrows
-/// it.
+/// The word is that of a plain lock in the phase that these parties show. The trace without its values is a schedule of
+/// the model. The schedule leads to this word, and to the seat that each party's view names. The trace has at most one
+/// value, and none before the word says that there is a value. A value that lies in the cell is that one (`IsMade`),
+/// until the owner borrows it.
 impl<T, S: Seed<T>> Rule<Slot<T, S>, Party> for Stage<T, S> {
     ghost use Rattle.spin_once.specs.Once.{IsOnce, once_ways};
     ghost use Rattle.spin_once.specs.OnceValues.{lent_key};
@@ -175,8 +175,8 @@ impl Closure for Unsure {
     ghost may_fail = { true };
 }
 
-/// The next step of the party's call. A party that is in no call begins this one. In the history the store after a
-/// closure that gave a value is a write of that value.
+/// The next step of the party's call. A party in no call begins the call `C`. In the history the store after a closure
+/// that gave a value is a write of that value.
 pub(super) struct Turn<C> {
     call: PhantomData<C>,
 }

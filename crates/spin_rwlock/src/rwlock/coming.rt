@@ -86,8 +86,8 @@ pub(super) struct Coming<'a, T, K: Kind, M: Mode, R> {
 impl<'a, T, K: Kind, M: Mode, R> Coming<'a, T, K, M, R> {
     ghost use Rattle.spin_rwlock.specs.Waits.{here, IsReader, SeeksOn, IsLetIn};
 
-    /// Begins the call with an exchange that expects a free lock. If it fails, it tries once more, at the word found.
-    /// This saves a load: a failed exchange tells the word too.
+    /// Begins the call with an exchange that expects a free lock. If the exchange fails, it tries once more, at the
+    /// word found. This saves a load, since a failed exchange returns the word too.
     pub(super) fn begin(
         permit: RwPermit<'a, T>,
         seen: Watch<Entry<T>>,
@@ -106,7 +106,7 @@ impl<'a, T, K: Kind, M: Mode, R> Coming<'a, T, K, M, R> {
         }
     }
 
-    // Tries once, at the word found.
+    // Makes one exchange of the word found, if this word admits the reader.
     fn try_at(self) -> Result<Lent<'a, T, K, R>, Self>
         ensures lent { IfOk result (IsLetIn (call_of K.view M.waits) self.entry) }
         ensures missed { IfErr result (SeeksOn (call_of K.view M.waits) self.entry) }
@@ -128,14 +128,14 @@ impl<'a, T, K: Kind, M: Mode, R> Coming<'a, T, K, M, R> {
         }
     }
 
-    // Returns `true` if the word found does not admit such a reader.
+    // Returns `true` if the word found does not admit the reader.
     fn is_kept_out(&self) -> bool
         ensures { result ≡ true → grants (call_of K.view M.waits) self.now.word ≡ None }
     {
         K::next(self.word).is_none()
     }
 
-    // Makes one exchange of this word for the next.
+    // Makes one exchange of `word` for `next`.
     fn come(
         permit: RwPermit<'a, T>,
         seen: Watch<Entry<T>>,
@@ -169,7 +169,8 @@ impl<'a, T, K: Kind, M: Mode, R> Coming<'a, T, K, M, R> {
 impl<'a, T, K: Kind, R> Coming<'a, T, K, Tries, R> {
     ghost use Rattle.spin_rwlock.specs.Waits.{IsReader, SeeksOn, IsLetIn, IsRefused};
 
-    /// Tries to admit a reader of this kind, as long as other threads change the word that was found.
+    /// Tries to become a reader of kind `K`. After a failed exchange it tries again as long as the word found admits
+    /// the reader.
     pub(super) fn try_to_lend<W: Wait>(
         rt: &W,
         permit: RwPermit<'a, T>,
@@ -190,8 +191,8 @@ impl<'a, T, K: Kind, R> Coming<'a, T, K, Tries, R> {
         }
     }
 
-    // Tries again until a word admits it, or keeps it out.
-    // It is not inlined, since that would lengthen the path of every caller that loses no race.
+    // Tries again until an exchange succeeds, or until the word found does not admit the reader. The function is not
+    // inlined, since that would lengthen the path of every caller that loses no race.
     #[cold]
     #[inline(never)]
     fn keep_trying<W: Wait>(self, rt: &W) -> Result<Lent<'a, T, K, R>, Pass<'a, T, R>>
@@ -211,7 +212,7 @@ impl<'a, T, K: Kind, R> Coming<'a, T, K, Tries, R> {
         unreachable!()
     }
 
-    // Ends the call if the word found keeps it out.
+    // Ends the call if the word found does not admit the reader.
     fn settle(self) -> Result<Pass<'a, T, R>, Self>
         ensures refused { IfOk result (IsRefused (call_of K.view false) self.entry) }
         ensures missed { IfErr result (SeeksOn (call_of K.view false) self.entry) }
@@ -237,7 +238,7 @@ impl<'a, T, K: Kind, R> Coming<'a, T, K, Tries, R> {
 impl<'a, T, K: Kind, R: RelaxStrategy> Coming<'a, T, K, Waits, R> {
     ghost use Rattle.spin_rwlock.specs.Waits.{SeeksOn, IsLetIn};
 
-    /// Waits until the lock admits it.
+    /// Waits until the lock admits the reader.
     // It is not inlined, since that would lengthen the path of every caller that does not wait. Its pause depends on
     // the word found, which `retry` does not offer.
     #[cold]
@@ -272,7 +273,7 @@ impl<'a, T, K: Kind, R: RelaxStrategy> Coming<'a, T, K, Waits, R> {
         }
     }
 
-    // Loads the word again, after a word that does not admit it.
+    // Loads the word again, after a word that did not admit the reader.
     fn look(self) -> Self
         requires { grants (call_of K.view true) self.word ≡ None }
         ensures { SeeksOn (call_of K.view true) self.entry result }

@@ -28,7 +28,7 @@ pub struct SharedGuard<'a, T, K: Kind, R = Spin> {
 /// The guard of a reader of an [`RwLock`](super::RwLock). Dropping it releases the shared access.
 ///
 /// # Contract
-/// That of [`SharedGuard`].
+/// Like that of [`SharedGuard`].
 pub type RwLockReadGuard<'a, T, R = Spin> = SharedGuard<'a, T, Reader, R>;
 
 /// A reader's hold on an `RwLock`: it keeps the shared access without a guard, and shows no value.
@@ -37,7 +37,7 @@ pub type RwLockReadGuard<'a, T, R = Spin> = SharedGuard<'a, T, Reader, R>;
 /// release the access.
 ///
 /// # Contract
-/// Its party still reads (`reading`). `read_held_value` is the value that the guard showed.
+/// The hold's party still reads (`reading`). `read_held_value` is the value that the guard showed.
 #[must_use = "dropping a hold does not release the lock: pass it to `force_read_decrement`"]
 pub struct ReadHeld<'a, T, R = Spin> {
     permit: Permit<'a, T, Party, RwRule<T>>,
@@ -174,14 +174,14 @@ impl<T, R> Drop for ReadHeld<'_, T, R> {
     }
 }
 
-// SAFETY: in its new thread it may become the writer, and other threads still read in theirs.
+// SAFETY: in its new thread an upgradable reader may become the writer. Other threads may read until then.
 unsafe impl<T: Send + Sync, K: Kind, R> Send for SharedGuard<'_, T, K, R> {}
 
-// SAFETY: a shared guard lends a `&T` and no more.
+// SAFETY: a shared reference to a guard lends a `&T` and no more.
 unsafe impl<T: Sync, K: Kind, R> Sync for SharedGuard<'_, T, K, R> {}
 
-// SAFETY: the new thread releases the access, like a guard's new thread. It asks what a guard asks.
+// SAFETY: the new thread releases the access, as it would with a guard. The bounds are those of a guard.
 unsafe impl<T: Send + Sync, R> Send for ReadHeld<'_, T, R> {}
 
-// SAFETY: a shared hold lends nothing. It asks what the lock asks.
+// SAFETY: a shared reference to a hold lends nothing. The bounds are those of the lock.
 unsafe impl<T: Send + Sync, R> Sync for ReadHeld<'_, T, R> {}

@@ -1,5 +1,4 @@
-//! What a party is to an `RwLock`, the rule that its word and its parties keep, and each kind of step. Begin at
-//! [`RwRule`].
+//! What a party is to an `RwLock`, the rule of the lock, and each kind of step. Begin at [`RwRule`].
 ghost use Rattle.std.specs.Prelude.{◌≡◌, ℕ, Bool, true, false, refl, Some, None, IfOk, IfErr};
 ghost use Rattle.spin_step.specs.Plain.{Plain, gets, rw_word};
 ghost use Rattle.spin_step.specs.Steps.{Decides};
@@ -26,7 +25,7 @@ use spin_step_more::rw_calls::RwCall;
 use std::marker::PhantomData;
 use std::sync::Wait;
 
-// The weight of a holder of each kind in the word.
+// The weights that holders of each kind have in the word.
 const READER: u64 = rw::READER as u64;
 
 const UPGRADABLE: u64 = rw::UPGRADABLE as u64;
@@ -44,9 +43,9 @@ pub enum View {
     /// It still reads, and has asked to become the writer.
     Asking,
     Writing,
-    /// It writes, and had asked before.
+    /// It writes, and had asked before it became the writer.
     WritingAsked,
-    /// It is in this call, which wants to read and found this word last.
+    /// It is in this call, which wants to read. The call found this word last.
     Coming(RwCall, usize),
     /// It is in `write`, and its next step is the exchange.
     WaitingToWrite,
@@ -58,9 +57,9 @@ pub enum View {
 /// threads read a `T` at once.
 ///
 /// # Contract
-/// `IsRw`: the word is that of a plain lock with these holders. The trace is a schedule of the lock's model. It leads
-/// to this word, and to the seat that each party's view names. While nobody writes the value, it is the one that this
-/// schedule writes last (`IsLast`), until the owner borrows it.
+/// `IsRw`: the word is that of a plain lock with these holders. The trace is a schedule of the lock's model. The
+/// schedule leads to this word, and to the seat that each party's view names. While nobody writes the value, it is the
+/// one that this schedule writes last (`IsLast`), until the owner borrows it.
 pub struct RwRule<T> {
     never: T,
 }
@@ -175,7 +174,7 @@ impl<T> Play<Opening<T>, Party, Entry<T>> for Releases {
 /// # Contract
 /// A reader of the kind has the view `view`, which reads the value (`lends`).
 pub trait Kind {
-    // The view of its party.
+    // The view of a reader of this kind.
     ghost view: { View };
 
     ghost WEIGHT: { ℕ };
@@ -186,7 +185,8 @@ pub trait Kind {
     /// Returns the word with one more such reader, or `None` if this word admits none.
     ///
     /// # Contract
-    /// The answer is exact (`grants`), and decides as the plain lock does (`Decides`).
+    /// The answer is exactly that of `grants`. It is `None` where the plain lock refuses, else the word of the next
+    /// state (`Decides`).
     fn next(word: usize) -> Option<usize>
         ensures exact { (waits : Bool) → result ≡ grants (call_of Self.view waits) word }
         ensures plain { (s : Plain) (party : ℕ) → OneOfEach s → s.cap ≡ reader_limit → rw_word s ≡ word → Decides s (gets party (asks Self.view)) rw_word result };
@@ -252,7 +252,8 @@ impl<'a, T> Waiting<'a, T> {
     ghost use Rattle.spin_rwlock.specs.Waits.{IsGranted};
 
     /// Backs off and tries again, until no thread holds the lock.
-    // This is the loop of `back_off`. A caller that passed `write` there would take much longer to prove.
+    // This is the loop of `back_off`, written out. A call of `back_off` that passes `write` would take much longer to
+    // prove.
     #[cold]
     #[inline(never)]
     pub(super) fn wait<R: RelaxStrategy, W: Wait>(self, rt: &W) -> (Writer<'a, T>, Watch<Entry<T>>)
@@ -316,7 +317,7 @@ pub(super) fn upgrade<'a, T>(
     }
 }
 
-/// Asks for the upgradable reader to become the writer, as `rw::ask` says: from now on no reader is admitted.
+/// Asks to make the upgradable reader the writer, as `rw::ask` says. From then on no new reader is admitted.
 pub(super) fn ask<'a, T>(
     party: RwPermit<'a, T>,
     seen: Watch<Entry<T>>,
@@ -351,8 +352,8 @@ pub(super) fn upgrade_asked<'a, T>(
     }
 }
 
-/// Makes the writer a reader of kind `K`, as `rw::write_to_read` and `rw::write_to_upgradable` say. It writes its value
-/// into the history.
+/// Makes the writer a reader of kind `K`, as `rw::write_to_read` and `rw::write_to_upgradable` say. The party first
+/// writes the writer's value into the history.
 pub(super) fn write_to_lent<'a, T, K: Kind>(
     writer: Writer<'a, T>,
     seen: Watch<Entry<T>>,
@@ -381,7 +382,7 @@ pub(super) fn upgradable_to_read<'a, T>(
     (party, seen)
 }
 
-/// Releases the writer's exclusive access, and writes its value into the history. The party is then idle.
+/// Writes the writer's value into the history, and releases the exclusive access. The party is then idle.
 pub(super) fn release_write<'a, T>(
     writer: Writer<'a, T>,
     seen: Watch<Entry<T>>,

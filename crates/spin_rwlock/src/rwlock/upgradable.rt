@@ -23,7 +23,7 @@ use std::sync::Wait;
 /// While it lives, other readers may acquire and release the lock, until its `upgrade` asks to become the writer.
 ///
 /// # Contract
-/// That of [`SharedGuard`]. The value stays the same when the reader becomes the writer.
+/// Like that of [`SharedGuard`]. The value stays the same when the reader becomes the writer.
 pub type RwLockUpgradableGuard<'a, T, R = Spin> = SharedGuard<'a, T, Upgrader, R>;
 
 impl<'a, T, R> SharedGuard<'a, T, Upgrader, R> {
@@ -35,7 +35,7 @@ impl<'a, T, R> SharedGuard<'a, T, Upgrader, R> {
     /// still admitted.
     ///
     /// # Contract
-    /// The guard that is returned, of either kind, has the value that this one had. The call returns.
+    /// The returned guard, of either kind, has the value that this guard had. The call returns.
     ///
     /// # Examples
     /// ```
@@ -60,12 +60,13 @@ impl<'a, T, R> SharedGuard<'a, T, Upgrader, R> {
 
     /// Like [`try_upgrade`](Self::try_upgrade), for a guard that a [`Pass`](super::Pass) acquired.
     ///
-    /// The call takes what the pass knows of the lock's history, and returns it with its own steps added.
+    /// The call takes what the pass knows of the lock's history. It returns what the pass knows afterwards, its own
+    /// steps included.
     ///
     /// # Contract
     /// `seen` has to be what the pass knew when it got this guard (`ReadsWith`). The pass makes one call, `TryUpgrade`.
-    /// It is granted with a writer's guard, or refused with a reader's. That guard has the value that this one had,
-    /// which is the one written last in the history (`found`, `shown`).
+    /// The call is granted with a writer's guard, or refused with a reader's guard. The returned guard has the value
+    /// that this one had, which is the one written last in the history (`found`, `shown`).
     pub fn try_upgrade_seen(
         self,
         seen: Watch<Entry<T>>,
@@ -88,7 +89,7 @@ impl<'a, T, R> SharedGuard<'a, T, Upgrader, R> {
     /// never does.)
     ///
     /// # Contract
-    /// That of `try_upgrade`.
+    /// Like that of `try_upgrade`.
     pub fn try_upgrade_weak(self) -> Result<RwLockWriteGuard<'a, T, R>, Self>
         ensures granted { IfOk result (λ guard. Some (write_value guard) ≡ shared_value self.entry) }
         ensures refused { IfErr result (λ guard. shared_value guard ≡ shared_value self.entry) }
@@ -123,7 +124,8 @@ impl<'a, T, R> SharedGuard<'a, T, Upgrader, R> {
 
     /// Like [`downgrade`](Self::downgrade), for a guard that a [`Pass`](super::Pass) acquired.
     ///
-    /// The call takes what the pass knows of the lock's history, and returns it with its own steps added.
+    /// The call takes what the pass knows of the lock's history. It returns what the pass knows afterwards, its own
+    /// steps included.
     ///
     /// # Contract
     /// `seen` has to be what the pass knew when it got this guard (`ReadsWith`). The pass makes one call, `Downgrade`
@@ -150,8 +152,8 @@ impl<'a, T, R: RelaxStrategy> SharedGuard<'a, T, Upgrader, R> {
 
     /// Becomes the writer, spinning until every other reader has released the lock.
     ///
-    /// It asks first, and from then on no new reader is admitted. It keeps its access in between, so the value does not
-    /// change. The call never returns if its own thread holds a further reader's guard.
+    /// The reader asks first, and from then on no new reader is admitted. The reader keeps its access until it is the
+    /// writer, so the value does not change. The call never returns if its own thread holds a further reader's guard.
     ///
     /// # Contract
     /// The writer's guard has the value that this one had, and its party has asked (its view is `WritingAsked`).
@@ -181,12 +183,13 @@ impl<'a, T, R: RelaxStrategy> SharedGuard<'a, T, Upgrader, R> {
 
     /// Like [`upgrade`](Self::upgrade), for a guard that a [`Pass`](super::Pass) acquired.
     ///
-    /// The call takes what the pass knows of the lock's history, and returns it with its own steps added.
+    /// The call takes what the pass knows of the lock's history. It returns what the pass knows afterwards, its own
+    /// steps included.
     ///
     /// # Contract
-    /// `seen` has to be what the pass knew when it got this guard (`ReadsWith`). The pass makes one call, `Upgrade`. It
-    /// asks by its first step, and is granted (`made`). The writer's guard has the value that this one had, which is
-    /// the one written last in the history (`found`).
+    /// `seen` has to be what the pass knew when it got this guard (`ReadsWith`). The pass makes one call, `Upgrade`.
+    /// The call asks by its first step, and is granted (`made`). The writer's guard has the value that this one had,
+    /// which is the one written last in the history (`found`).
     ///
     /// # Examples
     /// ```
@@ -243,7 +246,7 @@ fn wait_to_upgrade<'a, T, R: RelaxStrategy, W: Wait>(
     unreachable!()
 }
 
-// The same, for a guard that a pass acquired.
+// Like `wait_to_upgrade`, for a guard that a pass acquired.
 #[cold]
 #[inline(never)]
 fn wait_to_upgrade_seen<'a, T, R: RelaxStrategy, W: Wait>(

@@ -34,7 +34,7 @@ pub struct RwLockWriteGuard<'a, T, R = Spin> {
 /// release the access.
 ///
 /// # Contract
-/// Its party still writes (`writing`). `write_held_value` is the value that the guard had.
+/// The hold's party still writes (`writing`). `write_held_value` is the value that the guard had.
 #[must_use = "dropping a hold does not release the lock: pass it to `force_write_unlock`"]
 pub struct WriteHeld<'a, T, R = Spin> {
     permit: Permit<'a, T, Party, RwRule<T>>,
@@ -81,7 +81,8 @@ impl<'a, T, R> RwLockWriteGuard<'a, T, R> {
 
     /// Like [`downgrade`](Self::downgrade), for a guard that a [`Pass`](super::Pass) acquired.
     ///
-    /// The call takes what the pass knows of the lock's history, and returns it with its own steps added.
+    /// The call takes what the pass knows of the lock's history. It returns what the pass knows afterwards, its own
+    /// steps included.
     ///
     /// # Contract
     /// `seen` has to be what the pass knew when it got this guard (`WritesWith`). The pass writes the guard's value
@@ -128,7 +129,8 @@ impl<'a, T, R> RwLockWriteGuard<'a, T, R> {
     /// Like [`downgrade_to_upgradeable`](Self::downgrade_to_upgradeable), for a guard that a [`Pass`](super::Pass)
     /// acquired.
     ///
-    /// The call takes what the pass knows of the lock's history, and returns it with its own steps added.
+    /// The call takes what the pass knows of the lock's history. It returns what the pass knows afterwards, its own
+    /// steps included.
     ///
     /// # Contract
     /// `seen` has to be what the pass knew when it got this guard (`WritesWith`). The pass writes the guard's value
@@ -149,7 +151,7 @@ impl<'a, T, R> RwLockWriteGuard<'a, T, R> {
         self.lend(seen)
     }
 
-    // Becomes a reader of kind `K`. A pass acquired this guard.
+    // Becomes a reader of kind `K`, for a guard that a pass acquired.
     fn lend<K: Kind>(self, seen: Watch<Entry<T>>) -> (SharedGuard<'a, T, K, R>, Watch<Entry<T>>)
         requires { WritesWith self seen }
         ensures value { shared_value result.0 ≡ Some (write_value self.entry) }
@@ -286,11 +288,11 @@ impl<T, R> Drop for WriteHeld<'_, T, R> {
 // SAFETY: the new thread has the value to itself, and may become one reader among others.
 unsafe impl<T: Send + Sync, R> Send for RwLockWriteGuard<'_, T, R> {}
 
-// SAFETY: a shared guard lends a `&T` and no more.
+// SAFETY: a shared reference to a guard lends a `&T` and no more.
 unsafe impl<T: Sync, R> Sync for RwLockWriteGuard<'_, T, R> {}
 
-// SAFETY: the new thread releases the lock, and so passes the value to its next user. That asks what a guard asks.
+// SAFETY: the new thread releases the lock, and so passes the value to its next user. The bounds are those of a guard.
 unsafe impl<T: Send + Sync, R> Send for WriteHeld<'_, T, R> {}
 
-// SAFETY: a shared hold lends nothing. It asks what the lock asks.
+// SAFETY: a shared reference to a hold lends nothing. The bounds are those of the lock.
 unsafe impl<T: Send + Sync, R> Sync for WriteHeld<'_, T, R> {}

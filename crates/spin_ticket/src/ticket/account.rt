@@ -1,4 +1,4 @@
-//! The steps of a party that knows the lock's history. Each function makes one. Begin with [`Account::find_next`].
+//! The steps of a party that knows the lock's history. Each function makes one step. Begin with [`Account::find_next`].
 ghost use Rattle.std.specs.Prelude.{◌≡◌, ◌≤◌, Some, None, true, false};
 ghost use Rattle.spin_core.specs.Cell.{use_of, writes};
 ghost use Rattle.spin_core.specs.Own.{what};
@@ -26,7 +26,7 @@ impl<'a, T> Account<'a, T> {
         (next, Account { permit, seen })
     }
 
-    // Continues a call of `try_lock` that found this number next. Returns the served number.
+    // Continues a call of `try_lock` that found the number `next`. Returns the served number.
     pub(super) fn find_served(self, next: u64) -> (u64, Account<'a, T>)
         requires { what self.permit.view ≡ Some (LoadedNext next) }
         ensures { Stepped model true TryLock (answers_free next result.0) (freed next result.0) (here self.entry) (here result.1) }
@@ -36,7 +36,8 @@ impl<'a, T> Account<'a, T> {
         (serving, Account { permit, seen })
     }
 
-    // Takes the ticket with this number, and enters. A call of `try_lock` has found the number both next and served.
+    // Takes the ticket with the number `next`, and enters. The call of `try_lock` has found this number both next and
+    // served.
     pub(super) fn take_and_enter(
         self,
         next: u64,
@@ -66,7 +67,7 @@ impl<'a, T> Account<'a, T> {
         (serving, Account { permit, seen })
     }
 
-    // Ends a call of `is_locked` that found this number served. Returns the next number.
+    // Ends a call of `is_locked` that found the number `served`. Returns the next number.
     pub(super) fn look_next(self, served: u64) -> (u64, Account<'a, T>)
         requires { what self.permit.view ≡ Some (LoadedServing served) }
         ensures order { served ≤ result.0 }
@@ -77,7 +78,7 @@ impl<'a, T> Account<'a, T> {
         (next, Account { permit, seen })
     }
 
-    // Begins a release: finds the number of the holder's own ticket. The model has no move for it.
+    // Begins a release: finds the number of the holder's own ticket. The model has no move for this load.
     pub(super) fn find_own(self) -> (u64, Account<'a, T>)
         requires { use_of use_of_party self.permit.view ≡ writes }
         ensures holds { (x : T) → self.entry.permit.value ≡ Some x → HasTicket result.0 x result.1 }
@@ -88,7 +89,7 @@ impl<'a, T> Account<'a, T> {
         (number, Account { permit, seen })
     }
 
-    // Releases the lock.
+    // Releases the lock of a holder whose ticket has this number.
     pub(super) fn serve(self, number: u64) -> Account<'a, T>
         requires { (x : T) × HasTicket number x self }
         ensures out { IsOut Idle (what result.permit.view) }

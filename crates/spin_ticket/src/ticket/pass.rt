@@ -32,9 +32,9 @@ use std::sync::Wait;
 /// of others. A pass is as large as a reference to the lock. It can be sent, and a lock can have any number of passes.
 ///
 /// # Contract
-/// Each call takes the pass and returns it. It ensures `Called`: among the new moves of the history, those of this pass
-/// are exactly one call with the returned answer. In the lock's model that call gets this answer, at its place among
-/// the moves of all threads. No move of the history is skipped.
+/// Each call takes the pass and returns it. The call ensures `Called`: among the new moves of the history, the pass's
+/// own moves are those of exactly one call, which has the returned answer. In the lock's model this call gets this
+/// answer, at its place among the moves of all threads. No move of the history is skipped.
 ///
 /// # Examples
 /// ```
@@ -78,8 +78,8 @@ impl<T, R> TicketMutex<T, R> {
     ///
     /// # Contract
     /// `seen` has to be what [`Pass::lock`] or [`Pass::try_lock`] returned with the guard (`Holds`). The release is the
-    /// next call of the pass (`made`). Just before it the history gets a write of the guard's value (`wrote`). So that
-    /// value is the one written last (`left`).
+    /// next call of the pass (`made`). Just before the release the pass writes the guard's value into the history
+    /// (`wrote`). So this value is the one written last (`left`).
     pub fn unlock<'a>(guard: TicketMutexGuard<'a, T, R>, seen: Watch<Entry<T>>) -> Pass<'a, T, R>
         requires { Holds guard seen }
         ensures made { Left (guard_key guard.entry) (λ x. Unit {0}) (Some (guard_view guard.entry)) seen.entries result.permit.view result.seen.entries }
@@ -183,7 +183,8 @@ impl<'a, T, R> Pass<'a, T, R> {
             seen,
             strategy,
         } = self;
-        // The served number first: it only grows, so it is at most the next number, which is loaded later.
+        // The served number is loaded first. The next number is never below the served one, and only grows. So the next
+        // number, which is loaded later, is at least the served number found.
         let (serving, account) = Account { permit, seen }.look_served();
         let (next, account) = account.look_next(serving);
         let Account { permit, seen } = account;
@@ -201,8 +202,9 @@ impl<'a, T, R> Pass<'a, T, R> {
     /// Compares what two passes of one lock know. It does nothing when it runs.
     ///
     /// # Contract
-    /// One of them knows a prefix of the history that the other knows. So both know one history. The longer one has the
-    /// calls of both passes, each once, in the order in which each pass made them.
+    /// The history that one of the passes knows is a prefix of the history that the other knows. So both know one
+    /// history. The longer of the two has the calls of both passes, each once, in the order in which each pass made
+    /// them.
     pub fn compare(&self, other: &Pass<'_, T, R>)
         requires { self.now.seen.name ≡ other.now.seen.name }
         ensures { IsPrefix self.now.seen.entries other.now.seen.entries ⊎ IsPrefix other.now.seen.entries self.now.seen.entries }
@@ -211,7 +213,7 @@ impl<'a, T, R> Pass<'a, T, R> {
     }
 }
 
-// Begins a call of `lock`.
+// Begins a call of `lock` with the load of the next number.
 pub(super) fn go<'a, T>(account: Account<'a, T>) -> Going<'a, T>
     requires { IsOut Idle (what account.permit.view) }
     ensures { IsIn model Lock (here account.entry) (here result.account) }
@@ -267,8 +269,8 @@ impl<'a, T> Going<'a, T> {
         unreachable!()
     }
 
-    // Takes the ticket. `Err` is a call that tries the number that it found instead. If no ticket is left, it tries the
-    // same number again.
+    // Tries to take the ticket with the number found next. After a failed exchange `Err` returns a call that tries the
+    // number that the exchange found. If no ticket is left, `Err` returns the call as it was.
     fn take(self) -> Result<Place<'a, T>, Going<'a, T>>
         ensures { GoesFor self.entry result }
     {
@@ -312,8 +314,8 @@ impl<'a, T> Place<'a, T> {
         unreachable!()
     }
 
-    // The next thread in turn looks again after one hint. A thread with others before it looks seldom, so that it does
-    // not disturb them.
+    // Returns how many hints to give before the next look. The thread that is next gives one. A thread with others
+    // before it looks seldom, so that it does not disturb them.
     fn pause(&self) -> u32 {
         if self.ahead <= 1 {
             return 1;

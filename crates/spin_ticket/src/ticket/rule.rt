@@ -14,13 +14,13 @@ use spin_core::trace::{Trace, Watch};
 use spin_model::TicketCall;
 use spin_step::ticket;
 
-/// What a party (one call, and the guard that it returns) is to the lock. A number is that of a ticket.
+/// What a party (one call, and the guard that it returns) is to the lock. The numbers are those of tickets.
 #[derive(Clone, Copy)]
 pub enum View {
     Idle,
-    /// It is in `lock`, and found no ticket left.
+    /// It is in `lock`, and has found that no ticket is left.
     Coming,
-    /// It is in `lock`, and tries to take the ticket with this number, which it found next.
+    /// It is in `lock`, and has found this number next. It tries to take the ticket with this number.
     Going(u64),
     Waiting(u64),
     Entered(u64),
@@ -38,8 +38,8 @@ pub enum View {
 ///
 /// # Contract
 /// `IsQueue`: the words are those of a plain lock whose tickets are those of the parties that wait or have entered. The
-/// trace is a schedule of the lock's model, which leads to these words and to each party's view. A value that nobody
-/// holds is the one that this schedule writes last (`IsLast`), until the owner borrows it.
+/// trace is a schedule of the lock's model. The schedule leads to these words and to each party's view. While nobody
+/// holds the lock, its value is the one that this schedule writes last (`IsLast`), until the owner borrows it.
 pub struct TicketRule;
 
 impl<T> Rule<T, Party> for TicketRule {
@@ -71,15 +71,16 @@ impl<T> Play<Key<T>, Party, Entry<T>> for LoadNext {
     ghost told = { λ key old new before. Told key (step_by false Lock goes_on going) before };
 }
 
-/// The compare-exchange of `lock`. If the ticket that the party expected is next, it takes it and waits. Else the
-/// party tries the number that it found.
+/// The compare-exchange of `lock`. If the exchange finds the number expected, the party has the ticket with this number
+/// and waits. Else the party tries the number that the exchange found.
 pub(super) struct Take;
 
 impl<T> Play<Key<T>, Party, Entry<T>> for Take {
     ghost told = { λ key old new before. Told key (step_by true Lock goes_on (taken old)) before };
 }
 
-/// The load of the served number by a party that waits. It has entered if that number is its own.
+/// The load of the served number by a party that waits. If this is the number of the party's ticket, the party has
+/// entered.
 pub(super) struct Await;
 
 impl<T> Play<Key<T>, Party, Entry<T>> for Await {
@@ -93,14 +94,16 @@ impl<T> Play<Key<T>, Party, Entry<T>> for TryLoadNext {
     ghost told = { λ key old new before. Told key (step_by false TryLock goes_on LoadedNext) before };
 }
 
-/// The load of the served number in `try_lock`. The call continues if it is the number that it found next.
+/// The load of the served number in `try_lock`. The call continues if the served number is the one that the call found
+/// next.
 pub(super) struct TryLoadServing;
 
 impl<T> Play<Key<T>, Party, Entry<T>> for TryLoadServing {
     ghost told = { λ key old new before. Told key (tries_by (what before)) before };
 }
 
-/// The compare-exchange of `try_lock`. If the ticket that the party expected is next, it takes it and has entered.
+/// The compare-exchange of `try_lock`. If the exchange finds the number expected, the party takes the ticket with this
+/// number and has entered.
 pub(super) struct TryTake;
 
 impl<T> Play<Key<T>, Party, Entry<T>> for TryTake {
@@ -121,8 +124,8 @@ impl<T> Play<Key<T>, Party, Entry<T>> for LookNext {
     ghost told = { λ key old new before. Told key (compares_by (what before)) before };
 }
 
-/// The load of a party that releases: it finds the number of its own ticket. The model has no move for it, since its
-/// parties know their numbers.
+/// The load of a party that releases, which finds the number of the party's own ticket. The model has no move for this
+/// load, since the model's parties know their numbers.
 pub(super) struct FindOwn;
 
 impl<T> Play<Key<T>, Party, Entry<T>> for FindOwn {
@@ -141,8 +144,8 @@ impl Uses<Party> for TicketRule {
 }
 
 impl<T> guard::Release<T, Party> for TicketRule {
-    // The served number is that of the writer's ticket. A guard does not keep it: `deref_mut` could not lend the permit
-    // of a guard with a number that is tied to the view.
+    // The served number is that of the writer's ticket. A guard does not keep this number. If it did, and the number
+    // were tied to the view, `deref_mut` could not lend the guard's permit.
     fn release(writer: WritePermit<'_, T, Party, TicketRule>) {
         let permit = writer.into_permit();
         let (number, permit, _) = permit.load_second::<FindOwn>(Watch::nothing());

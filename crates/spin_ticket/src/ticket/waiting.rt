@@ -11,7 +11,7 @@ use super::rule::{Entry, Party, TicketRule};
 use spin_core::cell::Permit;
 use spin_core::trace::Watch;
 
-// A party, and all moves in the lock up to its last step.
+// A party, and all moves in the lock up to the party's last step.
 pub(super) struct Account<'a, T> {
     pub(super) permit: Permit<'a, T, Party, TicketRule>,
     pub(super) seen: Watch<Entry<T>>,
@@ -19,14 +19,15 @@ pub(super) struct Account<'a, T> {
     ghost knows: { mark_of permit.view ≡ length seen.entries },
 }
 
-// A call of `lock` that tries to take the ticket with this number. It was the next one when the call last looked.
+// A call of `lock` that tries to take the ticket with this number. The number was the next one when the call last found
+// it.
 pub(super) struct Going<'a, T> {
     pub(super) number: u64,
     pub(super) account: Account<'a, T>,
     ghost goes: { what account.permit.view ≡ Some (going number) },
 }
 
-// A place in the queue, and how many tickets were before it when it last looked.
+// A call of `lock` that has a ticket and waits. `ahead` is how many tickets were before its own when it last looked.
 pub(super) struct Place<'a, T> {
     pub(super) number: u64,
     pub(super) ahead: u64,
@@ -34,7 +35,7 @@ pub(super) struct Place<'a, T> {
     ghost waiting: { what account.permit.view ≡ Some (Waiting number) },
 }
 
-// A party that acquired the lock. The value is the one written last.
+// A party that acquired the lock. The value that it sees is the one written last.
 pub(super) struct Grant<'a, T> {
     pub(super) account: Account<'a, T>,
     ghost holds: { use_of use_of_party account.permit.view ≡ writes },

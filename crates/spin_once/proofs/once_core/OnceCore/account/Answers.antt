@@ -4,7 +4,7 @@ use Rattle.std.proofs.Common.{[], ◌++◌}
 use Rattle.spin_core.proofs.TieLaws.{entries_within, permit_within}
 use Rattle.spin_once.proofs.once_core.OnceCore.account.Goals as goal
 
--- a lifetime within those of the value's type and of the seed's is within those of both together
+-- a lifetime within the lifetimes of the value's type and within those of the seed's type is within all of them together
 module _ (κ : Lft) where
   and : {l r : Lft} → κ ⊑ l → κ ⊑ r → κ ⊑ l ++ r
   and {l} {r} p q = ⊑_meet κ l r p q

@@ -1,4 +1,4 @@
--- `at` makes a reference from the pointer. The pointer is that of the reference that is known to exist.
+-- `at` makes a reference from the pointer `address`. The pointer is that of the reference in `value`, which is known to exist.
 use Rattle.spin_core.proofs.WalkNames.{◌≡◌, List, [], ◌∷◌, ◌++◌, sym, refl, subst, ap, ◌∙◌, lit<, Option, Some, None, a_type, named, Val, vptr, of_list, inst_fn, SProp, emp, ent, id⊢, fact, fact_i, tables, WpFn, ‵, raw, ◌⊛◌, at_ret, ◌$◌, ◌∵◌, !, qed, by, move, keep, split, fsplit, fjoin, fpick, feq_i, feq_l, use0, rewrite, suffices, of_opd, addr, stop, first, blocks, exec, returns, enter, alloc_all, pass_all, free_all, look_at, get, through, sets, sets_last, env, yes, RattleType, owns, Ptr, ptr_val, types_at, plain, nothing, heard, param, alive, Stays, stay_dropped, walk_of, Goes-dropped, tail, proved_at, leaves}
 use types.Match.{live}
 use denote.Ref.{Bor, ShrRef}

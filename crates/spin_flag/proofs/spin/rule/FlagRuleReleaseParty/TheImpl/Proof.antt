@@ -1,4 +1,4 @@
--- `FlagRule` meets `Release`, by `released`.
+-- `FlagRule` meets the contract of `Release`. The lemma `released` proves that.
 use Rattle.std.proofs.Common.{[], ◌∷◌, refl}
 use mir.Syntax.{a_type, method}
 use contract.Running.{within}

@@ -46,7 +46,7 @@ use Rattle.spin_rwlock.specs.contracts.rwlock.writer.RwLockWriteGuardDerefMut.de
 use Rattle.spin_rwlock.proofs.rwlock.writer.RwLockWriteGuardDerefMut.deref_mut.Statement.{statement}
 use Rattle.spin_rwlock.proofs.rwlock.writer.RwLockWriteGuardDerefMut.deref_mut.Code as code
 
--- the writer is at the beginning of the guard
+-- the field `writer` is at the beginning of the guard
 starts : {τ : Ty} → ◌≡◌ {A = Option (Ty × ℕ)} (found (τ, up (align τ) 0)) (found (τ, 0))
 starts {τ} = ap at (at_first (align τ))
   where
@@ -57,7 +57,7 @@ starts {τ} = ap at (at_first (align τ))
 twice : (κ ν : Lft) → Incl κ ν → Incl κ ((ν ++ []) ++ (ν ++ []))
 twice κ ν h = let once = ⊑_meet κ ν [] h (⊑_static κ) in ⊑_meet κ (ν ++ []) (ν ++ []) once once
 
--- a party, and the types of the key and of the second word
+-- the types of a party, of the key and of the second word
 
 abbrev Party : RattleType
 Party = numbered V.the_row
@@ -113,20 +113,20 @@ deref_mut_spec {M} 𝓤 𝓛 𝓜 𝓡 wired T S LT LS =
     let C = triple_of 𝓛 (callee.signature X W Y K U (ghosts I) (dict I)) (callee.spec X W Y K U (ghosts I) (dict I) 𝓛 𝓜.mem 𝓡.returns) in
     qed 𝓛 (((‵ (flft κ q) ⊛ (‵ (flft β qs.1.0) ⊛ (‵ (flft τ qs.1.1.0) ⊛ (‵ u ⊛ ‵ ftrue)))) ⊛ ‵ (owns (types_at En.signature.params κs) a y.0.4)) ∷ raw (fact 𝓤 (Incl τ T.lives)) ∷ raw (fact 𝓤 (Incl κs.1.1.1.0 S.lives)) ∷ ‵ ftrue ∷ []) ∵
     split ! $ split ! $ move ! (1 ∷ []) $ split3 ! $ move ! (4 ∷ []) $ fsplit ! $ fsplit3 ! $
-    -- [its place; its value; its borrow; nothing; β; τ; the others; κ; T lives; ..]
+    -- context: [its place; its value; its borrow; nothing; β; τ; the others; κ; T lives; ..]
     keep ! (1 ∷ 2 ∷ 7 ∷ 4 ∷ 5 ∷ 6 ∷ 8 ∷ []) $
     enter ! 𝓣.C 𝓣.Λ fn (vptr b o ∷ []) Post $ alloc_all ! (λ l. pass_all ! refl ((tt, tt), tt) $ let Ev = env fn.locals l in
     use3 𝓛 (later (some (λ (δ : GName). ‵ (fobs δ (P.coded.code h.writer)) ⊛ ‵ (fbor κ (Body (in_memory P) b (o + 0) δ)) ⊛ ‵ (flft κ q) ⊛ ‵ (follows G P γ δ (put ℓ T S LT LS h))))) (hands ℓ T S LT LS 𝓛 h κ q γ b o) $ await ! tt $ pick ! (λ δ. split ! $ move ! (1 ∷ []) $ split3 ! $
     let m' : MutBor P.Denot = record { ref_ptr = (b, o + 0); ghost_name = δ; now = h.writer } in
     let yc : C.Ghost = ((κs', qs', (bounds.0, (bounds.1.0, (⊑_static κ, (bounds.1.0, (bounds.1.1.1.0, tt))))), (m', tt), (vptr b (o + 0) ∷ [], tt)), tt) in
     move ! (3 ∷ 0 ∷ []) $ feq_i ! (List Val) (mut_vals m') (mut_vals m') refl $ fjoin3 ! $ nothing ! $ move ! (1 ∷ 0 ∷ []) $ fjoin ! $
-    -- [the argument; κ; what follows; β; τ; the others; T lives; ..]
+    -- context: [the argument; κ; what follows; β; τ; the others; T lives; ..]
     move ! (6 ∷ []) $ heard ! (Incl τ T.lives) (λ lives. move ! (4 ∷ []) $ use1 𝓛 (‵ here ⊛ ‵ rest) (𝓛.lfts.lft_split τ s) $ split ! $
     move ! (1 ∷ []) $ use1 𝓛 (‵ its_rule ⊛ ‵ more) (𝓛.lfts.lft_split τ (other s)) $ split ! $ move ! (1 ∷ []) $ use1 𝓛 (‵ its_key ⊛ ‵ its_second) (𝓛.lfts.lft_split τ (other (other s))) $ split ! $
-    -- [τ of the key; of the second word; of the rule; of the value; the argument; κ; what follows; β; the others; ..]
+    -- context: [τ of the key; of the second word; of the rule; of the value; the argument; κ; what follows; β; the others; ..]
     nothing ! $ move ! (2 ∷ 0 ∷ []) $ fjoin ! $ move ! (1 ∷ 0 ∷ []) $ fjoin ! $ move ! (1 ∷ 0 ∷ []) $ fjoin ! $ use0 𝓛 (‵ (flft [] full_share)) (𝓛.lfts.lft-nil full_share) $ fjoin ! $
     move ! (1 ∷ 0 ∷ []) $ fjoin ! $ move ! (4 ∷ 0 ∷ []) $ fjoin ! $ move ! (2 ∷ 0 ∷ []) $ fjoin ! $ join ! $
-    -- [tokens and argument; what follows; the others; ..]
+    -- context: [tokens and argument; what follows; the others; ..]
     nothing ! $ use0 𝓛 (raw (fact 𝓤 (Incl τ U.lives))) (fact_i 𝓤 (Incl τ U.lives) (emp 𝓤) (trace_within τ T.lives lives)) $ join ! $ use0 𝓛 (raw (fact 𝓤 (Incl τ K.lives))) (fact_i 𝓤 (Incl τ K.lives) (emp 𝓤) (permit_within τ T.lives lives)) $ join ! $ use0 𝓛 (raw (fact 𝓤 (Incl τ Y.lives))) (fact_i 𝓤 (Incl τ Y.lives) (emp 𝓤) (twice τ T.lives lives)) $ join ! $ use0 𝓛 (raw (fact 𝓤 (Incl [] W.lives))) (fact_i 𝓤 (Incl [] W.lives) (emp 𝓤) (⊑_static [])) $ join ! $
     use0 𝓛 (raw (fact 𝓤 (Incl τ T.lives))) (fact_i 𝓤 (Incl τ T.lives) (emp 𝓤) lives) $ join ! $ move ! (1 ∷ 0 ∷ []) $ join ! $ use1 𝓛 (raw (C.pre yc)) (id⊢ 𝓤 (C.pre yc)) $
     sets ! (addr ! (through ! refl (fld ! starts (stop !)))) refl (tt, tt) $
@@ -135,10 +135,10 @@ deref_mut_spec {M} 𝓤 𝓛 𝓜 𝓡 wired T S LT LS =
     some (λ (ws : Unit {0} × Unit {0}). ‵ (fsep ftrue ftrue) ⊛ (‵ (follows P R δ r.ghost_name (with_value h.writer)) ⊛ raw (fact 𝓤 (r.now ≡ h.writer.value))))))) (id⊢ 𝓤 (C.post yc v)) $
     await ! tt $ pick ! (λ r. split ! $ split ! $ move ! (1 ∷ []) $ fsplit3 ! $ feq_l ! (λ e. move ! (3 ∷ []) $ pick ! (λ ws. split3 ! $ drop ! $ move ! (5 ∷ 0 ∷ []) $
     use2 𝓛 (‵ (follows G R γ r.ghost_name (write_with h))) (follows_then 𝓛 G P R (put ℓ T S LT LS h) (with_value h.writer) γ δ r.ghost_name) $
-    -- [what follows; the value; its place; its borrow; the tokens; the others; ..]
+    -- context: [what follows; the value; its place; its borrow; the tokens; the others; ..]
     move ! (4 ∷ []) $ split3 ! $ move ! (2 ∷ []) $ split3 ! $ move ! (2 ∷ []) $ split ! $ move ! (1 ∷ []) $ fsplit3 ! $
     use2 𝓛 (‵ more) (𝓛.lfts.lft_join τ (other (other s))) $ move ! (2 ∷ 0 ∷ []) $ use2 𝓛 (‵ rest) (𝓛.lfts.lft_join τ (other s)) $ move ! (2 ∷ 0 ∷ []) $ use2 𝓛 (‵ (flft τ s)) (𝓛.lfts.lft_join τ s) $ move ! (1 ∷ []) $ drop ! $ move ! (1 ∷ []) $ drop ! $
-    -- [τ; κ; β; what follows; the value; its place; its borrow; the others; ..]
+    -- context: [τ; κ; β; what follows; the value; its place; its borrow; the others; ..]
     move ! (0 ∷ 7 ∷ []) $ join ! $ move ! (2 ∷ 0 ∷ []) $ join ! $ move ! (1 ∷ 0 ∷ []) $ join ! $
     move ! (3 ∷ 4 ∷ []) $ feq_i ! (List Val) (mut_vals r) (mut_vals r) refl $ fjoin3 ! $ move ! (2 ∷ 3 ∷ []) $ join ! $ nothing ! $ nothing ! $ fjoin ! $
     lands_as ! (ap (λ (us : List Val). get_or us 0 vunit) e) refl (tt, tt) $ returns ! (look_at ! 0 refl) $ free_all ! refl $ keep ! (3 ∷ 0 ∷ 2 ∷ 1 ∷ []) $

@@ -4,7 +4,7 @@ use Rattle.spin_ticket.specs.Accounts.{Spot, here}
 use Rattle.spin_ticket.specs.Queue.{model}
 use Rattle.spin_ticket.proofs.ticket.waiting.Place.wait.Given as goal
 
--- it is still in the call in which it began to wait
+-- the party is still in the call in which it began to wait
 abbrev pub invariant-loop : goal.invariant-loop
 invariant-loop g l =
     (goal.iterator-loop g).can_next l.iterator' × (goal.iterator-loop g).is_finite l.iterator'
