@@ -114,7 +114,8 @@ pub fn a_refused_starve_found_as_many_as_may_starve<T>()
 /// moment of the call.
 ///
 /// # Contract
-/// `Found`: at a moment of the call the plain lock passed the test `is_held`, or for `try_lock_fair` had two starvers.
+/// `Found`: at a moment of the call the plain lock passed the test `is_held`. For `try_lock_fair` it may instead have
+/// had two or more starvers.
 pub fn a_refused_starver_was_kept_out_at_a_moment<T>()
     ensures try_lock { (opening : T) → Found (fair_mutex.model opening) FairMutexView fair.StarverTryLock Refused (Was is_held true) }
     ensures try_lock_fair { (opening : T) → Found (fair_mutex.model opening) FairMutexView fair.StarverTryLockFair Refused (λ s.

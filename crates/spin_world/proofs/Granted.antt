@@ -21,7 +21,7 @@ module _ {V : Type 0} (v : V) (cap patience : ℕ) where
   abbrev m : Machine ℕ V FairCall FairPoint (Answer V)
   m = fair_machine v cap patience
 
-  -- at any other point a party does not hold, or is no starver
+  -- a party in a call that holds the lock and is a starver is at the point `Unregister`
   leaves_at : (p : ℕ) (c : FairCall) (l : FairPoint) (h : Option Hold)
       → StandsSo (fair_notes v cap patience) holds_starving p c l h → l ≡ Unregister
   leaves_at p c l h both = grind (arith, both)

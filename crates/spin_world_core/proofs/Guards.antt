@@ -33,7 +33,7 @@ pub record KeepsGuard {W V C L A B : Type 0} {t : Table W V C L A} {m : Machine 
   pub steps : (c : C) (l : L) (h : Hold) (w : W) (v : Option V) → keeps c ≡ true → may_read h ≡ true → ReadsOn (m.step w v c l (Some h)).next
   pub refuses : (c : C) (l : L) (h : Hold) (next : Next L B) → keeps c ≡ true → may_read h ≡ true → m.refuse c l (Some h) ≡ Some next → ReadsOn next
 
--- the party has a guard (or is gone), and the value last written is still the one that it found under this guard
+-- the party is gone, or it has a guard and the value last written is still the one that it found under this guard
 abbrev Guard : {V C L : Type 0} → GuardedRead C V → Option V → Option (Seat C L) → Type 0
 Guard r w (Some (Calling c l (Some h))) = (r.keeps c ≡ true) × (may_read h ≡ true) × (w ≡ r.value)
 Guard r w (Some (Holding h)) = (may_read h ≡ true) × (w ≡ r.value)

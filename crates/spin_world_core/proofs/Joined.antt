@@ -55,7 +55,7 @@ length-with_begins : {W V A : Type 0} (before xs : List (Event W V A)) → lengt
 length-with_begins before [] = refl
 length-with_begins before (x ∷ xs) = ap suc (length-with_begins (before ++ x ∷ []) xs)
 
--- the events of a run that starts after other events, and tells places from its own start
+-- the events of a run that starts after other events and tells places from its own start
 with_begins_from : {W V A : Type 0} (xs before ys : List (Event W V A)) → with_begins before ys ≡ map (event_from (length xs)) (with_begins (xs ++ before) ys)
 with_begins_from xs before [] = refl
 with_begins_from xs before (y ∷ ys) =

@@ -33,7 +33,7 @@ Spends (changes_within n) k p span = own p span ≡ [] → own_count p span ≤ 
 Spends _ k p span = Unit {0}
 
 -- A step with this result may raise the number of spent steps from j to k. The list has the plain steps made by then,
--- and the span includes this step. If the limit is to register in time, the object itself shows that the call does.
+-- and the span includes this step. If the limit is `registers_after`, the object itself shows that the call keeps it.
 abbrev pub MaySpend : Limit → Branch → List Change → ℕ → ℕ → ℕ → LockKind → List Mark → Type 0
 MaySpend (within n) t cs j k p kind span = nat_lt j k ≡ true
 MaySpend (within_changes n) loses cs j k p kind span = nat_lt j (suc k) ≡ true
@@ -46,7 +46,7 @@ MaySpend (changes_within n) t [] j k p kind span = nat_lt j k ≡ true
 MaySpend (registers_after n i) t cs j k p kind span = ContinuesWithin (registers_after n i) kind p span
 MaySpend _ t cs j k p kind span = Unit {0}
 
--- A try that has found its plain step closed does not continue. A try continues by a step that just goes on only as
+-- A try that has found its plain step closed does not continue. By a step with the result `goes` a try continues only as
 -- `MayTryOn` allows.
 abbrev pub MayContinue : Option Ask → Branch → Option Change → ℕ → Plain → List Mark → Type 0 → Type 0
 MayContinue (Some ask) (misses c) step p s span Spend = ⊥
@@ -79,7 +79,7 @@ module _ (p : ℕ) (s : Plain) (step : Option Change) (r : StepKind) (span : Lis
 pub goes_within : (what : Limit) (kind : LockKind) (t : Branch) (cs : List Change) (j k p : ℕ) (span : List Mark) → own p span ≡ cs → is_timely what cs k ≡ true → failures p span ≤ changes kind p span → MaySpend what t cs j k p kind span → Spends what k p span → ContinuesWithin what kind p span
 goes_within what kind t cs j k p span is timely retries may spent = grind (arith, spent)
 
--- what the object has to show of the time of a call that is answered: only for a limit to register in time
+-- what the object has to show of the limit of a call that is answered: nothing, unless the limit is `registers_after`
 abbrev pub OwesEnd : Limit → LockKind → ℕ → List Mark → Type 0
 OwesEnd (registers_after n i) kind p span = EndsWithin (registers_after n i) kind p span
 OwesEnd _ kind p span = Unit {0}

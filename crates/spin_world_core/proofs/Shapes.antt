@@ -11,7 +11,7 @@ pub record CallOf (W L A : Type 0) : Type 1 where
   pub point : L → Option Hold → Point
   pub Knows : L → Option Hold → ℕ → Plain → List Mark → Type 0
 
--- A retry that lost has found a number that the step function does not refuse. For a limit to register in time, this
+-- A retry that lost has found a number that the step function does not refuse. If the limit is `registers_after`, this
 -- number also differs from the expected one.
 abbrev pub FindsAnother : Limit → Bool → Bool → Type 0
 FindsAnother (registers_after n i) same some = (same ≡ false) × (some ≡ true)

@@ -114,7 +114,7 @@ impl<O: Object, A: Allocator + Copy> World<O, A> {
     pub fn place(&self, party: usize) -> Option<Place>
         ensures place { result ≡ option_map place_of (slice_get self.now.state.seats party) }
 
-        // The party's moves have led to this place, and the party's entries in the plain lock are those that it
+        // The party's moves have led to this place. The party's entries in the plain lock are those that the place
         // implies.
         ensures says { SaysAfterAnyPast (O.machine self.now.object) self.now.state party result }
     {

@@ -176,7 +176,7 @@ module _ {W V C L A B : Type 0} {t : Table W V C L B} {given : Machine W V C L A
   Pays seen l n es q = (load seen l q ≤ n) ⊎ ((load seen l q ≤ suc n) × (occurs m (awaited q (seat_of seen q)) seen.state es ≡ true))
 
   module _ (walks : Walks) (seen : World) (l : L) (w : Waits seen l) (n : ℕ) (es : Turn) where
-    -- the same from before an event, whose own move may be the awaited one
+    -- the same, as it is before the event `sc`, whose move may be the party's awaited one
     abbrev Pays_by : Event → ℕ → Type 0
     Pays_by sc q =
         let o = seat_of seen q in

@@ -133,8 +133,7 @@ pub fn an_upgrade_is_never_starved<V: Copy>()
 
 /// States how soon some party is granted what it asks while a party that holds nothing waits. This takes at most six
 /// rounds, or some exchange fails spuriously. The number of rounds depends on the holders (`rounds_beside`). The cap
-/// has
-/// to be at least 1.
+/// has to be at least 1.
 ///
 /// The number of readers does not matter, since all readers leave in the same round.
 pub fn somebody_is_granted_in_the_rounds_of_the_holders<V: Copy>()

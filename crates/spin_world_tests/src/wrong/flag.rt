@@ -27,7 +27,7 @@ pub fn a_holder_may_release<V: Copy>()
     ensures { (value : V) → Stepwise (never_releases value) → ⊥ }
 {}
 
-/// A flag whose `lock` asks to read. To be granted that, it would have to make a plain step that no flag makes.
+/// A flag whose `lock` asks to read. Such a grant needs a plain step that no flag makes.
 pub fn a_lock_asks_what_a_flag_grants<V: Copy>()
     ensures { (value : V) → Stepwise (locks_to_read value) → ⊥ }
 {}
