@@ -39,7 +39,7 @@ two_numbers a b f g = record { numbers = λ w. a w ∷ b w ∷ []; put = put_in_
 abbrev pub number_at : {W : Type 0} → Memory W → ℕ → W → ℕ
 number_at m i w = get_or (m.numbers w) i 0
 
--- The shape of a step of a call on one word. `f` is a step function: it gives the next number for the number found, or none. `step` is the
+-- The shape of a step that works on one word. `f` is a step function: it gives the next number for the number found, or none. `step` is the
 -- plain step that the party makes if its operation succeeds.
 pub data Act (W L A : Type 0) : Type 0 where
   load : (ℕ → Next L A) → Act W L A
@@ -47,7 +47,7 @@ pub data Act (W L A : Type 0) : Type 0 where
   load_if : (ℕ → Bool) → (ℕ → Next L A) → (ℕ → Next L A) → Act W L A
   -- a load; whether the step function gives a next number decides how the call goes on
   load_for : (ℕ → Option ℕ) → (ℕ → Change) → (ℕ → Next L A) → Next L A → Act W L A
-  -- a load; if the number passes the test, the party makes the plain step, and otherwise the plain step is closed
+  -- a load; if the number passes the test, the party makes the plain step; if not, the plain step is not open
   enter : (ℕ → Bool) → (ℕ → Change) → Next L A → Next L A → Act W L A
   -- an operation that may fail; if it fails, the plain step is closed
   exchange : Operation → (ℕ → Change) → Next L A → (ℕ → Next L A) → Act W L A

@@ -1,4 +1,4 @@
-//! The calls of the lock of one flag, and their points. Begin with [`FlagCall`].
+//! The calls of the lock of one flag, and the points that a call reaches between its steps. Begin with [`FlagCall`].
 /// A call of a `Flag`. `Flag::new` of `spin_world` promises that each call does what its comment says.
 #[derive(Copy)]
 pub enum FlagCall {

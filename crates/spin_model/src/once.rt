@@ -1,4 +1,4 @@
-//! The calls of a `Once`, and their points. Begin with [`OnceCall`].
+//! The calls of a `Once`, and the points that a call reaches between its steps. Begin with [`OnceCall`].
 /// A call of a `OnceObject`. `OnceObject::new` of `spin_world` promises that each call does what its comment
 /// says.
 ///
@@ -8,7 +8,7 @@
 pub enum OnceCall<V> {
     /// Runs a closure that gives this value.
     CallOnce(V),
-    /// Runs a closure that may fail, and gives this value.
+    /// Runs a closure that could fail, but gives this value.
     TryCallOnceOk(V),
     /// Runs a closure that fails.
     TryCallOnceErr,
@@ -16,11 +16,11 @@ pub enum OnceCall<V> {
     InitFromRef(V),
     /// Waits for the value.
     Wait,
-    /// Answers the value, or that there is none. It waits while a closure runs.
+    /// Returns the value, or says that there is none. It waits while a closure runs.
     Poll,
-    /// Answers the value, or that there is none, without waiting.
+    /// Returns the value, or says that there is none, without waiting.
     Get,
-    /// Answers whether there is a value.
+    /// Says whether there is a value.
     IsCompleted,
 }
 

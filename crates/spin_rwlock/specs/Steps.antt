@@ -70,7 +70,7 @@ module _ {T P S : Type 0} where
   abbrev pub MakesWriter : OneCourse T → Party T P S → Watch (Done T) → Writer T P S → Watch (Done T) → Type 0
   MakesWriter course it seen it' seen' = Knows it seen → KnowsWriter it' seen' × (seen'.name ≡ seen.name) × Moves it.key.value course it.view seen.entries (Some it'.view) seen'.entries
 
-  -- like `Makes`, for a step by which a writer ends: the party has written the value that it leaves, and then made this call
+  -- like `Makes`, for a step after which the party no longer writes: it has recorded its value, and then made this call
   abbrev pub EndsWriting : RwCall → Writer T P S → Watch (Done T) → Party T P S → Watch (Done T) → Type 0
   EndsWriting call it seen it' seen' =
       KnowsWriter it seen → Knows it' seen' × (seen'.name ≡ seen.name) × Wrote it.key.value (λ x. it.key.told ≡ true → x ≡ it.value) call (Some it.view) seen.entries it'.view seen'.entries

@@ -38,7 +38,7 @@ pub fn a_call_of_a_ticket_mutex_keeps_its_limit<T>()
     ensures { (key : ticket_mutex.Key T) → KeepsLimits (ticket_mutex.model key) TicketMutexView }
 {}
 
-/// By a pass of a `FairMutex`, a newcomer's try takes one step, and a starver's try at most two. `starve` takes at most
+/// Of a pass of a `FairMutex`, a newcomer's try takes one step, and a starver's try at most two. `starve` takes at most
 /// two, and one more for each change of the word by others meanwhile. An `is_locked` and a release take one.
 ///
 /// # Contract
@@ -47,7 +47,7 @@ pub fn a_call_of_a_fair_mutex_keeps_its_limit<T>()
     ensures { (opening : T) → KeepsLimits (fair_mutex.model opening) FairMutexView }
 {}
 
-/// By a pass of an `RwLock`, a try to read takes at most two steps, and one more for each change of the word by others
+/// Of a pass of an `RwLock`, a try to read takes at most two steps, and one more for each change of the word by others
 /// meanwhile. Any other try, a count, a downgrade and a release take one step.
 ///
 /// # Contract
@@ -56,7 +56,7 @@ pub fn a_call_of_a_rwlock_keeps_its_limit<T>()
     ensures { (opening : T) → KeepsLimits (rwlock.model opening) RwLockView }
 {}
 
-/// By a pass of a `Seats`, a try takes at most two steps, and one more for each change of the word by others meanwhile.
+/// Of a pass of a `Seats`, a try takes at most two steps, and one more for each change of the word by others meanwhile.
 /// A count and a release take one step.
 ///
 /// # Contract

@@ -14,7 +14,7 @@ pub record Queue (s : Plain) : Type 0 where
 abbrev pub Stood : List Mark → Type 0
 Stood span = AnyOf (λ m. is_empty m.before.tickets ≡ false) span
 
--- the number k is served now, or before some step of the span some party had a ticket
+-- some party had a ticket before some step of the span, or k is the number served now
 abbrev pub Stays : ℕ → Plain → List Mark → Type 0
 Stays k s span = Stood span ⊎ (serving_word s ≡ k)
 

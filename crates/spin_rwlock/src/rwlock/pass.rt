@@ -33,13 +33,13 @@ use std::sync::Wait;
 /// of others. A pass is as large as a reference to the lock. It can be sent, and a lock can have any number of passes.
 ///
 /// # Contract
-/// A call takes the pass, or a guard with what the pass knew when it got the guard, and returns either of them. The
-/// call ensures `Called`: among the new moves of the history, the pass's own moves are those of exactly one call, which
-/// has the returned answer. In the lock's model this call gets this answer, at its place among the moves of all
-/// threads. No move of the history is skipped.
+/// A call takes the pass, or a guard with what the pass knew when it acquired the guard. It returns the pass or a
+/// guard. The call ensures `Called`: among the new moves of the history, the pass's own moves are those of exactly one
+/// call, which has the returned answer. The lock's model plays the moves of all threads in the order of the history.
+/// It skips no move, and gives this call the same answer.
 ///
-/// A writer that releases or downgrades writes the value that it leaves into the history first (`Wrote`). So the value
-/// of a guard is the one written last there, until the owner borrows it by `get_mut` (`found`).
+/// Before a writer releases or downgrades, it records its value in the history (`Wrote`). So the value of a guard is
+/// the one written last there, until the owner borrows it by `get_mut` (`found`).
 ///
 /// # Examples
 /// ```

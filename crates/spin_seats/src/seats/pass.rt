@@ -24,8 +24,8 @@ use std::sync::Wait;
 ///
 /// # Contract
 /// Each call takes the pass, and ensures `Called`: the history has grown, and among the new moves those of
-/// this pass are exactly one call with the returned answer. The lock's model gives the same answer to this
-/// call, at its place among the moves of all threads. The model skips no move of the history.
+/// this pass are exactly one call with the returned answer. The lock's model plays the moves of all threads in the
+/// order of the history. It skips no move, and gives this call the same answer.
 ///
 /// # Examples
 /// ```

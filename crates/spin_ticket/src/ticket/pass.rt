@@ -33,8 +33,8 @@ use std::sync::Wait;
 ///
 /// # Contract
 /// Each call takes the pass and returns it. The call ensures `Called`: among the new moves of the history, the pass's
-/// own moves are those of exactly one call, which has the returned answer. In the lock's model this call gets this
-/// answer, at its place among the moves of all threads. No move of the history is skipped.
+/// own moves are those of exactly one call, which has the returned answer. The lock's model plays the moves of all
+/// threads in the order of the history. It skips no move, and gives this call the same answer.
 ///
 /// # Examples
 /// ```
