@@ -6,6 +6,7 @@ use Rattle.spin_model.specs.declared.place.Hold.TheVariants as hold
 use Rattle.spin_step_more.specs.declared.rw_calls.RwCall.TheVariants.{TryUpgrade}
 use Rattle.spin_step_more.specs.declared.rw_calls.RwCall.{RwCall}
 use Rattle.spin_step_more.specs.declared.rw_calls.RwPoint.{RwPoint}
+use Rattle.spin_step_more.specs.declared.rw_calls.RwPoint.TheVariants.{First}
 use Rattle.spin_world_core.specs.Runs.{Seen}
 use Rattle.spin_world_core.proofs.Shapes.{InCall}
 use Rattle.spin_step_more.specs.Readers.{reader_limit}
@@ -20,8 +21,8 @@ not_alone s p mine closed = grind (arith, holder_by p upgradable s mine, closed)
 -- a party that tries to upgrade is an upgradable reader
 stands : {T : Type 0} (opening : T) (p : ℕ) (l : RwPoint) (h : Option Hold) (seen : Seen ℕ T RwCall RwPoint)
     → InCall (rw_notes opening reader_limit) p TryUpgrade l h seen.plain seen.state.words (seen.span p) → entries p seen.plain ≡ entries_at p (holds upgradable)
-stands opening p l (Some hold.Upgradable) seen call = call.knows.0.stand
-stands opening p l _ seen call = absurd call.knows
+stands opening p First (Some hold.Upgradable) seen call = call.knows.0.stand
+stands opening p _ _ seen call = absurd call.knows
 
 pub returns : goal.returns
 returns g c = λ opening.
