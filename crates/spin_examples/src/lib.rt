@@ -1,4 +1,4 @@
-//! The examples that the pages print: callers of `spin`, and of `spin_history` where a log is kept.
+//! The examples that the pages print: callers of the locks, and of `spin_history` where a log is kept.
 //!
 //! Begin with [`from_rust`].
 #![tactic(auto)]

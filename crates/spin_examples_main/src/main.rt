@@ -1,8 +1,8 @@
 //! Eight threads count under one lock.
 #![tactic(auto)]
 
-use spin::Yield;
-use spin::mutex::Mutex;
+use spin_core::relax::Yield;
+use spin_mutex::mutex::Mutex;
 use std::{io, thread};
 
 fn main(rt: HostRuntime) -> io::Result<()> {

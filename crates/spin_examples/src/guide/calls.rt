@@ -2,15 +2,15 @@
 #![tactic(auto)]
 
 ghost use Rattle.std.specs.Prelude.{◌≡◌, ◌⊎◌};
-ghost use Rattle.spin.specs.Passes.{history, lock_of, name_of, HeldOnce};
+ghost use Rattle.spin_flag.specs.Passes.{history, lock_of, name_of, HeldOnce};
 ghost use mathlib.Core.List.{IsPrefix};
 
-use spin::Spin;
-use spin::mutex::SpinMutex;
+use spin_core::relax::Spin;
+use spin_flag::spin::{self, SpinMutex};
 use std::sync::Wait;
 use std::thread::{Threads, join};
 
-type Pass<'a> = spin::mutex::spin::Pass<'a, u64, Spin>;
+type Pass<'a> = spin::Pass<'a, u64, Spin>;
 
 /// Adds 1. The new calls of the pass are one `lock` and its release.
 pub fn add<'a, W: Wait>(rt: &W, pass: Pass<'a>) -> Pass<'a>

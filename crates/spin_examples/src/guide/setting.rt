@@ -3,8 +3,7 @@
 
 ghost use Rattle.std.specs.Prelude.{◌≤◌};
 
-use spin::LazyLock;
-use spin::lazylock::Makes;
+use spin_once::lazylock::{LazyLock, Makes};
 use std::sync::Wait;
 
 /// A number of workers, from 1 to 64.

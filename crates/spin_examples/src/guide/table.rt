@@ -1,7 +1,7 @@
 //! A table that several threads read at once. A thread that finds no entry inserts one.
 #![tactic(auto)]
 
-use spin::RwLock;
+use spin_rwlock::rwlock::RwLock;
 use std::alloc::AllocFailed;
 use std::collections::BTreeMap;
 use std::sync::Wait;

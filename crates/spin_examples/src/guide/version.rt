@@ -3,10 +3,10 @@
 
 ghost use Rattle.std.specs.Prelude.{◌≤◌};
 
-use spin::RwLock;
 use spin_history::growing::{Ascending, Growing};
 use spin_history::history::{BlankLog, History, Snapshot, Work, open};
 use spin_history::register;
+use spin_rwlock::rwlock::RwLock;
 use std::sync::Wait;
 
 type Version<H> = RwLock<Growing<u64, Ascending, H>>;

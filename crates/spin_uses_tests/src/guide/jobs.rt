@@ -3,7 +3,7 @@
 
 ghost use Rattle.std.specs.Prelude.{◌≤◌, length};
 
-use spin::Mutex;
+use spin_mutex::mutex::Mutex;
 use std::collections::VecDeque;
 use std::sync::Wait;
 

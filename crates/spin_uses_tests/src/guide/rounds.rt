@@ -1,7 +1,8 @@
 //! Rounds of threads. In each round every thread adds to the result, and one of them folds it.
 #![tactic(auto)]
 
-use spin::{Barrier, Mutex};
+use spin_barrier::barrier::Barrier;
+use spin_mutex::mutex::Mutex;
 use std::sync::Wait;
 use std::thread;
 
