@@ -5,7 +5,7 @@ use spin_core::relax::Yield;
 use spin_flag::spin::SpinMutex;
 use std::sync::Wait;
 
-/// Adds one. At the largest number it stays there.
+/// Adds one, unless the counter has the largest number.
 pub fn count<W: Wait>(rt: &W, counter: &SpinMutex<u64, Yield>) {
     let mut guard = counter.lock(rt);
     *guard = guard.saturating_add(1);
