@@ -12,7 +12,7 @@ use Rattle.spin_core.specs.contracts.cell.Cell.new.{ended, clauses}
 use Rattle.spin_core.specs.contracts.cell.Cell.new.Key.{name as #self}
 use Rattle.spin_core.proofs.cell.Cell.new.Statement.{statement}
 use Rattle.spin_core.proofs.cell.Cell.new.Code as code
-use Rattle.spin_core.proofs.WalkSteps.{all_dropped, all_go}
+use Rattle.spin_core.proofs.Walking.{all_dropped, all_go}
 
 pub new_spec : {M : Type 1} → statement M
 new_spec 𝓤 𝓛 𝓜 𝓡 wired X U P K S L _ _ _ LS g d _ =
