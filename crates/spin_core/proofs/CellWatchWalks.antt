@@ -225,12 +225,8 @@ module _ {M : Type 1} {𝓤 : Ura M} (𝓛 : Logic 𝓤) (𝓜 : Model 𝓤 𝓛
     }
 
     -- what the machine's step on this word asks
-    abbrev Asked : Ptr → (ℕ → ℕ) → Type 1
-    Asked at f = (k : Entry) → A.inv (Inv k) ∗ ⟦ alive k ⟧ ∗ ⟦ fsep (Mine k) (Known seen) ⟧ ⊢ asks 𝓛 at f always (left k)
-
-    asks_first : (f : ℕ → ℕ) → MayKnow (g.holds h.key) ways seen × Traces (g.holds h.key) ways h.view h.value f told → Asked (block_ptr b (o + 0)) f
-    asks_first f asked k =
-        steps.first_steps 𝓛 Er Ur R LR.shr_laws b o k.1.0 W.coded (g.holds h.key) ways h.view h.value told k.1.1 f seen.name seen.entries asked.0 asked.1
+    pub record Asked (at : Ptr) (f : ℕ → ℕ) : Type 1 where
+      pub step : (k : Entry) → A.inv (Inv k) ∗ ⟦ alive k ⟧ ∗ ⟦ fsep (Mine k) (Known seen) ⟧ ⊢ asks 𝓛 at f always (left k)
 
     module _ {K : Type 0} {Γ : List (Item 𝓤)} {G : Goal 𝓤 𝓛.H} where
       opens_at : K → Soaks G → Incl τ R.lives → (at : Ptr) (f : ℕ → ℕ) → Asked at f
@@ -239,73 +235,45 @@ module _ {M : Type 1} {𝓤 : Ura M} (𝓛 : Logic 𝓤) (𝓜 : Model 𝓤 𝓛
       opens_at t z le at f can go =
           use3 𝓛 (later (some (λ (k : Entry). ‵ (finv (Inv k)) ⊛ ‵ (alive k) ⊛ ‵ (Mine k) ⊛ raw (back k)))) (enters le) $ await t z $
           pick t (λ k. split3 t $ move t (2 ∷ []) $ split t $ move t (0 ∷ 4 ∷ []) $ fjoin t $ move t (2 ∷ 3 ∷ 0 ∷ []) $
-          use3 𝓛 (raw (asks 𝓛 at f always (left k))) (can k) $ go k)
+          use3 𝓛 (raw (asks 𝓛 at f always (left k))) (can.step k) $ go k)
 
       -- A permit is opened for a step that finds a number.
-      opens : K → Soaks G → Incl τ R.lives → (at : Ptr) (f : ℕ → ℕ) → Asked at f
+      pub opens : K → Soaks G → Incl τ R.lives → (at : Ptr) (f : ℕ → ℕ) → Asked at f
           → ((leaves : ℕ → Fml) (rest : SProp 𝓤) → Closes leaves rest → Seq K 𝓛 (raw (asks 𝓛 at f always leaves) ∷ raw rest ∷ Γ) G)
           → Seq K 𝓛 (‵ (Owned h.view h.value) ∷ ‵ (flft β q) ∷ ‵ (flft τ r) ∷ ‵ (Known seen) ∷ Γ) G
       opens t z le at f can go = opens_at t z le at f can (λ k. go (left k) (back k) (closes_found k))
-
-      -- the same for a step on the first word
-      pub opens_first : K → Soaks G → Incl τ R.lives → (f : ℕ → ℕ) → MayKnow (g.holds h.key) ways seen × Traces (g.holds h.key) ways h.view h.value f told
-          → ((leaves : ℕ → Fml) (rest : SProp 𝓤) → Closes leaves rest → Seq K 𝓛 (raw (asks 𝓛 (block_ptr b (o + 0)) f always leaves) ∷ raw rest ∷ Γ) G)
-          → Seq K 𝓛 (‵ (Owned h.view h.value) ∷ ‵ (flft β q) ∷ ‵ (flft τ r) ∷ ‵ (Known seen) ∷ Γ) G
-      opens_first t z le f asked = opens t z le (block_ptr b (o + 0)) f (asks_first f asked)
 
   -- The same for a step that finds no number.
   module _ (b o : ℕ) (h : Hr.Denot) (q : Share) (τ : Lft) (r : Share) (seen : Watch Er.Denot) (told : List Er.Denot → List Er.Denot → W.Denot → Type 0) where
     abbrev Told : List Er.Denot → List Er.Denot → ℕ → W.Denot → Type 0
     Told log es _ = told log es
 
-    module _ {K : Type 0} {Γ : List (Item 𝓤)} {G : Goal 𝓤 𝓛.H} where
-      opens_store : K → Soaks G → Incl τ R.lives → (at : Ptr) (f : ℕ → ℕ) → Asked b o h q τ r seen Told at f
-          → ((leaves : Fml) (rest : SProp 𝓤) → Stores b o h q τ r seen Told leaves rest → Seq K 𝓛 (raw (asks 𝓛 at f always (λ _. leaves)) ∷ raw rest ∷ Γ) G)
-          → Seq K 𝓛 (‵ (Owned b o h q τ r seen Told h.view h.value) ∷ ‵ (flft β q) ∷ ‵ (flft τ r) ∷ ‵ (Known seen) ∷ Γ) G
-      opens_store t z le at f can go = opens_at b o h q τ r seen Told t z le at f can
-          (λ k. go (left b o h q τ r seen Told k 0) (back b o h q τ r seen Told k) (closes_stored b o h q τ r seen Told k))
+    pub opens_store : {K : Type 0} {Γ : List (Item 𝓤)} {G : Goal 𝓤 𝓛.H} → K → Soaks G → Incl τ R.lives → (at : Ptr) (f : ℕ → ℕ)
+        → Asked b o h q τ r seen Told at f
+        → ((leaves : Fml) (rest : SProp 𝓤) → Stores b o h q τ r seen Told leaves rest → Seq K 𝓛 (raw (asks 𝓛 at f always (λ _. leaves)) ∷ raw rest ∷ Γ) G)
+        → Seq K 𝓛 (‵ (Owned b o h q τ r seen Told h.view h.value) ∷ ‵ (flft β q) ∷ ‵ (flft τ r) ∷ ‵ (Known seen) ∷ Γ) G
+    opens_store t z le at f can go = opens_at b o h q τ r seen Told t z le at f can
+        (λ k. go (left b o h q τ r seen Told k 0) (back b o h q τ r seen Told k) (closes_stored b o h q τ r seen Told k))
 
-      pub stores_first : K → Soaks G → Incl τ R.lives → (f : ℕ → ℕ) → MayKnow (g.holds h.key) (g.ways h.key) seen × Traces (g.holds h.key) (g.ways h.key) h.view h.value f Told
-          → ((leaves : Fml) (rest : SProp 𝓤) → Stores b o h q τ r seen Told leaves rest → Seq K 𝓛 (raw (asks 𝓛 (block_ptr b (o + 0)) f always (λ _. leaves)) ∷ raw rest ∷ Γ) G)
-          → Seq K 𝓛 (‵ (Owned b o h q τ r seen Told h.view h.value) ∷ ‵ (flft β q) ∷ ‵ (flft τ r) ∷ ‵ (Known seen) ∷ Γ) G
-      stores_first t z le f asked = opens_store t z le (block_ptr b (o + 0)) f (asks_first b o h q τ r seen Told f asked)
+-- a step on the first word, and one on the second word, if that is a number
+module _ {M : Type 1} {𝓤 : Ura M} {𝓛 : Logic 𝓤} {𝓜 : Model 𝓤 𝓛.H} {𝓡 : Running 𝓤 𝓛.H 𝓜} {ℓ : NamedLft} {T W Y Kr Er : RattleType} {L : Laws T}
+    {b o : ℕ} {q : Share} {τ : Lft} {r : Share} {seen : Watch Er.Denot} {told : List Er.Denot → List Er.Denot → ℕ → W.Denot → Type 0} {f : ℕ → ℕ} where
+  pub asks_first : {Ur : RattleType} {g : Ghosts Y.Denot T.Denot W.Denot Kr.Denot (trace.the_row Er Ur).Denot}
+      {h : (hand.the_row ℓ (param 0 T) W Y Kr (trace.the_row Er Ur) g).Denot}
+      → MayKnow (g.holds h.key) (g.ways h.key) seen × Traces (g.holds h.key) (g.ways h.key) h.view h.value f told
+      → Asked 𝓛 𝓜 𝓡 ℓ T W Y Kr Er Ur L g b o h q τ r seen told (block_ptr b (o + 0)) f
+  asks_first {Ur = Ur} {g} {h} asked = record {
+    step = λ k. steps.first_steps 𝓛 Er Ur (param 0 T) (param_laws 0 T L).shr_laws b o k.1.0 W.coded (g.holds h.key) (g.ways h.key) h.view h.value told
+        k.1.1 f seen.name seen.entries asked.0 asked.1;
+  }
 
--- a step on the second word, if that is a number
-module _ {M : Type 1} {𝓤 : Ura M} (𝓛 : Logic 𝓤) (𝓜 : Model 𝓤 𝓛.H) (𝓡 : Running 𝓤 𝓛.H 𝓜) (ℓ : NamedLft) (T W Y Kr Er : RattleType) (L : Laws T)
-    (g : Ghosts Y.Denot T.Denot W.Denot Kr.Denot (trace.the_row Er u64).Denot) (b o : ℕ)
-    (h : (hand.the_row ℓ (param 0 T) W Y Kr (trace.the_row Er u64) g).Denot)
-    (q : Share) (τ : Lft) (r : Share) (seen : Watch Er.Denot) where
-  -- the place of the second word
-  abbrev pub place : ℕ
-  place = (o + second_at (trace.the_row Er u64) (param 0 T)) + 0
-
-  -- what such a step must show
-  abbrev pub MayStep : (ℕ → ℕ) → (List Er.Denot → List Er.Denot → ℕ → W.Denot → Type 0) → Type 0
-  MayStep f told = MayKnow (g.holds h.key) (g.ways h.key) seen × TracesSecond (g.holds h.key) (g.ways h.key) h.view h.value f told
-
-  asks_second : (told : List Er.Denot → List Er.Denot → ℕ → W.Denot → Type 0) (f : ℕ → ℕ) → MayStep f told
-      → Asked 𝓛 𝓜 𝓡 ℓ T W Y Kr Er u64 L g b o h q τ r seen told (block_ptr b place) f
-  asks_second told f asked k =
-      steps.second_steps 𝓛 Er (param 0 T) (param_laws 0 T L).shr_laws b o k.1.0 W.coded (g.holds h.key) (g.ways h.key) h.view h.value told
-      k.1.1 f seen.name seen.entries asked.0 asked.1
-
-  module _ {K : Type 0} {Γ : List (Item 𝓤)} {G : Goal 𝓤 𝓛.H} where
-    pub opens_second : (told : List Er.Denot → List Er.Denot → ℕ → W.Denot → Type 0) → K → Soaks G → Incl τ T.lives → (f : ℕ → ℕ) → MayStep f told
-        → ((leaves : ℕ → Fml) (rest : SProp 𝓤) → Closes 𝓛 𝓜 𝓡 ℓ T W Y Kr Er u64 L g b o h q τ r seen told leaves rest
-        → Seq K 𝓛 (raw (asks 𝓛 (block_ptr b place) f always leaves) ∷ raw rest ∷ Γ) G)
-        → Seq K 𝓛 (‵ (Owned 𝓛 𝓜 𝓡 ℓ T W Y Kr Er u64 L g b o h q τ r seen told h.view h.value) ∷ ‵ (flft ℓ.lft q) ∷ ‵ (flft τ r)
-        ∷ ‵ (Known 𝓛 𝓜 𝓡 ℓ T W Y Kr Er u64 L g seen) ∷ Γ) G
-    opens_second told t z le f asked =
-        opens 𝓛 𝓜 𝓡 ℓ T W Y Kr Er u64 L g b o h q τ r seen told t z le (block_ptr b place) f (asks_second told f asked)
-
-    pub stores_second : (told : List Er.Denot → List Er.Denot → W.Denot → Type 0) → K → Soaks G → Incl τ T.lives → (f : ℕ → ℕ) → (let Told : List Er.Denot → List Er.Denot → ℕ → W.Denot → Type 0 = λ log es _. told log es in
-        MayStep f Told
-        → ((leaves : Fml) (rest : SProp 𝓤) → Stores 𝓛 𝓜 𝓡 ℓ T W Y Kr Er u64 L g b o h q τ r seen Told leaves rest
-        → Seq K 𝓛 (raw (asks 𝓛 (block_ptr b place) f always (λ _. leaves)) ∷ raw rest ∷ Γ) G)
-        → Seq K 𝓛 (‵ (Owned 𝓛 𝓜 𝓡 ℓ T W Y Kr Er u64 L g b o h q τ r seen Told h.view h.value) ∷ ‵ (flft ℓ.lft q) ∷ ‵ (flft τ r)
-        ∷ ‵ (Known 𝓛 𝓜 𝓡 ℓ T W Y Kr Er u64 L g seen) ∷ Γ) G)
-    stores_second told t z le f asked =
-        opens_store 𝓛 𝓜 𝓡 ℓ T W Y Kr Er u64 L g b o h q τ r seen told t z le (block_ptr b place) f (asks_second (λ log es _. told log es) f asked)
+  pub asks_second : {g : Ghosts Y.Denot T.Denot W.Denot Kr.Denot (trace.the_row Er u64).Denot} {h : (hand.the_row ℓ (param 0 T) W Y Kr (trace.the_row Er u64) g).Denot}
+      → MayKnow (g.holds h.key) (g.ways h.key) seen × TracesSecond (g.holds h.key) (g.ways h.key) h.view h.value f told
+      → Asked 𝓛 𝓜 𝓡 ℓ T W Y Kr Er u64 L g b o h q τ r seen told (block_ptr b ((o + second_at (trace.the_row Er u64) (param 0 T)) + 0)) f
+  asks_second {g = g} {h} asked = record {
+    step = λ k. steps.second_steps 𝓛 Er (param 0 T) (param_laws 0 T L).shr_laws b o k.1.0 W.coded (g.holds h.key) (g.ways h.key) h.view h.value told
+        k.1.1 f seen.name seen.entries asked.0 asked.1;
+  }
 
 module _ {M : Type 1} {𝓤 : Ura M} (𝓛 : Logic 𝓤) (ℓ : NamedLft) (T W Y Kr Sr : RattleType) (g : Ghosts Y.Denot T.Denot W.Denot Kr.Denot Sr.Denot) where
   abbrev Row : RattleType

@@ -8,7 +8,7 @@ use types.Kit.{keep, fsplit}
 use Rattle.spin_core.proofs.PermitFields.{as_hand, typed}
 use Rattle.spin_core.proofs.WalkSteps.{two, three}
 use Rattle.spin_core.proofs.Walking.{others, walks, as_u64}
-use Rattle.spin_core.proofs.CellWatchWalks.{begins_with, opens_first, next, knowing}
+use Rattle.spin_core.proofs.CellWatchWalks.{begins_with, opens, asks_first, next, knowing}
 use Rattle.spin_core.specs.contracts.cell.Permit.exchange.{ended, clauses}
 use Rattle.spin_core.proofs.cell.Permit.exchange.Statement.{statement}
 use Rattle.spin_core.proofs.cell.Permit.exchange.Code as code
@@ -27,7 +27,7 @@ exchange_spec 𝓤 𝓛 𝓜 𝓡 wired T V E S P K Mv L _ _ _ _ _ _ g d g' d' _
     begins_with 𝓛 ℓ T W Y Kr Sr g ! 6 (_, (_, (_, (_, (_, (_, tt)))))) h (λ asked le inb.
     move ! (4 ∷ []) $ fsplit ! $ move ! (1 ∷ []) $ fsplit ! $ move ! (1 ∷ []) $ fsplit ! $ fsplit ! $ keep ! (5 ∷ 6 ∷ 7 ∷ 1 ∷ 8 ∷ []) $ alloc_all ! (λ l. pass_all ! refl (typed p inb, ((tt, record { fits = are.1.0.1 }), ((tt, record { fits = are.1.1.0.1 }), ((tt, (tt, tt)), tt)))) $
     let Ev = env fn.locals l in
-    opens_first 𝓛 𝓜 𝓡 ℓ T W Y Kr Er Ur L g b o h _ _ _ seen told' ! tt le f asked (λ left rest closes.
+    opens 𝓛 𝓜 𝓡 ℓ T W Y Kr Er Ur L g b o h _ _ _ seen told' ! tt le _ f (asks_first asked) (λ left rest closes.
     sets ! (is ! (of_opd ! (get_in ! (fld ! refl (stop !)) (sub ! 0 refl (whole !)))) (ap ptr_val (at_block p inb))) refl (tt, tt) $ first ! $ blocks ! $ sets ! (addr ! (through ! refl (fld ! refl (stop !)))) refl (tt, tt) $
     use1 𝓛 (raw _) (exchanges 𝓛 𝓜 𝓡 (code.calls-atomic_table::exchange 𝓡.env wired) (block_ptr b (o + 0)) old new are.1.0.1 are.1.1.0.1 left) $
     Calls-last ! (fm 𝓛 𝓜 𝓡) (found left) (three ! refl refl refl) (λ u. finds ! left (λ n fits.

@@ -7,7 +7,7 @@ use types.Kit.{keep, fsplit}
 use Rattle.spin_core.proofs.PermitFields.{as_hand, typed}
 use Rattle.spin_core.proofs.WalkSteps.{two, three}
 use Rattle.spin_core.proofs.Walking.{others, walks, as_u64}
-use Rattle.spin_core.proofs.CellWatchWalks.{begins_with, stores_second, next, knowing}
+use Rattle.spin_core.proofs.CellWatchWalks.{begins_with, opens_store, asks_second, next, knowing}
 use Rattle.spin_core.specs.contracts.cell.Permit.store_second.{ended, clauses}
 use Rattle.spin_core.proofs.cell.Permit.store_second.Statement.{statement}
 use Rattle.spin_core.proofs.cell.Permit.store_second.Code as code
@@ -26,7 +26,7 @@ store_second_spec 𝓤 𝓛 𝓜 𝓡 wired T V E P K Mv L _ _ _ _ _ g d g' d' _
     let f : ℕ → ℕ = λ _. new in
     begins_with 𝓛 ℓ T W Y Kr Sr g ! 5 (_, (_, (_, (_, (_, tt))))) h (λ asked le inb.
     move ! (4 ∷ []) $ fsplit ! $ move ! (1 ∷ []) $ fsplit ! $ fsplit ! $ keep ! (4 ∷ 5 ∷ 6 ∷ 1 ∷ 7 ∷ []) $ alloc_all ! (λ l. pass_all ! refl (typed p inb, ((tt, record { fits = are.1.0.1 }), ((tt, (tt, tt)), tt))) $ let Ev = env fn.locals l in
-    stores_second 𝓛 𝓜 𝓡 ℓ T W Y Kr Er L g b o h _ _ _ seen told ! tt le f asked (λ left rest closes.
+    opens_store 𝓛 𝓜 𝓡 ℓ T W Y Kr Er u64 L g b o h _ _ _ seen told ! tt le _ f (asks_second asked) (λ left rest closes.
     sets ! (is ! (of_opd ! (get_in ! (fld ! refl (stop !)) (sub ! 0 refl (whole !)))) (ap ptr_val (at_block p inb))) refl (tt, tt) $ first ! $ blocks ! $ sets ! (addr ! (through ! refl (fld ! refl (fld ! refl (stop !))))) refl (tt, tt) $
     use1 𝓛 (raw _) (stores 𝓛 𝓜 𝓡 (code.calls-core::raw_atomic::store 𝓡.env wired) (block_ptr b e) new are.1.0.1 left) $
     sets ! (agg ! (and_then ! (lit ! tt) (no_more !))) refl (tt, (record { fits = lit< tt }, tt)) $

@@ -6,7 +6,7 @@ use types.Kit.{keep, fsplit}
 use Rattle.spin_core.proofs.PermitFields.{as_hand, typed}
 use Rattle.spin_core.proofs.WalkSteps.{two, three}
 use Rattle.spin_core.proofs.Walking.{others, walks, as_u64}
-use Rattle.spin_core.proofs.CellWatchWalks.{begins_with, opens_first, next, knowing}
+use Rattle.spin_core.proofs.CellWatchWalks.{begins_with, opens, asks_first, next, knowing}
 use Rattle.spin_core.specs.contracts.cell.Permit.subtract.{ended, clauses}
 use Rattle.spin_core.proofs.cell.Permit.subtract.Statement.{statement}
 use Rattle.spin_core.proofs.cell.Permit.subtract.Code as code
@@ -24,7 +24,7 @@ subtract_spec 𝓤 𝓛 𝓜 𝓡 wired T V E S P K Mv L _ _ _ _ _ _ g d g' d' _
     let by' = a.1.0 in let told' = g'.told h.key by' 0 h.view in let f : ℕ → ℕ = λ n. (n + (2 ^ 64 - by')) % 2 ^ 64 in
     begins_with 𝓛 ℓ T W Y Kr Sr g ! 6 (_, (_, (_, (_, (_, (_, tt)))))) h (λ asked le inb.
     move ! (4 ∷ []) $ fsplit ! $ move ! (1 ∷ []) $ fsplit ! $ fsplit ! $ keep ! (4 ∷ 5 ∷ 6 ∷ 1 ∷ 7 ∷ []) $ alloc_all ! (λ l. pass_all ! refl (typed p inb, ((tt, record { fits = are.1.0.1 }), ((tt, (tt, tt)), tt))) $ let Ev = env fn.locals l in
-    opens_first 𝓛 𝓜 𝓡 ℓ T W Y Kr Er Ur L g b o h _ _ _ seen told' ! tt le f asked (λ left rest closes.
+    opens 𝓛 𝓜 𝓡 ℓ T W Y Kr Er Ur L g b o h _ _ _ seen told' ! tt le _ f (asks_first asked) (λ left rest closes.
     sets ! (is ! (of_opd ! (get_in ! (fld ! refl (stop !)) (sub ! 0 refl (whole !)))) (ap ptr_val (at_block p inb))) refl (tt, tt) $ first ! $ blocks ! $ sets ! (addr ! (through ! refl (fld ! refl (stop !)))) refl (tt, tt) $
     use1 𝓛 (raw _) (subs 𝓛 𝓜 𝓡 (code.calls-core::raw_atomic::fetch_sub 𝓡.env wired) (block_ptr b (o + 0)) by' are.1.0.1 left) $
     sets ! (agg ! (and_then ! (lit ! tt) (no_more !))) refl (tt, (record { fits = lit< tt }, tt)) $
