@@ -13,10 +13,9 @@ use Rattle.spin_core.proofs.cell.Cell.enter.Code as code
 pub enter_spec : {M : Type 1} → statement M
 enter_spec 𝓤 𝓛 𝓜 𝓡 wired T V P K S L _ _ _ LS g d _ =
     let R = param 0 T in let W = param 1 V in let Y = param 2 P in let Kr = param 3 K in let Sr = param 4 S in let cw = W.coded in
-    let En = ended T V P K S g d in let c = clauses T V P K S g d 𝓛 𝓜.mem 𝓡.returns in
     let fn = inst_fn (bounded code.function.ty_params (T, (V, (P, (K, (S, tt))))) (dcons d dnil)) code.function in
     let Row = cell.the_row R W Y Kr Sr g in
-    walks 𝓛 En c 𝓜 𝓡 (λ κs x f. refl, tt) _ fn (code.unfolded 𝓤 𝓛.H 𝓜 𝓡 wired (T, (V, (P, (K, (S, tt))))) d)
+    walks 𝓛 (ended T V P K S g d) (clauses T V P K S g d 𝓛 𝓜.mem 𝓡.returns) 𝓜 𝓡 (λ κs x f. refl, tt) _ fn (code.unfolded 𝓤 𝓛.H 𝓜 𝓡 wired (T, (V, (P, (K, (S, tt))))) d)
     (λ κs. (as_shr (named 0) κs.0 Row, tt)) (λ κs qs bounds a gh are Post out.
     let b = a.0.ref_ptr.0 in let o = a.0.ref_ptr.1 in let κ = κs.0 in let ℓ = named_lft 6 0 tt κs in let Hr = hand.the_row ℓ R W Y Kr Sr g in
     let p = block_ptr b o in let At = permit_at Y R cw.code Sr (g.holds a.0.now) (g.ways a.0.now) κ b o None None in

@@ -21,12 +21,11 @@ use Rattle.spin_core.proofs.cell.Cell.get_mut.Code as code
 
 pub get_mut_spec : {M : Type 1} → statement M
 get_mut_spec 𝓤 𝓛 𝓜 𝓡 wired X U P K S L _ _ _ LS g d _ =
-    let R = param 0 X in let V = param 1 U in let Y = param 2 P in let Kr = param 3 K in let Sr = param 4 S in let En = ended X U P K S g d in
-    let c = clauses X U P K S g d 𝓛 𝓜.mem 𝓡.returns in
+    let R = param 0 X in let V = param 1 U in let Y = param 2 P in let Kr = param 3 K in let Sr = param 4 S in
     let fn = inst_fn (bounded code.function.ty_params (X, (U, (P, (K, (S, tt))))) (dcons d dnil)) code.function in
     let Ty = cell.the_row R V Y Kr Sr g in let m : Member = record { row = R; ty = layout X } in let ms : Member = record { row = Sr; ty = layout S } in
     let Lw = (param_laws 0 X L).lawful 𝓛 in let Ls = (param_laws 4 S LS).lawful 𝓛 in
-    walks 𝓛 En c 𝓜 𝓡 (λ κs x f. refl, tt) _ fn (code.unfolded 𝓤 𝓛.H 𝓜 𝓡 wired (X, (U, (P, (K, (S, tt))))) d)
+    walks 𝓛 (ended X U P K S g d) (clauses X U P K S g d 𝓛 𝓜.mem 𝓡.returns) 𝓜 𝓡 (λ κs x f. refl, tt) _ fn (code.unfolded 𝓤 𝓛.H 𝓜 𝓡 wired (X, (U, (P, (K, (S, tt))))) d)
     (λ κs. (as_mut (named 0) κs.0 Ty, tt)) (λ κs qs bounds a gh are Post out.
     let b = a.0.ref_ptr.0 in let o = a.0.ref_ptr.1 in let κ = κs.0 in let q = qs.0 in let e = o + offset R in
     let old = a.0.now in let key = g.lent old in let γ = a.0.ghost_name in let at = vptr b e in let Free = Freeing (g.ways key).2 (Frees (g.ways key).0) in let Same = Lends (g.holds old) (g.ways old) (g.holds key) (g.ways key) in let Lent = MutRef (named 0) κ R in

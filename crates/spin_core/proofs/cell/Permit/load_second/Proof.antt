@@ -16,9 +16,8 @@ pub load_second_spec : {M : Type 1} → statement M
 load_second_spec 𝓤 𝓛 𝓜 𝓡 wired T V E P K Mv L _ _ _ _ _ g d g' d' _ _ =
     let H = 𝓛.H in let 𝓣 = tables 𝓤 H 𝓜 𝓡 𝓡.env in let R = param 0 T in let W = param 1 V in let Er = param 2 E in let Y = param 3 P in
     let Kr = param 4 K in let Sr = trace.the_row Er u64 in
-    let En = ended T V E P K Mv g d g' d' in let c = clauses T V E P K Mv g d g' d' 𝓛 𝓜.mem 𝓡.returns in
     let fn = inst_fn (bounded code.function.ty_params (T, (V, (E, (P, (K, (Mv, tt)))))) (dcons d (dcons d' dnil))) code.function in
-    walks 𝓛 En c 𝓜 𝓡 (λ κs x f. refl, (λ κs x f. refl, tt)) _ fn (code.unfolded 𝓤 H 𝓜 𝓡 wired (T, (V, (E, (P, (K, (Mv, tt)))))) d d')
+    walks 𝓛 (ended T V E P K Mv g d g' d') (clauses T V E P K Mv g d g' d' 𝓛 𝓜.mem 𝓡.returns) 𝓜 𝓡 (λ κs x f. refl, (λ κs x f. refl, tt)) _ fn (code.unfolded 𝓤 H 𝓜 𝓡 wired (T, (V, (E, (P, (K, (Mv, tt)))))) d d')
     (λ κs. (as_hand (named_lft 7 0 tt κs) R W Y Kr Sr g, (as_watch Er, tt))) (λ κs qs bounds a gh are Post out.
     let ℓ = named_lft 7 0 tt κs in let h = a.0 in let p = h.cell in let b = block_of p in let o = count_of p in
     let seen = a.1.0 in let e = (o + second_at Sr R) + 0 in let os = others 5 κs.1.1 qs.1.1 in

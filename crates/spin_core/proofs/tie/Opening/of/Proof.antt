@@ -9,10 +9,9 @@ use Rattle.spin_core.proofs.Walking.{walks, as_shr}
 
 pub of_spec : {M : Type 1} → statement M
 of_spec 𝓤 𝓛 𝓜 𝓡 wired T E S L LE LS =
-    let H = 𝓛.H in let 𝓣 = tables 𝓤 H 𝓜 𝓡 𝓡.env in let T' : RattleType = param 0 T in let Sr : RattleType = trace.the_row (param 1 E) (param 2 S) in let En = ended T E S in
+    let H = 𝓛.H in let 𝓣 = tables 𝓤 H 𝓜 𝓡 𝓡.env in let T' : RattleType = param 0 T in let Sr : RattleType = trace.the_row (param 1 E) (param 2 S) in
     let fn = inst_fn (layouts (a_type ∷ a_type ∷ a_type ∷ []) (T, (E, (S, tt)))) code.function in
-    let c = clauses T E S 𝓛 𝓜.mem 𝓡.returns in
-    walks 𝓛 En c 𝓜 𝓡 (λ κs x f. refl, (λ κs x f. refl, tt)) _ fn (code.unfolded 𝓤 H 𝓜 𝓡 wired (T, (E, (S, tt))))
+    walks 𝓛 (ended T E S) (clauses T E S 𝓛 𝓜.mem 𝓡.returns) 𝓜 𝓡 (λ κs x f. refl, (λ κs x f. refl, tt)) _ fn (code.unfolded 𝓤 H 𝓜 𝓡 wired (T, (E, (S, tt))))
     (λ κs. (as_shr (named 0) κs.0 Sr, (as_shr (named 1) κs.1.0 T', tt))) (λ κs qs bounds a gh are Post out.
     keep ! (0 ∷ []) $ alloc_all ! (λ l. pass_all ! refl ((tt, tt), ((tt, tt), tt)) $
     nothing ! $ use0 𝓛 (‵ ((Token T').own_val (record {}, tt) (token ∷ []))) (token_made T' 𝓛) $ fjoin ! $

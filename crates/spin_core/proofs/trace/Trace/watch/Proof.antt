@@ -11,11 +11,10 @@ use Rattle.spin_core.proofs.Walking.{walks, as_shr}
 
 pub watch_spec : {M : Type 1} → statement M
 watch_spec 𝓤 𝓛 𝓜 𝓡 wired T S L N =
-    let H = 𝓛.H in let 𝓣 = tables 𝓤 H 𝓜 𝓡 𝓡.env in let T' : RattleType = param 0 T in let S' : RattleType = param 1 S in let En = ended T S in
+    let H = 𝓛.H in let 𝓣 = tables 𝓤 H 𝓜 𝓡 𝓡.env in let T' : RattleType = param 0 T in let S' : RattleType = param 1 S in
     let fn = inst_fn (layouts (a_type ∷ a_type ∷ []) (T, (S, tt))) code.function in
-    let c = clauses T S 𝓛 𝓜.mem 𝓡.returns in
     let cv = T'.coded in let All : RattleType = T' in let Lr : RattleType = Trace.the_row T' S' in
-    walks 𝓛 En c 𝓜 𝓡 (λ κs x f. refl, tt) _ fn (code.unfolded 𝓤 H 𝓜 𝓡 wired (T, (S, tt)))
+    walks 𝓛 (ended T S) (clauses T S 𝓛 𝓜.mem 𝓡.returns) 𝓜 𝓡 (λ κs x f. refl, tt) _ fn (code.unfolded 𝓤 H 𝓜 𝓡 wired (T, (S, tt)))
     (λ κs. (as_shr (named 0) κs.0 Lr, tt)) (λ κs qs bounds a gh are Post out.
     let me = a.0.now in
     fsplit ! $ move ! (2 ∷ []) $ fsplit ! $ fsplit ! $ keep ! (1 ∷ 3 ∷ 4 ∷ []) $

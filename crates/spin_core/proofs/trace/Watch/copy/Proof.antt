@@ -10,11 +10,10 @@ use Rattle.spin_core.proofs.Walking.{walks, as_shr}
 
 pub copy_spec : {M : Type 1} → statement M
 copy_spec 𝓤 𝓛 𝓜 𝓡 wired T L =
-    let H = 𝓛.H in let 𝓣 = tables 𝓤 H 𝓜 𝓡 𝓡.env in let T' : RattleType = param 0 T in let En = ended T in
+    let H = 𝓛.H in let 𝓣 = tables 𝓤 H 𝓜 𝓡 𝓡.env in let T' : RattleType = param 0 T in
     let fn = inst_fn (layouts (a_type ∷ []) (T, tt)) code.function in
-    let c = clauses T 𝓛 𝓜.mem 𝓡.returns in
     let cv = T'.coded in let All : RattleType = T' in let Sr : RattleType = Watch.the_row T' in
-    walks 𝓛 En c 𝓜 𝓡 (λ κs x f. refl, tt) _ fn (code.unfolded 𝓤 H 𝓜 𝓡 wired (T, tt))
+    walks 𝓛 (ended T) (clauses T 𝓛 𝓜.mem 𝓡.returns) 𝓜 𝓡 (λ κs x f. refl, tt) _ fn (code.unfolded 𝓤 H 𝓜 𝓡 wired (T, tt))
     (λ κs. (as_shr (named 0) κs.0 Sr, tt)) (λ κs qs bounds a gh are Post out.
     let me = a.0.now in
     move ! (1 ∷ []) $ fsplit ! $ fsplit ! $ keep ! (1 ∷ 3 ∷ []) $

@@ -45,11 +45,10 @@ pub get_stable_spec : {M : Type 1} → statement M
 get_stable_spec 𝓤 𝓛 𝓜 𝓡 wired X U P K N L _ _ _ LN s d' g d _ _ =
     let H = 𝓛.H in let 𝓣 = tables 𝓤 H 𝓜 𝓡 𝓡.env in let X₀ = param 0 X in let R = maybe_stable.the_row X₀ in let S = stable.the_row X₀ s in let V = param 1 U in
     let Y = param 2 P in let Kr = param 3 K in let Nr = param 4 N in
-    let En = ended X U P K N s d' g d in let c = clauses X U P K N s d' g d 𝓛 𝓜.mem 𝓡.returns in
     let fn = inst_fn (bounded code.function.ty_params (X, (U, (P, (K, (N, tt))))) (dcons d' (dcons d dnil))) code.function in
     let Ty = cell.the_row R V Y Kr Nr g in let m : Member = record { row = R; ty = lone R.mir } in let ms : Member = record { row = Nr; ty = layout N } in
     let Ls = (param_laws 4 N LN).lawful 𝓛 in let Lw = (maybe_stable_laws.the_row_laws X₀ (param_laws 0 X L)).lawful 𝓛 in
-    walks 𝓛 En c 𝓜 𝓡 (λ κs x f. refl, (λ κs x f. refl, tt)) _ fn (code.unfolded 𝓤 H 𝓜 𝓡 wired (X, (U, (P, (K, (N, tt))))) d' d)
+    walks 𝓛 (ended X U P K N s d' g d) (clauses X U P K N s d' g d 𝓛 𝓜.mem 𝓡.returns) 𝓜 𝓡 (λ κs x f. refl, (λ κs x f. refl, tt)) _ fn (code.unfolded 𝓤 H 𝓜 𝓡 wired (X, (U, (P, (K, (N, tt))))) d' d)
     (λ κs. (as_mut (named 0) κs.0 Ty, (as_u64, tt))) (λ κs qs bounds a gh are Post out.
     let b = a.0.ref_ptr.0 in let o = a.0.ref_ptr.1 in let old = a.0.now in let key = g.lent old in let γ = a.0.ghost_name in let wanted = a.1.0 in let κ = κs.0 in let q = qs.0 in
     let e = o + offset R in let at = vptr b e in
