@@ -12,6 +12,7 @@ use Rattle.spin_model.specs.Machines.{Machine}
 use Rattle.spin_model.specs.Schedules.{Entry, at_first}
 use Rattle.spin_core.specs.Run.{IsPlayed}
 use Rattle.spin_core.specs.Run as run
+use Rattle.spin_core.specs.Passes.{Says, Course}
 use Rattle.spin_core.specs.Own.{Numbered, by_party, present_from, kind, entries_by, Rested, IsRun, MadeNone, what}
 use Rattle.spin_core.proofs.Runs.{around, set_seam, world}
 use Rattle.spin_core.proofs.Runs as runs
@@ -180,13 +181,13 @@ module _ {W V C L A X S : Type 0} (m : Machine W V C L A) (seat_of : X → Seat 
       }
 
   -- the result of a step that turns the view `view` of a party into u
-  abbrev pub Comes : Option (Numbered X) → X → (List (Move C V) → List (Outcome A V) → Type 0) → ℕ → ℕ × S → Schedule → List (Numbered X) → Type 0
+  abbrev pub Comes : Option (Numbered X) → X → Course V C A → ℕ → ℕ × S → Schedule → List (Numbered X) → Type 0
   Comes view u says id s log vs = (p : ℕ) × (own : List (Move C V)) × (outs : List (Outcome A V)) × (let es = by_party p own in
       Run (log ++ es) s (views_after id view vs (u, p, length (log ++ es))) × MadeNone m seat_of words_of log p view × run.AreOwn m own outs log es
       × says own outs)
 
   pub step : (view : Option (Numbered X)) (to : ℕ × S → ℕ × S) (found : ℕ × S → ℕ) (tells : ℕ → X → Type 0)
-      (says : List (Move C V) → List (Outcome A V) → ℕ → X → Type 0) → run.AreMoves m seat_of words_of (what view) to found tells says
+      (says : Says V C A X) → run.AreMoves m seat_of words_of (what view) to found tells says
       → (id : ℕ) (s : ℕ × S) (log : Schedule) (vs : List (Numbered X)) → Run log s vs → Stands id view vs → (u : X) → tells (found s) u
       → Comes view u (λ own outs. says own outs (found s) u) id (to s) log vs
   step view to found tells says moves id s log vs is at u so =

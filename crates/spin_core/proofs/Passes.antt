@@ -14,7 +14,7 @@ use Rattle.std.specs.List.{list_all}
 use Rattle.spin_model.specs.declared.place.Seat.{Seat}
 use Rattle.spin_core.specs.Run.{IsPlayed, outcomes, is_played}
 use Rattle.spin_core.specs.Own.{Numbered, what, by_party, entries_by, MadeNone, Tells}
-use Rattle.spin_core.specs.Passes.{mark_of, MayBe, IsNumber, Course, Nothing, Waits, Ends, Begins, WritesSome, IsCall, IsStep, outcomes_by, Did, Made}
+use Rattle.spin_core.specs.Passes.{mark_of, MayBe, IsNumber, Course, Nothing, Waits, Ends, Begins, WritesSome, IsCall, Says, IsStep, outcomes_by, Did, Made}
 use Rattle.spin_core.specs.Cell.{Ways, Moved}
 use Rattle.spin_core.specs.Traced.{Watches, Named}
 use Rattle.spin_core.specs.declared.trace.Trace.{Trace}
@@ -29,6 +29,10 @@ module _ {C V : Type 0} where
   own_of : (p : ℕ) (own : List (Move C V)) → entries_by p (by_party p own) ≡ by_party p own
   own_of p [] = refl
   own_of p (move ∷ own) = ap (λ b. if b then (p, move) ∷ entries_by p (by_party p own) else entries_by p (by_party p own)) (eq-eqb p p refl) ∙ ap (λ l. (p, move) ∷ l) (own_of p own)
+
+-- R accepts moves of P followed by moves of Q
+abbrev pub Joins : (V C A : Type 0) → Course V C A → Course V C A → Course V C A → Type 0
+Joins V C A P Q R = (own own' : List (Move C V)) (outs outs' : List (Outcome A V)) → P own outs → Q own' outs' → R (own ++ own') (outs ++ outs')
 
 module _ {W V C L A : Type 0} (m : Machine W V C L A) where
   abbrev Schedule : Type 0
@@ -81,7 +85,7 @@ module _ {W V C L A : Type 0} (m : Machine W V C L A) where
     same_number p q (Some u) is may = may ∙ sym is
 
     -- if R accepts moves of P followed by moves of Q, a party that follows P and then Q follows R
-    pub made_both : (u v w : Option (Numbered X)) (a b c : Schedule) (P Q R : Course V C A) → ((own own' : List (Move C V)) (outs outs' : List (Outcome A V)) → P own outs → Q own' outs' → R (own ++ own') (outs ++ outs'))
+    pub made_both : (u v w : Option (Numbered X)) (a b c : Schedule) (P Q R : Course V C A) → Joins V C A P Q R
         → Made m u a v b P → Made m v b w c Q → Made m u a w c R
     made_both u v w a b c P Q R joins (p, may, is, own, outs, did, so) (q, may', is', own', outs', did', so') =
         let same : q ≡ p = same_number p q v is may' in
@@ -95,7 +99,7 @@ module _ {W V C L A : Type 0} (m : Machine W V C L A) where
         (none.0, ap (entries_by p) (sym (drop-append_seam old known.0) ∙ ap (λ n. drop n (old ++ known.0)) (sym knew) ∙ ap (drop u.2) known.1) ∙ none.1)
 
     -- what a step tells a party that knew all entries up to its last step: its moves, and that it knows all entries up to this step
-    pub learns : (says : List (Move C V) → List (Outcome A V) → ℕ → X → Type 0) (named : Type 0) (view : Option (Numbered X)) (before now : Watch (Entry C V)) (n : ℕ) (v : Numbered X)
+    pub learns : (says : Says V C A X) (named : Type 0) (view : Option (Numbered X)) (before now : Watch (Entry C V)) (n : ℕ) (v : Numbered X)
         → mark_of view ≡ length before.entries → Watches named before now (Tells m seat_of words_of says view) n v
         → Made m view before.entries (Some v) now.entries (λ own outs. says own outs n v.0) × (mark_of (Some v) ≡ length now.entries)
     learns says named view before now n v knew (same, (log, es, known, is, (own, outs, es_is, mark, none, mine, said))) =
@@ -137,7 +141,7 @@ pub record Learnt {W V C L A X : Type 0} (m : Machine W V C L A) (view view' : O
   pub named : now.name ≡ before.name
 
 module _ {W V C L A X S : Type 0} (m : Machine W V C L A) (seat_of : X → Seat C L) (words_of : W → ℕ × S) where
-  pub learnt : (says : List (Move C V) → List (Outcome A V) → ℕ → X → Type 0) (to : ℕ → X) (course : ℕ → Course V C A) → ((own : List (Move C V)) (outs : List (Outcome A V)) (n : ℕ) (v : X) → says own outs n v → (v ≡ to n) × course n own outs)
+  pub learnt : (says : Says V C A X) (to : ℕ → X) (course : ℕ → Course V C A) → ((own : List (Move C V)) (outs : List (Outcome A V)) (n : ℕ) (v : X) → says own outs n v → (v ≡ to n) × course n own outs)
       → (named : Type 0) → named → (view view' : Option (Numbered X)) (before now : Watch (Entry C V)) (found : ℕ) → mark_of view ≡ length before.entries
       → Moved (Watches named before now (Tells m seat_of words_of says view) found) view' → Learnt m view view' before now (to found) (course found)
   learnt says to course means named is_named view None before now found knew moved = absurd moved
@@ -159,14 +163,13 @@ module _ {X : Type 0} (x : X) (i j : ℕ) (xs ys : List X) where
   on_and_out z is are = ap (λ l. l ++ ys) is ∙ ap (λ l. replicate i x ++ l) are ∙ sym (append_assoc (replicate i x) (replicate j x) (z ∷ [])) ∙ ap (λ l. l ++ z ∷ []) (sym (replicate-sum i j x))
 
 module _ {V C A : Type 0} where
-  pub waits_on : (own own' : List (Move C V)) (outs outs' : List (Outcome A V)) → Waits own outs → Waits own' outs' → Waits (own ++ own') (outs ++ outs')
+  pub waits_on : Joins V C A Waits Waits Waits
   waits_on own own' outs outs' (i, is, comes) (j, is', comes') = (i + j, on_and_on Step i j own own' is is', on_and_on GoingOn i j outs outs' comes comes')
 
-  pub waits_out : (a : A) (own own' : List (Move C V)) (outs outs' : List (Outcome A V)) → Waits own outs → Ends a own' outs' → Ends a (own ++ own') (outs ++ outs')
+  pub waits_out : (a : A) → Joins V C A Waits (Ends a) (Ends a)
   waits_out a own own' outs outs' (i, is, comes) (j, is', comes') = (i + j, on_and_out Step i j own own' Step is is', on_and_out GoingOn i j outs outs' (Answered a None) comes comes')
 
-  pub begun : (c : C) (P Q R : Course V C A) → ((own own' : List (Move C V)) (outs outs' : List (Outcome A V)) → P own outs → Q own' outs' → R (own ++ own') (outs ++ outs'))
-      → (own own' : List (Move C V)) (outs outs' : List (Outcome A V)) → Begins c P own outs → Q own' outs' → Begins c R (own ++ own') (outs ++ outs')
+  pub begun : (c : C) (P Q R : Course V C A) → Joins V C A P Q R → Joins V C A (Begins c P) Q (Begins c R)
   begun c P Q R joins own own' outs outs' (rest, comes, is, are, so) so' = (rest ++ own', comes ++ outs', ap (λ l. l ++ own') is, ap (λ l. l ++ outs') are, joins rest own' comes outs' so so')
 
 -- What a party has done by one step, and by several courses one after another.

@@ -97,16 +97,21 @@ module _ {V S : Type 0} (lock : Lock V S) where
   abbrev pub EachOf : Option V → (Plain → ℕ → Type 0) → Type 0
   EachOf view P = (s : Plain) (p : ℕ) (vs : List V) → s.cap ≡ cap → IsInOrder s → IsLockOf part vs s → HasPart s p (part_before part view) → first s < words → P s p
 
+  -- a step to these words, if in this lock the party gets a view that satisfies P
+  arrives : (view : Option V) (id : ℕ) (vs : List V) (s : Plain) (n : ℕ) (m : S) (P : V → Type 0) → Stands id view vs → s.cap ≡ cap → IsInOrder s → IsLockOf part vs s
+      → (w : V) × Reaches view w s (number part id view vs) n m × P w
+      → (w : V) × Going way (use_of uses view) (uses w) None (readers_of uses vs) (Meets Holds ways n m (after id view vs w)) × P w
+  arrives view id vs s n m P at room order is made = let w : V = made.0 in (
+    w,
+    lock.goes (use_of uses view) (uses w) (readers_of uses vs) (Meets Holds ways n m (after id view vs w)) (after_step id view vs w s n m at room order is made.1),
+    made.2,
+  )
+
   -- a step on the first word: in each lock the party gets a view that satisfies `says`
   pub allows_among : (view : Option V) (f : ℕ → ℕ) (says : ℕ → V → Type 0) → EachOf view (λ s p. (w : V) × Reaches view w s p (f (first s)) (second s) × says (first s) w) → Allows Holds ways view f says
   allows_among view f says makes id n m vs meets at small =
-      let s = meets.0.0 in let made = makes s (number part id view vs) vs meets.0.1 meets.0.2 meets.0.3 (own_part part id view vs s at meets.0.3) (subst (λ j. j < words) meets.0.4 small) in let w : V = made.0 in
-      rw (meets.0.4, meets.0.5) (
-        w,
-        lock.goes (use_of ways.1 view) (ways.1 w) (readers_of ways.1 vs) (Meets Holds ways (f (first s)) (second s) (after id view vs w))
-            (after_step id view vs w s (f (first s)) (second s) at meets.0.1 meets.0.2 meets.0.3 made.1),
-        made.2,
-      )
+      let (s, room, order, is, n_is, m_is) = meets.0 in rw (n_is, m_is) (arrives view id vs s (f (first s)) (second s) (says (first s)) at room order is
+      (makes s (number part id view vs) vs room order is (own_part part id view vs s at is) (subst (λ j. j < words) n_is small)))
 
   -- the same for a step that need not know the other parties
   pub allows : (view : Option V) (f : ℕ → ℕ) (says : ℕ → V → Type 0) → Each view (λ s p. (w : V) × Reaches view w s p (f (first s)) (second s) × says (first s) w) → Allows Holds ways view f says
@@ -187,10 +192,5 @@ module _ {V : Type 0} (lock : Lock V ℕ) where
 
   pub allows_second : (view : Option V) (f : ℕ → ℕ) (says : ℕ → V → Type 0) → Each lock view (λ s p. (w : V) × Reaches lock view w s p (first s) (f (second s)) × says (second s) w) → AllowsSecond (Holds lock) (ways lock) view f says
   allows_second view f says makes id n m vs meets at small =
-      let s = meets.0.0 in let made = makes s (number part id view vs) meets.0.1 meets.0.2 (own_part part id view vs s at meets.0.3) in let w : V = made.0 in
-      rw (meets.0.4, meets.0.5) (
-        w,
-        lock.goes (use_of (ways lock).1 view) ((ways lock).1 w) (readers_of (ways lock).1 vs) (Meets (Holds lock) (ways lock) (first s) (f (second s)) (after id view vs w))
-            (after_step lock id view vs w s (first s) (f (second s)) at meets.0.1 meets.0.2 meets.0.3 made.1),
-        made.2,
-      )
+      let (s, room, order, is, n_is, m_is) = meets.0 in rw (n_is, m_is) (arrives lock view id vs s (first s) (f (second s)) (says (second s)) at room order is
+      (makes s (number part id view vs) room order (own_part part id view vs s at is)))

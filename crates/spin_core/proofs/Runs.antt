@@ -21,6 +21,7 @@ use Rattle.spin_model.specs.Schedules.{State, Entry, Happened, after, at_first, 
 use Rattle.spin_model.proofs.Schedules.{after-append}
 use Rattle.spin_core.specs.Run.{is_of_call, outcomes, is_played, IsPlayed, AreOwn}
 use Rattle.spin_core.specs.Run as run
+use Rattle.spin_core.specs.Passes.{Course}
 use Rattle.spin_core.specs.Own.{by_party}
 
 pub get_seam : {X : Type 0} (xs : List X) (y : X) (ys : List X) → slice_get (xs ++ y ∷ ys) (length xs) ≡ Some y
@@ -189,7 +190,7 @@ module _ {W V C L A X S : Type 0} (m : Machine W V C L A) (seat_of : X → Seat 
         comes_to None more ∙ ap (world w value) (ap (λ seat. seats front ++ seat ∷ behind) idle ∙ sym (seats-seam front back None (replicate more Idle)))
 
     -- the party makes its moves among others, with the outcomes that they have in a world of its own
-    pub goes : (v : X) (s : ℕ × S) (P : List (Move C V) → List (Outcome A V) → Type 0) (moves : run.Goes m seat_of words_of o v w value s P) (p : ℕ)
+    pub goes : (v : X) (s : ℕ × S) (P : Course V C A) (moves : run.Goes m seat_of words_of o v w value s P) (p : ℕ)
         → p ≡ length front → let es = by_party p moves.0 in
         Leads (log ++ es) moves.5 moves.6 (with (Some v)) × IsPlayed m (length (with (Some v))) (log ++ es) × AreOwn m moves.0 moves.1 log es
     goes v s P (own, outs, said, all, fine, w', now, alone, outs_are, become) p is =

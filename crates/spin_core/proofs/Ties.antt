@@ -15,6 +15,7 @@ use Rattle.spin_model.specs.declared.schedule.Outcome.{Outcome}
 use Rattle.spin_model.specs.Machines.{Machine}
 use Rattle.spin_model.specs.Schedules.{Entry}
 use Rattle.spin_core.specs.Run.{AreMoves, on_first, on_second, first, second}
+use Rattle.spin_core.specs.Passes.{Says}
 use Rattle.spin_core.specs.Own.{Numbered, by_party, what, IsRun, Tells, Runs}
 use Rattle.spin_core.proofs.CellWays.{going_map, carrying_of}
 use Rattle.spin_core.proofs.Owns as owns
@@ -78,7 +79,7 @@ module _ {W V C L A X S : Type 0} (m : Machine W V C L A) (seat_of : X → Seat 
   pub opens : (n : ℕ) (t : Trace (Entry C V) S) → t.name ≡ name → t.entries ≡ [] → (n, t.word) ≡ words_of m.words → Meets holds ways n t.word [] → Meets Of own_ways n t []
   opens n t named empty is meets = ((named, meets.0, subst (λ l. IsRun m seat_of words_of l (n, t.word) []) (sym empty) (owns.opens m seat_of words_of (n, t.word) is)), meets.1)
 
-  module _ (view : Option (Numbered X)) (shown : Option Y) (to : ℕ × S → ℕ × S) (found : ℕ × S → ℕ) (then : ℕ → X → Type 0) (says : List (Move C V) → List (Outcome A V) → ℕ → X → Type 0) where
+  module _ (view : Option (Numbered X)) (shown : Option Y) (to : ℕ × S → ℕ × S) (found : ℕ × S → ℕ) (then : ℕ → X → Type 0) (says : Says V C A X) where
     abbrev Then : List (Entry C V) → List (Entry C V) → ℕ → Numbered X → Type 0
     Then = Tells m seat_of words_of says view
 
@@ -107,7 +108,7 @@ module _ {W V C L A X S : Type 0} (m : Machine W V C L A) (seat_of : X → Seat 
           (led.1, led.2, refl, refl, led.3.1, led.3.2, led.3.3),
         )
 
-  module _ (view : Option (Numbered X)) (shown : Option Y) (g : ℕ → ℕ) (then : ℕ → X → Type 0) (says : List (Move C V) → List (Outcome A V) → ℕ → X → Type 0) where
+  module _ (view : Option (Numbered X)) (shown : Option Y) (g : ℕ → ℕ) (then : ℕ → X → Type 0) (says : Says V C A X) where
     -- a step on the first word
     pub traces : AreMoves m seat_of words_of (what view) (on_first g) first then says → Owes view shown (on_first g) first then says → AllowsAt holds ways (what view) shown g then → Traces Of own_ways view shown g (Tells m seat_of words_of says view)
     traces moves owes allows id n t vs meets at small =
@@ -126,7 +127,7 @@ module _ {W V C L A X S : Type 0} (m : Machine W V C L A) (seat_of : X → Seat 
 
 -- the same for a step on the second word
 module _ {W V C L A X : Type 0} (m : Machine W V C L A) (seat_of : X → Seat C L) (words_of : W → ℕ × ℕ) (holds : ℕ → ℕ → List X → Type 0) (name : ℕ) (Y : Type 0) (way : Way Y) (f : X → Use) (know : Knowledge (Trace (Entry C V) ℕ) Y) where
-  pub traces_second : (view : Option (Numbered X)) (shown : Option Y) (g : ℕ → ℕ) (then : ℕ → X → Type 0) (says : List (Move C V) → List (Outcome A V) → ℕ → X → Type 0)
+  pub traces_second : (view : Option (Numbered X)) (shown : Option Y) (g : ℕ → ℕ) (then : ℕ → X → Type 0) (says : Says V C A X)
       → AreMoves m seat_of words_of (what view) (on_second g) second then says → Owes m seat_of words_of holds name Y way f know view shown (on_second g) second then says → AllowsSecondAt holds (ways m seat_of words_of holds name Y way f know) (what view) shown g then
       → TracesSecond (Runs m seat_of words_of holds name) (own_ways m seat_of words_of holds name Y way f know) view shown g (Tells m seat_of words_of says view)
   traces_second view shown g then says moves owes allows id n t vs meets at small =
@@ -134,7 +135,7 @@ module _ {W V C L A X : Type 0} (m : Machine W V C L A) (seat_of : X → Seat C 
       leads m seat_of words_of holds name Y way f know view shown (on_second g) second then says moves owes id n t vs meets at made.0 made.1 made.2
 
 -- if what a step says of its moves implies less, the step may say less
-module _ {W V C L A X S : Type 0} (m : Machine W V C L A) (seat_of : X → Seat C L) (words_of : W → ℕ × S) (view : Option (Numbered X)) (says says' : List (Move C V) → List (Outcome A V) → ℕ → X → Type 0)
+module _ {W V C L A X S : Type 0} (m : Machine W V C L A) (seat_of : X → Seat C L) (words_of : W → ℕ × S) (view : Option (Numbered X)) (says says' : Says V C A X)
     (less : (own : List (Move C V)) (outs : List (Outcome A V)) (n : ℕ) (u : X) → says own outs n u → says' own outs n u) where
   pub tells_less : {Y : Type 0} (holds : ℕ → Trace (Entry C V) S → List (Numbered X) → Type 0) (used : Ways Y (Numbered X) (Trace (Entry C V) S)) (shown : Option Y) (g : ℕ → ℕ)
       → Traces holds used view shown g (Tells m seat_of words_of says view) → Traces holds used view shown g (Tells m seat_of words_of says' view)
@@ -142,7 +143,7 @@ module _ {W V C L A X S : Type 0} (m : Machine W V C L A) (seat_of : X → Seat 
       let (w, es, going, (own, outs, is, mark, none, mine, said)) = traces id n t vs meets at small in (w, es, going, (own, outs, is, mark, none, mine, less own outs n w.0 said))
 
 -- the same for a step on the second word
-module _ {W V C L A X : Type 0} (m : Machine W V C L A) (seat_of : X → Seat C L) (words_of : W → ℕ × ℕ) (view : Option (Numbered X)) (says says' : List (Move C V) → List (Outcome A V) → ℕ → X → Type 0)
+module _ {W V C L A X : Type 0} (m : Machine W V C L A) (seat_of : X → Seat C L) (words_of : W → ℕ × ℕ) (view : Option (Numbered X)) (says says' : Says V C A X)
     (less : (own : List (Move C V)) (outs : List (Outcome A V)) (n : ℕ) (u : X) → says own outs n u → says' own outs n u) where
   pub tells_less_second : {Y : Type 0} (holds : ℕ → Trace (Entry C V) ℕ → List (Numbered X) → Type 0) (used : Ways Y (Numbered X) (Trace (Entry C V) ℕ)) (shown : Option Y) (g : ℕ → ℕ)
       → TracesSecond holds used view shown g (Tells m seat_of words_of says view) → TracesSecond holds used view shown g (Tells m seat_of words_of says' view)
