@@ -57,7 +57,7 @@ module _ {M : Type 1} {𝓤 : Ura M} (𝓛 : Logic 𝓤) (Er Ur : RattleType) wh
   -- what a watch of this trace knew is a prefix of the trace; a watch that knew nothing knows the empty prefix
   knew : (γ : ℕ) (k : List E) (m : Trace E U) → (k ≡ []) ⊎ (m.name ≡ γ) → ⟦ Log m ⟧ ∗ ⟦ Known γ k ⟧ ⊢ guard 𝓤 (IsPrefix k m.entries) ⟦ Log m ⟧
   knew γ k m (inl none) = qed 𝓛 (‵ (Log m) ∷ ‵ (Known γ k) ∷ []) ∵ move ! (1 ∷ []) $ drop ! $
-      check ! (subst (λ l. IsPrefix l m.entries) (sym none) (m.entries, refl)) $ done !
+      check ! (rw none (m.entries, refl)) $ done !
   knew γ k m (inr is) = qed 𝓛 (‵ (Log m) ∷ ‵ (Known γ k) ∷ []) ∵ rewrite ! 1 (λ (z : ℕ). ‵ (Known z k)) (sym is) refl $
       use2 𝓛 (given (IsPrefix k m.entries) (‵ (Log m) ⊛ ‵ (Known m.name m.entries))) (observes_whole 𝓛 Er.coded m.name m.entries k) $
       learn ! (λ p. check ! p $ split ! $ move ! (1 ∷ []) $ drop ! $ done !)

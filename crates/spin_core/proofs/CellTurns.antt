@@ -200,7 +200,7 @@ module _ {M : Type 1} {𝓤 : Ura M} (𝓛 : Logic 𝓤) (R : RattleType) (L : R
       via 𝓤 _ (gave_piece φ r facts x) (upd_i 𝓤 ⟦ Given φ r (fixes facts) reads reads (Some x) ⟧)
   gives φ (fixes facts) r reads u' (Some x) A turned lim going = absurd (let e : u' ≡ reads = going.0 refl in cc)
   gives φ (fixes facts) r writes off (Some x) A turned lim going = let none : r ≡ 0 = lim.1 (omega arith) in
-      gave_whole φ r (fixes facts) off x (rests_fixed 𝓛 R b o t facts r x (subst (λ k. Fixed (fixes facts) k 0 x) (sym none) going.1))
+      gave_whole φ r (fixes facts) off x (rests_fixed 𝓛 R b o t facts r x (rw none going.1))
   gives φ (fixes facts) r writes reads (Some x) A turned lim going = gave_whole φ r (fixes facts) reads x (rests_fixed 𝓛 R b o t facts (suc r) x going.1)
   gives φ (fixes facts) r writes writes (Some x) A turned lim going = absurd (turned refl refl)
 
@@ -286,7 +286,7 @@ module _ {M : Type 1} {𝓤 : Ura M} (𝓛 : Logic 𝓤) (R : RattleType) (L : R
         let known : ψ x = known_after φ ψ u u' x turned (subst (Carries φ ψ u u') had.0 owed) had.1 in
         use1 𝓛 (given (Finds way off u' (shown_to u' x)) (‵ After ⊛ ‵ (Now x)))
         (takes ψ way r u' x known (going_rest way u u' v (with_reader u r) going)) $ learn ! (λ finds.
-        let so : So v x = subst (λ z. So z x) (sym had.0) ((shows u u' x, finds_so way u u' x finds), learns φ ψ u u' x known) in
+        let so : So v x = rw had.0 ((shows u u' x, finds_so way u u' x finds), learns φ ψ u u' x known) in
         split ! $ move ! (1 ∷ []) $ use1 𝓛 (‵ (Got way ψ u u' v)) (got_in way ψ u u' v (shown_to u' x) so) $ move ! (1 ∷ 0 ∷ []) $ done !)))
 
     -- a party that keeps its use keeps what it has

@@ -109,7 +109,7 @@ in_order-up k s order = record {
   exclusive = exclusive-like s (moved_up k s) (λ f. sum-up k f s.holders) (first_alone-up k s.tickets ∙ order.exclusive.one_entered) order.exclusive;
   numbered = (
     omega (arith, length-map s.tickets (ticket_up k), order.numbered.0),
-    subst (λ n. numbered_from n (map (ticket_up k) s.tickets)) (sym (serving_word-up k s)) (numbered-up k (serving_word s) s.tickets order.numbered.1),
+    rw (serving_word-up k s) (numbered-up k (serving_word s) s.tickets order.numbered.1),
   );
   within_limit = order.within_limit;
   holders_fit = omega (arith, length-map s.holders (holder_up k), order.holders_fit);

@@ -122,8 +122,7 @@ module _ {W V C L X S : Type 0} (lock : Mutex W V C L X S) where
   pub leaving : (view : Option X) (shown : Option V) (x : V) (c : C) (a : Answer V) → use_of uses view ≡ writes → shown ≡ Some x
       → Leaving view shown (leaves_by (λ y. y ≡ x) c a idle)
   leaving view shown x c a held here own outs n u (stays, (y, is, by)) =
-      subst (λ (z : Use × Use × Option V). Leaves z.0 z.1 z.2 own) (λ i. (sym held i, sym (ap uses stays ∙ plain.is_idle.1) i, sym here i))
-      (λ v. write_leaves y false c (Answered a None) own outs by v ∙ is)
+      rw (held, ap uses stays ∙ plain.is_idle.1, here) (λ v. write_leaves y false c (Answered a None) own outs by v ∙ is)
 
   pub releases : (view : Option (Numbered X)) (shown : Option V) (x : V) (c : C) (a : Answer V) → use_of uses (what view) ≡ writes → shown ≡ Some x
       → (g : ℕ → ℕ) (then : ℕ → X → Type 0)

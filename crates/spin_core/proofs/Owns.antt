@@ -65,7 +65,7 @@ module _ {C V : Type 0} where
   module _ (log : List (Entry C V)) where
     -- a party that is present has made no entry since its mark
     rested_at : {X : Type 0} (k p : ℕ) (front : Came X) (u : X × ℕ) (back : Came X) → p ≡ k + length front → Rested log k (front ++ Some u ∷ back) → entries_by p (drop u.1 log) ≡ []
-    rested_at k p [] u back is r = subst (λ i. entries_by i (drop u.1 log) ≡ []) (let e : k ≡ p = omega (arith, is) in e) r.0.1
+    rested_at k p [] u back is r = let e : p ≡ k = omega (arith, is) in rw e r.0.1
     rested_at k p (None ∷ us) u back is r = rested_at (suc k) p us u back (omega (arith, is)) r
     rested_at k p (Some x ∷ us) u back is r = rested_at (suc k) p us u back (omega (arith, is)) r.1
 
@@ -209,7 +209,7 @@ module _ {W V C L A X S : Type 0} (m : Machine W V C L A) (seat_of : X → Seat 
             z.becomes u mark,
             ap to z.words_are ∙ sym made_by.9,
             subst (Leads (log ++ by_party z.number own) made_by.5 made_by.6) now on.0,
-            subst (λ c. IsPlayed m (length c) (log ++ by_party z.number own)) now on.1,
+            rw (← now) on.1,
             made log z.number own 0 z.front z.last u z.back z.place z.rested,
           ),
           z.made_none,

@@ -68,7 +68,7 @@ module _ {W V C L A : Type 0} (m : Machine W V C L A) where
     least + least',
     is' ∙ ap (λ l. l ++ more') is ∙ append_assoc a more more',
     by-append p more more' ∙ ap (λ l. l ++ entries_by p more') mine ∙ ap (λ l. by_party p own ++ l) mine' ∙ sym (map-append (λ move. (p, move)) own own'),
-    (λ k. subst (λ n. list_all is_played (outcomes m (at_first m n) c) ≡ true) (let e : least' + (least + k) ≡ least + least' + k = omega arith in e) (played' (least + k))),
+    (λ k. let e : least + least' + k ≡ least' + (least + k) = omega arith in rw e (played' (least + k))),
     λ k. let start : State W V C L = at_first m (least + least' + k) in
         let one : least + (least' + k) ≡ least + least' + k = omega arith in let two : least' + (least + k) ≡ least + least' + k = omega arith in
         let there : after m (after m start a) more ≡ after m start b = sym (after-append m start a more) ∙ ap (after m start) (sym is) in

@@ -111,7 +111,7 @@ module _ {V S : Type 0} (lock : Lock V S) where
   pub allows_among : (view : Option V) (f : ℕ → ℕ) (says : ℕ → V → Type 0) → EachOf view (λ s p. (w : V) × Reaches view w s p (f (first s)) (second s) × says (first s) w) → Allows Holds ways view f says
   allows_among view f says makes id n m vs meets at small =
       let (s, room, order, is, n_is, m_is) = meets.0 in rw (n_is, m_is) (arrives view id vs s (f (first s)) (second s) (says (first s)) at room order is
-      (makes s (number part id view vs) vs room order is (own_part part id view vs s at is) (subst (λ j. j < words) n_is small)))
+      (makes s (number part id view vs) vs room order is (own_part part id view vs s at is) (rw n_is at small)))
 
   -- the same for a step that need not know the other parties
   pub allows : (view : Option V) (f : ℕ → ℕ) (says : ℕ → V → Type 0) → Each view (λ s p. (w : V) × Reaches view w s p (f (first s)) (second s) × says (first s) w) → Allows Holds ways view f says

@@ -181,7 +181,7 @@ module _ {W V C L A X S : Type 0} (m : Machine W V C L A) (seat_of : X → Seat 
 
     -- whether a schedule is played depends on the number of parties, not on what this party is
     pub plays_on : (u : Option X) → IsPlayed m (length (with u)) log
-    plays_on u = subst (λ k. IsPlayed m k log) (sym (as_many u)) played
+    plays_on u = rw (as_many u) played
 
     -- the party leaves, and its seat is idle from then on
     pub leaves : sits o ≡ Idle → Leads log w value (with None)

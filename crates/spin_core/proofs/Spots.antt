@@ -49,7 +49,7 @@ module _ {K W V C L A X : Type 0} (model : K → Machine W V C L A) (c : C) (p q
   module _ (r : Spot K X (Entry C V)) (first : IsIn model c p q) where
     -- a later step is in the same lock, and so runs the same model
     in_lock : (course : Course V C A) → Since model course q r → Made (model p.0) q.1 q.2.entries r.1 r.2.entries course
-    in_lock course step = subst (λ k. Made (model k) q.1 q.2.entries r.1 r.2.entries course) first.2 step.0
+    in_lock course step = rw first.2 at step.0
 
     pub stays_in : Since model (IsStep true c GoingOn) q r → IsIn model c p r
     stays_in step = (

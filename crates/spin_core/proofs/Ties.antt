@@ -54,10 +54,10 @@ module _ {X : Type 0} where
 
     module _ {Y : Type 0} (way : Way Y) where
       plain : Limits way (readers_of (λ v. f v.0) vs) (writers_of (λ v. f v.0) vs) → Limits way (readers_of f (all vs)) (writers_of f (all vs))
-      plain l = subst (λ (z : ℕ × ℕ). Limits way z.0 z.1) (λ i. (sym as_many_read i, sym as_many_write i)) l
+      plain l = rw (as_many_read, as_many_write) l
 
       numbered : Limits way (readers_of f (all vs)) (writers_of f (all vs)) → Limits way (readers_of (λ v. f v.0) vs) (writers_of (λ v. f v.0) vs)
-      numbered l = subst (λ (z : ℕ × ℕ). Limits way z.0 z.1) (λ i. (as_many_read i, as_many_write i)) l
+      numbered l = rw (← as_many_read, ← as_many_write) l
 
 module _ {W V C L A X S : Type 0} (m : Machine W V C L A) (seat_of : X → Seat C L) (words_of : W → ℕ × S) (holds : ℕ → S → List X → Type 0) (name : ℕ) (Y : Type 0) (way : Way Y) (f : X → Use) (know : Knowledge (Trace (Entry C V) S) Y) where
   abbrev Of : ℕ → Trace (Entry C V) S → List (Numbered X) → Type 0
@@ -77,7 +77,7 @@ module _ {W V C L A X S : Type 0} (m : Machine W V C L A) (seat_of : X → Seat 
   named n t vs meets = meets.0.0
 
   pub opens : (n : ℕ) (t : Trace (Entry C V) S) → t.name ≡ name → t.entries ≡ [] → (n, t.word) ≡ words_of m.words → Meets holds ways n t.word [] → Meets Of own_ways n t []
-  opens n t named empty is meets = ((named, meets.0, subst (λ l. IsRun m seat_of words_of l (n, t.word) []) (sym empty) (owns.opens m seat_of words_of (n, t.word) is)), meets.1)
+  opens n t named empty is meets = ((named, meets.0, rw empty (owns.opens m seat_of words_of (n, t.word) is)), meets.1)
 
   module _ (view : Option (Numbered X)) (shown : Option Y) (to : ℕ × S → ℕ × S) (found : ℕ × S → ℕ) (then : ℕ → X → Type 0) (says : Says V C A X) where
     abbrev Then : List (Entry C V) → List (Entry C V) → ℕ → Numbered X → Type 0
@@ -98,13 +98,13 @@ module _ {W V C L A X S : Type 0} (m : Machine W V C L A) (seat_of : X → Seat 
         let p : ℕ = led.0 in let es : List (Entry C V) = by_party p led.1 in let w : Numbered X = (u, p, length (t.entries ++ es)) in
         let us : List (Numbered X) = views_after id view vs w in
         let Kept : Type 0 = Carrying know t (grown_at t (to s).1 es) (use_of (λ v. f v.0) view) (f u) shown (Meets Of own_ways (to s).0 (grown_at t (to s).1 es) us) in
-        let owed = subst (λ z. Owed know t (grown_at t (to s).1 es) z (f u) shown) (same_use f view) (owes led.1 led.2 (found s) u led.3.3 t (to s).1 p) in
+        let owed = rw (same_use f view) at (owes led.1 led.2 (found s) u led.3.3 t (to s).1 p) in
         let keeps : Meets holds ways (to s).0 (to s).1 (views_after id (what view) (all vs) u) → Kept = λ met.
-        let met' : Meets holds ways (to s).0 (to s).1 (all us) = subst (λ l. Meets holds ways (to s).0 (to s).1 l) (sym (same_after id view vs w)) met in
+        let met' : Meets holds ways (to s).0 (to s).1 (all us) = rw (same_after id view vs w) met in
         carrying_of know t (grown_at t (to s).1 es) (use_of (λ v. f v.0) view) (f u) shown owed ((meets.0.0, met'.0, led.3.0), numbered f us way met'.1) in (
           w,
           es,
-          subst (λ (z : Use × ℕ). Going way z.0 (f u) shown z.1 Kept) (λ i. (same_use f view i, as_many_read f vs i)) (going_map way (use_of f (what view)) (f u) shown (readers_of f (all vs)) keeps going),
+          rw (same_use f view, as_many_read f vs) at (going_map way (use_of f (what view)) (f u) shown (readers_of f (all vs)) keeps going),
           (led.1, led.2, refl, refl, led.3.1, led.3.2, led.3.3),
         )
 
@@ -120,7 +120,7 @@ module _ {W V C L A X S : Type 0} (m : Machine W V C L A) (seat_of : X → Seat 
     rest.0,
     λ n t before behind is. (
       is.0,
-      subst (λ l. holds n t.word l) (sym (map-append (λ (w : Numbered X). w.0) before behind)) (rest.1 n t.word (all before) (all behind) (subst (λ l. holds n t.word l) (map-append (λ (w : Numbered X). w.0) before (v ∷ behind)) is.1)),
+      rw (map-append (λ (w : Numbered X). w.0) before behind) (rest.1 n t.word (all before) (all behind) (rw (map-append (λ (w : Numbered X). w.0) before (v ∷ behind)) at is.1)),
       owns.leave m seat_of words_of v idle (n, t.word) t.entries before behind is.2,
     ),
   )
