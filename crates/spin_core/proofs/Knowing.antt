@@ -45,5 +45,5 @@ module _ {V : Type 0} (part : V → Part) where
   -- a lock that is held only to write has at most one holder
   pub one_holds : ((v : V) → Writes (part v)) → (vs : List V) (s : Plain) → IsInOrder s → IsLockOf part vs s → OneHolds s
   one_holds each vs s order is =
-      let all : AllWrite s.holders = all_write s.holders (λ p. subst AllWrite (sym (ap (λ e. e.holders) (is p).0)) (at_each each vs p p)) in
+      let all : AllWrite s.holders = all_write s.holders (λ p. rw (ap (λ e. e.holders) (is p).0) (at_each each vs p p)) in
       grind (arith, order.exclusive.writer)

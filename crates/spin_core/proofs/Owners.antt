@@ -48,7 +48,7 @@ module _ {X : Type 0} (owner : X → ℕ) (weight : X → ℕ) where
     counted k [] xs owns = rw (let e : k + 0 ≡ k = omega arith in e) (omega arith)
     counted k (v ∷ vs) xs owns =
         let rest = counted (suc k) vs xs (λ p i e. owns p (suc i) (omega arith)) in
-        let far : below (suc k + length vs) xs ≡ below (k + suc (length vs)) xs = ap (λ j. below j xs) (let e : suc k + length vs ≡ k + suc (length vs) = omega arith in e) in
+        let e : suc k + length vs ≡ k + suc (length vs) = omega arith in let far : below (suc k + length vs) xs ≡ below (k + suc (length vs)) xs = ap (λ j. below j xs) e in
         omega (arith, one_more k xs, owns k 0 (omega arith), same k v, sum_by-cons has v vs)
 
     all : (vs : List V) (xs : List X) → ((p : ℕ) → own p xs ≡ gives p (part_at part vs p)) → sum_by has vs ≡ below (0 + length vs) xs

@@ -20,7 +20,7 @@ use Rattle.spin_core.proofs.Runs as runs
 -- Lists of numbered parties.
 
 present_from-append : {X : Type 0} (k j : ℕ) (us ws : List (Option (X × ℕ))) → j ≡ k + length us → present_from k (us ++ ws) ≡ present_from k us ++ present_from j ws
-present_from-append k j [] ws is = ap (λ i. present_from i ws) (let e : k ≡ j = omega (arith, is) in e)
+present_from-append k j [] ws is = let e : k ≡ j = omega (arith, is) in rw e
 present_from-append k j (None ∷ us) ws is = present_from-append (suc k) j us ws (omega (arith, is))
 present_from-append k j (Some u ∷ us) ws is = ap (λ vs. (u.0, k, u.1) ∷ vs) (present_from-append (suc k) j us ws (omega (arith, is)))
 
@@ -57,10 +57,10 @@ module _ {C V : Type 0} where
 
   by_other : (q p : ℕ) (own : List (Move C V)) → p ≢ q → entries_by q (by_party p own) ≡ []
   by_other q p [] other = refl
-  by_other q p (move ∷ own) other = ap (λ b. if b then (p, move) ∷ entries_by q (by_party p own) else entries_by q (by_party p own)) (ne_eqb p q other) ∙ by_other q p own other
+  by_other q p (move ∷ own) other = rw (ne_eqb p q other) (by_other q p own other)
 
   none_of_both : (q : ℕ) (xs ys : List (Entry C V)) → entries_by q xs ≡ [] → entries_by q ys ≡ [] → entries_by q (xs ++ ys) ≡ []
-  none_of_both q xs ys e d = by-append q xs ys ∙ ap (λ l. l ++ entries_by q ys) e ∙ d
+  none_of_both q xs ys e d = rw (by-append q xs ys, e) d
 
   module _ (log : List (Entry C V)) where
     -- a party that is present has made no entry since its mark

@@ -28,7 +28,7 @@ module _ {C V : Type 0} where
 
   own_of : (p : ℕ) (own : List (Move C V)) → entries_by p (by_party p own) ≡ by_party p own
   own_of p [] = refl
-  own_of p (move ∷ own) = ap (λ b. if b then (p, move) ∷ entries_by p (by_party p own) else entries_by p (by_party p own)) (eq-eqb p p refl) ∙ ap (λ l. (p, move) ∷ l) (own_of p own)
+  own_of p (move ∷ own) = rw (eq-eqb p p refl, own_of p own)
 
 -- R accepts moves of P followed by moves of Q
 abbrev pub Joins : (V C A : Type 0) → Course V C A → Course V C A → Course V C A → Type 0
@@ -59,15 +59,15 @@ module _ {W V C L A : Type 0} (m : Machine W V C L A) where
   by-own p s [] = refl
   by-own p s (move ∷ own) =
       let h = happens m s p move in
-      ap (λ b. if b then h.outcome ∷ outcomes_by m p h.next (by_party p own) else outcomes_by m p h.next (by_party p own)) (eq-eqb p p refl) ∙ ap (λ l. h.outcome ∷ l) (by-own p h.next own)
+      rw (eq-eqb p p refl, by-own p h.next own)
 
   -- moves of a party up to a later trace, followed by its moves up to a still later one, are its moves over both
   pub did_both : (p : ℕ) (a b c : Schedule) (own own' : List (Move C V)) (outs outs' : List (Outcome A V)) → Did m p a b own outs → Did m p b c own' outs' → Did m p a c (own ++ own') (outs ++ outs')
   did_both p a b c own own' outs outs' (more, least, is, mine, played, came) (more', least', is', mine', played', came') = (
     more ++ more',
     least + least',
-    is' ∙ ap (λ l. l ++ more') is ∙ append_assoc a more more',
-    by-append p more more' ∙ ap (λ l. l ++ entries_by p more') mine ∙ ap (λ l. by_party p own ++ l) mine' ∙ sym (map-append (λ move. (p, move)) own own'),
+    cc (append_assoc a more more'),
+    rw (by-append p more more', mine, mine') (sym (map-append (λ move. (p, move)) own own')),
     (λ k. let e : least + least' + k ≡ least' + (least + k) = omega arith in rw e (played' (least + k))),
     λ k. let start : State W V C L = at_first m (least + least' + k) in
         let one : least + (least' + k) ≡ least + least' + k = omega arith in let two : least' + (least + k) ≡ least + least' + k = omega arith in
@@ -94,9 +94,9 @@ module _ {W V C L A : Type 0} (m : Machine W V C L A) where
   module _ {X S : Type 0} (seat_of : X → Seat C L) (words_of : W → ℕ × S) where
     -- the party has made no entry since it knew `old`
     none_between : (view : Option (Numbered X)) (p : ℕ) (old log : Schedule) (known : IsPrefix old log) → mark_of view ≡ length old → MadeNone m seat_of words_of log p view → MayBe p view × (entries_by p known.0 ≡ [])
-    none_between None p old log known knew none = (tt, ap (entries_by p) (ap (λ l. l ++ known.0) (sym (nothing_known old knew)) ∙ known.1) ∙ none)
+    none_between None p old log known knew none = (tt, (let e = nothing_known old knew in let is : known.0 ≡ log = rw e at known.1 in rw is none))
     none_between (Some u) p old log known knew none =
-        (none.0, ap (entries_by p) (sym (drop-append_seam old known.0) ∙ ap (λ n. drop n (old ++ known.0)) (sym knew) ∙ ap (drop u.2) known.1) ∙ none.1)
+        (none.0, rw (← drop-append_seam old known.0, ← knew, known.1) none.1)
 
     -- what a step tells a party that knew all entries up to its last step: its moves, and that it knows all entries up to this step
     pub learns : (says : Says V C A X) (named : Type 0) (view : Option (Numbered X)) (before now : Watch (Entry C V)) (n : ℕ) (v : Numbered X)
@@ -114,8 +114,8 @@ module _ {W V C L A : Type 0} (m : Machine W V C L A) where
             (
               between ++ by_party p own,
               least,
-              is ∙ ap (λ l. log ++ l) es_is ∙ ap (λ l. l ++ by_party p own) (sym here) ∙ append_assoc before.entries between (by_party p own),
-              by-append p between (by_party p own) ∙ ap (λ l. l ++ entries_by p (by_party p own)) apart.1 ∙ own_of p own,
+              cc (append_assoc before.entries between (by_party p own)),
+              rw (by-append p between (by_party p own), apart.1, own_of p own),
               subst (IsPlayed m least) (sym is) mine.3,
               λ k. let start : State W V C L = at_first m (least + k) in let s : State W V C L = after m start before.entries in
                   let there : after m s between ≡ after m start log = sym (after-append m start before.entries between) ∙ ap (after m start) here in
@@ -153,14 +153,14 @@ module _ {W V C L A X S : Type 0} (m : Machine W V C L A) (seat_of : X → Seat 
 
 pub replicate-sum : {X : Type 0} (i j : ℕ) (x : X) → replicate (i + j) x ≡ replicate i x ++ replicate j x
 replicate-sum zero j x = ap (λ n. replicate n x) (zero-add j)
-replicate-sum (suc i) j x = ap (λ n. replicate n x) (let e : suc i + j ≡ suc (i + j) = omega arith in e) ∙ ap (λ l. x ∷ l) (replicate-sum i j x)
+replicate-sum (suc i) j x = let e : suc i + j ≡ suc (i + j) = omega arith in rw (e, replicate-sum i j x)
 
 module _ {X : Type 0} (x : X) (i j : ℕ) (xs ys : List X) where
   on_and_on : xs ≡ replicate i x → ys ≡ replicate j x → xs ++ ys ≡ replicate (i + j) x
-  on_and_on is are = ap (λ l. l ++ ys) is ∙ ap (λ l. replicate i x ++ l) are ∙ sym (replicate-sum i j x)
+  on_and_on is are = cc (replicate-sum i j x)
 
   on_and_out : (z : X) → xs ≡ replicate i x → ys ≡ replicate j x ++ z ∷ [] → xs ++ ys ≡ replicate (i + j) x ++ z ∷ []
-  on_and_out z is are = ap (λ l. l ++ ys) is ∙ ap (λ l. replicate i x ++ l) are ∙ sym (append_assoc (replicate i x) (replicate j x) (z ∷ [])) ∙ ap (λ l. l ++ z ∷ []) (sym (replicate-sum i j x))
+  on_and_out z is are = cc (append_assoc (replicate i x) (replicate j x) (z ∷ []), replicate-sum i j x)
 
 module _ {V C A : Type 0} where
   pub waits_on : Joins V C A Waits Waits Waits

@@ -82,8 +82,7 @@ module _ {V S : Type 0} (lock : Lock V S) where
   pub by_exchange : (view : Option V) (won lost : V) (s : Plain) (p n : ℕ) (m : S) (expected new : ℕ) → (n ≡ expected → Reaches view won s p new m) → Reaches view lost s p n m
       → (w : V) × Reaches view w s p (either (n == expected) new n) m × (w ≡ (if n == expected then won else lost))
   by_exchange view won lost s p n m expected new hit miss =
-      let G : Bool → Type 0 = λ y. (w : V) × Reaches view w s p (either y new n) m × (w ≡ (if y then won else lost)) in
-      dite (ℕ_discrete n expected) (λ e. subst G (sym (eq-eqb n expected e)) (won, hit e, refl)) (λ ne. subst G (sym (ne_eqb n expected ne)) (lost, miss, refl))
+      dite (ℕ_discrete n expected) (λ e. rw (eq-eqb n expected e) (won, hit e, refl)) (λ ne. rw (ne_eqb n expected ne) (lost, miss, refl))
 
   after_step : (id : ℕ) (view : Option V) (vs : List V) (w : V) (s : Plain) (n : ℕ) (m : S) → Stands id view vs → s.cap ≡ cap → IsInOrder s → IsLockOf part vs s
       → Reaches view w s (number part id view vs) n m → Meets Holds ways n m (after id view vs w)
@@ -171,7 +170,7 @@ module _ {V : Type 0} (lock : Lock V (Unit {0})) where
       → ((s : Plain) (p : ℕ) → entries_after s (Some (gets p ask)) (entries_of p nothing) ≡ entries_of p (part won)) → ((s : Plain) → Knows s (part won))
       → Grants ask old new → Allows (Holds lock) (ways lock) view (λ n. either (n == old) new n) (λ n v. v ≡ (if n == old then won else lost n))
   exchanges_at view ask won lost old new had none comes knows grants =
-      gets_at view ask won lost old new (λ s p. ap (λ x. entries_after s (Some (gets p ask)) (entries_of p x)) had ∙ comes s p) knows (λ n. had ∙ sym (none n)) (λ s n. rw (none n) tt)
+      gets_at view ask won lost old new (λ s p. rw had (comes s p)) knows (λ n. had ∙ sym (none n)) (λ s n. rw (none n) tt)
       (λ s p vs room order is has small e. grants s p order room e)
 
   module _ (weight : Kind → ℕ) (sums : (s : Plain) → first s ≡ sum_kinds weight s.holders) (bounded : (s : Plain) → s.cap ≡ cap → IsInOrder s → first s < 2 ^ 63) where

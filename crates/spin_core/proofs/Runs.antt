@@ -152,7 +152,7 @@ module _ {W V C L A X S : Type 0} (m : Machine W V C L A) (seat_of : X → Seat 
 
   seats-seam : (front back : List (Option X)) (o : Option X) (ys : List (Seat C L))
       → seats (front ++ o ∷ back) ++ ys ≡ seats front ++ sits o ∷ (seats back ++ ys)
-  seats-seam front back o ys = ap (λ xs. xs ++ ys) (map-append sits front (o ∷ back)) ∙ append_assoc (seats front) (seats (o ∷ back)) ys
+  seats-seam front back o ys = rw (map-append sits front (o ∷ back)) (append_assoc (seats front) (seats (o ∷ back)) ys)
 
   -- a party joins, and sits idle until its first step
   pub comes : (log : Schedule) (w : W) (value : Option V) (came : List (Option X)) → Leads log w value came → Leads log w value (came ++ None ∷ [])
@@ -162,7 +162,7 @@ module _ {W V C L A X S : Type 0} (m : Machine W V C L A) (seat_of : X → Seat 
 
   pub plays_more : (log : Schedule) (came : List (Option X)) → IsPlayed m (length came) log → IsPlayed m (length (came ++ None ∷ [])) log
   plays_more log came played more =
-      ap (λ count. list_all is_played (outcomes m (at_first m count) log)) (let a = length-append came (None ∷ []) in omega arith) ∙ played (suc more)
+      let a = length-append came (None ∷ []) in let e : length (came ++ None ∷ []) + more ≡ length came + suc more = omega arith in rw e (played (suc more))
 
   -- A party that has other parties before it and behind it.
   module _ (log : Schedule) (w : W) (value : Option V) (front back : List (Option X)) (o : Option X) (leads : Leads log w value (front ++ o ∷ back))

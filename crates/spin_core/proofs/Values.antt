@@ -46,7 +46,7 @@ module _ {C V : Type 0} where
   step_leaves false c end own outs is v = ap (λ o. left o v) is.0
 
   pub write_leaves : {A : Type 0} (x : V) (goes_on : Bool) (c : C) (end : Outcome A V) (own : List (Move C V)) (outs : List (Outcome A V)) → Writes x (IsStep goes_on c end) own outs → (v : V) → left own v ≡ x
-  write_leaves x goes_on c end own outs (rest, comes, is, came, step) v = ap (λ o. left o v) is ∙ step_leaves goes_on c end rest comes step x
+  write_leaves x goes_on c end own outs (rest, comes, is, came, step) v = rw is (step_leaves goes_on c end rest comes step x)
 
   -- so a step of a call writes nothing, for a party that does not use the value
   pub steps_leave : {A : Type 0} (u u' : Use) (shown : Option V) → u ≡ off → (goes_on : Bool) (c : C) (end : Outcome A V) (own : List (Move C V)) (outs : List (Outcome A V)) → IsStep goes_on c end own outs → Leaves u u' shown own
@@ -98,4 +98,4 @@ module _ {C V : Type 0} where
 
     -- a later value is the last one written since the earlier look, or the value of that look if nothing was written
     pub read_on : (old new more : List (Entry C V)) (x y : V) → opening.told ≡ true → new ≡ old ++ more → IsLast opening old x → IsLast opening new y → latest x more ≡ y
-    read_on old new more x y told grew is is' = ap (λ z. latest z more) (sym (is told)) ∙ sym (latest-append opening.value old more) ∙ ap (latest opening.value) (sym grew) ∙ is' told
+    read_on old new more x y told grew is is' = cc (is told, is' told, latest-append opening.value old more)
