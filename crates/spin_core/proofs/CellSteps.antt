@@ -1,7 +1,7 @@
 -- One step on the words of a cell. The party gives back what it had of the value, gets a new view, and takes the part of the value that
 -- this view uses. The step also appends to the trace and updates a watch. Assumes `Logic`.
 --     first_steps, second_steps     a step on the first word, and one on the word next to the trace
-use Rattle.std.proofs.Common.{◌≡◌, ◌⊎◌, ◌∙◌, ◌++◌, ℕ, ◌+◌, T, [], ◌∷◌, List, refl, sym, subst, w64, Option, Some, None, ap, ◌<◌}
+use Rattle.std.proofs.Common.{arith, ◌≡◌, ◌⊎◌, ◌∙◌, ◌++◌, ℕ, ◌+◌, T, [], ◌∷◌, List, refl, sym, subst, w64, Option, Some, None, ap, ◌<◌}
 use mathlib.Core.Logic.{inl, inr}
 use mathlib.Core.List.{IsPrefix}
 use seplogic.Ra.Ura.{Ura}
@@ -154,8 +154,8 @@ module _ {M : Type 1} {𝓤 : Ura M} (𝓛 : Logic 𝓤) (Er Ur : RattleType) wh
       shifts : Stands id view vs → Limits way (readers_of f vs) (writers_of f vs) → ⟦ states m vs ⟧ ∗ ⟦ Held u v ⟧ ⊢ upd 𝓤 (⟦ states s.1 us ⟧ ∗ ⟦ Got s.1 w ⟧)
       shifts h lim =
           let r = splits (λ y. reading (f y)) id view vs h in let q = splits (λ y. writing (f y)) id view vs h in
-          let was_r : readers_of f vs ≡ value.with_reader u r.0 = r.1 ∙ ap (λ n. r.0 + n) (use_part reading refl view) ∙ value.one_reader u r.0 in
-          let was_w : writers_of f vs ≡ value.with_writer u q.0 = q.1 ∙ ap (λ n. q.0 + n) (use_part writing refl view) ∙ value.one_writer u q.0 in
+          let was_r : readers_of f vs ≡ value.with_reader u r.0 = omega (arith, r.1, use_part reading refl view, value.one_reader u r.0) in
+          let was_w : writers_of f vs ≡ value.with_writer u q.0 = omega (arith, q.1, use_part writing refl view, value.one_writer u q.0) in
           let now_r : readers_of f us ≡ value.with_reader (f w) r.0 = r.2 w ∙ value.one_reader (f w) r.0 in
           let now_w : writers_of f us ≡ value.with_writer (f w) q.0 = q.2 w ∙ value.one_writer (f w) q.0 in
           let Turns : (ℕ × ℕ) × (ℕ × ℕ) → Type 1 = λ z. Limits way z.0.0 z.0.1 → Going way u (f w) v z.0.0 (Limits way z.1.0 z.1.1)

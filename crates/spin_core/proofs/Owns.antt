@@ -31,14 +31,14 @@ split : {X : Type 0} (k : ℕ) (came : List (Option (X × ℕ))) (before : List 
 split k [] [] v behind e = cc (e)
 split k [] (x ∷ before) v behind e = cc (e)
 split k (None ∷ us) before v behind e =
-    let s = split (suc k) us before v behind e in (None ∷ s.0, s.1, ap (λ ws. None ∷ ws) s.2, s.3, (let i = s.4 in omega (arith, i)), s.5)
+    let s = split (suc k) us before v behind e in (None ∷ s.0, s.1, ap (λ ws. None ∷ ws) s.2, s.3, omega (arith, s.4), s.5)
 split {X} k (Some u ∷ us) [] v behind e =
     let same : v ≡ (u.0, k, u.1) = cc (e) in let rest : behind ≡ present_from (suc k) us = cc (e) in
-    ([], us, ap (λ (w : Numbered X). Some (w.0, w.2) ∷ us) (sym same), refl, (let i : v.1 ≡ k = ap (λ (w : Numbered X). w.1) same in omega (arith, i)), rest ∙ ap (λ (w : Numbered X). present_from (suc w.1) us) (sym same))
+    ([], us, ap (λ (w : Numbered X). Some (w.0, w.2) ∷ us) (sym same), refl, omega (arith, ap (λ (w : Numbered X). w.1) same), rest ∙ ap (λ (w : Numbered X). present_from (suc w.1) us) (sym same))
 split {X} k (Some u ∷ us) (x ∷ before) v behind e =
     let same : x ≡ (u.0, k, u.1) = cc (e) in let rest : before ++ v ∷ behind ≡ present_from (suc k) us = cc (e) in
     let s = split (suc k) us before v behind rest in
-    (Some u ∷ s.0, s.1, ap (λ ws. Some u ∷ ws) s.2, (ap (λ y. y ∷ before) same ∙ ap (λ ws. (u.0, k, u.1) ∷ ws) s.3), (let i = s.4 in omega (arith, i)), s.5)
+    (Some u ∷ s.0, s.1, ap (λ ws. Some u ∷ ws) s.2, (ap (λ y. y ∷ before) same ∙ ap (λ ws. (u.0, k, u.1) ∷ ws) s.3), omega (arith, s.4), s.5)
 
 -- The entries of one party.
 
@@ -93,7 +93,7 @@ module _ {C V : Type 0} where
       es = by_party p own
 
       on : (k mark : ℕ) → p ≢ k → (mark ≤ length log) × (entries_by k (drop mark log) ≡ []) → (mark ≤ length (log ++ es)) × (entries_by k (drop mark (log ++ es)) ≡ [])
-      on k mark other r = ((let a = length-append log es in let b = r.0 in omega (arith, a, b)), ap (entries_by k) (drop-append-le mark log es r.0) ∙ none_of_both k (drop mark log) es r.1 (by_other k p own other))
+      on k mark other r = (omega (arith, length-append log es, r.0), ap (entries_by k) (drop-append-le mark log es r.0) ∙ none_of_both k (drop mark log) es r.1 (by_other k p own other))
 
       later : {X : Type 0} (k : ℕ) (us : Came X) → p < k → Rested log k us → Rested (log ++ es) k us
       later k [] under r = λ q le. none_of_both q log es (r q le) (by_other q p own (λ e. absurd (omega (arith, under, le, e))))

@@ -72,11 +72,8 @@ module _ {W V C L A : Type 0} (m : Machine W V C L A) where
     λ k. let start : State W V C L = at_first m (least + least' + k) in
         let one : least + (least' + k) ≡ least + least' + k = omega arith in let two : least' + (least + k) ≡ least + least' + k = omega arith in
         let there : after m (after m start a) more ≡ after m start b = sym (after-append m start a more) ∙ ap (after m start) (sym is) in
-        by-both p (after m start a) more more'
-        ∙ ap (λ l. l ++ outcomes_by m p (after m (after m start a) more) more')
-        (ap (λ n. outcomes_by m p (after m (at_first m n) a) more) (sym one) ∙ came (least' + k))
-        ∙ ap (λ l. outs ++ l) (ap (λ z. outcomes_by m p z more') there
-        ∙ ap (λ n. outcomes_by m p (after m (at_first m n) b) more') (sym two) ∙ came' (least + k)),
+        let first = rw one at (came (least' + k)) in let second = rw two at (came' (least + k)) in
+        rw (by-both p (after m start a) more more', first, there, second),
   )
 
   module _ {X : Type 0} where
@@ -119,9 +116,7 @@ module _ {W V C L A : Type 0} (m : Machine W V C L A) where
               subst (IsPlayed m least) (sym is) mine.3,
               λ k. let start : State W V C L = at_first m (least + k) in let s : State W V C L = after m start before.entries in
                   let there : after m s between ≡ after m start log = sym (after-append m start before.entries between) ∙ ap (after m start) here in
-                  by-both p s between (by_party p own) ∙ ap (λ l. l ++ outcomes_by m p (after m s between) (by_party p own)) (by-others p between apart.1 s)
-                  ∙ by-own p (after m s between) own ∙ ap (λ z. outcomes m z (by_party p own)) there
-                  ∙ ap (outcomes m (after m start log)) (sym es_is) ∙ mine.4 k,
+                  rw (by-both p s between (by_party p own), by-others p between apart.1 s, by-own p (after m s between) own, there, ← es_is) (mine.4 k),
             ),
             said,
           ),

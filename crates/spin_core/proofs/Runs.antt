@@ -177,7 +177,7 @@ module _ {W V C L A X S : Type 0} (m : Machine W V C L A) (seat_of : X → Seat 
     comes_to : (u : Option X) (more : ℕ)
         → after m (at_first m (length (with u) + more)) log ≡ world w value (seats front ++ sits o ∷ (seats back ++ replicate more Idle))
     comes_to u more =
-        ap (λ k. after m (at_first m (k + more)) log) (as_many u) ∙ leads more ∙ ap (world w value) (seats-seam front back o (replicate more Idle))
+        rw (as_many u, leads more, seats-seam front back o (replicate more Idle))
 
     -- whether a schedule is played depends on the number of parties, not on what this party is
     pub plays_on : (u : Option X) → IsPlayed m (length (with u)) log
@@ -186,8 +186,7 @@ module _ {W V C L A X S : Type 0} (m : Machine W V C L A) (seat_of : X → Seat 
     -- the party leaves, and its seat is idle from then on
     pub leaves : sits o ≡ Idle → Leads log w value (with None)
     leaves idle more =
-        let behind = seats back ++ replicate more Idle in
-        comes_to None more ∙ ap (world w value) (ap (λ seat. seats front ++ seat ∷ behind) idle ∙ sym (seats-seam front back None (replicate more Idle)))
+        rw (comes_to None more, idle, seats-seam front back None (replicate more Idle))
 
     -- the party makes its moves among others, with the outcomes that they have in a world of its own
     pub goes : (v : X) (s : ℕ × S) (P : Course V C A) (moves : run.Goes m seat_of words_of o v w value s P) (p : ℕ)

@@ -1,5 +1,5 @@
 -- A lock's rule together with its trace of numbered parties. A step that keeps the rule and is moves of the model keeps both.
-use Rattle.std.proofs.Common.{◌≡◌, ℕ, zero, suc, ◌+◌, ◌++◌, ◌∷◌, map, length, Option, Some, None, List, [], refl, sym, ap, ◌∙◌, subst}
+use Rattle.std.proofs.Common.{arith, ◌≡◌, ℕ, zero, suc, ◌+◌, ◌++◌, ◌∷◌, map, length, Option, Some, None, List, [], refl, sym, ap, ◌∙◌, subst}
 use Rattle.std.specs.Prelude.{sum_by}
 use mathlib.Core.Option.{some, some-injective, some-ne-none}
 use lib.ListN.{get_elem?}
@@ -26,7 +26,7 @@ module _ {X : Type 0} where
 
   sums : (g : X → ℕ) (vs : List (Numbered X)) → sum_by g (all vs) ≡ sum_by (λ v. g v.0) vs
   sums g [] = refl
-  sums g (v ∷ vs) = sum_by-cons g v.0 (all vs) ∙ ap (λ n. g v.0 + n) (sums g vs) ∙ sym (sum_by-cons (λ w. g w.0) v vs)
+  sums g (v ∷ vs) = omega (arith, sum_by-cons g v.0 (all vs), sums g vs, sum_by-cons (λ w. g w.0) v vs)
 
   there : (vs : List (Numbered X)) (id : ℕ) (u : Numbered X) → get_elem? vs id ≡ some u → get_elem? (all vs) id ≡ some u.0
   there [] id u at = absurd (some-ne-none u (sym at))

@@ -92,8 +92,7 @@ module _ {C V : Type 0} where
     -- the value that a party wrote last is the one that it left
     pub wrote : (log es now : List (Entry C V)) (p : ℕ) (own : List (Move C V)) (x y : V) → now ≡ log ++ es → es ≡ by_party p own → ((v : V) → left own v ≡ y) → IsLast opening now x → opening.told ≡ true → y ≡ x
     wrote log es now p own x y is mine all so told =
-        let whole : now ≡ log ++ by_party p own = is ∙ ap (λ l. log ++ l) mine in
-        let here : latest opening.value now ≡ y = ap (latest opening.value) whole ∙ latest_left opening.value log p own ∙ all (latest opening.value log) in
+        let here : latest opening.value now ≡ y = rw (is, mine, latest_left opening.value log p own) (all (latest opening.value log)) in
         sym here ∙ so told
 
     -- a later value is the last one written since the earlier look, or the value of that look if nothing was written
