@@ -30,12 +30,10 @@ with_writer writes w = suc w
 with_writer _ w = w
 
 pub one_reader : (u : Use) (r : ℕ) → r + reading u ≡ with_reader u r
-one_reader reads r = omega arith
-one_reader _ r = omega arith
+one_reader u r = grind arith
 
 pub one_writer : (u : Use) (w : ℕ) → w + writing u ≡ with_writer u w
-one_writer writes w = omega arith
-one_writer _ w = omega arith
+one_writer u w = grind arith
 
 module _ {X : Type 0} where
   -- what a party is shown of the value x
@@ -68,33 +66,21 @@ module _ {X : Type 0} where
 
   -- a party that already uses the value learns no more than one that begins to use it
   finds_so : (way : Way X) (u u' : Use) (x : X) → Finds way off u' (shown_to u' x) → Finds way u u' (shown_to u' x)
-  finds_so way off u' x finds = finds
-  finds_so alone _ u' x finds = tt
-  finds_so _ _ u' x finds = tt
+  finds_so way u u' x finds = grind arith
 
   writes_so : (way : Way X) (x : X) → Preserves way writes writes (Some x) (Some x)
-  writes_so alone x = (refl, tt)
-  writes_so _ x = (refl, tt)
+  writes_so way x = grind arith
 
   rests_so : (way : Way X) → Preserves way off off None None
-  rests_so alone = (refl, tt)
-  rests_so _ = (refl, tt)
+  rests_so way = grind arith
 
   module _ (φ ψ : X → Type 0) where
     learns : (u u' : Use) (x : X) → ψ x → Learns ψ u u' (shown_to u x) (shown_to u' x)
-    learns writes writes x known = tt
-    learns off off x known = tt
-    learns off _ x known = known
-    learns _ off x known = known
-    learns _ _ x known = known
+    learns u u' x known = grind arith
 
     -- after a step ψ holds of the value, unless the party writes on
     known_after : (u u' : Use) (x : X) → (u ≡ writes → u' ≢ writes) → Carries φ ψ u u' (shown_to u x) → Had φ u x → ψ x
-    known_after off u' x turned owed had = owed x had
-    known_after reads u' x turned owed had = owed x had
-    known_after writes off x turned owed had = owed
-    known_after writes reads x turned owed had = owed
-    known_after writes writes x turned owed had = absurd (turned refl refl)
+    known_after u u' x turned owed had = grind arith
 
 module _ {M : Type 1} {𝓤 : Ura M} (𝓛 : Logic 𝓤) (R : RattleType) (L : RowLaws R) (b o : ℕ) (t : Id) where
   open (signs 𝓛) use {◌⊢◌, ◌∗◌, ⟦◌⟧}

@@ -21,10 +21,7 @@ module _ {X : Type 0} where
 
   -- without a known fact a step has nothing to show
   carries_nothing : (u v : Use) (shown : Option X) → Carries (λ x. Unit {0}) (λ x. Unit {0}) u v shown
-  carries_nothing writes writes shown = tt
-  carries_nothing writes _ None = tt
-  carries_nothing writes _ (Some x) = tt
-  carries_nothing _ v shown = λ x known. tt
+  carries_nothing u v shown = grind arith
 
   -- ---- the known fact of a value, beside another statement A
   module _ {S : Type 0} where
@@ -43,9 +40,7 @@ module _ {X : Type 0} where
 
     -- if somebody writes, A alone is enough
     pub knowing_none : (k : Knowledge S X) (m : S) (w : ℕ) (x : X) {A : Type 0} → 0 < w → A → Knowing k m w x A
-    knowing_none k m zero x some a = absurd (omega (arith, some))
-    knowing_none no_fact m (suc w) x some a = a
-    knowing_none (knows φ) m (suc w) x some a = a
+    knowing_none k m w x some a = grind arith
 
     knowing_freed : (k : Knowledge S X) (m : S) (w : ℕ) (y : X) {A B : Type 0} → Freeing k B → (B → A) → Knowing k m w y A
     knowing_freed no_fact m w y free to = to free
@@ -75,6 +70,4 @@ module _ {X : Type 0} where
 
   -- while somebody writes, nothing is known of the value
   pub unknown : (way : Way X) (r w : ℕ) (x : X) → Limits way r w → 0 < w → Fixed way r w x
-  unknown (fixes fact) (suc r) w x lim some = absurd (let e : suc r ≡ 0 = lim.1 some in omega (arith, e))
-  unknown (fixes fact) zero zero x lim some = absurd (omega (arith, some))
-  unknown _ r w x lim some = tt
+  unknown way r w x lim some = grind arith

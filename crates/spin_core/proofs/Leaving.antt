@@ -136,12 +136,12 @@ module _ {V : Type 0} (part : V → Part) (v : V) where
       unused,
       λ n m before behind is.
           let k : ℕ = length before in let s = is.0 in
-          let none : entries k s ≡ no_entries = (is.3 k).0 ∙ (ap (entries_of k) (gone_at before behind) ∙ nothing k) in (
+          let none : entries k s ≡ no_entries = rw ((is.3 k).0, gone_at before behind) (nothing k) in (
             moved_up k s,
             is.1,
             in_order-up k s is.2,
-            λ q. subst (HasPart (moved_up k s) q) (others_at before behind q) (
-              entries-up k q s none ∙ (ap (entries_up k) (is.3 (back k q)).0 ∙ (part-up k (back k q) (part_at part (before ++ v ∷ behind) (back k q)) ∙ ap (λ p. entries_of p (part_at part (before ++ v ∷ behind) (back k q))) (up-back k q))),
+            λ q. rw (← others_at before behind q) (
+              cc (entries-up k q s none, (is.3 (back k q)).0, part-up k (back k q) (part_at part (before ++ v ∷ behind) (back k q)), up-back k q),
               knows-up k s (part_at part (before ++ v ∷ behind) (back k q)) (is.3 (back k q)).1,
             ),
             is.4 ∙ sym (same_first k s),

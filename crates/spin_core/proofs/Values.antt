@@ -1,5 +1,5 @@
 -- Steps keep what is known of the value. Moves that write nothing keep it. A holder that releases writes the value that it leaves.
-use Rattle.std.proofs.Common.{◌≡◌, ℕ, Bool, true, false, Option, Some, None, List, [], ◌∷◌, ◌++◌, refl, sym, ap, ◌∙◌, subst}
+use Rattle.std.proofs.Common.{arith, ◌≡◌, ℕ, Bool, true, false, Option, Some, None, List, [], ◌∷◌, ◌++◌, refl, sym, ap, ◌∙◌, subst}
 use Rattle.std.specs.Option.{IfSome}
 use Rattle.spin_model.specs.declared.schedule.Move.{Move}
 use Rattle.spin_model.specs.declared.schedule.Outcome.{Outcome}
@@ -17,11 +17,7 @@ some_none x e = absurd cc
 
 -- A party that is shown a value after a step learns ψ of it, unless it writes on. This includes a party that stopped writing to read.
 tells : {V : Type 0} (ψ : V → Type 0) (u u' : Use) (before after : Option V) → (u ≡ writes → u' ≡ reads) → Shows u' before after → Learns ψ u u' before after → IfSome after ψ
-tells ψ u u' before None so shows learns = tt
-tells ψ writes reads before (Some x) so shows learns = learns
-tells ψ writes u' before (Some x) so shows learns = absurd (let e : u' ≡ reads = so refl in cc)
-tells ψ reads off before (Some x) so shows learns = absurd (some_none x shows)
-tells ψ _ u' before (Some x) so shows learns = learns
+tells ψ u u' before after so shows learns = grind arith
 
 -- a party that stops reading learns ψ of the value that it read
 leaves_told : {V : Type 0} (ψ : V → Type 0) (before after : Option V) → Learns ψ reads off before after → IfSome before ψ
