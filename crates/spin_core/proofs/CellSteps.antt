@@ -136,8 +136,7 @@ module _ {M : Type 1} {𝓤 : Ura M} (𝓛 : Logic 𝓤) (Er Ur : RattleType) wh
     Traced m = part_at S full_share m b at
 
     use_part : (g : Use → ℕ) → g off ≡ 0 → (w : Option V) → counted (λ x. g (f x)) w ≡ g (use_of f w)
-    use_part g none None = sym none
-    use_part g none (Some w) = refl
+    use_part g none w = grind arith
 
     -- what a step from m must show that leads to these words and views, while r parties read
     abbrev Owed : ℕ → Trace E U → ℕ × Trace E U → List V → V → Type 0

@@ -59,10 +59,7 @@ module _ {X : Type 0} where
   Had φ _ x = φ x
 
   shows : (u u' : Use) (x : X) → Shows u' (shown_to u x) (shown_to u' x)
-  shows off reads x = (x, refl)
-  shows off writes x = (x, refl)
-  shows _ off x = refl
-  shows _ _ x = refl
+  shows u u' x = grind arith
 
   -- a party that already uses the value learns no more than one that begins to use it
   finds_so : (way : Way X) (u u' : Use) (x : X) → Finds way off u' (shown_to u' x) → Finds way u u' (shown_to u' x)

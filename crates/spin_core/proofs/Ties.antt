@@ -42,8 +42,7 @@ module _ {X : Type 0} where
   same_after id (Some u) vs w = map-set (λ (v : Numbered X). v.0) vs id w
 
   pub same_use : (f : X → Use) (view : Option (Numbered X)) → use_of f (what view) ≡ use_of (λ v. f v.0) view
-  same_use f None = refl
-  same_use f (Some u) = refl
+  same_use f view = grind arith
 
   module _ (f : X → Use) (vs : List (Numbered X)) where
     pub as_many_read : readers_of f (all vs) ≡ readers_of (λ v. f v.0) vs

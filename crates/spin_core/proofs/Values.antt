@@ -21,8 +21,7 @@ tells ψ u u' before after so shows learns = grind arith
 
 -- a party that stops reading learns ψ of the value that it read
 leaves_told : {V : Type 0} (ψ : V → Type 0) (before after : Option V) → Learns ψ reads off before after → IfSome before ψ
-leaves_told ψ None after learns = tt
-leaves_told ψ (Some x) after learns = learns
+leaves_told ψ before after learns = grind arith
 
 module _ {C V : Type 0} where
   latest-append : (v : V) (xs ys : List (Entry C V)) → latest v (xs ++ ys) ≡ latest (latest v xs) ys
