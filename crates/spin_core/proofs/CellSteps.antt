@@ -1,7 +1,7 @@
 -- One step on the words of a cell. The party gives back what it had of the value, gets a new view, and takes the part of the value that
 -- this view uses. The step also appends to the trace and updates a watch. Assumes `Logic`.
 --     first_steps, second_steps     a step on the first word, and one on the word next to the trace
-use Rattle.std.proofs.Common.{arith, ◌≡◌, ◌⊎◌, ◌∙◌, ◌++◌, ℕ, ◌+◌, T, [], ◌∷◌, List, refl, sym, subst, w64, Option, Some, None, ap, ◌<◌}
+use Rattle.std.proofs.Common.{arith, ◌≡◌, ◌⊎◌, ◌∙◌, ◌++◌, ℕ, ◌+◌, T, [], ◌∷◌, List, refl, sym, subst, w64, Option, Some, ◌<◌}
 use mathlib.Core.Logic.{inl, inr}
 use mathlib.Core.List.{IsPrefix}
 use seplogic.Ra.Ura.{Ura}

@@ -1,6 +1,6 @@
 -- A party changes its use of a cell's value: it gives back what it had of the value, and takes what it may use. Assumes
 -- `Logic`.
-use Rattle.std.proofs.Common.{◌≡◌, ◌≢◌, ℕ, suc, ◌+◌, ◌-◌, ◌^◌, ◌<◌, Bool, zero, true, [], ◌∷◌, refl, sym, subst, arith, Option, Some, None}
+use Rattle.std.proofs.Common.{◌≡◌, ◌≢◌, ℕ, suc, ◌+◌, ◌-◌, ◌^◌, ◌<◌, Bool, zero, true, [], ◌∷◌, refl, subst, arith, Option, Some, None}
 use seplogic.Ra.Ura.{Ura}
 use base.Fraction.{full_share}
 use base.Stored.{Gv}
@@ -12,7 +12,7 @@ use denote.RattleType.{RattleType, RowLaws}
 use denote.SharingLaws.{contraction}
 use denote.Steps.{nothing}
 use Rattle.atomic_table.specs.Seated.{fact}
-use Rattle.spin_core.specs.Cell.{Going, Preserves, Shows, Finds, Carries, Learns, Use, off, reads, writes, Way, alone, lends, fixes, reading, writing, Limits, Fixed}
+use Rattle.spin_core.specs.Cell.{Going, Preserves, Shows, Finds, Carries, Learns, Use, off, reads, writes, Way, alone, lends, fixes, reading, writing, Limits}
 use Rattle.spin_core.specs.CellMemory.{Id, Round, round_code, tag, share, parts, piece, remains, idle, offset, shown, tracked, shared, resting, lying, state, reader}
 use Rattle.spin_core.proofs.CellWays.{going_rest}
 use Rattle.spin_core.proofs.CellParts.{parts_cut, parts_glue, parts_whole, parts_agree, pieces_agree, piece_cut}

@@ -1,5 +1,5 @@
 -- What a step can use about the whole lock, such as how many hold it, if it knows the views of all parties.
-use Rattle.std.proofs.Common.{◌≡◌, ℕ, zero, suc, ◌+◌, ◌≤◌, ◌==◌, cond, List, [], ◌∷◌, length, filter, refl, sym, ap, subst, arith}
+use Rattle.std.proofs.Common.{◌≡◌, ℕ, zero, suc, ◌+◌, ◌≤◌, ◌==◌, cond, List, [], ◌∷◌, length, filter, refl, ap, arith}
 use Rattle.std.proofs.lemmas.List.Sums.{sum_by-cons, count_by-le-length}
 use Rattle.spin_step.specs.Plain.{Plain, writing, Holder, same_kind, count_kind}
 use Rattle.spin_step.specs.Parties.{OneHolds}

@@ -1,5 +1,5 @@
 -- A party with nothing in the plain lock may leave. Those behind it move up by one place, and nothing else changes.
-use Rattle.std.proofs.Common.{◌≡◌, ℕ, zero, suc, pred, ◌-◌, ◌==◌, not, ◌&&◌, List, [], ◌∷◌, ◌++◌, map, length, filter, Some, refl, sym, ap, ◌∙◌, subst, arith}
+use Rattle.std.proofs.Common.{◌≡◌, ℕ, zero, suc, pred, ◌-◌, ◌==◌, not, ◌&&◌, List, [], ◌∷◌, ◌++◌, map, length, filter, Some, refl, sym, ap, ◌∙◌, arith}
 use Rattle.std.proofs.lemmas.List.{length-map}
 use Rattle.std.proofs.lemmas.List.Sums.{sum_by-cons}
 use Rattle.spin_step.specs.Plain.{Plain, Kind, Holder, holder, Ticket, ticket, weight, flag_word, rw_word, fair_word, next_word, serving_word}
@@ -8,7 +8,7 @@ use Rattle.spin_step.specs.Tickets.{numbered_from}
 use Rattle.spin_step.proofs.Exclusive.{exclusive-like}
 use Rattle.spin_step.proofs.Sums.{sum_kinds}
 use Rattle.spin_core.specs.Cell.{Use, off, Rests}
-use Rattle.spin_core.specs.Views.{Part, entries_of, Knows, HasPart, part_at, Encodes, no_word}
+use Rattle.spin_core.specs.Views.{Part, entries_of, Knows, part_at, Encodes, no_word}
 use Rattle.spin_step.specs.Orders.{IsInOrder}
 
 -- the new place of a party behind place k; `back`: the place that it had

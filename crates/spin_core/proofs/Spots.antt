@@ -1,5 +1,5 @@
 -- What a step tells a party that knows the lock's history, and what follows from all steps of a call.
-use Rattle.std.proofs.Common.{◌≡◌, ℕ, Bool, true, false, Some, None, List, length, ◌∙◌, subst}
+use Rattle.std.proofs.Common.{◌≡◌, ℕ, Bool, true, false, Some, None, List, length, ◌∙◌}
 use Rattle.spin_core.specs.Cell.{Moved}
 use Rattle.spin_core.specs.Own.{Tells, what}
 use Rattle.spin_core.specs.Passes.{Course, Says, IsStep, IsCall, WritesSome, Made, step_by, mark_of}

@@ -1,5 +1,5 @@
 -- A lock's rule together with its trace of numbered parties. A step that keeps the rule and is moves of the model keeps both.
-use Rattle.std.proofs.Common.{arith, ◌≡◌, ℕ, zero, suc, ◌+◌, ◌++◌, ◌∷◌, map, length, Option, Some, None, List, [], refl, sym, ap, ◌∙◌, subst}
+use Rattle.std.proofs.Common.{arith, ◌≡◌, ℕ, zero, suc, ◌++◌, ◌∷◌, map, length, Option, Some, None, List, [], refl, sym, ap}
 use Rattle.std.specs.Prelude.{sum_by}
 use mathlib.Core.Option.{some, some-injective, some-ne-none}
 use lib.ListN.{get_elem?}
@@ -16,7 +16,7 @@ use Rattle.spin_model.specs.Machines.{Machine}
 use Rattle.spin_model.specs.Schedules.{Entry}
 use Rattle.spin_core.specs.Run.{AreMoves, on_first, on_second, first, second}
 use Rattle.spin_core.specs.Passes.{Says}
-use Rattle.spin_core.specs.Own.{Numbered, by_party, what, IsRun, Tells, Runs}
+use Rattle.spin_core.specs.Own.{Numbered, by_party, what, Tells, Runs}
 use Rattle.spin_core.proofs.CellWays.{going_map, carrying_of}
 use Rattle.spin_core.proofs.Owns as owns
 
