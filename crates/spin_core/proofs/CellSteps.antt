@@ -33,6 +33,7 @@ use Rattle.spin_core.proofs.CellRounds.{held}
 use Rattle.spin_core.proofs.CellTurns as value
 use Rattle.spin_core.proofs.CellWays.{going_rest, going_map, carrying_rest, carrying_carries, learnt_of}
 use Rattle.spin_core.proofs.Signs.{signs}
+use Rattle.spin_core.proofs.WalkSteps.{knows}
 use Rattle.spin_core.proofs.TraceSteps.{appends, observes_whole, shows_whole}
 use Rattle.spin_core.proofs.TraceWord.{beside, with, Takes, word_apart}
 
@@ -172,10 +173,8 @@ module _ {M : Type 1} {𝓤 : Ura M} (𝓛 : Logic 𝓤) (Er Ur : RattleType) wh
           ⊢ ⟦ Core s ⟧ ∗ ⟦ moved (finding s.1.entries then k) ⟧
       leads then k so = let tells : V → Option R.Denot → Type 0 = finding s.1.entries then k in
           qed 𝓛 (‵ (roster cv.code ρ 0 us) ∷ ‵ (Stand (Some w)) ∷ ‵ (states s.1 us) ∷ ‵ (Got s.1 w) ∷ []) ∵
-          move ! (3 ∷ []) $ fpick ! (λ v'. fsplit ! $ fpick ! (λ kept. drop ! $ move ! (2 ∷ 0 ∷ []) $ fjoin ! $ nothing ! $
-          fpack ! (tells w v' × Keeps ways view (Some w) v v') (λ _. ftrue) ((so, learnt_of ways.2 s.1 u (f w) v v' kept.1), kept.0) $ fjoin ! $
-          fpack ! (V × Option R.Denot) (left_to tells) (w, v') $ move ! (2 ∷ []) $ nothing ! $
-          fpack ! (Meets holds ways s.0 s.1 us) (λ _. ftrue) (carrying_rest ways.2 m s.1 u (f w) v carrying) $ fjoin ! $ move ! (2 ∷ 0 ∷ []) $ fjoin ! $
+          move ! (3 ∷ []) $ fpick ! (λ v'. fsplit ! $ fpick ! (λ kept. drop ! $ move ! (2 ∷ 0 ∷ []) $ fjoin ! $ knows ! (tells w v' × Keeps ways view (Some w) v v') ((so, learnt_of ways.2 s.1 u (f w) v v' kept.1), kept.0) $ fjoin ! $
+          fpack ! (V × Option R.Denot) (left_to tells) (w, v') $ move ! (2 ∷ []) $ knows ! (Meets holds ways s.0 s.1 us) (carrying_rest ways.2 m s.1 u (f w) v carrying) $ fjoin ! $ move ! (2 ∷ 0 ∷ []) $ fjoin ! $
           fpack ! (List V) (core_at R b o t cv.code S holds ways s.0 s.1) us $ done !))
 
     -- the watch is a watch of the cell's trace, or knows nothing
@@ -221,8 +220,7 @@ module _ {M : Type 1} {𝓤 : Ura M} (𝓛 : Logic 𝓤) (Er Ur : RattleType) wh
           use1 𝓛 (‵ (Core s) ⊛ ‵ (moved (finding s.1.entries (told m.entries es) found))) (leads id vs m s w r.2 (told m.entries es) found r.3) $ split ! $
           -- context: [the core; what the step leaves; the trace; what the watch knows; the first word]
           move ! (2 ∷ 0 ∷ []) $ fjoin ! $ move ! (3 ∷ 0 ∷ []) $ fjoin ! $ fpack ! (ℕ × Trace E U) (standing R b o t cv.code S holds ways) s $
-          move ! (2 ∷ 1 ∷ []) $ fjoin ! $ nothing ! $
-          fpack ! (IsPrefix k m.entries × (Named holds ways γ → m.name ≡ γ)) (λ _. ftrue) (p, λ named. named n₀ m vs meets) $ fjoin ! $
+          move ! (2 ∷ 1 ∷ []) $ fjoin ! $ knows ! (IsPrefix k m.entries × (Named holds ways γ → m.name ≡ γ)) (p, λ named. named n₀ m vs meets) $ fjoin ! $
           fpack ! (ℕ × (List E × List E)) (seen_by γ k found) (m.name, (m.entries, es)) $ move ! (1 ∷ 0 ∷ []) $ done !)))))
 
       -- a step finds the word n, and puts `to n` in its place

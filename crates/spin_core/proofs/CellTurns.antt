@@ -18,6 +18,7 @@ use Rattle.spin_core.proofs.CellWays.{going_rest}
 use Rattle.spin_core.proofs.CellParts.{parts_cut, parts_glue, parts_whole, parts_agree, pieces_agree, piece_cut}
 use Rattle.spin_core.proofs.CellRounds.{begun, held, whole, renewed, rests_lent, rests_fixed}
 use Rattle.spin_core.proofs.Signs.{signs}
+use Rattle.spin_core.proofs.WalkSteps.{knows}
 
 -- the number of readers with one more party, which uses the value in this way
 abbrev pub with_reader : Use → ℕ → ℕ
@@ -247,7 +248,7 @@ module _ {M : Type 1} {𝓤 : Ura M} (𝓛 : Logic 𝓤) (R : RattleType) (L : R
   got_in : (way : Way X) (ψ : X → Type 0) (u u' : Use) (v v' : Option X) → Preserves way u u' v v' × Learns ψ u u' v v'
       → ⟦ Held u' way v' ⟧ ⊢ ⟦ Got way ψ u u' v ⟧
   got_in way ψ u u' v v' so = qed 𝓛 (‵ (Held u' way v') ∷ []) ∵
-      nothing ! $ fpack ! (Preserves way u u' v v' × Learns ψ u u' v v') (λ _. ftrue) so $ fjoin ! $
+      knows ! (Preserves way u u' v v' × Learns ψ u u' v v') so $ fjoin ! $
       fpack ! (Option X) (got way ψ u u' v) v' $ done !
 
   -- Before the step φ holds of a value that nobody writes; after it ψ does.

@@ -3,7 +3,7 @@
 use Rattle.std.proofs.Common.{◌≡◌, ℕ, zero, suc, List, [], ◌∷◌, refl}
 use seplogic.Ra.Ura.{Ura}
 use base.Logic.{SProp, ent, sep, emp, never_e, id⊢, via, fst∗, snd∗, emp∗}
-use base.Fml.{Fml, Share, ffalse, ftrue, fsep, fat}
+use base.Fml.{fex, Fml, Share, ffalse, ftrue, fsep, fat}
 use contract.Monad.{fact, fact_i, fact_use}
 use types.Logic.{Logic}
 use types.Run.{Opds, and_then, no_more}
@@ -11,13 +11,17 @@ use types.ByLocal.{at, get}
 use mir.Syntax.{place, copy}
 use mir.Val.{Val}
 use prog.Wp.{Env, spot_of}
-use types.Kit.{Goal, Seq, Step, Item, ‵, raw, given, ◌$◌, move, keep, fsplit, learn, rewrite, use0, use1}
-use denote.Steps.{heard}
+use types.Kit.{fpack, Goal, Seq, Step, Item, ‵, raw, given, ◌$◌, move, keep, fsplit, learn, rewrite, use0, use1}
+use denote.Steps.{nothing, heard}
 use denote.RawPtr.{Ptr, InBlock, block_ptr, null_ptr, block_of, count_of}
 
 module _ {M : Type 1} {𝓤 : Ura M} {𝓛 : Logic 𝓤} {K : Type 0} {Γ : List (Item 𝓤)} {G : Goal 𝓤 𝓛.H} where
   pub says : K → (φ : Type 0) → φ → Step K 𝓛 (raw (fact 𝓤 φ) ∷ Γ) G Γ G
   says t φ holds = use0 𝓛 (raw (fact 𝓤 φ)) (fact_i 𝓤 φ (emp 𝓤) holds)
+
+  -- a fact, as a formula
+  pub knows : K → (φ : Type 0) → φ → Step K 𝓛 (‵ (fex φ (λ _. ftrue)) ∷ Γ) G Γ G
+  knows t φ holds = record { go = λ s. nothing t $ fpack t φ (λ _. ftrue) holds $ s }
 
   -- if a null pointer owns nothing of this kind, a party that owns it has a pointer into a block
   pub lies : K → (F : Ptr → Fml) → F null_ptr ≡ ffalse → (p : Ptr) → (InBlock p → Seq K 𝓛 (‵ (F p) ∷ Γ) G) → Seq K 𝓛 (‵ (F p) ∷ Γ) G

@@ -6,7 +6,7 @@ use Rattle.spin_core.proofs.TraceTokens.{as_watch}
 use types.Kit.{keep, fsplit}
 use Rattle.spin_core.proofs.PermitFields.{as_hand, typed}
 use Rattle.spin_core.proofs.WalkSteps.{two, three}
-use Rattle.spin_core.proofs.Walking.{others, walks}
+use Rattle.spin_core.proofs.Walking.{walks}
 use Rattle.spin_core.proofs.CellWatchWalks.{begins_with, opens, asks_second, next, knowing}
 use Rattle.spin_core.specs.contracts.cell.Permit.load_second.{ended, clauses}
 use Rattle.spin_core.proofs.cell.Permit.load_second.Statement.{statement}
@@ -20,7 +20,7 @@ load_second_spec 𝓤 𝓛 𝓜 𝓡 wired T V E P K Mv L _ _ _ _ _ g d g' d' _ 
     walks 𝓛 (ended T V E P K Mv g d g' d') (clauses T V E P K Mv g d g' d' 𝓛 𝓜.mem 𝓡.returns) 𝓜 𝓡 (λ κs x f. refl, (λ κs x f. refl, tt)) _ fn (code.unfolded 𝓤 H 𝓜 𝓡 wired (T, (V, (E, (P, (K, (Mv, tt)))))) d d')
     (λ κs. (as_hand (named_lft 7 0 tt κs) R W Y Kr Sr g, (as_watch Er, tt))) (λ κs qs bounds a gh are Post out.
     let ℓ = named_lft 7 0 tt κs in let h = a.0 in let p = h.cell in let b = block_of p in let o = count_of p in
-    let seen = a.1.0 in let e = (o + second_at Sr R) + 0 in let os = others 5 κs.1.1 qs.1.1 in
+    let seen = a.1.0 in let e = (o + second_at Sr R) + 0 in
     let told' = g'.told h.key 0 0 h.view in let f : ℕ → ℕ = λ n. n in
     begins_with 𝓛 ℓ T W Y Kr Sr g ! 5 (_, (_, (_, (_, (_, tt))))) h (λ asked le inb.
     move ! (4 ∷ []) $ fsplit ! $ fsplit ! $ keep ! (3 ∷ 4 ∷ 5 ∷ 1 ∷ 6 ∷ []) $ alloc_all ! (λ l. pass_all ! refl (typed p inb, ((tt, (tt, tt)), tt)) $ let Ev = env fn.locals l in
@@ -32,4 +32,4 @@ load_second_spec 𝓤 𝓛 𝓜 𝓡 wired T V E P K Mv L _ _ _ _ _ g d g' d' _ 
     lands_last ! refl (tt, record { fits = fits }) $ exec ! 𝓣.C 𝓣.Λ Ev (tail (tail fn.body)) (at_ret Ev Post) $ sets ! (of_opd ! (get ! refl)) refl (tt, record { fits = fits }) $
     sets ! (agg ! (no_more !)) refl (tt, tt) $ sets ! (agg ! (two ! refl refl)) refl (tt, (tt, (tt, tt))) $
     sets ! (of_opd ! (get ! refl)) refl (tt, (tt, tt)) $ sets ! (agg ! (three ! refl refl refl)) refl (tt, (record { fits = fits }, ((tt, (tt, tt)), ((tt, tt), tt)))) $
-    closes.found ! tt n fits os (λ s l. returns ! (look_at ! 0 refl) $ free_all ! refl $ by ! (out _ (n, next h b o s, knowing l)))))))))
+    closes.found ! tt n fits _ (λ s l. returns ! (look_at ! 0 refl) $ free_all ! refl $ by ! (out _ (n, next h b o s, knowing l)))))))))

@@ -5,7 +5,7 @@ use Rattle.spin_core.proofs.TraceTokens.{as_watch}
 use types.Kit.{keep, fsplit}
 use Rattle.spin_core.proofs.PermitFields.{as_hand, typed}
 use Rattle.spin_core.proofs.WalkSteps.{two, three}
-use Rattle.spin_core.proofs.Walking.{others, walks, as_u64}
+use Rattle.spin_core.proofs.Walking.{walks, as_u64}
 use Rattle.spin_core.proofs.CellWatchWalks.{begins_with, opens, asks_first, next, knowing}
 use Rattle.spin_core.specs.contracts.cell.Permit.subtract.{ended, clauses}
 use Rattle.spin_core.proofs.cell.Permit.subtract.Statement.{statement}
@@ -19,7 +19,7 @@ subtract_spec 𝓤 𝓛 𝓜 𝓡 wired T V E S P K Mv L _ _ _ _ _ _ g d g' d' _
     walks 𝓛 (ended T V E S P K Mv g d g' d') (clauses T V E S P K Mv g d g' d' 𝓛 𝓜.mem 𝓡.returns) 𝓜 𝓡 (λ κs x f. refl, (λ κs x f. refl, (λ κs x f. refl, tt))) _ fn (code.unfolded 𝓤 H 𝓜 𝓡 wired (T, (V, (E, (S, (P, (K, (Mv, tt))))))) d d')
     (λ κs. (as_hand (named_lft 8 0 tt κs) R W Y Kr Sr g, (as_u64, (as_watch Er, tt)))) (λ κs qs bounds a gh are Post out.
     let ℓ = named_lft 8 0 tt κs in let h = a.0 in let p = h.cell in let b = block_of p in let o = count_of p in
-    let seen = a.1.1.0 in let os = others 6 κs.1.1 qs.1.1 in
+    let seen = a.1.1.0 in
     let by' = a.1.0 in let told' = g'.told h.key by' 0 h.view in let f : ℕ → ℕ = λ n. (n + (2 ^ 64 - by')) % 2 ^ 64 in
     begins_with 𝓛 ℓ T W Y Kr Sr g ! 6 (_, (_, (_, (_, (_, (_, tt)))))) h (λ asked le inb.
     move ! (4 ∷ []) $ fsplit ! $ move ! (1 ∷ []) $ fsplit ! $ fsplit ! $ keep ! (4 ∷ 5 ∷ 6 ∷ 1 ∷ 7 ∷ []) $ alloc_all ! (λ l. pass_all ! refl (typed p inb, ((tt, record { fits = are.1.0.1 }), ((tt, (tt, tt)), tt))) $ let Ev = env fn.locals l in
@@ -31,4 +31,4 @@ subtract_spec 𝓤 𝓛 𝓜 𝓡 wired T V E S P K Mv L _ _ _ _ _ _ g d g' d' _
     lands_last ! refl (tt, record { fits = fits }) $ exec ! 𝓣.C 𝓣.Λ Ev (tail (tail fn.body)) (at_ret Ev Post) $ sets ! (of_opd ! (get ! refl)) refl (tt, record { fits = fits }) $
     sets ! (agg ! (no_more !)) refl (tt, tt) $ sets ! (agg ! (two ! refl refl)) refl (tt, (tt, (tt, tt))) $
     sets ! (of_opd ! (get ! refl)) refl (tt, (tt, tt)) $ sets ! (agg ! (three ! refl refl refl)) refl (tt, (record { fits = fits }, ((tt, (tt, tt)), ((tt, tt), tt)))) $
-    closes.found ! tt n fits os (λ s l. returns ! (look_at ! 0 refl) $ free_all ! refl $ by ! (out _ (n, next h b o s, knowing l)))))))))
+    closes.found ! tt n fits _ (λ s l. returns ! (look_at ! 0 refl) $ free_all ! refl $ by ! (out _ (n, next h b o s, knowing l)))))))))
