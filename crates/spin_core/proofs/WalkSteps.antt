@@ -1,5 +1,5 @@
--- Rules for walks that the toolchain does not have: how to state a fact, why a pointer points into a block, and how to drop tokens and
--- facts that a walk does not use. Assumes `Logic`.
+-- Rules for walks that the toolchain does not have: how to state a fact, why a pointer points into a block, how to find what the contract
+-- asks among the facts that a walk does not use, and how to read several locals. Assumes `Logic`.
 use Rattle.std.proofs.Common.{◌≡◌, ℕ, zero, suc, List, [], ◌∷◌, refl}
 use seplogic.Ra.Ura.{Ura}
 use base.Logic.{SProp, ent, sep, emp, never_e, id⊢, via, fst∗, snd∗, emp∗}
