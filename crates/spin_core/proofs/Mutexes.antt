@@ -1,5 +1,5 @@
 -- A mutex whose trace is a schedule of its model: how the steps of its parties keep the rule, and what they tell.
-use Rattle.std.proofs.Common.{◌≡◌, ℕ, Bool, true, false, List, [], Option, Some, None, length, refl, sym, ap, ◌∙◌}
+use Rattle.std.proofs.Common.{arith, ◌≡◌, ℕ, Bool, true, false, List, [], Option, Some, None, length, refl, sym, ap, ◌∙◌}
 use mathlib.Core.Logic.{inr}
 use Rattle.spin_core.specs.Cell.{Use, off, writes, alone, Ways, no_fact, use_of, AllowsAt, AllowsSecondAt, Meets, Moved, Rests}
 use Rattle.spin_core.specs.Own.{Numbered, Runs, Tells, what}
@@ -26,8 +26,7 @@ use Rattle.spin_model.specs.Schedules.{Entry}
 
 -- if f has the same value at the idle view as without a view, it has the same value for each party that is out as for a new one
 pub as_new : {X Y : Type 0} (idle : X) (f : Option X → Y) → f (Some idle) ≡ f None → (view : Option X) → IsOut idle view → f view ≡ f None
-as_new idle f same None out = refl
-as_new idle f same (Some v) out = ap (λ w. f (Some w)) out ∙ same
+as_new idle f same view out = grind (arith, same)
 
 -- A mutex with its model and its opening. It says where each view sits in the model, and which of the model's words are the lock's.
 pub record Mutex (W V C L X S : Type 0) : Type 1 where

@@ -47,8 +47,7 @@ Came X = List (Option (X × ℕ))
 
 -- a party's entries with one more entry in front, which is the party's own or is not
 pub picked : {X : Type 0} (x : X) (ls rs ts : List X) → ls ≡ rs ++ ts → (b : Bool) → (if b then x ∷ ls else ls) ≡ (if b then x ∷ rs else rs) ++ ts
-picked x ls rs ts e true = ap (λ l. x ∷ l) e
-picked x ls rs ts e false = e
+picked x ls rs ts e b = grind arith
 
 module _ {C V : Type 0} where
   pub by-append : (q : ℕ) (xs ys : List (Entry C V)) → entries_by q (xs ++ ys) ≡ entries_by q xs ++ entries_by q ys
@@ -85,8 +84,7 @@ module _ {C V : Type 0} where
     goes k (Some x ∷ us) u back r = (r.0, goes (suc k) us u back r.1)
 
     behind : {X : Type 0} (k : ℕ) (o : Option (X × ℕ)) (back : Came X) → Rested log k (o ∷ back) → Rested log (suc k) back
-    behind k None back r = r
-    behind k (Some u) back r = r.1
+    behind k o back r = grind arith
 
     module _ (p : ℕ) (own : List (Move C V)) where
       abbrev es : List (Entry C V)

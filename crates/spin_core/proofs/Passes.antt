@@ -47,8 +47,7 @@ module _ {W V C L A : Type 0} (m : Machine W V C L A) where
   -- entries of others have no outcomes for the party
   unasked : (p : ℕ) (s : State W V C L) (x : Entry C V) (xs : Schedule) (b : Bool) → (if b then x ∷ entries_by p xs else entries_by p xs) ≡ [] → (entries_by p xs ≡ [] → (s' : State W V C L) → outcomes_by m p s' xs ≡ [])
       → (if b then (happens m s x.0 x.1).outcome ∷ outcomes_by m p (happens m s x.0 x.1).next xs else outcomes_by m p (happens m s x.0 x.1).next xs) ≡ []
-  unasked p s x xs true e rest = cc (e)
-  unasked p s x xs false e rest = rest e (happens m s x.0 x.1).next
+  unasked p s x xs b e rest = grind (arith, rest)
 
   by-others : (p : ℕ) (xs : Schedule) → entries_by p xs ≡ [] → (s : State W V C L) → outcomes_by m p s xs ≡ []
   by-others p [] none s = refl
@@ -77,8 +76,7 @@ module _ {W V C L A : Type 0} (m : Machine W V C L A) where
 
   module _ {X : Type 0} where
     same_number : (p q : ℕ) (view : Option (Numbered X)) → IsNumber p view → MayBe q view → q ≡ p
-    same_number p q None is may = absurd is
-    same_number p q (Some u) is may = may ∙ sym is
+    same_number p q view is may = grind arith
 
     -- if R accepts moves of P followed by moves of Q, a party that follows P and then Q follows R
     pub made_both : (u v w : Option (Numbered X)) (a b c : Schedule) (P Q R : Course V C A) → Joins V C A P Q R

@@ -1,5 +1,5 @@
 -- The machine values of the two permits: a pointer to the cell and an empty marker. Assumes `Logic`.
-use Rattle.std.proofs.Common.{◌&&◌, Bool, true, false, ◌≡◌, ℕ, T, List, [], ◌∷◌, ◌++◌, refl, sym, subst, ap, ◌∙◌, Option, Some, None}
+use Rattle.std.proofs.Common.{arith, ◌&&◌, Bool, true, false, ◌≡◌, ℕ, T, List, [], ◌∷◌, ◌++◌, refl, sym, subst, ap, ◌∙◌, Option, Some, None}
 use seplogic.Ra.Ura.{Ura}
 use mir.Syntax.{ty_ptr, ty_struct, tcons, tnil}
 use mir.Val.{Val, vstruct, vcons, vnil, of_list, has_ty, WT}
@@ -27,8 +27,7 @@ use Rattle.spin_core.specs.contracts.cell.WritePermit as pen
 use Rattle.spin_core.proofs.Walking.{Spelled}
 
 pub both : (a b : Bool) → T a → T b → T (a && b)
-both true b h k = k
-both false b h k = absurd h
+both a b h k = grind arith
 
 abbrev pub hand_of : Ptr → Val
 hand_of p = vstruct (vcons (ptr_val p) (vcons (vstruct vnil) vnil))
