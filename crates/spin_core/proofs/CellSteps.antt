@@ -9,14 +9,13 @@ use mir.Syntax.{ty_int}
 use mir.Val.{Val, vint, has_ty, WT}
 use base.Fraction.{full_share}
 use base.Logic.{SProp, ex, all, all_e, apply∗, guard, upd, upd_i}
-use base.Fml.{Share, Fml, ftrue, fsep, fex, flft, fbor}
+use base.Fml.{Share, Fml, fsep, fex, flft, fbor}
 use base.Stored.{Coded}
 use types.Logic.{Logic}
 use types.Kit.{‵, raw, ◌⊛◌, some, given, ◌$◌, ◌∵◌, !, qed, by, move, drop, group, split, fsplit, fjoin, fpick, fpack, pick, learn, check, rewrite, settle, suffices, use1, use2, done, show, frame, each, assume}
 use denote.RattleType.{RattleType, RowLaws}
 use denote.RawPtr.{block_ptr}
 use denote.Memory.{part_at, part_of, cell_at}
-use denote.Steps.{nothing}
 use denote.Builtin.{u64}
 use Rattle.core.specs.Sync.RawAtomic.{asks, always, word}
 use Rattle.core.proofs.raw_atomic.Asked.{borrowed, Lies, Again}

@@ -1,5 +1,5 @@
 -- A mutex whose trace is a schedule of its model: how the steps of its parties keep the rule, and what they tell.
-use Rattle.std.proofs.Common.{arith, ◌≡◌, ℕ, Bool, true, false, List, [], Option, Some, None, length, refl, sym, ap, ◌∙◌}
+use Rattle.std.proofs.Common.{arith, ◌≡◌, ℕ, Bool, true, false, List, [], Option, Some, None, length, sym, ap, ◌∙◌}
 use mathlib.Core.Logic.{inr}
 use Rattle.spin_core.specs.Cell.{Use, off, writes, alone, Ways, no_fact, use_of, AllowsAt, AllowsSecondAt, Meets, Moved, Rests}
 use Rattle.spin_core.specs.Own.{Numbered, Runs, Tells, what}

@@ -1,5 +1,5 @@
 -- The machine values of the two permits: a pointer to the cell and an empty marker. Assumes `Logic`.
-use Rattle.std.proofs.Common.{arith, ◌&&◌, Bool, true, false, ◌≡◌, ℕ, T, List, [], ◌∷◌, ◌++◌, refl, sym, subst, ap, ◌∙◌, Option, Some, None}
+use Rattle.std.proofs.Common.{arith, ◌&&◌, Bool, ◌≡◌, ℕ, T, List, [], ◌∷◌, ◌++◌, refl, sym, subst, ap, ◌∙◌, Option, Some, None}
 use seplogic.Ra.Ura.{Ura}
 use mir.Syntax.{ty_ptr, ty_struct, tcons, tnil}
 use mir.Val.{Val, vstruct, vcons, vnil, of_list, has_ty, WT}

@@ -122,10 +122,6 @@ module _ {V S : Type 0} (lock : Lock V S) where
       let s = fresh cap group ticket in let order = in_order-fresh cap group ticket within in let nobody : IsLockOf part [] s = λ p. (refl, tt) in
       ((s, refl, order, nobody, e, f), lock.fits [] s refl order nobody)
 
-  -- a load by a new party, which stays idle
-  pub looks : Allows Holds ways None (λ n. n) (becomes idle 0 0 None)
-  looks = allows None (λ n. n) (becomes idle 0 0 None) (λ s p room order has. (idle, by_none None idle s p (sym (ap (entries_of p) lock.is_idle.0)) (rw lock.is_idle.0 tt), refl))
-
   -- an exchange makes the step of its step function if it finds the old number; otherwise the party keeps its part
   pub exchanged : (view : Option V) (won : ℕ → V) (lost : V) (old new : ℕ) → ((s : Plain) (p : ℕ) → (entries_of p (part_before part view) ≡ entries_of p (part lost)) × Knows s (part lost))
       → EachOf view (λ s p. first s ≡ old → Reaches view (won old) s p new (second s)) → Allows Holds ways view (λ n. either (n == old) new n) (exchanges won lost old new view)

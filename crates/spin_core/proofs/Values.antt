@@ -12,9 +12,6 @@ use Rattle.spin_core.specs.Values.{written, left, latest, IsLast, last, Leaves}
 use Rattle.spin_core.specs.declared.tie.Opening.{Opening}
 use Rattle.spin_core.specs.declared.trace.Trace.{Trace}
 
-some_none : {V : Type 0} (x : V) → Some x ≡ None → ⊥
-some_none x e = absurd cc
-
 -- A party that is shown a value after a step learns ψ of it, unless it writes on. This includes a party that stopped writing to read.
 tells : {V : Type 0} (ψ : V → Type 0) (u u' : Use) (before after : Option V) → (u ≡ writes → u' ≡ reads) → Shows u' before after → Learns ψ u u' before after → IfSome after ψ
 tells ψ u u' before after so shows learns = grind arith
