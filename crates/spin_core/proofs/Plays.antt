@@ -10,7 +10,7 @@ use Rattle.spin_step.specs.Parties.{party_of, apply_some, IsOpenStep, entries_af
 use Rattle.spin_core.specs.Cell.{Use, Way, Ways, no_fact, Limits, Going, Meets, Allows, AllowsSecond, Rests, Stands, after, readers_of, writers_of, use_of, off, words}
 use Rattle.spin_core.specs.Views.{Part, idle as nothing, holds, entries_of, Knows, HasPart, IsLockOf, Encodes}
 use Rattle.spin_step.specs.Orders.{IsInOrder}
-use Rattle.spin_core.specs.Plays.{becomes, exchanges}
+use Rattle.spin_core.specs.Plays.{exchanges}
 use Rattle.spin_core.proofs.Leaving.{NamesNobody, leaves}
 use Rattle.spin_step.proofs.Holders.{is_holder-from_entries}
 use Rattle.spin_step.proofs.Sums.{sum_kinds, sum-less}
