@@ -31,6 +31,7 @@ use Rattle.spin_core.specs.CellMemory.{offset, second_at, Known}
 use Rattle.spin_core.specs.declared.cell.Rule.{Ghosts}
 use Rattle.spin_core.specs.contracts.cell.Cell as C
 use Rattle.spin_core.proofs.Signs.{signs}
+use Rattle.spin_core.proofs.WalkSteps.{knows}
 
 module _ {M : Type 1} {𝓤 : Ura M} (𝓛 : Logic 𝓤) (m ms : Member) (V Y K : RattleType) (g : Ghosts Y.Denot (row_of m).Denot V.Denot K.Denot (row_of ms).Denot) (key : K.Denot) (b o : ℕ) where
   open (signs 𝓛) use {◌⊢◌, ◌∗◌, ◌-∗◌, ⟦◌⟧}
@@ -157,7 +158,7 @@ module _ {M : Type 1} {𝓤 : Ura M} (𝓛 : Logic 𝓤) (m ms : Member) (V Y K 
 
     -- the words and any value that the rule allows make the cell again
     pub rejoined : (s : All) → Rule s → ⟦ At s.2 ⟧ ∗ ⟦ standing_words (s.0, s.1) ⟧ ∗ Joins ⊢ ⟦ P ⟧
-    rejoined s rule = qed 𝓛 (‵ (At s.2) ∷ ‵ (standing_words (s.0, s.1)) ∷ raw Joins ∷ []) ∵ nothing ! $ fpack ! (Rule s) (λ _. ftrue) rule $ move ! (1 ∷ 0 ∷ []) $ join ! $ move ! (1 ∷ 0 ∷ []) $ join ! $ move ! (1 ∷ []) $
+    rejoined s rule = qed 𝓛 (‵ (At s.2) ∷ ‵ (standing_words (s.0, s.1)) ∷ raw Joins ∷ []) ∵ knows ! (Rule s) rule $ move ! (1 ∷ 0 ∷ []) $ join ! $ move ! (1 ∷ 0 ∷ []) $ join ! $ move ! (1 ∷ []) $
         use1 𝓛 (raw (joined s)) (all_e 𝓤 joined s) $ move ! (1 ∷ 0 ∷ []) $ by ! (apply∗ 𝓤 (⟦ standing_words (s.0, s.1) ⟧ ∗ ⟦ At s.2 ⟧ ∗ ⟦ fact (Rule s) ⟧) ⟦ P ⟧)
 
 -- The same for a cell that gets another key.
@@ -170,4 +171,4 @@ module _ {M : Type 1} {𝓤 : Ura M} (𝓛 : Logic 𝓤) (m ms : Member) (V Y K 
 
   pub rekeyed : ⟦ Row 𝓛 m ms V Y K g old b o ⟧ ⊢ ⟦ Row 𝓛 m ms V Y K g key b o ⟧
   rekeyed = qed 𝓛 (‵ (Row 𝓛 m ms V Y K g old b o) ∷ []) ∵ use1 𝓛 (‵ (Opened 𝓛 m ms V Y K g old b o)) (row_out 𝓛 m ms V Y K g old b o) $ fpick ! (λ k. fpick ! (λ s. fsplit ! $ move ! (1 ∷ []) $ fpick ! (λ rule. drop ! $
-      nothing ! $ fpack ! (Rule 𝓛 m ms V Y K g key b o s) (λ _. ftrue) (lends.2 s.0 s.1 s.2 rule) $ move ! (1 ∷ []) $ by ! (row_in 𝓛 m ms V Y K g key b o (known k) s))))
+      knows ! (Rule 𝓛 m ms V Y K g key b o s) (lends.2 s.0 s.1 s.2 rule) $ move ! (1 ∷ []) $ by ! (row_in 𝓛 m ms V Y K g key b o (known k) s))))

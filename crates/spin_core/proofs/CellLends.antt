@@ -1,7 +1,7 @@
 -- What a `&` to a permit owns: the value, as far as its reader or writer may lend it. Assumes `Logic`.
 --     Lends-tracked     the law of a party that tracks the value
 --     permit_laws, Lends-permit     the laws of a permit.        writer_laws, Lends-writer     the laws of a writer
-use Rattle.std.proofs.Common.{◌≡◌, ℕ, ◌+◌, true, List, [], ◌∷◌, ◌++◌, refl, sym, Option, Some, None}
+use Rattle.std.proofs.Common.{arith, ◌≡◌, ℕ, ◌+◌, true, List, [], ◌∷◌, ◌++◌, refl, sym, Option, Some, None}
 use seplogic.Ra.Ura.{Ura}
 use base.Share
 use base.Fraction.{full_share}
@@ -193,8 +193,7 @@ module _ {M : Type 1} {𝓤 : Ura M} (𝓛 : Logic 𝓤) where
     IsShown b o v x = guard 𝓤 ((v ≡ Some x) × Seen ways.0 x) ⟦ shown R b o x β ⟧
 
     known_seen : (way : Way R.Denot) (x : R.Denot) (e : Share) → Part way x e → Seen way x
-    known_seen (fixes fact) x e known = known
-    known_seen _ x e known = tt
+    known_seen way x e known = grind arith
 
     shown_by : RowLaws R → (b o : ℕ) (t : Id) (x : R.Denot) → ⟦ before β t.life ⟧ ∗ ⟦ reader R b o t ways.0 x ⟧ ⊢ H.⇛ (guard 𝓤 (Seen ways.0 x) ⟦ shown R b o x β ⟧)
     shown_by L b o t x = qed 𝓛 (‵ (before β t.life) ∷ ‵ (reader R b o t ways.0 x) ∷ []) ∵ updating ! $ move ! (1 ∷ []) $ fpick ! (λ n. fsplit ! $ fpick ! (λ e. fpick ! (λ known. fsplit ! $

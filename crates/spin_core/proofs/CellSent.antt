@@ -1,6 +1,6 @@
 -- What a `&` to a cell owns, and what a permit owns, does not depend on the thread, if the value is `Send` and the rule is `Sync`. `sees`
 -- says that a value which parties share is `Sync`.
-use Rattle.std.proofs.Common.{◌≡◌, Bool, ℕ, zero, suc, ◌+◌, List, [], ◌∷◌, refl, Option, Some, None}
+use Rattle.std.proofs.Common.{arith, ◌≡◌, Bool, ℕ, zero, suc, ◌+◌, List, [], ◌∷◌, refl, Option, Some, None}
 use base.Fraction.{full_share}
 use base.Stored.{Gv}
 use base.Fml.{Lft}
@@ -77,8 +77,7 @@ module _ (Y R : RattleType) {V : Type 0} (c : V → Gv) (S : RattleType) (holds 
   writer_keyless s y β null_ptr view x = tt
 
   some_reads : (view : Option V) → Known ways Y S R → use_of ways.1 view ≡ reads → Common Y → Common R
-  some_reads None known e = absurd cc
-  some_reads (Some v) known e = known.1 v e
+  some_reads view known e = grind arith
 
   pub permit_keyless : IsSend R → IsSync Y → (β : Lft) (p : Ptr) (view : Option V) (x : Option R.Denot) → Keyless (permit_owns Y R c S holds ways β p view x)
   permit_keyless s y β (block_ptr b o) view x = λ known t. (kept_keyless R s b o t c S holds ways (λ e. known.0 e y.shared) known.2 β, (stand_keyless R b o t c view, right_keyless R s b o t ways.0 (use_of ways.1 view) (λ e. some_reads view known e y.shared) x))

@@ -1,7 +1,7 @@
 -- One step on the words of a cell. The party gives back what it had of the value, gets a new view, and takes the part of the value that
 -- this view uses. The step also appends to the trace and updates a watch. Assumes `Logic`.
 --     first_steps, second_steps     a step on the first word, and one on the word next to the trace
-use Rattle.std.proofs.Common.{◌≡◌, ◌⊎◌, ◌∙◌, ◌++◌, ℕ, ◌+◌, T, [], ◌∷◌, List, refl, sym, subst, w64, Option, Some, None, ap, ◌<◌}
+use Rattle.std.proofs.Common.{arith, ◌≡◌, ◌⊎◌, ◌∙◌, ◌++◌, ℕ, ◌+◌, T, [], ◌∷◌, List, refl, sym, subst, w64, Option, Some, ◌<◌}
 use mathlib.Core.Logic.{inl, inr}
 use mathlib.Core.List.{IsPrefix}
 use seplogic.Ra.Ura.{Ura}
@@ -9,14 +9,13 @@ use mir.Syntax.{ty_int}
 use mir.Val.{Val, vint, has_ty, WT}
 use base.Fraction.{full_share}
 use base.Logic.{SProp, ex, all, all_e, apply∗, guard, upd, upd_i}
-use base.Fml.{Share, Fml, ftrue, fsep, fex, flft, fbor}
+use base.Fml.{Share, Fml, fsep, fex, flft, fbor}
 use base.Stored.{Coded}
 use types.Logic.{Logic}
 use types.Kit.{‵, raw, ◌⊛◌, some, given, ◌$◌, ◌∵◌, !, qed, by, move, drop, group, split, fsplit, fjoin, fpick, fpack, pick, learn, check, rewrite, settle, suffices, use1, use2, done, show, frame, each, assume}
 use denote.RattleType.{RattleType, RowLaws}
 use denote.RawPtr.{block_ptr}
 use denote.Memory.{part_at, part_of, cell_at}
-use denote.Steps.{nothing}
 use denote.Builtin.{u64}
 use Rattle.core.specs.Sync.RawAtomic.{asks, always, word}
 use Rattle.core.proofs.raw_atomic.Asked.{borrowed, Lies, Again}
@@ -33,6 +32,7 @@ use Rattle.spin_core.proofs.CellRounds.{held}
 use Rattle.spin_core.proofs.CellTurns as value
 use Rattle.spin_core.proofs.CellWays.{going_rest, going_map, carrying_rest, carrying_carries, learnt_of}
 use Rattle.spin_core.proofs.Signs.{signs}
+use Rattle.spin_core.proofs.WalkSteps.{knows}
 use Rattle.spin_core.proofs.TraceSteps.{appends, observes_whole, shows_whole}
 use Rattle.spin_core.proofs.TraceWord.{beside, with, Takes, word_apart}
 
@@ -57,7 +57,7 @@ module _ {M : Type 1} {𝓤 : Ura M} (𝓛 : Logic 𝓤) (Er Ur : RattleType) wh
   -- what a watch of this trace knew is a prefix of the trace; a watch that knew nothing knows the empty prefix
   knew : (γ : ℕ) (k : List E) (m : Trace E U) → (k ≡ []) ⊎ (m.name ≡ γ) → ⟦ Log m ⟧ ∗ ⟦ Known γ k ⟧ ⊢ guard 𝓤 (IsPrefix k m.entries) ⟦ Log m ⟧
   knew γ k m (inl none) = qed 𝓛 (‵ (Log m) ∷ ‵ (Known γ k) ∷ []) ∵ move ! (1 ∷ []) $ drop ! $
-      check ! (subst (λ l. IsPrefix l m.entries) (sym none) (m.entries, refl)) $ done !
+      check ! (rw none (m.entries, refl)) $ done !
   knew γ k m (inr is) = qed 𝓛 (‵ (Log m) ∷ ‵ (Known γ k) ∷ []) ∵ rewrite ! 1 (λ (z : ℕ). ‵ (Known z k)) (sym is) refl $
       use2 𝓛 (given (IsPrefix k m.entries) (‵ (Log m) ⊛ ‵ (Known m.name m.entries))) (observes_whole 𝓛 Er.coded m.name m.entries k) $
       learn ! (λ p. check ! p $ split ! $ move ! (1 ∷ []) $ drop ! $ done !)
@@ -136,8 +136,7 @@ module _ {M : Type 1} {𝓤 : Ura M} (𝓛 : Logic 𝓤) (Er Ur : RattleType) wh
     Traced m = part_at S full_share m b at
 
     use_part : (g : Use → ℕ) → g off ≡ 0 → (w : Option V) → counted (λ x. g (f x)) w ≡ g (use_of f w)
-    use_part g none None = sym none
-    use_part g none (Some w) = refl
+    use_part g none w = grind arith
 
     -- what a step from m must show that leads to these words and views, while r parties read
     abbrev Owed : ℕ → Trace E U → ℕ × Trace E U → List V → V → Type 0
@@ -154,8 +153,8 @@ module _ {M : Type 1} {𝓤 : Ura M} (𝓛 : Logic 𝓤) (Er Ur : RattleType) wh
       shifts : Stands id view vs → Limits way (readers_of f vs) (writers_of f vs) → ⟦ states m vs ⟧ ∗ ⟦ Held u v ⟧ ⊢ upd 𝓤 (⟦ states s.1 us ⟧ ∗ ⟦ Got s.1 w ⟧)
       shifts h lim =
           let r = splits (λ y. reading (f y)) id view vs h in let q = splits (λ y. writing (f y)) id view vs h in
-          let was_r : readers_of f vs ≡ value.with_reader u r.0 = r.1 ∙ ap (λ n. r.0 + n) (use_part reading refl view) ∙ value.one_reader u r.0 in
-          let was_w : writers_of f vs ≡ value.with_writer u q.0 = q.1 ∙ ap (λ n. q.0 + n) (use_part writing refl view) ∙ value.one_writer u q.0 in
+          let was_r : readers_of f vs ≡ value.with_reader u r.0 = omega (arith, r.1, use_part reading refl view, value.one_reader u r.0) in
+          let was_w : writers_of f vs ≡ value.with_writer u q.0 = omega (arith, q.1, use_part writing refl view, value.one_writer u q.0) in
           let now_r : readers_of f us ≡ value.with_reader (f w) r.0 = r.2 w ∙ value.one_reader (f w) r.0 in
           let now_w : writers_of f us ≡ value.with_writer (f w) q.0 = q.2 w ∙ value.one_writer (f w) q.0 in
           let Turns : (ℕ × ℕ) × (ℕ × ℕ) → Type 1 = λ z. Limits way z.0.0 z.0.1 → Going way u (f w) v z.0.0 (Limits way z.1.0 z.1.1)
@@ -173,10 +172,8 @@ module _ {M : Type 1} {𝓤 : Ura M} (𝓛 : Logic 𝓤) (Er Ur : RattleType) wh
           ⊢ ⟦ Core s ⟧ ∗ ⟦ moved (finding s.1.entries then k) ⟧
       leads then k so = let tells : V → Option R.Denot → Type 0 = finding s.1.entries then k in
           qed 𝓛 (‵ (roster cv.code ρ 0 us) ∷ ‵ (Stand (Some w)) ∷ ‵ (states s.1 us) ∷ ‵ (Got s.1 w) ∷ []) ∵
-          move ! (3 ∷ []) $ fpick ! (λ v'. fsplit ! $ fpick ! (λ kept. drop ! $ move ! (2 ∷ 0 ∷ []) $ fjoin ! $ nothing ! $
-          fpack ! (tells w v' × Keeps ways view (Some w) v v') (λ _. ftrue) ((so, learnt_of ways.2 s.1 u (f w) v v' kept.1), kept.0) $ fjoin ! $
-          fpack ! (V × Option R.Denot) (left_to tells) (w, v') $ move ! (2 ∷ []) $ nothing ! $
-          fpack ! (Meets holds ways s.0 s.1 us) (λ _. ftrue) (carrying_rest ways.2 m s.1 u (f w) v carrying) $ fjoin ! $ move ! (2 ∷ 0 ∷ []) $ fjoin ! $
+          move ! (3 ∷ []) $ fpick ! (λ v'. fsplit ! $ fpick ! (λ kept. drop ! $ move ! (2 ∷ 0 ∷ []) $ fjoin ! $ knows ! (tells w v' × Keeps ways view (Some w) v v') ((so, learnt_of ways.2 s.1 u (f w) v v' kept.1), kept.0) $ fjoin ! $
+          fpack ! (V × Option R.Denot) (left_to tells) (w, v') $ move ! (2 ∷ []) $ knows ! (Meets holds ways s.0 s.1 us) (carrying_rest ways.2 m s.1 u (f w) v carrying) $ fjoin ! $ move ! (2 ∷ 0 ∷ []) $ fjoin ! $
           fpack ! (List V) (core_at R b o t cv.code S holds ways s.0 s.1) us $ done !))
 
     -- the watch is a watch of the cell's trace, or knows nothing
@@ -222,8 +219,7 @@ module _ {M : Type 1} {𝓤 : Ura M} (𝓛 : Logic 𝓤) (Er Ur : RattleType) wh
           use1 𝓛 (‵ (Core s) ⊛ ‵ (moved (finding s.1.entries (told m.entries es) found))) (leads id vs m s w r.2 (told m.entries es) found r.3) $ split ! $
           -- context: [the core; what the step leaves; the trace; what the watch knows; the first word]
           move ! (2 ∷ 0 ∷ []) $ fjoin ! $ move ! (3 ∷ 0 ∷ []) $ fjoin ! $ fpack ! (ℕ × Trace E U) (standing R b o t cv.code S holds ways) s $
-          move ! (2 ∷ 1 ∷ []) $ fjoin ! $ nothing ! $
-          fpack ! (IsPrefix k m.entries × (Named holds ways γ → m.name ≡ γ)) (λ _. ftrue) (p, λ named. named n₀ m vs meets) $ fjoin ! $
+          move ! (2 ∷ 1 ∷ []) $ fjoin ! $ knows ! (IsPrefix k m.entries × (Named holds ways γ → m.name ≡ γ)) (p, λ named. named n₀ m vs meets) $ fjoin ! $
           fpack ! (ℕ × (List E × List E)) (seen_by γ k found) (m.name, (m.entries, es)) $ move ! (1 ∷ 0 ∷ []) $ done !)))))
 
       -- a step finds the word n, and puts `to n` in its place

@@ -1,6 +1,6 @@
 -- A party changes its use of a cell's value: it gives back what it had of the value, and takes what it may use. Assumes
 -- `Logic`.
-use Rattle.std.proofs.Common.{◌≡◌, ◌≢◌, ℕ, suc, ◌+◌, ◌-◌, ◌^◌, ◌<◌, Bool, zero, true, [], ◌∷◌, refl, sym, subst, arith, Option, Some, None}
+use Rattle.std.proofs.Common.{◌≡◌, ◌≢◌, ℕ, suc, ◌+◌, ◌-◌, ◌^◌, ◌<◌, Bool, zero, true, [], ◌∷◌, refl, subst, arith, Option, Some, None}
 use seplogic.Ra.Ura.{Ura}
 use base.Fraction.{full_share}
 use base.Stored.{Gv}
@@ -12,12 +12,13 @@ use denote.RattleType.{RattleType, RowLaws}
 use denote.SharingLaws.{contraction}
 use denote.Steps.{nothing}
 use Rattle.atomic_table.specs.Seated.{fact}
-use Rattle.spin_core.specs.Cell.{Going, Preserves, Shows, Finds, Carries, Learns, Use, off, reads, writes, Way, alone, lends, fixes, reading, writing, Limits, Fixed}
+use Rattle.spin_core.specs.Cell.{Going, Preserves, Shows, Finds, Carries, Learns, Use, off, reads, writes, Way, alone, lends, fixes, reading, writing, Limits}
 use Rattle.spin_core.specs.CellMemory.{Id, Round, round_code, tag, share, parts, piece, remains, idle, offset, shown, tracked, shared, resting, lying, state, reader}
 use Rattle.spin_core.proofs.CellWays.{going_rest}
 use Rattle.spin_core.proofs.CellParts.{parts_cut, parts_glue, parts_whole, parts_agree, pieces_agree, piece_cut}
 use Rattle.spin_core.proofs.CellRounds.{begun, held, whole, renewed, rests_lent, rests_fixed}
 use Rattle.spin_core.proofs.Signs.{signs}
+use Rattle.spin_core.proofs.WalkSteps.{knows}
 
 -- the number of readers with one more party, which uses the value in this way
 abbrev pub with_reader : Use → ℕ → ℕ
@@ -30,12 +31,10 @@ with_writer writes w = suc w
 with_writer _ w = w
 
 pub one_reader : (u : Use) (r : ℕ) → r + reading u ≡ with_reader u r
-one_reader reads r = omega arith
-one_reader _ r = omega arith
+one_reader u r = grind arith
 
 pub one_writer : (u : Use) (w : ℕ) → w + writing u ≡ with_writer u w
-one_writer writes w = omega arith
-one_writer _ w = omega arith
+one_writer u w = grind arith
 
 module _ {X : Type 0} where
   -- what a party is shown of the value x
@@ -61,40 +60,25 @@ module _ {X : Type 0} where
   Had φ _ x = φ x
 
   shows : (u u' : Use) (x : X) → Shows u' (shown_to u x) (shown_to u' x)
-  shows off reads x = (x, refl)
-  shows off writes x = (x, refl)
-  shows _ off x = refl
-  shows _ _ x = refl
+  shows u u' x = grind arith
 
   -- a party that already uses the value learns no more than one that begins to use it
   finds_so : (way : Way X) (u u' : Use) (x : X) → Finds way off u' (shown_to u' x) → Finds way u u' (shown_to u' x)
-  finds_so way off u' x finds = finds
-  finds_so alone _ u' x finds = tt
-  finds_so _ _ u' x finds = tt
+  finds_so way u u' x finds = grind arith
 
   writes_so : (way : Way X) (x : X) → Preserves way writes writes (Some x) (Some x)
-  writes_so alone x = (refl, tt)
-  writes_so _ x = (refl, tt)
+  writes_so way x = grind arith
 
   rests_so : (way : Way X) → Preserves way off off None None
-  rests_so alone = (refl, tt)
-  rests_so _ = (refl, tt)
+  rests_so way = grind arith
 
   module _ (φ ψ : X → Type 0) where
     learns : (u u' : Use) (x : X) → ψ x → Learns ψ u u' (shown_to u x) (shown_to u' x)
-    learns writes writes x known = tt
-    learns off off x known = tt
-    learns off _ x known = known
-    learns _ off x known = known
-    learns _ _ x known = known
+    learns u u' x known = grind arith
 
     -- after a step ψ holds of the value, unless the party writes on
     known_after : (u u' : Use) (x : X) → (u ≡ writes → u' ≢ writes) → Carries φ ψ u u' (shown_to u x) → Had φ u x → ψ x
-    known_after off u' x turned owed had = owed x had
-    known_after reads u' x turned owed had = owed x had
-    known_after writes off x turned owed had = owed
-    known_after writes reads x turned owed had = owed
-    known_after writes writes x turned owed had = absurd (turned refl refl)
+    known_after u u' x turned owed had = grind arith
 
 module _ {M : Type 1} {𝓤 : Ura M} (𝓛 : Logic 𝓤) (R : RattleType) (L : RowLaws R) (b o : ℕ) (t : Id) where
   open (signs 𝓛) use {◌⊢◌, ◌∗◌, ⟦◌⟧}
@@ -200,7 +184,7 @@ module _ {M : Type 1} {𝓤 : Ura M} (𝓛 : Logic 𝓤) (R : RattleType) (L : R
       via 𝓤 _ (gave_piece φ r facts x) (upd_i 𝓤 ⟦ Given φ r (fixes facts) reads reads (Some x) ⟧)
   gives φ (fixes facts) r reads u' (Some x) A turned lim going = absurd (let e : u' ≡ reads = going.0 refl in cc)
   gives φ (fixes facts) r writes off (Some x) A turned lim going = let none : r ≡ 0 = lim.1 (omega arith) in
-      gave_whole φ r (fixes facts) off x (rests_fixed 𝓛 R b o t facts r x (subst (λ k. Fixed (fixes facts) k 0 x) (sym none) going.1))
+      gave_whole φ r (fixes facts) off x (rests_fixed 𝓛 R b o t facts r x (rw none going.1))
   gives φ (fixes facts) r writes reads (Some x) A turned lim going = gave_whole φ r (fixes facts) reads x (rests_fixed 𝓛 R b o t facts (suc r) x going.1)
   gives φ (fixes facts) r writes writes (Some x) A turned lim going = absurd (turned refl refl)
 
@@ -264,7 +248,7 @@ module _ {M : Type 1} {𝓤 : Ura M} (𝓛 : Logic 𝓤) (R : RattleType) (L : R
   got_in : (way : Way X) (ψ : X → Type 0) (u u' : Use) (v v' : Option X) → Preserves way u u' v v' × Learns ψ u u' v v'
       → ⟦ Held u' way v' ⟧ ⊢ ⟦ Got way ψ u u' v ⟧
   got_in way ψ u u' v v' so = qed 𝓛 (‵ (Held u' way v') ∷ []) ∵
-      nothing ! $ fpack ! (Preserves way u u' v v' × Learns ψ u u' v v') (λ _. ftrue) so $ fjoin ! $
+      knows ! (Preserves way u u' v v' × Learns ψ u u' v v') so $ fjoin ! $
       fpack ! (Option X) (got way ψ u u' v) v' $ done !
 
   -- Before the step φ holds of a value that nobody writes; after it ψ does.
@@ -286,7 +270,7 @@ module _ {M : Type 1} {𝓤 : Ura M} (𝓛 : Logic 𝓤) (R : RattleType) (L : R
         let known : ψ x = known_after φ ψ u u' x turned (subst (Carries φ ψ u u') had.0 owed) had.1 in
         use1 𝓛 (given (Finds way off u' (shown_to u' x)) (‵ After ⊛ ‵ (Now x)))
         (takes ψ way r u' x known (going_rest way u u' v (with_reader u r) going)) $ learn ! (λ finds.
-        let so : So v x = subst (λ z. So z x) (sym had.0) ((shows u u' x, finds_so way u u' x finds), learns φ ψ u u' x known) in
+        let so : So v x = rw had.0 ((shows u u' x, finds_so way u u' x finds), learns φ ψ u u' x known) in
         split ! $ move ! (1 ∷ []) $ use1 𝓛 (‵ (Got way ψ u u' v)) (got_in way ψ u u' v (shown_to u' x) so) $ move ! (1 ∷ 0 ∷ []) $ done !)))
 
     -- a party that keeps its use keeps what it has

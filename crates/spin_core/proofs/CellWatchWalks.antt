@@ -3,7 +3,7 @@
 use Rattle.std.proofs.Common.{◌≡◌, ℕ, ◌+◌, ◌<◌, ◌^◌, List, [], ◌∷◌, ◌++◌, Option, Some, refl, w64}
 use seplogic.Ra.Ura.{Ura}
 use mir.Val.{Val, vint, vstruct, vcons, vnil, of_list}
-use base.Logic.{SProp, ent, sep, ex, guard, guard_i, ex_i, via, apply∗}
+use base.Logic.{SProp, sep, ex, guard, guard_i, ex_i, via, apply∗}
 use base.Before.{before}
 use types.Na.{before_dup}
 use contract.Shared.{Lends-one}
@@ -12,11 +12,11 @@ use prog.Model.{Model}
 use contract.Running.{Running}
 use contract.Monad.{fact}
 use contract.BorrowLft.{◌⊑◌}
-use types.Logic.{Logic, sem}
-use types.Kit.{Goal, prop, Go, !, qed, ◌∵◌, mean, Soaks, Seq, Item, ‵, raw, ◌⊛◌, some, later, given, ◌$◌, done, now, updating, show, join, learn, drop, move, keep, split, split3, fsplit, rewrite, fjoin, fpick, fpack, pick, await, use0, use1, use2, use3, feq_i, flt_i}
+use types.Logic.{Logic}
+use types.Kit.{Goal, !, qed, ◌∵◌, Soaks, Seq, Item, ‵, raw, ◌⊛◌, some, later, given, ◌$◌, done, now, updating, show, join, learn, drop, move, split, split3, fsplit, fjoin, fpick, fpack, pick, await, use0, use1, use2, use3, feq_i, flt_i}
 use denote.RattleType.{RattleType, Valss, owns}
 use denote.Ref.{NamedLft}
-use denote.Steps.{nothing, heard}
+use denote.Steps.{nothing}
 use denote.RawPtr.{InBlock, block_ptr, block_of, count_of, Ptr}
 use denote.Builtin.{u64}
 use denote.Param.{param}
@@ -35,7 +35,7 @@ use Rattle.spin_core.specs.contracts.cell.Permit as hand
 use Rattle.spin_core.proofs.PermitFields.{hand_of, Words, made}
 use Rattle.spin_core.proofs.CellRounds.{held, readies, settles_down}
 use Rattle.spin_core.proofs.Signs.{signs}
-use Rattle.spin_core.proofs.WalkSteps.{says, lies_at, Facts, after_facts, last_fact}
+use Rattle.spin_core.proofs.WalkSteps.{says, Facts, after_facts, first_and_last, takes_at}
 use Rattle.spin_core.proofs.CellSteps as steps
 
 -- the watch with this name and these entries
@@ -225,12 +225,8 @@ module _ {M : Type 1} {𝓤 : Ura M} (𝓛 : Logic 𝓤) (𝓜 : Model 𝓤 𝓛
     }
 
     -- what the machine's step on this word asks
-    abbrev Asked : Ptr → (ℕ → ℕ) → Type 1
-    Asked at f = (k : Entry) → A.inv (Inv k) ∗ ⟦ alive k ⟧ ∗ ⟦ fsep (Mine k) (Known seen) ⟧ ⊢ asks 𝓛 at f always (left k)
-
-    pub asks_first : (f : ℕ → ℕ) → MayKnow (g.holds h.key) ways seen × Traces (g.holds h.key) ways h.view h.value f told → Asked (block_ptr b (o + 0)) f
-    asks_first f asked k =
-        steps.first_steps 𝓛 Er Ur R LR.shr_laws b o k.1.0 W.coded (g.holds h.key) ways h.view h.value told k.1.1 f seen.name seen.entries asked.0 asked.1
+    pub record Asked (at : Ptr) (f : ℕ → ℕ) : Type 1 where
+      pub step : (k : Entry) → A.inv (Inv k) ∗ ⟦ alive k ⟧ ∗ ⟦ fsep (Mine k) (Known seen) ⟧ ⊢ asks 𝓛 at f always (left k)
 
     module _ {K : Type 0} {Γ : List (Item 𝓤)} {G : Goal 𝓤 𝓛.H} where
       opens_at : K → Soaks G → Incl τ R.lives → (at : Ptr) (f : ℕ → ℕ) → Asked at f
@@ -239,7 +235,7 @@ module _ {M : Type 1} {𝓤 : Ura M} (𝓛 : Logic 𝓤) (𝓜 : Model 𝓤 𝓛
       opens_at t z le at f can go =
           use3 𝓛 (later (some (λ (k : Entry). ‵ (finv (Inv k)) ⊛ ‵ (alive k) ⊛ ‵ (Mine k) ⊛ raw (back k)))) (enters le) $ await t z $
           pick t (λ k. split3 t $ move t (2 ∷ []) $ split t $ move t (0 ∷ 4 ∷ []) $ fjoin t $ move t (2 ∷ 3 ∷ 0 ∷ []) $
-          use3 𝓛 (raw (asks 𝓛 at f always (left k))) (can k) $ go k)
+          use3 𝓛 (raw (asks 𝓛 at f always (left k))) (can.step k) $ go k)
 
       -- A permit is opened for a step that finds a number.
       pub opens : K → Soaks G → Incl τ R.lives → (at : Ptr) (f : ℕ → ℕ) → Asked at f
@@ -259,36 +255,38 @@ module _ {M : Type 1} {𝓤 : Ura M} (𝓛 : Logic 𝓤) (𝓜 : Model 𝓤 𝓛
     opens_store t z le at f can go = opens_at b o h q τ r seen Told t z le at f can
         (λ k. go (left b o h q τ r seen Told k 0) (back b o h q τ r seen Told k) (closes_stored b o h q τ r seen Told k))
 
--- a step on the second word, if that is a number
-module _ {M : Type 1} {𝓤 : Ura M} (𝓛 : Logic 𝓤) (𝓜 : Model 𝓤 𝓛.H) (𝓡 : Running 𝓤 𝓛.H 𝓜) (ℓ : NamedLft) (T W Y Kr Er : RattleType) (L : Laws T)
-    (g : Ghosts Y.Denot T.Denot W.Denot Kr.Denot (trace.the_row Er u64).Denot) (b o : ℕ)
-    (h : (hand.the_row ℓ (param 0 T) W Y Kr (trace.the_row Er u64) g).Denot)
-    (q : Share) (τ : Lft) (r : Share) (seen : Watch Er.Denot) (told : List Er.Denot → List Er.Denot → ℕ → W.Denot → Type 0) where
-  -- the place of the second word
-  abbrev pub place : ℕ
-  place = (o + second_at (trace.the_row Er u64) (param 0 T)) + 0
+-- a step on the first word, and one on the second word, if that is a number
+module _ {M : Type 1} {𝓤 : Ura M} {𝓛 : Logic 𝓤} {𝓜 : Model 𝓤 𝓛.H} {𝓡 : Running 𝓤 𝓛.H 𝓜} {ℓ : NamedLft} {T W Y Kr Er : RattleType} {L : Laws T}
+    {b o : ℕ} {q : Share} {τ : Lft} {r : Share} {seen : Watch Er.Denot} {told : List Er.Denot → List Er.Denot → ℕ → W.Denot → Type 0} {f : ℕ → ℕ} where
+  pub asks_first : {Ur : RattleType} {g : Ghosts Y.Denot T.Denot W.Denot Kr.Denot (trace.the_row Er Ur).Denot}
+      {h : (hand.the_row ℓ (param 0 T) W Y Kr (trace.the_row Er Ur) g).Denot}
+      → MayKnow (g.holds h.key) (g.ways h.key) seen × Traces (g.holds h.key) (g.ways h.key) h.view h.value f told
+      → Asked 𝓛 𝓜 𝓡 ℓ T W Y Kr Er Ur L g b o h q τ r seen told (block_ptr b (o + 0)) f
+  asks_first {Ur = Ur} {g} {h} asked = record {
+    step = λ k. steps.first_steps 𝓛 Er Ur (param 0 T) (param_laws 0 T L).shr_laws b o k.1.0 W.coded (g.holds h.key) (g.ways h.key) h.view h.value told
+        k.1.1 f seen.name seen.entries asked.0 asked.1;
+  }
 
-  pub asks_second : (f : ℕ → ℕ) → MayKnow (g.holds h.key) (g.ways h.key) seen × TracesSecond (g.holds h.key) (g.ways h.key) h.view h.value f told
-      → Asked 𝓛 𝓜 𝓡 ℓ T W Y Kr Er u64 L g b o h q τ r seen told (block_ptr b place) f
-  asks_second f asked k =
-      steps.second_steps 𝓛 Er (param 0 T) (param_laws 0 T L).shr_laws b o k.1.0 W.coded (g.holds h.key) (g.ways h.key) h.view h.value told
-      k.1.1 f seen.name seen.entries asked.0 asked.1
+  pub asks_second : {g : Ghosts Y.Denot T.Denot W.Denot Kr.Denot (trace.the_row Er u64).Denot} {h : (hand.the_row ℓ (param 0 T) W Y Kr (trace.the_row Er u64) g).Denot}
+      → MayKnow (g.holds h.key) (g.ways h.key) seen × TracesSecond (g.holds h.key) (g.ways h.key) h.view h.value f told
+      → Asked 𝓛 𝓜 𝓡 ℓ T W Y Kr Er u64 L g b o h q τ r seen told (block_ptr b ((o + second_at (trace.the_row Er u64) (param 0 T)) + 0)) f
+  asks_second {g = g} {h} asked = record {
+    step = λ k. steps.second_steps 𝓛 Er (param 0 T) (param_laws 0 T L).shr_laws b o k.1.0 W.coded (g.holds h.key) (g.ways h.key) h.view h.value told
+        k.1.1 f seen.name seen.entries asked.0 asked.1;
+  }
 
 module _ {M : Type 1} {𝓤 : Ura M} (𝓛 : Logic 𝓤) (ℓ : NamedLft) (T W Y Kr Sr : RattleType) (g : Ghosts Y.Denot T.Denot W.Denot Kr.Denot Sr.Denot) where
   abbrev Row : RattleType
   Row = hand.the_row ℓ (param 0 T) W Y Kr Sr g
 
-  -- A walk begins with four things: the tokens, the permit with the other arguments, the lifetime of its value, and what the step needs.
-  pub begins_with : (n : ℕ) (φs : Facts n) (h : Row.Denot) (Asked : Type 0) (q : Share) (τ : Lft) (r : Share) (os owned rest : Fml)
-      → owned ≡ fsep (Row.own_val h (hand_of h.cell ∷ [])) rest → {P : SProp 𝓤}
+  -- a step begins with the permit, two tokens and the others, and the other arguments
+  pub begins_with : {K : Type 0} → K → (n : ℕ) (φs : Facts n) (h : Row.Denot) {q r : Share} {τ : Lft} {os words rest : Fml} {Asked : Type 0} {G : Goal 𝓤 𝓛.H}
       → (let Owned : Ptr → Fml = λ p. permit_owns Y (param 0 T) W.coded.code Sr (g.holds h.key) (g.ways h.key) ℓ.lft p h.view h.value in
-      Asked → τ ⊑ T.lives → InBlock h.cell → Seq (Go {0}) 𝓛
-      (‵ (Owned (block_ptr (block_of h.cell) (count_of h.cell))) ∷ ‵ (flft ℓ.lft q) ∷ ‵ (flft τ r) ∷ ‵ os ∷ ‵ rest ∷ []) (prop P))
-      → ent 𝓤 (sep 𝓤 (sep 𝓤 (mean 𝓛 (‵ (flft ℓ.lft q) ⊛ ‵ (flft τ r) ⊛ ‵ os)) (sem 𝓛 owned))
-      (sep 𝓤 (fact 𝓤 (τ ⊑ T.lives)) (after_facts 𝓤 Asked n φs))) P
-  begins_with n φs h Asked q τ r os owned rest is go =
+      (Asked → τ ⊑ T.lives → InBlock h.cell
+      → Seq K 𝓛 (‵ (Owned (block_ptr (block_of h.cell) (count_of h.cell))) ∷ ‵ (flft ℓ.lft q) ∷ ‵ (flft τ r) ∷ ‵ os ∷ ‵ rest ∷ []) G)
+      → Seq K 𝓛 (‵ (fsep (flft ℓ.lft q) (fsep (flft τ r) os)) ∷ ‵ (fsep (fsep words (Owned h.cell)) rest)
+      ∷ raw (sep 𝓤 (fact 𝓤 (τ ⊑ T.lives)) (after_facts 𝓤 (fact 𝓤 Asked) n φs)) ∷ []) G)
+  begins_with t n φs h {τ = τ} {Asked = Asked} go =
       let Owned : Ptr → Fml = λ p. permit_owns Y (param 0 T) W.coded.code Sr (g.holds h.key) (g.ways h.key) ℓ.lft p h.view h.value in
-      qed 𝓛 (((‵ (flft ℓ.lft q) ⊛ ‵ (flft τ r) ⊛ ‵ os) ⊛ ‵ owned) ∷ raw (fact 𝓤 (τ ⊑ T.lives)) ∷ raw (after_facts 𝓤 Asked n φs) ∷ []) ∵
-      move ! (2 ∷ []) $ use1 𝓛 (raw (fact 𝓤 Asked)) (last_fact 𝓤 Asked n φs) $ heard ! Asked (λ asked. move ! (1 ∷ []) $ heard ! (τ ⊑ T.lives) (λ le.
-      split ! $ split3 ! $ move ! (3 ∷ []) $ rewrite ! 0 (λ (F : Fml). ‵ F) is refl $ fsplit ! $ fsplit ! $ keep ! (1 ∷ 3 ∷ 4 ∷ 5 ∷ 2 ∷ []) $
-      lies_at ! Owned refl h.cell (λ inb. go asked le inb)))
+      takes_at t Owned refl h.cell (first_and_last 𝓤 (τ ⊑ T.lives) Asked n φs) (λ asked inb. move t (1 ∷ []) $ fsplit t $ move t (1 ∷ []) $
+      fsplit t $ move t (3 ∷ 2 ∷ 0 ∷ 1 ∷ []) $ go asked.1 asked.0 inb)

@@ -1,13 +1,12 @@
 -- What a step must show besides the rule, part by part.
-use Rattle.std.proofs.Common.{◌≡◌, ℕ, zero, suc, ◌<◌, true, false, List, Option, Some, None, refl, arith}
-use Rattle.spin_core.specs.Cell.{Use, writes, Way, fixes, Ways, Going, Frees, Limits, Fixed, Starts, readers_of, writers_of, Knowledge, no_fact, knows, IsKnown, Knowing, Freeing, Carries, Owed, Carrying, Learns}
+use Rattle.std.proofs.Common.{ℕ, ◌<◌, List, Option, refl, arith}
+use Rattle.spin_core.specs.Cell.{Use, Way, fixes, Ways, Going, Frees, Limits, Fixed, Starts, readers_of, writers_of, Knowledge, no_fact, knows, IsKnown, Knowing, Freeing, Carries, Owed, Carrying, Learns}
 use Rattle.spin_core.specs.Traced.{Learnt}
 use Rattle.spin_core.specs.declared.trace.Trace.{Trace}
 
 module _ {X : Type 0} where
   pub going_rest : (way : Way X) (u v : Use) (shown : Option X) (r : ℕ) {A : Type 0} → Going way u v shown r A → A
-  going_rest (fixes fact) u v shown r going = going.2
-  going_rest _ u v shown r going = going
+  going_rest way u v shown r going = grind arith
 
   pub going_map : (way : Way X) (u v : Use) (shown : Option X) (r : ℕ) {A B : Type 0} → (A → B) → Going way u v shown r A → Going way u v shown r B
   going_map (fixes fact) u v shown r f going = (going.0, going.1, f going.2)
@@ -15,54 +14,38 @@ module _ {X : Type 0} where
 
   -- in a way in which any value may replace an unused one, `Fixed` holds of every value
   freed : (way : Way X) → Frees way → (r w : ℕ) (x : X) → Fixed way r w x
-  freed (fixes fact) frees (suc r) w x = frees true x
-  freed (fixes fact) frees zero zero x = frees false x
-  freed _ frees r w x = tt
+  freed way frees r w x = grind arith
 
   -- without a known fact a step has nothing to show
   carries_nothing : (u v : Use) (shown : Option X) → Carries (λ x. Unit {0}) (λ x. Unit {0}) u v shown
-  carries_nothing writes writes shown = tt
-  carries_nothing writes _ None = tt
-  carries_nothing writes _ (Some x) = tt
-  carries_nothing _ v shown = λ x known. tt
+  carries_nothing u v shown = grind arith
 
   -- ---- the known fact of a value, beside another statement A
   module _ {S : Type 0} where
     pub knowing_at : (k : Knowledge S X) (m : S) (x : X) {A : Type 0} → IsKnown k m x → A → Knowing k m 0 x A
-    knowing_at no_fact m x known a = a
-    knowing_at (knows φ) m x known a = (known, a)
+    knowing_at k m x known a = grind arith
 
     pub knowing_known : (k : Knowledge S X) (m : S) (x : X) (A : Type 0) → Knowing k m 0 x A → IsKnown k m x
-    knowing_known no_fact m x A known = tt
-    knowing_known (knows φ) m x A known = known.0
+    knowing_known k m x A known = grind arith
 
     pub knowing_rest : (k : Knowledge S X) (m : S) (w : ℕ) (x : X) {A : Type 0} → Knowing k m w x A → A
-    knowing_rest no_fact m w x known = known
-    knowing_rest (knows φ) m zero x known = known.1
-    knowing_rest (knows φ) m (suc w) x known = known
+    knowing_rest k m w x known = grind arith
 
     -- if somebody writes, A alone is enough
     pub knowing_none : (k : Knowledge S X) (m : S) (w : ℕ) (x : X) {A : Type 0} → 0 < w → A → Knowing k m w x A
-    knowing_none k m zero x some a = absurd (omega (arith, some))
-    knowing_none no_fact m (suc w) x some a = a
-    knowing_none (knows φ) m (suc w) x some a = a
+    knowing_none k m w x some a = grind arith
 
     knowing_freed : (k : Knowledge S X) (m : S) (w : ℕ) (y : X) {A B : Type 0} → Freeing k B → (B → A) → Knowing k m w y A
-    knowing_freed no_fact m w y free to = to free
-    knowing_freed (knows φ) m zero y free to = (free.0 m y, to free.1)
-    knowing_freed (knows φ) m (suc w) y free to = to free.1
+    knowing_freed k m w y free to = grind arith
 
     pub carrying_of : (k : Knowledge S X) (m m' : S) (u v : Use) (shown : Option X) {A : Type 0} → Owed k m m' u v shown → A → Carrying k m m' u v shown A
-    carrying_of no_fact m m' u v shown owed a = a
-    carrying_of (knows φ) m m' u v shown owed a = (owed, a)
+    carrying_of k m m' u v shown owed a = grind arith
 
     pub carrying_rest : (k : Knowledge S X) (m m' : S) (u v : Use) (shown : Option X) {A : Type 0} → Carrying k m m' u v shown A → A
-    carrying_rest no_fact m m' u v shown owed = owed
-    carrying_rest (knows φ) m m' u v shown owed = owed.1
+    carrying_rest k m m' u v shown owed = grind arith
 
     pub carrying_carries : (k : Knowledge S X) (m m' : S) (u v : Use) (shown : Option X) (A : Type 0) → Carrying k m m' u v shown A → Carries (IsKnown k m) (IsKnown k m') u v shown
-    carrying_carries no_fact m m' u v shown A owed = carries_nothing u v shown
-    carrying_carries (knows φ) m m' u v shown A owed = owed.0
+    carrying_carries k m m' u v shown A owed = grind (arith, carries_nothing)
 
   -- what a party learns of a trace t, it learns of the entries of t
   pub learnt_of : {E S : Type 0} (k : Knowledge (Trace E S) X) (t : Trace E S) (u v : Use) (before after : Option X) → Learns (IsKnown k t) u v before after → Learnt k u v before after t.entries
@@ -75,6 +58,4 @@ module _ {X : Type 0} where
 
   -- while somebody writes, nothing is known of the value
   pub unknown : (way : Way X) (r w : ℕ) (x : X) → Limits way r w → 0 < w → Fixed way r w x
-  unknown (fixes fact) (suc r) w x lim some = absurd (let e : suc r ≡ 0 = lim.1 some in omega (arith, e))
-  unknown (fixes fact) zero zero x lim some = absurd (omega (arith, some))
-  unknown _ r w x lim some = tt
+  unknown way r w x lim some = grind arith

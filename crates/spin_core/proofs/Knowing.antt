@@ -1,5 +1,5 @@
 -- What a step can use about the whole lock, such as how many hold it, if it knows the views of all parties.
-use Rattle.std.proofs.Common.{◌≡◌, ℕ, zero, suc, ◌+◌, ◌≤◌, ◌==◌, cond, List, [], ◌∷◌, length, filter, refl, sym, ap, subst, arith}
+use Rattle.std.proofs.Common.{◌≡◌, ℕ, zero, suc, ◌+◌, ◌≤◌, ◌==◌, cond, List, [], ◌∷◌, length, filter, refl, ap, arith}
 use Rattle.std.proofs.lemmas.List.Sums.{sum_by-cons, count_by-le-length}
 use Rattle.spin_step.specs.Plain.{Plain, writing, Holder, same_kind, count_kind}
 use Rattle.spin_step.specs.Parties.{OneHolds}
@@ -45,5 +45,5 @@ module _ {V : Type 0} (part : V → Part) where
   -- a lock that is held only to write has at most one holder
   pub one_holds : ((v : V) → Writes (part v)) → (vs : List V) (s : Plain) → IsInOrder s → IsLockOf part vs s → OneHolds s
   one_holds each vs s order is =
-      let all : AllWrite s.holders = all_write s.holders (λ p. subst AllWrite (sym (ap (λ e. e.holders) (is p).0)) (at_each each vs p p)) in
+      let all : AllWrite s.holders = all_write s.holders (λ p. rw (ap (λ e. e.holders) (is p).0) (at_each each vs p p)) in
       grind (arith, order.exclusive.writer)

@@ -1,5 +1,5 @@
 -- A party with nothing in the plain lock may leave. Those behind it move up by one place, and nothing else changes.
-use Rattle.std.proofs.Common.{◌≡◌, ℕ, zero, suc, pred, ◌-◌, ◌==◌, not, ◌&&◌, List, [], ◌∷◌, ◌++◌, map, length, filter, Some, refl, sym, ap, ◌∙◌, subst, arith}
+use Rattle.std.proofs.Common.{◌≡◌, ℕ, zero, suc, pred, ◌-◌, ◌==◌, not, ◌&&◌, List, [], ◌∷◌, ◌++◌, map, length, filter, Some, refl, sym, ap, ◌∙◌, arith}
 use Rattle.std.proofs.lemmas.List.{length-map}
 use Rattle.std.proofs.lemmas.List.Sums.{sum_by-cons}
 use Rattle.spin_step.specs.Plain.{Plain, Kind, Holder, holder, Ticket, ticket, weight, flag_word, rw_word, fair_word, next_word, serving_word}
@@ -8,7 +8,7 @@ use Rattle.spin_step.specs.Tickets.{numbered_from}
 use Rattle.spin_step.proofs.Exclusive.{exclusive-like}
 use Rattle.spin_step.proofs.Sums.{sum_kinds}
 use Rattle.spin_core.specs.Cell.{Use, off, Rests}
-use Rattle.spin_core.specs.Views.{Part, entries_of, Knows, HasPart, part_at, Encodes, no_word}
+use Rattle.spin_core.specs.Views.{Part, entries_of, Knows, part_at, Encodes, no_word}
 use Rattle.spin_step.specs.Orders.{IsInOrder}
 
 -- the new place of a party behind place k; `back`: the place that it had
@@ -109,7 +109,7 @@ in_order-up k s order = record {
   exclusive = exclusive-like s (moved_up k s) (λ f. sum-up k f s.holders) (first_alone-up k s.tickets ∙ order.exclusive.one_entered) order.exclusive;
   numbered = (
     omega (arith, length-map s.tickets (ticket_up k), order.numbered.0),
-    subst (λ n. numbered_from n (map (ticket_up k) s.tickets)) (sym (serving_word-up k s)) (numbered-up k (serving_word s) s.tickets order.numbered.1),
+    rw (serving_word-up k s) (numbered-up k (serving_word s) s.tickets order.numbered.1),
   );
   within_limit = order.within_limit;
   holders_fit = omega (arith, length-map s.holders (holder_up k), order.holders_fit);
@@ -136,12 +136,12 @@ module _ {V : Type 0} (part : V → Part) (v : V) where
       unused,
       λ n m before behind is.
           let k : ℕ = length before in let s = is.0 in
-          let none : entries k s ≡ no_entries = (is.3 k).0 ∙ (ap (entries_of k) (gone_at before behind) ∙ nothing k) in (
+          let none : entries k s ≡ no_entries = rw ((is.3 k).0, gone_at before behind) (nothing k) in (
             moved_up k s,
             is.1,
             in_order-up k s is.2,
-            λ q. subst (HasPart (moved_up k s) q) (others_at before behind q) (
-              entries-up k q s none ∙ (ap (entries_up k) (is.3 (back k q)).0 ∙ (part-up k (back k q) (part_at part (before ++ v ∷ behind) (back k q)) ∙ ap (λ p. entries_of p (part_at part (before ++ v ∷ behind) (back k q))) (up-back k q))),
+            λ q. rw (← others_at before behind q) (
+              cc (entries-up k q s none, (is.3 (back k q)).0, part-up k (back k q) (part_at part (before ++ v ∷ behind) (back k q)), up-back k q),
               knows-up k s (part_at part (before ++ v ∷ behind) (back k q)) (is.3 (back k q)).1,
             ),
             is.4 ∙ sym (same_first k s),

@@ -14,6 +14,7 @@ pub mod CellSent
 pub mod CellSteps
 pub mod PermitFields
 pub mod WalkSteps
+pub mod Walking
 pub mod WalkNames
 pub mod CellWalks
 pub mod CellWatchWalks

@@ -1,5 +1,5 @@
 -- A mutex whose trace is a schedule of its model: how the steps of its parties keep the rule, and what they tell.
-use Rattle.std.proofs.Common.{◌≡◌, ℕ, Bool, true, false, List, [], Option, Some, None, length, refl, sym, ap, ◌∙◌, subst}
+use Rattle.std.proofs.Common.{arith, ◌≡◌, ℕ, Bool, true, false, List, [], Option, Some, None, length, sym, ap, ◌∙◌}
 use mathlib.Core.Logic.{inr}
 use Rattle.spin_core.specs.Cell.{Use, off, writes, alone, Ways, no_fact, use_of, AllowsAt, AllowsSecondAt, Meets, Moved, Rests}
 use Rattle.spin_core.specs.Own.{Numbered, Runs, Tells, what}
@@ -26,8 +26,7 @@ use Rattle.spin_model.specs.Schedules.{Entry}
 
 -- if f has the same value at the idle view as without a view, it has the same value for each party that is out as for a new one
 pub as_new : {X Y : Type 0} (idle : X) (f : Option X → Y) → f (Some idle) ≡ f None → (view : Option X) → IsOut idle view → f view ≡ f None
-as_new idle f same None out = refl
-as_new idle f same (Some v) out = ap (λ w. f (Some w)) out ∙ same
+as_new idle f same view out = grind (arith, same)
 
 -- A mutex with its model and its opening. It says where each view sits in the model, and which of the model's words are the lock's.
 pub record Mutex (W V C L X S : Type 0) : Type 1 where
@@ -90,49 +89,48 @@ module _ {W V C L X S : Type 0} (lock : Mutex W V C L X S) where
   rests (Some v) out =
       tie.rests model seat_of words_of (Holds plain) opening.name V alone uses (last opening) v (ap seat_of out ∙ lock.idle_sits) (idle_rests plain v.0 out)
 
-  -- A step keeps the rule if the plain lock allows it and the model has moves for it.
-
-  pub keeps : (view : Option (Numbered X)) (shown : Option V) (g : ℕ → ℕ) (then : ℕ → X → Type 0) (says : Says V C (Answer V) X)
-      → Leaving (what view) shown says → Moves (what view) g then says
-      → AllowsAt (Holds plain) plain_ways (what view) None g then → Keeps view shown g says
-  keeps view shown g then says leaves moves allowed =
-      tie.traces model seat_of words_of (Holds plain) opening.name V alone uses (last opening) view shown g then says moves
-      (λ own outs n u said t word p. owed opening own t word p (use_of uses (what view)) (uses u) shown (leaves own outs n u said)) allowed
-
   -- a step of a call, by a party that does not use the value
   pub steps : (view : Option X) (shown : Option V) → use_of uses view ≡ off → (goes_on : Bool) (c : C) (end : ℕ → Ending V) (to : ℕ → X)
       → Leaving view shown (step_by goes_on c end to)
   steps view shown unused goes_on c end to own outs n u said = steps_leave (use_of uses view) (uses u) shown unused goes_on c (end n) own outs said.1
-
-  pub in_call : (view : Option (Numbered X)) (shown : Option V) → use_of uses (what view) ≡ off
-      → (g : ℕ → ℕ) (goes_on : Bool) (c : C) (end : ℕ → Ending V) (to : ℕ → X)
-      → Moves (what view) g (λ n v. v ≡ to n) (step_by goes_on c end to) → AllowsAt (Holds plain) plain_ways (what view) None g (λ n v. v ≡ to n)
-      → Keeps view shown g (step_by goes_on c end to)
-  in_call view shown unused g goes_on c end to =
-      keeps view shown g (λ n v. v ≡ to n) (step_by goes_on c end to) (steps (what view) shown unused goes_on c end to)
-
-  pub begins : (view : Option (Numbered X)) (shown : Option V) → IsOut idle (what view) → (g : ℕ → ℕ) (c : C) (end : ℕ → Ending V) (to : ℕ → X)
-      → Moves None g (λ n v. v ≡ to n) (step_by false c end to) → AllowsAt (Holds plain) plain_ways (what view) None g (λ n v. v ≡ to n)
-      → Keeps view shown g (step_by false c end to)
-  begins view shown out g c end to moves =
-      in_call view shown (out_off (what view) out) g false c end to (out_moves (what view) out g (λ n v. v ≡ to n) (step_by false c end to) moves)
 
   -- The holder writes the value that it leaves, and is out afterwards.
 
   pub leaving : (view : Option X) (shown : Option V) (x : V) (c : C) (a : Answer V) → use_of uses view ≡ writes → shown ≡ Some x
       → Leaving view shown (leaves_by (λ y. y ≡ x) c a idle)
   leaving view shown x c a held here own outs n u (stays, (y, is, by)) =
-      subst (λ (z : Use × Use × Option V). Leaves z.0 z.1 z.2 own) (λ i. (sym held i, sym (ap uses stays ∙ plain.is_idle.1) i, sym here i))
-      (λ v. write_leaves y false c (Answered a None) own outs by v ∙ is)
+      rw (held, ap uses stays ∙ plain.is_idle.1, here) (λ v. write_leaves y false c (Answered a None) own outs by v ∙ is)
 
-  pub releases : (view : Option (Numbered X)) (shown : Option V) (x : V) (c : C) (a : Answer V) → use_of uses (what view) ≡ writes → shown ≡ Some x
-      → (g : ℕ → ℕ) (then : ℕ → X → Type 0)
-      → Moves (what view) g then (leaves_by (λ y. y ≡ x) c a idle) → AllowsAt (Holds plain) plain_ways (what view) None g then
-      → Keeps view shown g (leaves_by (λ y. Unit {0}) c a idle)
-  releases view shown x c a held here g then moves allowed =
-      tie.tells_less model seat_of words_of view (leaves_by (λ y. y ≡ x) c a idle) (leaves_by (λ y. Unit {0}) c a idle)
-      (λ own outs n u (stays, (y, is, by)). (stays, (y, tt, by))) Rule own_ways shown g
-      (keeps view shown g then (leaves_by (λ y. y ≡ x) c a idle) (leaving (what view) shown x c a held here) moves allowed)
+  -- A step keeps the rule if the plain lock allows it and the model has moves for it.
+  module _ (view : Option (Numbered X)) (shown : Option V) where
+    pub keeps : (g : ℕ → ℕ) (then : ℕ → X → Type 0) (says : Says V C (Answer V) X)
+        → Leaving (what view) shown says → Moves (what view) g then says
+        → AllowsAt (Holds plain) plain_ways (what view) None g then → Keeps view shown g says
+    keeps g then says leaves moves allowed =
+        tie.traces model seat_of words_of (Holds plain) opening.name V alone uses (last opening) view shown g then says moves
+        (λ own outs n u said t word p. owed opening own t word p (use_of uses (what view)) (uses u) shown (leaves own outs n u said)) allowed
+
+    pub in_call : use_of uses (what view) ≡ off
+        → (g : ℕ → ℕ) (goes_on : Bool) (c : C) (end : ℕ → Ending V) (to : ℕ → X)
+        → Moves (what view) g (λ n v. v ≡ to n) (step_by goes_on c end to) → AllowsAt (Holds plain) plain_ways (what view) None g (λ n v. v ≡ to n)
+        → Keeps view shown g (step_by goes_on c end to)
+    in_call unused g goes_on c end to =
+        keeps g (λ n v. v ≡ to n) (step_by goes_on c end to) (steps (what view) shown unused goes_on c end to)
+
+    pub begins : IsOut idle (what view) → (g : ℕ → ℕ) (c : C) (end : ℕ → Ending V) (to : ℕ → X)
+        → Moves None g (λ n v. v ≡ to n) (step_by false c end to) → AllowsAt (Holds plain) plain_ways (what view) None g (λ n v. v ≡ to n)
+        → Keeps view shown g (step_by false c end to)
+    begins out g c end to moves =
+        in_call (out_off (what view) out) g false c end to (out_moves (what view) out g (λ n v. v ≡ to n) (step_by false c end to) moves)
+
+    pub releases : (x : V) (c : C) (a : Answer V) → use_of uses (what view) ≡ writes → shown ≡ Some x
+        → (g : ℕ → ℕ) (then : ℕ → X → Type 0)
+        → Moves (what view) g then (leaves_by (λ y. y ≡ x) c a idle) → AllowsAt (Holds plain) plain_ways (what view) None g then
+        → Keeps view shown g (leaves_by (λ y. Unit {0}) c a idle)
+    releases x c a held here g then moves allowed =
+        tie.tells_less model seat_of words_of view (leaves_by (λ y. y ≡ x) c a idle) (leaves_by (λ y. Unit {0}) c a idle)
+        (λ own outs n u (stays, (y, is, by)). (stays, (y, tt, by))) Rule own_ways shown g
+        (keeps g then (leaves_by (λ y. y ≡ x) c a idle) (leaving (what view) shown x c a held here) moves allowed)
 
 -- What a party learns of the value by a step.
 module _ {W V C L X S : Type 0} (lock : Mutex W V C L X S) (view view' : Option (Numbered X)) (before after : Option V) (seen : Watch (Entry C V)) (x : V)
@@ -200,32 +198,33 @@ module _ {W V C L X : Type 0} (lock : Mutex W V C L X ℕ) where
   out_moves_second view out g to says moves w value u so =
       let is = as_new idle (sits model seat_of words_of) lock.idle_sits view out in rw is (moves w value u so)
 
-  pub keeps_second : (view : Option (Numbered X)) (shown : Option V) (g : ℕ → ℕ) (then : ℕ → X → Type 0) (says : Says V C (Answer V) X)
-      → Leaving lock (what view) shown says → MovesSecond (what view) g then says
-      → AllowsSecondAt (Holds plain) (plain_ways lock) (what view) None g then → KeepsSecond view shown g says
-  keeps_second view shown g then says leaves moves allowed =
-      tie.traces_second model seat_of words_of (Holds plain) opening.name V alone uses (last opening) view shown g then says moves
-      (λ own outs n u said t word p. owed opening own t word p (use_of uses (what view)) (uses u) shown (leaves own outs n u said)) allowed
+  module _ (view : Option (Numbered X)) (shown : Option V) where
+    pub keeps_second : (g : ℕ → ℕ) (then : ℕ → X → Type 0) (says : Says V C (Answer V) X)
+        → Leaving lock (what view) shown says → MovesSecond (what view) g then says
+        → AllowsSecondAt (Holds plain) (plain_ways lock) (what view) None g then → KeepsSecond view shown g says
+    keeps_second g then says leaves moves allowed =
+        tie.traces_second model seat_of words_of (Holds plain) opening.name V alone uses (last opening) view shown g then says moves
+        (λ own outs n u said t word p. owed opening own t word p (use_of uses (what view)) (uses u) shown (leaves own outs n u said)) allowed
 
-  pub in_call_second : (view : Option (Numbered X)) (shown : Option V) → use_of uses (what view) ≡ off
-      → (g : ℕ → ℕ) (goes_on : Bool) (c : C) (end : ℕ → Ending V) (to : ℕ → X)
-      → MovesSecond (what view) g (λ n v. v ≡ to n) (step_by goes_on c end to)
-      → AllowsSecondAt (Holds plain) (plain_ways lock) (what view) None g (λ n v. v ≡ to n) → KeepsSecond view shown g (step_by goes_on c end to)
-  in_call_second view shown unused g goes_on c end to =
-      keeps_second view shown g (λ n v. v ≡ to n) (step_by goes_on c end to) (steps lock (what view) shown unused goes_on c end to)
+    pub in_call_second : use_of uses (what view) ≡ off
+        → (g : ℕ → ℕ) (goes_on : Bool) (c : C) (end : ℕ → Ending V) (to : ℕ → X)
+        → MovesSecond (what view) g (λ n v. v ≡ to n) (step_by goes_on c end to)
+        → AllowsSecondAt (Holds plain) (plain_ways lock) (what view) None g (λ n v. v ≡ to n) → KeepsSecond view shown g (step_by goes_on c end to)
+    in_call_second unused g goes_on c end to =
+        keeps_second g (λ n v. v ≡ to n) (step_by goes_on c end to) (steps lock (what view) shown unused goes_on c end to)
 
-  pub begins_second : (view : Option (Numbered X)) (shown : Option V) → IsOut idle (what view) → (g : ℕ → ℕ) (c : C) (end : ℕ → Ending V) (to : ℕ → X)
-      → MovesSecond None g (λ n v. v ≡ to n) (step_by false c end to) → AllowsSecondAt (Holds plain) (plain_ways lock) (what view) None g (λ n v. v ≡ to n)
-      → KeepsSecond view shown g (step_by false c end to)
-  begins_second view shown out g c end to moves =
-      in_call_second view shown (out_off lock (what view) out) g false c end to
-      (out_moves_second (what view) out g (λ n v. v ≡ to n) (step_by false c end to) moves)
+    pub begins_second : IsOut idle (what view) → (g : ℕ → ℕ) (c : C) (end : ℕ → Ending V) (to : ℕ → X)
+        → MovesSecond None g (λ n v. v ≡ to n) (step_by false c end to) → AllowsSecondAt (Holds plain) (plain_ways lock) (what view) None g (λ n v. v ≡ to n)
+        → KeepsSecond view shown g (step_by false c end to)
+    begins_second out g c end to moves =
+        in_call_second (out_off lock (what view) out) g false c end to
+        (out_moves_second (what view) out g (λ n v. v ≡ to n) (step_by false c end to) moves)
 
-  pub releases_second : (view : Option (Numbered X)) (shown : Option V) (x : V) (c : C) (a : Answer V) → use_of uses (what view) ≡ writes → shown ≡ Some x
-      → (g : ℕ → ℕ) (then : ℕ → X → Type 0)
-      → MovesSecond (what view) g then (leaves_by (λ y. y ≡ x) c a idle) → AllowsSecondAt (Holds plain) (plain_ways lock) (what view) None g then
-      → KeepsSecond view shown g (leaves_by (λ y. Unit {0}) c a idle)
-  releases_second view shown x c a held here g then moves allowed =
-      tie.tells_less_second model seat_of words_of view (leaves_by (λ y. y ≡ x) c a idle) (leaves_by (λ y. Unit {0}) c a idle)
-      (λ own outs n u (stays, (y, is, by)). (stays, (y, tt, by))) (Rule lock) (own_ways lock) shown g
-      (keeps_second view shown g then (leaves_by (λ y. y ≡ x) c a idle) (leaving lock (what view) shown x c a held here) moves allowed)
+    pub releases_second : (x : V) (c : C) (a : Answer V) → use_of uses (what view) ≡ writes → shown ≡ Some x
+        → (g : ℕ → ℕ) (then : ℕ → X → Type 0)
+        → MovesSecond (what view) g then (leaves_by (λ y. y ≡ x) c a idle) → AllowsSecondAt (Holds plain) (plain_ways lock) (what view) None g then
+        → KeepsSecond view shown g (leaves_by (λ y. Unit {0}) c a idle)
+    releases_second x c a held here g then moves allowed =
+        tie.tells_less_second model seat_of words_of view (leaves_by (λ y. y ≡ x) c a idle) (leaves_by (λ y. Unit {0}) c a idle)
+        (λ own outs n u (stays, (y, is, by)). (stays, (y, tt, by))) (Rule lock) (own_ways lock) shown g
+        (keeps_second g then (leaves_by (λ y. y ≡ x) c a idle) (leaving lock (what view) shown x c a held here) moves allowed)

@@ -48,7 +48,7 @@ module _ {X : Type 0} (owner : X → ℕ) (weight : X → ℕ) where
     counted k [] xs owns = rw (let e : k + 0 ≡ k = omega arith in e) (omega arith)
     counted k (v ∷ vs) xs owns =
         let rest = counted (suc k) vs xs (λ p i e. owns p (suc i) (omega arith)) in
-        let far : below (suc k + length vs) xs ≡ below (k + suc (length vs)) xs = ap (λ j. below j xs) (let e : suc k + length vs ≡ k + suc (length vs) = omega arith in e) in
+        let e : suc k + length vs ≡ k + suc (length vs) = omega arith in let far : below (suc k + length vs) xs ≡ below (k + suc (length vs)) xs = ap (λ j. below j xs) e in
         omega (arith, one_more k xs, owns k 0 (omega arith), same k v, sum_by-cons has v vs)
 
     all : (vs : List V) (xs : List X) → ((p : ℕ) → own p xs ≡ gives p (part_at part vs p)) → sum_by has vs ≡ below (0 + length vs) xs
@@ -90,13 +90,18 @@ module _ {V : Type 0} (part : V → Part) where
   abbrev pub Alone : List V → Type 0
   Alone vs = Limits {X = Unit {0}} alone (readers_of (used_by part) vs) (writers_of (used_by part) vs)
 
+  -- if each writer is a holder, no more write than hold the lock to write
+  writers_hold : ((v : V) (p : ℕ) → writing (used_by part v) ≡ count_kind writer (entries_of p (part v)).holders) → (vs : List V) (s : Plain) → IsLockOf part vs s
+      → writers_of (used_by part) vs ≤ count_kind writer s.holders
+  writers_hold kind vs s is = within (λ h. h.party) (λ h. cond (same_kind writer h.kind) 1 0) part (λ v. writing (used_by part v))
+      (λ p x. count_kind writer (entries_of p x).holders) (λ p v. kind v p) vs s.holders (λ p. ap (λ e. count_kind writer e.holders) (is p).0)
+
   pub one_holder : ((v : V) → OfHolders v) → (cap : ℕ) (vs : List V) (s : Plain) → s.cap ≡ cap → IsInOrder s → IsLockOf part vs s → Alone vs
   one_holder kind cap vs s room order is = omega (
     arith,
     none (λ v. reading (used_by part v)) (λ v. (kind v).0) vs,
     one_writer s order.exclusive,
-    within (λ h. h.party) (λ h. cond (same_kind writer h.kind) 1 0) part (λ v. writing (used_by part v)) (λ p x. count_kind writer (entries_of p x).holders) (λ p v. (kind v).1 p) vs s.holders
-        (λ p. ap (λ e. count_kind writer e.holders) (is p).0),
+    writers_hold (λ v. (kind v).1) vs s is,
   )
 
   pub one_ticket : ((v : V) → OfTickets v) → (cap : ℕ) (vs : List V) (s : Plain) → s.cap ≡ cap → IsInOrder s → IsLockOf part vs s → Alone vs
@@ -126,6 +131,5 @@ module _ {V : Type 0} (part : V → Part) where
   readers_or_writer kind cap least most vs s room order is =
       let all = within (λ h. h.party) (λ h. 1) part (λ v. reading (used_by part v) + writing (used_by part v)) (λ p x. length (entries_of p x).holders) (λ p v. (kind v).0 p) vs s.holders
       (λ p. ones (filter (λ h. h.party == p) s.holders) ∙ ap (λ e. length e.holders) (is p).0) in
-      let some = within (λ h. h.party) (λ h. cond (same_kind writer h.kind) 1 0) part (λ v. writing (used_by part v)) (λ p x. count_kind writer (entries_of p x).holders) (λ p v. (kind v).1 p) vs s.holders
-      (λ p. ap (λ e. count_kind writer e.holders) (is p).0) in
+      let some = writers_hold (λ v. (kind v).1) vs s is in
       grind (arith, both vs, ones s.holders, one_writer s order.exclusive, order.exclusive.writer, order.holders_fit)

@@ -1,5 +1,5 @@
 -- A party appends its moves under its own number, and makes no entry between its steps.
-use Rattle.std.proofs.Common.{◌≡◌, ℕ, suc, ◌+◌, ◌<◌, ◌≤◌, ◌==◌, if◌then◌else◌, Bool, true, false, Option, Some, None, List, [], ◌∷◌, ◌++◌, length, map, drop, slice_set, refl, sym, ap, ◌∙◌, subst, arith, zero-add, ne_eqb}
+use Rattle.std.proofs.Common.{◌≡◌, ℕ, suc, ◌+◌, ◌<◌, ◌≤◌, ◌==◌, if◌then◌else◌, Bool, Option, Some, None, List, [], ◌∷◌, ◌++◌, length, map, drop, slice_set, refl, sym, ap, ◌∙◌, subst, arith, zero-add, ne_eqb}
 use Rattle.std.specs.Prelude.{◌≢◌}
 use Rattle.std.proofs.lemmas.List.{length-append, length-map, map-append, drop-append-le}
 use Rattle.std.proofs.Math.Seq.{drop-length}
@@ -12,6 +12,7 @@ use Rattle.spin_model.specs.Machines.{Machine}
 use Rattle.spin_model.specs.Schedules.{Entry, at_first}
 use Rattle.spin_core.specs.Run.{IsPlayed}
 use Rattle.spin_core.specs.Run as run
+use Rattle.spin_core.specs.Passes.{Says, Course}
 use Rattle.spin_core.specs.Own.{Numbered, by_party, present_from, kind, entries_by, Rested, IsRun, MadeNone, what}
 use Rattle.spin_core.proofs.Runs.{around, set_seam, world}
 use Rattle.spin_core.proofs.Runs as runs
@@ -19,7 +20,7 @@ use Rattle.spin_core.proofs.Runs as runs
 -- Lists of numbered parties.
 
 present_from-append : {X : Type 0} (k j : ℕ) (us ws : List (Option (X × ℕ))) → j ≡ k + length us → present_from k (us ++ ws) ≡ present_from k us ++ present_from j ws
-present_from-append k j [] ws is = ap (λ i. present_from i ws) (let e : k ≡ j = omega (arith, is) in e)
+present_from-append k j [] ws is = let e : k ≡ j = omega (arith, is) in rw e
 present_from-append k j (None ∷ us) ws is = present_from-append (suc k) j us ws (omega (arith, is))
 present_from-append k j (Some u ∷ us) ws is = ap (λ vs. (u.0, k, u.1) ∷ vs) (present_from-append (suc k) j us ws (omega (arith, is)))
 
@@ -30,14 +31,14 @@ split : {X : Type 0} (k : ℕ) (came : List (Option (X × ℕ))) (before : List 
 split k [] [] v behind e = cc (e)
 split k [] (x ∷ before) v behind e = cc (e)
 split k (None ∷ us) before v behind e =
-    let s = split (suc k) us before v behind e in (None ∷ s.0, s.1, ap (λ ws. None ∷ ws) s.2, s.3, (let i = s.4 in omega (arith, i)), s.5)
+    let s = split (suc k) us before v behind e in (None ∷ s.0, s.1, ap (λ ws. None ∷ ws) s.2, s.3, omega (arith, s.4), s.5)
 split {X} k (Some u ∷ us) [] v behind e =
     let same : v ≡ (u.0, k, u.1) = cc (e) in let rest : behind ≡ present_from (suc k) us = cc (e) in
-    ([], us, ap (λ (w : Numbered X). Some (w.0, w.2) ∷ us) (sym same), refl, (let i : v.1 ≡ k = ap (λ (w : Numbered X). w.1) same in omega (arith, i)), rest ∙ ap (λ (w : Numbered X). present_from (suc w.1) us) (sym same))
+    ([], us, ap (λ (w : Numbered X). Some (w.0, w.2) ∷ us) (sym same), refl, omega (arith, ap (λ (w : Numbered X). w.1) same), rest ∙ ap (λ (w : Numbered X). present_from (suc w.1) us) (sym same))
 split {X} k (Some u ∷ us) (x ∷ before) v behind e =
     let same : x ≡ (u.0, k, u.1) = cc (e) in let rest : before ++ v ∷ behind ≡ present_from (suc k) us = cc (e) in
     let s = split (suc k) us before v behind rest in
-    (Some u ∷ s.0, s.1, ap (λ ws. Some u ∷ ws) s.2, (ap (λ y. y ∷ before) same ∙ ap (λ ws. (u.0, k, u.1) ∷ ws) s.3), (let i = s.4 in omega (arith, i)), s.5)
+    (Some u ∷ s.0, s.1, ap (λ ws. Some u ∷ ws) s.2, (ap (λ y. y ∷ before) same ∙ ap (λ ws. (u.0, k, u.1) ∷ ws) s.3), omega (arith, s.4), s.5)
 
 -- The entries of one party.
 
@@ -46,8 +47,7 @@ Came X = List (Option (X × ℕ))
 
 -- a party's entries with one more entry in front, which is the party's own or is not
 pub picked : {X : Type 0} (x : X) (ls rs ts : List X) → ls ≡ rs ++ ts → (b : Bool) → (if b then x ∷ ls else ls) ≡ (if b then x ∷ rs else rs) ++ ts
-picked x ls rs ts e true = ap (λ l. x ∷ l) e
-picked x ls rs ts e false = e
+picked x ls rs ts e b = grind arith
 
 module _ {C V : Type 0} where
   pub by-append : (q : ℕ) (xs ys : List (Entry C V)) → entries_by q (xs ++ ys) ≡ entries_by q xs ++ entries_by q ys
@@ -56,15 +56,15 @@ module _ {C V : Type 0} where
 
   by_other : (q p : ℕ) (own : List (Move C V)) → p ≢ q → entries_by q (by_party p own) ≡ []
   by_other q p [] other = refl
-  by_other q p (move ∷ own) other = ap (λ b. if b then (p, move) ∷ entries_by q (by_party p own) else entries_by q (by_party p own)) (ne_eqb p q other) ∙ by_other q p own other
+  by_other q p (move ∷ own) other = rw (ne_eqb p q other) (by_other q p own other)
 
   none_of_both : (q : ℕ) (xs ys : List (Entry C V)) → entries_by q xs ≡ [] → entries_by q ys ≡ [] → entries_by q (xs ++ ys) ≡ []
-  none_of_both q xs ys e d = by-append q xs ys ∙ ap (λ l. l ++ entries_by q ys) e ∙ d
+  none_of_both q xs ys e d = rw (by-append q xs ys, e) d
 
   module _ (log : List (Entry C V)) where
     -- a party that is present has made no entry since its mark
     rested_at : {X : Type 0} (k p : ℕ) (front : Came X) (u : X × ℕ) (back : Came X) → p ≡ k + length front → Rested log k (front ++ Some u ∷ back) → entries_by p (drop u.1 log) ≡ []
-    rested_at k p [] u back is r = subst (λ i. entries_by i (drop u.1 log) ≡ []) (let e : k ≡ p = omega (arith, is) in e) r.0.1
+    rested_at k p [] u back is r = let e : p ≡ k = omega (arith, is) in rw e r.0.1
     rested_at k p (None ∷ us) u back is r = rested_at (suc k) p us u back (omega (arith, is)) r
     rested_at k p (Some x ∷ us) u back is r = rested_at (suc k) p us u back (omega (arith, is)) r.1
 
@@ -84,15 +84,14 @@ module _ {C V : Type 0} where
     goes k (Some x ∷ us) u back r = (r.0, goes (suc k) us u back r.1)
 
     behind : {X : Type 0} (k : ℕ) (o : Option (X × ℕ)) (back : Came X) → Rested log k (o ∷ back) → Rested log (suc k) back
-    behind k None back r = r
-    behind k (Some u) back r = r.1
+    behind k o back r = grind arith
 
     module _ (p : ℕ) (own : List (Move C V)) where
       abbrev es : List (Entry C V)
       es = by_party p own
 
       on : (k mark : ℕ) → p ≢ k → (mark ≤ length log) × (entries_by k (drop mark log) ≡ []) → (mark ≤ length (log ++ es)) × (entries_by k (drop mark (log ++ es)) ≡ [])
-      on k mark other r = ((let a = length-append log es in let b = r.0 in omega (arith, a, b)), ap (entries_by k) (drop-append-le mark log es r.0) ∙ none_of_both k (drop mark log) es r.1 (by_other k p own other))
+      on k mark other r = (omega (arith, length-append log es, r.0), ap (entries_by k) (drop-append-le mark log es r.0) ∙ none_of_both k (drop mark log) es r.1 (by_other k p own other))
 
       later : {X : Type 0} (k : ℕ) (us : Came X) → p < k → Rested log k us → Rested (log ++ es) k us
       later k [] under r = λ q le. none_of_both q log es (r q le) (by_other q p own (λ e. absurd (omega (arith, under, le, e))))
@@ -180,13 +179,13 @@ module _ {W V C L A X S : Type 0} (m : Machine W V C L A) (seat_of : X → Seat 
       }
 
   -- the result of a step that turns the view `view` of a party into u
-  abbrev pub Comes : Option (Numbered X) → X → (List (Move C V) → List (Outcome A V) → Type 0) → ℕ → ℕ × S → Schedule → List (Numbered X) → Type 0
+  abbrev pub Comes : Option (Numbered X) → X → Course V C A → ℕ → ℕ × S → Schedule → List (Numbered X) → Type 0
   Comes view u says id s log vs = (p : ℕ) × (own : List (Move C V)) × (outs : List (Outcome A V)) × (let es = by_party p own in
       Run (log ++ es) s (views_after id view vs (u, p, length (log ++ es))) × MadeNone m seat_of words_of log p view × run.AreOwn m own outs log es
       × says own outs)
 
   pub step : (view : Option (Numbered X)) (to : ℕ × S → ℕ × S) (found : ℕ × S → ℕ) (tells : ℕ → X → Type 0)
-      (says : List (Move C V) → List (Outcome A V) → ℕ → X → Type 0) → run.AreMoves m seat_of words_of (what view) to found tells says
+      (says : Says V C A X) → run.AreMoves m seat_of words_of (what view) to found tells says
       → (id : ℕ) (s : ℕ × S) (log : Schedule) (vs : List (Numbered X)) → Run log s vs → Stands id view vs → (u : X) → tells (found s) u
       → Comes view u (λ own outs. says own outs (found s) u) id (to s) log vs
   step view to found tells says moves id s log vs is at u so =
@@ -208,7 +207,7 @@ module _ {W V C L A X S : Type 0} (m : Machine W V C L A) (seat_of : X → Seat 
             z.becomes u mark,
             ap to z.words_are ∙ sym made_by.9,
             subst (Leads (log ++ by_party z.number own) made_by.5 made_by.6) now on.0,
-            subst (λ c. IsPlayed m (length c) (log ++ by_party z.number own)) now on.1,
+            rw (← now) on.1,
             made log z.number own 0 z.front z.last u z.back z.place z.rested,
           ),
           z.made_none,

@@ -1,5 +1,5 @@
 -- What a party with a number learns by a step, and by one step after another.
-use Rattle.std.proofs.Common.{◌≡◌, ℕ, zero, suc, ◌+◌, ◌==◌, if◌then◌else◌, Bool, true, false, Option, Some, None, List, [], ◌∷◌, ◌++◌, length, drop, replicate, refl, sym, ap, ◌∙◌, subst, arith, eq-eqb, zero-add}
+use Rattle.std.proofs.Common.{◌≡◌, ℕ, zero, suc, ◌+◌, ◌==◌, if◌then◌else◌, Bool, true, false, Option, Some, None, List, [], ◌∷◌, ◌++◌, length, replicate, refl, sym, ap, ◌∙◌, subst, arith, eq-eqb, zero-add}
 use mathlib.Core.List.{IsPrefix}
 use Rattle.std.proofs.Math.Seq.{drop-append_seam}
 use Rattle.std.proofs.lemmas.List.{append_assoc, map-append}
@@ -10,11 +10,10 @@ use Rattle.spin_model.specs.declared.schedule.Outcome.TheVariants.{GoingOn, Answ
 use Rattle.spin_model.specs.Machines.{Machine}
 use Rattle.spin_model.specs.Schedules.{State, Entry, after, at_first, happens}
 use Rattle.spin_core.specs.declared.trace.Watch.{Watch}
-use Rattle.std.specs.List.{list_all}
 use Rattle.spin_model.specs.declared.place.Seat.{Seat}
-use Rattle.spin_core.specs.Run.{IsPlayed, outcomes, is_played}
+use Rattle.spin_core.specs.Run.{IsPlayed, outcomes}
 use Rattle.spin_core.specs.Own.{Numbered, what, by_party, entries_by, MadeNone, Tells}
-use Rattle.spin_core.specs.Passes.{mark_of, MayBe, IsNumber, Course, Nothing, Waits, Ends, Begins, WritesSome, IsCall, IsStep, outcomes_by, Did, Made}
+use Rattle.spin_core.specs.Passes.{mark_of, MayBe, IsNumber, Course, Nothing, Waits, Ends, Begins, WritesSome, IsCall, Says, IsStep, outcomes_by, Did, Made}
 use Rattle.spin_core.specs.Cell.{Ways, Moved}
 use Rattle.spin_core.specs.Traced.{Watches, Named}
 use Rattle.spin_core.specs.declared.trace.Trace.{Trace}
@@ -28,7 +27,11 @@ module _ {C V : Type 0} where
 
   own_of : (p : ℕ) (own : List (Move C V)) → entries_by p (by_party p own) ≡ by_party p own
   own_of p [] = refl
-  own_of p (move ∷ own) = ap (λ b. if b then (p, move) ∷ entries_by p (by_party p own) else entries_by p (by_party p own)) (eq-eqb p p refl) ∙ ap (λ l. (p, move) ∷ l) (own_of p own)
+  own_of p (move ∷ own) = rw (eq-eqb p p refl, own_of p own)
+
+-- R accepts moves of P followed by moves of Q
+abbrev pub Joins : (V C A : Type 0) → Course V C A → Course V C A → Course V C A → Type 0
+Joins V C A P Q R = (own own' : List (Move C V)) (outs outs' : List (Outcome A V)) → P own outs → Q own' outs' → R (own ++ own') (outs ++ outs')
 
 module _ {W V C L A : Type 0} (m : Machine W V C L A) where
   abbrev Schedule : Type 0
@@ -44,8 +47,7 @@ module _ {W V C L A : Type 0} (m : Machine W V C L A) where
   -- entries of others have no outcomes for the party
   unasked : (p : ℕ) (s : State W V C L) (x : Entry C V) (xs : Schedule) (b : Bool) → (if b then x ∷ entries_by p xs else entries_by p xs) ≡ [] → (entries_by p xs ≡ [] → (s' : State W V C L) → outcomes_by m p s' xs ≡ [])
       → (if b then (happens m s x.0 x.1).outcome ∷ outcomes_by m p (happens m s x.0 x.1).next xs else outcomes_by m p (happens m s x.0 x.1).next xs) ≡ []
-  unasked p s x xs true e rest = cc (e)
-  unasked p s x xs false e rest = rest e (happens m s x.0 x.1).next
+  unasked p s x xs b e rest = grind (arith, rest)
 
   by-others : (p : ℕ) (xs : Schedule) → entries_by p xs ≡ [] → (s : State W V C L) → outcomes_by m p s xs ≡ []
   by-others p [] none s = refl
@@ -55,33 +57,29 @@ module _ {W V C L A : Type 0} (m : Machine W V C L A) where
   by-own p s [] = refl
   by-own p s (move ∷ own) =
       let h = happens m s p move in
-      ap (λ b. if b then h.outcome ∷ outcomes_by m p h.next (by_party p own) else outcomes_by m p h.next (by_party p own)) (eq-eqb p p refl) ∙ ap (λ l. h.outcome ∷ l) (by-own p h.next own)
+      rw (eq-eqb p p refl, by-own p h.next own)
 
   -- moves of a party up to a later trace, followed by its moves up to a still later one, are its moves over both
   pub did_both : (p : ℕ) (a b c : Schedule) (own own' : List (Move C V)) (outs outs' : List (Outcome A V)) → Did m p a b own outs → Did m p b c own' outs' → Did m p a c (own ++ own') (outs ++ outs')
   did_both p a b c own own' outs outs' (more, least, is, mine, played, came) (more', least', is', mine', played', came') = (
     more ++ more',
     least + least',
-    is' ∙ ap (λ l. l ++ more') is ∙ append_assoc a more more',
-    by-append p more more' ∙ ap (λ l. l ++ entries_by p more') mine ∙ ap (λ l. by_party p own ++ l) mine' ∙ sym (map-append (λ move. (p, move)) own own'),
-    (λ k. subst (λ n. list_all is_played (outcomes m (at_first m n) c) ≡ true) (let e : least' + (least + k) ≡ least + least' + k = omega arith in e) (played' (least + k))),
+    cc (append_assoc a more more'),
+    rw (by-append p more more', mine, mine') (sym (map-append (λ move. (p, move)) own own')),
+    (λ k. let e : least + least' + k ≡ least' + (least + k) = omega arith in rw e (played' (least + k))),
     λ k. let start : State W V C L = at_first m (least + least' + k) in
         let one : least + (least' + k) ≡ least + least' + k = omega arith in let two : least' + (least + k) ≡ least + least' + k = omega arith in
         let there : after m (after m start a) more ≡ after m start b = sym (after-append m start a more) ∙ ap (after m start) (sym is) in
-        by-both p (after m start a) more more'
-        ∙ ap (λ l. l ++ outcomes_by m p (after m (after m start a) more) more')
-        (ap (λ n. outcomes_by m p (after m (at_first m n) a) more) (sym one) ∙ came (least' + k))
-        ∙ ap (λ l. outs ++ l) (ap (λ z. outcomes_by m p z more') there
-        ∙ ap (λ n. outcomes_by m p (after m (at_first m n) b) more') (sym two) ∙ came' (least + k)),
+        let first = rw one at (came (least' + k)) in let second = rw two at (came' (least + k)) in
+        rw (by-both p (after m start a) more more', first, there, second),
   )
 
   module _ {X : Type 0} where
     same_number : (p q : ℕ) (view : Option (Numbered X)) → IsNumber p view → MayBe q view → q ≡ p
-    same_number p q None is may = absurd is
-    same_number p q (Some u) is may = may ∙ sym is
+    same_number p q view is may = grind arith
 
     -- if R accepts moves of P followed by moves of Q, a party that follows P and then Q follows R
-    pub made_both : (u v w : Option (Numbered X)) (a b c : Schedule) (P Q R : Course V C A) → ((own own' : List (Move C V)) (outs outs' : List (Outcome A V)) → P own outs → Q own' outs' → R (own ++ own') (outs ++ outs'))
+    pub made_both : (u v w : Option (Numbered X)) (a b c : Schedule) (P Q R : Course V C A) → Joins V C A P Q R
         → Made m u a v b P → Made m v b w c Q → Made m u a w c R
     made_both u v w a b c P Q R joins (p, may, is, own, outs, did, so) (q, may', is', own', outs', did', so') =
         let same : q ≡ p = same_number p q v is may' in
@@ -90,12 +88,12 @@ module _ {W V C L A : Type 0} (m : Machine W V C L A) where
   module _ {X S : Type 0} (seat_of : X → Seat C L) (words_of : W → ℕ × S) where
     -- the party has made no entry since it knew `old`
     none_between : (view : Option (Numbered X)) (p : ℕ) (old log : Schedule) (known : IsPrefix old log) → mark_of view ≡ length old → MadeNone m seat_of words_of log p view → MayBe p view × (entries_by p known.0 ≡ [])
-    none_between None p old log known knew none = (tt, ap (entries_by p) (ap (λ l. l ++ known.0) (sym (nothing_known old knew)) ∙ known.1) ∙ none)
+    none_between None p old log known knew none = (tt, (let e = nothing_known old knew in let is : known.0 ≡ log = rw e at known.1 in rw is none))
     none_between (Some u) p old log known knew none =
-        (none.0, ap (entries_by p) (sym (drop-append_seam old known.0) ∙ ap (λ n. drop n (old ++ known.0)) (sym knew) ∙ ap (drop u.2) known.1) ∙ none.1)
+        (none.0, rw (← drop-append_seam old known.0, ← knew, known.1) none.1)
 
     -- what a step tells a party that knew all entries up to its last step: its moves, and that it knows all entries up to this step
-    pub learns : (says : List (Move C V) → List (Outcome A V) → ℕ → X → Type 0) (named : Type 0) (view : Option (Numbered X)) (before now : Watch (Entry C V)) (n : ℕ) (v : Numbered X)
+    pub learns : (says : Says V C A X) (named : Type 0) (view : Option (Numbered X)) (before now : Watch (Entry C V)) (n : ℕ) (v : Numbered X)
         → mark_of view ≡ length before.entries → Watches named before now (Tells m seat_of words_of says view) n v
         → Made m view before.entries (Some v) now.entries (λ own outs. says own outs n v.0) × (mark_of (Some v) ≡ length now.entries)
     learns says named view before now n v knew (same, (log, es, known, is, (own, outs, es_is, mark, none, mine, said))) =
@@ -110,14 +108,12 @@ module _ {W V C L A : Type 0} (m : Machine W V C L A) where
             (
               between ++ by_party p own,
               least,
-              is ∙ ap (λ l. log ++ l) es_is ∙ ap (λ l. l ++ by_party p own) (sym here) ∙ append_assoc before.entries between (by_party p own),
-              by-append p between (by_party p own) ∙ ap (λ l. l ++ entries_by p (by_party p own)) apart.1 ∙ own_of p own,
+              cc (append_assoc before.entries between (by_party p own)),
+              rw (by-append p between (by_party p own), apart.1, own_of p own),
               subst (IsPlayed m least) (sym is) mine.3,
               λ k. let start : State W V C L = at_first m (least + k) in let s : State W V C L = after m start before.entries in
                   let there : after m s between ≡ after m start log = sym (after-append m start before.entries between) ∙ ap (after m start) here in
-                  by-both p s between (by_party p own) ∙ ap (λ l. l ++ outcomes_by m p (after m s between) (by_party p own)) (by-others p between apart.1 s)
-                  ∙ by-own p (after m s between) own ∙ ap (λ z. outcomes m z (by_party p own)) there
-                  ∙ ap (outcomes m (after m start log)) (sym es_is) ∙ mine.4 k,
+                  rw (by-both p s between (by_party p own), by-others p between apart.1 s, by-own p (after m s between) own, there, ← es_is) (mine.4 k),
             ),
             said,
           ),
@@ -137,7 +133,7 @@ pub record Learnt {W V C L A X : Type 0} (m : Machine W V C L A) (view view' : O
   pub named : now.name ≡ before.name
 
 module _ {W V C L A X S : Type 0} (m : Machine W V C L A) (seat_of : X → Seat C L) (words_of : W → ℕ × S) where
-  pub learnt : (says : List (Move C V) → List (Outcome A V) → ℕ → X → Type 0) (to : ℕ → X) (course : ℕ → Course V C A) → ((own : List (Move C V)) (outs : List (Outcome A V)) (n : ℕ) (v : X) → says own outs n v → (v ≡ to n) × course n own outs)
+  pub learnt : (says : Says V C A X) (to : ℕ → X) (course : ℕ → Course V C A) → ((own : List (Move C V)) (outs : List (Outcome A V)) (n : ℕ) (v : X) → says own outs n v → (v ≡ to n) × course n own outs)
       → (named : Type 0) → named → (view view' : Option (Numbered X)) (before now : Watch (Entry C V)) (found : ℕ) → mark_of view ≡ length before.entries
       → Moved (Watches named before now (Tells m seat_of words_of says view) found) view' → Learnt m view view' before now (to found) (course found)
   learnt says to course means named is_named view None before now found knew moved = absurd moved
@@ -149,24 +145,23 @@ module _ {W V C L A X S : Type 0} (m : Machine W V C L A) (seat_of : X → Seat 
 
 pub replicate-sum : {X : Type 0} (i j : ℕ) (x : X) → replicate (i + j) x ≡ replicate i x ++ replicate j x
 replicate-sum zero j x = ap (λ n. replicate n x) (zero-add j)
-replicate-sum (suc i) j x = ap (λ n. replicate n x) (let e : suc i + j ≡ suc (i + j) = omega arith in e) ∙ ap (λ l. x ∷ l) (replicate-sum i j x)
+replicate-sum (suc i) j x = let e : suc i + j ≡ suc (i + j) = omega arith in rw (e, replicate-sum i j x)
 
 module _ {X : Type 0} (x : X) (i j : ℕ) (xs ys : List X) where
   on_and_on : xs ≡ replicate i x → ys ≡ replicate j x → xs ++ ys ≡ replicate (i + j) x
-  on_and_on is are = ap (λ l. l ++ ys) is ∙ ap (λ l. replicate i x ++ l) are ∙ sym (replicate-sum i j x)
+  on_and_on is are = cc (replicate-sum i j x)
 
   on_and_out : (z : X) → xs ≡ replicate i x → ys ≡ replicate j x ++ z ∷ [] → xs ++ ys ≡ replicate (i + j) x ++ z ∷ []
-  on_and_out z is are = ap (λ l. l ++ ys) is ∙ ap (λ l. replicate i x ++ l) are ∙ sym (append_assoc (replicate i x) (replicate j x) (z ∷ [])) ∙ ap (λ l. l ++ z ∷ []) (sym (replicate-sum i j x))
+  on_and_out z is are = cc (append_assoc (replicate i x) (replicate j x) (z ∷ []), replicate-sum i j x)
 
 module _ {V C A : Type 0} where
-  pub waits_on : (own own' : List (Move C V)) (outs outs' : List (Outcome A V)) → Waits own outs → Waits own' outs' → Waits (own ++ own') (outs ++ outs')
+  pub waits_on : Joins V C A Waits Waits Waits
   waits_on own own' outs outs' (i, is, comes) (j, is', comes') = (i + j, on_and_on Step i j own own' is is', on_and_on GoingOn i j outs outs' comes comes')
 
-  pub waits_out : (a : A) (own own' : List (Move C V)) (outs outs' : List (Outcome A V)) → Waits own outs → Ends a own' outs' → Ends a (own ++ own') (outs ++ outs')
+  pub waits_out : (a : A) → Joins V C A Waits (Ends a) (Ends a)
   waits_out a own own' outs outs' (i, is, comes) (j, is', comes') = (i + j, on_and_out Step i j own own' Step is is', on_and_out GoingOn i j outs outs' (Answered a None) comes comes')
 
-  pub begun : (c : C) (P Q R : Course V C A) → ((own own' : List (Move C V)) (outs outs' : List (Outcome A V)) → P own outs → Q own' outs' → R (own ++ own') (outs ++ outs'))
-      → (own own' : List (Move C V)) (outs outs' : List (Outcome A V)) → Begins c P own outs → Q own' outs' → Begins c R (own ++ own') (outs ++ outs')
+  pub begun : (c : C) (P Q R : Course V C A) → Joins V C A P Q R → Joins V C A (Begins c P) Q (Begins c R)
   begun c P Q R joins own own' outs outs' (rest, comes, is, are, so) so' = (rest ++ own', comes ++ outs', ap (λ l. l ++ own') is, ap (λ l. l ++ outs') are, joins rest own' comes outs' so so')
 
 -- What a party has done by one step, and by several courses one after another.

@@ -1,5 +1,5 @@
 -- The machine values of the two permits: a pointer to the cell and an empty marker. Assumes `Logic`.
-use Rattle.std.proofs.Common.{◌&&◌, Bool, true, false, ◌≡◌, ℕ, T, List, [], ◌∷◌, ◌++◌, refl, sym, subst, ap, ◌∙◌, Option, Some, None}
+use Rattle.std.proofs.Common.{arith, ◌&&◌, Bool, ◌≡◌, ℕ, T, List, [], ◌∷◌, ◌++◌, refl, sym, subst, ap, ◌∙◌, Option, Some, None}
 use seplogic.Ra.Ura.{Ura}
 use mir.Syntax.{ty_ptr, ty_struct, tcons, tnil}
 use mir.Val.{Val, vstruct, vcons, vnil, of_list, has_ty, WT}
@@ -23,10 +23,11 @@ use Rattle.spin_core.specs.declared.cell.Rule.{Ghosts}
 use Rattle.spin_core.specs.Cell.{Use, reads, Ways, use_of}
 use Rattle.spin_core.specs.CellMemory.{reader_shares, permit_shares}
 use Rattle.spin_core.specs.contracts.cell.Permit as permit
+use Rattle.spin_core.specs.contracts.cell.WritePermit as pen
+use Rattle.spin_core.proofs.Walking.{Spelled}
 
 pub both : (a b : Bool) → T a → T b → T (a && b)
-both true b h k = k
-both false b h k = absurd h
+both a b h k = grind arith
 
 abbrev pub hand_of : Ptr → Val
 hand_of p = vstruct (vcons (ptr_val p) (vcons (vstruct vnil) vnil))
@@ -46,6 +47,12 @@ module _ (a : NamedLft) (R V Y K S : RattleType) (g : Ghosts Y.Denot R.Denot V.D
 
   pub told : (p : Ptr) (vs : List Val) → Is Words (p, (tt, tt)) vs → vs ≡ hand_of p ∷ []
   told p vs is = is.1.0 ∙ ap (λ (ws : List Val). vstruct (of_list (ws ++ (is.0.1.0 ++ []))) ∷ []) is.1.1.0 ∙ ap (λ (ws : List Val). vstruct (of_list (ptr_val p ∷ (ws ++ []))) ∷ []) is.1.1.1.0.1.0
+
+  abbrev pub as_hand : Spelled (permit.the_row a R V Y K S g)
+  as_hand = ((λ x. hand_of x.cell ∷ []), (λ x vs is. told x.cell vs is.0))
+
+  abbrev pub as_pen : Spelled (pen.the_row a R V Y K S g)
+  as_pen = ((λ x. hand_of x.cell ∷ []), (λ x vs is. told x.cell vs is.0))
 
   module _ {M : Type 1} {𝓤 : Ura M} (𝓛 : Logic 𝓤) where
     pub made : (p : Ptr) → ent 𝓤 (emp 𝓤) (sem 𝓛 (Words.own_val (p, (tt, tt)) (hand_of p ∷ [])))

@@ -1,6 +1,6 @@
 -- The kinds of play that locks share. A step on a word keeps the rule if it is an open step of its party in the plain lock, or no step of
 -- the plain lock at all.
-use Rattle.std.proofs.Common.{◌≡◌, ℕ, ◌+◌, ◌-◌, ◌<◌, ◌≤◌, ◌%◌, ◌^◌, ◌==◌, Bool, true, if◌then◌else◌, List, [], Option, Some, None, refl, sym, ap, ◌∙◌, subst, arith, eq-eqb, ne_eqb}
+use Rattle.std.proofs.Common.{◌≡◌, ℕ, ◌+◌, ◌-◌, ◌<◌, ◌≤◌, ◌%◌, ◌^◌, ◌==◌, true, if◌then◌else◌, List, [], Option, Some, None, refl, sym, ap, ◌∙◌, arith, eq-eqb, ne_eqb}
 use mathlib.Core.Logic.{dite}
 use native.Mathlib.Decide.{ℕ_discrete}
 use prog.Atomic.{either}
@@ -10,7 +10,7 @@ use Rattle.spin_step.specs.Parties.{party_of, apply_some, IsOpenStep, entries_af
 use Rattle.spin_core.specs.Cell.{Use, Way, Ways, no_fact, Limits, Going, Meets, Allows, AllowsSecond, Rests, Stands, after, readers_of, writers_of, use_of, off, words}
 use Rattle.spin_core.specs.Views.{Part, idle as nothing, holds, entries_of, Knows, HasPart, IsLockOf, Encodes}
 use Rattle.spin_step.specs.Orders.{IsInOrder}
-use Rattle.spin_core.specs.Plays.{becomes, exchanges}
+use Rattle.spin_core.specs.Plays.{exchanges}
 use Rattle.spin_core.proofs.Leaving.{NamesNobody, leaves}
 use Rattle.spin_step.proofs.Holders.{is_holder-from_entries}
 use Rattle.spin_step.proofs.Sums.{sum_kinds, sum-less}
@@ -82,8 +82,7 @@ module _ {V S : Type 0} (lock : Lock V S) where
   pub by_exchange : (view : Option V) (won lost : V) (s : Plain) (p n : ℕ) (m : S) (expected new : ℕ) → (n ≡ expected → Reaches view won s p new m) → Reaches view lost s p n m
       → (w : V) × Reaches view w s p (either (n == expected) new n) m × (w ≡ (if n == expected then won else lost))
   by_exchange view won lost s p n m expected new hit miss =
-      let G : Bool → Type 0 = λ y. (w : V) × Reaches view w s p (either y new n) m × (w ≡ (if y then won else lost)) in
-      dite (ℕ_discrete n expected) (λ e. subst G (sym (eq-eqb n expected e)) (won, hit e, refl)) (λ ne. subst G (sym (ne_eqb n expected ne)) (lost, miss, refl))
+      dite (ℕ_discrete n expected) (λ e. rw (eq-eqb n expected e) (won, hit e, refl)) (λ ne. rw (ne_eqb n expected ne) (lost, miss, refl))
 
   after_step : (id : ℕ) (view : Option V) (vs : List V) (w : V) (s : Plain) (n : ℕ) (m : S) → Stands id view vs → s.cap ≡ cap → IsInOrder s → IsLockOf part vs s
       → Reaches view w s (number part id view vs) n m → Meets Holds ways n m (after id view vs w)
@@ -97,16 +96,21 @@ module _ {V S : Type 0} (lock : Lock V S) where
   abbrev pub EachOf : Option V → (Plain → ℕ → Type 0) → Type 0
   EachOf view P = (s : Plain) (p : ℕ) (vs : List V) → s.cap ≡ cap → IsInOrder s → IsLockOf part vs s → HasPart s p (part_before part view) → first s < words → P s p
 
+  -- a step to these words, if in this lock the party gets a view that satisfies P
+  arrives : (view : Option V) (id : ℕ) (vs : List V) (s : Plain) (n : ℕ) (m : S) (P : V → Type 0) → Stands id view vs → s.cap ≡ cap → IsInOrder s → IsLockOf part vs s
+      → (w : V) × Reaches view w s (number part id view vs) n m × P w
+      → (w : V) × Going way (use_of uses view) (uses w) None (readers_of uses vs) (Meets Holds ways n m (after id view vs w)) × P w
+  arrives view id vs s n m P at room order is made = let w : V = made.0 in (
+    w,
+    lock.goes (use_of uses view) (uses w) (readers_of uses vs) (Meets Holds ways n m (after id view vs w)) (after_step id view vs w s n m at room order is made.1),
+    made.2,
+  )
+
   -- a step on the first word: in each lock the party gets a view that satisfies `says`
   pub allows_among : (view : Option V) (f : ℕ → ℕ) (says : ℕ → V → Type 0) → EachOf view (λ s p. (w : V) × Reaches view w s p (f (first s)) (second s) × says (first s) w) → Allows Holds ways view f says
   allows_among view f says makes id n m vs meets at small =
-      let s = meets.0.0 in let made = makes s (number part id view vs) vs meets.0.1 meets.0.2 meets.0.3 (own_part part id view vs s at meets.0.3) (subst (λ j. j < words) meets.0.4 small) in let w : V = made.0 in
-      rw (meets.0.4, meets.0.5) (
-        w,
-        lock.goes (use_of ways.1 view) (ways.1 w) (readers_of ways.1 vs) (Meets Holds ways (f (first s)) (second s) (after id view vs w))
-            (after_step id view vs w s (f (first s)) (second s) at meets.0.1 meets.0.2 meets.0.3 made.1),
-        made.2,
-      )
+      let (s, room, order, is, n_is, m_is) = meets.0 in rw (n_is, m_is) (arrives view id vs s (f (first s)) (second s) (says (first s)) at room order is
+      (makes s (number part id view vs) vs room order is (own_part part id view vs s at is) (rw n_is at small)))
 
   -- the same for a step that need not know the other parties
   pub allows : (view : Option V) (f : ℕ → ℕ) (says : ℕ → V → Type 0) → Each view (λ s p. (w : V) × Reaches view w s p (f (first s)) (second s) × says (first s) w) → Allows Holds ways view f says
@@ -117,10 +121,6 @@ module _ {V S : Type 0} (lock : Lock V S) where
   begins group ticket n m within e f =
       let s = fresh cap group ticket in let order = in_order-fresh cap group ticket within in let nobody : IsLockOf part [] s = λ p. (refl, tt) in
       ((s, refl, order, nobody, e, f), lock.fits [] s refl order nobody)
-
-  -- a load by a new party, which stays idle
-  pub looks : Allows Holds ways None (λ n. n) (becomes idle 0 0 None)
-  looks = allows None (λ n. n) (becomes idle 0 0 None) (λ s p room order has. (idle, by_none None idle s p (sym (ap (entries_of p) lock.is_idle.0)) (rw lock.is_idle.0 tt), refl))
 
   -- an exchange makes the step of its step function if it finds the old number; otherwise the party keeps its part
   pub exchanged : (view : Option V) (won : ℕ → V) (lost : V) (old new : ℕ) → ((s : Plain) (p : ℕ) → (entries_of p (part_before part view) ≡ entries_of p (part lost)) × Knows s (part lost))
@@ -166,7 +166,7 @@ module _ {V : Type 0} (lock : Lock V (Unit {0})) where
       → ((s : Plain) (p : ℕ) → entries_after s (Some (gets p ask)) (entries_of p nothing) ≡ entries_of p (part won)) → ((s : Plain) → Knows s (part won))
       → Grants ask old new → Allows (Holds lock) (ways lock) view (λ n. either (n == old) new n) (λ n v. v ≡ (if n == old then won else lost n))
   exchanges_at view ask won lost old new had none comes knows grants =
-      gets_at view ask won lost old new (λ s p. ap (λ x. entries_after s (Some (gets p ask)) (entries_of p x)) had ∙ comes s p) knows (λ n. had ∙ sym (none n)) (λ s n. rw (none n) tt)
+      gets_at view ask won lost old new (λ s p. rw had (comes s p)) knows (λ n. had ∙ sym (none n)) (λ s n. rw (none n) tt)
       (λ s p vs room order is has small e. grants s p order room e)
 
   module _ (weight : Kind → ℕ) (sums : (s : Plain) → first s ≡ sum_kinds weight s.holders) (bounded : (s : Plain) → s.cap ≡ cap → IsInOrder s → first s < 2 ^ 63) where
@@ -187,10 +187,5 @@ module _ {V : Type 0} (lock : Lock V ℕ) where
 
   pub allows_second : (view : Option V) (f : ℕ → ℕ) (says : ℕ → V → Type 0) → Each lock view (λ s p. (w : V) × Reaches lock view w s p (first s) (f (second s)) × says (second s) w) → AllowsSecond (Holds lock) (ways lock) view f says
   allows_second view f says makes id n m vs meets at small =
-      let s = meets.0.0 in let made = makes s (number part id view vs) meets.0.1 meets.0.2 (own_part part id view vs s at meets.0.3) in let w : V = made.0 in
-      rw (meets.0.4, meets.0.5) (
-        w,
-        lock.goes (use_of (ways lock).1 view) ((ways lock).1 w) (readers_of (ways lock).1 vs) (Meets (Holds lock) (ways lock) (first s) (f (second s)) (after id view vs w))
-            (after_step lock id view vs w s (first s) (f (second s)) at meets.0.1 meets.0.2 meets.0.3 made.1),
-        made.2,
-      )
+      let (s, room, order, is, n_is, m_is) = meets.0 in rw (n_is, m_is) (arrives lock view id vs s (first s) (f (second s)) (says (second s)) at room order is
+      (makes s (number part id view vs) room order (own_part part id view vs s at is)))

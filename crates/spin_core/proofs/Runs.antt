@@ -1,5 +1,5 @@
 -- A party's moves in a world of its own are also its moves in any world, with the same outcomes. So a step can be appended to a schedule.
-use Rattle.std.proofs.Common.{◌≡◌, ℕ, zero, suc, ◌+◌, Bool, true, false, ◌&&◌, Option, Some, None, List, [], ◌∷◌, ◌++◌, length, map, replicate, slice_get, slice_set, refl, sym, ap, ◌∙◌, subst, arith}
+use Rattle.std.proofs.Common.{◌≡◌, ℕ, zero, suc, ◌+◌, Bool, true, false, ◌&&◌, Option, Some, None, List, [], ◌∷◌, ◌++◌, length, map, replicate, slice_get, slice_set, refl, sym, ap, ◌∙◌, arith}
 use Rattle.std.proofs.Math.Seq.{set-append_seam}
 use Rattle.std.specs.List.{list_all}
 use Rattle.std.proofs.lemmas.Bool.{and_parts}
@@ -21,6 +21,7 @@ use Rattle.spin_model.specs.Schedules.{State, Entry, Happened, after, at_first, 
 use Rattle.spin_model.proofs.Schedules.{after-append}
 use Rattle.spin_core.specs.Run.{is_of_call, outcomes, is_played, IsPlayed, AreOwn}
 use Rattle.spin_core.specs.Run as run
+use Rattle.spin_core.specs.Passes.{Course}
 use Rattle.spin_core.specs.Own.{by_party}
 
 pub get_seam : {X : Type 0} (xs : List X) (y : X) (ys : List X) → slice_get (xs ++ y ∷ ys) (length xs) ≡ Some y
@@ -151,7 +152,7 @@ module _ {W V C L A X S : Type 0} (m : Machine W V C L A) (seat_of : X → Seat 
 
   seats-seam : (front back : List (Option X)) (o : Option X) (ys : List (Seat C L))
       → seats (front ++ o ∷ back) ++ ys ≡ seats front ++ sits o ∷ (seats back ++ ys)
-  seats-seam front back o ys = ap (λ xs. xs ++ ys) (map-append sits front (o ∷ back)) ∙ append_assoc (seats front) (seats (o ∷ back)) ys
+  seats-seam front back o ys = rw (map-append sits front (o ∷ back)) (append_assoc (seats front) (seats (o ∷ back)) ys)
 
   -- a party joins, and sits idle until its first step
   pub comes : (log : Schedule) (w : W) (value : Option V) (came : List (Option X)) → Leads log w value came → Leads log w value (came ++ None ∷ [])
@@ -161,7 +162,7 @@ module _ {W V C L A X S : Type 0} (m : Machine W V C L A) (seat_of : X → Seat 
 
   pub plays_more : (log : Schedule) (came : List (Option X)) → IsPlayed m (length came) log → IsPlayed m (length (came ++ None ∷ [])) log
   plays_more log came played more =
-      ap (λ count. list_all is_played (outcomes m (at_first m count) log)) (let a = length-append came (None ∷ []) in omega arith) ∙ played (suc more)
+      let a = length-append came (None ∷ []) in let e : length (came ++ None ∷ []) + more ≡ length came + suc more = omega arith in rw e (played (suc more))
 
   -- A party that has other parties before it and behind it.
   module _ (log : Schedule) (w : W) (value : Option V) (front back : List (Option X)) (o : Option X) (leads : Leads log w value (front ++ o ∷ back))
@@ -176,20 +177,19 @@ module _ {W V C L A X S : Type 0} (m : Machine W V C L A) (seat_of : X → Seat 
     comes_to : (u : Option X) (more : ℕ)
         → after m (at_first m (length (with u) + more)) log ≡ world w value (seats front ++ sits o ∷ (seats back ++ replicate more Idle))
     comes_to u more =
-        ap (λ k. after m (at_first m (k + more)) log) (as_many u) ∙ leads more ∙ ap (world w value) (seats-seam front back o (replicate more Idle))
+        rw (as_many u, leads more, seats-seam front back o (replicate more Idle))
 
     -- whether a schedule is played depends on the number of parties, not on what this party is
     pub plays_on : (u : Option X) → IsPlayed m (length (with u)) log
-    plays_on u = subst (λ k. IsPlayed m k log) (sym (as_many u)) played
+    plays_on u = rw (as_many u) played
 
     -- the party leaves, and its seat is idle from then on
     pub leaves : sits o ≡ Idle → Leads log w value (with None)
     leaves idle more =
-        let behind = seats back ++ replicate more Idle in
-        comes_to None more ∙ ap (world w value) (ap (λ seat. seats front ++ seat ∷ behind) idle ∙ sym (seats-seam front back None (replicate more Idle)))
+        rw (comes_to None more, idle, seats-seam front back None (replicate more Idle))
 
     -- the party makes its moves among others, with the outcomes that they have in a world of its own
-    pub goes : (v : X) (s : ℕ × S) (P : List (Move C V) → List (Outcome A V) → Type 0) (moves : run.Goes m seat_of words_of o v w value s P) (p : ℕ)
+    pub goes : (v : X) (s : ℕ × S) (P : Course V C A) (moves : run.Goes m seat_of words_of o v w value s P) (p : ℕ)
         → p ≡ length front → let es = by_party p moves.0 in
         Leads (log ++ es) moves.5 moves.6 (with (Some v)) × IsPlayed m (length (with (Some v))) (log ++ es) × AreOwn m moves.0 moves.1 log es
     goes v s P (own, outs, said, all, fine, w', now, alone, outs_are, become) p is =

@@ -1,14 +1,11 @@
 -- What a step tells a party that knows the lock's history, and what follows from all steps of a call.
-use Rattle.std.proofs.Common.{◌≡◌, ℕ, Bool, true, false, Some, None, List, length, ◌∙◌, subst}
-use Rattle.std.specs.Prelude.{Result, Ok, Err, IfOk, IfErr}
+use Rattle.std.proofs.Common.{◌≡◌, ℕ, Bool, true, false, Some, None, List, length, ◌∙◌}
 use Rattle.spin_core.specs.Cell.{Moved}
 use Rattle.spin_core.specs.Own.{Tells, what}
 use Rattle.spin_core.specs.Passes.{Course, Says, IsStep, IsCall, WritesSome, Made, step_by, mark_of}
-use Rattle.spin_core.specs.Retries.{Succeeds}
 use Rattle.spin_core.specs.Spots.{Spot, Since, Stepped, IsIn, HasCalled}
 use Rattle.spin_core.specs.Traced.{Watches}
 use Rattle.spin_core.proofs.Passes as passes
-use Rattle.spin_core.proofs.Retries.{handed}
 use Rattle.spin_model.specs.declared.place.Seat.{Seat}
 use Rattle.spin_model.specs.declared.schedule.Move.{Move}
 use Rattle.spin_model.specs.declared.schedule.Outcome.{Outcome}
@@ -52,7 +49,7 @@ module _ {K W V C L A X : Type 0} (model : K → Machine W V C L A) (c : C) (p q
   module _ (r : Spot K X (Entry C V)) (first : IsIn model c p q) where
     -- a later step is in the same lock, and so runs the same model
     in_lock : (course : Course V C A) → Since model course q r → Made (model p.0) q.1 q.2.entries r.1 r.2.entries course
-    in_lock course step = subst (λ k. Made (model k) q.1 q.2.entries r.1 r.2.entries course) first.2 step.0
+    in_lock course step = rw first.2 at step.0
 
     pub stays_in : Since model (IsStep true c GoingOn) q r → IsIn model c p r
     stays_in step = (
@@ -69,10 +66,3 @@ module _ {K W V C L A X : Type 0} (model : K → Machine W V C L A) (c : C) (p q
       step.1 ∙ first.1,
       step.2 ∙ first.2,
     )
-
--- if each attempt turns P of its state into Q of its answer, or into P of the next state, the last attempt gives Q
-pub tried : {S A : Type 0} (attempts : S → Result A S → Type 0) (P : S → Type 0) (Q : A → Type 0)
-    → ((s : S) (r : Result A S) → attempts s r → P s → IfOk r Q × IfErr r P)
-    → (first : S) (answer : A) → Succeeds attempts first answer → P first → Q answer
-tried attempts P Q so first answer (n, last, fails, wins) before =
-    (so last (Ok answer) wins (handed attempts P (λ x y failed now. (so x (Err y) failed now).1) n first last fails before)).0

@@ -1,5 +1,5 @@
 -- A lock's rule together with its trace of numbered parties. A step that keeps the rule and is moves of the model keeps both.
-use Rattle.std.proofs.Common.{◌≡◌, ℕ, zero, suc, ◌+◌, ◌++◌, ◌∷◌, map, length, Option, Some, None, List, [], refl, sym, ap, ◌∙◌, subst}
+use Rattle.std.proofs.Common.{arith, ◌≡◌, ℕ, zero, suc, ◌++◌, ◌∷◌, map, length, Option, Some, None, List, [], refl, sym, ap}
 use Rattle.std.specs.Prelude.{sum_by}
 use mathlib.Core.Option.{some, some-injective, some-ne-none}
 use lib.ListN.{get_elem?}
@@ -15,7 +15,8 @@ use Rattle.spin_model.specs.declared.schedule.Outcome.{Outcome}
 use Rattle.spin_model.specs.Machines.{Machine}
 use Rattle.spin_model.specs.Schedules.{Entry}
 use Rattle.spin_core.specs.Run.{AreMoves, on_first, on_second, first, second}
-use Rattle.spin_core.specs.Own.{Numbered, by_party, what, IsRun, Tells, Runs}
+use Rattle.spin_core.specs.Passes.{Says}
+use Rattle.spin_core.specs.Own.{Numbered, by_party, what, Tells, Runs}
 use Rattle.spin_core.proofs.CellWays.{going_map, carrying_of}
 use Rattle.spin_core.proofs.Owns as owns
 
@@ -25,7 +26,7 @@ module _ {X : Type 0} where
 
   sums : (g : X → ℕ) (vs : List (Numbered X)) → sum_by g (all vs) ≡ sum_by (λ v. g v.0) vs
   sums g [] = refl
-  sums g (v ∷ vs) = sum_by-cons g v.0 (all vs) ∙ ap (λ n. g v.0 + n) (sums g vs) ∙ sym (sum_by-cons (λ w. g w.0) v vs)
+  sums g (v ∷ vs) = omega (arith, sum_by-cons g v.0 (all vs), sums g vs, sum_by-cons (λ w. g w.0) v vs)
 
   there : (vs : List (Numbered X)) (id : ℕ) (u : Numbered X) → get_elem? vs id ≡ some u → get_elem? (all vs) id ≡ some u.0
   there [] id u at = absurd (some-ne-none u (sym at))
@@ -41,8 +42,7 @@ module _ {X : Type 0} where
   same_after id (Some u) vs w = map-set (λ (v : Numbered X). v.0) vs id w
 
   pub same_use : (f : X → Use) (view : Option (Numbered X)) → use_of f (what view) ≡ use_of (λ v. f v.0) view
-  same_use f None = refl
-  same_use f (Some u) = refl
+  same_use f view = grind arith
 
   module _ (f : X → Use) (vs : List (Numbered X)) where
     pub as_many_read : readers_of f (all vs) ≡ readers_of (λ v. f v.0) vs
@@ -53,10 +53,10 @@ module _ {X : Type 0} where
 
     module _ {Y : Type 0} (way : Way Y) where
       plain : Limits way (readers_of (λ v. f v.0) vs) (writers_of (λ v. f v.0) vs) → Limits way (readers_of f (all vs)) (writers_of f (all vs))
-      plain l = subst (λ (z : ℕ × ℕ). Limits way z.0 z.1) (λ i. (sym as_many_read i, sym as_many_write i)) l
+      plain l = rw (as_many_read, as_many_write) l
 
       numbered : Limits way (readers_of f (all vs)) (writers_of f (all vs)) → Limits way (readers_of (λ v. f v.0) vs) (writers_of (λ v. f v.0) vs)
-      numbered l = subst (λ (z : ℕ × ℕ). Limits way z.0 z.1) (λ i. (as_many_read i, as_many_write i)) l
+      numbered l = rw (← as_many_read, ← as_many_write) l
 
 module _ {W V C L A X S : Type 0} (m : Machine W V C L A) (seat_of : X → Seat C L) (words_of : W → ℕ × S) (holds : ℕ → S → List X → Type 0) (name : ℕ) (Y : Type 0) (way : Way Y) (f : X → Use) (know : Knowledge (Trace (Entry C V) S) Y) where
   abbrev Of : ℕ → Trace (Entry C V) S → List (Numbered X) → Type 0
@@ -76,9 +76,9 @@ module _ {W V C L A X S : Type 0} (m : Machine W V C L A) (seat_of : X → Seat 
   named n t vs meets = meets.0.0
 
   pub opens : (n : ℕ) (t : Trace (Entry C V) S) → t.name ≡ name → t.entries ≡ [] → (n, t.word) ≡ words_of m.words → Meets holds ways n t.word [] → Meets Of own_ways n t []
-  opens n t named empty is meets = ((named, meets.0, subst (λ l. IsRun m seat_of words_of l (n, t.word) []) (sym empty) (owns.opens m seat_of words_of (n, t.word) is)), meets.1)
+  opens n t named empty is meets = ((named, meets.0, rw empty (owns.opens m seat_of words_of (n, t.word) is)), meets.1)
 
-  module _ (view : Option (Numbered X)) (shown : Option Y) (to : ℕ × S → ℕ × S) (found : ℕ × S → ℕ) (then : ℕ → X → Type 0) (says : List (Move C V) → List (Outcome A V) → ℕ → X → Type 0) where
+  module _ (view : Option (Numbered X)) (shown : Option Y) (to : ℕ × S → ℕ × S) (found : ℕ × S → ℕ) (then : ℕ → X → Type 0) (says : Says V C A X) where
     abbrev Then : List (Entry C V) → List (Entry C V) → ℕ → Numbered X → Type 0
     Then = Tells m seat_of words_of says view
 
@@ -97,17 +97,17 @@ module _ {W V C L A X S : Type 0} (m : Machine W V C L A) (seat_of : X → Seat 
         let p : ℕ = led.0 in let es : List (Entry C V) = by_party p led.1 in let w : Numbered X = (u, p, length (t.entries ++ es)) in
         let us : List (Numbered X) = views_after id view vs w in
         let Kept : Type 0 = Carrying know t (grown_at t (to s).1 es) (use_of (λ v. f v.0) view) (f u) shown (Meets Of own_ways (to s).0 (grown_at t (to s).1 es) us) in
-        let owed = subst (λ z. Owed know t (grown_at t (to s).1 es) z (f u) shown) (same_use f view) (owes led.1 led.2 (found s) u led.3.3 t (to s).1 p) in
+        let owed = rw (same_use f view) at (owes led.1 led.2 (found s) u led.3.3 t (to s).1 p) in
         let keeps : Meets holds ways (to s).0 (to s).1 (views_after id (what view) (all vs) u) → Kept = λ met.
-        let met' : Meets holds ways (to s).0 (to s).1 (all us) = subst (λ l. Meets holds ways (to s).0 (to s).1 l) (sym (same_after id view vs w)) met in
+        let met' : Meets holds ways (to s).0 (to s).1 (all us) = rw (same_after id view vs w) met in
         carrying_of know t (grown_at t (to s).1 es) (use_of (λ v. f v.0) view) (f u) shown owed ((meets.0.0, met'.0, led.3.0), numbered f us way met'.1) in (
           w,
           es,
-          subst (λ (z : Use × ℕ). Going way z.0 (f u) shown z.1 Kept) (λ i. (same_use f view i, as_many_read f vs i)) (going_map way (use_of f (what view)) (f u) shown (readers_of f (all vs)) keeps going),
+          rw (same_use f view, as_many_read f vs) at (going_map way (use_of f (what view)) (f u) shown (readers_of f (all vs)) keeps going),
           (led.1, led.2, refl, refl, led.3.1, led.3.2, led.3.3),
         )
 
-  module _ (view : Option (Numbered X)) (shown : Option Y) (g : ℕ → ℕ) (then : ℕ → X → Type 0) (says : List (Move C V) → List (Outcome A V) → ℕ → X → Type 0) where
+  module _ (view : Option (Numbered X)) (shown : Option Y) (g : ℕ → ℕ) (then : ℕ → X → Type 0) (says : Says V C A X) where
     -- a step on the first word
     pub traces : AreMoves m seat_of words_of (what view) (on_first g) first then says → Owes view shown (on_first g) first then says → AllowsAt holds ways (what view) shown g then → Traces Of own_ways view shown g (Tells m seat_of words_of says view)
     traces moves owes allows id n t vs meets at small =
@@ -119,14 +119,14 @@ module _ {W V C L A X S : Type 0} (m : Machine W V C L A) (seat_of : X → Seat 
     rest.0,
     λ n t before behind is. (
       is.0,
-      subst (λ l. holds n t.word l) (sym (map-append (λ (w : Numbered X). w.0) before behind)) (rest.1 n t.word (all before) (all behind) (subst (λ l. holds n t.word l) (map-append (λ (w : Numbered X). w.0) before (v ∷ behind)) is.1)),
+      rw (map-append (λ (w : Numbered X). w.0) before behind) (rest.1 n t.word (all before) (all behind) (rw (map-append (λ (w : Numbered X). w.0) before (v ∷ behind)) at is.1)),
       owns.leave m seat_of words_of v idle (n, t.word) t.entries before behind is.2,
     ),
   )
 
 -- the same for a step on the second word
 module _ {W V C L A X : Type 0} (m : Machine W V C L A) (seat_of : X → Seat C L) (words_of : W → ℕ × ℕ) (holds : ℕ → ℕ → List X → Type 0) (name : ℕ) (Y : Type 0) (way : Way Y) (f : X → Use) (know : Knowledge (Trace (Entry C V) ℕ) Y) where
-  pub traces_second : (view : Option (Numbered X)) (shown : Option Y) (g : ℕ → ℕ) (then : ℕ → X → Type 0) (says : List (Move C V) → List (Outcome A V) → ℕ → X → Type 0)
+  pub traces_second : (view : Option (Numbered X)) (shown : Option Y) (g : ℕ → ℕ) (then : ℕ → X → Type 0) (says : Says V C A X)
       → AreMoves m seat_of words_of (what view) (on_second g) second then says → Owes m seat_of words_of holds name Y way f know view shown (on_second g) second then says → AllowsSecondAt holds (ways m seat_of words_of holds name Y way f know) (what view) shown g then
       → TracesSecond (Runs m seat_of words_of holds name) (own_ways m seat_of words_of holds name Y way f know) view shown g (Tells m seat_of words_of says view)
   traces_second view shown g then says moves owes allows id n t vs meets at small =
@@ -134,7 +134,7 @@ module _ {W V C L A X : Type 0} (m : Machine W V C L A) (seat_of : X → Seat C 
       leads m seat_of words_of holds name Y way f know view shown (on_second g) second then says moves owes id n t vs meets at made.0 made.1 made.2
 
 -- if what a step says of its moves implies less, the step may say less
-module _ {W V C L A X S : Type 0} (m : Machine W V C L A) (seat_of : X → Seat C L) (words_of : W → ℕ × S) (view : Option (Numbered X)) (says says' : List (Move C V) → List (Outcome A V) → ℕ → X → Type 0)
+module _ {W V C L A X S : Type 0} (m : Machine W V C L A) (seat_of : X → Seat C L) (words_of : W → ℕ × S) (view : Option (Numbered X)) (says says' : Says V C A X)
     (less : (own : List (Move C V)) (outs : List (Outcome A V)) (n : ℕ) (u : X) → says own outs n u → says' own outs n u) where
   pub tells_less : {Y : Type 0} (holds : ℕ → Trace (Entry C V) S → List (Numbered X) → Type 0) (used : Ways Y (Numbered X) (Trace (Entry C V) S)) (shown : Option Y) (g : ℕ → ℕ)
       → Traces holds used view shown g (Tells m seat_of words_of says view) → Traces holds used view shown g (Tells m seat_of words_of says' view)
@@ -142,7 +142,7 @@ module _ {W V C L A X S : Type 0} (m : Machine W V C L A) (seat_of : X → Seat 
       let (w, es, going, (own, outs, is, mark, none, mine, said)) = traces id n t vs meets at small in (w, es, going, (own, outs, is, mark, none, mine, less own outs n w.0 said))
 
 -- the same for a step on the second word
-module _ {W V C L A X : Type 0} (m : Machine W V C L A) (seat_of : X → Seat C L) (words_of : W → ℕ × ℕ) (view : Option (Numbered X)) (says says' : List (Move C V) → List (Outcome A V) → ℕ → X → Type 0)
+module _ {W V C L A X : Type 0} (m : Machine W V C L A) (seat_of : X → Seat C L) (words_of : W → ℕ × ℕ) (view : Option (Numbered X)) (says says' : Says V C A X)
     (less : (own : List (Move C V)) (outs : List (Outcome A V)) (n : ℕ) (u : X) → says own outs n u → says' own outs n u) where
   pub tells_less_second : {Y : Type 0} (holds : ℕ → Trace (Entry C V) ℕ → List (Numbered X) → Type 0) (used : Ways Y (Numbered X) (Trace (Entry C V) ℕ)) (shown : Option Y) (g : ℕ → ℕ)
       → TracesSecond holds used view shown g (Tells m seat_of words_of says view) → TracesSecond holds used view shown g (Tells m seat_of words_of says' view)

@@ -1,5 +1,5 @@
 -- A lock that does not use its trace: its steps append nothing.
-use Rattle.std.proofs.Common.{ℕ, [], List, Option, Some, None, refl}
+use Rattle.std.proofs.Common.{arith, ℕ, [], List, Option, Some, None, refl}
 use Rattle.spin_core.specs.declared.trace.Watch.{Watch}
 use Rattle.spin_core.specs.Cell.{Use, Way, Ways, no_fact, AllowsAt, Rests, Moved}
 use Rattle.spin_core.specs.Traced.{Traces, Watches, Untraced, quiet}
@@ -17,5 +17,4 @@ module _ {V : Type 0} (E : Type 0) where
   rests holds uses (Some v) r = (r.0, λ n t before behind is. r.1 n t.word before behind is)
 
   pub told : (named : Type 0) (before now : Watch E) (then : ℕ → V → Type 0) (found : ℕ) (view : Option V) → Moved (Watches named before now (quiet then) found) view → Moved (then found) view
-  told named before now then found None moved = absurd moved
-  told named before now then found (Some v) moved = moved.1.4.1
+  told named before now then found view moved = grind arith

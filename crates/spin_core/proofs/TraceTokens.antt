@@ -18,6 +18,8 @@ use denote.Triple.Entry.{Res, alive}
 use denote.Triple.Walked.{Stays, Fit, has_of, walk_of}
 use Rattle.core.specs.contracts.marker.PhantomData as marker
 use Rattle.atomic_table.proofs.Walks.{leaves}
+use Rattle.spin_core.specs.contracts.trace.Watch as watch
+use Rattle.spin_core.proofs.Walking.{Spelled}
 
 -- a struct whose one field is a marker
 abbrev pub token : Val
@@ -29,6 +31,9 @@ module _ (X : RattleType) where
 
   pub token_told : (vs : List Val) → Is Token (record {}, tt) vs → vs ≡ token ∷ []
   token_told vs is = is.1.0 ∙ ap (λ (ws : List Val). vstruct (of_list (ws ++ [])) ∷ []) is.1.1.0.1.0
+
+  abbrev pub as_watch : Spelled (watch.the_row X)
+  as_watch = ((λ x. token ∷ []), (λ x vs is. token_told vs is.0))
 
   -- the fields of a trace: the word with it, and the marker
   abbrev pub fields_of : RattleType → Shape

@@ -69,7 +69,7 @@ module _ {M : Type 1} {𝓤 : Ura M} (𝓛 : Logic 𝓤) (Er : RattleType) (b o 
 
   takes : (m : Trace Er.Denot ℕ) → ⟦ Mark ⟧ ∗ Back ∗ ⟦ Log m ⟧ ⊢ Takes m
   unfolding part_of
-  takes m = qed 𝓛 (‵ Mark ∷ raw Back ∷ ‵ (Log m) ∷ []) ∵ each ! (with m) (λ w. let a : Denots (rows_of ks) = data_of w in let m' : Trace Er.Denot ℕ = beside m w in assume ! (‵ (word b (o + 0) w)) $
+  takes m = qed 𝓛 (‵ Mark ∷ raw Back ∷ ‵ (Log m) ∷ []) ∵ each ! (with m) (λ w. let a : Denots (rows_of ks) = data_of w in let m' : Trace Er.Denot ℕ = beside m w in assume {P = ⟦ In m' ⟧} ! (‵ (word b (o + 0) w)) $
       use1 𝓛 (‵ (Word w)) (word_in 𝓛 b (o + 0) w) $ nothing ! $
       -- context: [nothing; the word; the marker; the way back; the log]
       move ! (2 ∷ 0 ∷ []) $ fjoin ! $ move ! (1 ∷ 0 ∷ []) $ fjoin ! $ move ! (1 ∷ []) $

@@ -78,7 +78,7 @@ module _ {V : Type 0} (part : V → Part) where
   moves id (Some v) vs w q at = changes id v vs w q at
 
   pub own_part : (id : ℕ) (view : Option V) (vs : List V) (s : Plain) → Stands id view vs → IsLockOf part vs s → HasPart s (number id view vs) (part_before view)
-  own_part id view vs s at is = subst (HasPart s (number id view vs)) (was id view vs at) (is (number id view vs))
+  own_part id view vs s at is = rw (was id view vs at) at (is (number id view vs))
 
   -- a party's open step, or no step, after which the party has the part of its next view
   pub lock_after : (id : ℕ) (view : Option V) (vs : List V) (w : V) (s : Plain) (step : Option Change) → Stands id view vs → IsInOrder s → IsLockOf part vs s

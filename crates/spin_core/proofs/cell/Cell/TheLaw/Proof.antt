@@ -43,6 +43,7 @@ use Rattle.atomic_table.specs.Seated.{fact}
 use Rattle.spin_core.proofs.CellRounds.{begun, held, readies, whole, renewed, rests_lent, rests_fixed}
 use Rattle.spin_core.proofs.cell.Cell.TheLaw.Statement.{statement}
 use Rattle.spin_core.proofs.Signs.{signs}
+use Rattle.spin_core.proofs.WalkSteps.{knows}
 
 module _ {M : Type 1} {𝓤 : Ura M} (𝓛 : Logic 𝓤) (m ms : Member) (V Y K : RattleType) (g : Ghosts Y.Denot (row_of m).Denot V.Denot K.Denot (row_of ms).Denot) (key : K.Denot) (L : Lawful 𝓛 (row_of m)) (LS : Lawful 𝓛 (row_of ms)) (b o : ℕ) (κ : Lft) where
   open 𝓛 use {H, A}
@@ -120,11 +121,9 @@ module _ {M : Type 1} {𝓤 : Ura M} (𝓛 : Logic 𝓤) (m ms : Member) (V Y K 
   starts : (ν : GName) (s : ℕ × S.Denot) (vs : List V.Denot) (x : R.Denot) (v : Option R.Denot) → Met s vs
       → ⟦ found s.1 way ν (read vs) (wrote vs) v ⟧ ∗ A.auth ν (R.coded.code x) ⊢ ⟦ fact (Starting (s.0, s.1, x)) ⟧
   starts ν s vs x None meets = let w = wrote vs in qed 𝓛 (‵ (fact (0 < w)) ∷ ‵ (fauth ν (R.coded.code x)) ∷ []) ∵ fpick ! (λ writes. drop ! $
-      drop ! $ nothing ! $
-      fpack ! (Starting (s.0, s.1, x)) (λ _. ftrue) (vs, meets, knowing_none ways.2 s.1 w x writes (unknown way (read vs) w x meets.1 writes)) $ done !)
+      drop ! $ knows ! (Starting (s.0, s.1, x)) (vs, meets, knowing_none ways.2 s.1 w x writes (unknown way (read vs) w x meets.1 writes)) $ done !)
   starts ν s vs x (Some y) meets = let r = read vs in let w = wrote vs in
-      qed 𝓛 (‵ (found s.1 way ν r w (Some y)) ∷ ‵ (fauth ν (R.coded.code x)) ∷ []) ∵ fsplit ! $ move ! (1 ∷ []) $ fpick ! (λ known. drop ! $ name_agree ! R.coded (λ same. drop ! $ drop ! $ nothing ! $
-      fpack ! (Starting (s.0, s.1, x)) (λ _. ftrue) (vs, meets, subst (λ (z : R.Denot). Knowing ways.2 s.1 w z (Fixed way r w z)) same known) $ done !))
+      qed 𝓛 (‵ (found s.1 way ν r w (Some y)) ∷ ‵ (fauth ν (R.coded.code x)) ∷ []) ∵ fsplit ! $ move ! (1 ∷ []) $ fpick ! (λ known. drop ! $ name_agree ! R.coded (λ same. drop ! $ drop ! $ knows ! (Starting (s.0, s.1, x)) (vs, meets, subst (λ (z : R.Denot). Knowing ways.2 s.1 w z (Fixed way r w z)) same known) $ done !))
 
   way_back : (ν : GName) → Back ⊢ ⟦ fwand (fsep (fdead κ) (fseps (Words ν ∷ Named ν ∷ []))) (fupd P) ⟧
   unfolding fseps
@@ -143,8 +142,8 @@ module _ {M : Type 1} {𝓤 : Ura M} (𝓛 : Logic 𝓤) (m ms : Member) (V Y K 
       pick ! (λ z. let x = z.1.2 in let s : ℕ × S.Denot = (z.1.0, z.1.1) in split ! $ move ! (1 ∷ []) $ split3 ! $ move ! (1 ∷ []) $ fpick ! (λ rule. drop ! $
       let vs = rule.0 in let r = read vs in let w = wrote vs in
       name_new ! tt (R.coded.code x) (λ ν. move ! (2 ∷ 1 ∷ []) $ fjoin ! $ fpack ! R.Denot (λ y. fsep (Lies y) (fauth ν (R.coded.code y))) x $
-      nothing ! $ fpack ! (Knowing ways.2 s.1 w x (Fixed way r w x)) (λ _. ftrue) rule.2 $ move ! (2 ∷ 0 ∷ []) $ fjoin ! $ fpack ! (Option R.Denot) (found s.1 way ν r w) (Some x) $
-      nothing ! $ fpack ! (Met s vs) (λ _. ftrue) rule.1 $ fjoin ! $ fpack ! (List V.Denot) (views_at ν s) vs $
+      knows ! (Knowing ways.2 s.1 w x (Fixed way r w x)) rule.2 $ move ! (2 ∷ 0 ∷ []) $ fjoin ! $ fpack ! (Option R.Denot) (found s.1 way ν r w) (Some x) $
+      knows ! (Met s vs) rule.1 $ fjoin ! $ fpack ! (List V.Denot) (views_at ν s) vs $
       -- context: [the views; the value; the way back; the words; the open borrow]
       move ! (3 ∷ []) $ fsplit ! $ move ! (0 ∷ 1 ∷ 2 ∷ []) $ fjoin3 ! $ fpack ! (ℕ × S.Denot) (standing_at ν) s $ nothing ! $ move ! (1 ∷ 2 ∷ 0 ∷ []) $ fjoin3 ! $ move ! (1 ∷ []) $
       use1 𝓛 (‵ (fwand (fsep (fdead κ) (fseps (Words ν ∷ Named ν ∷ []))) (fupd P))) (way_back ν) $
@@ -194,11 +193,9 @@ module _ {M : Type 1} {𝓤 : Ura M} (𝓛 : Logic 𝓤) (m ms : Member) (V Y K 
 
     finds : (k : S.Denot) (w : Way R.Denot) (r n : ℕ) → ⟦ St w (φ k) r n ⟧ ⊢ ⟦ IsFound k w ν r n ⟧
     finds k w r zero = qed 𝓛 (‵ (St w (φ k) r 0) ∷ []) ∵ fpick ! (λ x. fpick ! (λ is.
-        use1 𝓛 (given (Fixed w r 0 x) (‵ (fobs ν (R.coded.code x)))) (named_at w r x) $ learn ! (λ known. nothing ! $
-        fpack ! (Knowing ways.2 k 0 x (Fixed w r 0 x)) (λ _. ftrue) (knowing_at ways.2 k x is known) $ move ! (1 ∷ 0 ∷ []) $ fjoin ! $
+        use1 𝓛 (given (Fixed w r 0 x) (‵ (fobs ν (R.coded.code x)))) (named_at w r x) $ learn ! (λ known. knows ! (Knowing ways.2 k 0 x (Fixed w r 0 x)) (knowing_at ways.2 k x is known) $ move ! (1 ∷ 0 ∷ []) $ fjoin ! $
         fpack ! (Option R.Denot) (found k w ν r 0) (Some x) $ done !)))
-    finds k w r (suc n) = qed 𝓛 (‵ (St w (φ k) r (suc n)) ∷ []) ∵ drop ! $ nothing ! $
-        fpack ! (0 < suc n) (λ _. ftrue) (omega arith) $ fpack ! (Option R.Denot) (found k w ν r (suc n)) None $ done !
+    finds k w r (suc n) = qed 𝓛 (‵ (St w (φ k) r (suc n)) ∷ []) ∵ drop ! $ knows ! (0 < suc n) (omega arith) $ fpack ! (Option R.Denot) (found k w ν r (suc n)) None $ done !
 
     abbrev I : Fml
     I = inner R b o t c S (g.holds key) ways
@@ -207,8 +204,7 @@ module _ {M : Type 1} {𝓤 : Ura M} (𝓛 : Logic 𝓤) (m ms : Member) (V Y K 
     unfolding fseps
     words_back = qed 𝓛 [] ∵ assume ! (‵ (fsep (fdead κ) (fsep I ftrue))) $ suffices ! ⟦ Words ν ⟧ (upd_i 𝓤 ⟦ Words ν ⟧) $ fsplit3 ! $ keep ! (1 ∷ []) $ fpick ! (λ s. fsplit3 ! $ move ! (2 ∷ []) $
         fpick ! (λ vs. let r = read vs in let w = wrote vs in fsplit3 ! $ move ! (1 ∷ []) $ fpick ! (λ meets. drop ! $ drop ! $
-        use1 𝓛 (‵ (IsFound s.1 way ν r w)) (finds s.1 way r w) $ nothing ! $
-        fpack ! (Met s vs) (λ _. ftrue) meets $ fjoin ! $ fpack ! (List V.Denot) (views_at ν s) vs $ move ! (1 ∷ 2 ∷ 0 ∷ []) $ fjoin3 ! $
+        use1 𝓛 (‵ (IsFound s.1 way ν r w)) (finds s.1 way r w) $ knows ! (Met s vs) meets $ fjoin ! $ fpack ! (List V.Denot) (views_at ν s) vs $ move ! (1 ∷ 2 ∷ 0 ∷ []) $ fjoin3 ! $
         fpack ! (ℕ × S.Denot) (standing_at ν) s $ done !)))
 
     -- ---- the invariant is made, with a place for each of the views that satisfy the rule
@@ -234,7 +230,7 @@ module _ {M : Type 1} {𝓤 : Ura M} (𝓛 : Logic 𝓤) (m ms : Member) (V Y K 
           let Q = St way (φ s.1) (read vs) (wrote vs) in move ! (0 ∷ 7 ∷ 4 ∷ 5 ∷ 6 ∷ []) $ group ! 5 $
           use1 𝓛 (later (‵ Q ⊛ ‵ (flft μ e) ⊛ ‵ (flft μ f))) (stands s.1 vs v meets.1) $ await ! tt $ split3 ! $
           move ! (6 ∷ []) $ use1 𝓛 (later (‵ (roster c ρ 0 vs))) (via 𝓤 _ (enrols 𝓛 V.coded ρ vs 0 u) (basic 𝓛 ⟦ roster c ρ 0 vs ⟧)) $ await ! tt $
-          nothing ! $ fpack ! (Met s vs) (λ _. ftrue) meets $
+          knows ! (Met s vs) meets $
           move ! (1 ∷ 0 ∷ 2 ∷ []) $ fjoin3 ! $ fpack ! (List V.Denot) (core_at R b o t c S (g.holds key) ways s.0 s.1) vs $ move ! (3 ∷ 4 ∷ 0 ∷ []) $ fjoin3 ! $ fpack ! (ℕ × S.Denot) (standing R b o t c S (g.holds key) ways) s $
           nothing ! $ move ! (1 ∷ 0 ∷ []) $ fjoin ! $ use0 𝓛 (‵ (fwand (fsep (fdead κ) (fseps (I ∷ []))) (fupd (Words ν)))) words_back $ move ! (4 ∷ 1 ∷ 0 ∷ []) $ obor_alter ! tt (I ∷ []) $
           use1 𝓛 (‵ (fbor κ I) ⊛ ‵ ftrue) (id⊢ 𝓤 _) $ split ! $ use1 𝓛 (later (‵ (finv (fbor κ I)))) (𝓛.invs.inv_new (fbor κ I)) $ await ! tt $

@@ -1,35 +1,29 @@
 -- `enter` makes a permit that has taken no step.
-use Rattle.spin_core.proofs.WalkNames.{◌≡◌, [], ◌∷◌, refl, None, dcons, dnil, named, Val, vptr, inst_fn, fex, flft, ‵, raw, ◌⊛◌, ◌$◌, ◌∵◌, !, qed, by, move, keep, split, join, fsplit, fjoin, fpick, fpack, use0, stop, addr, no_more, and_then, returns, enter, alloc_all, pass_all, free_all, look_at, get, through, sets, agg, owns, types_at, named_lft, block_ptr, nothing, param, bounded, walk_of, proved, leaves, shr_vals, shr_Tells, unhide, says}
-use Rattle.spin_core.proofs.WalkSteps.{others, all_dropped, all_go}
+use Rattle.spin_core.proofs.WalkNames.{◌≡◌, [], ◌∷◌, refl, None, dcons, dnil, named, Val, inst_fn, fex, ‵, ◌$◌, !, by, move, keep, join, fsplit, fjoin, fpick, fpack, use0, stop, addr, no_more, returns, alloc_all, pass_all, free_all, look_at, through, sets, agg, named_lft, block_ptr, nothing, param, bounded, unhide, says}
+use Rattle.spin_core.proofs.WalkSteps.{two}
+use Rattle.spin_core.proofs.Walking.{walks, as_shr}
 use Rattle.spin_core.specs.CellMemory.{Known, Id, permit_at}
 use Rattle.spin_core.specs.contracts.cell.Cell as cell
 use Rattle.spin_core.specs.contracts.cell.Permit as hand
 use Rattle.spin_core.proofs.PermitFields.{hand_of, Words, made}
 use Rattle.spin_core.specs.contracts.cell.Cell.enter.{ended, clauses}
-use Rattle.spin_core.specs.contracts.cell.Cell.enter.Key.{name as #self}
 use Rattle.spin_core.proofs.cell.Cell.enter.Statement.{statement}
 use Rattle.spin_core.proofs.cell.Cell.enter.Code as code
 
 pub enter_spec : {M : Type 1} → statement M
 enter_spec 𝓤 𝓛 𝓜 𝓡 wired T V P K S L _ _ _ LS g d _ =
     let R = param 0 T in let W = param 1 V in let Y = param 2 P in let Kr = param 3 K in let Sr = param 4 S in let cw = W.coded in
-    let En = ended T V P K S g d in let c = clauses T V P K S g d 𝓛 𝓜.mem 𝓡.returns in
-    let inst = bounded code.function.ty_params (T, (V, (P, (K, (S, tt))))) (dcons d dnil) in let fn = inst_fn inst code.function in
+    let fn = inst_fn (bounded code.function.ty_params (T, (V, (P, (K, (S, tt))))) (dcons d dnil)) code.function in
     let Row = cell.the_row R W Y Kr Sr g in
-    let hs = all_dropped En.signature.params En.kept in
-    proved 𝓛 En hs c 𝓜 𝓡 (all_go 𝓛 En.signature.params En.kept (λ κs x f. refl, tt))
-    (#self inst) fn (code.unfolded 𝓤 𝓛.H 𝓜 𝓡 wired (T, (V, (P, (K, (S, tt))))) d)
-    (λ κs. (shr_vals, tt)) (λ κs. (shr_Tells (named 0) κs.0 Row, tt)) (λ κs qs bounds a gh are.
-    let b = a.0.ref_ptr.0 in let o = a.0.ref_ptr.1 in let κ = κs.0 in let q = qs.0 in let ℓ = named_lft 6 0 tt κs in let Hr = hand.the_row ℓ R W Y Kr Sr g in
-    let os = others 5 κs.1 qs.1 in let p = block_ptr b o in let At = permit_at Y R cw.code Sr (g.holds a.0.now) (g.ways a.0.now) κ b o None None in
-    let y : (walk_of 𝓛 En hs c).Ghost = ((κs, qs, bounds, a, (vptr b o ∷ [], tt)), gh) in
-    qed 𝓛 (((‵ (flft κ q) ⊛ ‵ os) ⊛ ‵ (owns (types_at En.signature.params κs) a y.0.4)) ∷ raw ((c κs a).requires gh) ∷ []) ∵
-    split ! $ split ! $ move ! (2 ∷ []) $ fsplit ! $ fsplit ! $ keep ! (1 ∷ 3 ∷ 4 ∷ []) $
-    enter ! _ _ _ _ _ $ alloc_all ! (λ l. pass_all ! refl ((tt, tt), tt) $
-    sets ! (addr ! (through ! refl (stop !))) refl (tt, tt) $ sets ! (agg ! (no_more !)) refl (tt, tt) $ sets ! (agg ! (and_then ! (get ! refl) (and_then ! (get ! refl) (no_more !)))) refl (tt, (tt, (tt, tt))) $
+    walks 𝓛 (ended T V P K S g d) (clauses T V P K S g d 𝓛 𝓜.mem 𝓡.returns) 𝓜 𝓡 (λ κs x f. refl, tt) _ fn (code.unfolded 𝓤 𝓛.H 𝓜 𝓡 wired (T, (V, (P, (K, (S, tt))))) d)
+    (λ κs. (as_shr (named 0) κs.0 Row, tt)) (λ κs qs bounds a gh are Post out.
+    let b = a.0.ref_ptr.0 in let o = a.0.ref_ptr.1 in let κ = κs.0 in let ℓ = named_lft 6 0 tt κs in let Hr = hand.the_row ℓ R W Y Kr Sr g in
+    let p = block_ptr b o in let At = permit_at Y R cw.code Sr (g.holds a.0.now) (g.ways a.0.now) κ b o None None in
+    move ! (1 ∷ []) $ fsplit ! $ fsplit ! $ keep ! (1 ∷ 3 ∷ []) $
+    alloc_all ! (λ l. pass_all ! refl ((tt, tt), tt) $
+    sets ! (addr ! (through ! refl (stop !))) refl (tt, tt) $ sets ! (agg ! (no_more !)) refl (tt, tt) $ sets ! (agg ! (two ! refl refl)) refl (tt, (tt, (tt, tt))) $
     unhide ! $ fpick ! (λ known. fpick ! (λ t. nothing ! $ nothing ! $ fjoin ! $ move ! (1 ∷ 0 ∷ []) $ fjoin ! $ fpack ! Id At t $ fpack ! (Known (g.ways a.0.now) Y Sr R) (λ _. fex Id At) known $
     let h' : Hr.Denot = record { cell = p; marker = record {}; key = a.0.now; view = None; value = None } in let v : Val = hand_of p in
-    use0 𝓛 (‵ ((Words ℓ R W Y Kr Sr g).own_val (p, (tt, tt)) (v ∷ []))) (made ℓ R W Y Kr Sr g 𝓛 p) $ fjoin ! $ move ! (1 ∷ 2 ∷ []) $ join ! $
-    let Told : Type 0 = (h'.view ≡ None) × (h'.value ≡ None) in says ! Told (refl, refl) $ says ! (h'.key ≡ a.0.now) refl $ join ! $ nothing ! $ nothing ! $
-    fjoin ! $
-    returns ! (look_at ! 0 refl) $ free_all ! refl $ keep ! (2 ∷ 0 ∷ 3 ∷ 1 ∷ []) $ by ! (leaves 𝓛 En hs c y v h' (tt, tt) (tt, tt))))))
+    use0 𝓛 (‵ ((Words ℓ R W Y Kr Sr g).own_val (p, (tt, tt)) (v ∷ []))) (made ℓ R W Y Kr Sr g 𝓛 p) $ fjoin ! $
+    let Told : Type 0 = (h'.view ≡ None) × (h'.value ≡ None) in says ! Told (refl, refl) $ says ! (h'.key ≡ a.0.now) refl $ join ! $
+    returns ! (look_at ! 0 refl) $ free_all ! refl $ keep ! (2 ∷ 1 ∷ 0 ∷ []) $ by ! (out v h')))))

@@ -13,7 +13,7 @@ use Rattle.spin_core.specs.contracts.cell.Cell.into_inner.{ended, clauses}
 use Rattle.spin_core.specs.contracts.cell.Cell.into_inner.Key.{name as #self}
 use Rattle.spin_core.proofs.cell.Cell.into_inner.Statement.{statement}
 use Rattle.spin_core.proofs.cell.Cell.into_inner.Code as code
-use Rattle.spin_core.proofs.WalkSteps.{all_dropped, all_go}
+use Rattle.spin_core.proofs.Walking.{all_dropped, all_go}
 
 pub into_inner_spec : {M : Type 1} → statement M
 into_inner_spec 𝓤 𝓛 𝓜 𝓡 wired X U P K S L _ _ _ LS g d _ =

@@ -1,6 +1,7 @@
 -- `new` writes the words and the value into memory, one after another.
 use Rattle.spin_core.proofs.PermitFields.{both}
-use Rattle.spin_core.proofs.WalkNames.{◌≡◌, ℕ, ◌^◌, ◌&&◌, T, true, List, [], ◌∷◌, ◌++◌, sym, refl, subst, w64, dcons, dnil, Val, vint, vptr, vstruct, vcons, vnil, has_ty, WT, inst_fn, SProp, ent, id⊢, Fml, ftrue, fsep, fex, fact, tables, WpFn, ‵, raw, ◌⊛◌, ◌$◌, ◌∵◌, !, qed, by, move, keep, split, fsplit, fsplit3, fjoin, fpack, use0, rewrite, feq_i, flt_i, suffices, of_opd, no_more, and_then, returns, enter, alloc_all, pass_all, free_all, look_at, get, sets, agg, RattleType, Valss, owns, types_at, nothing, heard, Typed, param, layout, bounded, param_laws, u64, within, alive, walk_of, El, lawful, Good, one, proved_at, leaves, says}
+use Rattle.spin_core.proofs.WalkSteps.{knows}
+use Rattle.spin_core.proofs.WalkNames.{◌≡◌, ℕ, ◌^◌, ◌&&◌, T, true, List, [], ◌∷◌, ◌++◌, sym, refl, subst, w64, dcons, dnil, Val, vint, vptr, vstruct, vcons, vnil, has_ty, WT, inst_fn, SProp, ent, id⊢, Fml, fsep, fex, fact, tables, WpFn, ‵, raw, ◌⊛◌, ◌$◌, ◌∵◌, !, qed, by, move, keep, split, fsplit, fsplit3, fjoin, fpack, use0, rewrite, feq_i, flt_i, suffices, of_opd, no_more, and_then, returns, enter, alloc_all, pass_all, free_all, look_at, get, sets, agg, RattleType, Valss, owns, types_at, nothing, heard, Typed, param, layout, bounded, param_laws, u64, within, alive, walk_of, El, lawful, Good, one, proved_at, leaves, says}
 use denote.Shadow.{makes_shadow}
 use denote.Struct.Tuple.{Tuple}
 use Rattle.core.specs.contracts.marker.PhantomData as marker
@@ -12,7 +13,7 @@ use Rattle.spin_core.specs.contracts.cell.Cell.new.{ended, clauses}
 use Rattle.spin_core.specs.contracts.cell.Cell.new.Key.{name as #self}
 use Rattle.spin_core.proofs.cell.Cell.new.Statement.{statement}
 use Rattle.spin_core.proofs.cell.Cell.new.Code as code
-use Rattle.spin_core.proofs.WalkSteps.{all_dropped, all_go}
+use Rattle.spin_core.proofs.Walking.{all_dropped, all_go}
 
 pub new_spec : {M : Type 1} → statement M
 new_spec 𝓤 𝓛 𝓜 𝓡 wired X U P K S L _ _ _ LS g d _ =
@@ -43,8 +44,8 @@ new_spec 𝓤 𝓛 𝓜 𝓡 wired X U P K S L _ _ _ LS g d _ =
     flt_i ! n (2 ^ 64) fits $ feq_i ! (List Val) (vint w64 n ∷ []) (vint w64 n ∷ []) refl $ fjoin ! $ fjoin ! $
     use0 𝓛 (‵ (Mk.own_val (record {}) (vstruct vnil ∷ []))) (makes_shadow 𝓛 (Mk.own_val (record {}) (vstruct vnil ∷ [])) (λ uss. (tt, tt)) (tt, (refl, tt))) $ fjoin ! $
     feq_i ! (List Val) (v ∷ []) (v ∷ []) refl $ fjoin ! $ fpack ! (Valss (Mk ∷ u64 ∷ R ∷ Sr ∷ [])) (within D (tt, (n, (x, (k, tt)))) (v ∷ [])) (vstruct vnil ∷ [], (vint w64 n ∷ [], (vy ∷ [], (vz ∷ [], tt)))) $
-    nothing ! $ fpack ! (Rule (n, k, x)) (λ _. ftrue) (opened.0, opened.2, opened.3) $ move ! (1 ∷ 0 ∷ []) $ fjoin ! $
-    fpack ! (ℕ × S.Denot × X.Denot) owned (n, k, x) $ fpack ! Knows (λ _. fex (ℕ × S.Denot × X.Denot) owned) known $ nothing ! $ fpack ! (Typed F.mir (v ∷ [])) (λ _. ftrue) (typed, tt) $ fjoin ! $
+    knows ! (Rule (n, k, x)) (opened.0, opened.2, opened.3) $ move ! (1 ∷ 0 ∷ []) $ fjoin ! $
+    fpack ! (ℕ × S.Denot × X.Denot) owned (n, k, x) $ fpack ! Knows (λ _. fex (ℕ × S.Denot × X.Denot) owned) known $ knows ! (Typed F.mir (v ∷ [])) (typed, tt) $ fjoin ! $
     suffices ! (Run (vy ∷ vint w64 n ∷ vz ∷ at ∷ [])) (subst (λ (ws : List Val). ent 𝓤 (Run (vy ∷ vint w64 n ∷ vz ∷ at ∷ [])) (Run ws)) (sym (λ i. got.1 i ++ (are.1.0.0 i ++ (got_second.1 i ++ (are.1.1.1.0.0 i ++ []))))) (id⊢ 𝓤 (Run (vy ∷ vint w64 n ∷ vz ∷ at ∷ [])))) $
     enter ! _ _ _ _ _ $ alloc_all ! (λ l. pass_all ! refl (fy, ((tt, record { fits = fits }), (fz, ((tt, tt), tt)))) $
     sets ! (agg ! (no_more !)) refl (tt, tt) $ sets ! (of_opd ! (get ! refl)) refl fy $ sets ! (of_opd ! (get ! refl)) refl fz $

@@ -1,13 +1,12 @@
 -- `see` gives up a reader's part of the value, and lends the value for the rest of the cell's borrow.
-use Rattle.spin_core.proofs.WalkNames.{Some, some, pick, heard, hidden_shr, param_laws, ◌≡◌, sym, ◌+◌, List, [], ◌∷◌, refl, ap, dcons, dnil, Val, vptr, inst_fn, Fml, flft, ‵, raw, ◌⊛◌, given, later, at_ret, ◌$◌, ◌∵◌, !, qed, by, move, keep, split, join, fsplit, fjoin, learn, use1, await, feq_i, stop, fld, addr, of_opd, first, blocks, exec, returns, enter, alloc_all, pass_all, free_all, look_at, get, get_in, through, sets, sets_last, is, env, sub, whole, tables, fact, owns, types_at, named_lft, Ptr, ptr_val, block_of, count_of, at_block, nothing, param, bounded, walk_of, tail, proved, leaves, says, lies_at}
-use Rattle.spin_core.proofs.WalkSteps.{others, all_dropped, all_go}
+use Rattle.spin_core.proofs.WalkNames.{Some, some, pick, hidden_shr, param_laws, ◌≡◌, sym, ◌+◌, List, [], ◌∷◌, refl, ap, dcons, dnil, Val, vptr, inst_fn, Fml, ‵, given, later, at_ret, ◌$◌, !, by, keep, join, fjoin, learn, use1, await, feq_i, stop, fld, addr, of_opd, first, blocks, exec, returns, alloc_all, pass_all, free_all, look_at, get, get_in, through, sets, sets_last, is, env, sub, whole, tables, fact, named_lft, Ptr, ptr_val, block_of, count_of, at_block, param, bounded, tail, says}
+use Rattle.spin_core.proofs.WalkSteps.{last_fact, takes_at}
+use Rattle.spin_core.proofs.Walking.{walks}
 use Rattle.spin_core.specs.CellMemory.{offset, permit_owns}
 use Rattle.spin_core.specs.Cell.{reads, use_of, Seen}
-use Rattle.spin_core.specs.contracts.cell.Permit as hand
-use Rattle.spin_core.proofs.PermitFields.{hand_of, told, typed}
+use Rattle.spin_core.proofs.PermitFields.{as_hand, typed}
 use Rattle.spin_core.proofs.CellLends.{shown_on}
 use Rattle.spin_core.specs.contracts.cell.Permit.see.{ended, clauses}
-use Rattle.spin_core.specs.contracts.cell.Permit.see.Key.{name as #self}
 use Rattle.spin_core.proofs.cell.Permit.see.Statement.{statement}
 use Rattle.spin_core.proofs.cell.Permit.see.Code as code
 
@@ -15,23 +14,17 @@ pub see_spec : {M : Type 1} → statement M
 see_spec 𝓤 𝓛 𝓜 𝓡 wired T V P K S L _ _ _ LS g d _ =
     let H = 𝓛.H in let 𝓣 = tables 𝓤 H 𝓜 𝓡 𝓡.env in let R = param 0 T in let W = param 1 V in let Y = param 2 P in let Kr = param 3 K in
     let Sr = param 4 S in let cw = W.coded in let LR = param_laws 0 T L in
-    let En = ended T V P K S g d in let c = clauses T V P K S g d 𝓛 𝓜.mem 𝓡.returns in
-    let inst = bounded code.function.ty_params (T, (V, (P, (K, (S, tt))))) (dcons d dnil) in let fn = inst_fn inst code.function in
-    let hs = all_dropped En.signature.params En.kept in
-    proved 𝓛 En hs c 𝓜 𝓡 (all_go 𝓛 En.signature.params En.kept (λ κs x f. refl, tt)) (#self inst) fn (code.unfolded 𝓤 H 𝓜 𝓡 wired (T, (V, (P, (K, (S, tt))))) d)
-    (λ κs. ((λ x. hand_of x.cell ∷ []), tt)) (λ κs. ((λ x vs so. told (named_lft 6 0 tt κs) R W Y Kr Sr g x.cell vs so.0), tt)) (λ κs qs bounds a gh are.
-    let ℓ = named_lft 6 0 tt κs in let Hr = hand.the_row ℓ R W Y Kr Sr g in let h = a.0 in let p = h.cell in let b = block_of p in let o = count_of p in
-    let e = o + offset R in let β = κs.0 in let q = qs.0 in let ways = g.ways h.key in
-    let os = others 5 κs.1 qs.1 in let Owned : Ptr → Fml = λ z. permit_owns Y R cw.code Sr (g.holds h.key) ways β z h.view h.value in
+    let fn = inst_fn (bounded code.function.ty_params (T, (V, (P, (K, (S, tt))))) (dcons d dnil)) code.function in
+    walks 𝓛 (ended T V P K S g d) (clauses T V P K S g d 𝓛 𝓜.mem 𝓡.returns) 𝓜 𝓡 (λ κs x f. refl, tt) _ fn (code.unfolded 𝓤 H 𝓜 𝓡 wired (T, (V, (P, (K, (S, tt))))) d)
+    (λ κs. (as_hand (named_lft 6 0 tt κs) R W Y Kr Sr g, tt)) (λ κs qs bounds a gh are Post out.
+    let h = a.0 in let p = h.cell in let b = block_of p in let o = count_of p in
+    let e = o + offset R in let β = κs.0 in let ways = g.ways h.key in
+    let Owned : Ptr → Fml = λ z. permit_owns Y R cw.code Sr (g.holds h.key) ways β z h.view h.value in
     let Asked : Type 0 = use_of ways.1 h.view ≡ reads in
-    let y : (walk_of 𝓛 En hs c).Ghost = ((κs, qs, bounds, a, (hand_of p ∷ [], tt)), gh) in let Post = (walk_of 𝓛 En hs c).post y in
-    qed 𝓛 (((‵ (flft β q) ⊛ ‵ os) ⊛ ‵ (owns (types_at En.signature.params κs) a y.0.4)) ∷ raw (fact 𝓤 _) ∷ raw (fact 𝓤 _) ∷ raw (fact 𝓤 _) ∷ raw (fact 𝓤 _) ∷ raw (fact 𝓤 _) ∷ raw (fact 𝓤 Asked) ∷ []) ∵
-    keep ! (6 ∷ 0 ∷ []) $ heard ! Asked (λ asked. split ! $ split ! $ move ! (2 ∷ []) $ fsplit ! $ fsplit ! $ keep ! (1 ∷ 3 ∷ 4 ∷ []) $
-    lies_at ! Owned refl p (λ inb. let at = at_block p inb in
-    enter ! _ _ _ _ _ $ alloc_all ! (λ l. pass_all ! refl (typed p inb, tt) $ let Ev = types.ByLocal.env fn.locals l in
+    takes_at ! Owned refl p (last_fact 𝓤 (fact 𝓤 Asked) 5 (_, (_, (_, (_, (_, tt)))))) (λ asked inb. let at = at_block p inb in
+    alloc_all ! (λ l. pass_all ! refl (typed p inb, tt) $ let Ev = types.ByLocal.env fn.locals l in
     use1 𝓛 (later (some (λ (x : T.Denot). given ((h.value ≡ Some x) × Seen ways.0 x) (‵ (hidden_shr R β x b e))))) (shown_on 𝓛 Y R cw.code Sr (g.holds h.key) ways β LR.shr_laws b o h.view h.value asked) $ await ! tt $ pick ! (λ x. learn ! (λ so.
     sets ! (is ! (of_opd ! (get_in ! (fld ! refl (stop !)) (sub ! 0 refl (whole !)))) (ap ptr_val at)) refl (tt, tt) $ first ! $ blocks ! $
     sets_last ! (addr ! (through ! refl (fld ! refl (stop !)))) refl (tt, tt) $ exec ! 𝓣.C 𝓣.Λ Ev (tail (tail fn.body)) (at_ret Ev Post) $ sets ! (of_opd ! (get ! refl)) refl (tt, tt) $
-    feq_i ! (List Val) (vptr b e ∷ []) (vptr b e ∷ []) refl $ fjoin ! $ move ! (1 ∷ 2 ∷ []) $ join ! $
-    says ! (Seen ways.0 x) so.1 $ says ! (Some x ≡ h.value) (sym so.0) $ join ! $ nothing ! $ nothing ! $ fjoin ! $
-    returns ! (look_at ! 0 refl) $ free_all ! refl $ keep ! (2 ∷ 0 ∷ 3 ∷ 1 ∷ []) $ by ! (leaves 𝓛 En hs c y (vptr b e) (record { ref_ptr = (b, e); now = x }) (tt, tt) (tt, tt))))))))
+    feq_i ! (List Val) (vptr b e ∷ []) (vptr b e ∷ []) refl $ fjoin ! $ says ! (Seen ways.0 x) so.1 $ says ! (Some x ≡ h.value) (sym so.0) $ join ! $
+    returns ! (look_at ! 0 refl) $ free_all ! refl $ keep ! (2 ∷ 1 ∷ 0 ∷ []) $ by ! (out (vptr b e) (record { ref_ptr = (b, e); now = x })))))))

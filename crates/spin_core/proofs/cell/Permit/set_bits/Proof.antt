@@ -1,15 +1,15 @@
 -- `set_bits` sets bits of the first word.
-use Rattle.spin_core.proofs.WalkNames.{ℕ, ◌+◌, [], ◌∷◌, refl, ap, lit<, w64, dcons, dnil, vint, vptr, inst_fn, raw, mean, at_ret, ◌$◌, !, by, move, fjoin, use1, stop, fld, addr, lit, of_opd, no_more, and_then, first, blocks, exec, Calls-last, returns, enter, alloc_all, pass_all, free_all, look_at, get, get_in, through, sets, lands_last, is, env, agg, sub, whole, tables, owns, types_at, named_lft, block_ptr, ptr_val, block_of, count_of, at_block, nothing, param, bounded, uint_vals, uint_Tells, walk_of, tail, proved, leaves, fm, seq_cst, found, finds}
+use Rattle.spin_core.proofs.WalkNames.{ℕ, ◌+◌, [], ◌∷◌, refl, ap, lit<, dcons, dnil, inst_fn, raw, at_ret, ◌$◌, !, by, move, use1, stop, fld, addr, lit, of_opd, no_more, and_then, first, blocks, exec, Calls-last, returns, alloc_all, pass_all, free_all, look_at, get, get_in, through, sets, lands_last, is, env, agg, sub, whole, tables, named_lft, block_ptr, ptr_val, block_of, count_of, at_block, param, bounded, tail, fm, found, finds}
 use Rattle.core.specs.Prelude.{bit_or}
 use Rattle.atomic_table.proofs.Calls.{ors}
 use Rattle.spin_core.specs.contracts.trace.Trace as trace
-use Rattle.spin_core.proofs.TraceTokens.{token, token_told}
+use Rattle.spin_core.proofs.TraceTokens.{as_watch}
 use types.Kit.{keep, fsplit}
-use Rattle.spin_core.proofs.PermitFields.{hand_of, told, typed}
-use Rattle.spin_core.proofs.WalkSteps.{others, all_dropped, all_go}
+use Rattle.spin_core.proofs.PermitFields.{as_hand, typed}
+use Rattle.spin_core.proofs.WalkSteps.{two, three}
+use Rattle.spin_core.proofs.Walking.{walks, as_u64}
 use Rattle.spin_core.proofs.CellWatchWalks.{begins_with, opens, asks_first, next, knowing}
 use Rattle.spin_core.specs.contracts.cell.Permit.set_bits.{ended, clauses}
-use Rattle.spin_core.specs.contracts.cell.Permit.set_bits.Key.{name as #self}
 use Rattle.spin_core.proofs.cell.Permit.set_bits.Statement.{statement}
 use Rattle.spin_core.proofs.cell.Permit.set_bits.Code as code
 
@@ -17,26 +17,19 @@ pub set_bits_spec : {M : Type 1} → statement M
 set_bits_spec 𝓤 𝓛 𝓜 𝓡 wired T V E S P K Mv L _ _ _ _ _ _ g d g' d' _ _ =
     let H = 𝓛.H in let 𝓣 = tables 𝓤 H 𝓜 𝓡 𝓡.env in let R = param 0 T in let W = param 1 V in let Er = param 2 E in let Ur = param 3 S in
     let Y = param 4 P in let Kr = param 5 K in let Sr = trace.the_row Er Ur in
-    let En = ended T V E S P K Mv g d g' d' in let c = clauses T V E S P K Mv g d g' d' 𝓛 𝓜.mem 𝓡.returns in
-    let inst = bounded code.function.ty_params (T, (V, (E, (S, (P, (K, (Mv, tt))))))) (dcons d (dcons d' dnil)) in let fn = inst_fn inst code.function in
-    let hs = all_dropped En.signature.params En.kept in
-    proved 𝓛 En hs c 𝓜 𝓡 (all_go 𝓛 En.signature.params En.kept (λ κs x f. refl, (λ κs x f. refl, (λ κs x f. refl, tt))))
-    (#self inst) fn (code.unfolded 𝓤 H 𝓜 𝓡 wired (T, (V, (E, (S, (P, (K, (Mv, tt))))))) d d')
-    (λ κs. ((λ x. hand_of x.cell ∷ []), (uint_vals w64, ((λ x. token ∷ []), tt)))) (λ κs. ((λ x vs so. told (named_lft 8 0 tt κs) R W Y Kr Sr g x.cell vs so.0), (uint_Tells w64, ((λ x vs so. token_told Er vs so.0), tt)))) (λ κs qs bounds a gh are.
-    let ℓ = named_lft 8 0 tt κs in let h = a.0 in let p = h.cell in let b = block_of p in let o = count_of p in let q = qs.0 in let τ = κs.1.0 in
-    let seen = a.1.1.0 in let r = qs.1.0 in let os = others 6 κs.1.1 qs.1.1 in let mask = a.1.0 in let told' = g'.told h.key mask 0 h.view in let f : ℕ → ℕ = λ n. bit_or n mask in
-    let y : (walk_of 𝓛 En hs c).Ghost = ((κs, qs, bounds, a, (hand_of p ∷ [], (vint w64 mask ∷ [], (token ∷ [], tt)))), gh) in let Post = (walk_of 𝓛 En hs c).post y in
-    begins_with 𝓛 ℓ T W Y Kr Sr g 6 (_, (_, (_, (_, (_, (_, tt)))))) h _ q τ r os (owns (types_at En.signature.params κs) a y.0.4) _ refl (λ asked le inb.
-    move ! (4 ∷ []) $ fsplit ! $ move ! (1 ∷ []) $ fsplit ! $ fsplit ! $ keep ! (4 ∷ 5 ∷ 6 ∷ 1 ∷ 7 ∷ []) $ enter ! _ _ _ _ _ $ alloc_all ! (λ l. pass_all ! refl (typed p inb, ((tt, record { fits = are.1.0.1 }), ((tt, (tt, tt)), tt))) $ let Ev = env fn.locals l in
-    opens 𝓛 𝓜 𝓡 ℓ T W Y Kr Er Ur L g b o h q τ r seen told' ! tt le (block_ptr b (o + 0)) f
-    (asks_first 𝓛 𝓜 𝓡 ℓ T W Y Kr Er Ur L g b o h q τ r seen told' f asked) (λ left rest closes.
+    let fn = inst_fn (bounded code.function.ty_params (T, (V, (E, (S, (P, (K, (Mv, tt))))))) (dcons d (dcons d' dnil))) code.function in
+    walks 𝓛 (ended T V E S P K Mv g d g' d') (clauses T V E S P K Mv g d g' d' 𝓛 𝓜.mem 𝓡.returns) 𝓜 𝓡 (λ κs x f. refl, (λ κs x f. refl, (λ κs x f. refl, tt))) _ fn (code.unfolded 𝓤 H 𝓜 𝓡 wired (T, (V, (E, (S, (P, (K, (Mv, tt))))))) d d')
+    (λ κs. (as_hand (named_lft 8 0 tt κs) R W Y Kr Sr g, (as_u64, (as_watch Er, tt)))) (λ κs qs bounds a gh are Post out.
+    let ℓ = named_lft 8 0 tt κs in let h = a.0 in let p = h.cell in let b = block_of p in let o = count_of p in
+    let seen = a.1.1.0 in let mask = a.1.0 in let told' = g'.told h.key mask 0 h.view in let f : ℕ → ℕ = λ n. bit_or n mask in
+    begins_with 𝓛 ℓ T W Y Kr Sr g ! 6 (_, (_, (_, (_, (_, (_, tt)))))) h (λ asked le inb.
+    move ! (4 ∷ []) $ fsplit ! $ move ! (1 ∷ []) $ fsplit ! $ fsplit ! $ keep ! (4 ∷ 5 ∷ 6 ∷ 1 ∷ 7 ∷ []) $ alloc_all ! (λ l. pass_all ! refl (typed p inb, ((tt, record { fits = are.1.0.1 }), ((tt, (tt, tt)), tt))) $ let Ev = env fn.locals l in
+    opens 𝓛 𝓜 𝓡 ℓ T W Y Kr Er Ur L g b o h _ _ _ seen told' ! tt le _ f (asks_first asked) (λ left rest closes.
     sets ! (is ! (of_opd ! (get_in ! (fld ! refl (stop !)) (sub ! 0 refl (whole !)))) (ap ptr_val (at_block p inb))) refl (tt, tt) $ first ! $ blocks ! $ sets ! (addr ! (through ! refl (fld ! refl (stop !)))) refl (tt, tt) $
-    use1 𝓛 (raw (𝓣.C _ (vptr b (o + 0) ∷ vint w64 mask ∷ seq_cst ∷ []) (λ u. mean 𝓛 (found left u)))) (ors 𝓛 𝓜 𝓡 (code.calls-core::raw_atomic::fetch_or 𝓡.env wired) (block_ptr b (o + 0)) mask are.1.0.1 left) $
+    use1 𝓛 (raw _) (ors 𝓛 𝓜 𝓡 (code.calls-core::raw_atomic::fetch_or 𝓡.env wired) (block_ptr b (o + 0)) mask are.1.0.1 left) $
     sets ! (agg ! (and_then ! (lit ! tt) (no_more !))) refl (tt, (record { fits = lit< tt }, tt)) $
-    Calls-last ! (fm 𝓛 𝓜 𝓡) (found left) (and_then ! (get ! refl) (and_then ! (get ! refl) (and_then ! (get ! refl) (no_more !)))) (λ u. finds ! left (λ n fits.
+    Calls-last ! (fm 𝓛 𝓜 𝓡) (found left) (three ! refl refl refl) (λ u. finds ! left (λ n fits.
     lands_last ! refl (tt, record { fits = fits }) $ exec ! 𝓣.C 𝓣.Λ Ev (tail (tail fn.body)) (at_ret Ev Post) $ sets ! (of_opd ! (get ! refl)) refl (tt, record { fits = fits }) $
-    sets ! (agg ! (no_more !)) refl (tt, tt) $ sets ! (agg ! (and_then ! (get ! refl) (and_then ! (get ! refl) (no_more !)))) refl (tt, (tt, (tt, tt))) $
-    sets ! (of_opd ! (get ! refl)) refl (tt, (tt, tt)) $ sets ! (agg ! (and_then ! (get ! refl) (and_then ! (get ! refl) (and_then ! (get ! refl) (no_more !))))) refl (tt, (record { fits = fits }, ((tt, (tt, tt)), ((tt, tt), tt)))) $
-    closes.found ! tt n fits os (λ s l. nothing ! $ nothing ! $ fjoin ! $ nothing ! $ fjoin ! $ nothing ! $ fjoin ! $
-    returns ! (look_at ! 0 refl) $ free_all ! refl $ move ! (1 ∷ []) $
-    by ! (leaves 𝓛 En hs c y _ (n, next h b o s, knowing l) (tt, (tt, (tt, tt))) (tt, (tt, (tt, tt)))))))))))
+    sets ! (agg ! (no_more !)) refl (tt, tt) $ sets ! (agg ! (two ! refl refl)) refl (tt, (tt, (tt, tt))) $
+    sets ! (of_opd ! (get ! refl)) refl (tt, (tt, tt)) $ sets ! (agg ! (three ! refl refl refl)) refl (tt, (record { fits = fits }, ((tt, (tt, tt)), ((tt, tt), tt)))) $
+    closes.found ! tt n fits _ (λ s l. returns ! (look_at ! 0 refl) $ free_all ! refl $ by ! (out _ (n, next h b o s, knowing l)))))))))

@@ -1,12 +1,11 @@
 -- `get` lends the value for as long as the write permit is borrowed.
-use Rattle.spin_core.proofs.WalkNames.{◌≡◌, ◌+◌, List, [], ◌∷◌, ◌++◌, refl, ap, dcons, dnil, named, Val, vptr, inst_fn, Fml, flft, Incl-refl, ‵, raw, ◌⊛◌, at_ret, ◌$◌, ◌∵◌, !, qed, by, move, keep, split, join, fsplit, fjoin, use1, rewrite, feq_i, stop, fld, addr, of_opd, first, blocks, exec, returns, enter, alloc_all, pass_all, free_all, look_at, get, through, sets, sets_last, env, sub, whole, tables, owns, types_at, named_lft, Ptr, block_ptr, block_of, count_of, at_block, nothing, param, bounded, param_laws, walk_of, tail, proved, leaves, shr_vals, shr_Tells, unhide, hop, look_in, lent_out, shortens, ⊑_meet, hidden_shr, cell_at, looks, peeks, shuts, Is, shows, ◌∙◌, sym, fhide, says, lies_at}
+use Rattle.spin_core.proofs.WalkNames.{◌≡◌, ◌+◌, List, [], ◌∷◌, ◌++◌, refl, ap, dcons, dnil, named, Val, vptr, inst_fn, Fml, Incl-refl, ‵, ◌⊛◌, at_ret, ◌$◌, !, by, move, keep, split, fsplit, fjoin, use1, rewrite, feq_i, stop, fld, addr, of_opd, first, blocks, exec, returns, alloc_all, pass_all, free_all, look_at, get, through, sets, sets_last, env, sub, whole, tables, named_lft, Ptr, block_ptr, block_of, count_of, at_block, param, bounded, param_laws, tail, unhide, hop, look_in, lent_out, shortens, ⊑_meet, hidden_shr, cell_at, looks, peeks, shuts, Is, shows, ◌∙◌, sym, fhide, says, lies_at}
 use Rattle.core.specs.contracts.marker.PhantomData as marker
-use Rattle.spin_core.proofs.WalkSteps.{others, all_dropped, all_go}
+use Rattle.spin_core.proofs.Walking.{walks, as_shr}
 use Rattle.spin_core.specs.CellMemory.{offset, writer_shares}
 use Rattle.spin_core.specs.contracts.cell.WritePermit as hand
 use Rattle.spin_core.proofs.PermitFields.{hand_of, Words, told, opened}
 use Rattle.spin_core.specs.contracts.cell.WritePermit.get.{ended, clauses}
-use Rattle.spin_core.specs.contracts.cell.WritePermit.get.Key.{name as #self}
 use Rattle.spin_core.proofs.cell.WritePermit.get.Statement.{statement}
 use Rattle.spin_core.proofs.cell.WritePermit.get.Code as code
 
@@ -14,19 +13,15 @@ pub get_spec : {M : Type 1} → statement M
 get_spec 𝓤 𝓛 𝓜 𝓡 wired T V P K S L _ _ _ LS g d _ =
     let H = 𝓛.H in let 𝓣 = tables 𝓤 H 𝓜 𝓡 𝓡.env in let R = param 0 T in let W = param 1 V in let Y = param 2 P in let Kr = param 3 K in
     let Sr = param 4 S in let cw = W.coded in let LR = param_laws 0 T L in
-    let En = ended T V P K S g d in let c = clauses T V P K S g d 𝓛 𝓜.mem 𝓡.returns in
-    let inst = bounded code.function.ty_params (T, (V, (P, (K, (S, tt))))) (dcons d dnil) in let fn = inst_fn inst code.function in
-    let hs = all_dropped En.signature.params En.kept in
-    proved 𝓛 En hs c 𝓜 𝓡 (all_go 𝓛 En.signature.params En.kept (λ κs x f. refl, tt)) (#self inst) fn (code.unfolded 𝓤 H 𝓜 𝓡 wired (T, (V, (P, (K, (S, tt))))) d)
-    (λ κs. (shr_vals, tt)) (λ κs. (shr_Tells (named 0) κs.0 (hand.the_row (named_lft 7 1 tt κs) R W Y Kr Sr g), tt)) (λ κs qs bounds a gh are.
-    let ℓ = named_lft 7 1 tt κs in let Hr = hand.the_row ℓ R W Y Kr Sr g in let D = Words ℓ R W Y Kr Sr g in let b = a.0.ref_ptr.0 in
-    let o = a.0.ref_ptr.1 in let κ = κs.0 in let β = κs.1.0 in let h = a.0.now in let p = h.cell in let os = others 6 κs.1 qs.1 in
+    let fn = inst_fn (bounded code.function.ty_params (T, (V, (P, (K, (S, tt))))) (dcons d dnil)) code.function in
+    walks 𝓛 (ended T V P K S g d) (clauses T V P K S g d 𝓛 𝓜.mem 𝓡.returns) 𝓜 𝓡 (λ κs x f. refl, tt) _ fn (code.unfolded 𝓤 H 𝓜 𝓡 wired (T, (V, (P, (K, (S, tt))))) d)
+    (λ κs. (as_shr (named 0) κs.0 (hand.the_row (named_lft 7 1 tt κs) R W Y Kr Sr g), tt)) (λ κs qs bounds a gh are Post out.
+    let ℓ = named_lft 7 1 tt κs in let D = Words ℓ R W Y Kr Sr g in let b = a.0.ref_ptr.0 in
+    let o = a.0.ref_ptr.1 in let κ = κs.0 in let β = κs.1.0 in let h = a.0.now in let p = h.cell in
     let pb = block_of p in let po = count_of p in let e = po + offset R in let x = h.value in
     let Lent : Ptr → Fml = λ z. writer_shares Y R cw.code Sr (g.holds h.key) (g.ways h.key) β z h.view x κ in
-    let y : (walk_of 𝓛 En hs c).Ghost = ((κs, qs, bounds, a, (vptr b o ∷ [], tt)), gh) in let Post = (walk_of 𝓛 En hs c).post y in
-    qed 𝓛 (((‵ (flft κ qs.0) ⊛ ‵ os) ⊛ ‵ (owns (types_at En.signature.params κs) a y.0.4)) ∷ raw ((c κs a).requires gh) ∷ []) ∵
-    split ! $ split ! $ move ! (2 ∷ []) $ fsplit ! $ fsplit ! $ keep ! (1 ∷ 3 ∷ 4 ∷ []) $
-    enter ! _ _ _ _ _ $ alloc_all ! (λ l. pass_all ! refl ((tt, tt), tt) $ let Ev = types.ByLocal.env fn.locals l in
+    move ! (1 ∷ []) $ fsplit ! $ move ! (2 ∷ []) $ fsplit ! $ move ! (2 ∷ []) $ fsplit ! $ keep ! (1 ∷ 2 ∷ 3 ∷ []) $
+    alloc_all ! (λ l. pass_all ! refl ((tt, tt), tt) $ let Ev = types.ByLocal.env fn.locals l in
     use1 𝓛 (‵ (hidden_shr D κ (p, (tt, tt)) b o) ⊛ ‵ (fhide (Lent p)))
     (lent_out 𝓛 (hand.struct ℓ R W Y Kr Sr g) (hand.the_codes T.Denot V.Denot P.Denot K.Denot S.Denot R.coded W.coded Y.coded Kr.coded Sr.coded (marker.the_row (denote.Ref.ShrRef ℓ.mir ℓ.lft R)).coded) (hand.the_heap β R W Y Kr Sr g) (hand.the_lent β R W Y Kr Sr g) κ h b o) $
     split ! $ move ! (1 ∷ []) $ unhide ! $ lies_at ! Lent refl p (λ so. let at = at_block p so in
@@ -36,6 +31,5 @@ get_spec 𝓤 𝓛 𝓜 𝓡 wired T V P K S L _ _ _ LS g d _ =
     rewrite ! 1 (λ (ws : List Val). ‵ (cell_at q D.mir ws b o)) ev refl $ first ! $ blocks ! $
     sets_last ! (addr ! (through ! refl (fld ! refl (hop ! (look_in ! 1 (sub ! 0 refl (whole !))) (fld ! refl (stop !)))))) refl (tt, tt) $ exec ! 𝓣.C 𝓣.Λ Ev (tail fn.body) (at_ret Ev Post) $
     sets ! (of_opd ! (get ! refl)) refl (tt, tt) $ rewrite ! 1 (λ (ws : List Val). ‵ (cell_at q D.mir ws b o)) (sym ev) refl $ move ! (1 ∷ 0 ∷ 2 ∷ []) $ shuts ! tt D q (p, (tt, tt)) vs b o $
-    move ! (0 ∷ 3 ∷ []) $ join ! $ move ! (2 ∷ []) $ feq_i ! (List Val) (vptr pb e ∷ []) (vptr pb e ∷ []) refl $ fjoin ! $
-    says ! (x ≡ h.value) refl $ nothing ! $ nothing ! $ fjoin ! $
-    returns ! (look_at ! 0 refl) $ free_all ! refl $ keep ! (3 ∷ 0 ∷ 2 ∷ 1 ∷ []) $ by ! (leaves 𝓛 En hs c y (vptr pb e) (record { ref_ptr = (pb, e); now = x }) (tt, tt) (tt, tt)))))))
+    move ! (0 ∷ 3 ∷ []) $ fjoin ! $ move ! (2 ∷ []) $ feq_i ! (List Val) (vptr pb e ∷ []) (vptr pb e ∷ []) refl $ fjoin ! $ says ! (x ≡ h.value) refl $
+    returns ! (look_at ! 0 refl) $ free_all ! refl $ keep ! (2 ∷ 1 ∷ 0 ∷ []) $ by ! (out (vptr pb e) (record { ref_ptr = (pb, e); now = x })))))))

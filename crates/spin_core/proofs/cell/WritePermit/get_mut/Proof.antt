@@ -1,14 +1,14 @@
 -- `get_mut` lends the value, and the permit then has the value that was written. Assumes `Logic`.
-use Rattle.spin_core.proofs.WalkNames.{◌≡◌, ℕ, ◌+◌, List, [], ◌∷◌, refl, sym, ap, ◌∙◌, named, dcons, dnil, Val, vptr, inst_fn, full_share, SProp, ent, wand, apply∗, Lft, Share, Fml, fsep, flft, before, Logic, sem, split3, ‵, raw, ◌⊛◌, at_ret, ◌$◌, ◌∵◌, !, qed, by, move, keep, split, join, fsplit, fsplit3, fjoin, use1, use2, use3, later, some, await, pick, fpick, fpack, rewrite, stop, addr, of_opd, first, blocks, exec, returns, enter, fld, hop, alloc_all, pass_all, free_all, look_at, get, through, sets, sets_last, env, sub, whole, look_in, tables, RattleType, owns, Is, shows, types_at, named_lft, nothing, peeks, param, bounded, cell_at, part_at, Ptr, block_ptr, block_of, count_of, at_block, walk_of, tail, proved, leaves, says, lies}
+use Rattle.spin_core.proofs.WalkNames.{◌≡◌, ℕ, ◌+◌, List, [], ◌∷◌, refl, sym, ap, ◌∙◌, named, dcons, dnil, Val, vptr, inst_fn, full_share, SProp, ent, wand, apply∗, Lft, Share, Fml, fsep, flft, before, Logic, sem, split3, ‵, raw, ◌⊛◌, at_ret, ◌$◌, ◌∵◌, !, qed, by, move, keep, split, join, fsplit, fsplit3, fjoin, use1, use2, use3, later, some, await, pick, fpick, fpack, rewrite, stop, addr, of_opd, first, blocks, exec, returns, fld, hop, alloc_all, pass_all, free_all, look_at, get, through, sets, sets_last, env, sub, whole, look_in, tables, RattleType, Is, shows, named_lft, peeks, param, bounded, cell_at, part_at, Ptr, block_ptr, block_of, count_of, at_block, tail, says, lies}
 use seplogic.Ra.Ura.{Ura}
 use base.Logic.{ex, all, all_e}
 use denote.Ref.{NamedLft, MutBor}
-use Rattle.spin_core.proofs.WalkSteps.{others, all_dropped, all_go}
+use Rattle.spin_core.proofs.Walking.{walks, as_mut}
 use Rattle.spin_core.specs.declared.cell.Rule.{Ghosts}
 use base.Fml.{Incl, GName}
 use types.Kit.{each, show, frame, assume}
 use types.Mut.{open_ref, close_ref}
-use denote.Ref.{MutRef, mut_vals, mut_Tells}
+use denote.Ref.{MutRef}
 use denote.Memory.{part_of, mem as in_memory}
 use denote.Struct.OwningLaws.{part_out, part_in}
 use denote.Follow.{follows}
@@ -18,7 +18,6 @@ use Rattle.spin_core.specs.contracts.cell.WritePermit.{the_type, the_row}
 use Rattle.spin_core.proofs.PermitFields.{hand_of, Words, told}
 use Rattle.spin_core.proofs.CellThrough.{cuts, Opened, through as goes_through}
 use Rattle.spin_core.specs.contracts.cell.WritePermit.get_mut.{ended, clauses}
-use Rattle.spin_core.specs.contracts.cell.WritePermit.get_mut.Key.{name as #self}
 use Rattle.spin_core.proofs.cell.WritePermit.get_mut.Statement.{statement}
 use Rattle.spin_core.proofs.cell.WritePermit.get_mut.Code as code
 
@@ -63,20 +62,17 @@ unfolding part_of
 get_mut_spec 𝓤 𝓛 𝓜 𝓡 wired T V P K S L _ _ _ LS g d _ =
     let H = 𝓛.H in let 𝓣 = tables 𝓤 H 𝓜 𝓡 𝓡.env in let R = param 0 T in let W = param 1 V in let Y = param 2 P in let Kr = param 3 K in
     let Sr = param 4 S in let cw = W.coded in let En = ended T V P K S g d in let c = clauses T V P K S g d 𝓛 𝓜.mem 𝓡.returns in
-    let inst = bounded code.function.ty_params (T, (V, (P, (K, (S, tt))))) (dcons d dnil) in let fn = inst_fn inst code.function in
-    let hs = all_dropped En.signature.params En.kept in
-    proved 𝓛 En hs c 𝓜 𝓡 (all_go 𝓛 En.signature.params En.kept (λ κs x f. refl, tt)) (#self inst) fn (code.unfolded 𝓤 H 𝓜 𝓡 wired (T, (V, (P, (K, (S, tt))))) d)
-    (λ κs. (mut_vals, tt)) (λ κs. (mut_Tells (named 0) κs.0 (the_row (named_lft 7 1 tt κs) R W Y Kr Sr g), tt)) (λ κs qs bounds a gh are.
+    let fn = inst_fn (bounded code.function.ty_params (T, (V, (P, (K, (S, tt))))) (dcons d dnil)) code.function in
+    walks 𝓛 En c 𝓜 𝓡 (λ κs x f. refl, tt) _ fn (code.unfolded 𝓤 H 𝓜 𝓡 wired (T, (V, (P, (K, (S, tt))))) d)
+    (λ κs. (as_mut (named 0) κs.0 (the_row (named_lft 7 1 tt κs) R W Y Kr Sr g), tt)) (λ κs qs bounds a gh are Post out.
     let ℓ = named_lft 7 1 tt κs in let G = the_row ℓ R W Y Kr Sr g in let D = Words ℓ R W Y Kr Sr g in let m = a.0 in let b = m.ref_ptr.0 in
     let o = m.ref_ptr.1 in let γ = m.ghost_name in let h = m.now in
     let κ = κs.0 in let q = qs.0 in let β = κs.1.0 in let p = h.cell in let pb = block_of p in let po = count_of p in let e = po + offset R in
     let x = h.value in let F = with_value h in
-    let os = others 6 κs.1 qs.1 in let Had : Ptr → T.Denot → Fml = λ z w. writer_owns Y R cw.code Sr (g.holds h.key) (g.ways h.key) β z h.view w in
-    let Ws = part_at D full_share (p, (tt, tt)) b o in let y : (walk_of 𝓛 En hs c).Ghost = ((κs, qs, bounds, a, (vptr b o ∷ [], tt)), gh) in
-    let Post = (walk_of 𝓛 En hs c).post y in
-    qed 𝓛 (((‵ (flft κ q) ⊛ ‵ os) ⊛ ‵ (owns (types_at En.signature.params κs) a y.0.4)) ∷ raw ((c κs a).requires gh) ∷ []) ∵
-    split ! $ split ! $ move ! (2 ∷ []) $ fsplit ! $ fsplit3 ! $ keep ! (1 ∷ 2 ∷ 4 ∷ 5 ∷ []) $
-    enter ! _ _ _ _ _ $ alloc_all ! (λ l. pass_all ! refl ((tt, tt), tt) $ let Ev = env fn.locals l in
+    let Had : Ptr → T.Denot → Fml = λ z w. writer_owns Y R cw.code Sr (g.holds h.key) (g.ways h.key) β z h.view w in
+    let Ws = part_at D full_share (p, (tt, tt)) b o in
+    fsplit ! $ move ! (2 ∷ []) $ fsplit ! $ fsplit3 ! $ keep ! (1 ∷ 2 ∷ 4 ∷ 5 ∷ []) $
+    alloc_all ! (λ l. pass_all ! refl ((tt, tt), tt) $ let Ev = env fn.locals l in
     open_ref ! tt (in_memory G) $ use1 𝓛 (‵ Ws ⊛ ‵ (Had p x)) (part_out 𝓛 (the_type ℓ R W Y Kr Sr g) full_share h b o) $ split ! $ move ! (1 ∷ []) $
     lies ! (λ z. Had z x) refl p (λ inb. let at : p ≡ block_ptr pb po = at_block p inb in
     move ! (1 ∷ []) $ fpick ! (λ vs. fsplit ! $ move ! (1 ∷ []) $ peeks ! D (Is D) (shows 𝓛 D) (p, (tt, tt)) vs (λ is_so.
@@ -89,5 +85,5 @@ get_mut_spec 𝓤 𝓛 𝓜 𝓡 wired T V P K S L _ _ _ LS g d _ =
     use2 𝓛 (‵ (part_at G full_share h b o)) (part_in 𝓛 (the_type ℓ R W Y Kr Sr g) full_share h b o) $ close_ref ! tt (in_memory G) h $
     use3 𝓛 (later (some (λ (δ : GName). ‵ ((MutRef (named 0) κ R).own_val (record { ref_ptr = (pb, e); ghost_name = δ; now = x }) (vptr pb e ∷ [])) ⊛ ‵ (flft κ q) ⊛ ‵ (follows G R γ δ F))))
     (goes_through 𝓛 Y R cw Sr (g.holds h.key) (g.ways h.key) β pb po h.view G F (same 𝓛 ℓ R W Y Kr Sr g κ bounds.0 q m pb po at) (named 0) κ bounds.0 q m x (cut 𝓛 ℓ R W Y Kr Sr g κ bounds.0 q m pb po at)) $ await ! tt $ pick ! (λ δ. split3 ! $
-    move ! (1 ∷ 3 ∷ []) $ join ! $ says ! (x ≡ x) refl $ move ! (3 ∷ 0 ∷ []) $ join ! $ nothing ! $ nothing ! $ fjoin ! $
-    returns ! (look_at ! 0 refl) $ free_all ! refl $ keep ! (2 ∷ 0 ∷ 3 ∷ 1 ∷ []) $ by ! (leaves 𝓛 En hs c y (vptr pb e) (record { ref_ptr = (pb, e); ghost_name = δ; now = x }) (tt, tt) (tt, tt))))))))
+    move ! (1 ∷ 3 ∷ []) $ fjoin ! $ says ! (x ≡ x) refl $ move ! (3 ∷ 0 ∷ []) $ join ! $
+    returns ! (look_at ! 0 refl) $ free_all ! refl $ keep ! (1 ∷ 2 ∷ 0 ∷ []) $ by ! (out (vptr pb e) (record { ref_ptr = (pb, e); ghost_name = δ; now = x }))))))))

@@ -1,39 +1,32 @@
 -- `into_permit` keeps what the permit owns.
-use Rattle.spin_core.proofs.WalkNames.{◌≡◌, [], ◌∷◌, refl, Some, dcons, dnil, Val, inst_fn, Fml, flft, ‵, raw, ◌⊛◌, given, ◌$◌, ◌∵◌, !, qed, by, move, keep, split, join, fsplit, fjoin, learn, use0, use1, stop, fld, of_opd, no_more, and_then, returns, enter, alloc_all, pass_all, free_all, look_at, get, get_in, sets, agg, sub, whole, owns, types_at, named_lft, Ptr, nothing, param, bounded, walk_of, proved, leaves, says, lies}
-use Rattle.spin_core.proofs.WalkSteps.{others, all_dropped, all_go}
+use Rattle.spin_core.proofs.WalkNames.{◌≡◌, [], ◌∷◌, refl, Some, dcons, dnil, Val, inst_fn, Fml, ‵, given, ◌$◌, !, by, keep, join, fjoin, learn, use0, use1, stop, fld, of_opd, no_more, returns, alloc_all, pass_all, free_all, look_at, get_in, sets, agg, sub, whole, named_lft, Ptr, param, bounded, says}
+use Rattle.spin_core.proofs.WalkSteps.{unasked, takes, two}
+use Rattle.spin_core.proofs.Walking.{walks}
 use Rattle.spin_core.specs.Cell.{writes}
 use Rattle.spin_core.specs.CellMemory.{permit_owns, writer_owns}
 use Rattle.spin_core.specs.contracts.cell.Permit as hand
-use Rattle.spin_core.specs.contracts.cell.WritePermit as pen
-use Rattle.spin_core.proofs.PermitFields.{hand_of, Words, made, told, typed}
+use Rattle.spin_core.proofs.PermitFields.{as_hand, as_pen, hand_of, Words, made, typed}
 use Rattle.spin_core.proofs.CellWalks.{from_writer}
 use Rattle.spin_core.specs.contracts.cell.WritePermit.into_permit.{ended, clauses}
-use Rattle.spin_core.specs.contracts.cell.WritePermit.into_permit.Key.{name as #self}
 use Rattle.spin_core.proofs.cell.WritePermit.into_permit.Statement.{statement}
 use Rattle.spin_core.proofs.cell.WritePermit.into_permit.Code as code
 
 pub into_permit_spec : {M : Type 1} → statement M
 into_permit_spec 𝓤 𝓛 𝓜 𝓡 wired T V P K S L _ _ _ LS g d _ =
     let R = param 0 T in let W = param 1 V in let Y = param 2 P in let Kr = param 3 K in let Sr = param 4 S in let cw = W.coded in
-    let En = ended T V P K S g d in let c = clauses T V P K S g d 𝓛 𝓜.mem 𝓡.returns in
-    let inst = bounded code.function.ty_params (T, (V, (P, (K, (S, tt))))) (dcons d dnil) in let fn = inst_fn inst code.function in
-    let hs = all_dropped En.signature.params En.kept in
-    proved 𝓛 En hs c 𝓜 𝓡 (all_go 𝓛 En.signature.params En.kept (λ κs x f. refl, tt))
-    (#self inst) fn (code.unfolded 𝓤 𝓛.H 𝓜 𝓡 wired (T, (V, (P, (K, (S, tt))))) d)
-    (λ κs. ((λ x. hand_of x.cell ∷ []), tt)) (λ κs. ((λ x vs so. told (named_lft 6 0 tt κs) R W Y Kr Sr g x.cell vs so.0), tt)) (λ κs qs bounds a gh are.
-    let ℓ = named_lft 6 0 tt κs in let Hr = hand.the_row ℓ R W Y Kr Sr g in let Pr = pen.the_row ℓ R W Y Kr Sr g in let h = a.0 in let p = h.cell in
-    let β = κs.0 in let q = qs.0 in
-    let os = others 5 κs.1 qs.1 in let Owned : Ptr → Fml = λ z. writer_owns Y R cw.code Sr (g.holds h.key) (g.ways h.key) β z h.view h.value in
-    let y : (walk_of 𝓛 En hs c).Ghost = ((κs, qs, bounds, a, (hand_of p ∷ [], tt)), gh) in let Use_is : Type 0 = (g.ways h.key).1 h.view ≡ writes in
-    qed 𝓛 (((‵ (flft β q) ⊛ ‵ os) ⊛ ‵ (owns (types_at En.signature.params κs) a y.0.4)) ∷ raw ((c κs a).requires gh) ∷ []) ∵
-    split ! $ split ! $ move ! (2 ∷ []) $ fsplit ! $ fsplit ! $ keep ! (1 ∷ 3 ∷ 4 ∷ []) $
-    lies ! Owned refl p (λ inb.
+    let fn = inst_fn (bounded code.function.ty_params (T, (V, (P, (K, (S, tt))))) (dcons d dnil)) code.function in
+    walks 𝓛 (ended T V P K S g d) (clauses T V P K S g d 𝓛 𝓜.mem 𝓡.returns) 𝓜 𝓡 (λ κs x f. refl, tt) _ fn (code.unfolded 𝓤 𝓛.H 𝓜 𝓡 wired (T, (V, (P, (K, (S, tt))))) d)
+    (λ κs. (as_pen (named_lft 6 0 tt κs) R W Y Kr Sr g, tt)) (λ κs qs bounds a gh are Post out.
+    let ℓ = named_lft 6 0 tt κs in let Hr = hand.the_row ℓ R W Y Kr Sr g in let h = a.0 in let p = h.cell in
+    let β = κs.0 in let Owned : Ptr → Fml = λ z. writer_owns Y R cw.code Sr (g.holds h.key) (g.ways h.key) β z h.view h.value in
+    let Use_is : Type 0 = (g.ways h.key).1 h.view ≡ writes in
+    takes ! Owned refl p (unasked 𝓤 _) (λ _ inb.
     use1 𝓛 (given Use_is (‵ (permit_owns Y R cw.code Sr (g.holds h.key) (g.ways h.key) β p (Some h.view) (Some h.value)))) (from_writer 𝓛 Y R cw Sr (g.holds h.key) (g.ways h.key) β p h.view h.value) $ learn ! (λ so.
-    enter ! _ _ _ _ _ $ alloc_all ! (λ l. pass_all ! refl (typed p inb, tt) $
+    alloc_all ! (λ l. pass_all ! refl (typed p inb, tt) $
     let good = Rattle.spin_core.proofs.PermitFields.pointer p inb in sets ! (of_opd ! (get_in ! (fld ! refl (stop !)) (sub ! 0 refl (whole !)))) refl good $ sets ! (agg ! (no_more !)) refl (tt, tt) $
-    sets ! (agg ! (and_then ! (get ! refl) (and_then ! (get ! refl) (no_more !)))) refl (typed p inb) $
+    sets ! (agg ! (two ! refl refl)) refl (typed p inb) $
     let h' : Hr.Denot = record { cell = p; marker = record {}; key = h.key; view = Some h.view; value = Some h.value } in let v : Val = hand_of p in
-    use0 𝓛 (‵ ((Words ℓ R W Y Kr Sr g).own_val (p, (tt, tt)) (v ∷ []))) (made ℓ R W Y Kr Sr g 𝓛 p) $ fjoin ! $ move ! (1 ∷ 2 ∷ []) $ join ! $
+    use0 𝓛 (‵ ((Words ℓ R W Y Kr Sr g).own_val (p, (tt, tt)) (v ∷ []))) (made ℓ R W Y Kr Sr g 𝓛 p) $ fjoin ! $
     let Told : Type 0 = (h'.view ≡ Some h.view) × (h'.value ≡ Some h.value) in says ! (h.key ≡ h.key) refl $ says ! Told (refl, refl) $ join ! $
-    says ! Use_is so $ join ! $ nothing ! $ nothing ! $ fjoin ! $
-    returns ! (look_at ! 0 refl) $ free_all ! refl $ keep ! (2 ∷ 0 ∷ 3 ∷ 1 ∷ []) $ by ! (leaves 𝓛 En hs c y v h' (tt, tt) (tt, tt))))))
+    says ! Use_is so $ join ! $
+    returns ! (look_at ! 0 refl) $ free_all ! refl $ keep ! (2 ∷ 1 ∷ 0 ∷ []) $ by ! (out v h')))))

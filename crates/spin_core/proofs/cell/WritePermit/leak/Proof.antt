@@ -1,36 +1,31 @@
 -- `leak` gives up the value's borrow for the rest of the cell's borrow.
-use Rattle.spin_core.proofs.WalkNames.{◌≡◌, ◌+◌, List, [], ◌∷◌, refl, ap, dcons, dnil, named, Val, vptr, inst_fn, Fml, flft, fbor, ‵, raw, ◌⊛◌, later, at_ret, ◌$◌, ◌∵◌, !, qed, by, move, keep, split, join, fsplit, fjoin, fjoin3, fpick, use3, await, feq_i, stop, fld, addr, of_opd, first, blocks, exec, returns, enter, alloc_all, pass_all, free_all, look_at, get, get_in, through, sets, sets_last, is, env, sub, whole, tables, owns, types_at, named_lft, Ptr, ptr_val, block_of, count_of, at_block, nothing, param, bounded, walk_of, tail, proved, leaves, says, lies_at}
+use Rattle.spin_core.proofs.WalkNames.{◌≡◌, ◌+◌, List, [], ◌∷◌, refl, ap, dcons, dnil, named, Val, vptr, inst_fn, Fml, flft, fbor, ‵, ◌⊛◌, later, at_ret, ◌$◌, !, by, move, keep, split, fsplit, fjoin, fjoin3, fpick, use3, await, feq_i, stop, fld, addr, of_opd, first, blocks, exec, returns, alloc_all, pass_all, free_all, look_at, get, get_in, through, sets, sets_last, is, env, sub, whole, tables, named_lft, Ptr, ptr_val, block_of, count_of, at_block, param, bounded, tail, says}
 use denote.Ref.{MutRef}
-use Rattle.spin_core.proofs.WalkSteps.{others, all_dropped, all_go}
+use Rattle.spin_core.proofs.WalkSteps.{unasked, takes_at}
+use Rattle.spin_core.proofs.Walking.{walks}
 use Rattle.spin_core.specs.CellMemory.{offset, named as body, writer_owns}
-use Rattle.spin_core.specs.contracts.cell.WritePermit as pen
-use Rattle.spin_core.proofs.PermitFields.{hand_of, told, typed}
+use Rattle.spin_core.proofs.PermitFields.{as_pen, typed}
 use Rattle.spin_core.proofs.CellThrough.{lasts}
 use Rattle.spin_core.specs.contracts.cell.WritePermit.leak.{ended, clauses}
-use Rattle.spin_core.specs.contracts.cell.WritePermit.leak.Key.{name as #self}
 use Rattle.spin_core.proofs.cell.WritePermit.leak.Statement.{statement}
 use Rattle.spin_core.proofs.cell.WritePermit.leak.Code as code
 
 pub leak_spec : {M : Type 1} → statement M
 leak_spec 𝓤 𝓛 𝓜 𝓡 wired T V P K S L _ _ _ LS g d _ =
     let H = 𝓛.H in let 𝓣 = tables 𝓤 H 𝓜 𝓡 𝓡.env in let R = param 0 T in let W = param 1 V in let Y = param 2 P in let Kr = param 3 K in
-    let Sr = param 4 S in let cw = W.coded in let En = ended T V P K S g d in let c = clauses T V P K S g d 𝓛 𝓜.mem 𝓡.returns in
-    let inst = bounded code.function.ty_params (T, (V, (P, (K, (S, tt))))) (dcons d dnil) in let fn = inst_fn inst code.function in
-    let hs = all_dropped En.signature.params En.kept in
-    proved 𝓛 En hs c 𝓜 𝓡 (all_go 𝓛 En.signature.params En.kept (λ κs x f. refl, tt)) (#self inst) fn (code.unfolded 𝓤 H 𝓜 𝓡 wired (T, (V, (P, (K, (S, tt))))) d)
-    (λ κs. ((λ x. hand_of x.cell ∷ []), tt)) (λ κs. ((λ x vs so. told (named_lft 6 0 tt κs) R W Y Kr Sr g x.cell vs so.0), tt)) (λ κs qs bounds a gh are.
-    let ℓ = named_lft 6 0 tt κs in let Pr = pen.the_row ℓ R W Y Kr Sr g in let h = a.0 in let p = h.cell in let b = block_of p in let o = count_of p in
+    let Sr = param 4 S in let cw = W.coded in
+    let fn = inst_fn (bounded code.function.ty_params (T, (V, (P, (K, (S, tt))))) (dcons d dnil)) code.function in
+    walks 𝓛 (ended T V P K S g d) (clauses T V P K S g d 𝓛 𝓜.mem 𝓡.returns) 𝓜 𝓡 (λ κs x f. refl, tt) _ fn (code.unfolded 𝓤 H 𝓜 𝓡 wired (T, (V, (P, (K, (S, tt))))) d)
+    (λ κs. (as_pen (named_lft 6 0 tt κs) R W Y Kr Sr g, tt)) (λ κs qs bounds a gh are Post out.
+    let h = a.0 in let p = h.cell in let b = block_of p in let o = count_of p in
     let e = o + offset R in let β = κs.0 in let q = qs.0 in let x = h.value in
-    let os = others 5 κs.1 qs.1 in let Owned : Ptr → Fml = λ z. writer_owns Y R cw.code Sr (g.holds h.key) (g.ways h.key) β z h.view x in
-    let y : (walk_of 𝓛 En hs c).Ghost = ((κs, qs, bounds, a, (hand_of p ∷ [], tt)), gh) in let Post = (walk_of 𝓛 En hs c).post y in
-    qed 𝓛 (((‵ (flft β q) ⊛ ‵ os) ⊛ ‵ (owns (types_at En.signature.params κs) a y.0.4)) ∷ raw ((c κs a).requires gh) ∷ []) ∵
-    split ! $ split ! $ move ! (2 ∷ []) $ fsplit ! $ fsplit ! $ keep ! (1 ∷ 3 ∷ 4 ∷ []) $
-    lies_at ! Owned refl p (λ inb. let at = at_block p inb in
-    enter ! _ _ _ _ _ $ alloc_all ! (λ l. pass_all ! refl (typed p inb, tt) $ let Ev = types.ByLocal.env fn.locals l in
-    fpick ! (λ known. fpick ! (λ so. fpick ! (λ t. fsplit ! $ fsplit ! $ move ! (2 ∷ []) $ fsplit ! $ move ! (1 ∷ []) $ fsplit ! $ move ! (3 ∷ 1 ∷ 5 ∷ []) $
+    let Owned : Ptr → Fml = λ z. writer_owns Y R cw.code Sr (g.holds h.key) (g.ways h.key) β z h.view x in
+    takes_at ! Owned refl p (unasked 𝓤 _) (λ _ inb. let at = at_block p inb in
+    alloc_all ! (λ l. pass_all ! refl (typed p inb, tt) $ let Ev = types.ByLocal.env fn.locals l in
+    fpick ! (λ known. fpick ! (λ so. fpick ! (λ t. fsplit ! $ fsplit ! $ move ! (2 ∷ []) $ fsplit ! $ move ! (1 ∷ []) $ fsplit ! $ move ! (5 ∷ []) $ fsplit ! $ move ! (5 ∷ 3 ∷ 0 ∷ []) $
     use3 𝓛 (later (‵ (fbor β (body R b o t)) ⊛ ‵ (flft β q))) (lasts 𝓛 β t.life q (body R b o t)) $ await ! tt $ split ! $
     sets ! (is ! (of_opd ! (get_in ! (fld ! refl (stop !)) (sub ! 0 refl (whole !)))) (ap ptr_val at)) refl (tt, tt) $ first ! $ blocks ! $ sets ! (addr ! (through ! refl (fld ! refl (stop !)))) refl (tt, tt) $
     sets_last ! (addr ! (through ! refl (stop !))) refl (tt, tt) $ exec ! 𝓣.C 𝓣.Λ Ev (tail (tail fn.body)) (at_ret Ev Post) $ sets ! (of_opd ! (get ! refl)) refl (tt, tt) $
-    let m : (MutRef (named 0) β R).Denot = record { ref_ptr = (b, e); ghost_name = t.value; now = x } in move ! (2 ∷ 0 ∷ []) $ feq_i ! (List Val) (vptr b e ∷ []) (vptr b e ∷ []) refl $ fjoin3 ! $
-    move ! (1 ∷ 4 ∷ []) $ join ! $ says ! (x ≡ x) refl $ nothing ! $ nothing ! $ fjoin ! $
-    returns ! (look_at ! 0 refl) $ free_all ! refl $ keep ! (2 ∷ 0 ∷ 3 ∷ 1 ∷ []) $ by ! (leaves 𝓛 En hs c y (vptr b e) m (tt, tt) (tt, tt))))))))
+    let m : (MutRef (named 0) β R).Denot = record { ref_ptr = (b, e); ghost_name = t.value; now = x } in move ! (3 ∷ 0 ∷ []) $ feq_i ! (List Val) (vptr b e ∷ []) (vptr b e ∷ []) refl $ fjoin3 ! $
+    says ! (x ≡ x) refl $ move ! (2 ∷ 3 ∷ []) $ fjoin ! $
+    returns ! (look_at ! 0 refl) $ free_all ! refl $ keep ! (0 ∷ 2 ∷ 1 ∷ []) $ by ! (out (vptr b e) m)))))))

@@ -28,7 +28,7 @@ use Rattle.spin_core.specs.contracts.guard.GuardDerefMut.deref_mut.{ended, claus
 use Rattle.spin_core.specs.contracts.guard.GuardDerefMut.deref_mut.Key.{name as #self}
 use Rattle.spin_core.proofs.guard.GuardDerefMut.deref_mut.Statement.{statement}
 use Rattle.spin_core.proofs.guard.GuardDerefMut.deref_mut.Code as code
-use Rattle.spin_core.proofs.WalkSteps.{all_dropped, all_go}
+use Rattle.spin_core.proofs.Walking.{all_dropped, all_go}
 
 module _ (ℓ : NamedLft) (T V P S K N : RattleType) (LT : Laws T) (LV : Laws V) (LP : Laws P) (LS : Laws S) (LK : Laws K) (LN : Laws N) (g : Ghosts P.Denot T.Denot V.Denot K.Denot N.Denot) where
   abbrev G : RattleType

@@ -11,7 +11,7 @@ use Rattle.spin_core.specs.contracts.trace.Trace.new.{ended, clauses}
 use Rattle.spin_core.specs.contracts.trace.Trace.new.Key.{name as #self}
 use Rattle.spin_core.proofs.trace.Trace.new.Statement.{statement}
 use Rattle.spin_core.proofs.trace.Trace.new.Code as code
-use Rattle.spin_core.proofs.WalkSteps.{all_dropped, all_go}
+use Rattle.spin_core.proofs.Walking.{all_dropped, all_go}
 
 pub new_spec : {M : Type 1} → statement M
 new_spec 𝓤 𝓛 𝓜 𝓡 wired Ty S L N =

@@ -1,31 +1,29 @@
-use Rattle.spin_core.proofs.TraceWalk.{[], ◌∷◌, refl, a_type, named, Val, vptr, inst_fn, SProp, emp, Fml, ftrue, fsep, flft, fhide, ‵, raw, ◌⊛◌, ◌$◌, ◌∵◌, !, qed, by, move, keep, drop, split, fsplit, fjoin, use0, use1, no_more, and_then, returns, enter, alloc_all, pass_all, free_all, look_at, get, sets, obor_close, shr_bor-open, agg, fact_i, tables, RattleType, owns, types_at, shr_vals, shr_Tells, hidden_shr, unhide, nothing, param, layouts, lent_out, walk_of, proved, token, Token, Beside, token_made, ends}
+use Rattle.spin_core.proofs.TraceWalk.{◌≡◌, [], ◌∷◌, refl, a_type, named, inst_fn, fhide, ‵, ◌⊛◌, ◌$◌, !, by, move, keep, drop, split, fsplit, fjoin, use0, use1, no_more, and_then, returns, alloc_all, pass_all, free_all, look_at, get, sets, obor_close, shr_bor-open, agg, tables, RattleType, hidden_shr, unhide, param, layouts, lent_out, token, Token, Beside, token_made}
 use Rattle.core.specs.contracts.marker.PhantomData as marker
 use Rattle.spin_core.specs.Logs.{log_part, log_shares, known_owns}
 use Rattle.spin_core.proofs.TraceSteps as steps
 use Rattle.spin_core.specs.contracts.trace.Trace as Trace
 use Rattle.spin_core.specs.contracts.trace.Trace.watch.{ended, clauses}
-use Rattle.spin_core.specs.contracts.trace.Trace.watch.Key.{name as #self}
 use Rattle.spin_core.proofs.trace.Trace.watch.Statement.{statement}
 use Rattle.spin_core.proofs.trace.Trace.watch.Code as code
-use Rattle.spin_core.proofs.WalkSteps.{all_dropped, all_go}
+use Rattle.spin_core.proofs.WalkSteps.{says}
+use Rattle.spin_core.proofs.Walking.{walks, as_shr}
 
 pub watch_spec : {M : Type 1} → statement M
 watch_spec 𝓤 𝓛 𝓜 𝓡 wired T S L N =
-    let H = 𝓛.H in let 𝓣 = tables 𝓤 H 𝓜 𝓡 𝓡.env in let T' : RattleType = param 0 T in let S' : RattleType = param 1 S in let En = ended T S in
-    let inst = layouts (a_type ∷ a_type ∷ []) (T, (S, tt)) in let fn = inst_fn inst code.function in let c = clauses T S 𝓛 𝓜.mem 𝓡.returns in
+    let H = 𝓛.H in let 𝓣 = tables 𝓤 H 𝓜 𝓡 𝓡.env in let T' : RattleType = param 0 T in let S' : RattleType = param 1 S in
+    let fn = inst_fn (layouts (a_type ∷ a_type ∷ []) (T, (S, tt))) code.function in
     let cv = T'.coded in let All : RattleType = T' in let Lr : RattleType = Trace.the_row T' S' in
-    let hs = all_dropped En.signature.params En.kept in
-    proved 𝓛 En hs c 𝓜 𝓡 (all_go 𝓛 En.signature.params En.kept (λ κs x f. refl, tt)) (#self inst) fn (code.unfolded 𝓤 H 𝓜 𝓡 wired (T, (S, tt)))
-    (λ κs. (shr_vals, tt)) (λ κs. (shr_Tells (named 0) κs.0 Lr, tt)) (λ κs qs bounds a gh are.
-    let me = a.0.now in let u : Val = vptr a.0.ref_ptr.0 a.0.ref_ptr.1 in
-    let y : (walk_of 𝓛 En hs c).Ghost = ((κs, qs, bounds, a, (u ∷ [], tt)), gh) in let Post : Val → SProp 𝓤 = (walk_of 𝓛 En hs c).post y in let toks : Fml = fsep (flft κs.0 qs.0) (fsep (flft κs.1.0 qs.1.0) (fsep (flft κs.1.1.0 qs.1.1.0) ftrue)) in
-    qed 𝓛 ((‵ toks ⊛ ‵ (owns (types_at En.signature.params κs) a y.0.4)) ∷ raw ((c κs a).requires gh) ∷ []) ∵ keep ! (0 ∷ []) $ split ! $
+    walks 𝓛 (ended T S) (clauses T S 𝓛 𝓜.mem 𝓡.returns) 𝓜 𝓡 (λ κs x f. refl, tt) _ fn (code.unfolded 𝓤 H 𝓜 𝓡 wired (T, (S, tt)))
+    (λ κs. (as_shr (named 0) κs.0 Lr, tt)) (λ κs qs bounds a gh are Post out.
+    let me = a.0.now in
     fsplit ! $ move ! (2 ∷ []) $ fsplit ! $ fsplit ! $ keep ! (1 ∷ 3 ∷ 4 ∷ []) $
-    enter ! 𝓣.C 𝓣.Λ fn (u ∷ []) Post $ alloc_all ! (λ l. pass_all ! refl ((tt, tt), tt) $
+    alloc_all ! (λ l. pass_all ! refl ((tt, tt), tt) $
     use1 𝓛 (‵ (hidden_shr (Beside All S') κs.0 (me.word, (record {}, tt)) a.0.ref_ptr.0 a.0.ref_ptr.1) ⊛ ‵ (fhide (log_shares cv.code me.name me.entries κs.0))) (lent_out 𝓛 (Trace.struct T' S') (Trace.the_codes T.Denot S.Denot T'.coded S'.coded (marker.the_row All).coded) (Trace.the_heap T' S') (Trace.the_lent T' S') κs.0 me a.0.ref_ptr.0 a.0.ref_ptr.1) $ split ! $ drop ! $ unhide ! $
     shr_bor-open ! tt (steps.part_halves 𝓛 cv me.name me.entries) (λ q. move ! (1 ∷ []) $
     use1 𝓛 (‵ (log_part cv.code me.name me.entries q) ⊛ ‵ (known_owns cv.code me.name me.entries)) (steps.shows 𝓛 cv me.name q me.entries) $ split ! $ move ! (2 ∷ 0 ∷ []) $ obor_close ! tt $ drop ! $ move ! (1 ∷ []) $
     use0 𝓛 (‵ ((Token (All)).own_val (record {}, tt) (token ∷ []))) (token_made (All) 𝓛) $ fjoin ! $
     sets ! (agg ! (no_more !)) refl (tt, tt) $ sets ! (agg ! (and_then ! (get ! refl) (no_more !))) refl (tt, (tt, tt)) $
-    move ! (1 ∷ 2 ∷ []) $ fjoin ! $ nothing ! $ nothing ! $ fjoin ! $
-    returns ! (look_at ! 0 refl) $ free_all ! refl $ keep ! (1 ∷ 0 ∷ 2 ∷ []) $ by ! (ends 𝓛 En hs c y token (record { marker = record {}; name = me.name; entries = me.entries }) (tt, tt) (tt, tt) (fact_i 𝓤 _ (emp 𝓤) (refl, refl))))))
+    move ! (1 ∷ 2 ∷ []) $ fjoin ! $ move ! (1 ∷ []) $
+    says ! ((me.name ≡ me.name) × (me.entries ≡ me.entries)) (refl, refl) $
+    returns ! (look_at ! 0 refl) $ free_all ! refl $ keep ! (2 ∷ 1 ∷ 0 ∷ []) $ by ! (out token (record { marker = record {}; name = me.name; entries = me.entries })))))
