@@ -105,6 +105,49 @@ module _ {W V C L A : Type 0} {t : Table W V C L A} (n : Notes t) where
   Means p s c put None = is_open s c ≡ false
   Means p s c put (Some x) = IsOpenStep s p (Some c) × (t.memory.numbers (put x) ≡ encoded t.lock_kind (apply s c)) × n.Shape (apply s c)
 
+  abbrev pub MeansMade : {X : Type 0} → ℕ → Plain → Change → (X → W) → Option X → Type 0
+  MeansMade p s c put None = Unit {0}
+  MeansMade p s c put (Some x) = Means p s c put (Some x)
+
+  -- What has to be shown of a step of a call that has made these plain steps. `Comes` says that the call continues or is
+  -- answered correctly.
+  module _ (p : ℕ) (what : Asked) (s : Plain) (w : W) (made : List Change) (Comes : Bool → Option Change → StepKind → Branch → Next L A → Type 0) where
+    -- what has to be shown of an act on the i-th word, if this word is the number n
+    abbrev pub OwesOn : ℕ → ℕ → Act W L A → Type 0
+    OwesOn i n (load next) = Comes false None plain goes (next n)
+    OwesOn i n (load_if test a b) =
+        let looking = by_step (look_kind what) in
+        (test n ≡ true → Comes false None looking goes (a n)) × (test n ≡ false → Comes false None looking goes (b n))
+    OwesOn i n (load_for f step found missed) =
+        Means p s (step p) (λ j. t.memory.put i j w) (f n) × (is_some (f n) ≡ true → Comes false None plain finds_open (found n))
+        × (is_open s (step p) ≡ false → Comes false None plain (misses (step p)) missed)
+    OwesOn i n (enter test step won lost) =
+        let looking = by_step (look_kind what) in
+        Means p s (step p) (λ j. w) (passing (test n) n) × Comes false (Some (step p)) looking goes won
+        × (is_open s (step p) ≡ false → Comes false None looking (misses (step p)) lost)
+    OwesOn i n (exchange operation step won lost) =
+        Means p s (step p) (λ j. t.memory.put i j w) (tried operation n) × Comes false (Some (step p)) plain goes won
+        × (is_open s (step p) ≡ false → Comes false None plain (misses (step p)) (lost n))
+    OwesOn i n (weak_exchange j f step won lost) =
+        Means p s (step p) (λ j. t.memory.put i j w) (tried (swap j f) n) × Comes false (Some (step p)) plain goes won
+        × (is_open s (step p) ≡ false → Comes false None plain (misses (step p)) lost) × Comes true None weak goes lost
+        × (what.is_weak ≡ true) × (made ≡ what.before_weakly p)
+    OwesOn i n (attempt j f step won lost) =
+        MeansMade p s (step p) (λ j. t.memory.put i j w) (guessed j f n) × (is_some (guessed j f n) ≡ true → Comes false (Some (step p)) plain goes won)
+        × (guessed j f n ≡ None → Comes false None plain goes lost) × (is_answer lost ≡ true)
+    OwesOn i n (retry j f step won found missed) =
+        Means p s (step p) (λ j. t.memory.put i j w) (f n) × (n ≡ j → Comes false (Some (step p)) again goes won)
+        × (FindsAnother (limit t.lock_kind what) (n == j) (is_some (f n)) → Comes false None again loses (found n))
+        × (is_open s (step p) ≡ false → Comes false None again (misses (step p)) missed)
+    OwesOn i n (store can operation step next) =
+        (can n ≡ true) × Means p s (step p) (λ j. t.memory.put i j w) (Some (performed operation n)) × Comes false (Some (step p)) plain goes next
+    OwesOn i n (section can f step won lost) =
+        (can w ≡ true) × Means p s (step p) (λ u. u) (f w) × Comes false (Some (step p)) plain goes (won w)
+        × (is_open s (step p) ≡ false → Comes false None plain (misses (step p)) (lost w))
+
+    abbrev pub OwesBy : ℕ → Act W L A → Type 0
+    OwesBy i act = OwesOn (place_of i act) (number_at t.memory (place_of i act) w) act
+
   module _ (p : ℕ) (k : CallOf W L A) (h : Option Hold) (s : Plain) (w : W) (span : List Mark) (row : Row) where
     -- The call continues correctly: the step turns this row into the row `to` of the next point.
     pub record LeadsTo (step : Option Change) (r : StepKind) (branch : Branch) (l : L) (to : Row) : Type 0 where
@@ -131,41 +174,8 @@ module _ {W V C L A : Type 0} {t : Table W V C L A} (n : Notes t) where
     Follows weakly step r branch (Continue l) = FollowsRow step r branch l (row_at (k.asks h) h (k.point l h))
     Follows weakly step r branch (Answers a after) = EndsBy weakly step r a after
 
-    -- what has to be shown of an act on the i-th word, if this word is the number n
-    abbrev pub OwesOn : ℕ → ℕ → Act W L A → Type 0
-    OwesOn i n (load next) = Follows false None plain goes (next n)
-    OwesOn i n (load_if test a b) =
-        let looking = by_step (look_kind (k.asks h)) in
-        (test n ≡ true → Follows false None looking goes (a n)) × (test n ≡ false → Follows false None looking goes (b n))
-    OwesOn i n (load_for f step found missed) =
-        Means p s (step p) (λ j. t.memory.put i j w) (f n) × (is_some (f n) ≡ true → Follows false None plain finds_open (found n))
-        × (is_open s (step p) ≡ false → Follows false None plain (misses (step p)) missed)
-    OwesOn i n (enter test step won lost) =
-        let looking = by_step (look_kind (k.asks h)) in
-        Means p s (step p) (λ j. w) (passing (test n) n) × Follows false (Some (step p)) looking goes won
-        × (is_open s (step p) ≡ false → Follows false None looking (misses (step p)) lost)
-    OwesOn i n (exchange operation step won lost) =
-        Means p s (step p) (λ j. t.memory.put i j w) (tried operation n) × Follows false (Some (step p)) plain goes won
-        × (is_open s (step p) ≡ false → Follows false None plain (misses (step p)) (lost n))
-    OwesOn i n (weak_exchange j f step won lost) =
-        Means p s (step p) (λ j. t.memory.put i j w) (tried (swap j f) n) × Follows false (Some (step p)) plain goes won
-        × (is_open s (step p) ≡ false → Follows false None plain (misses (step p)) lost) × Follows true None weak goes lost
-        × ((k.asks h).is_weak ≡ true) × (row.made p ≡ (k.asks h).before_weakly p)
-    OwesOn i n (attempt j f step won lost) =
-        ((to : ℕ) → guessed j f n ≡ Some to → Means p s (step p) (λ j. t.memory.put i j w) (Some to) × Follows false (Some (step p)) plain goes won)
-        × (guessed j f n ≡ None → Follows false None plain goes lost) × (is_answer lost ≡ true)
-    OwesOn i n (retry j f step won found missed) =
-        Means p s (step p) (λ j. t.memory.put i j w) (f n) × (n ≡ j → Follows false (Some (step p)) again goes won)
-        × (FindsAnother (limit t.lock_kind (k.asks h)) (n == j) (is_some (f n)) → Follows false None again loses (found n))
-        × (is_open s (step p) ≡ false → Follows false None again (misses (step p)) missed)
-    OwesOn i n (store can operation step next) =
-        (can n ≡ true) × Means p s (step p) (λ j. t.memory.put i j w) (Some (performed operation n)) × Follows false (Some (step p)) plain goes next
-    OwesOn i n (section can f step won lost) =
-        (can w ≡ true) × Means p s (step p) (λ u. u) (f w) × Follows false (Some (step p)) plain goes (won w)
-        × (is_open s (step p) ≡ false → Follows false None plain (misses (step p)) (lost w))
-
     abbrev pub Owes : ℕ → Act W L A → Type 0
-    Owes i act = OwesOn (place_of i act) (number_at t.memory (place_of i act) w) act
+    Owes = OwesBy p (k.asks h) s w (row.made p) Follows
 
   abbrev pub OwesRow : ℕ → CallOf W L A → L → Option Hold → Plain → W → List Mark → Option Row → Type 0
   OwesRow p k l h s w span None = Unit {0}
