@@ -1,13 +1,50 @@
 -- The cases of an event: its move is skipped, or is open and has the result of its kind. What holds in each of these
 -- cases holds of every event.
-use Rattle.spin_world_core.proofs.Names.{seat_of, ◌≡◌, ℕ, Bool, true, false, Option, Some, None, is_some, refl, ap, Hold, Seat, Idle, Calling, Holding, Leaked, Next, Move, Begin, Step, Weak, Read, Write, Leak, OwnerGet, OwnerSet, StepKind, plain, weak, Machine, Happened, skipped, begun, goes_on, refuses, resting, read_by, written_by, may_read, may_write, is_owners, owner_gets, owner_sets, Seen, Scene, scene, scene_at, scene_of, is_open_move}
+use Rattle.spin_world_core.proofs.Names.{seat_of, ◌≡◌, ℕ, Bool, true, false, Option, Some, None, is_some, refl, ap, Hold, Seat, Idle, Calling, Holding, Leaked, Next, Move, Begin, Step, Weak, Read, Write, Leak, OwnerGet, OwnerSet, StepKind, plain, weak, Machine, Happened, skipped, begun, goes_on, refuses, resting, read_by, written_by, may_read, may_write, is_owners, owner_gets, owner_sets, Seen, Scene, scene, scene_at, scene_of, is_open_move, State, Outcome, Change, moves_at, ComesTo, slice_get, slice_get-map, seen_by_owner, arith}
+use Rattle.std.specs.Prelude.{◌↔◌}
+use Rattle.spin_model.specs.declared.schedule.Outcome.TheVariants as outcome
+use Rattle.spin_world_core.specs.Runs.{StepLeaves, is_in_place}
+use Rattle.spin_world_core.proofs.Lists.{get-set_other}
 
 -- the seat of a party that holds this, or has leaked it
 abbrev pub seat_with : {C L : Type 0} → Bool → Hold → Seat C L
 seat_with true h = Holding h
 seat_with false h = Leaked h
 
+-- if the move is a step, it changes the value only where a closure completes
+abbrev pub LeavesBy : {V C : Type 0} → Move C V → Option Change → Option V → Option V → Type 0
+LeavesBy Step step old new = StepLeaves step old new
+LeavesBy move step old new = Unit {0}
+
+-- What every move leads to, whatever the machine
+module _ {W V C L A : Type 0} (m : Machine W V C L A) (s : State W V C L) (p : ℕ) (move : Move C V) (o : Option (Seat C L)) where
+  abbrev result : Outcome A V
+  result = (moves_at m s p move o).outcome
+
+  abbrev next : State W V C L
+  next = (moves_at m s p move o).next
+
+  pub skips_closed : (result ≡ outcome.Skipped) ↔ (is_open_move m s move o ≡ false)
+  skips_closed = (λ e. grind arith, λ e. grind arith)
+
+  pub moves_in_place : (result ≡ outcome.Skipped → ⊥) → is_in_place m.owned move o ≡ true
+  moves_in_place happened = grind (arith, happened)
+
+  pub reads_value : (r value : Option V) → s.value ≡ value → result ≡ outcome.Value r → r ≡ value
+  reads_value r value is e = grind arith
+
+  -- a move has the outcome of its kind
+  pub comes_to : (step : Option Change) → LeavesBy move step s.value next.value → (result ≡ outcome.Skipped → ⊥) → ComesTo move step s.value next.value result
+  comes_to step leaves happened = grind (arith, leaves, happened)
+
+  -- another party that is in a call stays at its point
+  pub keeps_calling : (q : ℕ) (c : C) (l : L) (h : Option Hold) → (p ≡ q → ⊥) → slice_get s.seats q ≡ Some (Calling c l h) → slice_get next.seats q ≡ Some (Calling c l h)
+  keeps_calling q c l h ne is = grind (arith, get-set_other s.seats p q, slice_get-map (seen_by_owner {C = C} {L = L}) s.seats q)
+
 module _ {W V C L A : Type 0} (m : Machine W V C L A) (seen : Seen W V C L) (p : ℕ) where
+  pub skipped_scene : (move : Move C V) (o : Option (Seat C L)) → (moves_at m seen.state p move o).outcome ≡ outcome.Skipped → (scene_at m seen p move o).after ≡ seen
+  skipped_scene move o e = grind arith
+
   abbrev pub SitsAt : Option (Seat C L) → Type 0
   SitsAt o = seat_of seen p ≡ o
 
