@@ -10,15 +10,16 @@ use Rattle.spin_world_core.proofs.Shapes.{Notes, OwesBy, is_answer, row_of, Know
 abbrev Aimed : {W L A : Type 0} → Option Ask → Option Ask → Act W L A → List Change → ℕ → Type 0
 Aimed tries due act made p = aim_by tries act p ≡ aimed p (aim_of tries due made) (aim_by tries act p)
 
-aims_sure : {W L A : Type 0} (tries due : Option Ask) (act : Act W L A) (made : List Change) (ask : Ask) (p : ℕ) → tries ≡ None → due ≡ Some ask → Aimed tries due act made p → sure_by act p ≡ aimed p (Some ask) (sure_by act p)
-aims_sure tries due act made ask p none is aims = grind arith
-
 aims_try : {W L A : Type 0} (tries due : Option Ask) (act : Act W L A) (made : List Change) (ask : Ask) (p : ℕ) → tries ≡ Some ask → made ≡ [] → Aimed tries due act made p → aim_by (Some ask) act p ≡ aimed p (Some ask) (aim_by (Some ask) act p)
 aims_try tries due act made ask p is none aims = subst (λ cs. Aimed (Some ask) due act cs p) none (subst (λ k. Aimed k due act made p) is aims)
 
--- a call that tries a request without a look first waits, and is no try
-goes_waiting : (what : Asked) (made : List Change) (ask : Ask) → goes_of what made ≡ Some ask → (what.waits ≡ true) × (tries_of what ≡ None)
-goes_waiting what made ask is = grind arith
+-- If a try is due and what it asks is open, the call gets it by this step. If no try is due, the step is a look.
+gets_by : {W L A : Type 0} (kind : LockKind) (what : Asked) (act : Act W L A) (p : ℕ) (s : Plain) (span : List Mark) (step : Option Change) (made : List Change)
+    → own p span ≡ made → Needs (need_of kind what made act) p span → Aimed (tries_of what) (goes_of what made) act made p
+    → ((e : Change) → sure_by act p ≡ Some e → is_open s e ≡ true → step ≡ Some e) → Gets kind p what span s step (by_step (step_kind_by what act))
+gets_by kind what act p s span step made is needs aims got = λ ask aim.
+    subst (λ cs. let way = way_of kind what cs in (is_due_by way p span ≡ true → is_open_to s p ask ≡ true → step ≡ Some (gets p ask)) × LooksElse way p span (by_step (step_kind_by what act)))
+    (sym is) (grind (arith, got (gets p ask), subst (λ cs. goes_of what cs ≡ Some ask) is aim))
 
 -- `ContinuesCounted` holds if a step that continues its call is a retry whenever its plain step is open but is not made
 counted_of : {W L A : Type 0} (change : W → Option Change) (s : Plain) (says : A → Said) (next : Next L A) (o : Option Change) (r : StepKind)
@@ -238,16 +239,6 @@ module _ {W V C L A B : Type 0} {t : Table W V C L A} {m : Machine W V C L B} {n
     refused : (next : Next L A) → Comes true None weak goes next → ShownHere true None weak goes w next
     refused next comes = record { opens = tt; belongs = tt; encodes = at.encodes; shape = at.shape; branched = tt; fails = λ e. absurd (cc (e)); comes = comes }
 
-    -- if a try is due and what it asks is open, the call gets it by this step
-    due_is : (act : Act W L A) (ask : Ask) (way : Way) (step : Option Change) → Needs (need (Some ask) way (rests act) (peeks act)) p span
-        → sure_by act p ≡ aimed p (Some ask) (sure_by act p) → ((e : Change) → sure_by act p ≡ Some e → is_open s e ≡ true → step ≡ Some e)
-        → is_due_by way p span ≡ true → is_open_to s p ask ≡ true → step ≡ Some (gets p ask)
-    due_is act ask way step needs aim got is may = grind (arith, got (gets p ask))
-
-    -- if no try is due, the step is a look
-    looks_else : (act : Act W L A) (what : Asked) (ask : Ask) (way : Way) → what.waits ≡ true → Needs (need (Some ask) way (rests act) (peeks act)) p span → LooksElse way p span (by_step (step_kind_by what act))
-    looks_else act what ask way waiting needs = grind arith
-
     abbrev Soon : Option Row → Type 0
     Soon o = AnswersRow n p (call_of n c) l h s w span (answers_by t (steps_alone what) w c l h) (what.waits) o
 
@@ -256,21 +247,6 @@ module _ {W V C L A B : Type 0} {t : Table W V C L A} {m : Machine W V C L B} {n
         let waits = and_parts _ _ may in
         let owed = subst (λ b. AnswersRow n p (call_of n c) l h s w span (answers_by t (steps_alone what) w c l h) b (Some row)) waits.0 soon in
         owed at (subst (λ (cs : List Change). what.is_open_next (is_empty cs) (arrived p span) p s ≡ true) known.made waits.1)
-
-    due_at : Aimed (tries_of what) (goes_of what (row.made p)) (t.act c l h) (row.made p) p → (step : Option Change)
-        → ((e : Change) → sure_by (t.act c l h) p ≡ Some e → is_open s e ≡ true → step ≡ Some e)
-        → Gets kind p what span s step (by_step (step_kind_by what (t.act c l h)))
-    due_at aims step got ask aim =
-        let act = t.act c l h in
-        let is = subst (λ cs. goes_of what cs ≡ Some ask) known.made aim in
-        let waits = goes_waiting what (row.made p) ask is in
-        let way = way_of kind what (row.made p) in
-        let needs = subst (λ o. Needs (need o way (rests act) (peeks act)) p span) is known.needs in
-        subst (λ cs. let way = way_of kind what cs in (is_due_by way p span ≡ true → is_open_to s p ask ≡ true → step ≡ Some (gets p ask))
-        × LooksElse way p span (by_step (step_kind_by what act))) (sym known.made) (
-          due_is act ask way step needs (aims_sure (tries_of what) _ act (row.made p) ask p waits.1 is aims) got,
-          looks_else act what ask way waits.0 needs,
-        )
 
     at_row : ((d : Change) → makes_by (t.act c l h) p ≡ Some d → is_step_of kind d ≡ true) → OwesHere (t.word l) (t.act c l h)
         → Aimed (tries_of what) (goes_of what (row.made p)) (t.act c l h) (row.made p) p → Soon (Some row)
@@ -283,7 +259,7 @@ module _ {W V C L A B : Type 0} {t : Table W V C L A} {m : Machine W V C L B} {n
           can = is.can;
           steps = rw (f.words w v c l h, values.tells) (moves_by is.step);
           counted = rw values.tells (counted_of _ s t.says _ _ _ (λ u d names. is.counts d (change_is _ act p u d names)));
-          due = due_at aims _ is.gets;
+          due = gets_by kind what act p s span _ (row.made p) known.made known.needs aims is.gets;
           tries_on = λ ask asks none.
               let aims = is.aims ask (aims_try (tries_of what) _ act (row.made p) ask p asks (sym known.made ∙ none) aims) in
               rw values.tells (tried_on _ _ _ is.step.opens is.step.branched is.step.fails ask _ asks aims is.step.comes);
