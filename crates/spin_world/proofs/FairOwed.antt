@@ -141,21 +141,16 @@ module _ {V : Type 0} (v : V) (cap patience : ℕ) where
   owes p Lock Unregister None s w span = λ at.
       let next = goes_on patience p s span (Some (stops_starving p)) plain refl (λ is. cc (is)) refl at.knows.1 in
       grind (arith, unstarve_means p s w, is_starving_still p s, next)
-  owes p TryLock First None s w span = grind (arith, lock_means p s w)
-  owes p TryLockStarver First None s w span = grind (arith, lock_means p s w, eqb-true w 1, word_locked w s, word_starved w s)
-  owes p IsLocked First None s w span = grind (arith, held p s w)
-  owes p Starve Load None s w span = grind (arith, starve_means p s w)
-  owes p Starve (Register n) None s w span = grind (arith, starve_means p s w)
-  owes p StarverTryLockFair First (Some Starver) s w span = grind (arith, lock_fair_means p s w)
-  owes p StarverTryLockFair Unregister (Some Starver) s w span = grind (arith, unstarve_means p s w, is_starving_still p s)
-  owes p StarverTryLock SetFlag (Some Starver) s w span = grind (arith, lock_starved_means p s w)
-  owes p StarverTryLock Unregister (Some Starver) s w span = grind (arith, unstarve_means p s w, is_starving_still p s)
-  owes p StarverLock SetFlag (Some Starver) s w span = grind (arith, lock_starved_means p s w)
-  owes p StarverLock Await (Some Starver) s w span = grind (arith, held p s w)
-  owes p StarverLock Unregister (Some Starver) s w span = grind (arith, unstarve_means p s w, is_starving_still p s)
-  owes p StarverDrop First (Some Starver) s w span = grind (arith, unstarve_means p s w, is_starving p s)
-  owes p Release First (Some Write) s w span = grind (arith, unlock_means p s w)
-  owes p _ _ _ s w span = tt
+  owes p Lock _ _ s w span = tt
+  owes p TryLock l h s w span = grind (arith, lock_means p s w)
+  owes p TryLockStarver l h s w span = grind (arith, lock_means p s w, eqb-true w 1, word_locked w s, word_starved w s)
+  owes p IsLocked l h s w span = grind (arith, held p s w)
+  owes p Starve l h s w span = grind (arith, starve_means p s w)
+  owes p StarverTryLockFair l h s w span = grind (arith, lock_fair_means p s w, unstarve_means p s w, is_starving_still p s)
+  owes p StarverTryLock l h s w span = grind (arith, lock_starved_means p s w, unstarve_means p s w, is_starving_still p s)
+  owes p StarverLock l h s w span = grind (arith, lock_starved_means p s w, held p s w, unstarve_means p s w, is_starving_still p s)
+  owes p StarverDrop l h s w span = grind (arith, unstarve_means p s w, is_starving p s)
+  owes p Release l h s w span = grind (arith, unlock_means p s w)
 
   -- If nobody disturbs the call, its exchange acquires a free lock, at once or after a look. A party that has begun to
   -- register then registers, gets the lock, and stops starving.
