@@ -42,7 +42,7 @@ module _ {V : Type 0} (v : V) where
         one_list = no_queue;
         calls = λ c h. (0, grind arith);
         own = λ c h said p. grind arith;
-        sound = λ p c l h. starts_sound flag (asks_of c h) p (begin_of (flag_table v) c h) (grind arith);
+        sound = λ p c l h. grind arith;
         aims = λ p c l h. grind arith;
         begins = λ p c h s. grind arith;
         others = λ p q c l h s step r span ne shape may belongs knows. tt;

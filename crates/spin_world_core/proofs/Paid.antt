@@ -4,7 +4,7 @@ use Rattle.spin_world_core.proofs.Steps.{told, played, GoesOnOpen, ContinuesCoun
 use Rattle.spin_world_core.proofs.Operating.{change_is, fits_made}
 use Rattle.spin_world_core.proofs.Spans.{own-mine, retries-mine}
 use Rattle.spin_world_core.proofs.Stands.{entries_at, stand_of, held_at, stand-mine}
-use Rattle.spin_world_core.proofs.Rows.{Known, Opened, OwesRight, Branch, goes, finds_open, loses, misses, Branched, may_spend, tries_open, need, need_of, Needs, rests, peeks, needs-mine, needs_first, spent-mine, goes_within, ends_within, any_map, moment_of, weakly_right, Row, IsSound, sound_at, Expects, expects-mine, none_spent, none_expected, known-other}
+use Rattle.spin_world_core.proofs.Rows.{Known, Opened, OwesRight, Branch, goes, finds_open, loses, misses, Branched, may_spend, tries_open, need, need_of, Needs, rests, peeks, needs-mine, needs_first, spent-mine, goes_within, ends_within, any_map, moment_of, weakly_right, Row, IsSound, Expects, expects-mine, none_spent, none_expected, known-other}
 use Rattle.spin_world_core.proofs.Shapes.{Notes, OwesBy, is_answer, row_of, KnowsRow, Knows, call_of, AtPoint, InCall, FollowsRow, Follows, Owes, OwesRow, goes_by, answers_by, AnswersRow, BeginsRow, BeginsAt, sure_by, aim_by, aim_of, aimed, aimed_at, Pays}
 
 abbrev Aimed : {W L A : Type 0} → Option Ask → Option Ask → Act W L A → List Change → ℕ → Type 0
@@ -133,9 +133,6 @@ module _ {W V C L A B : Type 0} {t : Table W V C L A} {m : Machine W V C L B} {n
       let left = subst (λ next. goes_by next true (λ l. answers_by t k now c l h) ≡ true) (f.continues w v c l h j is) soon in
       subst (λ u. AnswersWithin (played t m) k u c j h) (sym (f.words w v c l h)) (answers_within k now c j h left)
 
-  sound_here : (p : ℕ) (c : C) (l : L) (h : Option Hold) → IsSound kind (t.asks c h) p (row_of n c l h)
-  sound_here p c l h = sound_at kind (t.asks c h) h p (n.point c l h) (pays.sound p c l h)
-
   -- a step of the call, at the row of its point
   module _ (p : ℕ) (c : C) (l : L) (h : Option Hold) (s : Plain) (w : W) (span : List Mark) (row : Row)
       (at : AtPoint n p (call_of n c) l h s w span (Some row)) (sound : IsSound kind (t.asks c h) p (Some row)) where
@@ -201,7 +198,7 @@ module _ {W V C L A B : Type 0} {t : Table W V C L A} {m : Machine W V C L B} {n
 
       followed : (weakly : Bool) (next : Next L A) → Comes weakly step r branch next → NextIs n (move_of weakly) p c h (apply_some s step) (spanned step r) (told t.says next)
       followed weakly (Continue j) follows =
-          let there = goes_to j (row_of n c j h) (sound_here p c j h) follows in
+          let there = goes_to j (row_of n c j h) (pays.sound p c j h) follows in
           record { knows = there.0; own_so_far = there.1; in_time = there.2 }
       followed weakly (Answers a after) follows =
           let made = any_map (λ steps. row.made p ++ option_to_list step ≡ steps) (λ steps. own p (spanned step r) ≡ steps)
@@ -275,7 +272,7 @@ module _ {W V C L A B : Type 0} {t : Table W V C L A} {m : Machine W V C L B} {n
   -- a party in a call takes its next step
   pub at_step : {p : ℕ} {c : C} {l : L} {h : Option Hold} {s : Plain} {w : W} {span : List Mark} (v : Option V) → InCall n p c l h s w span
       → HasPhase kind.makes_value s.phase v → AtStep m n p c l h s v w span
-  at_step {p} {c} {l} {h} {s} {w} {span} v here phase = by (row_of n c l h) here (sound_here p c l h) (pays.owes p c l h s w span) (pays.aims p c l h)
+  at_step {p} {c} {l} {h} {s} {w} {span} v here phase = by (row_of n c l h) here (pays.sound p c l h) (pays.owes p c l h s w span) (pays.aims p c l h)
       (pays.soon p c l h s w span)
     where
       by : (o : Option Row) → AtPoint n p (call_of n c) l h s w span o → IsSound kind (t.asks c h) p o → OwesRow n p (call_of n c) l h s w span o

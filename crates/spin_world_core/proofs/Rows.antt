@@ -189,25 +189,10 @@ abbrev pub IsSound : LockKind → Asked → ℕ → Option Row → Type 0
 IsSound kind what p None = Unit {0}
 IsSound kind what p (Some row) = (is_timely (limit kind what) (row.made p) row.spent ≡ true) × AnyOf (λ steps. row.made p ++ row.rest p ≡ steps) (own_steps (what.answers row.said) p)
 
--- what has to be shown so that the row of a point is sound
-abbrev pub SoundAt : LockKind → Asked → ℕ → Point → Type 0
-SoundAt kind what p nowhere = Unit {0}
-SoundAt kind what p (looked k) = (is_timely (limit kind what) [] k ≡ true) × (is_empty (own_steps (what.answers what.most) p) ≡ false)
-SoundAt kind what p (onward row) = IsSound kind what p (Some row)
-
-first_is : (all : List (List Change)) → is_empty all ≡ false → AnyOf (λ steps. first_of all ≡ steps) all
-first_is [] some = absurd (true≢false some)
-first_is (steps ∷ more) some = inl refl
-
-pub sound_at : (kind : LockKind) (what : Asked) (h : Option Hold) (p : ℕ) (point : Point) → SoundAt kind what p point → IsSound kind what p (row_at what h point)
-sound_at kind what h p nowhere sound = tt
-sound_at kind what h p (looked k) sound = (sound.0, first_is _ sound.1)
-sound_at kind what h p (onward row) sound = sound
-
 -- the point at which a call begins is sound, if the point `looked 0` is
-pub starts_sound : {L : Type 0} (kind : LockKind) (what : Asked) (p : ℕ) (o : Option L) → SoundAt kind what p (looked 0) → SoundAt kind what p (starts o)
-starts_sound kind what p None sound = tt
-starts_sound kind what p (Some l) sound = sound
+pub starts_sound : {L : Type 0} (kind : LockKind) (what : Asked) (h : Option Hold) (p : ℕ) (o : Option L) → IsSound kind what p (row_at what h (looked 0)) → IsSound kind what p (row_at what h (starts o))
+starts_sound kind what h p None sound = tt
+starts_sound kind what h p (Some l) sound = sound
 
 -- If the next step is a retry that expects k, then others have changed the first word at least as often as retries have
 -- failed, and once more if the word is no longer k. Also, the step function does not refuse k.
