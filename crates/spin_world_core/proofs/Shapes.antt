@@ -24,12 +24,9 @@ is_answer (Answers a after) = true
 
 -- the plain step that a step makes whenever this plain step is open
 abbrev pub sure_by : {W L A : Type 0} → Act W L A → ℕ → Option Change
-sure_by (enter test step won lost) p = Some (step p)
-sure_by (exchange operation step won lost) p = Some (step p)
-sure_by (weak_exchange k f step won lost) p = Some (step p)
-sure_by (store can operation step next) p = Some (step p)
-sure_by (section can f step won lost) p = Some (step p)
-sure_by _ p = None
+sure_by (attempt k f step won lost) p = None
+sure_by (retry k f step won found missed) p = None
+sure_by act p = makes_by act p
 
 -- the plain step at which a step aims: for a try, also the plain step that a load only looks for
 abbrev pub aim_by : {W L A : Type 0} → Option Ask → Act W L A → ℕ → Option Change
