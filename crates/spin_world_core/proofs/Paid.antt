@@ -5,7 +5,7 @@ use Rattle.spin_world_core.proofs.Operating.{change_is, fits_made}
 use Rattle.spin_world_core.proofs.Spans.{own-mine, retries-mine}
 use Rattle.spin_world_core.proofs.Stands.{entries_at, stand_of, held_at, stand-mine}
 use Rattle.spin_world_core.proofs.Rows.{Known, Opened, OwesRight, Branch, goes, finds_open, loses, misses, Branched, may_spend, tries_open, need, need_of, Needs, rests, peeks, needs-mine, needs_first, spent-mine, goes_within, ends_within, any_map, moment_of, weakly_right, Row, IsSound, Expects, expects-mine, none_spent, none_expected, known-other}
-use Rattle.spin_world_core.proofs.Shapes.{Notes, OwesBy, is_answer, row_of, KnowsRow, Knows, call_of, AtPoint, InCall, FollowsRow, Follows, Owes, OwesRow, goes_by, answers_by, AnswersRow, BeginsRow, BeginsAt, sure_by, aim_by, aim_of, aimed, aimed_at, Pays}
+use Rattle.spin_world_core.proofs.Shapes.{Notes, OwesBy, is_answer, row_of, KnowsRow, Knows, AtPoint, InCall, FollowsRow, Follows, Owes, OwesRow, goes_by, answers_by, AnswersRow, BeginsRow, BeginsAt, sure_by, aim_by, aim_of, aimed, aimed_at, Pays}
 
 abbrev Aimed : {W L A : Type 0} → Option Ask → Option Ask → Act W L A → List Change → ℕ → Type 0
 Aimed tries due act made p = aim_by tries act p ≡ aimed p (aim_of tries due made) (aim_by tries act p)
@@ -135,7 +135,7 @@ module _ {W V C L A B : Type 0} {t : Table W V C L A} {m : Machine W V C L B} {n
 
   -- a step of the call, at the row of its point
   module _ (p : ℕ) (c : C) (l : L) (h : Option Hold) (s : Plain) (w : W) (span : List Mark) (row : Row)
-      (at : AtPoint n p (call_of n c) l h s w span (Some row)) (sound : IsSound kind (t.asks c h) p (Some row)) where
+      (at : AtPoint n p c l h s w span (Some row)) (sound : IsSound kind (t.asks c h) p (Some row)) where
     abbrev what : Asked
     what = t.asks c h
 
@@ -143,13 +143,13 @@ module _ {W V C L A B : Type 0} {t : Table W V C L A} {m : Machine W V C L B} {n
     known = at.knows.0
 
     abbrev Comes : Bool → Option Change → StepKind → Branch → Next L A → Type 0
-    Comes = Follows n p (call_of n c) h s w span row
+    Comes = Follows n p c h s w span row
 
     abbrev ComesRow : Option Change → StepKind → Branch → L → Option Row → Type 0
-    ComesRow = FollowsRow n p (call_of n c) h s w span row
+    ComesRow = FollowsRow n p c h s w span row
 
     abbrev OwesHere : ℕ → Act W L A → Type 0
-    OwesHere = Owes n p (call_of n c) h s w span row
+    OwesHere = Owes n p c h s w span row
 
     abbrev spanned : Option Change → StepKind → List Mark
     spanned step r = mark_of p step r s ∷ span
@@ -167,7 +167,7 @@ module _ {W V C L A B : Type 0} {t : Table W V C L A} {m : Machine W V C L B} {n
     module _ (step : Option Change) (r : StepKind) (branch : Branch) (may : IsOpenStep s p step) (branched : Branched branch s step r)
         (lost : is_again r ≡ true → step ≡ None → failures p span < changes kind p span) where
       goes_to : (j : L) (o : Option Row) → IsSound kind what p o → ComesRow step r branch j o
-          → KnowsRow n (call_of n c) j h p (apply_some s step) (spanned step r) o
+          → KnowsRow n c j h p (apply_some s step) (spanned step r) o
           × ((said : Said) × AnyOf (λ steps. IsBeginning (own p (spanned step r)) steps) (own_steps (what.answers said) p))
           × ContinuesWithin limited kind p (spanned step r)
       goes_to j None sound follows = absurd follows
@@ -237,12 +237,12 @@ module _ {W V C L A B : Type 0} {t : Table W V C L A} {m : Machine W V C L B} {n
     refused next comes = record { opens = tt; belongs = tt; encodes = at.encodes; shape = at.shape; branched = tt; fails = λ e. absurd (cc (e)); comes = comes }
 
     abbrev Soon : Option Row → Type 0
-    Soon o = AnswersRow n p (call_of n c) l h s w span (answers_by t (steps_alone what) w c l h) (what.waits) o
+    Soon o = AnswersRow n p c l h s w span (answers_by t (steps_alone what) w c l h) (what.waits) o
 
     soon_is : Soon (Some row) → is_open_now p what span s ≡ true → answers_by t (steps_alone what) w c l h ≡ true
     soon_is soon may =
         let waits = and_parts _ _ may in
-        let owed = subst (λ b. AnswersRow n p (call_of n c) l h s w span (answers_by t (steps_alone what) w c l h) b (Some row)) waits.0 soon in
+        let owed = subst (λ b. AnswersRow n p c l h s w span (answers_by t (steps_alone what) w c l h) b (Some row)) waits.0 soon in
         owed at (subst (λ (cs : List Change). what.is_open_next (is_empty cs) (arrived p span) p s ≡ true) known.made waits.1)
 
     at_row : ((d : Change) → makes_by (t.act c l h) p ≡ Some d → is_step_of kind d ≡ true) → OwesHere (t.word l) (t.act c l h)
@@ -275,9 +275,9 @@ module _ {W V C L A B : Type 0} {t : Table W V C L A} {m : Machine W V C L B} {n
   at_step {p} {c} {l} {h} {s} {w} {span} v here phase = by (row_of n c l h) here (pays.sound p c l h) (pays.owes p c l h s w span) (pays.aims p c l h)
       (pays.soon p c l h s w span)
     where
-      by : (o : Option Row) → AtPoint n p (call_of n c) l h s w span o → IsSound kind (t.asks c h) p o → OwesRow n p (call_of n c) l h s w span o
+      by : (o : Option Row) → AtPoint n p c l h s w span o → IsSound kind (t.asks c h) p o → OwesRow n p c l h s w span o
           → aim_by (tries_of (t.asks c h)) (t.act c l h) p ≡ aimed_at p (t.asks c h) o (aim_by (tries_of (t.asks c h)) (t.act c l h) p)
-          → AnswersRow n p (call_of n c) l h s w span (answers_by t (steps_alone (t.asks c h)) w c l h) ((t.asks c h).waits) o
+          → AnswersRow n p c l h s w span (answers_by t (steps_alone (t.asks c h)) w c l h) ((t.asks c h).waits) o
           → AtStep m n p c l h s v w span
       by None at sound owes aims soon = absurd at.knows
       by (Some row) at sound owes aims soon =
@@ -287,8 +287,8 @@ module _ {W V C L A B : Type 0} {t : Table W V C L A} {m : Machine W V C L B} {n
   module _ (p : ℕ) (c : C) (l : L) (h : Option Hold) (s : Plain) where
     -- another party's step keeps what the party knows
     others_at : (q : ℕ) (step : Option Change) (r : StepKind) (span : List Mark) (o : Option Row) → (q ≡ p → ⊥) → IsOpenStep s q step
-        → (n.Knows c l h p s span → n.Knows c l h p (apply_some s step) (mark_of q step r s ∷ span)) → KnowsRow n (call_of n c) l h p s span o
-        → KnowsRow n (call_of n c) l h p (apply_some s step) (mark_of q step r s ∷ span) o
+        → (n.Knows c l h p s span → n.Knows c l h p (apply_some s step) (mark_of q step r s ∷ span)) → KnowsRow n c l h p s span o
+        → KnowsRow n c l h p (apply_some s step) (mark_of q step r s ∷ span) o
     others_at q step r span None ne may stays knows = absurd knows
     others_at q step r span (Some row) ne may stays knows =
         (known-other p q s step r span ne kind (t.asks c h) (t.act c l h) row may knows.0, stays knows.1)
@@ -299,7 +299,7 @@ module _ {W V C L A B : Type 0} {t : Table W V C L A} {m : Machine W V C L B} {n
         others_at q step r span (row_of n c l h) ne may (pays.others p q c l h s step r span ne shape may belongs) knows
 
     -- what a party knows when its call begins
-    begins_at : (o : Option Row) → entries p s ≡ entries_held p h → BeginsRow n c l h p s o → KnowsRow n (call_of n c) l h p s [] o
+    begins_at : (o : Option Row) → entries p s ≡ entries_held p h → BeginsRow n c l h p s o → KnowsRow n c l h p s [] o
     begins_at None mine begins = absurd begins
     begins_at (Some row) mine begins =
         let first = needs_first (need_of kind (t.asks c h) (row.made p) (t.act c l h)) _ p begins.2 in (

@@ -4,13 +4,6 @@ use Rattle.spin_world_core.proofs.Operating.{fits_act, CallsFit, OwnFits, Operat
 use Rattle.spin_world_core.proofs.Stands.{stand_of, stand_after}
 use Rattle.spin_world_core.proofs.Rows.{Branch, goes, finds_open, loses, misses, MaySpend, MayContinue, OwesRight, OwesEnd, Row, Point, row_at, IsSound, RetryOwes, need_of, FoundBy, NoRetry, BeginsBy, Known}
 
--- What the table and the notes say of one call. What has to be shown of this call depends on nothing else.
-pub record CallOf (W L A : Type 0) : Type 1 where
-  pub asks : Option Hold → Asked
-  pub act : L → Option Hold → Act W L A
-  pub point : L → Option Hold → Point
-  pub Knows : L → Option Hold → ℕ → Plain → List Mark → Type 0
-
 -- A retry that lost has found a number that the step function does not refuse. If the limit is `registers_after`, this
 -- number also differs from the expected one.
 abbrev pub FindsAnother : Limit → Bool → Bool → Type 0
@@ -72,27 +65,24 @@ module _ {W V C L A : Type 0} {t : Table W V C L A} (n : Notes t) where
   abbrev pub row_of : C → L → Option Hold → Option Row
   row_of c l h = row_at (t.asks c h) h (n.point c l h)
 
-  abbrev pub call_of : C → CallOf W L A
-  call_of c = record { asks = λ h. t.asks c h; act = λ l h. t.act c l h; point = λ l h. n.point c l h; Knows = λ l h p s span. n.Knows c l h p s span }
-
   -- what a party in a call knows at a point with this row
-  abbrev pub KnowsRow : CallOf W L A → L → Option Hold → ℕ → Plain → List Mark → Option Row → Type 0
-  KnowsRow k l h p s span None = ⊥
-  KnowsRow k l h p s span (Some row) = Known t.lock_kind (k.asks h) (k.act l h) row p s span × k.Knows l h p s span
+  abbrev pub KnowsRow : C → L → Option Hold → ℕ → Plain → List Mark → Option Row → Type 0
+  KnowsRow c l h p s span None = ⊥
+  KnowsRow c l h p s span (Some row) = Known t.lock_kind (t.asks c h) (t.act c l h) row p s span × n.Knows c l h p s span
 
   abbrev pub Knows : C → L → Option Hold → ℕ → Plain → List Mark → Type 0
-  Knows c l h p s span = KnowsRow (call_of c) l h p s span (row_of c l h)
+  Knows c l h p s span = KnowsRow c l h p s span (row_of c l h)
 
   -- what holds when a party is about to step
-  pub record AtPoint (p : ℕ) (k : CallOf W L A) (l : L) (h : Option Hold) (s : Plain) (w : W) (span : List Mark) (o : Option Row) : Type 0 where
+  pub record AtPoint (p : ℕ) (c : C) (l : L) (h : Option Hold) (s : Plain) (w : W) (span : List Mark) (o : Option Row) : Type 0 where
     pub encodes : t.memory.numbers w ≡ encoded t.lock_kind s
     pub shape : n.Shape s
     pub exclusive : IsExclusive s
-    pub knows : KnowsRow k l h p s span o
+    pub knows : KnowsRow c l h p s span o
     pub retries : failures p span ≤ changes t.lock_kind p span
 
   abbrev pub InCall : ℕ → C → L → Option Hold → Plain → W → List Mark → Type 0
-  InCall p c l h s w span = AtPoint p (call_of c) l h s w span (row_of c l h)
+  InCall p c l h s w span = AtPoint p c l h s w span (row_of c l h)
 
   -- What has to be shown
 
@@ -145,22 +135,22 @@ module _ {W V C L A : Type 0} {t : Table W V C L A} (n : Notes t) where
     abbrev pub OwesBy : ℕ → Act W L A → Type 0
     OwesBy i act = OwesOn (place_of i act) (number_at t.memory (place_of i act) w) act
 
-  module _ (p : ℕ) (k : CallOf W L A) (h : Option Hold) (s : Plain) (w : W) (span : List Mark) (row : Row) where
+  module _ (p : ℕ) (c : C) (h : Option Hold) (s : Plain) (w : W) (span : List Mark) (row : Row) where
     -- The call continues correctly: the step turns this row into the row `to` of the next point.
     pub record LeadsTo (step : Option Change) (r : StepKind) (branch : Branch) (l : L) (to : Row) : Type 0 where
       pub stands : stand_after s.next step row.stand ≡ Some to.stand
       pub made : row.made p ++ option_to_list step ≡ to.made p
-      pub spends : MayContinue (tries_of (k.asks h)) branch step p s span
-          (MaySpend (limit t.lock_kind (k.asks h)) branch (to.made p) row.spent to.spent p t.lock_kind (mark_of p step r s ∷ span))
-      pub finds : FoundBy (need_of t.lock_kind (k.asks h) (to.made p) (k.act l h)) (RetryOwes (k.act l h) (number_at t.memory 0 w) step) step r s
-      pub knows : k.Knows l h p (apply_some s step) (mark_of p step r s ∷ span)
+      pub spends : MayContinue (tries_of (t.asks c h)) branch step p s span
+          (MaySpend (limit t.lock_kind (t.asks c h)) branch (to.made p) row.spent to.spent p t.lock_kind (mark_of p step r s ∷ span))
+      pub finds : FoundBy (need_of t.lock_kind (t.asks c h) (to.made p) (t.act c l h)) (RetryOwes (t.act c l h) (number_at t.memory 0 w) step) step r s
+      pub knows : n.Knows c l h p (apply_some s step) (mark_of p step r s ∷ span)
 
     -- The call is answered correctly.
     pub record EndsBy (weakly : Bool) (step : Option Change) (r : StepKind) (a : A) (after : Option Hold) : Type 0 where
       pub stands : stand_after s.next step row.stand ≡ Some (stand_of after)
-      pub made : AnyOf (λ steps. row.made p ++ option_to_list step ≡ steps) (own_steps ((k.asks h).answers (t.says a)) p)
-      pub right : OwesRight weakly (k.asks h) (t.says a) p (mark_of p step r s ∷ span)
-      pub in_time : OwesEnd (limit t.lock_kind (k.asks h)) t.lock_kind p (mark_of p step r s ∷ span)
+      pub made : AnyOf (λ steps. row.made p ++ option_to_list step ≡ steps) (own_steps ((t.asks c h).answers (t.says a)) p)
+      pub right : OwesRight weakly (t.asks c h) (t.says a) p (mark_of p step r s ∷ span)
+      pub in_time : OwesEnd (limit t.lock_kind (t.asks c h)) t.lock_kind p (mark_of p step r s ∷ span)
 
     abbrev pub FollowsRow : Option Change → StepKind → Branch → L → Option Row → Type 0
     FollowsRow step r branch l None = ⊥
@@ -168,28 +158,28 @@ module _ {W V C L A : Type 0} {t : Table W V C L A} (n : Notes t) where
 
     -- the call continues or is answered correctly, after this step with this result
     abbrev pub Follows : Bool → Option Change → StepKind → Branch → Next L A → Type 0
-    Follows weakly step r branch (Continue l) = FollowsRow step r branch l (row_at (k.asks h) h (k.point l h))
+    Follows weakly step r branch (Continue l) = FollowsRow step r branch l (row_at (t.asks c h) h (n.point c l h))
     Follows weakly step r branch (Answers a after) = EndsBy weakly step r a after
 
     abbrev pub Owes : ℕ → Act W L A → Type 0
-    Owes = OwesBy p (k.asks h) s w (row.made p) Follows
+    Owes = OwesBy p (t.asks c h) s w (row.made p) Follows
 
-  abbrev pub OwesRow : ℕ → CallOf W L A → L → Option Hold → Plain → W → List Mark → Option Row → Type 0
-  OwesRow p k l h s w span None = Unit {0}
-  OwesRow p k l h s w span (Some row) = AtPoint p k l h s w span (Some row) → Owes p k h s w span row (t.word l) (k.act l h)
+  abbrev pub OwesRow : ℕ → C → L → Option Hold → Plain → W → List Mark → Option Row → Type 0
+  OwesRow p c l h s w span None = Unit {0}
+  OwesRow p c l h s w span (Some row) = AtPoint p c l h s w span (Some row) → Owes p c h s w span row (t.word l) (t.act c l h)
 
   abbrev pub OwesAt : ℕ → C → L → Option Hold → Plain → W → List Mark → Type 0
-  OwesAt p c l h s w span = OwesRow p (call_of c) l h s w span (row_of c l h)
+  OwesAt p c l h s w span = OwesRow p c l h s w span (row_of c l h)
 
   -- if what a waiting call asks is open, `soon` is true: the call is answered in time if no other party steps in between
-  abbrev pub AnswersRow : ℕ → CallOf W L A → L → Option Hold → Plain → W → List Mark → Bool → Bool → Option Row → Type 0
-  AnswersRow p k l h s w span soon true (Some row) =
-      AtPoint p k l h s w span (Some row) → (k.asks h).is_open_next (is_empty (row.made p)) (arrived p span) p s ≡ true → soon ≡ true
-  AnswersRow p k l h s w span soon _ _ = Unit {0}
+  abbrev pub AnswersRow : ℕ → C → L → Option Hold → Plain → W → List Mark → Bool → Bool → Option Row → Type 0
+  AnswersRow p c l h s w span soon true (Some row) =
+      AtPoint p c l h s w span (Some row) → (t.asks c h).is_open_next (is_empty (row.made p)) (arrived p span) p s ≡ true → soon ≡ true
+  AnswersRow p c l h s w span soon _ _ = Unit {0}
 
   abbrev pub OwesSoon : ℕ → C → L → Option Hold → Plain → W → List Mark → Type 0
   OwesSoon p c l h s w span =
-      AnswersRow p (call_of c) l h s w span (answers_by t (steps_alone (t.asks c h)) w c l h) (t.asks c h).waits (row_of c l h)
+      AnswersRow p c l h s w span (answers_by t (steps_alone (t.asks c h)) w c l h) (t.asks c h).waits (row_of c l h)
 
   -- what has to be shown of the row at which a call begins
   abbrev pub BeginsRow : C → L → Option Hold → ℕ → Plain → Option Row → Type 0
