@@ -37,17 +37,7 @@ module _ {W V C L A B : Type 0} {t : Table W V C L A} {by : Machine W V C L B} {
 
   passed : {seen : Seen W V C L} {p : ℕ} (move : Move C V) (o : Option (Seat C L)) (r : StepKind)
       → StepKeeps f (scene_of seen p move o (skipped seen.state) None r None)
-  passed {seen} move o r =
-      record {
-        opens = tt;
-        belongs = tt;
-        rules = record { weak = λ happened. absurd (happened refl); leaves = grind arith; counted = tt; due = tt; tries_on = tt };
-        own = tt;
-        right = tt;
-        in_time = tt;
-        undisturbed = tt;
-        in_call = tt;
-      }
+  passed {seen} move o r = grind arith
 
   -- what the invariant gives of one event
   pub kept : (seen : Seen W V C L) (p : ℕ) (move : Move C V) → Invariant f seen → Preserved f (scene m seen p move)

@@ -63,8 +63,7 @@ module _ {W V C L A : Type 0} (t : Table W V C L A) (fit : (p : ℕ) (c : C) (l 
   fits_change p c l h n w d is = fits_made t.lock_kind (t.asks c h) _ (makes_by (t.act c l h) p) d (and_parts _ _ (fit p c l h)).0 (change_is n (t.act c l h) p w d is)
 
   performs_of : (c : C) (l : L) (h : Option Hold) → is_section (t.act c l h) ≡ false → Performs (machine_of t) c l h (place_of (t.word l) (t.act c l h)) (operation_by (t.act c l h))
-  performs_of c l h one =
-      record { words = λ w v can. operates c l h w one; next = λ w u v can may same. grind (arith, one, same); placed = λ w u v. grind arith }
+  performs_of c l h one = grind arith
 
   operation_of : (sections : Bool) (c : C) (l : L) (h : Option Hold) → may_be_section sections (is_section (t.act c l h)) ≡ true → IsOneOperation sections (machine_of t) c l h
   operation_of true c l h one = tt

@@ -11,7 +11,7 @@ abbrev Aimed : {W L A : Type 0} → Option Ask → Option Ask → Act W L A → 
 Aimed tries due act made p = aim_by tries act p ≡ aimed p (aim_of tries due made) (aim_by tries act p)
 
 aims_try : {W L A : Type 0} (tries due : Option Ask) (act : Act W L A) (made : List Change) (ask : Ask) (p : ℕ) → tries ≡ Some ask → made ≡ [] → Aimed tries due act made p → aim_by (Some ask) act p ≡ aimed p (Some ask) (aim_by (Some ask) act p)
-aims_try tries due act made ask p is none aims = subst (λ cs. Aimed (Some ask) due act cs p) none (subst (λ k. Aimed k due act made p) is aims)
+aims_try tries due act made ask p is none aims = grind (arith, due, none, made, is, aims)
 
 -- If a try is due and what it asks is open, the call gets it by this step. If no try is due, the step is a look.
 gets_by : {W L A : Type 0} (kind : LockKind) (what : Asked) (act : Act W L A) (p : ℕ) (s : Plain) (span : List Mark) (step : Option Change) (made : List Change)
@@ -234,16 +234,13 @@ module _ {W V C L A B : Type 0} {t : Table W V C L A} {m : Machine W V C L B} {n
 
     -- a spurious failure changes no word
     refused : (next : Next L A) → Comes true None weak goes next → ShownHere true None weak goes w next
-    refused next comes = record { opens = tt; belongs = tt; encodes = at.encodes; shape = at.shape; branched = tt; fails = λ e. absurd (cc (e)); comes = comes }
+    refused next comes = grind arith
 
     abbrev Soon : Option Row → Type 0
     Soon o = AnswersRow n p c l h s w span (answers_by t (steps_alone what) w c l h) (what.waits) o
 
     soon_is : Soon (Some row) → is_open_now p what span s ≡ true → answers_by t (steps_alone what) w c l h ≡ true
-    soon_is soon may =
-        let waits = and_parts _ _ may in
-        let owed = subst (λ b. AnswersRow n p c l h s w span (answers_by t (steps_alone what) w c l h) b (Some row)) waits.0 soon in
-        owed at (subst (λ (cs : List Change). what.is_open_next (is_empty cs) (arrived p span) p s ≡ true) known.made waits.1)
+    soon_is soon may = grind arith
 
     at_row : ((d : Change) → makes_by (t.act c l h) p ≡ Some d → is_step_of kind d ≡ true) → OwesHere (t.word l) (t.act c l h)
         → Aimed (tries_of what) (goes_of what (row.made p)) (t.act c l h) (row.made p) p → Soon (Some row)

@@ -74,14 +74,7 @@ module _ {W V C L A B : Type 0} {t : Table W V C L A} {by : Machine W V C L B} {
 
   pub in_call : {seen : Seen W V C L} (p : ℕ) {c : C} {l : L} {h : Option Hold} → Invariant seen → seat_of seen p ≡ Some (Calling c l h)
       → InCall n p c l h seen.plain seen.state.words (seen.span p)
-  in_call {seen} p good there =
-      record {
-        encodes = good.encodes;
-        shape = good.shape;
-        exclusive = good.exclusive;
-        knows = subst (KnowsAt n seen.plain p (seen.span p)) there (good.parties p).knows;
-        retries = (good.parties p).retries;
-      }
+  in_call {seen} p good there = grind arith
 
   -- what is shown of an event
   pub record Preserved (s : Scene W V C L B) : Type 0 where

@@ -19,7 +19,7 @@ loop-place-init g c = (
 )
 
 pub act-requires : goal.act-requires
-act-requires g c = can_next (g.O.Object.machine c.args.object.now) c.args.table.now c.loop-place.table c.loop-place.begins c.loop-place.events.items c.args.schedule.now c.loop-place.place c.loop-place.invariant.0 c.requires.can
+act-requires g c = grind arith
 
 pub push_reserved-requires : goal.push_reserved-requires
 push_reserved-requires g c = omega (arith, c.loop-place.invariant.1, c.loop-place.invariant.2, c.loop-place-test.true)

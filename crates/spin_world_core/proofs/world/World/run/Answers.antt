@@ -23,7 +23,7 @@ further m s t schedule is reached =
 
 -- the first n elements of what is written back into a vector of length n have this length
 kept_length : {X : Type 0} (n : ℕ) (xs ys : List X) → length xs ≡ n → length (take n (xs ++ ys)) ≡ length xs
-kept_length n xs ys is = length-take-le n (xs ++ ys) (omega (arith, length-append xs ys, is)) ∙ sym is
+kept_length n xs ys is = grind (arith, length-take-le, length-append, is)
 
 pub invariant_of-self : goal.invariant_of-self
 invariant_of-self g c =
