@@ -35,10 +35,7 @@ abbrev IsFull : ℕ → List Mark → Type 0
 IsFull k span = list_any (λ m. nat_le (filled_by m.before k) m.before.arrivals) span ≡ true
 
 follows_here : (p k : ℕ) (all : List Mark) (m : Mark) → Arrives p k m → is_leading m.before k ≡ false → IsFull k all → (arrives_leading p false m && list_any (finds_full m) all) ≡ true
-follows_here p k all m is behind full =
-    let led = subst (λ k. is_leading m.before k ≡ false) (sym is.2) behind in
-    let filled = subst (λ k. IsFull k all) (sym is.2) full in
-    grind (arith, is.0, is.1, led, filled, eqb_self p)
+follows_here p k all m is behind full = grind arith
 
 follows_right : (p k : ℕ) (all span : List Mark) → AnyOf (λ m. Arrives p k m × (is_leading m.before k ≡ false)) span → IsFull k all
     → list_any (λ m. arrives_leading p false m && list_any (finds_full m) all) span ≡ true
@@ -100,9 +97,7 @@ module _ (n : ℕ) where
   owes p c (Leave g) (Some h) s w span = tt
 
   soon : SoonAll (barrier_notes n)
-  soon p c l h s w span =
-      let tells = λ (g : ℕ). barrier_may_leave-tells s (arrived p span) n w.count w.generation g in
-      grind (arith, is_barrier s w, tells)
+  soon p c l h s w span = grind arith
 
   pub barrier_pays : Pays (barrier_notes n)
   barrier_pays =

@@ -4,7 +4,7 @@ use Rattle.spin_model.specs.Operations.{sets_lowest_bit}
 use Rattle.spin_world_core.proofs.Operating.{one_place, operates_by}
 use Rattle.spin_world_core.proofs.Steps.{Plays}
 use Rattle.spin_world_core.proofs.Filled.{plays_of}
-use Rattle.spin_world.proofs.Registering.{sooner, MayBeBlind, blind-other, blind_after_step, blind_after_free, blind_after_late, allowed, none_left, few_to_load, few_to_register, Looking, Loading, Registering, none_yet, starving-other, looking-other, loading-other, registering-other, goes_on, missed, looked_free, looked_held, looked_late, loaded, retried, full, registered, looked_starving}
+use Rattle.spin_world.proofs.Registering.{MayBeBlind, blind-other, blind_after_step, blind_after_free, blind_after_late, allowed, none_left, few_to_load, few_to_register, Looking, Loading, Registering, none_yet, starving-other, looking-other, loading-other, registering-other, goes_on, missed, looked_free, looked_held, looked_late, loaded, retried, full, registered, looked_starving}
 use Rattle.spin_world.proofs.FairKnowledge.{IsFair, comes, goes_away, is_starving, is_starving_still, set_by_holder, flag_clear, word_locked, word_starved, not_there}
 
 -- the row of a starver that waits for the lock, after these plain steps
@@ -90,20 +90,20 @@ module _ {V : Type 0} (v : V) (cap patience : ℕ) where
     free_word free = grind (arith, word, empty_is s.holders, empty_is s.starvers)
 
     clear_word : (is_starver p s.starvers && is_empty s.holders) ≡ true → w % 2 ≡ 0
-    clear_word free = flag_clear w s word (and_parts (is_starver p s.starvers) (is_empty s.holders) free).1
+    clear_word free = grind (arith, flag_clear, s, word, and_parts, free)
 
   -- a call that may starve has steps left in which it registers in time
   abbrev InTime : ℕ → List Mark → Type 0
   InTime p span = RegistersInTime (λ recent. own_count p recent < 2 + changes fair p recent) p patience span
 
   nothing_left : (p : ℕ) (span : List Mark) → RegistersInTime none_left p patience span → InTime p span
-  nothing_left p span old = sooner none_left (λ recent. own_count p recent < 2 + changes fair p recent) p patience span (λ recent few. absurd few) old
+  nothing_left p span old = grind arith
 
   loads_in_time : (p : ℕ) (span : List Mark) → Loading patience p span → InTime p span
-  loads_in_time p span old = sooner (few_to_load p) (λ recent. own_count p recent < 2 + changes fair p recent) p patience span (λ recent few. omega (arith, few)) old.in_time
+  loads_in_time p span old = grind arith
 
   registers_in_time : (w p : ℕ) (s : Plain) (span : List Mark) → Registering patience w p s span → InTime p span
-  registers_in_time w p s span old = sooner (few_to_register p s w) (λ recent. own_count p recent < 2 + changes fair p recent) p patience span (λ recent few. omega (arith, few)) old.in_time
+  registers_in_time w p s span old = grind arith
 
   owes : OwesAll (fair_notes v cap patience)
   owes p Lock (Attempt n) None s w span = λ at.

@@ -11,7 +11,7 @@ use Rattle.spin_model.specs.FlagKind.{flag}
 use Rattle.spin_model.specs.Acts.{begin_of}
 use Rattle.spin_model.specs.Flag.{asks_of, flag_table, flag_machine}
 use Rattle.spin_world_core.proofs.Steps.{Plays}
-use Rattle.spin_world_core.proofs.Rows.{starts_sound, starts}
+use Rattle.spin_world_core.proofs.Rows.{starts}
 use Rattle.spin_world_core.proofs.Shapes.{Notes, OwesAll, SoonAll, Pays}
 use Rattle.spin_world_core.proofs.Usual.{no_queue}
 use Rattle.spin_world_core.proofs.Filled.{plays_of}

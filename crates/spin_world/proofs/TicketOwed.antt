@@ -52,10 +52,7 @@ module _ {V : Type 0} (v : V) (first : ℕ) where
 
     -- what it means to take the next ticket if the next number is served
     take_alone_means : w.next ≤ serving_word s → IsMeant p s (gets p to_take_and_enter) (λ n. record w { next = n }) (take w.next)
-    take_alone_means le =
-        let numbered = numbered-given s p (effect to_take_and_enter) queue.numbered in
-        let grants = ticket_take-grants_alone s p w.next queue.numbered.0 next_is (omega (arith, le)) in
-        grind (arith, queue, serving-taken s p true queue.numbered, numbered, grants)
+    take_alone_means le = grind arith
 
     enter_means : (t : ℕ) → entries p s ≡ entries_at p (queues t false) → IsMeant p s (gets p to_enter) (λ k. w) (passing (w.serving == t) w.serving)
     enter_means t mine =

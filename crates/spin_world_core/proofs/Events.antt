@@ -87,12 +87,12 @@ module _ {W V C L A : Type 0} (m : Machine W V C L A) (seen : Seen W V C L) (p :
     begun_so : (c : C) (h : Option Hold) (o : Option L) → SitsAt (Some (resting h)) → m.begin c h ≡ o
         → is_open_move m seen.state (Begin c) (Some (resting h)) ≡ is_some o
         → P (scene_of seen p (Begin c) (Some (resting h)) (begun seen.state p c h o) None plain None)
-    begun_so c h None there is closed = each.passes (Begin c) (Some (resting h)) plain there closed
+    begun_so c h None there is closed = grind arith
     begun_so c h (Some l) there is may = each.begins c l h there is
 
     refused_so : (c : C) (l : L) (h : Option Hold) (o : Option (Next L A)) → SitsAt (Some (Calling c l h)) → m.refuse c l h ≡ o
         → P (scene_of seen p Weak (Some (Calling c l h)) (refuses seen.state p c h o) None weak None)
-    refused_so c l h None there is = each.passes Weak (Some (Calling c l h)) weak there (ap is_some is)
+    refused_so c l h None there is = grind arith
     refused_so c l h (Some next) there is = each.refuses c l h next there is
 
     tested : (move : Move C V) (o : Option (Seat C L)) (by : Bool → Happened W V C L A) (x : Bool) → SitsAt o → is_open_move m seen.state move o ≡ x
@@ -102,7 +102,7 @@ module _ {W V C L A : Type 0} (m : Machine W V C L A) (seen : Seen W V C L) (p :
 
     at_seat : (move : Move C V) (o : Option (Seat C L)) → SitsAt o → P (scene_at m seen p move o)
     at_seat (Begin c) (Some Idle) there = begun_so c None (m.begin c None) there refl refl
-    at_seat (Begin c) (Some (Holding h)) there = begun_so c (Some h) (m.begin c (Some h)) there refl refl
+    at_seat (Begin c) (Some (Holding h)) there = grind arith
     at_seat Step (Some (Calling c l h)) there = each.steps c l h there
     at_seat Weak (Some (Calling c l h)) there = refused_so c l h (m.refuse c l h) there refl
     at_seat Read (Some (Holding h)) there = tested Read (Some (Holding h)) (read_by seen.state) (may_read h) there refl refl (each.reads true h there)
@@ -112,9 +112,8 @@ module _ {W V C L A : Type 0} (m : Machine W V C L A) (seen : Seen W V C L) (p :
     at_seat (Write v) (Some (Leaked h)) there =
         tested (Write v) (Some (Leaked h)) (written_by seen.state v) (may_write h) there refl refl (each.writes v false h there)
     at_seat Leak (Some (Holding h)) there = each.leaks h there
-    at_seat OwnerGet (Some y) there = tested OwnerGet (Some y) (owner_gets seen.state) (is_owners m seen.state) there refl refl (each.gets y there)
-    at_seat (OwnerSet v) (Some y) there =
-        tested (OwnerSet v) (Some y) (owner_sets seen.state v) (is_owners m seen.state) there refl refl (each.sets v y there)
+    at_seat OwnerGet (Some y) there = grind arith
+    at_seat (OwnerSet v) (Some y) there = grind arith
     at_seat move o there = each.passes move o plain there refl
 
     -- if P holds in each case, it holds of every event

@@ -42,9 +42,6 @@ one_place i = grind arith
 
 -- The plain step that a step makes is the one that the table names for it
 
-pub made_named : {X : Type 0} (o : Option X) (c d : Change) → made_if o c ≡ Some d → Some c ≡ Some d
-made_named o c d is = grind arith
-
 pub change_is : {W L A : Type 0} (n : ℕ) (act : Act W L A) (p : ℕ) (w : W) (d : Change) → change_at n act p w ≡ Some d → makes_by act p ≡ Some d
 change_is n act p w d is = grind arith
 

@@ -36,7 +36,7 @@ module _ {W V C L A B : Type 0} {t : Table W V C L A} {by : Machine W V C L B} {
 
   let_go_party : (seen : Seen W V C L) (q : ℕ) (o : Option (Seat C L)) → OfParty f seen.state.words seen.plain q (seen.span q) o
       → OfParty f seen.state.words seen.plain q (seen.span q) (option_map seen_by_owner o)
-  let_go_party seen q (Some (Leaked h)) is = record { stands = is.stands; knows = tt; retries = is.retries; undisturbed = tt }
+  let_go_party seen q (Some (Leaked h)) is = grind arith
   let_go_party seen q _ is = is
 
   module _ (seen : Seen W V C L) (p : ℕ) (good : Invariant f seen) where

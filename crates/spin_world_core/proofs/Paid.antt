@@ -298,18 +298,7 @@ module _ {W V C L A B : Type 0} {t : Table W V C L A} {m : Machine W V C L B} {n
     -- what a party knows when its call begins
     begins_at : (o : Option Row) → entries p s ≡ entries_held p h → BeginsRow n c l h p s o → KnowsRow n c l h p s [] o
     begins_at None mine begins = absurd begins
-    begins_at (Some row) mine begins =
-        let first = needs_first (need_of kind (t.asks c h) (row.made p) (t.act c l h)) _ p begins.2 in (
-          record {
-            stand = mine ∙ (held_at p h ∙ ap (entries_at p) (sym begins.0));
-            made = sym begins.1;
-            spent = none_spent (limit kind (t.asks c h)) row.spent p;
-            expects = none_expected kind (t.act c l h) p s first.1;
-            needs = first.0;
-            opened = tt;
-          },
-          begins.3,
-        )
+    begins_at (Some row) mine begins = grind arith
 
     pub knows_first : begin_of t c h ≡ Some l → entries p s ≡ entries_held p h → Knows n c l h p s []
     knows_first e mine = begins_at (row_of n c l h) mine (subst (BeginsAt n c h p s) e (pays.begins p c h s))

@@ -77,11 +77,6 @@ module _ {W V C L A : Type 0} (m : Machine W V C L A) where
       → Played from now begins events (take k schedule) → length schedule ≤ k → Played from now begins events schedule
   played_all from now begins events schedule k played all = subst (Played from now begins events) (take_all k schedule all) played
 
-  -- after the part of the schedule that has been played, each party in a call can take its next step
-  pub can_next : (from now : State W V C L) (begins : List (Option ℕ)) (events : List (Event W V A)) (schedule : List (ℕ × Move C V)) (k : ℕ)
-      → Played from now begins events (take k schedule) → CanAlways m from schedule → CanStep m now
-  can_next from now begins events schedule k played can = subst (CanStep m) (sym played.table) (can k)
-
   -- a state that a move leads to from a reached state is reached
   pub reached_next : (s t : State W V C L) (p : ℕ) (move : Move C V) (o : Outcome A V)
       → (let h : Happened W V C L A = record { outcome = o; next = t } in h ≡ happens m s p move) → IsReached m s → IsReached m t

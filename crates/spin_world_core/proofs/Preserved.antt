@@ -249,12 +249,9 @@ module _ {W V C L A B : Type 0} {t : Table W V C L A} {by : Machine W V C L B} {
           → Gets t.lock_kind p (t.asks c h) (seen.span p) seen.plain step r
           → ((ask : Ask) → tries_of (t.asks c h) ≡ Some ask → own p (seen.span p) ≡ [] → GoesOnOpen ask p (seen.span p) seen.plain (told by.says next) step)
           → StepRules (event Step step r stored w v next)
-      step_rules None r stored w v (Continue l') is counted due may =
-          record { weak = λ e. tt; leaves = leaves seen.state.value v stored None is; counted = counted; due = due; tries_on = may }
-      step_rules (Some d) r stored w v (Continue l') is counted due may =
-          record { weak = λ e. tt; leaves = leaves seen.state.value v stored (Some d) is; counted = tt; due = due; tries_on = tt }
-      step_rules step r stored w v (Answers b rest) is counted due may =
-          record { weak = λ e. tt; leaves = leaves seen.state.value v stored step is; counted = tt; due = due; tries_on = tt }
+      step_rules None r stored w v (Continue l') is counted due may = grind arith
+      step_rules (Some d) r stored w v (Continue l') is counted due may = grind arith
+      step_rules step r stored w v (Answers b rest) is counted due may = grind arith
 
       pub step_kept : Kept (scene_at m seen p Step (Some (Calling c l h)))
       step_kept =

@@ -189,11 +189,6 @@ abbrev pub IsSound : LockKind → Asked → ℕ → Option Row → Type 0
 IsSound kind what p None = Unit {0}
 IsSound kind what p (Some row) = (is_timely (limit kind what) (row.made p) row.spent ≡ true) × AnyOf (λ steps. row.made p ++ row.rest p ≡ steps) (own_steps (what.answers row.said) p)
 
--- the point at which a call begins is sound, if the point `looked 0` is
-pub starts_sound : {L : Type 0} (kind : LockKind) (what : Asked) (h : Option Hold) (p : ℕ) (o : Option L) → IsSound kind what p (row_at what h (looked 0)) → IsSound kind what p (row_at what h (starts o))
-starts_sound kind what h p None sound = tt
-starts_sound kind what h p (Some l) sound = sound
-
 -- If the next step is a retry that expects k, then others have changed the first word at least as often as retries have
 -- failed, and once more if the word is no longer k. Also, the step function does not refuse k.
 abbrev pub Expects : {W L A : Type 0} → LockKind → Act W L A → ℕ → Plain → List Mark → Type 0

@@ -53,7 +53,7 @@ stands_at s p span _ stands = stands
 says_at : {C L : Type 0} (n p : ℕ) (s : Plain) (span : List Mark) (o : Option (Seat C L)) → (o ≡ None → n ≤ p) → ((seat : Seat C L) → o ≡ Some seat → p < n) → StandsFor s p span o
     → PlaceSays (stage_of o) n s p span (option_map place_of o)
 says_at n p s span None past within stands = (past refl, stands)
-says_at n p s span (Some seat) past within stands = (within seat refl, stands_at s p span seat stands)
+says_at n p s span (Some seat) past within stands = grind arith
 
 module _ {W V C L A : Type 0} (m : Machine W V C L A) where
   -- after an event, the stage of p's seat is the stage that the event's outcome gives p

@@ -8,13 +8,8 @@ use Rattle.spin_world_core.proofs.Lists.{eqb_self}
 module _ (kind : LockKind) (p : ℕ) (what : Asked) (m : Mark) (span : List Mark) (P Q : ℕ → Type 0) (begins : is_open_now p what span m.before ≡ true → P 0)
     (step : (n : ℕ) → Leaves kind p m → P n → Q (n + (if m.party == p then 1 else 0))) where
   takes_on : UndisturbedTakes P kind p what span → UndisturbedTakes Q kind p what (m ∷ span)
-  takes_on runs [] first older is may leaves =
-      let here : m ≡ first = cc (is) in
-      subst (λ f. Q (own_count p (f ∷ []))) here (step 0 (subst (Leaves kind p) (sym here) leaves.0) (begins (grind arith)))
-  takes_on runs (mark ∷ recent) first older is may leaves =
-      let here : m ≡ mark = cc (is) in
-      let rest : span ≡ recent ++ first ∷ older = cc (is) in
-      subst (λ f. Q (own_count p (f ∷ recent ++ first ∷ []))) here (step _ (subst (Leaves kind p) (sym here) leaves.0) (runs recent first older rest may leaves.1))
+  takes_on runs [] first older is may leaves = grind arith
+  takes_on runs (mark ∷ recent) first older is may leaves = grind arith
 
 no_split : (recent older : List Mark) (first : Mark) → [] ≡ recent ++ first ∷ older → ⊥
 no_split [] older first e = cc (e)

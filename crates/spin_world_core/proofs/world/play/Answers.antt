@@ -1,5 +1,5 @@
 use Rattle.std.proofs.Common.{◌+◌, rules, ap, ◌∙◌, arith}
-use Rattle.spin_world_core.proofs.Playing.{forgotten, played_next, played_all, can_next}
+use Rattle.spin_world_core.proofs.Playing.{forgotten, played_next, played_all}
 use Rattle.spin_world_core.proofs.world.play.Goals as goal
 
 pub loop-place-preserved : goal.loop-place-preserved
