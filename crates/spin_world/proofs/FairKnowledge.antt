@@ -17,14 +17,14 @@ goes_away cap p s shape found = record { one = omega (arith, shape.one, length-w
 -- a party whose entries are those of a starver is among the starvers
 
 pub is_starving : (p : ℕ) (s : Plain) → entries p s ≡ entries_at p starves → is_starver p s.starvers ≡ true
-is_starving p s mine = grind (arith, is_starver-from_entries, s, mine)
+is_starving p s mine = grind (arith, is_starver-from_entries)
 
 pub is_starving_still : (p : ℕ) (s : Plain) → entries p s ≡ entries_at p (holds_and_starves writing) → is_starver p s.starvers ≡ true
-is_starving_still p s mine = grind (arith, is_starver-from_entries, s, mine)
+is_starving_still p s mine = grind (arith, is_starver-from_entries)
 
 -- a starver with no other entries does not hold, so what its call asks next is to get the lock
 pub not_there : (p : ℕ) (s : Plain) → entries p s ≡ entries_at p starves → ((is_starver p s.starvers && is_empty s.holders) || is_holder p writing s.holders) ≡ true → (is_starver p s.starvers && is_empty s.holders) ≡ true
-not_there p s mine free = grind (arith, only_left, is_holder-own, s, mine, free)
+not_there p s mine free = grind (arith, only_left, is_holder-own)
 
 -- the holder finds the flag set
 pub set_by_holder : (cap p w : ℕ) (s : Plain) → IsFair cap s → fair_word s ≡ w → is_holder p writing s.holders ≡ true → (w % 2 == 1) ≡ true

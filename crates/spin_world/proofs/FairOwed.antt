@@ -90,7 +90,7 @@ module _ {V : Type 0} (v : V) (cap patience : ℕ) where
     free_word free = grind (arith, word, empty_is s.holders, empty_is s.starvers)
 
     clear_word : (is_starver p s.starvers && is_empty s.holders) ≡ true → w % 2 ≡ 0
-    clear_word free = grind (arith, flag_clear, s, word, and_parts, free)
+    clear_word free = grind (arith, flag_clear, and_parts)
 
   -- a call that may starve has steps left in which it registers in time
   abbrev InTime : ℕ → List Mark → Type 0

@@ -61,7 +61,7 @@ none_yet {p} {n} = record { looking = refl; soon = λ recent m older is late. ab
 -- a step of another party
 
 held_looks-other : (p q : ℕ) (step : Option Change) (r : StepKind) (s : Plain) (span : List Mark) → (q ≡ p → ⊥) → held_looks p (mark_of q step r s ∷ span) ≡ held_looks p span
-held_looks-other p q step r s span ne = grind (arith, s, ne_eqb)
+held_looks-other p q step r s span ne = grind (arith, ne_eqb)
 
 module _ (patience p q : ℕ) (s : Plain) (step : Option Change) (r : StepKind) (span : List Mark) (ne : q ≡ p → ⊥) where
   beside : (Few Fewer : List Mark → Type 0) → ((recent : List Mark) → Few recent → Fewer (mark_of q step r s ∷ recent)) → RegistersInTime Few p patience span → RegistersInTime Fewer p patience (mark_of q step r s ∷ span)
@@ -103,7 +103,7 @@ pub blind_after_late : (n p : ℕ) (s : Plain) (span : List Mark) → n ≤ held
 blind_after_late n p s span late = grind (arith, eqb_self p)
 
 held_looks-mine : (p : ℕ) (step : Option Change) (r : StepKind) (s : Plain) (span : List Mark) → held_looks p (mark_of p step r s ∷ span) ≡ held_looks p span + bit (is_look r && is_held s)
-held_looks-mine p step r s span = grind (arith, span, s, eqb_self)
+held_looks-mine p step r s span = grind (arith, eqb_self)
 
 module _ (patience p : ℕ) (s : Plain) (span : List Mark) where
   -- the step is not blind, or is blind when it may be

@@ -53,7 +53,7 @@ rw_notes v cap = record { Shape = λ s. Within cap s; point = point_of; Knows = 
 
 -- a party with the entries of a holder is a holder
 pub holder_by : (p : ℕ) (k : Kind) (s : Plain) → entries p s ≡ entries_at p (holds k) → is_holder p k s.holders ≡ true
-holder_by p k s mine = grind (arith, is_holder-from_entries, s, mine)
+holder_by p k s mine = grind (arith, is_holder-from_entries)
 
 -- a party that asks to upgrade and has nothing else does not write
 writes_nothing : (p : ℕ) (s : Plain) → entries p s ≡ entries_at p (holds asking) → is_holder p writing s.holders ≡ false

@@ -11,10 +11,6 @@ use Rattle.spin_world_core.proofs.Events.{of_event, skips_closed, skipped_scene,
 use Rattle.spin_world_core.proofs.Preserved.{OfParty, Invariant, Kept, Preserved, StepKeeps, reader_of, writer_of, step_kept, refusal_kept, begun_kept, write_kept, leak_kept}
 use Rattle.spin_world_core.proofs.Owners.{none_owns, owns, owner_get_kept, owner_set_kept}
 
--- `HasPhase` holds at first: if closures make the value, the opening phase is complete exactly if there is a value
-phase_first : {V : Type 0} (makes : Bool) (value : Option V) → HasPhase makes (opening_phase makes value) value
-phase_first makes value = grind arith
-
 module _ {W V C L A : Type 0} (m : Machine W V C L A) where
   -- the state of `seen_after` is the state after the schedule
   pub state-seen_after : (seen : Seen W V C L) (es : List (ℕ × Move C V)) → (seen_after m seen es).state ≡ after m seen.state es
@@ -67,7 +63,7 @@ module _ {W V C L A B : Type 0} {t : Table W V C L A} {by : Machine W V C L B} {
           exclusive = is.0.exclusive;
           one_list = f.pays.one_list _ is.0.shape;
           value_is = is.0.written;
-          reads = λ r. reads_value m s p move o r seen.written good.written;
+          reads = λ r. grind arith;
           touches = touches seen p move o stands (owns f seen p good);
           skips = skips_closed m s p move o;
           lets = λ e. may_pass seen p move o stands ((skips_closed m s p move o).0 e);
@@ -102,8 +98,8 @@ module _ {W V C L A B : Type 0} {t : Table W V C L A} {by : Machine W V C L B} {
       record {
         encodes = f.pays.first;
         shape = f.pays.shape_first;
-        phase = phase_first t.lock_kind.makes_value t.value;
-        exclusive = exclusive-free (opening_plain m) refl refl;
+        phase = grind arith;
+        exclusive = grind arith;
         written = refl;
         parties =
             λ q. get-replicate (OfParty f m.words (opening_plain m) q []) Idle parties q

@@ -121,11 +121,11 @@ module _ {W V C L : Type 0} {t : Table W V C L (Answer (Unit {0}))} {n : Notes t
             let puts = puts_by _ (t.act c l h) s p v (brings c) w (pays.completes_right p c l h) opens complete in
             record {
               tells = tells_with (apply_some s (change_by t.memory (t.word l) (t.act c l h) p w)) _ _ puts.phase (pays.tells p c l h s w encodes);
-              phase = subst (λ made. HasPhase made (apply_some s (change_by t.memory (t.word l) (t.act c l h) p w)).phase (placed (brought (completes_by (t.act c l h)) (brings c)) v)) (sym pays.makes) puts.phase;
+              phase = grind arith;
               places = puts.places;
               completes_alone = λ q is. pays.none_holds s shape;
               brings = puts.brings;
               gives = gives_at _ _;
             };
-        written = λ s p v shape writes. absurd (false≢true (sym (pays.none_writes s p shape) ∙ writes));
+        written = λ s p v shape writes. grind arith;
       }

@@ -4,14 +4,14 @@ use Rattle.spin_world_core.proofs.Steps.{told, played, GoesOnOpen, ContinuesCoun
 use Rattle.spin_world_core.proofs.Operating.{change_is, fits_made}
 use Rattle.spin_world_core.proofs.Spans.{own-mine, retries-mine}
 use Rattle.spin_world_core.proofs.Stands.{entries_at, stand_of, held_at, stand-mine}
-use Rattle.spin_world_core.proofs.Rows.{Known, Opened, OwesRight, Branch, goes, finds_open, loses, misses, Branched, may_spend, tries_open, need, need_of, Needs, rests, peeks, needs-mine, needs_first, spent-mine, goes_within, ends_within, any_map, moment_of, weakly_right, Row, IsSound, Expects, expects-mine, none_spent, none_expected, known-other}
+use Rattle.spin_world_core.proofs.Rows.{Known, Opened, OwesRight, Branch, goes, finds_open, loses, misses, Branched, may_spend, tries_open, need, need_of, Needs, rests, peeks, needs-mine, spent-mine, goes_within, ends_within, any_map, moment_of, weakly_right, Row, IsSound, Expects, known-other}
 use Rattle.spin_world_core.proofs.Shapes.{Notes, OwesBy, is_answer, row_of, KnowsRow, Knows, AtPoint, InCall, FollowsRow, Follows, Owes, OwesRow, goes_by, answers_by, AnswersRow, BeginsRow, BeginsAt, sure_by, aim_by, aim_of, aimed, aimed_at, Pays}
 
 abbrev Aimed : {W L A : Type 0} → Option Ask → Option Ask → Act W L A → List Change → ℕ → Type 0
 Aimed tries due act made p = aim_by tries act p ≡ aimed p (aim_of tries due made) (aim_by tries act p)
 
 aims_try : {W L A : Type 0} (tries due : Option Ask) (act : Act W L A) (made : List Change) (ask : Ask) (p : ℕ) → tries ≡ Some ask → made ≡ [] → Aimed tries due act made p → aim_by (Some ask) act p ≡ aimed p (Some ask) (aim_by (Some ask) act p)
-aims_try tries due act made ask p is none aims = grind (arith, due, none, made, is, aims)
+aims_try tries due act made ask p is none aims = grind arith
 
 -- If a try is due and what it asks is open, the call gets it by this step. If no try is due, the step is a look.
 gets_by : {W L A : Type 0} (kind : LockKind) (what : Asked) (act : Act W L A) (p : ℕ) (s : Plain) (span : List Mark) (step : Option Change) (made : List Change)
@@ -182,7 +182,7 @@ module _ {W V C L A B : Type 0} {t : Table W V C L A} {m : Machine W V C L B} {n
                 stand = stand-mine s p step row.stand to.stand may known.stand follows.stands;
                 made = made;
                 spent = spent;
-                expects = expects-mine p s step r span kind (t.act c j h) (number 0) (first_is w s at.encodes) retries found.1;
+                expects = grind arith;
                 needs = found.0;
                 opened = (may, known.opened);
               },

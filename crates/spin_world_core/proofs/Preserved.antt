@@ -6,7 +6,7 @@ use Rattle.spin_model.specs.declared.schedule.Outcome.TheVariants as outcome
 use Rattle.spin_model.specs.StepKinds as step_kind
 use Rattle.spin_model.proofs.Lists.{get-set_same}
 use Rattle.spin_world_core.proofs.Lists.{get-set, eqb_self}
-use Rattle.spin_world_core.proofs.Spans.{retries-mine, retries-other}
+use Rattle.spin_world_core.proofs.Spans.{retries-mine}
 use Rattle.spin_world_core.proofs.Steps.{told, played, GoesOnOpen, ContinuesCounted, KnowsAt, Moves, AnswersWithin, AtStep, Plays}
 use Rattle.spin_world_core.proofs.Shapes.{Notes, InCall}
 use Rattle.spin_world_core.proofs.Paid.{at_step, knows_beside, knows_first}
@@ -142,7 +142,7 @@ module _ {W V C L A B : Type 0} {t : Table W V C L A} {by : Machine W V C L B} {
         record {
           stands = stands_beside seen.plain p q step r (seen.span q) o ne may is.stands;
           knows = knows_after o is.knows;
-          retries = retries-other m.lock_kind q p step r seen.plain (seen.span q) ne is.retries;
+          retries = grind arith;
           undisturbed =
               beside m seen.state.words w p q seen.plain step r (seen.span q) o ne same
               (λ c l h at. (at_step f _ (in_call q good (there ∙ at)) good.phase).undisturbed) is.undisturbed;
@@ -209,7 +209,7 @@ module _ {W V C L A B : Type 0} {t : Table W V C L A} {by : Machine W V C L B} {
                 (record {
                   stands = stands_stepped seen.plain p step r (seen.span p) (entries_held p h) to.moves.opens (standing p good there);
                   knows = to.moves.goes_on.knows;
-                  retries = retries-mine t.lock_kind p step r seen.plain (seen.span p) (good.parties p).retries to.moves.fails;
+                  retries = grind arith;
                   undisturbed = λ recent first older is may leaves.
                       let left = runs recent first older is may leaves in record { steps = left.steps; few = left.few; answers = left.goes l' refl };
                 }),

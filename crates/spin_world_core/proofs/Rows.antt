@@ -270,24 +270,10 @@ pub record Known {W L A : Type 0} (kind : LockKind) (what : Asked) (act : Act W 
 -- after a step of the party's own
 
 module _ (p : ℕ) (s : Plain) (step : Option Change) (r : StepKind) (span : List Mark) where
-  pub expects-mine : {W L A : Type 0} (kind : LockKind) (act : Act W L A) (n : ℕ) → n ≡ first_word kind s
-      → failures p (mark_of p step r s ∷ span) ≤ changes kind p (mark_of p step r s ∷ span) → RetryOwes act n step
-      → Expects kind act p (apply_some s step) (mark_of p step r s ∷ span)
-  expects-mine kind act n is le finds = grind arith
-
   pub needs-mine : (needed : Need) (Finds : Type 0) → FoundBy needed Finds step r s → Needs needed p (mark_of p step r s ∷ span) × Finds
   needs-mine needed Finds found = grind (arith, eqb_self p, found)
 
-pub needs_first : (needed : Need) (Begins : Type 0) (p : ℕ) → BeginsBy needed Begins → Needs needed p [] × Begins
-needs_first needed Begins p begins = grind (arith, begins)
-
 -- when a call begins
-
-pub none_spent : (what : Limit) (k p : ℕ) → Spends what k p []
-none_spent what k p = grind arith
-
-pub none_expected : {W L A : Type 0} (kind : LockKind) (act : Act W L A) (p : ℕ) (s : Plain) → NoRetry act → Expects kind act p s []
-none_expected kind act p s none = grind arith
 
 -- after another party's step
 
@@ -305,9 +291,6 @@ module _ (p q : ℕ) (s : Plain) (step : Option Change) (r : StepKind) (span : L
   expects-other kind act expects =
       grind (arith, failures-other p q step r s span ne, changes-other kind p q step r s span ne, moved, expects)
 
-  needs-other : (needed : Need) → Needs needed p span → Needs needed p (mark_of q step r s ∷ span)
-  needs-other needed needs = grind arith
-
   pub known-other : {W L A : Type 0} (kind : LockKind) (what : Asked) (act : Act W L A) (row : Row) → IsOpenStep s q step → Known kind what act row p s span
       → Known kind what act row p (apply_some s step) (mark_of q step r s ∷ span)
   known-other kind what act row may known =
@@ -316,6 +299,6 @@ module _ (p q : ℕ) (s : Plain) (step : Option Change) (r : StepKind) (span : L
         made = own-other p q step r s span ne ∙ known.made;
         spent = spent-other (limit kind what) row.spent known.spent;
         expects = expects-other kind act known.expects;
-        needs = needs-other (need_of kind what (row.made p) act) known.needs;
+        needs = grind arith;
         opened = (may, known.opened);
       }

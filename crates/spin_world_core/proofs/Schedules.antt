@@ -4,7 +4,7 @@ use Rattle.spin_model.specs.declared.schedule.Outcome.TheVariants as outcome
 
 pub with_begins-append : {W V A : Type 0} (before xs ys : List (Event W V A))
     → with_begins before (xs ++ ys) ≡ with_begins before xs ++ with_begins (before ++ xs) ys
-with_begins-append before [] ys = grind (arith, append-nil, before)
+with_begins-append before [] ys = grind (arith, append-nil)
 with_begins-append before (x ∷ xs) ys =
     grind (arith, with_begins-append (before ++ x ∷ []) xs ys, append_assoc before (x ∷ []) xs)
 

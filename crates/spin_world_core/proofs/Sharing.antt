@@ -29,4 +29,4 @@ let_go_none s t is none = subst (λ u. u ≡ let_go u) is (ap (λ seats. record 
 -- the vector of seats after the loop that makes each leaked party gone
 pub let_go_is : {C L Z : Type 0} (seats : Vec (Seat C L) Z) (now new : List (Seat C L)) → now ≡ seats.items → length now ≡ seats.len → new ≡ map seen_by_owner now
     → (with_items seats new).items ≡ map seen_by_owner seats.items
-let_go_is seats now new is len made = grind (arith, with_items_is, made, length-map, now, is)
+let_go_is seats now new is len made = grind (arith, with_items_is, length-map)

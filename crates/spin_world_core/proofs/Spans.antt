@@ -5,13 +5,13 @@ use Rattle.spin_world_core.proofs.Lists.{eqb_self}
 -- after a step of the party p
 module _ (p : ℕ) (step : Option Change) (r : StepKind) (s : Plain) (span : List Mark) where
   pub own-mine : own p (mark_of p step r s ∷ span) ≡ own p span ++ option_to_list step
-  own-mine = grind (arith, own, span, step, eqb_self)
+  own-mine = grind (arith, eqb_self)
 
   pub own_count-mine : own_count p (mark_of p step r s ∷ span) ≡ own_count p span + 1
-  own_count-mine = grind (arith, span, eqb_self)
+  own_count-mine = grind (arith, eqb_self)
 
   pub failures-mine : failures p (mark_of p step r s ∷ span) ≡ failures p span + bit (is_again r && not (is_some step))
-  failures-mine = grind (arith, span, step, eqb_self)
+  failures-mine = grind (arith, eqb_self)
 
 pub changes-mine : (kind : LockKind) (p : ℕ) (step : Option Change) (r : StepKind) (s : Plain) (span : List Mark)
     → changes kind p (mark_of p step r s ∷ span) ≡ changes kind p span
@@ -20,13 +20,13 @@ changes-mine kind p step r s span = grind arith
 -- after a step of another party
 module _ (p q : ℕ) (step : Option Change) (r : StepKind) (s : Plain) (span : List Mark) (ne : q ≡ p → ⊥) where
   pub own-other : own p (mark_of q step r s ∷ span) ≡ own p span
-  own-other = grind (arith, own, span, step, ne_eqb, append-nil)
+  own-other = grind (arith, ne_eqb, append-nil)
 
   pub own_count-other : own_count p (mark_of q step r s ∷ span) ≡ own_count p span
-  own_count-other = grind (arith, span, ne_eqb)
+  own_count-other = grind (arith, ne_eqb)
 
   pub failures-other : failures p (mark_of q step r s ∷ span) ≡ failures p span
-  failures-other = grind (arith, step, ne_eqb)
+  failures-other = grind (arith, ne_eqb)
 
 pub changes-other : (kind : LockKind) (p q : ℕ) (step : Option Change) (r : StepKind) (s : Plain) (span : List Mark) → (q ≡ p → ⊥)
     → changes kind p (mark_of q step r s ∷ span) ≡ changes kind p span + bit (not (first_word kind (apply_some s step) == first_word kind s))
@@ -41,7 +41,3 @@ pub retries-mine : (kind : LockKind) (p : ℕ) (step : Option Change) (r : StepK
     → (is_again r ≡ true → step ≡ None → failures p span < changes kind p span)
     → failures p (mark_of p step r s ∷ span) ≤ changes kind p (mark_of p step r s ∷ span)
 retries-mine kind p step r s span so_far fails = grind (arith, failures-mine p step r s span, changes-mine kind p step r s span, fails)
-
-pub retries-other : (kind : LockKind) (p q : ℕ) (step : Option Change) (r : StepKind) (s : Plain) (span : List Mark) → (q ≡ p → ⊥) → failures p span ≤ changes kind p span
-    → failures p (mark_of q step r s ∷ span) ≤ changes kind p (mark_of q step r s ∷ span)
-retries-other kind p q step r s span ne so_far = grind (arith, failures-other, step, s, span, changes-other, kind, so_far)

@@ -65,8 +65,8 @@ module _ {W V C L A : Type 0} (m : Machine W V C L A) where
       takes_on m.lock_kind q (m.asks c h) (mark_of p step r s) span (Left w q c l h) (Left w' q c l h) (λ may. begun_by w w q c l h (begins c l h refl may))
       (λ n leaves left. record {
         steps = left.steps;
-        few = omega (arith, left.few, ap (λ b. n + (if b then 1 else 0)) (ne_eqb p q ne));
-        answers = subst (λ v. AnswersWithin m left.steps v c l h) (sym (same (leaves.still ne))) left.answers;
+        few = grind arith;
+        answers = grind arith;
       })
       runs
   beside w w' p q s step r span _ ne same begins runs = tt

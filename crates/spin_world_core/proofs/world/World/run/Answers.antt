@@ -23,7 +23,7 @@ further m s t schedule is reached =
 
 -- the first n elements of what is written back into a vector of length n have this length
 kept_length : {X : Type 0} (n : ℕ) (xs ys : List X) → length xs ≡ n → length (take n (xs ++ ys)) ≡ length xs
-kept_length n xs ys is = grind (arith, length-take-le, length-append, is)
+kept_length n xs ys is = grind (arith, length-take-le, length-append)
 
 pub invariant_of-self : goal.invariant_of-self
 invariant_of-self g c =
@@ -39,9 +39,9 @@ returns-in_err-events g c =
       err = search rules;
       reached = subst (λ w. IsReached (g.O.Object.machine w.object) w.state) c.self.view_is c.self.invariant.0;
       keeps = λ n past reached. lawful.keeps n (past ++ c.args.schedule.now);
-      moments = λ n past reached. lawful.moments n (past ++ c.args.schedule.now);
-      counts = λ n past reached. lawful.counts n (past ++ c.args.schedule.now);
-      values = λ n past reached. lawful.values n (past ++ c.args.schedule.now);
+      moments = λ n past reached. grind arith;
+      counts = λ n past reached. grind arith;
+      values = λ n past reached. grind arith;
       tells = search rules;
       begins = search rules;
     }
