@@ -12,7 +12,7 @@ use Rattle.spin_world_core.proofs.Steps.{Plays}
 use Rattle.spin_world_core.proofs.Stands.{absent}
 use Rattle.spin_world_core.proofs.Rows.{Point, nowhere, looked, onward}
 use Rattle.spin_world_core.proofs.Shapes.{Notes, OwesAll, SoonAll, Pays}
-use Rattle.spin_world_core.proofs.Usual.{two, no_holders, two_places}
+use Rattle.spin_world_core.proofs.Usual.{two, no_holders}
 use Rattle.spin_world_core.proofs.Operating.{operates_by}
 use Rattle.spin_world_core.proofs.Filled.{plays_of}
 use Rattle.std.specs.List.{list_any}
@@ -103,8 +103,8 @@ module _ (n : ℕ) where
   barrier_pays =
       record {
         fits = λ p c l h. grind arith;
-        operates = operates_by (barrier_table n) (two_places _ _ _ _ (λ k w. refl) (λ k w. refl));
-        first = two 0 0 (0 % max n 1) ((0 / max n 1) % 2 ^ 64) (omega (arith, mod-le 0 (max n 1))) (omega (arith, div-le_self 0 (max n 1)));
+        operates = grind arith;
+        first = grind arith;
         shape_first = record { no_holders = refl; group = refl };
         numbers_tell = λ u w e. grind arith;
         one_list = λ s of. no_holders s of.no_holders;

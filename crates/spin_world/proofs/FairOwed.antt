@@ -171,7 +171,7 @@ module _ {V : Type 0} (v : V) (cap patience : ℕ) where
   fair_pays =
       record {
         fits = λ p c l h. grind arith;
-        operates = operates_by (fair_table v cap patience) one_place;
+        operates = grind arith;
         first = refl;
         shape_first = record { one = omega arith; queue = refl; room = refl };
         numbers_tell = λ u w e. cc (e);

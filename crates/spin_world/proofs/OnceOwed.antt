@@ -40,7 +40,7 @@ module _ {V : Type 0} (value : Option V) where
       record {
         pays = record {
           fits = λ p c l h. grind arith;
-          operates = operates_by (once_table value) one_place;
+          operates = grind arith;
           first = grind arith;
           shape_first = (refl, refl);
           numbers_tell = λ u w e. cc (e);

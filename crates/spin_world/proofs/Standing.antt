@@ -161,7 +161,7 @@ module _ {V : Type 0} (v : V) (cap : ℕ) where
   looks_agree n past =
       reads_agree_across f converts
       (record {
-        reads = λ p c l h s span is may knows. row_tells (rw_notes v cap) c l (Some h) p s span is_reader _ knows (grind (arith, is));
+        reads = λ p c l h s span is may knows. grind arith;
         steps = λ c l h w value is may. grind (arith, is, may);
         refuses = λ c l h next is may weak. grind (arith, is, may, weak);
       })

@@ -1,5 +1,5 @@
 -- What has to be shown of the ticket lock's table.
-use Rattle.spin_world.proofs.TicketNames.{serving-advances, ◌≡◌, ℕ, ◌+◌, ◌-◌, ◌≤◌, ◌==◌, true, false, filter, Option, Some, None, List, ◌∷◌, refl, ap, sym, ◌∙◌, arith, Plain, is_first, effect, to_take_ticket, to_enter, to_take_and_enter, Change, gets, serves, next_word, serving_word, Entries, entries, take, enters_in_turn, numbered-given, numbered-serves, serving-taken, serving-entered, entered_is_served, stands, Hold, TicketWords, TicketCall, Lock, TryLock, IsLocked, Release, TicketPoint, LoadNext, Take, Await, TryLoadNext, TryLoadServing, TryTake, LookServing, LookNext, Serve, own_count, plain, passing, is_left, ticket_table, ticket_machine, Plays, queues, entries_at, any_map, Point, nowhere, looked, onward, Notes, Means, OwesAll, SoonAll, Pays, two, no_holders, two_places, [], Queued, queued}
+use Rattle.spin_world.proofs.TicketNames.{serving-advances, ◌≡◌, ℕ, ◌+◌, ◌-◌, ◌≤◌, ◌==◌, true, false, filter, Option, Some, None, List, ◌∷◌, refl, ap, sym, ◌∙◌, arith, Plain, is_first, effect, to_take_ticket, to_enter, to_take_and_enter, Change, gets, serves, next_word, serving_word, Entries, entries, take, enters_in_turn, numbered-given, numbered-serves, serving-taken, serving-entered, entered_is_served, stands, Hold, TicketWords, TicketCall, Lock, TryLock, IsLocked, Release, TicketPoint, LoadNext, Take, Await, TryLoadNext, TryLoadServing, TryTake, LookServing, LookNext, Serve, own_count, plain, passing, is_left, ticket_table, ticket_machine, Plays, queues, entries_at, any_map, Point, nowhere, looked, onward, Notes, Means, OwesAll, SoonAll, Pays, two, no_holders, [], Queued, queued}
 use Rattle.spin_step.specs.Parties.{first_alone_entered}
 use Rattle.spin_step.proofs.TicketSteps.{ticket_take-grants_alone, ticket_serve-gives}
 use Rattle.spin_model.specs.declared.place.Hold.TheVariants as hold
@@ -85,8 +85,8 @@ module _ {V : Type 0} (v : V) (first : ℕ) where
   ticket_pays =
       record {
         fits = λ p c l h. grind arith;
-        operates = operates_by (ticket_table v first) (two_places _ _ _ _ (λ k w. refl) (λ k w. refl));
-        first = two first first first (first - 0) refl (omega arith);
+        operates = grind arith;
+        first = grind arith;
         shape_first = record { no_holders = refl; numbered = (omega arith, tt); in_range = λ some. absurd (cc (some)) };
         numbers_tell = λ u w e. grind arith;
         one_list = λ s queue. no_holders s queue.no_holders;
