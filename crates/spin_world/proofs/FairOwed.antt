@@ -110,7 +110,7 @@ module _ {V : Type 0} (v : V) (cap patience : ℕ) where
       let won = goes_on patience p s span (Some (gets p to_lock_unregistered)) plain refl (λ is. cc (is)) refl at.knows.1.0.in_time in
       let lost = missed patience p s span n plain refl at.knows.1.1 at.knows.1.0 in
       let refused = missed patience p s span n weak refl at.knows.1.1 at.knows.1.0 in
-      grind (arith, lock_means p s w, won, lost, nothing_left p _ lost.in_time, refused, nothing_left p _ refused.in_time)
+      grind (arith, lock_means p s w, won, lost, refused, nothing_left p)
   owes p Lock (Look n) None s w span = λ at.
       let held_on = looked_held patience p s span n in
       let late = looked_late patience p s span n in
@@ -121,7 +121,7 @@ module _ {V : Type 0} (v : V) (cap patience : ℕ) where
   owes p Lock Load None s w span = λ at.
       let next = loaded patience p s span w (cc (at.encodes)) at.knows.1.1 at.knows.1.0 in
       let looks = full patience p s span (few_to_load p) plain refl (allowed patience p s span None plain at.knows.1.1) in
-      grind (arith, starve_means p s w, at.knows.1, next, registers_in_time w p s _ next, looks, nothing_left p)
+      grind (arith, starve_means p s w, at.knows.1, next, registers_in_time w p s, looks, nothing_left p)
   owes p Lock (Register n) None s w span = λ at.
       let won = registered patience p s span n at.knows.1 in
       let next = λ (other : (w == n) ≡ false). retried patience p s span n w (cc (at.encodes)) other at.knows.1 in
@@ -134,10 +134,10 @@ module _ {V : Type 0} (v : V) (cap patience : ℕ) where
   owes p Lock SetFlag None s w span = λ at.
       let won = goes_on patience p s span (Some (gets p to_lock_starving)) plain refl (λ is. cc (is)) refl at.knows.1.0 in
       let lost = goes_on patience p s span None plain refl (λ is. cc (is)) (allowed patience p s span None plain at.knows.1.1) at.knows.1.0 in
-      grind (arith, lock_starved_means p s w, won, nothing_left p _ won, lost, nothing_left p _ lost)
+      grind (arith, lock_starved_means p s w, won, lost, nothing_left p)
   owes p Lock Await None s w span = λ at.
       let next = looked_starving patience p s span at.knows.0.made at.knows.1 in
-      grind (arith, held p s w, next, nothing_left p _ next, blind_after_free patience p s span)
+      grind (arith, held p s w, next, nothing_left p, blind_after_free patience p s span)
   owes p Lock Unregister None s w span = λ at.
       let next = goes_on patience p s span (Some (stops_starving p)) plain refl (λ is. cc (is)) refl at.knows.1 in
       grind (arith, unstarve_means p s w, is_starving_still p s, next)

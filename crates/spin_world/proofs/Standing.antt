@@ -99,7 +99,7 @@ module _ {V : Type 0} (v : V) (cap : ℕ) where
       let joined = seen_after-append m (opening m n) past further in
       let readers : count_kind reading later.plain.holders + readers_gone m before further ≡ count_kind reading before.plain.holders =
       ap (λ (s : Seen ℕ V RwCall RwPoint). count_kind reading s.plain.holders + readers_gone m before further) joined ∙ gone.0 in
-      let found : is_holder p asking later.plain.holders ≡ true = ap (λ (s : Seen ℕ V RwCall RwPoint). is_holder p asking s.plain.holders) joined ∙ gone.1 in
+      let found : is_holder p asking later.plain.holders ≡ true = grind arith in
       let here = good f n all in
       let alone = alone_when_gone later.plain p here.exclusive found in
       let left : (is_only p asking later.plain.holders ≡ true) ↔ (readers_gone m before further ≡ count_kind reading before.plain.holders) =

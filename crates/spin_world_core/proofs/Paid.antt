@@ -92,7 +92,7 @@ module _ {W V C L A : Type 0} {t : Table W V C L A} (n : Notes t) (p : ℕ) (wha
     formed : OwesBy n p what s w made Comes i act → ((d : Change) → makes_by act p ≡ Some d → is_step_of t.lock_kind d ≡ true) → Expects t.lock_kind act p s span
         → t.memory.numbers w ≡ encoded t.lock_kind s → n.Shape s → Formed
     formed owes own expects encodes shape =
-        let first : number_at t.memory 0 w ≡ first_word t.lock_kind s = ap (λ numbers. get_or numbers 0 0) encodes in
+        let first : number_at t.memory 0 w ≡ first_word t.lock_kind s = grind arith in
         record {
           can = grind arith;
           step = record {
