@@ -84,37 +84,16 @@ module _ {W V C L A : Type 0} (m : Machine W V C L A) (seen : Seen W V C L) (p :
       pub sets : OfSet
 
   module _ (P : Scene W V C L A → Type 0) (each : OfEach P) where
-    begun_so : (c : C) (h : Option Hold) (o : Option L) → SitsAt (Some (resting h)) → m.begin c h ≡ o
-        → is_open_move m seen.state (Begin c) (Some (resting h)) ≡ is_some o
-        → P (scene_of seen p (Begin c) (Some (resting h)) (begun seen.state p c h o) None plain None)
-    begun_so c h None there is closed = grind arith
-    begun_so c h (Some l) there is may = each.begins c l h there is
-
-    refused_so : (c : C) (l : L) (h : Option Hold) (o : Option (Next L A)) → SitsAt (Some (Calling c l h)) → m.refuse c l h ≡ o
-        → P (scene_of seen p Weak (Some (Calling c l h)) (refuses seen.state p c h o) None weak None)
-    refused_so c l h None there is = grind arith
-    refused_so c l h (Some next) there is = each.refuses c l h next there is
-
-    tested : (move : Move C V) (o : Option (Seat C L)) (by : Bool → Happened W V C L A) (x : Bool) → SitsAt o → is_open_move m seen.state move o ≡ x
-        → by false ≡ skipped seen.state → (x ≡ true → P (scene_of seen p move o (by true) None plain None)) → P (scene_of seen p move o (by x) None plain None)
-    tested move o by true there is closed opens = opens refl
-    tested move o by false there is closed opens = rw closed (each.passes move o plain there is)
-
     at_seat : (move : Move C V) (o : Option (Seat C L)) → SitsAt o → P (scene_at m seen p move o)
-    at_seat (Begin c) (Some Idle) there = begun_so c None (m.begin c None) there refl refl
-    at_seat (Begin c) (Some (Holding h)) there = grind arith
+    at_seat (Begin c) (Some Idle) there = grind (arith, λ (l : L). each.begins c l None)
+    at_seat (Begin c) (Some (Holding h)) there = grind (arith, λ (l : L). each.begins c l (Some h))
     at_seat Step (Some (Calling c l h)) there = each.steps c l h there
-    at_seat Weak (Some (Calling c l h)) there = refused_so c l h (m.refuse c l h) there refl
-    at_seat Read (Some (Holding h)) there = tested Read (Some (Holding h)) (read_by seen.state) (may_read h) there refl refl (each.reads true h there)
-    at_seat Read (Some (Leaked h)) there = tested Read (Some (Leaked h)) (read_by seen.state) (may_read h) there refl refl (each.reads false h there)
-    at_seat (Write v) (Some (Holding h)) there =
-        tested (Write v) (Some (Holding h)) (written_by seen.state v) (may_write h) there refl refl (each.writes v true h there)
-    at_seat (Write v) (Some (Leaked h)) there =
-        tested (Write v) (Some (Leaked h)) (written_by seen.state v) (may_write h) there refl refl (each.writes v false h there)
+    at_seat Read (Some (Holding h)) there = grind (arith, each.reads true h)
+    at_seat Read (Some (Leaked h)) there = grind (arith, each.reads false h)
+    at_seat (Write v) (Some (Holding h)) there = grind (arith, each.writes v true h)
+    at_seat (Write v) (Some (Leaked h)) there = grind (arith, each.writes v false h)
     at_seat Leak (Some (Holding h)) there = each.leaks h there
-    at_seat OwnerGet (Some y) there = grind arith
-    at_seat (OwnerSet v) (Some y) there = grind arith
-    at_seat move o there = each.passes move o plain there refl
+    at_seat move o there = grind arith
 
     -- if P holds in each case, it holds of every event
     pub of_event : (move : Move C V) → P (scene m seen p move)
