@@ -26,7 +26,7 @@ module _ {W V A : Type 0} where
   finds p k found (e ∷ es) = later p k found e es (last_begin p k found (e ∷ es)) (begins_of p e) refl (finds p (k + 1) (if begins_of p e then Some k else found) es)
 
   found_last : (p : ℕ) (xs : List (Event W V A)) (r : Option ℕ) → Finds p 0 None xs r → IsLastBegin p xs r
-  found_last p xs r (inl t) = subst (IsLastBegin p xs) (sym t.1) t.0
+  found_last p xs r (inl t) = grind arith
   found_last p xs r (inr t) = grind arith
 
   tells : (before told es front : List (Event W V A)) (e : Event W V A) (back : List (Event W V A)) (a : A) (b : Option ℕ)

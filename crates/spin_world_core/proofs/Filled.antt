@@ -20,7 +20,7 @@ module _ {W V C L A : Type 0} {t : Table W V C L A} {n : Notes t} (pays : Pays n
   no_completion p c l h w q is = true≢false (sym (fits_change t pays.fits pays.operates p c l h _ w (completes q) is).0 ∙ no_value)
 
   no_phase : (phase : Phase) (v : Option V) → HasPhase t.lock_kind.makes_value phase v
-  no_phase phase v = subst (λ made. HasPhase made phase v) (sym no_value) tt
+  no_phase phase v = grind arith
 
   silent : (v : Option V) (next : Next L A) → NextGives (machine_of t) v next
   silent v next = grind (arith, no_value)

@@ -69,8 +69,8 @@ module _ {W V C L A B : Type 0} {t : Table W V C L A} {by : Machine W V C L B} {
     reads_at : (w : Option V) (s : Plain) (p : ℕ) (span : List Mark) (o : Option (Seat C L)) → StandsFor s p span o → KnowsAt n s p span o → Guard r w o
         → ReaderOrGone s p o
     reads_at w s p span (Some (Calling c l (Some h))) stands knows guard = g.reads p c l h s span guard.0 guard.1 knows
-    reads_at w s p span (Some (Holding h)) stands knows guard = ap is_reader stands ∙ (reader_of p h ∙ guard.0)
-    reads_at w s p span (Some (Leaked h)) stands knows guard = ap is_reader stands ∙ (reader_of p h ∙ guard.0)
+    reads_at w s p span (Some (Holding h)) stands knows guard = grind arith
+    reads_at w s p span (Some (Leaked h)) stands knows guard = grind arith
     reads_at w s p span (Some (Gone h)) stands knows guard = tt
     reads_at w s p span _ stands knows guard = absurd guard
 

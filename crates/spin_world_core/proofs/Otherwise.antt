@@ -10,7 +10,7 @@ use Rattle.spin_model.specs.Operations.{Operation, exchanges, adds, subtracts, s
 
 -- what is left of a claim if its first part is false
 pub otherwise : {X : Type 0} → (true ≡ false) ⊎ X → X
-otherwise claim = ⊎_elim (λ (e : true ≡ false). absurd (true≢false e)) (λ x. x) claim
+otherwise claim = grind arith
 
 -- the step m is the party's own, and is no spurious failure
 pub record IsOwn (p : ℕ) (m : Mark) : Type 0 where
@@ -18,7 +18,7 @@ pub record IsOwn (p : ℕ) (m : Mark) : Type 0 where
   pub strong : is_weak m.step_kind ≡ false
 
 leaves : (kind : LockKind) (p : ℕ) (m : Mark) → IsOwn p m → Leaves kind p m
-leaves kind p m is = record { strong = λ e. is.strong; still = λ ne. absurd (ne is.party) }
+leaves kind p m is = grind arith
 
 owns : (kind : LockKind) (p : ℕ) (ms : List Mark) → AllOf (IsOwn p) ms → AllOf (Leaves kind p) ms
 owns kind p [] are = tt

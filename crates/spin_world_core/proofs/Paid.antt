@@ -161,7 +161,7 @@ module _ {W V C L A B : Type 0} {t : Table W V C L A} {m : Machine W V C L B} {n
     number i = number_at t.memory i w
 
     made_now : (step : Option Change) (r : StepKind) (cs : List Change) → row.made p ++ option_to_list step ≡ cs → own p (spanned step r) ≡ cs
-    made_now step r cs is = own-mine p step r s span ∙ (ap (λ ds. ds ++ option_to_list step) known.made ∙ is)
+    made_now step r cs is = grind arith
 
     -- a step with this result, and how the call continues
     module _ (step : Option Change) (r : StepKind) (branch : Branch) (may : IsOpenStep s p step) (branched : Branched branch s step r)

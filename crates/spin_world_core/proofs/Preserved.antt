@@ -66,7 +66,7 @@ module _ {W V C L A B : Type 0} {t : Table W V C L A} {by : Machine W V C L B} {
     pub parties : (q : ℕ) → OfParty seen.state.words seen.plain q (seen.span q) (seat_of seen q)
 
   pub standing : {seen : Seen W V C L} (p : ℕ) {y : Seat C L} → Invariant seen → seat_of seen p ≡ Some y → StandsFor seen.plain p (seen.span p) (Some y)
-  standing {seen} p good there = subst (StandsFor seen.plain p (seen.span p)) there (good.parties p).stands
+  standing {seen} p good there = grind arith
 
   pub with_hold : {seen : Seen W V C L} (p : ℕ) (b : Bool) (h : Hold) → Invariant seen → seat_of seen p ≡ Some (seat_with b h)
       → entries p seen.plain ≡ entries_of p h
@@ -86,7 +86,7 @@ module _ {W V C L A B : Type 0} {t : Table W V C L A} {by : Machine W V C L B} {
   -- `OfParty` for a party that is in no call
   rests : (w : W) (s : Plain) (p : ℕ) (span : List Mark) (after : Option Hold) → entries p s ≡ entries_held p after
       → failures p span ≤ changes m.lock_kind p span → OfParty w s p span (Some (resting after))
-  rests w s p span after stands retries = record { stands = grind arith; knows = grind arith; retries = retries; undisturbed = grind arith }
+  rests w s p span after stands retries = grind arith
 
   -- the invariant still holds after a party gets another seat without a step
   good_seated : (seen : Seen W V C L) (p : ℕ) (x y : Seat C L) (span : ℕ → List Mark) → Invariant seen → seat_of seen p ≡ Some y

@@ -11,7 +11,7 @@ with_begins-append before (x ∷ xs) ys =
 -- the last event that begins a call of the party, in two lists of events one after the other
 pub last_begin-append : {W V A : Type 0} (p k : ℕ) (found : Option ℕ) (xs ys : List (Event W V A))
     → last_begin p k found (xs ++ ys) ≡ last_begin p (k + length xs) (last_begin p k found xs) ys
-last_begin-append p k found [] ys = ap (λ n. last_begin p n found ys) (omega arith)
+last_begin-append p k found [] ys = grind arith
 last_begin-append p k found (x ∷ xs) ys =
     let now = if (x.party == p) && is_begun x.outcome then Some k else found in
     grind (arith, last_begin-append p (k + 1) now xs ys)

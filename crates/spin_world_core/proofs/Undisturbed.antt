@@ -39,7 +39,7 @@ module _ {W V C L A : Type 0} (m : Machine W V C L A) where
   module _ (w w' : W) (p : ℕ) (c : C) (l : L) (h : Option Hold) where
     -- no step has been taken yet
     begun_by : AnswersWithin m (steps_alone (m.asks c h)) w c l h → Left w p c l h 0
-    begun_by answers = record { steps = steps_alone (m.asks c h); few = omega arith; answers = answers }
+    begun_by answers = grind arith
 
     -- after a step of the call's own, one step fewer is left
     one_taken : (next : Next L A) (taken now k : ℕ) → taken + k ≤ steps_alone (m.asks c h) → now ≡ taken + 1 → AnswersWithin m k w c l h
