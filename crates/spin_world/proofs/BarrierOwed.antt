@@ -78,7 +78,7 @@ waits-on g p q s step r span none belongs waits =
 
 module _ (n : ℕ) where
   pub is_barrier : (s : Plain) (w : BarrierWords) → w.count ∷ w.generation ∷ [] ≡ count_word s ∷ generation_word s ∷ [] → IsOf n s → IsBarrier s n w.count w.generation
-  is_barrier s w encodes of = record { group = of.group; counts = cc (encodes); generations = cc (encodes) }
+  is_barrier s w encodes of = grind arith
 
   -- what a party knows after its own arrival, if this arrival does not lead
   waits_from : (p : ℕ) (s : Plain) (r : StepKind) (span : List Mark) (g : ℕ) → generation_word s ≡ g → is_leading s (s.arrivals + 1) ≡ false → generation_at s (s.arrivals + 1) ≡ g → Waits g p (apply s (arrives p)) (mark_of p (Some (arrives p)) r s ∷ span)

@@ -33,7 +33,7 @@ set_by_holder cap p w s shape is found =
 
 -- if nobody holds, a starver finds the flag clear
 pub flag_clear : (w : ℕ) (s : Plain) → fair_word s ≡ w → is_empty s.holders ≡ true → w % 2 ≡ 0
-flag_clear w s is free = omega (arith, sym is, ap length (empty_is s.holders free))
+flag_clear w s is free = grind arith
 
 -- what the word says of the reason for which a newcomer is refused
 

@@ -61,7 +61,7 @@ module _ {V : Type 0} (v : V) (cap patience : ℕ) where
   -- what the step functions mean in a state of this shape
   module _ (p : ℕ) (s : Plain) (w : ℕ) (word : fair_word s ≡ w) (shape : IsFair cap s) where
     held : is_held s ≡ is_set w
-    held = fair_is_locked-tells s w shape.one shape.queue word
+    held = grind arith
 
     lock_means : IsMeant p s (gets p to_lock_unregistered) (lock w)
     lock_means = grind (arith, fair_lock-grants s p w word, comes cap p s shape)
