@@ -34,13 +34,10 @@ Arrives p k m = (m.party ≡ p) × (m.change ≡ Some (arrives p)) × (m.after.a
 abbrev IsFull : ℕ → List Mark → Type 0
 IsFull k span = list_any (λ m. nat_le (filled_by m.before k) m.before.arrivals) span ≡ true
 
-follows_here : (p k : ℕ) (all : List Mark) (m : Mark) → Arrives p k m → is_leading m.before k ≡ false → IsFull k all → (arrives_leading p false m && list_any (finds_full m) all) ≡ true
-follows_here p k all m is behind full = grind arith
-
 follows_right : (p k : ℕ) (all span : List Mark) → AnyOf (λ m. Arrives p k m × (is_leading m.before k ≡ false)) span → IsFull k all
     → list_any (λ m. arrives_leading p false m && list_any (finds_full m) all) span ≡ true
 follows_right p k all [] made full = absurd made
-follows_right p k all (m ∷ ms) made full = grind (arith, follows_here p k all m, follows_right p k all ms)
+follows_right p k all (m ∷ ms) made full = grind (arith, eqb_self p, follows_right p k all ms)
 
 -- What a party that waits knows. It has arrived, its arrival does not lead, and the generation at its arrival was g.
 pub record Waits (g p : ℕ) (s : Plain) (span : List Mark) : Type 0 where

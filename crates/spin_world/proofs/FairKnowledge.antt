@@ -37,8 +37,5 @@ flag_clear w s is free = grind arith
 
 -- what the word says of the reason for which a newcomer is refused
 
-pub word_locked : (w : ℕ) (s : Plain) → OneHolds s → fair_word s ≡ w → w ≡ 1 → (is_held s && is_empty s.starvers) ≡ true
-word_locked w s one is e = grind arith
-
 pub word_starved : (w : ℕ) (s : Plain) → OneHolds s → fair_word s ≡ w → (w == 1) ≡ false → (is_empty s.holders && is_empty s.starvers) ≡ false → not (is_empty s.starvers) ≡ true
 word_starved w s one is other closed = grind (arith, eq-eqb w 1, is_empty-none s.holders, empty_is s.starvers)

@@ -5,7 +5,7 @@ use Rattle.spin_world_core.proofs.Operating.{one_place, operates_by}
 use Rattle.spin_world_core.proofs.Steps.{Plays}
 use Rattle.spin_world_core.proofs.Filled.{plays_of}
 use Rattle.spin_world.proofs.Registering.{MayBeBlind, blind-other, blind_after_step, blind_after_free, blind_after_late, allowed, none_left, few_to_load, few_to_register, Looking, Loading, Registering, none_yet, starving-other, looking-other, loading-other, registering-other, goes_on, missed, looked_free, looked_held, looked_late, loaded, retried, full, registered, looked_starving}
-use Rattle.spin_world.proofs.FairKnowledge.{IsFair, comes, goes_away, is_starving, is_starving_still, set_by_holder, flag_clear, word_locked, word_starved, not_there}
+use Rattle.spin_world.proofs.FairKnowledge.{IsFair, comes, goes_away, is_starving, is_starving_still, set_by_holder, flag_clear, word_starved, not_there}
 
 -- the row of a starver that waits for the lock, after these plain steps
 abbrev pub starving_row : (ℕ → List Change) → Row
@@ -143,7 +143,7 @@ module _ {V : Type 0} (v : V) (cap patience : ℕ) where
       grind (arith, unstarve_means p s w, is_starving_still p s, next)
   owes p Lock _ _ s w span = tt
   owes p TryLock l h s w span = grind (arith, lock_means p s w)
-  owes p TryLockStarver l h s w span = grind (arith, lock_means p s w, eqb-true w 1, word_locked w s, word_starved w s)
+  owes p TryLockStarver l h s w span = grind (arith, lock_means p s w, eqb-true w 1, word_starved w s)
   owes p IsLocked l h s w span = grind (arith, held p s w)
   owes p Starve l h s w span = grind (arith, starve_means p s w)
   owes p StarverTryLockFair l h s w span = grind (arith, lock_fair_means p s w, unstarve_means p s w, is_starving_still p s)

@@ -50,10 +50,6 @@ module _ {V : Type 0} (v : V) (first : ℕ) where
         let numbered = numbered-given s p (effect to_take_ticket) queue.numbered in
         grind (arith, queue, serving-taken s p false queue.numbered, numbered)
 
-    -- what it means to take the next ticket if the next number is served
-    take_alone_means : w.next ≤ serving_word s → IsMeant p s (gets p to_take_and_enter) (λ n. record w { next = n }) (take w.next)
-    take_alone_means le = grind arith
-
     enter_means : (t : ℕ) → entries p s ≡ entries_at p (queues t false) → IsMeant p s (gets p to_enter) (λ k. w) (passing (w.serving == t) w.serving)
     enter_means t mine =
         let numbered = numbered-given s p (effect to_enter) queue.numbered in
@@ -72,7 +68,7 @@ module _ {V : Type 0} (v : V) (first : ℕ) where
   owes p TryLock (TryLoadServing n) None s w span =
       let found = any_map (λ m. (m.party ≡ p) × (next_word m.before ≡ n)) (λ m. (m.party ≡ p) × (next_word m.before ≡ serving_word s)) span in
       grind (arith, found, try_refused p n s span, own_count-mine p None plain s span)
-  owes p TryLock (TryTake n) None s w span = grind (arith, take_alone_means p s w, try_refused p n s span)
+  owes p TryLock (TryTake n) None s w span = grind (arith, numbered-given s p (effect to_take_and_enter), ticket_take-grants_alone s p w.next, serving-taken s p true, try_refused p n s span)
   owes p IsLocked (LookNext k) None s w span = grind (arith, look_right (w.next == k) p k s span)
   owes p c l h s w span = grind (arith, take_means p s w, enter_means p s w, serve_means p s w, own_count-mine p None plain s span)
 
