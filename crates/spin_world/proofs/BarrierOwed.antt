@@ -77,15 +77,11 @@ module _ (n : ℕ) where
   pub is_barrier : (s : Plain) (w : BarrierWords) → w.count ∷ w.generation ∷ [] ≡ count_word s ∷ generation_word s ∷ [] → IsOf n s → IsBarrier s n w.count w.generation
   is_barrier s w encodes of = grind arith
 
-  -- what a party knows after its own arrival, if this arrival does not lead
-  waits_from : (p : ℕ) (s : Plain) (r : StepKind) (span : List Mark) (g : ℕ) → generation_word s ≡ g → is_leading s (s.arrivals + 1) ≡ false → generation_at s (s.arrivals + 1) ≡ g → Waits g p (apply s (arrives p)) (mark_of p (Some (arrives p)) r s ∷ span)
-  waits_from p s r span g is behind same = grind arith
-
   owes : OwesAll (barrier_notes n)
   owes p c Arrive h s w span =
       let below = barrier_count-below s n w.count w.generation in
       let after = barrier_arrive-words s n w.count w.generation in
-      grind (arith, is_barrier s w, below, after, waits_from p s plain span)
+      grind (arith, is_barrier s w, below, after, eqb_self p)
   owes p c (Leave g) None s w span = λ at.
       let full = barrier_may_leave-full s (arrived p span) n w.count w.generation g (is_barrier s w at.encodes at.shape) in
       let waits = waits-on g p p s None look span (and-false (p == p)) tt at.knows.1 in

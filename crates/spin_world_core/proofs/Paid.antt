@@ -4,7 +4,7 @@ use Rattle.spin_world_core.proofs.Steps.{told, played, GoesOnOpen, ContinuesCoun
 use Rattle.spin_world_core.proofs.Operating.{change_is, fits_made}
 use Rattle.spin_world_core.proofs.Spans.{own-mine, retries-mine}
 use Rattle.spin_world_core.proofs.Stands.{entries_at, stand_of, held_at, stand-mine}
-use Rattle.spin_world_core.proofs.Rows.{Known, Opened, OwesRight, Branch, goes, finds_open, loses, misses, Branched, may_spend, tries_open, need, need_of, Needs, rests, peeks, needs-mine, spent-mine, goes_within, ends_within, any_map, moment_of, weakly_right, Row, IsSound, Expects, known-other}
+use Rattle.spin_world_core.proofs.Rows.{Known, Opened, OwesRight, Branch, goes, finds_open, loses, misses, Branched, may_spend, need, need_of, Needs, rests, peeks, needs-mine, spent-mine, goes_within, ends_within, any_map, moment_of, weakly_right, Row, IsSound, Expects, known-other}
 use Rattle.spin_world_core.proofs.Shapes.{Notes, OwesBy, is_answer, row_of, KnowsRow, Knows, AtPoint, InCall, FollowsRow, Follows, Owes, OwesRow, goes_by, answers_by, AnswersRow, BeginsRow, BeginsAt, sure_by, aim_by, aim_of, aimed, aimed_at, Pays}
 
 abbrev Aimed : {W L A : Type 0} → Option Ask → Option Ask → Act W L A → List Change → ℕ → Type 0
@@ -215,7 +215,7 @@ module _ {W V C L A B : Type 0} {t : Table W V C L A} {m : Machine W V C L B} {n
       -- a try continues only as `MayTryOn` allows
       tried_on : (ask : Ask) (next : Next L A) → tries_of what ≡ Some ask → (step ≡ None → Aims branch (is_open_to s p ask ≡ true))
           → Comes false step r branch next → GoesOnOpen ask p span s (told t.says next) step
-      tried_on ask next is shows follows = grind (arith, is, shows, tries_open ask p span s)
+      tried_on ask next is shows follows = grind (arith, is, shows)
 
     abbrev ShownHere : Bool → Option Change → StepKind → Branch → W → Next L A → Type 0
     ShownHere = Shown n p what s w span (row.made p) Comes

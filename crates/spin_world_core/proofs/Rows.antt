@@ -58,9 +58,6 @@ pub may_spend : (tries : Option Ask) (branch : Branch) (step : Option Change) (p
     → Spend
 may_spend tries branch step p s span Spend may = grind arith
 
-pub tries_open : (ask : Ask) (p : ℕ) (span : List Mark) (s : Plain) → is_open_to s p ask ≡ true → MayTryOn ask p span s
-tries_open ask p span s may = grind arith
-
 -- a call that has spent k steps has a step left
 abbrev pub is_timely : Limit → List Change → ℕ → Bool
 is_timely (within n) cs k = nat_lt k n
@@ -103,15 +100,12 @@ pub any_map : {X : Type 0} (P Q : X → Type 0) (xs : List X) → ((x : X) → P
 any_map P Q [] f any = any
 any_map P Q (x ∷ xs) f any = grind (arith, f, any_map P Q xs f)
 
-same_ask_self : (ask : Ask) → same_ask ask ask ≡ true
-same_ask_self ask = grind arith
-
 pub any_passes : {X : Type 0} (P : X → Type 0) (test : X → Bool) (xs : List X) → ((x : X) → P x → test x ≡ true) → AnyOf P xs → list_any test xs ≡ true
 any_passes P test [] f any = absurd any
 any_passes P test (x ∷ xs) f any = grind (arith, f, any_passes P test xs f)
 
 granted_here : (p : ℕ) (ask : Ask) (m : Mark) (b : Bool) (step : Option Change) → (m.party == p) ≡ b → m.change ≡ step → IsOpenStep m.before m.party step → AnyOf (λ c. c ≡ gets p ask) (if b then option_to_list step else []) → grants p ask m ≡ true
-granted_here p ask m b step mine is may any = grind (arith, same_ask_self ask)
+granted_here p ask m b step mine is may any = grind arith
 
 -- if the call has made the plain step that gets `ask`, its grant has a moment
 pub granted_at : (p : ℕ) (ask : Ask) (span : List Mark) → Opened span → AnyOf (λ c. c ≡ gets p ask) (own p span) → list_any (grants p ask) span ≡ true
@@ -122,9 +116,6 @@ granted_at p ask (m ∷ ms) opened any =
     (λ (here : AnyOf (λ c. c ≡ gets p ask) (if m.party == p then option_to_list m.change else [])). ap (λ b. b || list_any (grants p ask) ms) (granted_here p ask m (m.party == p) m.change refl refl opened.0 here))
     (any_split (λ c. c ≡ gets p ask) (own p ms) (if m.party == p then option_to_list m.change else []) any)
 
-pub granted_moment : (p : ℕ) (ask : Ask) (span : List Mark) → Opened span → AnyOf (λ steps. own p span ≡ steps) (grant p ask ∷ []) → list_any (grants p ask) span ≡ true
-granted_moment p ask span opened is = grind (arith, granted_at p ask span opened)
-
 -- what has to be shown of an answer's moment: nothing of a grant, whose moment follows from the call's plain steps
 abbrev pub OwesMoment : Meaning → ℕ → List Mark → Type 0
 OwesMoment (got ask) p span = Unit {0}
@@ -132,7 +123,7 @@ OwesMoment (got_or_starved a b) p span = Unit {0}
 OwesMoment meaning p span = moment meaning p span ≡ true
 
 pub moment_of : (meaning : Meaning) (p : ℕ) (span : List Mark) → Opened span → AnyOf (λ steps. own p span ≡ steps) (own_steps meaning p) → OwesMoment meaning p span → moment meaning p span ≡ true
-moment_of (got ask) p span opened is owed = granted_moment p ask span opened is
+moment_of (got ask) p span opened is owed = grind (arith, granted_at p ask span opened)
 moment_of (got_or_starved a b) p span opened is owed = grind (arith, granted_at p a span opened, granted_at p b span opened)
 moment_of meaning.never p span opened is owed = owed
 moment_of (meaning.found test) p span opened is owed = owed

@@ -11,17 +11,13 @@ use Rattle.spin_world_core.proofs.Schedules.{length-happens}
 -- The transcript
 
 module _ {W V C L A : Type 0} (m : Machine W V C L A) where
-  -- an event of the machine does not say where its call began
-  no_begin : (s : State W V C L) (p : ℕ) (move : Move C V) → without_begin (happens m s p move).outcome ≡ (happens m s p move).outcome
-  no_begin s p move = grind arith
-
   tells_from : (seen : Seen W V C L) (es : List (ℕ × Move C V)) (before : List (Event W V A))
       → EachTells (scenes m seen es) (with_begins before (events_of m seen.state es))
   tells_from seen [] before = tt
   tells_from seen (e ∷ es) before =
       let h = happens m seen.state e.0 e.1 in
       let event : Event W V A = record { party = e.0; outcome = h.outcome; words = h.next.words } in (
-        record { party = refl; outcome = grind (arith, no_begin seen.state e.0 e.1); words = refl },
+        record { party = refl; outcome = grind arith; words = refl },
         tells_from (scene m seen e.0 e.1).after es (before ++ event ∷ []),
       )
 
