@@ -1,9 +1,8 @@
 -- What has to be shown of the barrier's table.
-use Rattle.spin_world.proofs.BarrierNames.{◌≡◌, ℕ, ◌+◌, ◌/◌, ◌%◌, ◌^◌, ◌≤◌, ◌==◌, false, ◌&&◌, is_some, Option, Some, None, List, ◌∷◌, refl, sym, subst, arith, inr, max, Plain, Change, arrives, apply, count_word, generation_word, IsBarrier, is_leading, generation_at, barrier_arrive-words, barrier_count-below, barrier_may_leave-tells, barrier_may_leave-full, Hold, BarrierWords, BarrierCall, BarrierPoint, Arrive, Leave, arrived, mark_of, passes, is_arrival, barrier_table, barrier_machine, []}
+use Rattle.spin_world.proofs.BarrierNames.{◌≡◌, ℕ, ◌+◌, ◌≤◌, ◌==◌, false, ◌&&◌, is_some, Option, Some, None, List, ◌∷◌, refl, sym, subst, arith, inr, Plain, Change, arrives, count_word, generation_word, IsBarrier, is_leading, generation_at, barrier_arrive-words, barrier_count-below, barrier_may_leave-full, Hold, BarrierWords, BarrierPoint, Arrive, Leave, arrived, mark_of, passes, is_arrival, barrier_table, barrier_machine, []}
 use Rattle.std.proofs.Math.Bool.{and-false}
-use Rattle.std.proofs.Math.Nat.{mod-le, div-le_self}
 use Rattle.spin_step.specs.Parties.{apply_some}
-use Rattle.spin_model.specs.StepKinds.{StepKind, plain, look}
+use Rattle.spin_model.specs.StepKinds.{StepKind, look}
 use Rattle.spin_model.specs.Calls.{AnyOf, BelongsTo, Mark, follows}
 use Rattle.spin_model.specs.Asks.{arrives_leading, finds_full}
 use Rattle.spin_world.specs.BarrierKind.{barrier}
@@ -12,8 +11,7 @@ use Rattle.spin_world_core.proofs.Steps.{Plays}
 use Rattle.spin_world_core.proofs.Stands.{absent}
 use Rattle.spin_world_core.proofs.Rows.{Point, nowhere, looked, onward}
 use Rattle.spin_world_core.proofs.Shapes.{Notes, OwesAll, SoonAll, Pays}
-use Rattle.spin_world_core.proofs.Usual.{two, no_holders}
-use Rattle.spin_world_core.proofs.Operating.{operates_by}
+use Rattle.spin_world_core.proofs.Usual.{no_holders}
 use Rattle.spin_world_core.proofs.Filled.{plays_of}
 use Rattle.std.specs.List.{list_any}
 use Rattle.std.specs.Prelude.{nat_le}

@@ -1,5 +1,5 @@
 -- The shape of a fair lock, how steps keep this shape, and what a party finds in the word.
-use Rattle.spin_world.proofs.FairNames.{◌≡◌, ℕ, ◌%◌, ◌==◌, true, false, not, ◌&&◌, ◌||◌, ◌∷◌, ◌++◌, length, refl, ap, sym, ◌∙◌, arith, length-append, min, eq-eqb, Plain, holder, writing, is_empty, is_starver, is_holder, fair_word, releases, apply, Entries, entries, is_held, most_starvers, OneHolds, empty_is, is_empty-none, is_empty-some, length-without_holder, is_starver-from_entries, flag_is, starves, holds_and_starves, entries_at, only_left, is_holder-own, []}
+use Rattle.spin_world.proofs.FairNames.{◌≡◌, ℕ, ◌%◌, ◌==◌, true, false, not, ◌&&◌, ◌||◌, ◌∷◌, ◌++◌, sym, arith, min, eq-eqb, Plain, holder, writing, is_empty, is_starver, is_holder, fair_word, releases, apply, entries, most_starvers, OneHolds, empty_is, is_empty-none, length-without_holder, is_starver-from_entries, flag_is, starves, holds_and_starves, entries_at, only_left, is_holder-own, []}
 
 -- the shape of the lock: at most one holder, no queue, and the cap
 pub record IsFair (cap : ℕ) (s : Plain) : Type 0 where
@@ -36,6 +36,5 @@ pub flag_clear : (w : ℕ) (s : Plain) → fair_word s ≡ w → is_empty s.hold
 flag_clear w s is free = grind arith
 
 -- what the word says of the reason for which a newcomer is refused
-
 pub word_starved : (w : ℕ) (s : Plain) → OneHolds s → fair_word s ≡ w → (w == 1) ≡ false → (is_empty s.holders && is_empty s.starvers) ≡ false → not (is_empty s.starvers) ≡ true
 word_starved w s one is other closed = grind (arith, eq-eqb w 1, is_empty-none s.holders, empty_is s.starvers)

@@ -1,7 +1,6 @@
 -- What has to be shown of the fair lock's table.
-use Rattle.spin_world.proofs.FairNames.{◌≡◌, ℕ, ◌<◌, ◌+◌, ◌-◌, ◌%◌, ◌==◌, true, false, ◌&&◌, nat_lt, Option, Some, None, List, ◌∷◌, refl, ap, arith, and_parts, eqb-true, Plain, writing, to_lock_unregistered, to_lock_starving, to_lock_starving_alone, to_starve, Change, gets, releases, stops_starving, is_empty, is_starver, fair_word, apply_some, Entries, entries, is_held, empty_is, is_holder-from_entries, length-without_starver, is_set, lock, starve, lock_fair, fair_lock-grants, fair_starve-grants, fair_lock_fair-grants, fair_lock_starved-grants, fair_unstarve-gives, fair_unlock-gives, fair_is_locked-tells, Hold, Write, Starver, FairCall, Lock, TryLock, TryLockStarver, IsLocked, Starve, StarverTryLockFair, StarverTryLock, StarverLock, StarverDrop, Release, FairPoint, First, Attempt, Look, Load, Register, SetFlag, Await, Unregister, StepKind, plain, again, weak, Mark, granted, fair, mark_of, own_count, changes, RegistersInTime, tried, fair_table, fair_machine, holds, starves, holds_and_starves, entries_at, Row, Point, nowhere, looked, onward, Notes, Means, OwesAll, SoonAll, Pays, no_queue, []}
+use Rattle.spin_world.proofs.FairNames.{◌≡◌, ℕ, ◌<◌, ◌+◌, ◌-◌, ◌%◌, ◌==◌, true, false, ◌&&◌, nat_lt, Option, Some, None, List, ◌∷◌, refl, ap, arith, and_parts, eqb-true, Plain, writing, to_lock_unregistered, to_lock_starving, to_lock_starving_alone, to_starve, Change, gets, releases, stops_starving, is_empty, is_starver, fair_word, apply_some, Entries, entries, is_held, empty_is, is_holder-from_entries, length-without_starver, is_set, lock, starve, lock_fair, fair_lock-grants, fair_starve-grants, fair_lock_fair-grants, fair_lock_starved-grants, fair_unstarve-gives, fair_unlock-gives, Hold, Write, Starver, FairCall, Lock, TryLock, TryLockStarver, IsLocked, Starve, StarverTryLockFair, StarverTryLock, StarverLock, StarverDrop, Release, FairPoint, First, Attempt, Look, Load, Register, SetFlag, Await, Unregister, StepKind, plain, again, weak, Mark, granted, fair, mark_of, own_count, changes, RegistersInTime, tried, fair_table, fair_machine, holds, starves, holds_and_starves, entries_at, Row, Point, nowhere, looked, onward, Notes, Means, OwesAll, SoonAll, Pays, no_queue, []}
 use Rattle.spin_model.specs.Operations.{sets_lowest_bit}
-use Rattle.spin_world_core.proofs.Operating.{one_place, operates_by}
 use Rattle.spin_world_core.proofs.Steps.{Plays}
 use Rattle.spin_world_core.proofs.Filled.{plays_of}
 use Rattle.spin_world.proofs.Registering.{MayBeBlind, blind-other, blind_after_step, blind_after_free, blind_after_late, allowed, none_left, few_to_load, few_to_register, Looking, Loading, Registering, none_yet, starving-other, looking-other, loading-other, registering-other, goes_on, missed, looked_free, looked_held, looked_late, loaded, retried, full, registered, looked_starving}

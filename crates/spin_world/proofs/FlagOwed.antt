@@ -1,15 +1,10 @@
 -- What has to be shown of the flag's table.
-use Rattle.std.proofs.Common.{◌≡◌, ℕ, Bool, Option, List, [], refl, arith}
-use Rattle.spin_step.specs.Plain.{Plain, writing}
+use Rattle.std.proofs.Common.{◌≡◌, [], refl, arith}
+use Rattle.spin_step.specs.Plain.{writing}
 use Rattle.spin_step.proofs.Holders.{is_holder-from_entries, length-held}
 use Rattle.spin_step.proofs.Flags.{flag_lock-grants, flag_unlock-gives}
-use Rattle.spin_model.specs.declared.place.Hold.{Hold}
-use Rattle.spin_model.specs.declared.flag.FlagCall.{FlagCall}
-use Rattle.spin_model.specs.declared.flag.FlagPoint.{FlagPoint}
-use Rattle.spin_model.specs.Calls.{Mark}
-use Rattle.spin_model.specs.FlagKind.{flag}
 use Rattle.spin_model.specs.Acts.{begin_of}
-use Rattle.spin_model.specs.Flag.{asks_of, flag_table, flag_machine}
+use Rattle.spin_model.specs.Flag.{flag_table, flag_machine}
 use Rattle.spin_world_core.proofs.Steps.{Plays}
 use Rattle.spin_world_core.proofs.Rows.{starts}
 use Rattle.spin_world_core.proofs.Shapes.{Notes, OwesAll, SoonAll, Pays}

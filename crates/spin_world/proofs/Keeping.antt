@@ -1,15 +1,11 @@
 -- Proofs of what users of a `Once` may rely on: one closure runs at a time, and there is one value.
-use Rattle.spin_world.proofs.OnceNames.{Plays, ◌≡◌, ℕ, ◌==◌, true, false, is_some, Option, Some, None, ◌∷◌, ◌++◌, slice_get, refl, arith, ap, sym, ◌∙◌, subst, and_parts, running, Change, once_word, IsOpenStep, Answer, Value, Hold, Calling, Step, State, happens, after, at_first, Seen, scene, opening, last_written, placed_at, MayTouch, OnceCall, Get, OncePoint, Run, runs, asks_of, OnceMachine, once_machine, Entries, once_after, seen_at, keeps_value, is_shared, ValueStays, RunsClosure, OneRuns, wants_value, AnswersAtOnce, GetAgrees, after-append, InCall, Invariant, []}
+use Rattle.spin_world.proofs.OnceNames.{Plays, ◌≡◌, ℕ, ◌==◌, true, false, is_some, Option, Some, None, ◌∷◌, ◌++◌, slice_get, refl, arith, ap, sym, ◌∙◌, subst, and_parts, running, once_word, Value, Hold, Calling, Step, State, happens, after, at_first, Seen, scene, opening, OnceCall, Get, OncePoint, Run, runs, asks_of, OnceMachine, once_machine, Entries, once_after, seen_at, keeps_value, is_shared, ValueStays, RunsClosure, OneRuns, wants_value, AnswersAtOnce, GetAgrees, after-append, InCall, Invariant, []}
 use Rattle.spin_model.specs.declared.schedule.Move.{Move}
-use Rattle.spin_model.specs.declared.schedule.Outcome.{Outcome}
 use Rattle.spin_model.specs.declared.schedule.Outcome.TheVariants as outcome
 use Rattle.spin_world_core.specs.Users.{outcome_after}
-use Rattle.spin_world_core.specs.Values.{GivesAt}
 use Rattle.spin_world_core.proofs.Every.{kept, state-seen_after}
 use Rattle.spin_world_core.proofs.Reached as reached
 use Rattle.spin_world_core.proofs.Reached.{numbers_are, calls}
-use Rattle.spin_world_core.proofs.Filled.{uncompleted}
-use Rattle.spin_world_core.proofs.Values as values
 use Rattle.spin_world.proofs.OnceOwed.{once_notes, once_facts}
 
 abbrev pub OnceState : Type 0 → Type 0

@@ -1,6 +1,6 @@
 -- Registering in time: what a `lock` knows of the looks in its span, how steps of other parties keep this knowledge, and
 -- what each step of the call changes.
-use Rattle.spin_world.proofs.FairNames.{◌≡◌, ℕ, ◌+◌, ◌<◌, ◌≤◌, ◌⊎◌, ◌==◌, true, false, not, ◌&&◌, ◌||◌, is_some, nat_lt, if◌then◌else◌, Option, Some, None, List, ◌∷◌, ◌++◌, length, length-append, refl, ap, sym, ◌∙◌, arith, inl, inr, ⊎_elim, ne_eqb, false≢true, or-true, Plain, Change, gets, to_starve, is_open, apply_some, is_held, bit, StepKind, plain, again, look, is_look, Mark, AnyOf, Registers, TriesToStarve, first_word, fair, mark_of, own, own_count, changes, held_looks, IsLateLook, RegistersInTime, moved, is_open_to, []}
+use Rattle.spin_world.proofs.FairNames.{◌≡◌, ℕ, ◌+◌, ◌<◌, ◌≤◌, ◌⊎◌, ◌==◌, true, false, not, ◌&&◌, ◌||◌, Option, Some, None, List, ◌∷◌, ◌++◌, length, length-append, refl, ap, sym, ◌∙◌, arith, inl, inr, ne_eqb, false≢true, Plain, Change, gets, to_starve, is_open, apply_some, is_held, bit, StepKind, plain, again, look, is_look, Mark, AnyOf, Registers, TriesToStarve, first_word, fair, mark_of, own, own_count, changes, held_looks, IsLateLook, RegistersInTime, moved, is_open_to, []}
 use Rattle.spin_world_core.specs.Spans.{is_blind, may_be_blind}
 use Rattle.spin_world_core.proofs.Lists.{eqb_self}
 use Rattle.spin_world_core.proofs.Spans.{own_count-mine, own_count-other, changes-mine, changes-other}

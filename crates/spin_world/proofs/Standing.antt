@@ -15,7 +15,7 @@ use Rattle.spin_step_more.specs.RwCalls.{rw_machine}
 use Rattle.spin_world.specs.Standing.{StandTogether, KeepsWritersOut, less, Downgrades, readers_gone, StaysAsking, Opens, converts}
 use Rattle.spin_world.proofs.RwOwed.{holder_by, rw_notes, rw_facts}
 use Rattle.spin_model.specs.Machines.{Machine}
-use Rattle.spin_world_core.proofs.Reached.{good, numbers_are, stands, calls, passes_some, passes_all, row_passes, row_tells}
+use Rattle.spin_world_core.proofs.Reached.{good, numbers_are, stands, calls, passes_some, passes_all, row_passes}
 use Rattle.spin_model.proofs.Lists.{get-set_same}
 use Rattle.spin_world_core.proofs.Preserved.{Invariant}
 use Rattle.spin_world_core.proofs.Every.{kept}

@@ -1,13 +1,12 @@
 -- Every event of every schedule keeps all that is promised, for any machine that plays a table (`Plays`).
-use Rattle.spin_world_core.proofs.Names.{◌≡◌, ℕ, Option, List, [], ◌∷◌, refl, subst, false, arith, Seat, Idle, Move, Machine, opening_plain, after, at_first, Seen, Scene, scene, is_open_move, StandsFor, MaySkip, Every, Keeps, IsRight, IsInTime, opening, KeepsAll, MomentsAll, CountsAll, CanStep, seen_after, Table, Bool, HasPhase, opening_phase, Option, seat_of, is_owners, IsOwners, moves_at, true, StepKind, scene_of, skipped, None}
+use Rattle.spin_world_core.proofs.Names.{◌≡◌, ℕ, Option, List, [], ◌∷◌, refl, subst, false, arith, Seat, Idle, Move, Machine, opening_plain, after, at_first, Seen, Scene, scene, is_open_move, StandsFor, MaySkip, Every, Keeps, IsRight, IsInTime, opening, KeepsAll, MomentsAll, CountsAll, CanStep, seen_after, Table, Option, seat_of, is_owners, IsOwners, moves_at, true, StepKind, scene_of, skipped, None}
 use Rattle.spin_world_core.specs.Runs.{MayTouch}
-use Rattle.spin_step.proofs.Exclusive.{exclusive-free}
 use Rattle.spin_world_core.proofs.Lists.{get-replicate}
 use Rattle.spin_world_core.proofs.Steps.{played, Plays}
 use Rattle.spin_world_core.proofs.Shapes.{Notes}
 pub use Rattle.spin_world_core.proofs.Preserved.{standing, in_call}
 use Rattle.spin_world_core.proofs.Paid.{at_step}
-use Rattle.spin_world_core.proofs.Events.{of_event, skips_closed, skipped_scene, reads_value, comes_to, moves_in_place, keeps_calling}
+use Rattle.spin_world_core.proofs.Events.{of_event, skips_closed, skipped_scene, comes_to, moves_in_place, keeps_calling}
 use Rattle.spin_world_core.proofs.Preserved.{OfParty, Invariant, Kept, Preserved, StepKeeps, reader_of, writer_of, step_kept, refusal_kept, begun_kept, write_kept, leak_kept}
 use Rattle.spin_world_core.proofs.Owners.{none_owns, owns, owner_get_kept, owner_set_kept}
 

@@ -1,5 +1,5 @@
 -- Two machines that play a table. In one no closure makes the value; in the other the object's closures make it.
-use Rattle.spin_world_core.proofs.Names.{◌≡◌, ℕ, Bool, true, false, is_some, Option, Some, None, refl, ap, sym, ◌∙◌, subst, arith, true≢false, false≢true, Plain, Phase, Change, completes, is_complete, apply_some, IsOpenStep, entries, is_held, Answer, Hold, Next, Continue, Answers, encoded, says_of, placed, HasPhase, if_completed, is_writer, Memory, Act, store, step_by, change_at, change_by, makes_by, Table, machine_of, completes_by, brought, filled, machine_with}
+use Rattle.spin_world_core.proofs.Names.{◌≡◌, ℕ, Bool, true, false, is_some, Option, Some, None, refl, ap, sym, ◌∙◌, subst, arith, true≢false, Plain, Phase, Change, completes, is_complete, apply_some, IsOpenStep, entries, is_held, Answer, Hold, Next, Continue, Answers, encoded, says_of, placed, HasPhase, if_completed, is_writer, Memory, Act, store, step_by, change_at, change_by, makes_by, Table, machine_of, completes_by, brought, filled, machine_with}
 use Rattle.spin_model.specs.Asks.{is_completion}
 use Rattle.spin_model.specs.declared.answer.Answer.TheVariants.{Value}
 use Rattle.spin_world_core.proofs.Operating.{change_is, fits_change, stepwise_of, stepwise_with}

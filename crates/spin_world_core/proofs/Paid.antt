@@ -1,10 +1,10 @@
 -- What holds at a step of a party, by what the object shows of its table (`Pays`).
-use Rattle.spin_world_core.proofs.Names.{LockKind, ◌≡◌, ℕ, zero, suc, ◌<◌, Bool, true, false, is_some, Option, Some, None, List, [], ◌∷◌, ◌++◌, option_to_list, get_or, ap, sym, ◌∙◌, subst, arith, and_parts, false≢true, Plain, is_empty, Ask, Change, gets, is_open, is_open_to, apply_some, IsOpenStep, entries, Hold, Next, Continue, Answers, Stepped, Move, Step, Weak, StepKind, weak, is_again, by_step, Asked, place_of, encoded, is_step_of, BelongsTo, Said, own_steps, AnyOf, Mark, first_word, Limit, arrived, is_open_now, steps_alone, Way, way_of, is_due_by, LooksElse, Gets, mark_of, Machine, entries_held, own, failures, changes, IsBeginning, RightBy, ContinuesWithin, number_at, Act, load_for, retry, either, stays, step_by, change_by, can_by, refusal_by, makes_by, step_kind_by, Table, begin_of, HasPhase, tries_of, goes_of, limit}
+use Rattle.spin_world_core.proofs.Names.{LockKind, ◌≡◌, ℕ, zero, suc, ◌<◌, Bool, true, false, is_some, Option, Some, None, List, [], ◌∷◌, ◌++◌, option_to_list, get_or, ap, sym, ◌∙◌, subst, arith, and_parts, false≢true, Plain, Ask, Change, gets, is_open, is_open_to, apply_some, IsOpenStep, entries, Hold, Next, Continue, Answers, Stepped, Move, Step, Weak, StepKind, weak, is_again, by_step, Asked, place_of, encoded, is_step_of, BelongsTo, Said, own_steps, AnyOf, Mark, first_word, Limit, is_open_now, steps_alone, way_of, is_due_by, LooksElse, Gets, mark_of, Machine, entries_held, own, failures, changes, IsBeginning, RightBy, ContinuesWithin, number_at, Act, load_for, retry, either, stays, step_by, change_by, can_by, refusal_by, makes_by, step_kind_by, Table, begin_of, HasPhase, tries_of, goes_of, limit}
 use Rattle.spin_world_core.proofs.Steps.{told, played, GoesOnOpen, ContinuesCounted, Moves, NextIs, AnswersWithin, AtStep, Plays}
 use Rattle.spin_world_core.proofs.Operating.{change_is, fits_made}
-use Rattle.spin_world_core.proofs.Spans.{own-mine, retries-mine}
-use Rattle.spin_world_core.proofs.Stands.{entries_at, stand_of, held_at, stand-mine}
-use Rattle.spin_world_core.proofs.Rows.{Known, Opened, OwesRight, Branch, goes, finds_open, loses, misses, Branched, may_spend, need, need_of, Needs, rests, peeks, needs-mine, spent-mine, goes_within, ends_within, any_map, moment_of, weakly_right, Row, IsSound, Expects, known-other}
+use Rattle.spin_world_core.proofs.Spans.{retries-mine}
+use Rattle.spin_world_core.proofs.Stands.{stand_of, held_at, stand-mine}
+use Rattle.spin_world_core.proofs.Rows.{Known, Opened, OwesRight, Branch, goes, finds_open, loses, misses, Branched, may_spend, need_of, Needs, needs-mine, spent-mine, goes_within, ends_within, any_map, moment_of, weakly_right, Row, IsSound, Expects, known-other}
 use Rattle.spin_world_core.proofs.Shapes.{Notes, OwesBy, is_answer, row_of, KnowsRow, Knows, AtPoint, InCall, FollowsRow, Follows, Owes, OwesRow, goes_by, answers_by, AnswersRow, BeginsRow, BeginsAt, sure_by, aim_by, aim_of, aimed, aimed_at, Pays}
 
 abbrev Aimed : {W L A : Type 0} → Option Ask → Option Ask → Act W L A → List Change → ℕ → Type 0
@@ -37,16 +37,17 @@ Aims finds_open Open = Open
 Aims loses Open = Open
 Aims branch Open = Unit {0}
 
--- the result of a step that makes no plain step, if it finds the number n in its word
 abbrev misses_by : Option Change → Branch
 misses_by None = goes
 misses_by (Some c) = misses c
 
+-- the result of a step that makes no plain step, if it finds the number n in its word
 abbrev found_by : {W L A : Type 0} → ℕ → Act W L A → ℕ → Branch
 found_by n (load_for f step found missed) p = either (is_some (f n)) finds_open (misses (step p))
 found_by n (retry k f step won found missed) p = either (is_some (f n)) loses (misses (step p))
 found_by n act p = misses_by (sure_by act p)
 
+-- the result of a step, by whether it makes its plain step
 abbrev branch_by : Option Change → Branch → Branch
 branch_by None branch = branch
 branch_by (Some c) branch = goes

@@ -1,5 +1,5 @@
 -- What has been played of a schedule, at the beginning of a turn of the loop.
-use Rattle.spin_world_core.proofs.Names.{slice_get-map, ◌≡◌, ℕ, map, ◌+◌, ◌<◌, ◌≤◌, ◌==◌, ◌&&◌, true, Option, Some, None, List, [], ◌∷◌, ◌++◌, length, if◌then◌else◌, refl, ap, sym, ◌∙◌, arith, subst, length-set, take, get_or, length-take-le, zero-add, ∥∥₁_map, length-map, take_all, Move, Outcome, Event, Machine, State, Happened, happens, after, events_of, with_begins, last_begin, is_begun, at_first, CanStep, CanAlways, IsReached}
+use Rattle.spin_world_core.proofs.Names.{slice_get-map, ◌≡◌, ℕ, map, ◌+◌, ◌<◌, ◌≤◌, ◌==◌, ◌&&◌, true, Option, Some, None, List, [], ◌∷◌, ◌++◌, length, if◌then◌else◌, refl, ap, sym, ◌∙◌, arith, subst, length-set, take, get_or, length-take-le, zero-add, ∥∥₁_map, length-map, take_all, Move, Outcome, Event, Machine, State, Happened, happens, after, events_of, with_begins, last_begin, is_begun, at_first, IsReached}
 use Rattle.spin_model.specs.Schedules.{begin_of, begins_after, with_begin}
 use Rattle.spin_model.proofs.Lists.{get-set_within}
 use Rattle.spin_world_core.proofs.Lists.{get-set_other, take_next}

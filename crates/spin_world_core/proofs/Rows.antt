@@ -1,10 +1,9 @@
 -- What a party in a call knows of its entries and of its span, and how each step of any party keeps this knowledge.
-use Rattle.spin_world_core.proofs.Names.{◌≡◌, ℕ, suc, ◌+◌, ◌≤◌, ◌⊎◌, ◌==◌, Bool, true, false, not, ◌&&◌, ◌||◌, is_some, Option, Some, None, List, [], ◌∷◌, ◌++◌, option_to_list, nat_lt, if◌then◌else◌, refl, ◌∙◌, arith, inl, inr, ⊎_elim, Plain, Ask, Change, gets, is_open, is_open_to, apply_some, IsOpenStep, entries, is_held, bit, entries-other, Hold, StepKind, is_again, is_look, LockKind, Asked, Said, Mark, AnyOf, first_word, Limit, registers_after, mark_of, own, own_count, failures, changes, EndsWithin, ContinuesWithin, is_due, Way, by_looks, past_looks, way_of, MayTryOn, Act, load, load_if, load_for, attempt, retry, true≢false, ap, list_any, goes_of}
+use Rattle.spin_world_core.proofs.Names.{◌≡◌, ℕ, suc, ◌+◌, ◌≤◌, ◌⊎◌, ◌==◌, Bool, true, false, not, ◌&&◌, ◌||◌, is_some, Option, Some, None, List, [], ◌∷◌, ◌++◌, option_to_list, nat_lt, if◌then◌else◌, refl, ◌∙◌, arith, inr, ⊎_elim, Plain, Ask, Change, gets, is_open, apply_some, IsOpenStep, entries, is_held, bit, entries-other, Hold, StepKind, is_again, is_look, LockKind, Asked, Said, Mark, AnyOf, first_word, Limit, registers_after, mark_of, own, own_count, failures, changes, EndsWithin, ContinuesWithin, is_due, Way, by_looks, past_looks, way_of, MayTryOn, Act, load, load_if, load_for, attempt, retry, ap, list_any, goes_of}
 use Rattle.spin_world_core.proofs.Lists.{eqb_self}
 use Rattle.spin_world_core.proofs.Stands.{Stand, entries_at, stand_of}
 use Rattle.spin_world_core.proofs.Spans.{nil_left, own-mine, own-other, own_count-mine, own_count-other, failures-mine, failures-other, changes-mine, changes-other}
 use Rattle.std.proofs.lemmas.Bool.{or_right}
-use Rattle.spin_step.specs.Plain.{is_empty}
 use Rattle.spin_model.specs.Calls.{got_or_starved, means, moment, own_steps, limit, FindsClosed, changes_within, gets_within, grant, within, within_changes, Meaning, got, grants, same_ask}
 use Rattle.spin_model.specs.Calls as meaning
 
@@ -263,8 +262,6 @@ pub record Known {W L A : Type 0} (kind : LockKind) (what : Asked) (act : Act W 
 module _ (p : ℕ) (s : Plain) (step : Option Change) (r : StepKind) (span : List Mark) where
   pub needs-mine : (needed : Need) (Finds : Type 0) → FoundBy needed Finds step r s → Needs needed p (mark_of p step r s ∷ span) × Finds
   needs-mine needed Finds found = grind (arith, eqb_self p, found)
-
--- when a call begins
 
 -- after another party's step
 

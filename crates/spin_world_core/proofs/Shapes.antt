@@ -92,6 +92,7 @@ module _ {W V C L A : Type 0} {t : Table W V C L A} (n : Notes t) where
   Means p s c put None = is_open s c ≡ false
   Means p s c put (Some x) = IsOpenStep s p (Some c) × (t.memory.numbers (put x) ≡ encoded t.lock_kind (apply s c)) × n.Shape (apply s c)
 
+  -- the same of an exchange whose failure says nothing of the plain step
   abbrev pub MeansMade : {X : Type 0} → ℕ → Plain → Change → (X → W) → Option X → Type 0
   MeansMade p s c put None = Unit {0}
   MeansMade p s c put (Some x) = Means p s c put (Some x)

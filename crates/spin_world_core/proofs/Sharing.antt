@@ -1,5 +1,5 @@
 -- How many parties share the value, and how many have leaked, when seats change.
-use Rattle.spin_world_core.proofs.Names.{◌≡◌, ◌+◌, Bool, List, [], ◌∷◌, length, map, Vec, refl, ap, sym, ◌∙◌, subst, arith, count_by, length-map, with_items_is, sum_by-cons, Seat, State, seen_by_owner, let_go}
+use Rattle.spin_world_core.proofs.Names.{◌≡◌, ◌+◌, Bool, List, [], ◌∷◌, length, map, Vec, refl, ap, sym, subst, arith, count_by, length-map, with_items_is, sum_by-cons, Seat, State, seen_by_owner, let_go}
 use mathlib.Core.Bool.{cond}
 use Rattle.std.specs.Vec.{with_items}
 use Rattle.spin_world_core.specs.Sharing.{has_leaked, shares}

@@ -1,5 +1,5 @@
 -- What one more step of a span changes in the counts of a party's own steps.
-use Rattle.spin_world_core.proofs.Names.{◌≡◌, ℕ, ◌+◌, ◌<◌, ◌≤◌, ◌==◌, true, not, ◌&&◌, is_some, Option, None, List, [], ◌∷◌, ◌++◌, option_to_list, if◌then◌else◌, refl, ap, ◌∙◌, arith, ne_eqb, append-nil, Plain, Change, apply_some, bit, StepKind, is_again, LockKind, first_word, Mark, mark_of, own, own_count, failures, changes}
+use Rattle.spin_world_core.proofs.Names.{◌≡◌, ℕ, ◌+◌, ◌<◌, ◌≤◌, ◌==◌, true, not, ◌&&◌, is_some, Option, None, List, [], ◌∷◌, ◌++◌, option_to_list, refl, arith, ne_eqb, append-nil, Plain, Change, apply_some, bit, StepKind, is_again, LockKind, first_word, Mark, mark_of, own, own_count, failures, changes}
 use Rattle.spin_world_core.proofs.Lists.{eqb_self}
 
 -- after a step of the party p

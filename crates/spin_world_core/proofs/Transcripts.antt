@@ -2,7 +2,7 @@
 use Rattle.spin_world_core.proofs.Names.{cases_eq, ⊎_elim, moves_at, seat_of, ne_eqb, ◌≡◌, ℕ, ◌<◌, ◌≤◌, ◌==◌, Option, Some, None, List, [], ◌∷◌, ◌++◌, length, map, slice_get, if◌then◌else◌, refl, ap, sym, ◌∙◌, subst, arith, option_map, length-replicate, slice_get-map, slice_get_within, slice_get_cases, Plain, Seat, Idle, Calling, Leaked, Gone, Move, Event, Mark, Machine, opening_plain, State, happens, seen_by_owner, events_of, with_begins, Seen, Scene, scene, Every, Keeps, KeepsAll, StandsFor, opening, seen_after, scenes, EachTells, TellsAfterAnyPast}
 use Rattle.spin_model.specs.declared.place.Place.{Place}
 use Rattle.spin_model.specs.Schedules.{place_of}
-use Rattle.spin_world_core.specs.Transcripts.{has_leaked, PlaceSays, SaysAfterAnyPast, Stage, StandsAt, at_rest, in_call, is_gone, let_go_stage, stage_after, stage_by_own, stage_by_owner, without_begin}
+use Rattle.spin_world_core.specs.Transcripts.{has_leaked, PlaceSays, SaysAfterAnyPast, Stage, StandsAt, at_rest, in_call, is_gone, let_go_stage, stage_after, stage_by_own, stage_by_owner}
 use Rattle.spin_world_core.proofs.Lists.{eqb_self, get-set_other, get-replicate}
 use Rattle.spin_model.proofs.Lists.{get-set_within}
 use Rattle.spin_world_core.proofs.Every.{state-seen_after}

@@ -1,6 +1,5 @@
 -- An undisturbed call is answered within as many own steps as it promises.
-use Rattle.spin_world_core.proofs.Names.{◌≡◌, ℕ, zero, suc, ◌+◌, ◌<◌, ◌≤◌, true, false, Option, Some, List, [], ◌∷◌, ◌++◌, refl, ap, sym, subst, arith, Plain, Change, apply_some, Hold, Seat, Calling, Next, Continue, StepKind, is_weak, encoded, LockKind, Asked, Mark, Machine, mark_of, is_open_now, Leaves, UndisturbedTakes, steps_alone, if◌then◌else◌, ◌==◌, ne_eqb}
-use Rattle.spin_world_core.specs.Spans.{own_count}
+use Rattle.spin_world_core.proofs.Names.{◌≡◌, ℕ, zero, suc, ◌+◌, ◌<◌, ◌≤◌, true, false, Option, Some, List, [], ◌∷◌, ◌++◌, refl, ap, arith, Plain, Change, apply_some, Hold, Seat, Calling, Next, Continue, StepKind, is_weak, encoded, LockKind, Asked, Mark, Machine, mark_of, is_open_now, Leaves, UndisturbedTakes, steps_alone, if◌then◌else◌, ◌==◌}
 use Rattle.spin_world_core.proofs.Steps.{AnswersWithin}
 use Rattle.spin_world_core.proofs.Lists.{eqb_self}
 

@@ -1,5 +1,5 @@
 -- What the tables of several objects show in the same way.
-use Rattle.spin_world_core.proofs.Names.{arith, ◌≡◌, ℕ, zero, suc, Bool, true, false, ◌||◌, [], ◌∷◌, refl, false≢true, Plain, is_empty}
+use Rattle.spin_world_core.proofs.Names.{arith, ◌≡◌, ℕ, Bool, true, false, ◌||◌, [], ◌∷◌, false≢true, Plain, is_empty}
 
 -- The words
 
