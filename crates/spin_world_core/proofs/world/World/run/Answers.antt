@@ -39,9 +39,9 @@ returns-in_err-events g c =
       err = search rules;
       reached = subst (λ w. IsReached (g.O.Object.machine w.object) w.state) c.self.view_is c.self.invariant.0;
       keeps = λ n past reached. lawful.keeps n (past ++ c.args.schedule.now);
-      moments = λ n past reached. grind arith;
-      counts = λ n past reached. grind arith;
-      values = λ n past reached. grind arith;
+      moments = λ n past reached. lawful.moments n (past ++ c.args.schedule.now);
+      counts = λ n past reached. lawful.counts n (past ++ c.args.schedule.now);
+      values = λ n past reached. lawful.values n (past ++ c.args.schedule.now);
       tells = search rules;
       begins = search rules;
     }
