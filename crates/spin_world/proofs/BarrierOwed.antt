@@ -1,9 +1,8 @@
 -- What has to be shown of the barrier's table.
-use Rattle.spin_world.proofs.BarrierNames.{◌≡◌, ℕ, ◌+◌, ◌/◌, ◌%◌, ◌^◌, ◌≤◌, ◌==◌, false, ◌&&◌, is_some, Option, Some, None, List, ◌∷◌, refl, sym, subst, arith, inr, max, Plain, Change, arrives, apply, count_word, generation_word, IsBarrier, is_leading, generation_at, barrier_arrive-words, barrier_count-below, barrier_may_leave-tells, barrier_may_leave-full, Hold, BarrierWords, BarrierCall, BarrierPoint, Arrive, Leave, arrived, mark_of, passes, is_arrival, barrier_table, barrier_machine, []}
+use Rattle.spin_world.proofs.BarrierNames.{◌≡◌, ℕ, ◌+◌, ◌≤◌, ◌==◌, false, ◌&&◌, is_some, Option, Some, None, List, ◌∷◌, refl, sym, subst, arith, inr, Plain, Change, arrives, count_word, generation_word, IsBarrier, is_leading, generation_at, barrier_arrive-words, barrier_count-below, barrier_may_leave-full, Hold, BarrierWords, BarrierPoint, Arrive, Leave, arrived, mark_of, passes, is_arrival, barrier_table, barrier_machine, []}
 use Rattle.std.proofs.Math.Bool.{and-false}
-use Rattle.std.proofs.Math.Nat.{mod-le, div-le_self}
 use Rattle.spin_step.specs.Parties.{apply_some}
-use Rattle.spin_model.specs.StepKinds.{StepKind, plain, look}
+use Rattle.spin_model.specs.StepKinds.{StepKind, look}
 use Rattle.spin_model.specs.Calls.{AnyOf, BelongsTo, Mark, follows}
 use Rattle.spin_model.specs.Asks.{arrives_leading, finds_full}
 use Rattle.spin_world.specs.BarrierKind.{barrier}
@@ -12,8 +11,7 @@ use Rattle.spin_world_core.proofs.Steps.{Plays}
 use Rattle.spin_world_core.proofs.Stands.{absent}
 use Rattle.spin_world_core.proofs.Rows.{Point, nowhere, looked, onward}
 use Rattle.spin_world_core.proofs.Shapes.{Notes, OwesAll, SoonAll, Pays}
-use Rattle.spin_world_core.proofs.Usual.{two, no_holders, two_places}
-use Rattle.spin_world_core.proofs.Operating.{operates_by}
+use Rattle.spin_world_core.proofs.Usual.{no_holders}
 use Rattle.spin_world_core.proofs.Filled.{plays_of}
 use Rattle.std.specs.List.{list_any}
 use Rattle.std.specs.Prelude.{nat_le}
@@ -34,16 +32,10 @@ Arrives p k m = (m.party ≡ p) × (m.change ≡ Some (arrives p)) × (m.after.a
 abbrev IsFull : ℕ → List Mark → Type 0
 IsFull k span = list_any (λ m. nat_le (filled_by m.before k) m.before.arrivals) span ≡ true
 
-follows_here : (p k : ℕ) (all : List Mark) (m : Mark) → Arrives p k m → is_leading m.before k ≡ false → IsFull k all → (arrives_leading p false m && list_any (finds_full m) all) ≡ true
-follows_here p k all m is behind full =
-    let led = subst (λ k. is_leading m.before k ≡ false) (sym is.2) behind in
-    let filled = subst (λ k. IsFull k all) (sym is.2) full in
-    grind (arith, is.0, is.1, led, filled, eqb_self p)
-
 follows_right : (p k : ℕ) (all span : List Mark) → AnyOf (λ m. Arrives p k m × (is_leading m.before k ≡ false)) span → IsFull k all
     → list_any (λ m. arrives_leading p false m && list_any (finds_full m) all) span ≡ true
 follows_right p k all [] made full = absurd made
-follows_right p k all (m ∷ ms) made full = grind (arith, follows_here p k all m, follows_right p k all ms)
+follows_right p k all (m ∷ ms) made full = grind (arith, eqb_self p, follows_right p k all ms)
 
 -- What a party that waits knows. It has arrived, its arrival does not lead, and the generation at its arrival was g.
 pub record Waits (g p : ℕ) (s : Plain) (span : List Mark) : Type 0 where
@@ -81,17 +73,13 @@ waits-on g p q s step r span none belongs waits =
 
 module _ (n : ℕ) where
   pub is_barrier : (s : Plain) (w : BarrierWords) → w.count ∷ w.generation ∷ [] ≡ count_word s ∷ generation_word s ∷ [] → IsOf n s → IsBarrier s n w.count w.generation
-  is_barrier s w encodes of = record { group = of.group; counts = cc (encodes); generations = cc (encodes) }
-
-  -- what a party knows after its own arrival, if this arrival does not lead
-  waits_from : (p : ℕ) (s : Plain) (r : StepKind) (span : List Mark) (g : ℕ) → generation_word s ≡ g → is_leading s (s.arrivals + 1) ≡ false → generation_at s (s.arrivals + 1) ≡ g → Waits g p (apply s (arrives p)) (mark_of p (Some (arrives p)) r s ∷ span)
-  waits_from p s r span g is behind same = grind arith
+  is_barrier s w encodes of = grind arith
 
   owes : OwesAll (barrier_notes n)
   owes p c Arrive h s w span =
       let below = barrier_count-below s n w.count w.generation in
       let after = barrier_arrive-words s n w.count w.generation in
-      grind (arith, is_barrier s w, below, after, waits_from p s plain span)
+      grind (arith, is_barrier s w, below, after, eqb_self p)
   owes p c (Leave g) None s w span = λ at.
       let full = barrier_may_leave-full s (arrived p span) n w.count w.generation g (is_barrier s w at.encodes at.shape) in
       let waits = waits-on g p p s None look span (and-false (p == p)) tt at.knows.1 in
@@ -100,16 +88,14 @@ module _ (n : ℕ) where
   owes p c (Leave g) (Some h) s w span = tt
 
   soon : SoonAll (barrier_notes n)
-  soon p c l h s w span =
-      let tells = λ (g : ℕ). barrier_may_leave-tells s (arrived p span) n w.count w.generation g in
-      grind (arith, is_barrier s w, tells)
+  soon p c l h s w span = grind arith
 
   pub barrier_pays : Pays (barrier_notes n)
   barrier_pays =
       record {
         fits = λ p c l h. grind arith;
-        operates = operates_by (barrier_table n) (two_places _ _ _ _ (λ k w. refl) (λ k w. refl));
-        first = two 0 0 (0 % max n 1) ((0 / max n 1) % 2 ^ 64) (omega (arith, mod-le 0 (max n 1))) (omega (arith, div-le_self 0 (max n 1)));
+        operates = grind arith;
+        first = grind arith;
         shape_first = record { no_holders = refl; group = refl };
         numbers_tell = λ u w e. grind arith;
         one_list = λ s of. no_holders s of.no_holders;

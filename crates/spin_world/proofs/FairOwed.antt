@@ -1,11 +1,10 @@
 -- What has to be shown of the fair lock's table.
-use Rattle.spin_world.proofs.FairNames.{◌≡◌, ℕ, ◌<◌, ◌+◌, ◌-◌, ◌%◌, ◌==◌, true, false, ◌&&◌, nat_lt, Option, Some, None, List, ◌∷◌, refl, ap, arith, and_parts, eqb-true, Plain, writing, to_lock_unregistered, to_lock_starving, to_lock_starving_alone, to_starve, Change, gets, releases, stops_starving, is_empty, is_starver, fair_word, apply_some, Entries, entries, is_held, empty_is, is_holder-from_entries, length-without_starver, is_set, lock, starve, lock_fair, fair_lock-grants, fair_starve-grants, fair_lock_fair-grants, fair_lock_starved-grants, fair_unstarve-gives, fair_unlock-gives, fair_is_locked-tells, Hold, Write, Starver, FairCall, Lock, TryLock, TryLockStarver, IsLocked, Starve, StarverTryLockFair, StarverTryLock, StarverLock, StarverDrop, Release, FairPoint, First, Attempt, Look, Load, Register, SetFlag, Await, Unregister, StepKind, plain, again, weak, Mark, granted, fair, mark_of, own_count, changes, RegistersInTime, tried, fair_table, fair_machine, holds, starves, holds_and_starves, entries_at, Row, Point, nowhere, looked, onward, Notes, Means, OwesAll, SoonAll, Pays, no_queue, []}
+use Rattle.spin_world.proofs.FairNames.{◌≡◌, ℕ, ◌<◌, ◌+◌, ◌-◌, ◌%◌, ◌==◌, true, false, ◌&&◌, nat_lt, Option, Some, None, List, ◌∷◌, refl, ap, arith, and_parts, eqb-true, Plain, writing, to_lock_unregistered, to_lock_starving, to_lock_starving_alone, to_starve, Change, gets, releases, stops_starving, is_empty, is_starver, fair_word, apply_some, Entries, entries, is_held, empty_is, is_holder-from_entries, length-without_starver, is_set, lock, starve, lock_fair, fair_lock-grants, fair_starve-grants, fair_lock_fair-grants, fair_lock_starved-grants, fair_unstarve-gives, fair_unlock-gives, Hold, Write, Starver, FairCall, Lock, TryLock, TryLockStarver, IsLocked, Starve, StarverTryLockFair, StarverTryLock, StarverLock, StarverDrop, Release, FairPoint, First, Attempt, Look, Load, Register, SetFlag, Await, Unregister, StepKind, plain, again, weak, Mark, granted, fair, mark_of, own_count, changes, RegistersInTime, tried, fair_table, fair_machine, holds, starves, holds_and_starves, entries_at, Row, Point, nowhere, looked, onward, Notes, Means, OwesAll, SoonAll, Pays, no_queue, []}
 use Rattle.spin_model.specs.Operations.{sets_lowest_bit}
-use Rattle.spin_world_core.proofs.Operating.{one_place, operates_by}
 use Rattle.spin_world_core.proofs.Steps.{Plays}
 use Rattle.spin_world_core.proofs.Filled.{plays_of}
-use Rattle.spin_world.proofs.Registering.{sooner, MayBeBlind, blind-other, blind_after_step, blind_after_free, blind_after_late, allowed, none_left, few_to_load, few_to_register, Looking, Loading, Registering, none_yet, starving-other, looking-other, loading-other, registering-other, goes_on, missed, looked_free, looked_held, looked_late, loaded, retried, full, registered, looked_starving}
-use Rattle.spin_world.proofs.FairKnowledge.{IsFair, comes, goes_away, is_starving, is_starving_still, set_by_holder, flag_clear, word_locked, word_starved, not_there}
+use Rattle.spin_world.proofs.Registering.{MayBeBlind, blind-other, blind_after_step, blind_after_free, blind_after_late, allowed, none_left, few_to_load, few_to_register, Looking, Loading, Registering, none_yet, starving-other, looking-other, loading-other, registering-other, goes_on, missed, looked_free, looked_held, looked_late, loaded, retried, full, registered, looked_starving}
+use Rattle.spin_world.proofs.FairKnowledge.{IsFair, comes, goes_away, is_starving, is_starving_still, set_by_holder, flag_clear, word_starved, not_there}
 
 -- the row of a starver that waits for the lock, after these plain steps
 abbrev pub starving_row : (ℕ → List Change) → Row
@@ -61,7 +60,7 @@ module _ {V : Type 0} (v : V) (cap patience : ℕ) where
   -- what the step functions mean in a state of this shape
   module _ (p : ℕ) (s : Plain) (w : ℕ) (word : fair_word s ≡ w) (shape : IsFair cap s) where
     held : is_held s ≡ is_set w
-    held = fair_is_locked-tells s w shape.one shape.queue word
+    held = grind arith
 
     lock_means : IsMeant p s (gets p to_lock_unregistered) (lock w)
     lock_means = grind (arith, fair_lock-grants s p w word, comes cap p s shape)
@@ -90,27 +89,27 @@ module _ {V : Type 0} (v : V) (cap patience : ℕ) where
     free_word free = grind (arith, word, empty_is s.holders, empty_is s.starvers)
 
     clear_word : (is_starver p s.starvers && is_empty s.holders) ≡ true → w % 2 ≡ 0
-    clear_word free = flag_clear w s word (and_parts (is_starver p s.starvers) (is_empty s.holders) free).1
+    clear_word free = grind (arith, flag_clear, and_parts)
 
   -- a call that may starve has steps left in which it registers in time
   abbrev InTime : ℕ → List Mark → Type 0
   InTime p span = RegistersInTime (λ recent. own_count p recent < 2 + changes fair p recent) p patience span
 
   nothing_left : (p : ℕ) (span : List Mark) → RegistersInTime none_left p patience span → InTime p span
-  nothing_left p span old = sooner none_left (λ recent. own_count p recent < 2 + changes fair p recent) p patience span (λ recent few. absurd few) old
+  nothing_left p span old = grind arith
 
   loads_in_time : (p : ℕ) (span : List Mark) → Loading patience p span → InTime p span
-  loads_in_time p span old = sooner (few_to_load p) (λ recent. own_count p recent < 2 + changes fair p recent) p patience span (λ recent few. omega (arith, few)) old.in_time
+  loads_in_time p span old = grind arith
 
   registers_in_time : (w p : ℕ) (s : Plain) (span : List Mark) → Registering patience w p s span → InTime p span
-  registers_in_time w p s span old = sooner (few_to_register p s w) (λ recent. own_count p recent < 2 + changes fair p recent) p patience span (λ recent few. omega (arith, few)) old.in_time
+  registers_in_time w p s span old = grind arith
 
   owes : OwesAll (fair_notes v cap patience)
   owes p Lock (Attempt n) None s w span = λ at.
       let won = goes_on patience p s span (Some (gets p to_lock_unregistered)) plain refl (λ is. cc (is)) refl at.knows.1.0.in_time in
       let lost = missed patience p s span n plain refl at.knows.1.1 at.knows.1.0 in
       let refused = missed patience p s span n weak refl at.knows.1.1 at.knows.1.0 in
-      grind (arith, lock_means p s w, won, lost, nothing_left p _ lost.in_time, refused, nothing_left p _ refused.in_time)
+      grind (arith, lock_means p s w, won, lost, refused, nothing_left p)
   owes p Lock (Look n) None s w span = λ at.
       let held_on = looked_held patience p s span n in
       let late = looked_late patience p s span n in
@@ -121,7 +120,7 @@ module _ {V : Type 0} (v : V) (cap patience : ℕ) where
   owes p Lock Load None s w span = λ at.
       let next = loaded patience p s span w (cc (at.encodes)) at.knows.1.1 at.knows.1.0 in
       let looks = full patience p s span (few_to_load p) plain refl (allowed patience p s span None plain at.knows.1.1) in
-      grind (arith, starve_means p s w, at.knows.1, next, registers_in_time w p s _ next, looks, nothing_left p)
+      grind (arith, starve_means p s w, at.knows.1, next, registers_in_time w p s, looks, nothing_left p)
   owes p Lock (Register n) None s w span = λ at.
       let won = registered patience p s span n at.knows.1 in
       let next = λ (other : (w == n) ≡ false). retried patience p s span n w (cc (at.encodes)) other at.knows.1 in
@@ -134,28 +133,23 @@ module _ {V : Type 0} (v : V) (cap patience : ℕ) where
   owes p Lock SetFlag None s w span = λ at.
       let won = goes_on patience p s span (Some (gets p to_lock_starving)) plain refl (λ is. cc (is)) refl at.knows.1.0 in
       let lost = goes_on patience p s span None plain refl (λ is. cc (is)) (allowed patience p s span None plain at.knows.1.1) at.knows.1.0 in
-      grind (arith, lock_starved_means p s w, won, nothing_left p _ won, lost, nothing_left p _ lost)
+      grind (arith, lock_starved_means p s w, won, lost, nothing_left p)
   owes p Lock Await None s w span = λ at.
       let next = looked_starving patience p s span at.knows.0.made at.knows.1 in
-      grind (arith, held p s w, next, nothing_left p _ next, blind_after_free patience p s span)
+      grind (arith, held p s w, next, nothing_left p, blind_after_free patience p s span)
   owes p Lock Unregister None s w span = λ at.
       let next = goes_on patience p s span (Some (stops_starving p)) plain refl (λ is. cc (is)) refl at.knows.1 in
       grind (arith, unstarve_means p s w, is_starving_still p s, next)
-  owes p TryLock First None s w span = grind (arith, lock_means p s w)
-  owes p TryLockStarver First None s w span = grind (arith, lock_means p s w, eqb-true w 1, word_locked w s, word_starved w s)
-  owes p IsLocked First None s w span = grind (arith, held p s w)
-  owes p Starve Load None s w span = grind (arith, starve_means p s w)
-  owes p Starve (Register n) None s w span = grind (arith, starve_means p s w)
-  owes p StarverTryLockFair First (Some Starver) s w span = grind (arith, lock_fair_means p s w)
-  owes p StarverTryLockFair Unregister (Some Starver) s w span = grind (arith, unstarve_means p s w, is_starving_still p s)
-  owes p StarverTryLock SetFlag (Some Starver) s w span = grind (arith, lock_starved_means p s w)
-  owes p StarverTryLock Unregister (Some Starver) s w span = grind (arith, unstarve_means p s w, is_starving_still p s)
-  owes p StarverLock SetFlag (Some Starver) s w span = grind (arith, lock_starved_means p s w)
-  owes p StarverLock Await (Some Starver) s w span = grind (arith, held p s w)
-  owes p StarverLock Unregister (Some Starver) s w span = grind (arith, unstarve_means p s w, is_starving_still p s)
-  owes p StarverDrop First (Some Starver) s w span = grind (arith, unstarve_means p s w, is_starving p s)
-  owes p Release First (Some Write) s w span = grind (arith, unlock_means p s w)
-  owes p _ _ _ s w span = tt
+  owes p Lock _ _ s w span = tt
+  owes p TryLock l h s w span = grind (arith, lock_means p s w)
+  owes p TryLockStarver l h s w span = grind (arith, lock_means p s w, eqb-true w 1, word_starved w s)
+  owes p IsLocked l h s w span = grind (arith, held p s w)
+  owes p Starve l h s w span = grind (arith, starve_means p s w)
+  owes p StarverTryLockFair l h s w span = grind (arith, lock_fair_means p s w, unstarve_means p s w, is_starving_still p s)
+  owes p StarverTryLock l h s w span = grind (arith, lock_starved_means p s w, unstarve_means p s w, is_starving_still p s)
+  owes p StarverLock l h s w span = grind (arith, lock_starved_means p s w, held p s w, unstarve_means p s w, is_starving_still p s)
+  owes p StarverDrop l h s w span = grind (arith, unstarve_means p s w, is_starving p s)
+  owes p Release l h s w span = grind (arith, unlock_means p s w)
 
   -- If nobody disturbs the call, its exchange acquires a free lock, at once or after a look. A party that has begun to
   -- register then registers, gets the lock, and stops starving.
@@ -176,7 +170,7 @@ module _ {V : Type 0} (v : V) (cap patience : ℕ) where
   fair_pays =
       record {
         fits = λ p c l h. grind arith;
-        operates = operates_by (fair_table v cap patience) one_place;
+        operates = grind arith;
         first = refl;
         shape_first = record { one = omega arith; queue = refl; room = refl };
         numbers_tell = λ u w e. cc (e);

@@ -1,17 +1,12 @@
 -- What has to be shown of the flag's table.
-use Rattle.std.proofs.Common.{◌≡◌, ℕ, Bool, Option, List, [], refl, arith}
-use Rattle.spin_step.specs.Plain.{Plain, writing}
+use Rattle.std.proofs.Common.{◌≡◌, [], refl, arith}
+use Rattle.spin_step.specs.Plain.{writing}
 use Rattle.spin_step.proofs.Holders.{is_holder-from_entries, length-held}
 use Rattle.spin_step.proofs.Flags.{flag_lock-grants, flag_unlock-gives}
-use Rattle.spin_model.specs.declared.place.Hold.{Hold}
-use Rattle.spin_model.specs.declared.flag.FlagCall.{FlagCall}
-use Rattle.spin_model.specs.declared.flag.FlagPoint.{FlagPoint}
-use Rattle.spin_model.specs.Calls.{Mark}
-use Rattle.spin_model.specs.FlagKind.{flag}
 use Rattle.spin_model.specs.Acts.{begin_of}
-use Rattle.spin_model.specs.Flag.{asks_of, flag_table, flag_machine}
+use Rattle.spin_model.specs.Flag.{flag_table, flag_machine}
 use Rattle.spin_world_core.proofs.Steps.{Plays}
-use Rattle.spin_world_core.proofs.Rows.{starts_sound, starts}
+use Rattle.spin_world_core.proofs.Rows.{starts}
 use Rattle.spin_world_core.proofs.Shapes.{Notes, OwesAll, SoonAll, Pays}
 use Rattle.spin_world_core.proofs.Usual.{no_queue}
 use Rattle.spin_world_core.proofs.Filled.{plays_of}
@@ -42,7 +37,7 @@ module _ {V : Type 0} (v : V) where
         one_list = no_queue;
         calls = λ c h. (0, grind arith);
         own = λ c h said p. grind arith;
-        sound = λ p c l h. starts_sound flag (asks_of c h) p (begin_of (flag_table v) c h) (grind arith);
+        sound = λ p c l h. grind arith;
         aims = λ p c l h. grind arith;
         begins = λ p c h s. grind arith;
         others = λ p q c l h s step r span ne shape may belongs knows. tt;

@@ -46,7 +46,7 @@ module _ {V : Type 0} (v : V) (cap patience : ℕ) where
       (passes_some (λ row. starves_alone (entries_at p row.stand)) row && (asks_of patience c h).waits) ≡ true
 
   goes_for : (p w : ℕ) → w % 2 ≡ 0 → (c : FairCall) (l : FairPoint) (h : Option Hold) → WaitsAt p c l h → GoesFor w c l h
-  goes_for p w clear c SetFlag = λ h both. inl (λ value. sets c h w value clear)
+  goes_for p w clear c SetFlag = grind arith
   goes_for p w clear c Await = λ h both. inr (SetFlag, (λ value. rw (ap (λ n. n == 1) clear) refl), sets c h)
   goes_for p w clear c l = λ h both. grind (arith, both)
 

@@ -45,7 +45,7 @@ module _ (n : ℕ) where
       let is = is_barrier n seen.plain seen.state.words good.encodes good.shape in
       let many : seen.plain.arrivals ≡ arrivals m parties past = omega (arith, counted (opening m parties) past (good_first f parties)) in
       let group : max seen.plain.group 1 ≡ max n 1 = ap (λ k. max k 1) is.group in
-      let words : (after m (at_first m parties) past).words ≡ seen.state.words = ap (λ (s : BarrierState). s.words) (sym state) in
+      let words : (after m (at_first m parties) past).words ≡ seen.state.words = grind arith in
       let leading : leads n seen.state.words ≡ (((arrivals m parties past + 1) % max n 1) == 0) =
       grind (arith, (barrier_arrive-words seen.plain n seen.state.words.count seen.state.words.generation is).leads, group, many) in
       record {

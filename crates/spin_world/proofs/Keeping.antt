@@ -1,15 +1,11 @@
 -- Proofs of what users of a `Once` may rely on: one closure runs at a time, and there is one value.
-use Rattle.spin_world.proofs.OnceNames.{Plays, ◌≡◌, ℕ, ◌==◌, true, false, is_some, Option, Some, None, ◌∷◌, ◌++◌, slice_get, refl, arith, ap, sym, ◌∙◌, subst, and_parts, running, Change, once_word, IsOpenStep, Answer, Value, Hold, Calling, Step, State, happens, after, at_first, Seen, scene, opening, last_written, placed_at, MayTouch, OnceCall, Get, OncePoint, Run, runs, asks_of, OnceMachine, once_machine, Entries, once_after, seen_at, keeps_value, is_shared, ValueStays, RunsClosure, OneRuns, wants_value, AnswersAtOnce, GetAgrees, after-append, InCall, Invariant, []}
+use Rattle.spin_world.proofs.OnceNames.{Plays, ◌≡◌, ℕ, ◌==◌, true, false, is_some, Option, Some, None, ◌∷◌, ◌++◌, slice_get, refl, arith, ap, sym, ◌∙◌, subst, and_parts, running, once_word, Value, Hold, Calling, Step, State, happens, after, at_first, Seen, scene, opening, OnceCall, Get, OncePoint, Run, runs, asks_of, OnceMachine, once_machine, Entries, once_after, seen_at, keeps_value, is_shared, ValueStays, RunsClosure, OneRuns, wants_value, AnswersAtOnce, GetAgrees, after-append, InCall, Invariant, []}
 use Rattle.spin_model.specs.declared.schedule.Move.{Move}
-use Rattle.spin_model.specs.declared.schedule.Outcome.{Outcome}
 use Rattle.spin_model.specs.declared.schedule.Outcome.TheVariants as outcome
 use Rattle.spin_world_core.specs.Users.{outcome_after}
-use Rattle.spin_world_core.specs.Values.{GivesAt}
 use Rattle.spin_world_core.proofs.Every.{kept, state-seen_after}
 use Rattle.spin_world_core.proofs.Reached as reached
 use Rattle.spin_world_core.proofs.Reached.{numbers_are, calls}
-use Rattle.spin_world_core.proofs.Filled.{uncompleted}
-use Rattle.spin_world_core.proofs.Values as values
 use Rattle.spin_world.proofs.OnceOwed.{once_notes, once_facts}
 
 abbrev pub OnceState : Type 0 → Type 0
@@ -31,18 +27,8 @@ module _ {V : Type 0} (value : Option V) where
   pub good : (n : ℕ) (past : Entries V) → Good (seen_at m n past)
   good n past = reached.good f n past
 
-  -- an event does not change the value last written, if there is one
-  written_stays : (seen : OnceSeen V) (p : ℕ) (v : V) (o : Outcome (Answer V) V) (move : Move (OnceCall V) V) (put : Option V) (step : Option Change)
-      → Good seen → MayTouch seen p o move → IsOpenStep seen.plain p step → keeps_value move ≡ true → seen.state.value ≡ Some v
-      → last_written o move seen.written put step ≡ Some v
-  written_stays seen p v o move put step good touches may keeps is = grind (arith, good.shape, good.phase, good.written, uncompleted seen.written put step)
-
   stays_one : (seen : OnceSeen V) (p : ℕ) (move : Move (OnceCall V) V) (v : V) → Good seen → keeps_value move ≡ true → seen.state.value ≡ Some v → (scene m seen p move).after.state.value ≡ Some v
-  stays_one seen p move v good keeps is =
-      let s = scene m seen p move in
-      let here = kept f seen p move good in
-      let put = placed_at m seen.state move (slice_get seen.state.seats p) in
-      here.keeps.value_is ∙ written_stays seen p v s.outcome move put s.change good here.keeps.touches here.keeps.opens keeps is
+  stays_one seen p move v good keeps is = grind arith
 
   stays_on : (seen : OnceSeen V) (es : Entries V) (v : V) → Good seen → is_shared es ≡ true → seen.state.value ≡ Some v → (after m seen.state es).value ≡ Some v
   stays_on seen [] v good shared is = is
@@ -114,9 +100,7 @@ module _ {V : Type 0} (value : Option V) where
       }
 
   answered_value : (seen : OnceSeen V) (p : ℕ) (v : V) → Good seen → (happens m seen.state p Step).outcome ≡ outcome.Answered (Value v) None → (scene m seen p Step).after.state.value ≡ Some v
-  answered_value seen p v good is =
-      let s = scene m seen p Step in
-      subst (λ o. GivesAt m Step o s.after.state.value) is (values.keeps_value f seen p Step good).gives
+  answered_value seen p v good is = grind arith
 
   pub a_later_get_agrees : (n : ℕ) (past further : Entries V) → GetAgrees m n past further
   a_later_get_agrees n past further = λ p q v l h is shared at.

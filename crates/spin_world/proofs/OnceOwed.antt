@@ -1,7 +1,6 @@
 -- What has to be shown of the table of a `Once`.
 use Rattle.spin_world.proofs.OnceNames.{◌≡◌, ℕ, true, Option, Some, None, List, ◌∷◌, refl, arith, Plain, running, to_begin, Change, gets, completes, fails, runs-others, Hold, OnceCall, CallOnce, TryCallOnceOk, TryCallOnceErr, InitFromRef, Wait, Poll, Get, IsCompleted, OncePoint, Look, TryBegin, Run, Mark, Said, gives_value, failed, brings_of, once_table, once_machine, has_just_looked, Plays, Point, nowhere, looked, onward, Notes, no_holders, []}
 use Rattle.spin_world_core.proofs.Stands.{absent}
-use Rattle.spin_world_core.proofs.Operating.{one_place, operates_by}
 use Rattle.spin_world_core.proofs.Filled.{PaysWith, plays_with}
 
 -- a call with a closure has made no plain step until it runs the closure; then only the end of the closure is left
@@ -40,7 +39,7 @@ module _ {V : Type 0} (value : Option V) where
       record {
         pays = record {
           fits = λ p c l h. grind arith;
-          operates = operates_by (once_table value) one_place;
+          operates = grind arith;
           first = grind arith;
           shape_first = (refl, refl);
           numbers_tell = λ u w e. cc (e);

@@ -1,6 +1,6 @@
 -- Registering in time: what a `lock` knows of the looks in its span, how steps of other parties keep this knowledge, and
 -- what each step of the call changes.
-use Rattle.spin_world.proofs.FairNames.{◌≡◌, ℕ, ◌+◌, ◌<◌, ◌≤◌, ◌⊎◌, ◌==◌, true, false, not, ◌&&◌, ◌||◌, is_some, nat_lt, if◌then◌else◌, Option, Some, None, List, ◌∷◌, ◌++◌, length, length-append, refl, ap, sym, ◌∙◌, arith, inl, inr, ⊎_elim, ne_eqb, false≢true, or-true, Plain, Change, gets, to_starve, is_open, apply_some, is_held, bit, StepKind, plain, again, look, is_look, Mark, AnyOf, Registers, TriesToStarve, first_word, fair, mark_of, own, own_count, changes, held_looks, IsLateLook, RegistersInTime, moved, is_open_to, []}
+use Rattle.spin_world.proofs.FairNames.{◌≡◌, ℕ, ◌+◌, ◌<◌, ◌≤◌, ◌⊎◌, ◌==◌, true, false, not, ◌&&◌, ◌||◌, Option, Some, None, List, ◌∷◌, ◌++◌, length, length-append, refl, ap, sym, ◌∙◌, arith, inl, inr, ne_eqb, false≢true, Plain, Change, gets, to_starve, is_open, apply_some, is_held, bit, StepKind, plain, again, look, is_look, Mark, AnyOf, Registers, TriesToStarve, first_word, fair, mark_of, own, own_count, changes, held_looks, IsLateLook, RegistersInTime, moved, is_open_to, []}
 use Rattle.spin_world_core.specs.Spans.{is_blind, may_be_blind}
 use Rattle.spin_world_core.proofs.Lists.{eqb_self}
 use Rattle.spin_world_core.proofs.Spans.{own_count-mine, own_count-other, changes-mine, changes-other}
@@ -18,9 +18,6 @@ module _ (Few Fewer : List Mark → Type 0) (p n : ℕ) (now : Mark) (span : Lis
 
   later : RegistersInTime Fewer p n (now ∷ span)
   later = record { looking = ap (λ b. b && (not ((now.party == p) && is_blind now) || may_be_blind p n span)) old.looking ∙ sees; soon = soon_later; patient = patient_later }
-
-pub sooner : (Few Fewer : List Mark → Type 0) (p n : ℕ) (span : List Mark) → ((recent : List Mark) → Few recent → Fewer recent) → RegistersInTime Few p n span → RegistersInTime Fewer p n span
-sooner Few Fewer p n span fewer old = record { looking = old.looking; soon = λ recent m older is late. ⊎_elim (λ tried. inl tried) (λ few. inr (fewer recent few)) (old.soon recent m older is late); patient = old.patient }
 
 -- the party's next step may be blind
 abbrev pub MayBeBlind : ℕ → ℕ → List Mark → Type 0
@@ -64,7 +61,7 @@ none_yet {p} {n} = record { looking = refl; soon = λ recent m older is late. ab
 -- a step of another party
 
 held_looks-other : (p q : ℕ) (step : Option Change) (r : StepKind) (s : Plain) (span : List Mark) → (q ≡ p → ⊥) → held_looks p (mark_of q step r s ∷ span) ≡ held_looks p span
-held_looks-other p q step r s span ne = omega (arith, ap (λ b. bit (b && (is_look r && is_held s))) (ne_eqb q p ne))
+held_looks-other p q step r s span ne = grind (arith, ne_eqb)
 
 module _ (patience p q : ℕ) (s : Plain) (step : Option Change) (r : StepKind) (span : List Mark) (ne : q ≡ p → ⊥) where
   beside : (Few Fewer : List Mark → Type 0) → ((recent : List Mark) → Few recent → Fewer (mark_of q step r s ∷ recent)) → RegistersInTime Few p patience span → RegistersInTime Fewer p patience (mark_of q step r s ∷ span)
@@ -73,8 +70,7 @@ module _ (patience p q : ℕ) (s : Plain) (step : Option Change) (r : StepKind) 
       (ap (λ b. not (b && is_blind (mark_of q step r s)) || may_be_blind p patience span) (ne_eqb q p ne)) old
 
   pub blind-other : MayBeBlind patience p span → MayBeBlind patience p (mark_of q step r s ∷ span)
-  blind-other old =
-      ap (λ b. if b then is_some step || (is_look r && (not (is_held s) || not (nat_lt (held_looks p span) patience))) else may_be_blind p patience span) (ne_eqb q p ne) ∙ old
+  blind-other old = grind arith
 
   pub starving-other : RegistersInTime none_left p patience span → RegistersInTime none_left p patience (mark_of q step r s ∷ span)
   starving-other old = beside none_left none_left (λ recent few. few) old
@@ -107,7 +103,7 @@ pub blind_after_late : (n p : ℕ) (s : Plain) (span : List Mark) → n ≤ held
 blind_after_late n p s span late = grind (arith, eqb_self p)
 
 held_looks-mine : (p : ℕ) (step : Option Change) (r : StepKind) (s : Plain) (span : List Mark) → held_looks p (mark_of p step r s ∷ span) ≡ held_looks p span + bit (is_look r && is_held s)
-held_looks-mine p step r s span = ap (λ b. held_looks p span + bit (b && (is_look r && is_held s))) (eqb_self p)
+held_looks-mine p step r s span = grind (arith, eqb_self)
 
 module _ (patience p : ℕ) (s : Plain) (span : List Mark) where
   -- the step is not blind, or is blind when it may be
@@ -115,10 +111,10 @@ module _ (patience p : ℕ) (s : Plain) (span : List Mark) where
   IsAllowed step r = (not (is_blind (mark_of p step r s)) || may_be_blind p patience span) ≡ true
 
   pub allowed : (step : Option Change) (r : StepKind) → MayBeBlind patience p span → IsAllowed step r
-  allowed step r may = ap (λ b. not (is_blind (mark_of p step r s)) || b) may ∙ or-true (not (is_blind (mark_of p step r s)))
+  allowed step r may = grind arith
 
   mine : (step : Option Change) (r : StepKind) → IsAllowed step r → (not ((p == p) && is_blind (mark_of p step r s)) || may_be_blind p patience span) ≡ true
-  mine step r may = ap (λ b. not (b && is_blind (mark_of p step r s)) || may_be_blind p patience span) (eqb_self p) ∙ may
+  mine step r may = grind arith
 
   -- a step that is no look and does not register keeps `RegistersInTime`
   passes : (Few Fewer : List Mark → Type 0) (step : Option Change) (r : StepKind) → is_look r ≡ false → (step ≡ Some (gets p to_starve) → ⊥) → IsAllowed step r → ((recent : List Mark) → Few recent → TriesToStarve p (mark_of p step r s) ⊎ Fewer (mark_of p step r s ∷ recent))

@@ -1,5 +1,5 @@
 -- What has to be shown of the table of the read-write lock.
-use Rattle.spin_world.proofs.RwNames.{◌≡◌, ℕ, ◌+◌, ◌/◌, ◌≤◌, true, false, Option, Some, None, List, ◌∷◌, ◌++◌, length, nat_lt, refl, ap, sym, ◌∙◌, arith, eq-eqb, length-append, Plain, Kind, reading, upgradable, asking, writing, weight, Holder, holder, to_read, to_read_upgradable, to_write, to_upgrade, to_upgrade_asked, Change, gets, releases, turns, may_come, is_empty, is_holder, may_turn, with_kind, rw_word, Entries, entries, IsExclusive, reader_limit, tells, read, read_upgradable, write, upgrade, upgrade_asked, released, is_holder-from_entries, is_holder-own, length-without_holder, empty_is, room_to_come, one_of_each, read-word, upgradable_read-word, upgradable-word, tells-holder, readers-word, writers-word, only_upgradable-word, only_asking-word, empty-word, Hold, RwCall, TryRead, Read, TryUpgradeableRead, UpgradeableRead, TryWrite, TryWriteWeak, Write, ReaderCount, WriterCount, TryUpgrade, TryUpgradeWeak, Upgrade, Downgrade, DowngradeToUpgradeable, Release, RwPoint, First, Exchange, Asking, Mark, holds, entries_at, Notes, Means, OwesAll, SoonAll, Pays, no_queue, [], turned_to}
+use Rattle.spin_world.proofs.RwNames.{◌≡◌, ℕ, ◌+◌, ◌/◌, ◌≤◌, true, false, Option, Some, None, ◌∷◌, ◌++◌, length, nat_lt, refl, ap, sym, ◌∙◌, arith, eq-eqb, length-append, Plain, Kind, reading, upgradable, asking, writing, weight, Holder, holder, to_read, to_read_upgradable, to_write, to_upgrade, to_upgrade_asked, Change, gets, releases, turns, may_come, is_empty, is_holder, may_turn, with_kind, rw_word, entries, IsExclusive, reader_limit, tells, read, read_upgradable, write, upgrade, upgrade_asked, released, is_holder-from_entries, is_holder-own, length-without_holder, empty_is, room_to_come, one_of_each, read-word, upgradable_read-word, upgradable-word, tells-holder, readers-word, writers-word, only_upgradable-word, only_asking-word, empty-word, Hold, RwCall, TryRead, Read, TryUpgradeableRead, UpgradeableRead, TryWrite, TryWriteWeak, Write, ReaderCount, WriterCount, TryUpgrade, TryUpgradeWeak, Upgrade, Downgrade, DowngradeToUpgradeable, Release, RwPoint, First, Exchange, Asking, holds, entries_at, Notes, Means, OwesAll, SoonAll, Pays, no_queue, [], turned_to}
 use Rattle.std.specs.Prelude.{min, max}
 use Rattle.spin_step.proofs.Sums.{length-with_kind}
 use Rattle.spin_step_more.proofs.ReaderSteps.{rw_read-grants, rw_upgradable-grants, rw_write-grants, rw_upgrade-grants, rw_upgrade_asked-grants, rw_release-gives, rw_turn-gives}
@@ -53,7 +53,7 @@ rw_notes v cap = record { Shape = λ s. Within cap s; point = point_of; Knows = 
 
 -- a party with the entries of a holder is a holder
 pub holder_by : (p : ℕ) (k : Kind) (s : Plain) → entries p s ≡ entries_at p (holds k) → is_holder p k s.holders ≡ true
-holder_by p k s mine = is_holder-from_entries p k s.holders (ap (λ (e : Entries). e.holders) mine)
+holder_by p k s mine = grind (arith, is_holder-from_entries)
 
 -- a party that asks to upgrade and has nothing else does not write
 writes_nothing : (p : ℕ) (s : Plain) → entries p s ≡ entries_at p (holds asking) → is_holder p writing s.holders ≡ false
@@ -97,20 +97,10 @@ module _ {V : Type 0} (v : V) (cap : ℕ) where
         let found = holder_by p asking s mine in
         grind (arith, rw_upgrade_asked-grants s p w (one_of_each s exclusive) found word, turned s p asking writing shape)
 
-    -- What a holder finds in the word, and what a conversion and a release mean
+    -- What a holder finds in the word
 
     finds : (k : Kind) → is_holder p k s.holders ≡ true → tells k w ≡ true
     finds k found = ap (tells k) (sym word) ∙ tells-holder s p k exclusive (omega (arith, shape.few, shape.room)) found
-
-    turn_means : (j k : Kind) → entries p s ≡ entries_at p (holds j) → may_turn j k ≡ true → weight j ≤ weight k
-        → (tells j w ≡ true) × IsMeant p s (turns p j k) (Some (turned_to j k w))
-    turn_means j k mine down more =
-        let found = holder_by p j s mine in grind (arith, finds j found, rw_turn-gives s p j k w more word, turned s p j k shape)
-
-    release_means : (k : Kind) → entries p s ≡ entries_at p (holds k) → (tells k w ≡ true) × IsMeant p s (releases p k) (Some (released k w))
-    release_means k mine =
-        let found = holder_by p k s mine in
-        grind (arith, finds k found, rw_release-gives s p k w word found, shape, length-without_holder p k s.holders found)
 
     finds_room : is_holder p upgradable s.holders ≡ true → nat_lt (w / weight reading) reader_limit ≡ true
     finds_room found = grind (arith, word, upgradable-word s p exclusive (omega (arith, shape.few, shape.room)) found)
@@ -123,48 +113,46 @@ module _ {V : Type 0} (v : V) (cap : ℕ) where
     reads_upgradable : may_come upgradable s ≡ true → read_upgradable cap w ≡ Some (w + weight upgradable)
     reads_upgradable may = rw (sym (upgradable_read-word s w cap (one_of_each s exclusive) shape.room word) ∙ may) refl
 
+  -- What a conversion and a release mean
+
+  module _ (p : ℕ) (s : Plain) (w : ℕ) where
+    turn_means : (j k : Kind) → rw_word s ≡ w → IsExclusive s → Within cap s → entries p s ≡ entries_at p (holds j) → may_turn j k ≡ true
+        → weight j ≤ weight k → (tells j w ≡ true) × IsMeant p s (turns p j k) (Some (turned_to j k w))
+    turn_means j k word exclusive shape mine down more =
+        let found = holder_by p j s mine in grind (arith, finds p s w word exclusive shape j found, rw_turn-gives s p j k w more word, turned s p j k shape)
+
+    release_means : (k : Kind) → rw_word s ≡ w → IsExclusive s → Within cap s → entries p s ≡ entries_at p (holds k)
+        → (tells k w ≡ true) × IsMeant p s (releases p k) (Some (released k w))
+    release_means k word exclusive shape mine =
+        let found = holder_by p k s mine in
+        grind (arith, finds p s w word exclusive shape k found, rw_release-gives s p k w word found, shape, length-without_holder p k s.holders found)
+
   owes : OwesAll (rw_notes v cap)
-  owes p TryRead First None s w span = grind (arith, read_means p s w)
-  owes p TryRead (Exchange n) None s w span = grind (arith, read_means p s w)
-  owes p Read First None s w span = grind (arith, read_means p s w)
-  owes p Read (Exchange n) None s w span = grind (arith, read_means p s w)
-  owes p TryUpgradeableRead First None s w span = grind (arith, upgradable_means p s w)
-  owes p TryUpgradeableRead (Exchange n) None s w span = grind (arith, upgradable_means p s w)
-  owes p UpgradeableRead First None s w span = grind (arith, upgradable_means p s w)
-  owes p UpgradeableRead (Exchange n) None s w span = grind (arith, upgradable_means p s w)
-  owes p TryWrite First None s w span = grind (arith, write_means p s w)
-  owes p TryWriteWeak First None s w span = grind (arith, write_means p s w)
-  owes p Write First None s w span = grind (arith, write_means p s w)
-  owes p ReaderCount First None s w span = grind (arith, readers-word s w, one_of_each s)
-  owes p WriterCount First None s w span = grind (arith, writers-word s w, one_of_each s)
-  owes p TryUpgrade First (Some hold.Upgradable) s w span = grind (arith, upgrade_means p s w)
-  owes p TryUpgradeWeak First (Some hold.Upgradable) s w span = grind (arith, upgrade_means p s w)
-  owes p Upgrade First (Some hold.Upgradable) s w span = λ at.
-      grind (arith, turn_means p s w (cc (at.encodes)) at.exclusive at.shape upgradable asking at.knows.0.stand refl (omega arith))
-  owes p Upgrade Asking (Some hold.Upgradable) s w span = grind (arith, upgrade_asked_means p s w)
-  owes p Downgrade First (Some hold.Upgradable) s w span = λ at.
-      let room = finds_room p s w (cc (at.encodes)) at.exclusive at.shape (holder_by p upgradable s at.knows.0.stand) in
-      grind (arith, room, turn_means p s w (cc (at.encodes)) at.exclusive at.shape upgradable reading at.knows.0.stand refl (omega arith))
-  owes p Downgrade First (Some hold.Write) s w span = λ at.
-      grind (arith, turn_means p s w (cc (at.encodes)) at.exclusive at.shape writing reading at.knows.0.stand refl (omega arith))
-  owes p DowngradeToUpgradeable First (Some hold.Write) s w span = λ at.
-      grind (arith, turn_means p s w (cc (at.encodes)) at.exclusive at.shape writing upgradable at.knows.0.stand refl (omega arith))
-  owes p Release First (Some hold.Read) s w span = λ at. grind (arith, release_means p s w (cc (at.encodes)) at.exclusive at.shape reading at.knows.0.stand)
-  owes p Release First (Some hold.Upgradable) s w span = λ at. grind (arith, release_means p s w (cc (at.encodes)) at.exclusive at.shape upgradable at.knows.0.stand)
-  owes p Release First (Some hold.Write) s w span = λ at. grind (arith, release_means p s w (cc (at.encodes)) at.exclusive at.shape writing at.knows.0.stand)
-  owes p _ _ _ s w span = tt
+  owes p TryRead l h s w span = grind (arith, read_means p s w)
+  owes p Read l h s w span = grind (arith, read_means p s w)
+  owes p TryUpgradeableRead l h s w span = grind (arith, upgradable_means p s w)
+  owes p UpgradeableRead l h s w span = grind (arith, upgradable_means p s w)
+  owes p TryWrite l h s w span = grind (arith, write_means p s w)
+  owes p TryWriteWeak l h s w span = grind (arith, write_means p s w)
+  owes p Write l h s w span = grind (arith, write_means p s w)
+  owes p ReaderCount l h s w span = grind (arith, readers-word s w, one_of_each s)
+  owes p WriterCount l h s w span = grind (arith, writers-word s w, one_of_each s)
+  owes p TryUpgrade l h s w span = grind (arith, upgrade_means p s w)
+  owes p TryUpgradeWeak l h s w span = grind (arith, upgrade_means p s w)
+  owes p Upgrade l h s w span = grind (arith, turn_means p s w upgradable asking, upgrade_asked_means p s w)
+  owes p Downgrade First (Some hold.Upgradable) s w span = grind (arith, turn_means p s w upgradable reading, finds_room p s w, holder_by p upgradable s)
+  owes p Downgrade l h s w span = grind (arith, turn_means p s w writing reading)
+  owes p DowngradeToUpgradeable l h s w span = grind (arith, turn_means p s w writing upgradable)
+  owes p Release l h s w span = grind (arith, release_means p s w reading, release_means p s w upgradable, release_means p s w writing)
 
   -- if nobody disturbs the call, its exchange succeeds on a word that admits the party, at once or after a look
 
   soon : SoonAll (rw_notes v cap)
-  soon p Read First None s w span = grind (arith, reads p s w, eq-eqb w w)
-  soon p Read (Exchange n) None s w span = grind (arith, reads p s w, eq-eqb w w)
-  soon p UpgradeableRead First None s w span = grind (arith, reads_upgradable p s w, eq-eqb w w)
-  soon p UpgradeableRead (Exchange n) None s w span = grind (arith, reads_upgradable p s w, eq-eqb w w)
-  soon p Write First None s w span = grind (arith, empty-word s.holders w)
-  soon p Upgrade First (Some hold.Upgradable) s w span =
-      grind (arith, writes_nothing p s, only_asking-word s p w, only_upgradable-word s p w, one_of_each s, holder_by p upgradable s)
-  soon p Upgrade Asking (Some hold.Upgradable) s w span = grind (arith, writes_nothing p s, only_asking-word s p w, one_of_each s, holder_by p asking s)
+  soon p Read l h s w span = grind (arith, reads p s w, eq-eqb w w)
+  soon p UpgradeableRead l h s w span = grind (arith, reads_upgradable p s w, eq-eqb w w)
+  soon p Write l h s w span = grind (arith, empty-word s.holders w)
+  soon p Upgrade l h s w span =
+      grind (arith, writes_nothing p s, only_asking-word s p w, only_upgradable-word s p w, one_of_each s, holder_by p upgradable s, holder_by p asking s)
   soon p _ _ _ s w span = tt
 
   pub rw_pays : Pays (rw_notes v cap)

@@ -15,7 +15,7 @@ use Rattle.spin_step_more.specs.RwCalls.{rw_machine}
 use Rattle.spin_world.specs.Standing.{StandTogether, KeepsWritersOut, less, Downgrades, readers_gone, StaysAsking, Opens, converts}
 use Rattle.spin_world.proofs.RwOwed.{holder_by, rw_notes, rw_facts}
 use Rattle.spin_model.specs.Machines.{Machine}
-use Rattle.spin_world_core.proofs.Reached.{good, numbers_are, stands, calls, passes_some, passes_all, row_passes, row_tells}
+use Rattle.spin_world_core.proofs.Reached.{good, numbers_are, stands, calls, passes_some, passes_all, row_passes}
 use Rattle.spin_model.proofs.Lists.{get-set_same}
 use Rattle.spin_world_core.proofs.Preserved.{Invariant}
 use Rattle.spin_world_core.proofs.Every.{kept}
@@ -99,7 +99,7 @@ module _ {V : Type 0} (v : V) (cap : ℕ) where
       let joined = seen_after-append m (opening m n) past further in
       let readers : count_kind reading later.plain.holders + readers_gone m before further ≡ count_kind reading before.plain.holders =
       ap (λ (s : Seen ℕ V RwCall RwPoint). count_kind reading s.plain.holders + readers_gone m before further) joined ∙ gone.0 in
-      let found : is_holder p asking later.plain.holders ≡ true = ap (λ (s : Seen ℕ V RwCall RwPoint). is_holder p asking s.plain.holders) joined ∙ gone.1 in
+      let found : is_holder p asking later.plain.holders ≡ true = grind arith in
       let here = good f n all in
       let alone = alone_when_gone later.plain p here.exclusive found in
       let left : (is_only p asking later.plain.holders ≡ true) ↔ (readers_gone m before further ≡ count_kind reading before.plain.holders) =
@@ -161,7 +161,7 @@ module _ {V : Type 0} (v : V) (cap : ℕ) where
   looks_agree n past =
       reads_agree_across f converts
       (record {
-        reads = λ p c l h s span is may knows. row_tells (rw_notes v cap) c l (Some h) p s span is_reader _ knows (grind (arith, is));
+        reads = λ p c l h s span is may knows. grind arith;
         steps = λ c l h w value is may. grind (arith, is, may);
         refuses = λ c l h next is may weak. grind (arith, is, may, weak);
       })

@@ -1,11 +1,10 @@
 -- What has to be shown of the ticket lock's table.
-use Rattle.spin_world.proofs.TicketNames.{serving-advances, ◌≡◌, ℕ, ◌+◌, ◌-◌, ◌≤◌, ◌==◌, true, false, filter, Option, Some, None, List, ◌∷◌, refl, ap, sym, ◌∙◌, arith, Plain, is_first, effect, to_take_ticket, to_enter, to_take_and_enter, Change, gets, serves, next_word, serving_word, Entries, entries, take, enters_in_turn, numbered-given, numbered-serves, serving-taken, serving-entered, entered_is_served, stands, Hold, TicketWords, TicketCall, Lock, TryLock, IsLocked, Release, TicketPoint, LoadNext, Take, Await, TryLoadNext, TryLoadServing, TryTake, LookServing, LookNext, Serve, own_count, plain, passing, is_left, ticket_table, ticket_machine, Plays, queues, entries_at, any_map, Point, nowhere, looked, onward, Notes, Means, OwesAll, SoonAll, Pays, two, no_holders, two_places, [], Queued, queued}
+use Rattle.spin_world.proofs.TicketNames.{serving-advances, ◌≡◌, ℕ, ◌+◌, ◌==◌, true, false, filter, Option, Some, None, List, ◌∷◌, refl, ap, sym, ◌∙◌, arith, Plain, is_first, effect, to_take_ticket, to_enter, to_take_and_enter, Change, gets, serves, next_word, serving_word, Entries, entries, take, enters_in_turn, numbered-given, numbered-serves, serving-taken, serving-entered, entered_is_served, stands, Hold, TicketWords, TicketCall, Lock, TryLock, IsLocked, Release, TicketPoint, LoadNext, Take, Await, TryLoadNext, TryLoadServing, TryTake, LookServing, LookNext, Serve, own_count, plain, passing, is_left, ticket_table, ticket_machine, Plays, queues, entries_at, any_map, Point, nowhere, looked, onward, Notes, Means, OwesAll, SoonAll, Pays, no_holders, [], Queued, queued}
 use Rattle.spin_step.specs.Parties.{first_alone_entered}
 use Rattle.spin_step.proofs.TicketSteps.{ticket_take-grants_alone, ticket_serve-gives}
 use Rattle.spin_model.specs.declared.place.Hold.TheVariants as hold
 use Rattle.spin_model.specs.Calls.{AnyOf, Mark, granted}
 use Rattle.spin_world_core.proofs.Lists.{eqb_self}
-use Rattle.spin_world_core.proofs.Operating.{operates_by}
 use Rattle.spin_world_core.proofs.Spans.{own_count-mine, own_count-other}
 use Rattle.spin_world_core.proofs.Filled.{plays_of}
 use Rattle.spin_world.proofs.TicketKnowledge.{Queue, Stays, Rises, try_refused, look_right}
@@ -50,13 +49,6 @@ module _ {V : Type 0} (v : V) (first : ℕ) where
         let numbered = numbered-given s p (effect to_take_ticket) queue.numbered in
         grind (arith, queue, serving-taken s p false queue.numbered, numbered)
 
-    -- what it means to take the next ticket if the next number is served
-    take_alone_means : w.next ≤ serving_word s → IsMeant p s (gets p to_take_and_enter) (λ n. record w { next = n }) (take w.next)
-    take_alone_means le =
-        let numbered = numbered-given s p (effect to_take_and_enter) queue.numbered in
-        let grants = ticket_take-grants_alone s p w.next queue.numbered.0 next_is (omega (arith, le)) in
-        grind (arith, queue, serving-taken s p true queue.numbered, numbered, grants)
-
     enter_means : (t : ℕ) → entries p s ≡ entries_at p (queues t false) → IsMeant p s (gets p to_enter) (λ k. w) (passing (w.serving == t) w.serving)
     enter_means t mine =
         let numbered = numbered-given s p (effect to_enter) queue.numbered in
@@ -75,7 +67,7 @@ module _ {V : Type 0} (v : V) (first : ℕ) where
   owes p TryLock (TryLoadServing n) None s w span =
       let found = any_map (λ m. (m.party ≡ p) × (next_word m.before ≡ n)) (λ m. (m.party ≡ p) × (next_word m.before ≡ serving_word s)) span in
       grind (arith, found, try_refused p n s span, own_count-mine p None plain s span)
-  owes p TryLock (TryTake n) None s w span = grind (arith, take_alone_means p s w, try_refused p n s span)
+  owes p TryLock (TryTake n) None s w span = grind (arith, numbered-given s p (effect to_take_and_enter), ticket_take-grants_alone s p w.next, serving-taken s p true, try_refused p n s span)
   owes p IsLocked (LookNext k) None s w span = grind (arith, look_right (w.next == k) p k s span)
   owes p c l h s w span = grind (arith, take_means p s w, enter_means p s w, serve_means p s w, own_count-mine p None plain s span)
 
@@ -88,8 +80,8 @@ module _ {V : Type 0} (v : V) (first : ℕ) where
   ticket_pays =
       record {
         fits = λ p c l h. grind arith;
-        operates = operates_by (ticket_table v first) (two_places _ _ _ _ (λ k w. refl) (λ k w. refl));
-        first = two first first first (first - 0) refl (omega arith);
+        operates = grind arith;
+        first = grind arith;
         shape_first = record { no_holders = refl; numbered = (omega arith, tt); in_range = λ some. absurd (cc (some)) };
         numbers_tell = λ u w e. grind arith;
         one_list = λ s queue. no_holders s queue.no_holders;

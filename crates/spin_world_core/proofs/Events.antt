@@ -1,13 +1,50 @@
 -- The cases of an event: its move is skipped, or is open and has the result of its kind. What holds in each of these
 -- cases holds of every event.
-use Rattle.spin_world_core.proofs.Names.{seat_of, ◌≡◌, ℕ, Bool, true, false, Option, Some, None, is_some, refl, ap, Hold, Seat, Idle, Calling, Holding, Leaked, Next, Move, Begin, Step, Weak, Read, Write, Leak, OwnerGet, OwnerSet, StepKind, plain, weak, Machine, Happened, skipped, begun, goes_on, refuses, resting, read_by, written_by, may_read, may_write, is_owners, owner_gets, owner_sets, Seen, Scene, scene, scene_at, scene_of, is_open_move}
+use Rattle.spin_world_core.proofs.Names.{seat_of, ◌≡◌, ℕ, Bool, true, false, Option, Some, None, refl, Hold, Seat, Idle, Calling, Holding, Leaked, Next, Move, Begin, Step, Weak, Read, Write, Leak, OwnerGet, OwnerSet, StepKind, plain, weak, Machine, skipped, begun, goes_on, resting, read_by, written_by, may_read, may_write, is_owners, owner_gets, owner_sets, Seen, Scene, scene, scene_at, scene_of, is_open_move, State, Outcome, Change, moves_at, ComesTo, slice_get, slice_get-map, seen_by_owner, arith}
+use Rattle.std.specs.Prelude.{◌↔◌}
+use Rattle.spin_model.specs.declared.schedule.Outcome.TheVariants as outcome
+use Rattle.spin_world_core.specs.Runs.{StepLeaves, is_in_place}
+use Rattle.spin_world_core.proofs.Lists.{get-set_other}
 
 -- the seat of a party that holds this, or has leaked it
 abbrev pub seat_with : {C L : Type 0} → Bool → Hold → Seat C L
 seat_with true h = Holding h
 seat_with false h = Leaked h
 
+-- if the move is a step, it changes the value only where a closure completes
+abbrev pub LeavesBy : {V C : Type 0} → Move C V → Option Change → Option V → Option V → Type 0
+LeavesBy Step step old new = StepLeaves step old new
+LeavesBy move step old new = Unit {0}
+
+-- What every move leads to, whatever the machine
+module _ {W V C L A : Type 0} (m : Machine W V C L A) (s : State W V C L) (p : ℕ) (move : Move C V) (o : Option (Seat C L)) where
+  abbrev result : Outcome A V
+  result = (moves_at m s p move o).outcome
+
+  abbrev next : State W V C L
+  next = (moves_at m s p move o).next
+
+  pub skips_closed : (result ≡ outcome.Skipped) ↔ (is_open_move m s move o ≡ false)
+  skips_closed = (λ e. grind arith, λ e. grind arith)
+
+  pub moves_in_place : (result ≡ outcome.Skipped → ⊥) → is_in_place m.owned move o ≡ true
+  moves_in_place happened = grind (arith, happened)
+
+  pub reads_value : (r value : Option V) → s.value ≡ value → result ≡ outcome.Value r → r ≡ value
+  reads_value r value is e = grind arith
+
+  -- a move has the outcome of its kind
+  pub comes_to : (step : Option Change) → LeavesBy move step s.value next.value → (result ≡ outcome.Skipped → ⊥) → ComesTo move step s.value next.value result
+  comes_to step leaves happened = grind (arith, leaves, happened)
+
+  -- another party that is in a call stays at its point
+  pub keeps_calling : (q : ℕ) (c : C) (l : L) (h : Option Hold) → (p ≡ q → ⊥) → slice_get s.seats q ≡ Some (Calling c l h) → slice_get next.seats q ≡ Some (Calling c l h)
+  keeps_calling q c l h ne is = grind (arith, get-set_other s.seats p q, slice_get-map (seen_by_owner {C = C} {L = L}) s.seats q)
+
 module _ {W V C L A : Type 0} (m : Machine W V C L A) (seen : Seen W V C L) (p : ℕ) where
+  pub skipped_scene : (move : Move C V) (o : Option (Seat C L)) → (moves_at m seen.state p move o).outcome ≡ outcome.Skipped → (scene_at m seen p move o).after ≡ seen
+  skipped_scene move o e = grind arith
+
   abbrev pub SitsAt : Option (Seat C L) → Type 0
   SitsAt o = seat_of seen p ≡ o
 
@@ -47,38 +84,16 @@ module _ {W V C L A : Type 0} (m : Machine W V C L A) (seen : Seen W V C L) (p :
       pub sets : OfSet
 
   module _ (P : Scene W V C L A → Type 0) (each : OfEach P) where
-    begun_so : (c : C) (h : Option Hold) (o : Option L) → SitsAt (Some (resting h)) → m.begin c h ≡ o
-        → is_open_move m seen.state (Begin c) (Some (resting h)) ≡ is_some o
-        → P (scene_of seen p (Begin c) (Some (resting h)) (begun seen.state p c h o) None plain None)
-    begun_so c h None there is closed = each.passes (Begin c) (Some (resting h)) plain there closed
-    begun_so c h (Some l) there is may = each.begins c l h there is
-
-    refused_so : (c : C) (l : L) (h : Option Hold) (o : Option (Next L A)) → SitsAt (Some (Calling c l h)) → m.refuse c l h ≡ o
-        → P (scene_of seen p Weak (Some (Calling c l h)) (refuses seen.state p c h o) None weak None)
-    refused_so c l h None there is = each.passes Weak (Some (Calling c l h)) weak there (ap is_some is)
-    refused_so c l h (Some next) there is = each.refuses c l h next there is
-
-    tested : (move : Move C V) (o : Option (Seat C L)) (by : Bool → Happened W V C L A) (x : Bool) → SitsAt o → is_open_move m seen.state move o ≡ x
-        → by false ≡ skipped seen.state → (x ≡ true → P (scene_of seen p move o (by true) None plain None)) → P (scene_of seen p move o (by x) None plain None)
-    tested move o by true there is closed opens = opens refl
-    tested move o by false there is closed opens = rw closed (each.passes move o plain there is)
-
     at_seat : (move : Move C V) (o : Option (Seat C L)) → SitsAt o → P (scene_at m seen p move o)
-    at_seat (Begin c) (Some Idle) there = begun_so c None (m.begin c None) there refl refl
-    at_seat (Begin c) (Some (Holding h)) there = begun_so c (Some h) (m.begin c (Some h)) there refl refl
+    at_seat (Begin c) (Some Idle) there = grind (arith, λ (l : L). each.begins c l None)
+    at_seat (Begin c) (Some (Holding h)) there = grind (arith, λ (l : L). each.begins c l (Some h))
     at_seat Step (Some (Calling c l h)) there = each.steps c l h there
-    at_seat Weak (Some (Calling c l h)) there = refused_so c l h (m.refuse c l h) there refl
-    at_seat Read (Some (Holding h)) there = tested Read (Some (Holding h)) (read_by seen.state) (may_read h) there refl refl (each.reads true h there)
-    at_seat Read (Some (Leaked h)) there = tested Read (Some (Leaked h)) (read_by seen.state) (may_read h) there refl refl (each.reads false h there)
-    at_seat (Write v) (Some (Holding h)) there =
-        tested (Write v) (Some (Holding h)) (written_by seen.state v) (may_write h) there refl refl (each.writes v true h there)
-    at_seat (Write v) (Some (Leaked h)) there =
-        tested (Write v) (Some (Leaked h)) (written_by seen.state v) (may_write h) there refl refl (each.writes v false h there)
+    at_seat Read (Some (Holding h)) there = grind (arith, each.reads true h)
+    at_seat Read (Some (Leaked h)) there = grind (arith, each.reads false h)
+    at_seat (Write v) (Some (Holding h)) there = grind (arith, each.writes v true h)
+    at_seat (Write v) (Some (Leaked h)) there = grind (arith, each.writes v false h)
     at_seat Leak (Some (Holding h)) there = each.leaks h there
-    at_seat OwnerGet (Some y) there = tested OwnerGet (Some y) (owner_gets seen.state) (is_owners m seen.state) there refl refl (each.gets y there)
-    at_seat (OwnerSet v) (Some y) there =
-        tested (OwnerSet v) (Some y) (owner_sets seen.state v) (is_owners m seen.state) there refl refl (each.sets v y there)
-    at_seat move o there = each.passes move o plain there refl
+    at_seat move o there = grind arith
 
     -- if P holds in each case, it holds of every event
     pub of_event : (move : Move C V) → P (scene m seen p move)

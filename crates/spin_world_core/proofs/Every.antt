@@ -1,18 +1,14 @@
 -- Every event of every schedule keeps all that is promised, for any machine that plays a table (`Plays`).
-use Rattle.spin_world_core.proofs.Names.{◌≡◌, ℕ, Option, List, [], ◌∷◌, refl, subst, false, arith, Seat, Idle, Move, Machine, opening_plain, after, at_first, Seen, Scene, scene, is_open_move, StandsFor, MaySkip, Every, Keeps, IsRight, IsInTime, opening, KeepsAll, MomentsAll, CountsAll, CanStep, seen_after, Table, Bool, HasPhase, opening_phase}
-use Rattle.spin_step.proofs.Exclusive.{exclusive-free}
+use Rattle.spin_world_core.proofs.Names.{◌≡◌, ℕ, Option, List, [], ◌∷◌, refl, subst, false, arith, Seat, Idle, Move, Machine, opening_plain, after, at_first, Seen, Scene, scene, is_open_move, StandsFor, MaySkip, Every, Keeps, IsRight, IsInTime, opening, KeepsAll, MomentsAll, CountsAll, CanStep, seen_after, Table, Option, seat_of, is_owners, IsOwners, moves_at, true, StepKind, scene_of, skipped, None}
+use Rattle.spin_world_core.specs.Runs.{MayTouch}
 use Rattle.spin_world_core.proofs.Lists.{get-replicate}
 use Rattle.spin_world_core.proofs.Steps.{played, Plays}
 use Rattle.spin_world_core.proofs.Shapes.{Notes}
 pub use Rattle.spin_world_core.proofs.Preserved.{standing, in_call}
 use Rattle.spin_world_core.proofs.Paid.{at_step}
-use Rattle.spin_world_core.proofs.Events.{of_event}
-use Rattle.spin_world_core.proofs.Preserved.{OfParty, Invariant, Preserved, reader_of, writer_of, skip_kept, step_kept, refusal_kept, begun_kept, read_kept, write_kept, leak_kept}
-use Rattle.spin_world_core.proofs.Owners.{none_owns, owner_get_kept, owner_set_kept}
-
--- `HasPhase` holds at first: if closures make the value, the opening phase is complete exactly if there is a value
-phase_first : {V : Type 0} (makes : Bool) (value : Option V) → HasPhase makes (opening_phase makes value) value
-phase_first makes value = grind arith
+use Rattle.spin_world_core.proofs.Events.{of_event, skips_closed, skipped_scene, comes_to, moves_in_place, keeps_calling}
+use Rattle.spin_world_core.proofs.Preserved.{OfParty, Invariant, Kept, Preserved, StepKeeps, reader_of, writer_of, step_kept, refusal_kept, begun_kept, write_kept, leak_kept}
+use Rattle.spin_world_core.proofs.Owners.{none_owns, owns, owner_get_kept, owner_set_kept}
 
 module _ {W V C L A : Type 0} (m : Machine W V C L A) where
   -- the state of `seen_after` is the state after the schedule
@@ -29,24 +25,66 @@ module _ {W V C L A B : Type 0} {t : Table W V C L A} {by : Machine W V C L B} {
       → is_open_move m seen.state move o ≡ false → MaySkip m seen p move o
   may_pass seen p move o stands closed = grind (arith, f.stepwise.begins, reader_of p, writer_of p, none_owns m seen)
 
+  -- the party may use the value
+  touches : (seen : Seen W V C L) (p : ℕ) (move : Move C V) (o : Option (Seat C L)) → StandsFor seen.plain p (seen.span p) o
+      → (is_owners m seen.state ≡ true → IsOwners seen) → MayTouch seen p (moves_at m seen.state p move o).outcome move
+  touches seen p move o stands owners = grind (arith, reader_of p, writer_of p, owners)
+
+  passed : {seen : Seen W V C L} {p : ℕ} (move : Move C V) (o : Option (Seat C L)) (r : StepKind)
+      → StepKeeps f (scene_of seen p move o (skipped seen.state) None r None)
+  passed {seen} move o r = grind arith
+
   -- what the invariant gives of one event
   pub kept : (seen : Seen W V C L) (p : ℕ) (move : Move C V) → Invariant f seen → Preserved f (scene m seen p move)
   kept seen p move good =
-      of_event m seen p (Preserved f)
+      let s = seen.state in
+      let o = seat_of seen p in
+      let stands = (good.parties p).stands in
+      let is = of_event m seen p (Kept f)
       (record {
-        passes =
-            λ move o r there closed. skip_kept f seen p move o r good closed
-            (may_pass seen p move o (subst (StandsFor seen.plain p (seen.span p)) there (good.parties p).stands) closed);
+        passes = λ move o r there closed. (good, passed move o r);
         begins = begun_kept f seen p good;
         steps = step_kept f seen p good;
         refuses = λ c l h next there. refusal_kept f seen p good c l h there next;
-        reads = read_kept f seen p good;
+        reads = λ b h there may. (good, search);
         writes = write_kept f seen p good;
         leaks = leak_kept f seen p good;
         gets = owner_get_kept f seen p good;
         sets = owner_set_kept f seen p good;
       })
-      move
+      move in
+      record {
+        keeps = record {
+          opens = is.1.opens;
+          belongs = is.1.belongs;
+          encodes = is.0.encodes;
+          places = λ q. (is.0.parties q).stands;
+          exclusive = is.0.exclusive;
+          one_list = f.pays.one_list _ is.0.shape;
+          value_is = is.0.written;
+          reads = λ r. grind arith;
+          touches = touches seen p move o stands (owns f seen p good);
+          skips = skips_closed m s p move o;
+          lets = λ e. may_pass seen p move o stands ((skips_closed m s p move o).0 e);
+          unchanged = λ e. skipped_scene m seen p move o e;
+          comes = comes_to m s p move o _ is.1.rules.leaves;
+          weak = is.1.rules.weak;
+          own = is.1.own;
+          in_place = moves_in_place m s p move o;
+          in_call = is.1.in_call;
+          calls = keeps_calling m s p move o;
+        };
+        right = is.1.right;
+        in_time = record {
+          in_time = is.1.in_time;
+          counted = is.1.rules.counted;
+          retries = λ q. (is.0.parties q).retries;
+          undisturbed = is.1.undisturbed;
+          due = is.1.rules.due;
+          tries_on = is.1.rules.tries_on;
+        };
+        good = is.0;
+      }
 
   -- a property of each event from a state with the invariant holds of every event of a schedule
   pub every : (R : Scene W V C L B → Type 0) → ((seen : Seen W V C L) (p : ℕ) (move : Move C V) → Invariant f seen → R (scene m seen p move))
@@ -59,8 +97,8 @@ module _ {W V C L A B : Type 0} {t : Table W V C L A} {by : Machine W V C L B} {
       record {
         encodes = f.pays.first;
         shape = f.pays.shape_first;
-        phase = phase_first t.lock_kind.makes_value t.value;
-        exclusive = exclusive-free (opening_plain m) refl refl;
+        phase = grind arith;
+        exclusive = grind arith;
         written = refl;
         parties =
             λ q. get-replicate (OfParty f m.words (opening_plain m) q []) Idle parties q

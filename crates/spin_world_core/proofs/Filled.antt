@@ -1,5 +1,5 @@
 -- Two machines that play a table. In one no closure makes the value; in the other the object's closures make it.
-use Rattle.spin_world_core.proofs.Names.{◌≡◌, ℕ, Bool, true, false, is_some, Option, Some, None, refl, ap, sym, ◌∙◌, subst, arith, true≢false, false≢true, Plain, Phase, Change, completes, is_complete, apply_some, IsOpenStep, entries, is_held, Answer, Hold, Next, Continue, Answers, encoded, says_of, placed, HasPhase, if_completed, is_writer, Memory, Act, store, step_by, change_at, change_by, makes_by, Table, machine_of, completes_by, brought, filled, machine_with}
+use Rattle.spin_world_core.proofs.Names.{◌≡◌, ℕ, Bool, true, false, is_some, Option, Some, None, refl, ap, sym, ◌∙◌, subst, arith, true≢false, Plain, Phase, Change, completes, is_complete, apply_some, IsOpenStep, entries, is_held, Answer, Hold, Next, Continue, Answers, encoded, says_of, placed, HasPhase, if_completed, is_writer, Memory, Act, store, step_by, change_at, change_by, makes_by, Table, machine_of, completes_by, brought, filled, machine_with}
 use Rattle.spin_model.specs.Asks.{is_completion}
 use Rattle.spin_model.specs.declared.answer.Answer.TheVariants.{Value}
 use Rattle.spin_world_core.proofs.Operating.{change_is, fits_change, stepwise_of, stepwise_with}
@@ -20,7 +20,7 @@ module _ {W V C L A : Type 0} {t : Table W V C L A} {n : Notes t} (pays : Pays n
   no_completion p c l h w q is = true≢false (sym (fits_change t pays.fits pays.operates p c l h _ w (completes q) is).0 ∙ no_value)
 
   no_phase : (phase : Phase) (v : Option V) → HasPhase t.lock_kind.makes_value phase v
-  no_phase phase v = subst (λ made. HasPhase made phase v) (sym no_value) tt
+  no_phase phase v = grind arith
 
   silent : (v : Option V) (next : Next L A) → NextGives (machine_of t) v next
   silent v next = grind (arith, no_value)
@@ -121,11 +121,11 @@ module _ {W V C L : Type 0} {t : Table W V C L (Answer (Unit {0}))} {n : Notes t
             let puts = puts_by _ (t.act c l h) s p v (brings c) w (pays.completes_right p c l h) opens complete in
             record {
               tells = tells_with (apply_some s (change_by t.memory (t.word l) (t.act c l h) p w)) _ _ puts.phase (pays.tells p c l h s w encodes);
-              phase = subst (λ made. HasPhase made (apply_some s (change_by t.memory (t.word l) (t.act c l h) p w)).phase (placed (brought (completes_by (t.act c l h)) (brings c)) v)) (sym pays.makes) puts.phase;
+              phase = grind arith;
               places = puts.places;
               completes_alone = λ q is. pays.none_holds s shape;
               brings = puts.brings;
               gives = gives_at _ _;
             };
-        written = λ s p v shape writes. absurd (false≢true (sym (pays.none_writes s p shape) ∙ writes));
+        written = λ s p v shape writes. grind arith;
       }

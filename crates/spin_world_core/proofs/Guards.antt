@@ -7,11 +7,11 @@ use Rattle.spin_world_core.proofs.Steps.{played, KnowsAt, Plays}
 use Rattle.spin_world_core.proofs.Paid.{at_step}
 use Rattle.spin_world_core.proofs.Shapes.{Notes, Knows}
 use Rattle.spin_world_core.proofs.Events.{seat_with, of_event}
-use Rattle.spin_world_core.proofs.Preserved.{Invariant, in_call, with_hold, reader_of, writer_of}
+use Rattle.spin_world_core.proofs.Preserved.{Invariant, in_call, with_hold, writer_of}
 use Rattle.spin_world_core.proofs.Owners.{all-get}
 use Rattle.spin_world_core.proofs.Every.{kept}
 use Rattle.spin_world_core.proofs.Reached as reached
-use Rattle.spin_world_core.proofs.Writers.{one_toucher, touched}
+use Rattle.spin_world_core.proofs.Writers.{one_toucher}
 pub use Rattle.spin_world_core.proofs.Schedules.{seen_after-append}
 
 -- what a party found under its guard, and the calls that keep this guard
@@ -54,7 +54,7 @@ module _ {V C L : Type 0} (r : GuardedRead C V) (w v : Option V) where
   -- a closure completes only while nobody has a guard, so a party's guard stays right
   completed : (s : Plain) (p : ℕ) (o : Option (Seat C L)) (step : Option Change) → ReaderOrGone s p o → ((q : ℕ) → step ≡ Some (completes q) → is_held s ≡ false)
       → Guard r w o → Guard r (if_completed w v step) o
-  completed s p o step reads alone guard = grind (arith, no_reader s p o reads, touched s p, alone)
+  completed s p o step reads alone guard = grind (arith, no_reader s p o reads, alone)
 
   -- the owner's use of the value leaves `Guard` true: a leaked party is then gone, and no other party has a guard
   gone_for : (o : Option (Seat C L)) → ((x : Seat C L) → o ≡ Some x → yields_to_owner x ≡ true) → Guard r w o → Guard r v (option_map seen_by_owner o)
@@ -69,8 +69,8 @@ module _ {W V C L A B : Type 0} {t : Table W V C L A} {by : Machine W V C L B} {
     reads_at : (w : Option V) (s : Plain) (p : ℕ) (span : List Mark) (o : Option (Seat C L)) → StandsFor s p span o → KnowsAt n s p span o → Guard r w o
         → ReaderOrGone s p o
     reads_at w s p span (Some (Calling c l (Some h))) stands knows guard = g.reads p c l h s span guard.0 guard.1 knows
-    reads_at w s p span (Some (Holding h)) stands knows guard = ap is_reader stands ∙ (reader_of p h ∙ guard.0)
-    reads_at w s p span (Some (Leaked h)) stands knows guard = ap is_reader stands ∙ (reader_of p h ∙ guard.0)
+    reads_at w s p span (Some (Holding h)) stands knows guard = grind arith
+    reads_at w s p span (Some (Leaked h)) stands knows guard = grind arith
     reads_at w s p span (Some (Gone h)) stands knows guard = tt
     reads_at w s p span _ stands knows guard = absurd guard
 

@@ -119,9 +119,7 @@ module _ {W V C L A : Type 0} (m : Machine W V C L A) where
 
   tells-joined : (s : State W V C L) (runs : List (List (ℕ × Move C V))) → TellsAfterAnyPast m s (joined runs) (joined (transcripts_of m s runs))
   tells-joined s [] = λ n past reached. tt
-  tells-joined s (run ∷ runs) =
-      let t = with_begins [] (events_of m s run) in
-      tells_both m s run (joined runs) t (joined (transcripts_of m (after m s run) runs)) (tells_after m s run t refl) (tells-joined (after m s run) runs)
+  tells-joined s (run ∷ runs) = grind (arith, tells_both, tells_after, tells-joined (after m s run) runs)
 
   pub runs_are_one : (s : State W V C L) (runs : List (List (ℕ × Move C V))) → Lawful m → RunsAreOne m s runs
   runs_are_one s runs lawful = record { state = after-joined s runs; tells = tells-joined s runs; promised = promised_after s (joined runs) lawful }

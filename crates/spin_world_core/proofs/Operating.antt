@@ -1,6 +1,6 @@
 -- The steps of a table as operations on one word, and what the form of a step shows by itself.
 use Rattle.std.proofs.lemmas.Bool.{not-true}
-use Rattle.spin_world_core.proofs.Names.{AnyOf, own_steps, list_all, Said, ◌≡◌, ℕ, Bool, true, false, not, ◌&&◌, ◌||◌, Option, Some, None, is_some, slice_set, unwrap_or, refl, ap, subst, arith, and_parts, Change, Hold, Answer, Next, LockKind, is_step_of, Asked, performed, Performs, IsOneOperation, RefusesAsLost, Stepwise, Memory, one_number, number_at, Act, weak_exchange, place_of, made_if, change_at, refusal_by, makes_by, operation_by, is_section, step_by, Table, machine_of, machine_with}
+use Rattle.spin_world_core.proofs.Names.{AnyOf, own_steps, list_all, Said, ◌≡◌, ℕ, Bool, true, false, not, ◌&&◌, ◌||◌, Option, Some, None, is_some, slice_set, unwrap_or, refl, ap, subst, arith, and_parts, Change, Hold, Answer, Next, LockKind, is_step_of, Asked, performed, Performs, IsOneOperation, RefusesAsLost, Stepwise, Memory, one_number, number_at, Act, weak_exchange, place_of, change_at, refusal_by, makes_by, operation_by, is_section, step_by, Table, machine_of, machine_with}
 
 -- What has to be shown
 
@@ -42,9 +42,6 @@ one_place i = grind arith
 
 -- The plain step that a step makes is the one that the table names for it
 
-pub made_named : {X : Type 0} (o : Option X) (c d : Change) → made_if o c ≡ Some d → Some c ≡ Some d
-made_named o c d is = grind arith
-
 pub change_is : {W L A : Type 0} (n : ℕ) (act : Act W L A) (p : ℕ) (w : W) (d : Change) → change_at n act p w ≡ Some d → makes_by act p ≡ Some d
 change_is n act p w d is = grind arith
 
@@ -63,8 +60,7 @@ module _ {W V C L A : Type 0} (t : Table W V C L A) (fit : (p : ℕ) (c : C) (l 
   fits_change p c l h n w d is = fits_made t.lock_kind (t.asks c h) _ (makes_by (t.act c l h) p) d (and_parts _ _ (fit p c l h)).0 (change_is n (t.act c l h) p w d is)
 
   performs_of : (c : C) (l : L) (h : Option Hold) → is_section (t.act c l h) ≡ false → Performs (machine_of t) c l h (place_of (t.word l) (t.act c l h)) (operation_by (t.act c l h))
-  performs_of c l h one =
-      record { words = λ w v can. operates c l h w one; next = λ w u v can may same. grind (arith, one, same); placed = λ w u v. grind arith }
+  performs_of c l h one = grind arith
 
   operation_of : (sections : Bool) (c : C) (l : L) (h : Option Hold) → may_be_section sections (is_section (t.act c l h)) ≡ true → IsOneOperation sections (machine_of t) c l h
   operation_of true c l h one = tt

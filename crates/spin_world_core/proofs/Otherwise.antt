@@ -1,16 +1,15 @@
 -- Ways to show that a lock is wrong: a part of a claim is false, a party takes four undisturbed steps without an answer,
 -- or a step is no single operation.
-use Rattle.std.proofs.Common.{◌≡◌, ℕ, zero, ◌+◌, ◌-◌, ◌<◌, ◌⊎◌, true, false, List, [], ◌∷◌, ◌++◌, slice_set, get_or, refl, subst, arith, ⊎_elim}
-use Rattle.std.proofs.lemmas.Bool.{true≢false}
+use Rattle.std.proofs.Common.{◌≡◌, ℕ, ◌+◌, ◌<◌, ◌⊎◌, true, false, List, [], ◌∷◌, ◌++◌, slice_set, get_or, refl, arith}
 use Rattle.spin_model.specs.StepKinds.{is_weak}
 use Rattle.spin_model.specs.Calls.{LockKind, Asked, Mark}
 use Rattle.spin_world_core.specs.Spans.{own_count}
 use Rattle.spin_world_core.specs.Undisturbed.{is_open_now, Leaves, AllOf, UndisturbedTakes}
-use Rattle.spin_model.specs.Operations.{Operation, exchanges, adds, subtracts, sets_lowest_bit, stores, performed}
+use Rattle.spin_model.specs.Operations.{Operation, performed}
 
 -- what is left of a claim if its first part is false
 pub otherwise : {X : Type 0} → (true ≡ false) ⊎ X → X
-otherwise claim = ⊎_elim (λ (e : true ≡ false). absurd (true≢false e)) (λ x. x) claim
+otherwise claim = grind arith
 
 -- the step m is the party's own, and is no spurious failure
 pub record IsOwn (p : ℕ) (m : Mark) : Type 0 where
@@ -18,7 +17,7 @@ pub record IsOwn (p : ℕ) (m : Mark) : Type 0 where
   pub strong : is_weak m.step_kind ≡ false
 
 leaves : (kind : LockKind) (p : ℕ) (m : Mark) → IsOwn p m → Leaves kind p m
-leaves kind p m is = record { strong = λ e. is.strong; still = λ ne. absurd (ne is.party) }
+leaves kind p m is = grind arith
 
 owns : (kind : LockKind) (p : ℕ) (ms : List Mark) → AllOf (IsOwn p) ms → AllOf (Leaves kind p) ms
 owns kind p [] are = tt
@@ -41,20 +40,6 @@ four_steps kind p what {a} {b} {c} {d} {older} law may own_a own_b own_c own_d c
 abbrev Becomes : ℕ → Operation → ℕ → ℕ → Type 0
 Becomes i operation w to = to ∷ [] ≡ slice_set (w ∷ []) i (performed operation (get_or (w ∷ []) i 0))
 
--- an exchange has found the number that it expects, or leaves the word unchanged
-exchanged : (from to w x : ℕ) → x ≡ performed (exchanges from to) w → (w ≡ from) ⊎ (x ≡ w)
-exchanged from to w x is = grind arith
-
 -- no single operation adds d twice, and then leaves a full word unchanged
 pub no_operation : (i : ℕ) (operation : Operation) (d full : ℕ) → 0 < d → Becomes i operation 0 d → Becomes i operation d (d + d) → Becomes i operation full full → ⊥
-no_operation zero (exchanges from to) d full some once twice left =
-    ⊎_elim
-    (λ (first : 0 ≡ from). ⊎_elim (λ (second : d ≡ from). omega (arith, some, first, second)) (λ (same : d + d ≡ d). omega (arith, some, same)) (exchanged from to d (d + d) (cc (twice))))
-    (λ (same : d ≡ 0). omega (arith, some, same)) (exchanged from to 0 d (cc (once)))
-no_operation zero (adds k) d full some once twice left = let more : d ≡ 0 + k = cc (once) in let same : full ≡ full + k = cc (left) in omega (arith, some, more, same)
-no_operation zero (subtracts k) d full some once twice left = let none : d ≡ 0 - k = cc (once) in omega (arith, some, none)
-no_operation zero sets_lowest_bit d full some once twice left =
-    let one : d ≡ 1 = cc (once) in
-    let two : 2 ≡ 1 = subst (λ n. n + n ≡ performed sets_lowest_bit n) one (cc (twice)) in omega (arith, two)
-no_operation zero (stores k) d full some once twice left = let first : d ≡ k = cc (once) in let second : d + d ≡ k = cc (twice) in omega (arith, some, first, second)
-no_operation _ _ d full some once twice left = let none : d ≡ 0 = cc (once) in omega (arith, some, none)
+no_operation i operation d full some once twice left = grind arith

@@ -1,12 +1,11 @@
 -- What an owner's move keeps.
 use Rattle.std.proofs.Common.{pred, arith}
-use Rattle.spin_world_core.proofs.Names.{seat_of, ◌≡◌, ℕ, Bool, true, false, Option, Some, None, List, [], ◌∷◌, zero, suc, map, slice_get, refl, sym, ap, ◌∙◌, subst, list_all, option_map, and_from, and_parts, true≢false, slice_get-map, Plain, Hold, Seat, Calling, Leaked, OwnerSet, Mark, Machine, is_owners, yields_to_owner, let_go, seen_by_owner, owner_writes, Seen, scene_of, ComesTo, StandsFor, YieldsToOwner, IsOwners, Table, HasPhase}
-use Rattle.spin_model.specs.declared.schedule.Outcome.TheVariants as outcome
+use Rattle.spin_world_core.proofs.Names.{seat_of, ◌≡◌, ℕ, Bool, true, false, Option, Some, None, List, [], ◌∷◌, zero, suc, slice_get, refl, sym, ◌∙◌, subst, list_all, option_map, and_from, and_parts, true≢false, slice_get-map, Plain, Seat, Leaked, OwnerSet, Mark, Machine, is_owners, yields_to_owner, let_go, seen_by_owner, owner_writes, Seen, scene_of, StandsFor, YieldsToOwner, IsOwners, Table, HasPhase}
 use Rattle.spin_model.specs.StepKinds as step_kind
 use Rattle.spin_world_core.proofs.Steps.{played, Plays}
 use Rattle.spin_world_core.proofs.Shapes.{Notes}
 use Rattle.spin_world_core.proofs.Events.{OfGet, OfSet}
-use Rattle.spin_world_core.proofs.Preserved.{OfParty, Invariant, Preserved, happened_kept, phase_set}
+use Rattle.spin_world_core.proofs.Preserved.{OfParty, Invariant, Kept, phase_set}
 
 pub all-get : {X : Type 0} (test : X → Bool) (xs : List X) (q : ℕ) (x : X) → list_all test xs ≡ true → slice_get xs q ≡ Some x → test x ≡ true
 all-get test [] q x all e = absurd (cc (e))
@@ -24,11 +23,6 @@ yields_at s q span (Some x) stands away = grind (arith, away x refl)
 yields : {C L : Type 0} (s : Plain) (q : ℕ) (x : Seat C L) → YieldsToOwner s q (Some x) → yields_to_owner x ≡ true
 yields s q x may = grind arith
 
--- an owner's move leaves every other party that is in a call at its point
-leaves_calls : {C L : Type 0} (seats : List (Seat C L)) {p : ℕ} (q : ℕ) (c : C) (l : L) (h : Option Hold) → (p ≡ q → ⊥)
-    → slice_get seats q ≡ Some (Calling c l h) → slice_get (map seen_by_owner seats) q ≡ Some (Calling c l h)
-leaves_calls seats q c l h ne is = slice_get-map seen_by_owner seats q ∙ ap (option_map seen_by_owner) is
-
 module _ {W V C L A : Type 0} (m : Machine W V C L A) where
   -- if every party leaves the value to the owner, the owner's move is open
   pub none_owns : (seen : Seen W V C L) → is_owners m seen.state ≡ false → m.owned ≡ true → IsOwners seen → ⊥
@@ -42,7 +36,7 @@ module _ {W V C L A B : Type 0} {t : Table W V C L A} {by : Machine W V C L B} {
 
   let_go_party : (seen : Seen W V C L) (q : ℕ) (o : Option (Seat C L)) → OfParty f seen.state.words seen.plain q (seen.span q) o
       → OfParty f seen.state.words seen.plain q (seen.span q) (option_map seen_by_owner o)
-  let_go_party seen q (Some (Leaked h)) is = record { stands = is.stands; knows = tt; retries = is.retries; undisturbed = tt }
+  let_go_party seen q (Some (Leaked h)) is = grind arith
   let_go_party seen q _ is = is
 
   module _ (seen : Seen W V C L) (p : ℕ) (good : Invariant f seen) where
@@ -58,28 +52,19 @@ module _ {W V C L A B : Type 0} {t : Table W V C L A} {by : Machine W V C L B} {
           parties = λ q. rw (slice_get-map seen_by_owner seen.state.seats q) (let_go_party seen q (seat_of seen q) (good.parties q));
         }
 
-    owns : is_owners m seen.state ≡ true → IsOwners seen
+    pub owns : is_owners m seen.state ≡ true → IsOwners seen
     owns may = λ q.
         yields_at seen.plain q (seen.span q) (seat_of seen q) (good.parties q).stands
         (λ x e. all-get yields_to_owner seen.state.seats q x (and_parts _ _ may).1 e)
 
-    pub owner_get_kept : OfGet m seen p (Preserved f)
-    owner_get_kept y there may =
-        happened_kept f _ (good_let_go seen.state.value seen.written good.phase good.written) (search)
-        (λ r e. cc (e, good.written)) (owns may)
-        (λ e. cc (e)) may (and_parts _ _ may).0 (refl, refl) tt (leaves_calls seen.state.seats)
+    pub owner_get_kept : OfGet m seen p (Kept f)
+    owner_get_kept y there may = (good_let_go seen.state.value seen.written good.phase good.written, search)
 
-    owner_writes_kept : (v : V) (y : Seat C L) (o : Option V) → is_owners m seen.state ≡ true → seen.state.value ≡ o
-        → Preserved f (scene_of seen p (OwnerSet v) (Some y) (owner_writes seen.state v o) None step_kind.plain None)
-    owner_writes_kept v y None may found =
-        happened_kept f _ (good_let_go seen.state.value seen.written good.phase good.written) (search)
-        (λ r e. cc (e, good.written, found)) (owns may)
-        (λ e. cc (e)) may (and_parts _ _ may).0 (subst (λ old. ComesTo {C = C} {A = B} (OwnerSet v) None old seen.state.value (outcome.Value None)) (sym found)
-        (refl, found)) tt (leaves_calls seen.state.seats)
-    owner_writes_kept v y (Some old) may found =
-        happened_kept f _ (good_let_go (Some v) (Some v) (phase_set _ _ old v (subst (HasPhase t.lock_kind.makes_value seen.plain.phase) found good.phase)) refl)
-        (search) (λ r e. absurd (cc (e))) (owns may) (λ e. cc (e)) may (and_parts _ _ may).0
-        (subst (λ o. ComesTo {C = C} {A = B} (OwnerSet v) None o (Some v) outcome.Written) (sym found) (refl, refl)) tt (leaves_calls seen.state.seats)
+    owner_writes_kept : (v : V) (y : Seat C L) (o : Option V) → seen.state.value ≡ o
+        → Kept f (scene_of seen p (OwnerSet v) (Some y) (owner_writes seen.state v o) None step_kind.plain None)
+    owner_writes_kept v y None found = (good_let_go seen.state.value seen.written good.phase good.written, search)
+    owner_writes_kept v y (Some old) found =
+        (good_let_go (Some v) (Some v) (phase_set _ _ old v (subst (HasPhase t.lock_kind.makes_value seen.plain.phase) found good.phase)) refl, search)
 
-    pub owner_set_kept : OfSet m seen p (Preserved f)
-    owner_set_kept v y there may = owner_writes_kept v y seen.state.value may refl
+    pub owner_set_kept : OfSet m seen p (Kept f)
+    owner_set_kept v y there may = owner_writes_kept v y seen.state.value refl

@@ -1,5 +1,5 @@
 -- What has been played of a schedule, at the beginning of a turn of the loop.
-use Rattle.spin_world_core.proofs.Names.{slice_get-map, ◌≡◌, ℕ, map, ◌+◌, ◌<◌, ◌≤◌, ◌==◌, ◌&&◌, true, Option, Some, None, List, [], ◌∷◌, ◌++◌, length, if◌then◌else◌, refl, ap, sym, ◌∙◌, arith, subst, length-set, take, get_or, length-take-le, zero-add, ∥∥₁_map, length-map, take_all, Move, Outcome, Event, Machine, State, Happened, happens, after, events_of, with_begins, last_begin, is_begun, at_first, CanStep, CanAlways, IsReached}
+use Rattle.spin_world_core.proofs.Names.{slice_get-map, ◌≡◌, ℕ, map, ◌+◌, ◌<◌, ◌≤◌, ◌==◌, ◌&&◌, true, Option, Some, None, List, [], ◌∷◌, ◌++◌, length, if◌then◌else◌, refl, ap, sym, ◌∙◌, arith, subst, length-set, take, get_or, length-take-le, zero-add, ∥∥₁_map, length-map, take_all, Move, Outcome, Event, Machine, State, Happened, happens, after, events_of, with_begins, last_begin, is_begun, at_first, IsReached}
 use Rattle.spin_model.specs.Schedules.{begin_of, begins_after, with_begin}
 use Rattle.spin_model.proofs.Lists.{get-set_within}
 use Rattle.spin_world_core.proofs.Lists.{get-set_other, take_next}
@@ -76,11 +76,6 @@ module _ {W V C L A : Type 0} (m : Machine W V C L A) where
   pub played_all : (from now : State W V C L) (begins : List (Option ℕ)) (events : List (Event W V A)) (schedule : List (ℕ × Move C V)) (k : ℕ)
       → Played from now begins events (take k schedule) → length schedule ≤ k → Played from now begins events schedule
   played_all from now begins events schedule k played all = subst (Played from now begins events) (take_all k schedule all) played
-
-  -- after the part of the schedule that has been played, each party in a call can take its next step
-  pub can_next : (from now : State W V C L) (begins : List (Option ℕ)) (events : List (Event W V A)) (schedule : List (ℕ × Move C V)) (k : ℕ)
-      → Played from now begins events (take k schedule) → CanAlways m from schedule → CanStep m now
-  can_next from now begins events schedule k played can = subst (CanStep m) (sym played.table) (can k)
 
   -- a state that a move leads to from a reached state is reached
   pub reached_next : (s t : State W V C L) (p : ℕ) (move : Move C V) (o : Outcome A V)

@@ -1,17 +1,17 @@
 -- One event keeps all that is promised, for any machine that plays a table (`Plays`).
-use Rattle.spin_world_core.proofs.Names.{Outcome, seat_of, slice_get_within, ◌≡◌, ℕ, ◌≤◌, ◌==◌, Bool, true, false, Option, Some, None, List, [], ◌∷◌, ◌++◌, suc, if◌then◌else◌, is_some, slice_get, slice_set, refl, ap, sym, ◌∙◌, subst, arith, ne_eqb, true≢false, Plain, Ask, Change, apply_some, IsOpenStep, Entries, entries, IsExclusive, entries-other, entries-own, Hold, Seat, Calling, Holding, Leaked, Next, Continue, Answers, Move, Step, Weak, Leak, StepKind, is_weak, by_step, encoded, BelongsTo, Mark, Machine, skipped, seated, goes_on, placed, resting, may_read, may_write, Seen, Scene, scene_at, scene_of, mark_of, own, own_count, failures, changes, if_completed, is_open_move, entries_of, entries_held, StandsFor, is_reader, is_writer, MaySkip, ComesTo, Keeps, IsRight, IsInTime, UndisturbedTakes, AnsweredSoon, Gets, GetsWhenDue, TriesOn, tries_of, Table, Phase, HasPhase}
-use Rattle.spin_world_core.specs.Runs.{InItsCall, InTime, IsCounted, IsWeakCall, LeavesCalls, MayTouch, OwnSteps, StepLeaves, asked, entries_so_far, is_in_place}
+use Rattle.spin_world_core.proofs.Names.{seat_of, slice_get_within, ◌≡◌, ℕ, ◌≤◌, ◌==◌, Bool, false, Option, Some, None, List, [], ◌∷◌, ◌++◌, suc, if◌then◌else◌, slice_get, slice_set, refl, ap, sym, ◌∙◌, subst, arith, ne_eqb, true≢false, Plain, Ask, Change, apply_some, IsOpenStep, Entries, entries, IsExclusive, entries-other, entries-own, Hold, Seat, Calling, Holding, Leaked, Next, Continue, Answers, Move, Step, Weak, Leak, StepKind, is_weak, by_step, encoded, BelongsTo, Mark, Machine, seated, goes_on, placed, resting, may_read, may_write, Seen, Scene, scene_at, scene_of, mark_of, own, own_count, failures, changes, if_completed, entries_of, entries_held, StandsFor, is_reader, is_writer, Keeps, IsRight, IsInTime, UndisturbedTakes, AnsweredSoon, Gets, GetsWhenDue, TriesOn, tries_of, Table, Phase, HasPhase}
+use Rattle.spin_world_core.specs.Runs.{InItsCall, InTime, IsCounted, IsWeakCall, OwnSteps, StepLeaves, asked, entries_so_far}
 use Rattle.spin_step.proofs.Exclusive.{exclusive-kept}
 use Rattle.spin_model.specs.declared.schedule.Outcome.TheVariants as outcome
 use Rattle.spin_model.specs.StepKinds as step_kind
 use Rattle.spin_model.proofs.Lists.{get-set_same}
-use Rattle.spin_world_core.proofs.Lists.{get-set, get-set_other, eqb_self}
-use Rattle.spin_world_core.proofs.Spans.{retries-mine, retries-other}
+use Rattle.spin_world_core.proofs.Lists.{get-set, eqb_self}
+use Rattle.spin_world_core.proofs.Spans.{retries-mine}
 use Rattle.spin_world_core.proofs.Steps.{told, played, GoesOnOpen, ContinuesCounted, KnowsAt, Moves, AnswersWithin, AtStep, Plays}
 use Rattle.spin_world_core.proofs.Shapes.{Notes, InCall}
 use Rattle.spin_world_core.proofs.Paid.{at_step, knows_beside, knows_first}
 use Rattle.spin_world_core.proofs.Undisturbed.{RunsOn, GoesWithin, LeftBy, stepped, beside, runs_fresh, more_left}
-use Rattle.spin_world_core.proofs.Events.{seat_with, OfBegin, OfRead, OfWrite}
+use Rattle.spin_world_core.proofs.Events.{LeavesBy, seat_with, OfBegin, OfWrite}
 
 -- A party whose hold lets it read is a reader in the plain lock. A party whose hold lets it write is a writer there.
 
@@ -26,11 +26,6 @@ at_seat : {C L : Type 0} (P : ℕ → Option (Seat C L) → Type 0) (seats : Lis
     → P p (Some x) → ((q : ℕ) → (p ≡ q → ⊥) → P q (slice_get seats q)) → (q : ℕ) → P q (slice_get (slice_set seats p x) q)
 at_seat P seats p x y there here away q =
     get-set (P q) seats p q x (slice_get_within seats p y there) (λ e. subst (λ i. P i (Some x)) e here) (away q)
-
--- another party that is in a call stays at its point
-still_calling : {C L : Type 0} (seats : List (Seat C L)) (p : ℕ) (x : Seat C L) (q : ℕ) (c : C) (l : L) (h : Option Hold) → (p ≡ q → ⊥)
-    → slice_get seats q ≡ Some (Calling c l h) → slice_get (slice_set seats p x) q ≡ Some (Calling c l h)
-still_calling seats p x q c l h ne is = get-set_other seats p q x ne ∙ is
 
 -- another party's step keeps what the seat of q says of its entries
 stands_beside : {C L : Type 0} (s : Plain) (p q : ℕ) (step : Option Change) (r : StepKind) (span : List Mark) (o : Option (Seat C L)) → (p ≡ q → ⊥)
@@ -71,7 +66,7 @@ module _ {W V C L A B : Type 0} {t : Table W V C L A} {by : Machine W V C L B} {
     pub parties : (q : ℕ) → OfParty seen.state.words seen.plain q (seen.span q) (seat_of seen q)
 
   pub standing : {seen : Seen W V C L} (p : ℕ) {y : Seat C L} → Invariant seen → seat_of seen p ≡ Some y → StandsFor seen.plain p (seen.span p) (Some y)
-  standing {seen} p good there = subst (StandsFor seen.plain p (seen.span p)) there (good.parties p).stands
+  standing {seen} p good there = grind arith
 
   pub with_hold : {seen : Seen W V C L} (p : ℕ) (b : Bool) (h : Hold) → Invariant seen → seat_of seen p ≡ Some (seat_with b h)
       → entries p seen.plain ≡ entries_of p h
@@ -79,14 +74,7 @@ module _ {W V C L A B : Type 0} {t : Table W V C L A} {by : Machine W V C L B} {
 
   pub in_call : {seen : Seen W V C L} (p : ℕ) {c : C} {l : L} {h : Option Hold} → Invariant seen → seat_of seen p ≡ Some (Calling c l h)
       → InCall n p c l h seen.plain seen.state.words (seen.span p)
-  in_call {seen} p good there =
-      record {
-        encodes = good.encodes;
-        shape = good.shape;
-        exclusive = good.exclusive;
-        knows = subst (KnowsAt n seen.plain p (seen.span p)) there (good.parties p).knows;
-        retries = (good.parties p).retries;
-      }
+  in_call {seen} p good there = grind arith
 
   -- what is shown of an event
   pub record Preserved (s : Scene W V C L B) : Type 0 where
@@ -98,7 +86,7 @@ module _ {W V C L A B : Type 0} {t : Table W V C L A} {by : Machine W V C L B} {
   -- `OfParty` for a party that is in no call
   rests : (w : W) (s : Plain) (p : ℕ) (span : List Mark) (after : Option Hold) → entries p s ≡ entries_held p after
       → failures p span ≤ changes m.lock_kind p span → OfParty w s p span (Some (resting after))
-  rests w s p span after stands retries = record { stands = grind arith; knows = grind arith; retries = retries; undisturbed = grind arith }
+  rests w s p span after stands retries = grind arith
 
   -- the invariant still holds after a party gets another seat without a step
   good_seated : (seen : Seen W V C L) (p : ℕ) (x y : Seat C L) (span : ℕ → List Mark) → Invariant seen → seat_of seen p ≡ Some y
@@ -115,86 +103,27 @@ module _ {W V C L A B : Type 0} {t : Table W V C L A} {by : Machine W V C L B} {
             subst (λ ms. OfParty seen.state.words seen.plain q ms (seat_of seen q)) (sym (same q ne)) (good.parties q));
       }
 
-  -- what has to be shown of a step of a call; of any other event these properties hold by themselves
-  pub record StepKeeps (s : Scene W V C L B) : Type 0 where
-    pub opens : IsOpenStep s.before.plain s.party s.change
-    pub belongs : BelongsTo m.lock_kind s.change
-    pub own : OwnSteps m s.party (s.after.span s.party) s.outcome (asked m s.seat)
-    pub weak : IsWeakCall s.move s.party (s.before.span s.party) (asked m s.seat)
-    pub right : IsRight m s
-    pub in_time : InTime m.lock_kind s.party (s.after.span s.party) s.outcome (asked m s.seat)
+  -- what has to be shown of a step of a call and of how the call then goes on; of any other event these properties hold by themselves
+  pub record StepRules (s : Scene W V C L B) : Type 0 where
+    pub weak : (s.outcome ≡ outcome.Skipped → ⊥) → IsWeakCall s.move s.party (s.before.span s.party) (asked m s.seat)
+    pub leaves : LeavesBy s.move s.change s.before.state.value s.after.state.value
     pub counted : IsCounted m s.party s.outcome s.move s.seat s.change s.step_kind s.before.plain
-    pub undisturbed : AnsweredSoon m.lock_kind s.party (s.after.span s.party) s.outcome (asked m s.seat)
     pub due : GetsWhenDue m.lock_kind s.party s.outcome s.move (asked m s.seat) (s.before.span s.party) s.before.plain s.change s.step_kind
     pub tries_on : TriesOn s.party s.outcome s.move (asked m s.seat) (s.before.span s.party) s.before.plain s.change
 
-  -- an event is `Preserved` if it is not skipped, the invariant holds after it, and the other premises hold of it
-  pub happened_kept : (s : Scene W V C L B) → Invariant s.after → StepKeeps s → ((r : Option V) → s.outcome ≡ outcome.Value r → r ≡ s.before.written)
-      → MayTouch s.before s.party s.outcome s.move → (s.outcome ≡ outcome.Skipped → ⊥) → is_open_move m s.before.state s.move s.seat ≡ true
-      → is_in_place m.owned s.move s.seat ≡ true → ComesTo s.move s.change s.before.state.value s.after.state.value s.outcome
-      → InItsCall s.outcome s.move s.seat (seat_of s.after s.party) → LeavesCalls s.party s.before s.after → Preserved s
-  happened_kept s good step reads touches happened is_open placed comes in_call calls =
-      record {
-        keeps = record {
-          opens = step.opens;
-          belongs = step.belongs;
-          encodes = good.encodes;
-          places = λ q. (good.parties q).stands;
-          exclusive = good.exclusive;
-          one_list = f.pays.one_list s.after.plain good.shape;
-          value_is = good.written;
-          reads = reads;
-          touches = touches;
-          skips = (λ e. absurd (happened e), λ e. absurd (true≢false (sym is_open ∙ e)));
-          lets = λ e. absurd (happened e);
-          unchanged = λ e. absurd (happened e);
-          comes = λ happened. comes;
-          weak = λ happened. step.weak;
-          own = step.own;
-          in_place = λ happened. placed;
-          in_call = in_call;
-          calls = calls;
-        };
-        right = step.right;
-        in_time = record {
-          in_time = step.in_time;
-          counted = step.counted;
-          retries = λ q. (good.parties q).retries;
-          undisturbed = step.undisturbed;
-          due = step.due;
-          tries_on = step.tries_on;
-        };
-        good = good;
-      }
+  pub record StepKeeps (s : Scene W V C L B) : Type 0 where
+    pub opens : IsOpenStep s.before.plain s.party s.change
+    pub belongs : BelongsTo m.lock_kind s.change
+    pub rules : StepRules s
+    pub own : OwnSteps m s.party (s.after.span s.party) s.outcome (asked m s.seat)
+    pub right : IsRight m s
+    pub in_time : InTime m.lock_kind s.party (s.after.span s.party) s.outcome (asked m s.seat)
+    pub undisturbed : AnsweredSoon m.lock_kind s.party (s.after.span s.party) s.outcome (asked m s.seat)
+    pub in_call : InItsCall s.outcome s.move s.seat (seat_of s.after s.party)
 
-  pub skip_kept : (seen : Seen W V C L) (p : ℕ) (move : Move C V) (seat : Option (Seat C L)) (r : StepKind) → Invariant seen
-      → is_open_move m seen.state move seat ≡ false → MaySkip m seen p move seat → Preserved (scene_of seen p move seat (skipped seen.state) None r None)
-  skip_kept seen p move seat r good closed may =
-      record {
-        keeps = record {
-          opens = tt;
-          belongs = tt;
-          encodes = good.encodes;
-          places = λ q. (good.parties q).stands;
-          exclusive = good.exclusive;
-          one_list = f.pays.one_list seen.plain good.shape;
-          value_is = good.written;
-          reads = λ r e. absurd (cc (e));
-          touches = tt;
-          skips = (λ e. closed, λ e. refl);
-          lets = λ e. may;
-          unchanged = λ e. refl;
-          comes = λ happened. absurd (happened refl);
-          weak = λ happened. absurd (happened refl);
-          own = tt;
-          in_place = λ happened. absurd (happened refl);
-          in_call = tt;
-          calls = λ q c l h ne is. is;
-        };
-        right = tt;
-        in_time = record { in_time = tt; counted = tt; retries = λ q. (good.parties q).retries; undisturbed = tt; due = tt; tries_on = tt };
-        good = good;
-      }
+  -- what is shown of each kind of event
+  abbrev pub Kept : Scene W V C L B → Type 0
+  Kept s = Invariant s.after × StepKeeps s
 
   module _ (seen : Seen W V C L) (p : ℕ) (good : Invariant seen) where
     -- the plain lock and the spans after a step of p
@@ -213,7 +142,7 @@ module _ {W V C L A B : Type 0} {t : Table W V C L A} {by : Machine W V C L B} {
         record {
           stands = stands_beside seen.plain p q step r (seen.span q) o ne may is.stands;
           knows = knows_after o is.knows;
-          retries = retries-other m.lock_kind q p step r seen.plain (seen.span q) ne is.retries;
+          retries = grind arith;
           undisturbed =
               beside m seen.state.words w p q seen.plain step r (seen.span q) o ne same
               (λ c l h at. (at_step f _ (in_call q good (there ∙ at)) good.phase).undisturbed) is.undisturbed;
@@ -261,99 +190,70 @@ module _ {W V C L A B : Type 0} {t : Table W V C L A} {by : Machine W V C L B} {
           stepped m seen.state.words w p c l h seen.plain step r (seen.span p) next
           (subst (RunsOn m seen.state.words p (seen.span p)) there (good.parties p).undisturbed) is.undisturbed steps
 
-      abbrev result : Next L B → Outcome B V
-      result next = (goes_on seen.state p c h next).outcome
+      -- the event of a move of the call that makes this plain step, if any, stores this value, and leaves these words
+      abbrev event : Move C V → Option Change → StepKind → Option V → W → Option V → Next L B → Scene W V C L B
+      event move step r stored w v next = scene_of seen p move (Some (Calling c l h)) (goes_on (record seen.state { words = w; value = v }) p c h next) step r stored
 
-      -- what is shown of a move of the call that makes this plain step, if any, stores this value, and leaves these words
       record Goes (move : Move C V) (step : Option Change) (r : StepKind) (stored : Option V) (w : W) (v : Option V) (next : Next L B) : Type 0 where
         moves : Moves n move p c h seen.plain (seen.span p) step r w (told by.says next)
         phase : HasPhase t.lock_kind.makes_value (plain_by step).phase v
         written : v ≡ if_completed seen.written stored step
         steps : is_weak r ≡ false → (j : ℕ) → AnswersWithin m (suc j) seen.state.words c l h → GoesWithin m j w c h next
-        is_open : is_open_move m seen.state move (Some (Calling c l h)) ≡ true
-        in_place : is_in_place {V = V} {L = L} t.owned move (Some (Calling c l h)) ≡ true
-        weak : IsWeakCall move p (seen.span p) (Some (t.asks c h))
-        comes : ComesTo move step seen.state.value v (result next)
-        counted : IsCounted m p (result next) move (Some (Calling c l h)) step r seen.plain
-        due : GetsWhenDue t.lock_kind p (result next) move (Some (t.asks c h)) (seen.span p) seen.plain step r
-        tries_on : TriesOn p (result next) move (Some (t.asks c h)) (seen.span p) seen.plain step
+        rules : StepRules (event move step r stored w v next)
 
       went_on : (move : Move C V) (step : Option Change) (r : StepKind) (stored : Option V) (w : W) (v : Option V) (next : Next L B)
-          → Goes move step r stored w v next
-          → Preserved (scene_of seen p move (Some (Calling c l h)) (goes_on (record seen.state { words = w; value = v }) p c h next) step r stored)
+          → Goes move step r stored w v next → Kept (event move step r stored w v next)
       went_on move step r stored w v (Continue l') to =
-          let runs = left_by step r w (Continue l') to.steps in
-          let after = good_stepped (Calling c l' h) (Calling c l h) step r w v (if_completed seen.written stored step) there to.moves.opens to.moves.belongs
-          to.moves.encodes to.moves.shape to.phase to.written
-          (record {
-            stands = stands_stepped seen.plain p step r (seen.span p) (entries_held p h) to.moves.opens (standing p good there);
-            knows = to.moves.goes_on.knows;
-            retries = retries-mine t.lock_kind p step r seen.plain (seen.span p) (good.parties p).retries to.moves.fails;
-            undisturbed = λ recent first older is may leaves.
-                let left = runs recent first older is may leaves in record { steps = left.steps; few = left.few; answers = left.goes l' refl };
-          }) in
-          happened_kept _ after
-          (record {
-            opens = to.moves.opens;
-            belongs = to.moves.belongs;
-            own = to.moves.goes_on.own_so_far;
-            weak = to.weak;
-            right = tt;
-            in_time = to.moves.goes_on.in_time;
-            counted = to.counted;
-            undisturbed = λ recent first older is may leaves.
-                let left = runs recent first older is may leaves in
-                more_left m w c l' h (own_count p (recent ++ first ∷ [])) left.steps left.few (left.goes l' refl);
-            due = to.due;
-            tries_on = to.tries_on;
-          })
-          (λ r e. absurd (cc (e))) tt (λ e. cc (e)) to.is_open to.in_place to.comes
-          (l', get-set_same seen.state.seats p (Calling c l' h) (Calling c l h) there) (still_calling seen.state.seats p (Calling c l' h))
+          let runs = left_by step r w (Continue l') to.steps in (
+            good_stepped (Calling c l' h) (Calling c l h) step r w v _ there to.moves.opens to.moves.belongs to.moves.encodes to.moves.shape to.phase to.written
+                (record {
+                  stands = stands_stepped seen.plain p step r (seen.span p) (entries_held p h) to.moves.opens (standing p good there);
+                  knows = to.moves.goes_on.knows;
+                  retries = grind arith;
+                  undisturbed = λ recent first older is may leaves.
+                      let left = runs recent first older is may leaves in record { steps = left.steps; few = left.few; answers = left.goes l' refl };
+                }),
+            record {
+              opens = to.moves.opens;
+              belongs = to.moves.belongs;
+              rules = to.rules;
+              own = to.moves.goes_on.own_so_far;
+              right = tt;
+              in_time = to.moves.goes_on.in_time;
+              undisturbed = λ recent first older is may leaves.
+                  let left = runs recent first older is may leaves in
+                  more_left m w c l' h (own_count p (recent ++ first ∷ [])) left.steps left.few (left.goes l' refl);
+              in_call = (l', get-set_same seen.state.seats p (Calling c l' h) (Calling c l h) there);
+            },
+          )
       went_on move step r stored w v (Answers b rest) to =
-          let retries = retries-mine t.lock_kind p step r seen.plain (seen.span p) (good.parties p).retries to.moves.fails in
-          let after = good_stepped (resting rest) (Calling c l h) step r w v (if_completed seen.written stored step) there to.moves.opens to.moves.belongs to.moves.encodes
-          to.moves.shape to.phase to.written (rests w (plain_by step) p (longer step r p) rest to.moves.goes_on.stands retries) in
-          happened_kept _ after
-          (record {
-            opens = to.moves.opens;
-            belongs = to.moves.belongs;
-            own = to.moves.goes_on.own_steps_are;
-            weak = to.weak;
-            right = to.moves.goes_on.right;
-            in_time = to.moves.goes_on.in_time;
-            counted = to.counted;
-            undisturbed = λ recent first older is may leaves.
-                omega (arith, (left_by step r w (Answers b rest) to.steps recent first older is may leaves).few);
-            due = to.due;
-            tries_on = to.tries_on;
-          })
-          (λ r e. absurd (cc (e))) tt (λ e. cc (e)) to.is_open to.in_place to.comes tt (still_calling seen.state.seats p (resting rest))
+          let retries = retries-mine t.lock_kind p step r seen.plain (seen.span p) (good.parties p).retries to.moves.fails in (
+            good_stepped (resting rest) (Calling c l h) step r w v _ there to.moves.opens to.moves.belongs to.moves.encodes to.moves.shape to.phase to.written
+                (rests w (plain_by step) p (longer step r p) rest to.moves.goes_on.stands retries),
+            record {
+              opens = to.moves.opens;
+              belongs = to.moves.belongs;
+              rules = to.rules;
+              own = to.moves.goes_on.own_steps_are;
+              right = to.moves.goes_on.right;
+              in_time = to.moves.goes_on.in_time;
+              undisturbed = λ recent first older is may leaves.
+                  omega (arith, (left_by step r w (Answers b rest) to.steps recent first older is may leaves).few);
+              in_call = tt;
+            },
+          )
 
       -- a step continues or answers its call, and changes the value only if a closure completes
-      step_comes : (step : Option Change) (v stored : Option V) (next : Next L B) → v ≡ if_completed seen.state.value stored step
-          → ComesTo {C = C} Step step seen.state.value v (result next)
-      step_comes step v stored next is = grind (arith, leaves seen.state.value v stored step is)
-
-      step_counted : (step : Option Change) (r : StepKind) (next : Next L B)
+      step_rules : (step : Option Change) (r : StepKind) (stored : Option V) (w : W) (v : Option V) (next : Next L B) → v ≡ if_completed seen.state.value stored step
           → ContinuesCounted (λ u. m.change p u c l h) seen.plain (told by.says next) step r
-          → IsCounted m p (result next) Step (Some (Calling c l h)) step r seen.plain
-      step_counted None r (Continue l') counted = counted
-      step_counted (Some d) r (Continue l') counted = tt
-      step_counted step r (Answers b rest) counted = tt
-
-      step_due : (step : Option Change) (r : StepKind) (next : Next L B) → Gets t.lock_kind p (t.asks c h) (seen.span p) seen.plain step r
-          → GetsWhenDue {C = C} t.lock_kind p (result next) Step (Some (t.asks c h)) (seen.span p) seen.plain step r
-      step_due step r (Continue l') due = due
-      step_due step r (Answers b rest) due = due
-
-      step_tries_on : (step : Option Change) (next : Next L B)
+          → Gets t.lock_kind p (t.asks c h) (seen.span p) seen.plain step r
           → ((ask : Ask) → tries_of (t.asks c h) ≡ Some ask → own p (seen.span p) ≡ [] → GoesOnOpen ask p (seen.span p) seen.plain (told by.says next) step)
-          → TriesOn {C = C} p (result next) Step (Some (t.asks c h)) (seen.span p) seen.plain step
-      step_tries_on None (Continue l') may = may
-      step_tries_on (Some d) (Continue l') may = tt
-      step_tries_on step (Answers b rest) may = tt
+          → StepRules (event Step step r stored w v next)
+      step_rules None r stored w v (Continue l') is counted due may = grind arith
+      step_rules (Some d) r stored w v (Continue l') is counted due may = grind arith
+      step_rules step r stored w v (Answers b rest) is counted due may = grind arith
 
-      pub step_kept : Preserved (scene_at m seen p Step (Some (Calling c l h)))
+      pub step_kept : Kept (scene_at m seen p Step (Some (Calling c l h)))
       step_kept =
           let st = m.step seen.state.words seen.state.value c l h in
           went_on Step (m.change p seen.state.words c l h) (by_step (m.step_kind c l h)) st.placed st.words (placed st.placed seen.state.value) st.next
@@ -362,20 +262,11 @@ module _ {W V C L A B : Type 0} {t : Table W V C L A} {by : Machine W V C L B} {
             phase = is.values.phase;
             written = is.values.places ∙ ap (λ old. if_completed old st.placed (m.change p seen.state.words c l h)) good.written;
             steps = λ strong j answers. answers seen.state.value;
-            is_open = refl;
-            in_place = refl;
-            weak = tt;
-            comes = step_comes _ _ st.placed st.next is.values.places;
-            counted = step_counted _ _ st.next is.counted;
-            due = step_due _ _ st.next is.due;
-            tries_on = step_tries_on _ st.next is.tries_on;
+            rules = step_rules _ _ st.placed st.words _ st.next is.values.places is.counted is.due is.tries_on;
           })
 
-      refusal_comes : (next : Next L B) → ComesTo {C = C} Weak None seen.state.value seen.state.value (result next)
-      refusal_comes next = grind arith
-
       pub refusal_kept : (next : Next L B) → m.refuse c l h ≡ Some next
-          → Preserved (scene_of seen p Weak (Some (Calling c l h)) (goes_on seen.state p c h next) None step_kind.weak None)
+          → Kept (scene_of seen p Weak (Some (Calling c l h)) (goes_on seen.state p c h next) None step_kind.weak None)
       refusal_kept next refused =
           went_on Weak None step_kind.weak None seen.state.words seen.state.value next
           (record {
@@ -383,51 +274,45 @@ module _ {W V C L A B : Type 0} {t : Table W V C L A} {by : Machine W V C L B} {
             phase = good.phase;
             written = good.written;
             steps = λ strong. absurd (true≢false strong);
-            is_open = ap is_some refused;
-            in_place = refl;
-            weak = is.weakly next refused;
-            comes = refusal_comes next;
-            counted = grind arith;
-            due = grind arith;
-            tries_on = grind arith;
+            rules = record { weak = λ e. is.weakly next refused; leaves = tt; counted = grind arith; due = grind arith; tries_on = grind arith };
           })
 
-    pub begun_kept : OfBegin m seen p Preserved
+    pub begun_kept : OfBegin m seen p Kept
     begun_kept c l h there is =
         let span : ℕ → List Mark = λ q. if p == q then [] else seen.span q in
         let fresh : [] ≡ span p = sym (ap (λ b. if b then [] else seen.span p) (eqb_self p)) in
-        let stands : entries p seen.plain ≡ entries_held p h = grind (arith, standing p good there) in
-        let after = good_seated seen p (Calling c l h) (resting h) span good there (λ q ne. ap (λ b. if b then [] else seen.span q) (ne_eqb p q ne))
-        (subst (λ ms. OfParty seen.state.words seen.plain p ms (Some (Calling c l h))) fresh
-        (record {
-          stands = stands;
-          knows = knows_first f p c l h seen.plain is stands;
-          retries = omega arith;
-          undisturbed = runs_fresh m seen.state.words p c l h;
-        })) in
-        happened_kept _ after (search) (λ r e. absurd (cc (e))) tt (λ e. cc (e)) (grind (arith, is)) (grind arith)
-        (refl, refl)
-        (l, get-set_same seen.state.seats p (Calling c l h) (resting h) there ∙ grind arith)
-        (still_calling seen.state.seats p (Calling c l h))
+        let stands : entries p seen.plain ≡ entries_held p h = grind (arith, standing p good there) in (
+          good_seated seen p (Calling c l h) (resting h) span good there (λ q ne. ap (λ b. if b then [] else seen.span q) (ne_eqb p q ne))
+              (subst (λ ms. OfParty seen.state.words seen.plain p ms (Some (Calling c l h))) fresh
+              (record {
+                stands = stands;
+                knows = knows_first f p c l h seen.plain is stands;
+                retries = omega arith;
+                undisturbed = runs_fresh m seen.state.words p c l h;
+              })),
+          record {
+            opens = tt;
+            belongs = tt;
+            rules = search;
+            own = tt;
+            right = tt;
+            in_time = tt;
+            undisturbed = tt;
+            in_call = (l, get-set_same seen.state.seats p (Calling c l h) (resting h) there ∙ grind arith);
+          },
+        )
 
-    pub read_kept : OfRead m seen p Preserved
-    read_kept b h there may =
-        let reads = ap is_reader (with_hold p b h good there) ∙ (reader_of p h ∙ may) in
-        happened_kept _ good (search) (λ r e. cc (e, good.written)) reads (λ e. cc (e)) (grind arith) (grind arith)
-        (refl, refl) tt (λ q c l h ne is. is)
-
-    pub write_kept : OfWrite m seen p Preserved
+    pub write_kept : OfWrite m seen p Kept
     write_kept v b h there may =
         let writes = ap is_writer (with_hold p b h good there) ∙ (writer_of p h ∙ may) in
-        let phase = f.written seen.plain p v good.shape writes in
-        happened_kept _
-        (record { encodes = good.encodes; shape = good.shape; phase = phase; exclusive = good.exclusive; written = refl; parties = good.parties })
-        (search) (λ r e. absurd (cc (e))) writes (λ e. cc (e)) (grind arith) (grind arith) (refl, refl) tt
-        (λ q c l h ne is. is)
+        let phase = f.written seen.plain p v good.shape writes in (
+          record { encodes = good.encodes; shape = good.shape; phase = phase; exclusive = good.exclusive; written = refl; parties = good.parties },
+          search,
+        )
 
-    pub leak_kept : (h : Hold) → seat_of seen p ≡ Some (Holding h) → Preserved (scene_at m seen p Leak (Some (Holding h)))
-    leak_kept h there =
-        let after = good_seated seen p (Leaked h) (Holding h) seen.span good there (λ q ne. refl)
-        (record { stands = standing p good there; knows = tt; retries = (good.parties p).retries; undisturbed = tt }) in
-        happened_kept _ after (search) (λ r e. absurd (cc (e))) tt (λ e. cc (e)) refl refl (refl, refl) tt
-        (still_calling seen.state.seats p (Leaked h))
+    pub leak_kept : (h : Hold) → seat_of seen p ≡ Some (Holding h) → Kept (scene_at m seen p Leak (Some (Holding h)))
+    leak_kept h there = (
+      good_seated seen p (Leaked h) (Holding h) seen.span good there (λ q ne. refl)
+          (record { stands = standing p good there; knows = tt; retries = (good.parties p).retries; undisturbed = tt }),
+      search,
+    )

@@ -16,7 +16,7 @@ use Rattle.spin_world_core.proofs.Steps.{played, Plays}
 use Rattle.spin_world_core.proofs.Shapes.{Notes}
 use Rattle.spin_world_core.proofs.Stands.{entries_at}
 use Rattle.spin_world_core.proofs.Rows.{Row}
-use Rattle.spin_world_core.proofs.Shapes.{InCall, KnowsRow, call_of, row_of}
+use Rattle.spin_world_core.proofs.Shapes.{InCall, KnowsRow, row_of}
 use Rattle.spin_world_core.proofs.Preserved.{Invariant, standing, in_call}
 use Rattle.spin_world_core.proofs.Every.{good_first, good_after, state-seen_after}
 
@@ -34,11 +34,11 @@ passes_all test (Some row) = test row
 -- If every row with the party's entries and plain steps passes a test, then the row of the party's point passes it.
 module _ {W V C L A : Type 0} {t : Table W V C L A} (n : Notes t) (c : C) (l : L) (h : Option Hold) (p : ℕ) (s : Plain) (span : List Mark) where
   pub row_passes : (test : Row → Bool) → ((row : Row) → entries p s ≡ entries_at p row.stand → own p span ≡ row.made p → test row ≡ true) → (o : Option Row)
-      → KnowsRow n (call_of n c) l h p s span o → passes_some test o ≡ true
+      → KnowsRow n c l h p s span o → passes_some test o ≡ true
   row_passes test is (Some row) knows = is row knows.0.stand knows.0.made
   row_passes test is None knows = absurd knows
 
-  pub row_tells : (test : Entries → Bool) (o : Option Row) → KnowsRow n (call_of n c) l h p s span o → passes_all (λ row. test (entries_at p row.stand)) o ≡ true
+  pub row_tells : (test : Entries → Bool) (o : Option Row) → KnowsRow n c l h p s span o → passes_all (λ row. test (entries_at p row.stand)) o ≡ true
       → test (entries p s) ≡ true
   row_tells test (Some row) knows is = ap test knows.0.stand ∙ is
   row_tells test None knows is = absurd knows

@@ -1,10 +1,9 @@
 -- What a party in a call knows of its entries and of its span, and how each step of any party keeps this knowledge.
-use Rattle.spin_world_core.proofs.Names.{◌≡◌, ℕ, suc, ◌+◌, ◌≤◌, ◌⊎◌, ◌==◌, Bool, true, false, not, ◌&&◌, ◌||◌, is_some, Option, Some, None, List, [], ◌∷◌, ◌++◌, option_to_list, nat_lt, if◌then◌else◌, refl, ◌∙◌, arith, inl, inr, ⊎_elim, Plain, Ask, Change, gets, is_open, is_open_to, apply_some, IsOpenStep, entries, is_held, bit, entries-other, Hold, StepKind, is_again, is_look, LockKind, Asked, Said, Mark, AnyOf, first_word, Limit, registers_after, mark_of, own, own_count, failures, changes, EndsWithin, ContinuesWithin, is_due, Way, by_looks, past_looks, way_of, MayTryOn, Act, load, load_if, load_for, attempt, retry, true≢false, ap, list_any, goes_of}
+use Rattle.spin_world_core.proofs.Names.{◌≡◌, ℕ, suc, ◌+◌, ◌≤◌, ◌⊎◌, ◌==◌, Bool, true, false, not, ◌&&◌, ◌||◌, is_some, Option, Some, None, List, [], ◌∷◌, ◌++◌, option_to_list, nat_lt, if◌then◌else◌, refl, ◌∙◌, arith, inr, ⊎_elim, Plain, Ask, Change, gets, is_open, apply_some, IsOpenStep, entries, is_held, bit, entries-other, Hold, StepKind, is_again, is_look, LockKind, Asked, Said, Mark, AnyOf, first_word, Limit, registers_after, mark_of, own, own_count, failures, changes, EndsWithin, ContinuesWithin, is_due, Way, by_looks, past_looks, way_of, MayTryOn, Act, load, load_if, load_for, attempt, retry, ap, list_any, goes_of}
 use Rattle.spin_world_core.proofs.Lists.{eqb_self}
 use Rattle.spin_world_core.proofs.Stands.{Stand, entries_at, stand_of}
 use Rattle.spin_world_core.proofs.Spans.{nil_left, own-mine, own-other, own_count-mine, own_count-other, failures-mine, failures-other, changes-mine, changes-other}
 use Rattle.std.proofs.lemmas.Bool.{or_right}
-use Rattle.spin_step.specs.Plain.{is_empty}
 use Rattle.spin_model.specs.Calls.{got_or_starved, means, moment, own_steps, limit, FindsClosed, changes_within, gets_within, grant, within, within_changes, Meaning, got, grants, same_ask}
 use Rattle.spin_model.specs.Calls as meaning
 
@@ -58,9 +57,6 @@ pub may_spend : (tries : Option Ask) (branch : Branch) (step : Option Change) (p
     → Spend
 may_spend tries branch step p s span Spend may = grind arith
 
-pub tries_open : (ask : Ask) (p : ℕ) (span : List Mark) (s : Plain) → is_open_to s p ask ≡ true → MayTryOn ask p span s
-tries_open ask p span s may = grind arith
-
 -- a call that has spent k steps has a step left
 abbrev pub is_timely : Limit → List Change → ℕ → Bool
 is_timely (within n) cs k = nat_lt k n
@@ -103,15 +99,12 @@ pub any_map : {X : Type 0} (P Q : X → Type 0) (xs : List X) → ((x : X) → P
 any_map P Q [] f any = any
 any_map P Q (x ∷ xs) f any = grind (arith, f, any_map P Q xs f)
 
-same_ask_self : (ask : Ask) → same_ask ask ask ≡ true
-same_ask_self ask = grind arith
-
 pub any_passes : {X : Type 0} (P : X → Type 0) (test : X → Bool) (xs : List X) → ((x : X) → P x → test x ≡ true) → AnyOf P xs → list_any test xs ≡ true
 any_passes P test [] f any = absurd any
 any_passes P test (x ∷ xs) f any = grind (arith, f, any_passes P test xs f)
 
 granted_here : (p : ℕ) (ask : Ask) (m : Mark) (b : Bool) (step : Option Change) → (m.party == p) ≡ b → m.change ≡ step → IsOpenStep m.before m.party step → AnyOf (λ c. c ≡ gets p ask) (if b then option_to_list step else []) → grants p ask m ≡ true
-granted_here p ask m b step mine is may any = grind (arith, same_ask_self ask)
+granted_here p ask m b step mine is may any = grind arith
 
 -- if the call has made the plain step that gets `ask`, its grant has a moment
 pub granted_at : (p : ℕ) (ask : Ask) (span : List Mark) → Opened span → AnyOf (λ c. c ≡ gets p ask) (own p span) → list_any (grants p ask) span ≡ true
@@ -122,9 +115,6 @@ granted_at p ask (m ∷ ms) opened any =
     (λ (here : AnyOf (λ c. c ≡ gets p ask) (if m.party == p then option_to_list m.change else [])). ap (λ b. b || list_any (grants p ask) ms) (granted_here p ask m (m.party == p) m.change refl refl opened.0 here))
     (any_split (λ c. c ≡ gets p ask) (own p ms) (if m.party == p then option_to_list m.change else []) any)
 
-pub granted_moment : (p : ℕ) (ask : Ask) (span : List Mark) → Opened span → AnyOf (λ steps. own p span ≡ steps) (grant p ask ∷ []) → list_any (grants p ask) span ≡ true
-granted_moment p ask span opened is = grind (arith, granted_at p ask span opened)
-
 -- what has to be shown of an answer's moment: nothing of a grant, whose moment follows from the call's plain steps
 abbrev pub OwesMoment : Meaning → ℕ → List Mark → Type 0
 OwesMoment (got ask) p span = Unit {0}
@@ -132,7 +122,7 @@ OwesMoment (got_or_starved a b) p span = Unit {0}
 OwesMoment meaning p span = moment meaning p span ≡ true
 
 pub moment_of : (meaning : Meaning) (p : ℕ) (span : List Mark) → Opened span → AnyOf (λ steps. own p span ≡ steps) (own_steps meaning p) → OwesMoment meaning p span → moment meaning p span ≡ true
-moment_of (got ask) p span opened is owed = granted_moment p ask span opened is
+moment_of (got ask) p span opened is owed = grind (arith, granted_at p ask span opened)
 moment_of (got_or_starved a b) p span opened is owed = grind (arith, granted_at p a span opened, granted_at p b span opened)
 moment_of meaning.never p span opened is owed = owed
 moment_of (meaning.found test) p span opened is owed = owed
@@ -188,26 +178,6 @@ row_at what h (looked k) = Some (row_looked h k (λ p. first_of (own_steps (what
 abbrev pub IsSound : LockKind → Asked → ℕ → Option Row → Type 0
 IsSound kind what p None = Unit {0}
 IsSound kind what p (Some row) = (is_timely (limit kind what) (row.made p) row.spent ≡ true) × AnyOf (λ steps. row.made p ++ row.rest p ≡ steps) (own_steps (what.answers row.said) p)
-
--- what has to be shown so that the row of a point is sound
-abbrev pub SoundAt : LockKind → Asked → ℕ → Point → Type 0
-SoundAt kind what p nowhere = Unit {0}
-SoundAt kind what p (looked k) = (is_timely (limit kind what) [] k ≡ true) × (is_empty (own_steps (what.answers what.most) p) ≡ false)
-SoundAt kind what p (onward row) = IsSound kind what p (Some row)
-
-first_is : (all : List (List Change)) → is_empty all ≡ false → AnyOf (λ steps. first_of all ≡ steps) all
-first_is [] some = absurd (true≢false some)
-first_is (steps ∷ more) some = inl refl
-
-pub sound_at : (kind : LockKind) (what : Asked) (h : Option Hold) (p : ℕ) (point : Point) → SoundAt kind what p point → IsSound kind what p (row_at what h point)
-sound_at kind what h p nowhere sound = tt
-sound_at kind what h p (looked k) sound = (sound.0, first_is _ sound.1)
-sound_at kind what h p (onward row) sound = sound
-
--- the point at which a call begins is sound, if the point `looked 0` is
-pub starts_sound : {L : Type 0} (kind : LockKind) (what : Asked) (p : ℕ) (o : Option L) → SoundAt kind what p (looked 0) → SoundAt kind what p (starts o)
-starts_sound kind what p None sound = tt
-starts_sound kind what p (Some l) sound = sound
 
 -- If the next step is a retry that expects k, then others have changed the first word at least as often as retries have
 -- failed, and once more if the word is no longer k. Also, the step function does not refuse k.
@@ -290,24 +260,8 @@ pub record Known {W L A : Type 0} (kind : LockKind) (what : Asked) (act : Act W 
 -- after a step of the party's own
 
 module _ (p : ℕ) (s : Plain) (step : Option Change) (r : StepKind) (span : List Mark) where
-  pub expects-mine : {W L A : Type 0} (kind : LockKind) (act : Act W L A) (n : ℕ) → n ≡ first_word kind s
-      → failures p (mark_of p step r s ∷ span) ≤ changes kind p (mark_of p step r s ∷ span) → RetryOwes act n step
-      → Expects kind act p (apply_some s step) (mark_of p step r s ∷ span)
-  expects-mine kind act n is le finds = grind arith
-
   pub needs-mine : (needed : Need) (Finds : Type 0) → FoundBy needed Finds step r s → Needs needed p (mark_of p step r s ∷ span) × Finds
   needs-mine needed Finds found = grind (arith, eqb_self p, found)
-
-pub needs_first : (needed : Need) (Begins : Type 0) (p : ℕ) → BeginsBy needed Begins → Needs needed p [] × Begins
-needs_first needed Begins p begins = grind (arith, begins)
-
--- when a call begins
-
-pub none_spent : (what : Limit) (k p : ℕ) → Spends what k p []
-none_spent what k p = grind arith
-
-pub none_expected : {W L A : Type 0} (kind : LockKind) (act : Act W L A) (p : ℕ) (s : Plain) → NoRetry act → Expects kind act p s []
-none_expected kind act p s none = grind arith
 
 -- after another party's step
 
@@ -325,9 +279,6 @@ module _ (p q : ℕ) (s : Plain) (step : Option Change) (r : StepKind) (span : L
   expects-other kind act expects =
       grind (arith, failures-other p q step r s span ne, changes-other kind p q step r s span ne, moved, expects)
 
-  needs-other : (needed : Need) → Needs needed p span → Needs needed p (mark_of q step r s ∷ span)
-  needs-other needed needs = grind arith
-
   pub known-other : {W L A : Type 0} (kind : LockKind) (what : Asked) (act : Act W L A) (row : Row) → IsOpenStep s q step → Known kind what act row p s span
       → Known kind what act row p (apply_some s step) (mark_of q step r s ∷ span)
   known-other kind what act row may known =
@@ -336,6 +287,6 @@ module _ (p q : ℕ) (s : Plain) (step : Option Change) (r : StepKind) (span : L
         made = own-other p q step r s span ne ∙ known.made;
         spent = spent-other (limit kind what) row.spent known.spent;
         expects = expects-other kind act known.expects;
-        needs = needs-other (need_of kind what (row.made p) act) known.needs;
+        needs = grind arith;
         opened = (may, known.opened);
       }

@@ -1,18 +1,17 @@
 -- Schedules with one more entry.
-use Rattle.spin_world_core.proofs.Names.{◌≡◌, ℕ, suc, ◌+◌, ◌≤◌, ◌==◌, ◌&&◌, Option, Some, None, List, [], ◌∷◌, ◌++◌, length, if◌then◌else◌, refl, ap, sym, arith, append_assoc, length-set, slice_get_past, append-nil, length-map, Hold, Calling, Leaked, Next, Move, Event, Machine, opening_plain, State, happens, moves_at, goes_on, placed, owner_writes, after, events_of, with_begins, last_begin, is_begun, seen_by_owner, Seen, scene, seen_after}
+use Rattle.spin_world_core.proofs.Names.{Seat, ◌≡◌, ℕ, suc, ◌+◌, ◌≤◌, ◌==◌, ◌&&◌, Option, Some, List, [], ◌∷◌, ◌++◌, length, if◌then◌else◌, refl, ap, arith, append_assoc, length-set, slice_get_past, append-nil, length-map, Move, Event, Machine, State, happens, moves_at, after, events_of, with_begins, last_begin, is_begun, seen_by_owner, Seen, scene, seen_after}
 use Rattle.spin_model.specs.declared.schedule.Outcome.TheVariants as outcome
-use Rattle.spin_world_core.proofs.Events.{of_event}
 
 pub with_begins-append : {W V A : Type 0} (before xs ys : List (Event W V A))
     → with_begins before (xs ++ ys) ≡ with_begins before xs ++ with_begins (before ++ xs) ys
-with_begins-append before [] ys = ap (λ b. with_begins b ys) (sym (append-nil before))
+with_begins-append before [] ys = grind (arith, append-nil)
 with_begins-append before (x ∷ xs) ys =
     grind (arith, with_begins-append (before ++ x ∷ []) xs ys, append_assoc before (x ∷ []) xs)
 
 -- the last event that begins a call of the party, in two lists of events one after the other
 pub last_begin-append : {W V A : Type 0} (p k : ℕ) (found : Option ℕ) (xs ys : List (Event W V A))
     → last_begin p k found (xs ++ ys) ≡ last_begin p (k + length xs) (last_begin p k found xs) ys
-last_begin-append p k found [] ys = ap (λ n. last_begin p n found ys) (omega arith)
+last_begin-append p k found [] ys = grind arith
 last_begin-append p k found (x ∷ xs) ys =
     let now = if (x.party == p) && is_begun x.outcome then Some k else found in
     grind (arith, last_begin-append p (k + 1) now xs ys)
@@ -35,26 +34,5 @@ module _ {W V C L A : Type 0} (m : Machine W V C L A) where
   stranger s p move past = ap (λ o. (moves_at m s p move o).outcome) (slice_get_past s.seats p past)
 
   -- no move changes how many parties there are
-  length-goes_on : (s : State W V C L) (p : ℕ) (c : C) (h : Option Hold) (next : Next L A) → length (goes_on s p c h next).next.seats ≡ length s.seats
-  length-goes_on s p c h next = grind (arith, length-set s.seats p)
-
-  length-owner_writes : (s : State W V C L) (v : V) (o : Option V) → length (owner_writes {A = A} s v o).next.seats ≡ length s.seats
-  length-owner_writes s v o = grind (arith, length-map s.seats (seen_by_owner {C = C} {L = L}))
-
   pub length-happens : (s : State W V C L) (p : ℕ) (move : Move C V) → length (happens m s p move).next.seats ≡ length s.seats
-  length-happens s p move =
-      of_event m (record { state = s; plain = opening_plain m; span = λ q. []; written = None }) p (λ sc. length sc.after.state.seats ≡ length s.seats)
-      (record {
-        passes = λ move o r there closed. refl;
-        begins = λ c l h there is. length-set s.seats p (Calling c l h);
-        steps =
-            λ c l h there. let st =
-            m.step s.words s.value c l h in length-goes_on (record s { words = st.words; value = placed st.placed s.value }) p c h st.next;
-        refuses = λ c l h next there is. length-goes_on s p c h next;
-        reads = λ b h there may. refl;
-        writes = λ v b h there may. refl;
-        leaks = λ h there. length-set s.seats p (Leaked h);
-        gets = λ y there may. length-map s.seats seen_by_owner;
-        sets = λ v y there may. length-owner_writes s v s.value;
-      })
-      move
+  length-happens s p move = grind (arith, length-set {A = Seat C L} s.seats p, length-map s.seats (seen_by_owner {C = C} {L = L}))

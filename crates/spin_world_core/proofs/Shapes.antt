@@ -2,14 +2,7 @@
 use Rattle.spin_world_core.proofs.Names.{own_steps, tries_of, goes_of, ◌≡◌, ℕ, zero, suc, ◌≤◌, Bool, true, false, ◌||◌, ◌==◌, is_some, Option, Some, None, List, [], ◌∷◌, ◌++◌, option_to_list, Plain, Ask, Change, gets, apply, is_open, is_empty, apply_some, IsOpenStep, IsExclusive, Hold, Next, Continue, Answers, StepKind, plain, again, weak, by_step, Asked, encoded, BelongsTo, Mark, AnyOf, Limit, registers_after, arrived, steps_alone, opening_plain, mark_of, failures, changes, number_at, Act, load, load_if, load_for, enter, exchange, weak_exchange, attempt, retry, store, section, swap, tried, guessed, passing, place_of, step_by, makes_by, look_kind, Table, begin_of, machine_of, performed, limit}
 use Rattle.spin_world_core.proofs.Operating.{fits_act, CallsFit, OwnFits, Operates}
 use Rattle.spin_world_core.proofs.Stands.{stand_of, stand_after}
-use Rattle.spin_world_core.proofs.Rows.{Branch, goes, finds_open, loses, misses, MaySpend, MayContinue, OwesRight, OwesEnd, Row, Point, row_at, SoundAt, RetryOwes, need_of, FoundBy, NoRetry, BeginsBy, Known}
-
--- What the table and the notes say of one call. What has to be shown of this call depends on nothing else.
-pub record CallOf (W L A : Type 0) : Type 1 where
-  pub asks : Option Hold → Asked
-  pub act : L → Option Hold → Act W L A
-  pub point : L → Option Hold → Point
-  pub Knows : L → Option Hold → ℕ → Plain → List Mark → Type 0
+use Rattle.spin_world_core.proofs.Rows.{Branch, goes, finds_open, loses, misses, MaySpend, MayContinue, OwesRight, OwesEnd, Row, Point, row_at, IsSound, RetryOwes, need_of, FoundBy, NoRetry, BeginsBy, Known}
 
 -- A retry that lost has found a number that the step function does not refuse. If the limit is `registers_after`, this
 -- number also differs from the expected one.
@@ -24,12 +17,9 @@ is_answer (Answers a after) = true
 
 -- the plain step that a step makes whenever this plain step is open
 abbrev pub sure_by : {W L A : Type 0} → Act W L A → ℕ → Option Change
-sure_by (enter test step won lost) p = Some (step p)
-sure_by (exchange operation step won lost) p = Some (step p)
-sure_by (weak_exchange k f step won lost) p = Some (step p)
-sure_by (store can operation step next) p = Some (step p)
-sure_by (section can f step won lost) p = Some (step p)
-sure_by _ p = None
+sure_by (attempt k f step won lost) p = None
+sure_by (retry k f step won found missed) p = None
+sure_by act p = makes_by act p
 
 -- the plain step at which a step aims: for a try, also the plain step that a load only looks for
 abbrev pub aim_by : {W L A : Type 0} → Option Ask → Act W L A → ℕ → Option Change
@@ -75,27 +65,24 @@ module _ {W V C L A : Type 0} {t : Table W V C L A} (n : Notes t) where
   abbrev pub row_of : C → L → Option Hold → Option Row
   row_of c l h = row_at (t.asks c h) h (n.point c l h)
 
-  abbrev pub call_of : C → CallOf W L A
-  call_of c = record { asks = λ h. t.asks c h; act = λ l h. t.act c l h; point = λ l h. n.point c l h; Knows = λ l h p s span. n.Knows c l h p s span }
-
   -- what a party in a call knows at a point with this row
-  abbrev pub KnowsRow : CallOf W L A → L → Option Hold → ℕ → Plain → List Mark → Option Row → Type 0
-  KnowsRow k l h p s span None = ⊥
-  KnowsRow k l h p s span (Some row) = Known t.lock_kind (k.asks h) (k.act l h) row p s span × k.Knows l h p s span
+  abbrev pub KnowsRow : C → L → Option Hold → ℕ → Plain → List Mark → Option Row → Type 0
+  KnowsRow c l h p s span None = ⊥
+  KnowsRow c l h p s span (Some row) = Known t.lock_kind (t.asks c h) (t.act c l h) row p s span × n.Knows c l h p s span
 
   abbrev pub Knows : C → L → Option Hold → ℕ → Plain → List Mark → Type 0
-  Knows c l h p s span = KnowsRow (call_of c) l h p s span (row_of c l h)
+  Knows c l h p s span = KnowsRow c l h p s span (row_of c l h)
 
   -- what holds when a party is about to step
-  pub record AtPoint (p : ℕ) (k : CallOf W L A) (l : L) (h : Option Hold) (s : Plain) (w : W) (span : List Mark) (o : Option Row) : Type 0 where
+  pub record AtPoint (p : ℕ) (c : C) (l : L) (h : Option Hold) (s : Plain) (w : W) (span : List Mark) (o : Option Row) : Type 0 where
     pub encodes : t.memory.numbers w ≡ encoded t.lock_kind s
     pub shape : n.Shape s
     pub exclusive : IsExclusive s
-    pub knows : KnowsRow k l h p s span o
+    pub knows : KnowsRow c l h p s span o
     pub retries : failures p span ≤ changes t.lock_kind p span
 
   abbrev pub InCall : ℕ → C → L → Option Hold → Plain → W → List Mark → Type 0
-  InCall p c l h s w span = AtPoint p (call_of c) l h s w span (row_of c l h)
+  InCall p c l h s w span = AtPoint p c l h s w span (row_of c l h)
 
   -- What has to be shown
 
@@ -105,22 +92,66 @@ module _ {W V C L A : Type 0} {t : Table W V C L A} (n : Notes t) where
   Means p s c put None = is_open s c ≡ false
   Means p s c put (Some x) = IsOpenStep s p (Some c) × (t.memory.numbers (put x) ≡ encoded t.lock_kind (apply s c)) × n.Shape (apply s c)
 
-  module _ (p : ℕ) (k : CallOf W L A) (h : Option Hold) (s : Plain) (w : W) (span : List Mark) (row : Row) where
+  -- the same of an exchange whose failure says nothing of the plain step
+  abbrev pub MeansMade : {X : Type 0} → ℕ → Plain → Change → (X → W) → Option X → Type 0
+  MeansMade p s c put None = Unit {0}
+  MeansMade p s c put (Some x) = Means p s c put (Some x)
+
+  -- What has to be shown of a step of a call that has made these plain steps. `Comes` says that the call continues or is
+  -- answered correctly.
+  module _ (p : ℕ) (what : Asked) (s : Plain) (w : W) (made : List Change) (Comes : Bool → Option Change → StepKind → Branch → Next L A → Type 0) where
+    -- what has to be shown of an act on the i-th word, if this word is the number n
+    abbrev pub OwesOn : ℕ → ℕ → Act W L A → Type 0
+    OwesOn i n (load next) = Comes false None plain goes (next n)
+    OwesOn i n (load_if test a b) =
+        let looking = by_step (look_kind what) in
+        (test n ≡ true → Comes false None looking goes (a n)) × (test n ≡ false → Comes false None looking goes (b n))
+    OwesOn i n (load_for f step found missed) =
+        Means p s (step p) (λ j. t.memory.put i j w) (f n) × (is_some (f n) ≡ true → Comes false None plain finds_open (found n))
+        × (is_open s (step p) ≡ false → Comes false None plain (misses (step p)) missed)
+    OwesOn i n (enter test step won lost) =
+        let looking = by_step (look_kind what) in
+        Means p s (step p) (λ j. w) (passing (test n) n) × Comes false (Some (step p)) looking goes won
+        × (is_open s (step p) ≡ false → Comes false None looking (misses (step p)) lost)
+    OwesOn i n (exchange operation step won lost) =
+        Means p s (step p) (λ j. t.memory.put i j w) (tried operation n) × Comes false (Some (step p)) plain goes won
+        × (is_open s (step p) ≡ false → Comes false None plain (misses (step p)) (lost n))
+    OwesOn i n (weak_exchange j f step won lost) =
+        Means p s (step p) (λ j. t.memory.put i j w) (tried (swap j f) n) × Comes false (Some (step p)) plain goes won
+        × (is_open s (step p) ≡ false → Comes false None plain (misses (step p)) lost) × Comes true None weak goes lost
+        × (what.is_weak ≡ true) × (made ≡ what.before_weakly p)
+    OwesOn i n (attempt j f step won lost) =
+        MeansMade p s (step p) (λ j. t.memory.put i j w) (guessed j f n) × (is_some (guessed j f n) ≡ true → Comes false (Some (step p)) plain goes won)
+        × (guessed j f n ≡ None → Comes false None plain goes lost) × (is_answer lost ≡ true)
+    OwesOn i n (retry j f step won found missed) =
+        Means p s (step p) (λ j. t.memory.put i j w) (f n) × (n ≡ j → Comes false (Some (step p)) again goes won)
+        × (FindsAnother (limit t.lock_kind what) (n == j) (is_some (f n)) → Comes false None again loses (found n))
+        × (is_open s (step p) ≡ false → Comes false None again (misses (step p)) missed)
+    OwesOn i n (store can operation step next) =
+        (can n ≡ true) × Means p s (step p) (λ j. t.memory.put i j w) (Some (performed operation n)) × Comes false (Some (step p)) plain goes next
+    OwesOn i n (section can f step won lost) =
+        (can w ≡ true) × Means p s (step p) (λ u. u) (f w) × Comes false (Some (step p)) plain goes (won w)
+        × (is_open s (step p) ≡ false → Comes false None plain (misses (step p)) (lost w))
+
+    abbrev pub OwesBy : ℕ → Act W L A → Type 0
+    OwesBy i act = OwesOn (place_of i act) (number_at t.memory (place_of i act) w) act
+
+  module _ (p : ℕ) (c : C) (h : Option Hold) (s : Plain) (w : W) (span : List Mark) (row : Row) where
     -- The call continues correctly: the step turns this row into the row `to` of the next point.
     pub record LeadsTo (step : Option Change) (r : StepKind) (branch : Branch) (l : L) (to : Row) : Type 0 where
       pub stands : stand_after s.next step row.stand ≡ Some to.stand
       pub made : row.made p ++ option_to_list step ≡ to.made p
-      pub spends : MayContinue (tries_of (k.asks h)) branch step p s span
-          (MaySpend (limit t.lock_kind (k.asks h)) branch (to.made p) row.spent to.spent p t.lock_kind (mark_of p step r s ∷ span))
-      pub finds : FoundBy (need_of t.lock_kind (k.asks h) (to.made p) (k.act l h)) (RetryOwes (k.act l h) (number_at t.memory 0 w) step) step r s
-      pub knows : k.Knows l h p (apply_some s step) (mark_of p step r s ∷ span)
+      pub spends : MayContinue (tries_of (t.asks c h)) branch step p s span
+          (MaySpend (limit t.lock_kind (t.asks c h)) branch (to.made p) row.spent to.spent p t.lock_kind (mark_of p step r s ∷ span))
+      pub finds : FoundBy (need_of t.lock_kind (t.asks c h) (to.made p) (t.act c l h)) (RetryOwes (t.act c l h) (number_at t.memory 0 w) step) step r s
+      pub knows : n.Knows c l h p (apply_some s step) (mark_of p step r s ∷ span)
 
     -- The call is answered correctly.
     pub record EndsBy (weakly : Bool) (step : Option Change) (r : StepKind) (a : A) (after : Option Hold) : Type 0 where
       pub stands : stand_after s.next step row.stand ≡ Some (stand_of after)
-      pub made : AnyOf (λ steps. row.made p ++ option_to_list step ≡ steps) (own_steps ((k.asks h).answers (t.says a)) p)
-      pub right : OwesRight weakly (k.asks h) (t.says a) p (mark_of p step r s ∷ span)
-      pub in_time : OwesEnd (limit t.lock_kind (k.asks h)) t.lock_kind p (mark_of p step r s ∷ span)
+      pub made : AnyOf (λ steps. row.made p ++ option_to_list step ≡ steps) (own_steps ((t.asks c h).answers (t.says a)) p)
+      pub right : OwesRight weakly (t.asks c h) (t.says a) p (mark_of p step r s ∷ span)
+      pub in_time : OwesEnd (limit t.lock_kind (t.asks c h)) t.lock_kind p (mark_of p step r s ∷ span)
 
     abbrev pub FollowsRow : Option Change → StepKind → Branch → L → Option Row → Type 0
     FollowsRow step r branch l None = ⊥
@@ -128,61 +159,28 @@ module _ {W V C L A : Type 0} {t : Table W V C L A} (n : Notes t) where
 
     -- the call continues or is answered correctly, after this step with this result
     abbrev pub Follows : Bool → Option Change → StepKind → Branch → Next L A → Type 0
-    Follows weakly step r branch (Continue l) = FollowsRow step r branch l (row_at (k.asks h) h (k.point l h))
+    Follows weakly step r branch (Continue l) = FollowsRow step r branch l (row_at (t.asks c h) h (n.point c l h))
     Follows weakly step r branch (Answers a after) = EndsBy weakly step r a after
 
-    -- what has to be shown of an act on the i-th word, if this word is the number n
-    abbrev pub OwesOn : ℕ → ℕ → Act W L A → Type 0
-    OwesOn i n (load next) = Follows false None plain goes (next n)
-    OwesOn i n (load_if test a b) =
-        let looking = by_step (look_kind (k.asks h)) in
-        (test n ≡ true → Follows false None looking goes (a n)) × (test n ≡ false → Follows false None looking goes (b n))
-    OwesOn i n (load_for f step found missed) =
-        Means p s (step p) (λ j. t.memory.put i j w) (f n) × (is_some (f n) ≡ true → Follows false None plain finds_open (found n))
-        × (is_open s (step p) ≡ false → Follows false None plain (misses (step p)) missed)
-    OwesOn i n (enter test step won lost) =
-        let looking = by_step (look_kind (k.asks h)) in
-        Means p s (step p) (λ j. w) (passing (test n) n) × Follows false (Some (step p)) looking goes won
-        × (is_open s (step p) ≡ false → Follows false None looking (misses (step p)) lost)
-    OwesOn i n (exchange operation step won lost) =
-        Means p s (step p) (λ j. t.memory.put i j w) (tried operation n) × Follows false (Some (step p)) plain goes won
-        × (is_open s (step p) ≡ false → Follows false None plain (misses (step p)) (lost n))
-    OwesOn i n (weak_exchange j f step won lost) =
-        Means p s (step p) (λ j. t.memory.put i j w) (tried (swap j f) n) × Follows false (Some (step p)) plain goes won
-        × (is_open s (step p) ≡ false → Follows false None plain (misses (step p)) lost) × Follows true None weak goes lost
-        × ((k.asks h).is_weak ≡ true) × (row.made p ≡ (k.asks h).before_weakly p)
-    OwesOn i n (attempt j f step won lost) =
-        ((to : ℕ) → guessed j f n ≡ Some to → Means p s (step p) (λ j. t.memory.put i j w) (Some to) × Follows false (Some (step p)) plain goes won)
-        × (guessed j f n ≡ None → Follows false None plain goes lost) × (is_answer lost ≡ true)
-    OwesOn i n (retry j f step won found missed) =
-        Means p s (step p) (λ j. t.memory.put i j w) (f n) × (n ≡ j → Follows false (Some (step p)) again goes won)
-        × (FindsAnother (limit t.lock_kind (k.asks h)) (n == j) (is_some (f n)) → Follows false None again loses (found n))
-        × (is_open s (step p) ≡ false → Follows false None again (misses (step p)) missed)
-    OwesOn i n (store can operation step next) =
-        (can n ≡ true) × Means p s (step p) (λ j. t.memory.put i j w) (Some (performed operation n)) × Follows false (Some (step p)) plain goes next
-    OwesOn i n (section can f step won lost) =
-        (can w ≡ true) × Means p s (step p) (λ u. u) (f w) × Follows false (Some (step p)) plain goes (won w)
-        × (is_open s (step p) ≡ false → Follows false None plain (misses (step p)) (lost w))
-
     abbrev pub Owes : ℕ → Act W L A → Type 0
-    Owes i act = OwesOn (place_of i act) (number_at t.memory (place_of i act) w) act
+    Owes = OwesBy p (t.asks c h) s w (row.made p) Follows
 
-  abbrev pub OwesRow : ℕ → CallOf W L A → L → Option Hold → Plain → W → List Mark → Option Row → Type 0
-  OwesRow p k l h s w span None = Unit {0}
-  OwesRow p k l h s w span (Some row) = AtPoint p k l h s w span (Some row) → Owes p k h s w span row (t.word l) (k.act l h)
+  abbrev pub OwesRow : ℕ → C → L → Option Hold → Plain → W → List Mark → Option Row → Type 0
+  OwesRow p c l h s w span None = Unit {0}
+  OwesRow p c l h s w span (Some row) = AtPoint p c l h s w span (Some row) → Owes p c h s w span row (t.word l) (t.act c l h)
 
   abbrev pub OwesAt : ℕ → C → L → Option Hold → Plain → W → List Mark → Type 0
-  OwesAt p c l h s w span = OwesRow p (call_of c) l h s w span (row_of c l h)
+  OwesAt p c l h s w span = OwesRow p c l h s w span (row_of c l h)
 
   -- if what a waiting call asks is open, `soon` is true: the call is answered in time if no other party steps in between
-  abbrev pub AnswersRow : ℕ → CallOf W L A → L → Option Hold → Plain → W → List Mark → Bool → Bool → Option Row → Type 0
-  AnswersRow p k l h s w span soon true (Some row) =
-      AtPoint p k l h s w span (Some row) → (k.asks h).is_open_next (is_empty (row.made p)) (arrived p span) p s ≡ true → soon ≡ true
-  AnswersRow p k l h s w span soon _ _ = Unit {0}
+  abbrev pub AnswersRow : ℕ → C → L → Option Hold → Plain → W → List Mark → Bool → Bool → Option Row → Type 0
+  AnswersRow p c l h s w span soon true (Some row) =
+      AtPoint p c l h s w span (Some row) → (t.asks c h).is_open_next (is_empty (row.made p)) (arrived p span) p s ≡ true → soon ≡ true
+  AnswersRow p c l h s w span soon _ _ = Unit {0}
 
   abbrev pub OwesSoon : ℕ → C → L → Option Hold → Plain → W → List Mark → Type 0
   OwesSoon p c l h s w span =
-      AnswersRow p (call_of c) l h s w span (answers_by t (steps_alone (t.asks c h)) w c l h) (t.asks c h).waits (row_of c l h)
+      AnswersRow p c l h s w span (answers_by t (steps_alone (t.asks c h)) w c l h) (t.asks c h).waits (row_of c l h)
 
   -- what has to be shown of the row at which a call begins
   abbrev pub BeginsRow : C → L → Option Hold → ℕ → Plain → Option Row → Type 0
@@ -215,7 +213,7 @@ module _ {W V C L A : Type 0} {t : Table W V C L A} (n : Notes t) where
     pub shape_first : n.Shape (opening_plain (machine_of t))
     pub numbers_tell : (v w : W) → t.memory.numbers v ≡ t.memory.numbers w → v ≡ w
     pub one_list : (s : Plain) → n.Shape s → (is_empty s.holders || is_empty s.tickets) ≡ true
-    pub sound : (p : ℕ) (c : C) (l : L) (h : Option Hold) → SoundAt t.lock_kind (t.asks c h) p (n.point c l h)
+    pub sound : (p : ℕ) (c : C) (l : L) (h : Option Hold) → IsSound t.lock_kind (t.asks c h) p (row_of c l h)
     pub aims : (p : ℕ) (c : C) (l : L) (h : Option Hold) → AimsAt p c l h
     pub begins : (p : ℕ) (c : C) (h : Option Hold) (s : Plain) → BeginsAt c h p s (begin_of t c h)
     pub others : (p q : ℕ) (c : C) (l : L) (h : Option Hold) (s : Plain) (step : Option Change) (r : StepKind) (span : List Mark) → (q ≡ p → ⊥) → n.Shape s

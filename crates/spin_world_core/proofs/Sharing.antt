@@ -1,5 +1,5 @@
 -- How many parties share the value, and how many have leaked, when seats change.
-use Rattle.spin_world_core.proofs.Names.{◌≡◌, ◌+◌, Bool, List, [], ◌∷◌, length, map, Vec, refl, ap, sym, ◌∙◌, subst, arith, count_by, length-map, with_items_is, sum_by-cons, Seat, State, seen_by_owner, let_go}
+use Rattle.spin_world_core.proofs.Names.{◌≡◌, ◌+◌, Bool, List, [], ◌∷◌, length, map, Vec, refl, ap, sym, subst, arith, count_by, length-map, with_items_is, sum_by-cons, Seat, State, seen_by_owner, let_go}
 use mathlib.Core.Bool.{cond}
 use Rattle.std.specs.Vec.{with_items}
 use Rattle.spin_world_core.specs.Sharing.{has_leaked, shares}
@@ -29,4 +29,4 @@ let_go_none s t is none = subst (λ u. u ≡ let_go u) is (ap (λ seats. record 
 -- the vector of seats after the loop that makes each leaked party gone
 pub let_go_is : {C L Z : Type 0} (seats : Vec (Seat C L) Z) (now new : List (Seat C L)) → now ≡ seats.items → length now ≡ seats.len → new ≡ map seen_by_owner now
     → (with_items seats new).items ≡ map seen_by_owner seats.items
-let_go_is seats now new is len made = with_items_is seats new (ap length made ∙ (length-map now seen_by_owner ∙ len)) ∙ (made ∙ ap (map seen_by_owner) is)
+let_go_is seats now new is len made = grind (arith, with_items_is, length-map)

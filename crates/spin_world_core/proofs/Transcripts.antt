@@ -1,42 +1,23 @@
 -- A transcript tells the scenes of its schedule. A place agrees with the party's moves and with its entries.
-use Rattle.spin_world_core.proofs.Names.{seat_of, eq-eqb, ne_eqb, ◌≡◌, ℕ, ◌<◌, ◌≤◌, ◌==◌, Bool, Option, Some, None, List, [], ◌∷◌, ◌++◌, length, map, slice_get, slice_set, if◌then◌else◌, refl, ap, sym, ◌∙◌, subst, arith, option_map, length-replicate, slice_get-map, slice_get_within, slice_get_cases, Plain, Hold, Seat, Idle, Calling, Holding, Leaked, Gone, Next, Continue, Answers, Move, Step, Weak, Outcome, Event, Mark, Machine, opening_plain, State, happens, goes_on, resting, seen_by_owner, events_of, with_begins, Seen, Scene, scene, scene_of, Every, Keeps, KeepsAll, StandsFor, opening, seen_after, scenes, EachTells, TellsAfterAnyPast}
+use Rattle.spin_world_core.proofs.Names.{cases_eq, ⊎_elim, moves_at, seat_of, ne_eqb, ◌≡◌, ℕ, ◌<◌, ◌≤◌, ◌==◌, Option, Some, None, List, [], ◌∷◌, ◌++◌, length, map, slice_get, if◌then◌else◌, refl, ap, sym, ◌∙◌, subst, arith, option_map, length-replicate, slice_get-map, slice_get_within, slice_get_cases, Plain, Seat, Idle, Calling, Leaked, Gone, Move, Event, Mark, Machine, opening_plain, State, happens, seen_by_owner, events_of, with_begins, Seen, Scene, scene, Every, Keeps, KeepsAll, StandsFor, opening, seen_after, scenes, EachTells, TellsAfterAnyPast}
 use Rattle.spin_model.specs.declared.place.Place.{Place}
-use Rattle.spin_model.specs.declared.schedule.Outcome.TheVariants as outcome
-use Rattle.spin_model.specs.StepKinds as step_kind
 use Rattle.spin_model.specs.Schedules.{place_of}
-use Rattle.spin_world_core.specs.Transcripts.{has_leaked, PlaceSays, SaysAfterAnyPast, Stage, StandsAt, at_rest, in_call, is_gone, let_go_stage, stage_after, stage_by_own, stage_by_owner, without_begin}
-use Rattle.spin_world_core.proofs.Lists.{get-set, get-replicate}
-use Rattle.spin_world_core.proofs.Events.{of_event}
+use Rattle.spin_world_core.specs.Transcripts.{has_leaked, PlaceSays, SaysAfterAnyPast, Stage, StandsAt, at_rest, in_call, is_gone, let_go_stage, stage_after, stage_by_own, stage_by_owner}
+use Rattle.spin_world_core.proofs.Lists.{eqb_self, get-set_other, get-replicate}
+use Rattle.spin_model.proofs.Lists.{get-set_within}
 use Rattle.spin_world_core.proofs.Every.{state-seen_after}
 use Rattle.spin_world_core.proofs.Schedules.{length-happens}
 
 -- The transcript
 
 module _ {W V C L A : Type 0} (m : Machine W V C L A) where
-  -- an event of the machine does not say where its call began
-  no_begin : (seen : Seen W V C L) (p : ℕ) (move : Move C V) → without_begin (scene m seen p move).outcome ≡ (scene m seen p move).outcome
-  no_begin seen p move =
-      of_event m seen p (λ sc. without_begin sc.outcome ≡ sc.outcome)
-      (record {
-        passes = λ move o r there closed. refl;
-        begins = λ c l h there is. refl;
-        steps = λ c l h there. grind arith;
-        refuses = λ c l h next there is. grind arith;
-        reads = λ b h there may. refl;
-        writes = λ v b h there may. refl;
-        leaks = λ h there. refl;
-        gets = λ y there may. refl;
-        sets = λ v y there may. grind arith;
-      })
-      move
-
   tells_from : (seen : Seen W V C L) (es : List (ℕ × Move C V)) (before : List (Event W V A))
       → EachTells (scenes m seen es) (with_begins before (events_of m seen.state es))
   tells_from seen [] before = tt
   tells_from seen (e ∷ es) before =
       let h = happens m seen.state e.0 e.1 in
       let event : Event W V A = record { party = e.0; outcome = h.outcome; words = h.next.words } in (
-        record { party = refl; outcome = grind (arith, no_begin seen e.0 e.1); words = refl },
+        record { party = refl; outcome = grind arith; words = refl },
         tells_from (scene m seen e.0 e.1).after es (before ++ event ∷ []),
       )
 
@@ -57,9 +38,8 @@ stage_of (Some (Gone h)) = is_gone
 stage_of _ = at_rest
 
 -- the owner's use makes every leaked party gone
-let_go_all : {C L : Type 0} (seats : List (Seat C L)) (p : ℕ) (b : Bool)
-    → stage_of (slice_get (map seen_by_owner seats) p) ≡ let_go_stage (if b then stage_of (slice_get seats p) else stage_of (slice_get seats p))
-let_go_all seats p b = grind (arith, slice_get-map seen_by_owner seats p)
+let_go_all : {C L : Type 0} (seats : List (Seat C L)) (p : ℕ) → stage_of (slice_get (map seen_by_owner seats) p) ≡ let_go_stage (stage_of (slice_get seats p))
+let_go_all seats p = grind (arith, slice_get-map seen_by_owner seats p)
 
 stands_at : {C L : Type 0} (s : Plain) (p : ℕ) (span : List Mark) (seat : Seat C L) → StandsFor s p span (Some seat) → StandsAt (stage_of (Some seat)) s p span (place_of seat)
 stands_at s p span (Calling c l h) stands = (h, stands)
@@ -69,7 +49,7 @@ stands_at s p span _ stands = stands
 says_at : {C L : Type 0} (n p : ℕ) (s : Plain) (span : List Mark) (o : Option (Seat C L)) → (o ≡ None → n ≤ p) → ((seat : Seat C L) → o ≡ Some seat → p < n) → StandsFor s p span o
     → PlaceSays (stage_of o) n s p span (option_map place_of o)
 says_at n p s span None past within stands = (past refl, stands)
-says_at n p s span (Some seat) past within stands = (within seat refl, stands_at s p span seat stands)
+says_at n p s span (Some seat) past within stands = grind arith
 
 module _ {W V C L A : Type 0} (m : Machine W V C L A) where
   -- after an event, the stage of p's seat is the stage that the event's outcome gives p
@@ -82,40 +62,19 @@ module _ {W V C L A : Type 0} (m : Machine W V C L A) where
     abbrev stage_now : Stage
     stage_now = stage_of (seat_of seen p)
 
-    stays : stage_now ≡ (if q == p then stage_now else stage_now)
-    stays = grind arith
+    brought_mine : (move : Move C V) (o : Option (Seat C L)) → seat_of seen p ≡ o
+        → (let h = moves_at m seen.state p move o in stage_of (slice_get h.next.seats p) ≡ stage_by_owner h.outcome move (stage_by_own h.outcome (stage_of o)))
+    brought_mine move o there = grind (arith, there, get-set_within seen.state.seats p, slice_get_within seen.state.seats p, let_go_all seen.state.seats p)
 
-    -- the party q takes the seat x
-    moved : (x y : Seat C L) (o : Outcome A V) → seat_of seen q ≡ Some y → stage_of (Some x) ≡ stage_by_own o (stage_of (Some y))
-        → stage_of (slice_get (slice_set seen.state.seats q x) p) ≡ (if q == p then stage_by_own o stage_now else stage_now)
-    moved x y o there is =
-        get-set (λ z. stage_of z ≡ (if q == p then stage_by_own o stage_now else stage_now)) seen.state.seats q p x (slice_get_within seen.state.seats q y there)
-        (λ e. rw (eq-eqb q p e) (is ∙ ap (λ z. stage_by_own o (stage_of z)) (sym there ∙ ap (seat_of seen) e))) (λ ne. rw (ne_eqb q p ne) refl)
-
-    went_on : (move : Move C V) (c : C) (l : L) (h : Option Hold) (w : W) (v : Option V) (next : Next L A)
-        → ((stage : Stage) → stage_by_owner {A = A} outcome.GoingOn move stage ≡ stage)
-        → ((a : A) (stage : Stage) → stage_by_owner (outcome.Answered a None) move stage ≡ stage)
-        → seat_of seen q ≡ Some (Calling c l h)
-        → Brings p (scene_of seen q move (Some (Calling c l h)) (goes_on (record seen.state { words = w; value = v }) q c h next) None step_kind.plain None)
-    went_on move c l h w v (Continue k) goes answers there = moved (Calling c k h) (Calling c l h) outcome.GoingOn there refl ∙ sym (goes _)
-    went_on move c l h w v (Answers a rest) goes answers there =
-        moved (resting rest) (Calling c l h) (outcome.Answered a None) there (grind arith) ∙ sym (answers a _)
+    brought_other : (move : Move C V) (o : Option (Seat C L)) → (q ≡ p → ⊥)
+        → (let h = moves_at m seen.state q move o in stage_of (slice_get h.next.seats p) ≡ stage_by_owner h.outcome move stage_now)
+    brought_other move o ne = grind (arith, get-set_other seen.state.seats q p, let_go_all seen.state.seats p)
 
     brought : (move : Move C V) → Brings p (scene m seen q move)
     brought move =
-        of_event m seen q (Brings p)
-        (record {
-          passes = λ move o r there closed. stays;
-          begins = λ c l h there is. moved (Calling c l h) (resting h) outcome.Begun there refl;
-          steps = λ c l h there. went_on Step c l h _ _ _ (λ stage. refl) (λ a stage. refl) there;
-          refuses = λ c l h next there is. went_on Weak c l h _ _ next (λ stage. refl) (λ a stage. refl) there;
-          reads = λ b h there may. stays;
-          writes = λ v b h there may. stays;
-          leaks = λ h there. moved (Leaked h) (Holding h) outcome.Leaked there refl;
-          gets = λ y there may. let_go_all seen.state.seats p (q == p);
-          sets = λ v y there may. grind (arith, let_go_all seen.state.seats p (q == p));
-        })
-        move
+        ⊎_elim
+        (λ (same : q ≡ p). subst (λ q. Brings p (scene m seen q move)) (sym same) (rw (eqb_self p) (brought_mine move (seat_of seen p) refl)))
+        (λ (other : q ≡ p → ⊥). rw (ne_eqb q p other) (brought_other move (seat_of seen q) other)) (cases_eq q p)
 
   stage-seen_after : (seen : Seen W V C L) (p : ℕ) (es : List (ℕ × Move C V))
       → stage_of (seat_of (seen_after m seen es) p) ≡ stage_after p (stage_of (seat_of seen p)) (scenes m seen es)

@@ -1,6 +1,5 @@
 -- An undisturbed call is answered within as many own steps as it promises.
-use Rattle.spin_world_core.proofs.Names.{◌≡◌, ℕ, zero, suc, ◌+◌, ◌<◌, ◌≤◌, true, false, Option, Some, List, [], ◌∷◌, ◌++◌, refl, ap, sym, subst, arith, Plain, Change, apply_some, Hold, Seat, Calling, Next, Continue, StepKind, is_weak, encoded, LockKind, Asked, Mark, Machine, mark_of, is_open_now, Leaves, UndisturbedTakes, steps_alone, if◌then◌else◌, ◌==◌, ne_eqb}
-use Rattle.spin_world_core.specs.Spans.{own_count}
+use Rattle.spin_world_core.proofs.Names.{◌≡◌, ℕ, zero, suc, ◌+◌, ◌<◌, ◌≤◌, true, false, Option, Some, List, [], ◌∷◌, ◌++◌, refl, ap, arith, Plain, Change, apply_some, Hold, Seat, Calling, Next, Continue, StepKind, is_weak, encoded, LockKind, Asked, Mark, Machine, mark_of, is_open_now, Leaves, UndisturbedTakes, steps_alone, if◌then◌else◌, ◌==◌}
 use Rattle.spin_world_core.proofs.Steps.{AnswersWithin}
 use Rattle.spin_world_core.proofs.Lists.{eqb_self}
 
@@ -8,13 +7,8 @@ use Rattle.spin_world_core.proofs.Lists.{eqb_self}
 module _ (kind : LockKind) (p : ℕ) (what : Asked) (m : Mark) (span : List Mark) (P Q : ℕ → Type 0) (begins : is_open_now p what span m.before ≡ true → P 0)
     (step : (n : ℕ) → Leaves kind p m → P n → Q (n + (if m.party == p then 1 else 0))) where
   takes_on : UndisturbedTakes P kind p what span → UndisturbedTakes Q kind p what (m ∷ span)
-  takes_on runs [] first older is may leaves =
-      let here : m ≡ first = cc (is) in
-      subst (λ f. Q (own_count p (f ∷ []))) here (step 0 (subst (Leaves kind p) (sym here) leaves.0) (begins (grind arith)))
-  takes_on runs (mark ∷ recent) first older is may leaves =
-      let here : m ≡ mark = cc (is) in
-      let rest : span ≡ recent ++ first ∷ older = cc (is) in
-      subst (λ f. Q (own_count p (f ∷ recent ++ first ∷ []))) here (step _ (subst (Leaves kind p) (sym here) leaves.0) (runs recent first older rest may leaves.1))
+  takes_on runs [] first older is may leaves = grind arith
+  takes_on runs (mark ∷ recent) first older is may leaves = grind arith
 
 no_split : (recent older : List Mark) (first : Mark) → [] ≡ recent ++ first ∷ older → ⊥
 no_split [] older first e = cc (e)
@@ -44,7 +38,7 @@ module _ {W V C L A : Type 0} (m : Machine W V C L A) where
   module _ (w w' : W) (p : ℕ) (c : C) (l : L) (h : Option Hold) where
     -- no step has been taken yet
     begun_by : AnswersWithin m (steps_alone (m.asks c h)) w c l h → Left w p c l h 0
-    begun_by answers = record { steps = steps_alone (m.asks c h); few = omega arith; answers = answers }
+    begun_by answers = grind arith
 
     -- after a step of the call's own, one step fewer is left
     one_taken : (next : Next L A) (taken now k : ℕ) → taken + k ≤ steps_alone (m.asks c h) → now ≡ taken + 1 → AnswersWithin m k w c l h
@@ -70,8 +64,8 @@ module _ {W V C L A : Type 0} (m : Machine W V C L A) where
       takes_on m.lock_kind q (m.asks c h) (mark_of p step r s) span (Left w q c l h) (Left w' q c l h) (λ may. begun_by w w q c l h (begins c l h refl may))
       (λ n leaves left. record {
         steps = left.steps;
-        few = omega (arith, left.few, ap (λ b. n + (if b then 1 else 0)) (ne_eqb p q ne));
-        answers = subst (λ v. AnswersWithin m left.steps v c l h) (sym (same (leaves.still ne))) left.answers;
+        few = grind arith;
+        answers = grind arith;
       })
       runs
   beside w w' p q s step r span _ ne same begins runs = tt

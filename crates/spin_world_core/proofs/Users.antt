@@ -22,4 +22,4 @@ module _ {W V C L A : Type 0} (m : Machine W V C L A) where
       }
 
   pub runs_join : (s : State W V C L) (first second : List (ℕ × Move C V)) → RunsJoin m s first second
-  runs_join s first second = record { state = sym (after-append m s first second); events = sym (events_of-append m s first second) }
+  runs_join s first second = grind (arith, after-append, events_of-append)

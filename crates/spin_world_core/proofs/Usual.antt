@@ -1,7 +1,5 @@
 -- What the tables of several objects show in the same way.
-use Rattle.spin_world_core.proofs.Names.{arith, ◌≡◌, ℕ, zero, suc, Bool, true, false, ◌||◌, [], ◌∷◌, refl, false≢true, Plain, is_empty}
-use Rattle.spin_model.specs.Acts.{two_numbers}
-use Rattle.spin_world_core.proofs.Operating.{IsPlace}
+use Rattle.spin_world_core.proofs.Names.{arith, ◌≡◌, ℕ, Bool, true, false, ◌||◌, [], ◌∷◌, false≢true, Plain, is_empty}
 
 -- The words
 
@@ -27,11 +25,3 @@ never passes = absurd (false≢true passes)
 -- if one of two tests passes and the second does not, the first does
 pub only_left : (a b : Bool) → b ≡ false → (a || b) ≡ true → a ≡ true
 only_left a b none is = grind arith
-
--- The words: each of two numbers has its place
-
-pub two_places : {W : Type 0} (a b : W → ℕ) (f g : ℕ → W → W) → ((k : ℕ) (w : W) → a (f k w) ∷ b (f k w) ∷ [] ≡ k ∷ b w ∷ [])
-    → ((k : ℕ) (w : W) → a (g k w) ∷ b (g k w) ∷ [] ≡ a w ∷ k ∷ []) → (i : ℕ) → IsPlace (two_numbers a b f g) i
-two_places a b f g first second zero = record { stays = λ w. refl; put = first }
-two_places a b f g first second (suc zero) = record { stays = λ w. refl; put = second }
-two_places a b f g first second _ = record { stays = λ w. refl; put = λ k w. refl }

@@ -29,7 +29,7 @@ module _ {W V C L A B : Type 0} {t : Table W V C L A} {by : Machine W V C L B} {
   -- the promises of values hold of an event that is no step of a call
   still : (s : Scene W V C L B) → Invariant f s.after → Brings m s.change s.seat s.after.state.value → GivesAt m s.move s.outcome s.after.state.value
       → KeepsValue m s
-  still s after brings gives = record { phase = after.phase; brings = brings; gives = gives }
+  still s after brings gives = grind arith
 
   keeps_at : (seen : Seen W V C L) (p : ℕ) (move : Move C V) (o : Option (Seat C L)) → Invariant f seen → seat_of seen p ≡ o
       → Invariant f (scene_at m seen p move o).after → KeepsValue m (scene_at m seen p move o)

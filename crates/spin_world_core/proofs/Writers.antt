@@ -2,7 +2,7 @@
 use Rattle.std.proofs.Common.{◌≡◌, ℕ, ◌<◌, ◌==◌, true, false, not, ◌||◌, List, [], ◌∷◌, length, filter, refl, arith}
 use Rattle.std.specs.List.{list_any}
 use Rattle.spin_step.specs.Plain.{Plain, writing, Holder, Ticket, same_kind, count_kind, is_empty}
-use Rattle.spin_step.specs.Parties.{entries, is_held, IsExclusive, none_entered, first_alone_entered}
+use Rattle.spin_step.specs.Parties.{entries, IsExclusive, none_entered, first_alone_entered}
 use Rattle.std.proofs.lemmas.List.Sums.{sum_by-cons}
 use Rattle.spin_step.proofs.Sums.{one_of}
 use Rattle.spin_world_core.specs.Runs.{is_reader, is_writer}
@@ -22,10 +22,6 @@ none_any q (t ∷ ts) none = grind (arith, none_any q ts)
 entered_party : (p q : ℕ) (ts : List Ticket) → first_alone_entered ts ≡ true → list_any (λ t. t.entered) (filter (λ t. t.party == p) ts) ≡ true → list_any (λ t. t.entered) (filter (λ t. t.party == q) ts) ≡ true → q ≡ p
 entered_party p q [] alone here there = absurd cc
 entered_party p q (t ∷ ts) alone here there = grind (arith, none_any p ts, none_any q ts)
-
--- a party that may read the value holds the lock
-pub touched : (s : Plain) (p : ℕ) → is_reader (entries p s) ≡ true → is_held s ≡ true
-touched s p reads = grind arith
 
 pub one_toucher : (s : Plain) (p q : ℕ) → IsExclusive s → (is_empty s.holders || is_empty s.tickets) ≡ true → is_reader (entries p s) ≡ true
     → is_writer (entries q s) ≡ true

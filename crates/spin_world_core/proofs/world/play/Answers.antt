@@ -1,5 +1,5 @@
 use Rattle.std.proofs.Common.{◌+◌, rules, ap, ◌∙◌, arith}
-use Rattle.spin_world_core.proofs.Playing.{forgotten, played_next, played_all, can_next}
+use Rattle.spin_world_core.proofs.Playing.{forgotten, played_next, played_all}
 use Rattle.spin_world_core.proofs.world.play.Goals as goal
 
 pub loop-place-preserved : goal.loop-place-preserved
@@ -19,10 +19,10 @@ loop-place-init g c = (
 )
 
 pub act-requires : goal.act-requires
-act-requires g c = can_next (g.O.Object.machine c.args.object.now) c.args.table.now c.loop-place.table c.loop-place.begins c.loop-place.events.items c.args.schedule.now c.loop-place.place c.loop-place.invariant.0 c.requires.can
+act-requires g c = grind arith
 
 pub push_reserved-requires : goal.push_reserved-requires
-push_reserved-requires g c = omega (arith, c.loop-place.invariant.1, c.loop-place.invariant.2, c.loop-place-test.true)
+push_reserved-requires g c = grind arith
 
 pub returns-clause-table : goal.returns-clause-table
 returns-clause-table g c = (played_all (g.O.Object.machine c.args.object.now) c.args.table.now c.loop-place.table c.loop-place.begins c.loop-place.events.items c.args.schedule.now c.loop-place.place c.loop-place.invariant.0 c.loop-place-test.false).table

@@ -1,12 +1,10 @@
+use Rattle.std.proofs.Common.{rules, refl}
 use Rattle.spin_world_core.proofs.Names.{◌≡◌, ℕ, List, ◌++◌, length, take, sym, ap, ◌∙◌, subst, arith, length-take-le, length-append, ∥∥₁_map, ∥∥₁_elim, Move, Machine, State, after, at_first, CanStep, IsReached, TellsAfterAnyPast}
 use Rattle.std.proofs.Math.Bool.{Bool-set}
 use Rattle.spin_model.proofs.Schedules.{after-append}
 use Rattle.spin_world_core.proofs.Transcripts.{tells_after}
 use Rattle.spin_world_core.proofs.Begins.{begins_told}
 use Rattle.spin_world_core.proofs.world.World.run.Goals as goal
-
-pub returns-in_err-events-clause-keeps : goal.returns-in_err-events-clause-keeps
-returns-in_err-events-clause-keeps g c = λ n past reached. (c.laws.ensures c.args.self.now.object).keeps n (past ++ c.args.schedule.now)
 
 pub play-requires-clause-can : goal.play-requires-clause-can
 play-requires-clause-can g c = λ k p call local holds there.
@@ -25,44 +23,45 @@ further m s t schedule is reached =
 
 -- the first n elements of what is written back into a vector of length n have this length
 kept_length : {X : Type 0} (n : ℕ) (xs ys : List X) → length xs ≡ n → length (take n (xs ++ ys)) ≡ length xs
-kept_length n xs ys is = length-take-le n (xs ++ ys) (omega (arith, length-append xs ys, is)) ∙ sym is
+kept_length n xs ys is = grind (arith, length-take-le, length-append)
 
 pub invariant_of-self : goal.invariant_of-self
 invariant_of-self g c =
     (further (g.O.Object.machine c.self.inside.object) c.self.inside.table c.play.new.table c.args.schedule.now c.play.ensures.table c.self.invariant.0, kept_length c.self.inside.begins.len c.play.new.begins _ (c.play.auto.begins ∙ c.deref_mut.ensures.len) ∙ c.play.ensures.parties)
 
-pub returns-clause-reached : goal.returns-clause-reached
-returns-clause-reached g c = further (g.O.Object.machine c.self.inside.object) c.self.inside.table c.play.new.table c.args.schedule.now c.play.ensures.table c.self.invariant.0
+pub returns-in_err-events : goal.returns-in_err-events
+returns-in_err-events g c =
+    let lawful = c.laws.ensures c.args.self.now.object in
+    record {
+      state = search rules;
+      object = refl;
+      events = search rules;
+      err = search rules;
+      reached = subst (λ w. IsReached (g.O.Object.machine w.object) w.state) c.self.view_is c.self.invariant.0;
+      keeps = λ n past reached. lawful.keeps n (past ++ c.args.schedule.now);
+      moments = λ n past reached. lawful.moments n (past ++ c.args.schedule.now);
+      counts = λ n past reached. lawful.counts n (past ++ c.args.schedule.now);
+      values = λ n past reached. lawful.values n (past ++ c.args.schedule.now);
+      tells = search rules;
+      begins = search rules;
+    }
 
-pub returns-in_err-events-clause-reached : goal.returns-in_err-events-clause-reached
-returns-in_err-events-clause-reached g c = subst (λ w. IsReached (g.O.Object.machine w.object) w.state) c.self.view_is c.self.invariant.0
-
-pub returns-clause-keeps : goal.returns-clause-keeps
-returns-clause-keeps g c = λ n past reached. (c.laws.ensures c.args.self.now.object).keeps n (past ++ c.args.schedule.now)
-
-pub returns-in_err-events-clause-moments : goal.returns-in_err-events-clause-moments
-returns-in_err-events-clause-moments g c = λ n past reached. (c.laws.ensures c.args.self.now.object).moments n (past ++ c.args.schedule.now)
-
-pub returns-clause-moments : goal.returns-clause-moments
-returns-clause-moments g c = λ n past reached. (c.laws.ensures c.args.self.now.object).moments n (past ++ c.args.schedule.now)
-
-pub returns-in_err-events-clause-counts : goal.returns-in_err-events-clause-counts
-returns-in_err-events-clause-counts g c = λ n past reached. (c.laws.ensures c.args.self.now.object).counts n (past ++ c.args.schedule.now)
-
-pub returns-clause-counts : goal.returns-clause-counts
-returns-clause-counts g c = λ n past reached. (c.laws.ensures c.args.self.now.object).counts n (past ++ c.args.schedule.now)
-
-pub returns-in_err-events-clause-values : goal.returns-in_err-events-clause-values
-returns-in_err-events-clause-values g c = λ n past reached. (c.laws.ensures c.args.self.now.object).values n (past ++ c.args.schedule.now)
-
-pub returns-clause-values : goal.returns-clause-values
-returns-clause-values g c = λ n past reached. (c.laws.ensures c.args.self.now.object).values n (past ++ c.args.schedule.now)
-
-pub returns-clause-tells : goal.returns-clause-tells
-returns-clause-tells g c =
+pub returns : goal.returns
+returns g c =
     let m = g.O.Object.machine c.self.inside.object in
-    subst (λ w. TellsAfterAnyPast (g.O.Object.machine w.object) w.state c.args.schedule.now c.play.new.events.items) {x = record { object = c.self.inside.object; state = c.self.inside.table }} c.self.view_is
-    (tells_after m c.self.inside.table c.args.schedule.now c.play.new.events.items c.play.ensures.events)
-
-pub returns-clause-begins : goal.returns-clause-begins
-returns-clause-begins g c = begins_told _ c.play.new.events.items c.play.ensures.events
+    let lawful = c.laws.ensures c.args.self.now.object in
+    record {
+      state = search rules;
+      object = search rules;
+      events = search rules;
+      err = tt;
+      reached = further m c.self.inside.table c.play.new.table c.args.schedule.now c.play.ensures.table c.self.invariant.0;
+      keeps = λ n past reached. lawful.keeps n (past ++ c.args.schedule.now);
+      moments = λ n past reached. lawful.moments n (past ++ c.args.schedule.now);
+      counts = λ n past reached. lawful.counts n (past ++ c.args.schedule.now);
+      values = λ n past reached. lawful.values n (past ++ c.args.schedule.now);
+      tells =
+          subst (λ w. TellsAfterAnyPast (g.O.Object.machine w.object) w.state c.args.schedule.now c.play.new.events.items) {x = record { object = c.self.inside.object; state = c.self.inside.table }} c.self.view_is
+          (tells_after m c.self.inside.table c.args.schedule.now c.play.new.events.items c.play.ensures.events);
+      begins = begins_told _ c.play.new.events.items c.play.ensures.events;
+    }
