@@ -23,22 +23,16 @@ use Rattle.spin_rwlock.specs.declared.rwlock.rule.View.{View}
 use Rattle.spin_rwlock.specs.declared.rwlock.rule.View.TheVariants.{Reading, Upgradable, Coming}
 use Rattle.spin_rwlock.specs.Steps.{Sight, Since, view_at, Knows, MayKnow, FitsUse, Does, Has, Turned, Becomes, Ends, model_at}
 use Rattle.spin_rwlock.specs.Rw as rws
-use Rattle.spin_rwlock.specs.Rw.{IsRw, IsRwWord, rw_ways, Told, Turn, OneMove, Ending, OneCourse, seat_of, use_of_view, use_of_party, model, words_of, call_of, Comes, still, missed, admitted, AreSteps, outcome_of, steps_by, tries_by, comes_by, leaves_by, behind_write, course_of, says_with, either_at, Left, Seeks}
+use Rattle.spin_rwlock.specs.Rw.{IsRw, IsRwWord, rw_ways, Told, Turn, OneMove, Ending, OneCourse, seat_of, use_of_view, use_of_party, model, words_of, call_of, Comes, still, missed, admitted, AreSteps, outcome_of, steps_by, ends_by, comes_by, leaves_by, behind_write, course_of, says_with, either_at, Left, Seeks}
 use Rattle.spin_rwlock.proofs.Steps.{writes_leave}
 
--- What a party that uses the value sees after a step
-same_as : {X : Type 0} (u : Use) (before after : Option X) → u ≢ off → Shows u before after → before ≢ None → after ≡ before
-same_as off before after uses shows some = absurd (uses refl)
-same_as u None after uses shows some = absurd (some refl)
-same_as reads (Some x) after uses shows some = shows
-same_as writes (Some x) after uses shows some = shows
-
-some_as : {X : Type 0} (u : Use) (before after : Option X) → u ≢ off → Shows u before after → after ≢ None
-some_as off before after uses shows e = absurd (uses refl)
-some_as reads None after uses (x, is) e = let no : Some x ≡ None = sym is ∙ e in cc
-some_as reads (Some x) after uses is e = let no : Some x ≡ None = sym is ∙ e in cc
-some_as writes None after uses (x, is) e = let no : Some x ≡ None = sym is ∙ e in cc
-some_as writes (Some x) after uses is e = let no : Some x ≡ None = sym is ∙ e in cc
+-- a party that uses the value after a step sees one, and it is the one that it saw
+sees_on : {X : Type 0} (u : Use) (before after : Option X) → u ≢ off → Shows u before after → (after ≢ None) × (before ≢ None → after ≡ before)
+sees_on off before after uses shows = absurd (uses refl)
+sees_on reads None after uses (x, is) = (λ e. absurd (let no : Some x ≡ None = sym is ∙ e in cc), λ some. absurd (some refl))
+sees_on writes None after uses (x, is) = (λ e. absurd (let no : Some x ≡ None = sym is ∙ e in cc), λ some. absurd (some refl))
+sees_on reads (Some x) after uses is = (λ e. absurd (let no : Some x ≡ None = sym is ∙ e in cc), λ some. is)
+sees_on writes (Some x) after uses is = (λ e. absurd (let no : Some x ≡ None = sym is ∙ e in cc), λ some. is)
 
 -- what holds of the value that is shown holds of `x`, if `x` is shown
 is_there : {X : Type 0} (P : X → Type 0) (shown : Option X) (x : X) → Some x ≡ shown → IfSome shown P → P x
@@ -137,26 +131,29 @@ module _ {T : Type 0} (was now : Sight T) (n : ℕ) (turn : ℕ → Turn T) (key
               ((ap (λ k. k.name) key ∙ knew.0 ∙ sym t.named, t.knows), (t.made, t.named, key));
         };
         left = left;
-        sees = λ uses. let used : use_of use_of_party now.0.1 ≢ off = λ e. uses (sym after ∙ e) in
-            (some_as (use_of use_of_party now.0.1) was.1 now.1 used kept.0, same_as (use_of use_of_party now.0.1) was.1 now.1 used kept.0);
+        sees = λ uses. sees_on (use_of use_of_party now.0.1) was.1 now.1 (λ e. uses (sym after ∙ e)) kept.0;
       }
 
 -- How courses add up
 
-module _ {T : Type 0} where
-  pub has : (P : OneCourse T) (p q : Sight T) → Knows p → Does P p q → Has P p q
-  has P p q knew d = let made = d.made knew in record { knows = made.0; last = d.last; made = made.1 }
+-- one step of a call is the whole call
+pub in_one : {T : Type 0} (c : RwCall) (a : Answer T) (own : List (OneMove T)) (outs : List (Ending T)) → AreSteps false c (Some a ∷ []) own outs → IsCall c a own outs
+in_one c a own outs are = (Step ∷ [], Answered a None ∷ [], are.0, are.1, (0, refl, refl))
 
-  pub weaker : (P Q : OneCourse T) → ((own : List (OneMove T)) (outs : List (Ending T)) → P own outs → Q own outs) → (p q : Sight T) → Has P p q → Has Q p q
-  weaker P Q so p q h = let (made, named, same) = h.made in
+module _ {T : Type 0} {p q : Sight T} where
+  pub has : {P : OneCourse T} → Knows p → Does P p q → Has P p q
+  has knew d = let made = d.made knew in record { knows = made.0; last = d.last; made = made.1 }
+
+  pub weaker : {P Q : OneCourse T} → ((own : List (OneMove T)) (outs : List (Ending T)) → P own outs → Q own outs) → Has P p q → Has Q p q
+  weaker {P} {Q} so h = let (made, named, same) = h.made in
       record { knows = h.knows; last = h.last; made = (passes.weaker (model_at p.0.0) p.0.1 q.0.1 p.0.2.entries q.0.2.entries P Q so made, named, same) }
 
-  pub does_weaker : (P Q : OneCourse T) → ((own : List (OneMove T)) (outs : List (Ending T)) → P own outs → Q own outs) → (p q : Sight T) → Does P p q → Does Q p q
-  does_weaker P Q so p q d = record { key = d.key; last = d.last; made = λ knew. let h = weaker P Q so p q (has P p q knew d) in (h.knows, h.made) }
+  pub does_weaker : {P Q : OneCourse T} → ((own : List (OneMove T)) (outs : List (Ending T)) → P own outs → Q own outs) → Does P p q → Does Q p q
+  does_weaker {P} {Q} so d = record { key = d.key; last = d.last; made = λ knew. let h = weaker {P = P} {Q = Q} so (has knew d) in (h.knows, h.made) }
 
-  pub and_then : (P Q R : OneCourse T) → ((own own' : List (OneMove T)) (outs outs' : List (Ending T)) → P own outs → Q own' outs' → R (own ++ own') (outs ++ outs'))
-      → (p q r : Sight T) → Has P p q → Has Q q r → Has R p r
-  and_then P Q R joins p q r one two =
+  pub and_then : {P Q R : OneCourse T} {r : Sight T} → ((own own' : List (OneMove T)) (outs outs' : List (Ending T)) → P own outs → Q own' outs' → R (own ++ own') (outs ++ outs'))
+      → Has P p q → Has Q q r → Has R p r
+  and_then {P} {Q} {R} {r} joins one two =
       let (made, named, same) = two.made in record {
         knows = two.knows;
         last = two.last;
@@ -168,51 +165,39 @@ module _ {T : Type 0} where
         );
       }
 
-  -- one step of a call is the whole call, or the call goes on
-  pub in_one : (c : RwCall) (a : Answer T) (own : List (OneMove T)) (outs : List (Ending T)) → AreSteps false c (Some a ∷ []) own outs → IsCall c a own outs
-  in_one c a own outs are = (Step ∷ [], Answered a None ∷ [], are.0, are.1, (0, refl, refl))
+  -- a step that begins a call, which then waits; steps of a call that waits
+  pub comes_in : (c : RwCall) → Has (AreSteps false c (None ∷ [])) p q → Has (Begins c Waits) p q
+  comes_in c = weaker (λ own outs are. (Step ∷ [], GoingOn ∷ [], are.0, are.1, (1, refl, refl)))
 
-  pub comes_in : (c : RwCall) (own : List (OneMove T)) (outs : List (Ending T)) → AreSteps false c (None ∷ []) own outs → Begins c Waits own outs
-  comes_in c own outs are = (Step ∷ [], GoingOn ∷ [], are.0, are.1, (1, refl, refl))
-
-  module _ (c : RwCall) (p q r : Sight T) (so_far : Has (Begins c Waits) p q) where
+  module _ (c : RwCall) {r : Sight T} (so_far : Has (Begins c Waits) p q) where
     pub stays_in : Has (AreSteps true c (None ∷ [])) q r → Has (Begins c Waits) p r
-    stays_in = and_then (Begins c Waits) (AreSteps true c (None ∷ [])) (Begins c Waits) (passes.begun c Waits (AreSteps true c (None ∷ [])) Waits (λ own own' outs outs' w s. waits_on own own' outs outs' w (1, s.0, s.1))) p q r so_far
+    stays_in = and_then (passes.begun c Waits (AreSteps true c (None ∷ [])) Waits (λ own own' outs outs' w s. waits_on own own' outs outs' w (1, s.0, s.1))) so_far
 
     pub is_answered : (a : Answer T) → Has (AreSteps true c (Some a ∷ [])) q r → Has (IsCall c a) p r
-    is_answered a = and_then (Begins c Waits) (AreSteps true c (Some a ∷ [])) (IsCall c a) (passes.begun c Waits (AreSteps true c (Some a ∷ [])) (courses.Ends a) (λ own own' outs outs' w s. waits_out a own own' outs outs' w (0, s.0, s.1))) p q r so_far
+    is_answered a = and_then (passes.begun c Waits (AreSteps true c (Some a ∷ [])) (courses.Ends a) (λ own own' outs outs' w s. waits_out a own own' outs outs' w (0, s.0, s.1))) so_far
 
--- What a step of a call tells, by the number that it found
-module _ {T : Type 0} (was now : Sight T) where
-  pub becomes : (goes_on : Bool) (c : RwCall) (answers : List (Option (Answer T))) (to : View) → Turned (steps_by goes_on c answers to) was now → use_of_view to ≢ off → was.1 ≢ None
-      → Becomes to (AreSteps goes_on c answers) was now
-  becomes goes_on c answers to t uses some = let sees = t.sees uses in record { lent = (t.view, sees.0); same = sees.1 some; does = t.does }
+-- What a step of a call tells
+module _ {T : Type 0} {was now : Sight T} where
+  pub becomes : (turn : Turn T) → Turned turn was now → use_of_view turn.to ≢ off → was.1 ≢ None → Becomes turn.to (course_of (λ y. was.0.0.told ≡ true → IfSome was.1 (λ x. y ≡ x)) turn) was now
+  becomes turn t uses some = let sees = t.sees uses in record { lent = (t.view, sees.0); same = sees.1 some; does = t.does }
 
-  pub becomes_by : (P Q : OneCourse T) → ((own : List (OneMove T)) (outs : List (Ending T)) → P own outs → Q own outs) → (v : View) → Becomes v P was now → Becomes v Q was now
-  becomes_by P Q so v b = record { lent = b.lent; same = b.same; does = does_weaker P Q so was now b.does }
+  -- a call of one step
+  pub becomes_by : (c : RwCall) (a : Answer T) (v : View) → Becomes v (AreSteps false c (Some a ∷ [])) was now → Becomes v (IsCall c a) was now
+  becomes_by c a v b = record { lent = b.lent; same = b.same; does = does_weaker (in_one c a) b.does }
 
-  module _ (n old : ℕ) (goes_on : Bool) (c : RwCall) where
-    -- an exchange by which the party may become the writer: it found the word expected, or (`lost`) another word
-    module _ (answer : Option (Answer T)) (wins loses : View) (t : Turned (tries_by goes_on c old answer wins loses n) was now) where
-      abbrev Tried : Bool → Type 0
-      Tried b = Turned (steps_by goes_on c ((if b then Some Granted else answer) ∷ []) (if b then wins else loses)) was now
+  pub called : (c : RwCall) (a : Answer T) (to : View) → Knows was → Turned (ends_by c a to) was now → Has (IsCall c a) was now
+  called c a to knew t = weaker (in_one c a) (has knew t.does)
 
-      pub won : n ≡ old → Turned (steps_by goes_on c (Some Granted ∷ []) wins) was now
-      won e = subst Tried (eq-eqb n old e) t
+  -- the exchange of a call that wants to read found the word expected, or (`has_missed`) another word
+  module _ (n old : ℕ) (goes_on : Bool) (c : RwCall) (wins : View) (t : Turned (comes_by goes_on wins c old n) was now) where
+    abbrev Came : Bool → Type 0
+    Came b = Turned (steps_by goes_on c (if b then admitted goes_on else missed c n ∷ []) (if b then wins else Coming c n)) was now
 
-      pub lost : n ≢ old → Turned (steps_by goes_on c (answer ∷ []) loses) was now
-      lost ne = subst Tried (ne_eqb n old ne) t
+    pub came_in : n ≡ old → Turned (steps_by goes_on c (admitted goes_on) wins) was now
+    came_in e = subst Came (eq-eqb n old e) t
 
-    -- the same for the exchange of a call that wants to read
-    module _ (wins : View) (t : Turned (comes_by goes_on wins c old n) was now) where
-      abbrev Came : Bool → Type 0
-      Came b = Turned (steps_by goes_on c (if b then admitted goes_on else missed c n ∷ []) (if b then wins else Coming c n)) was now
-
-      pub came_in : n ≡ old → Turned (steps_by goes_on c (admitted goes_on) wins) was now
-      came_in e = subst Came (eq-eqb n old e) t
-
-      pub has_missed : n ≢ old → Turned (steps_by goes_on c (missed c n ∷ []) (Coming c n)) was now
-      has_missed ne = subst Came (ne_eqb n old ne) t
+    pub has_missed : n ≢ old → Turned (steps_by goes_on c (missed c n ∷ []) (Coming c n)) was now
+    has_missed ne = subst Came (ne_eqb n old ne) t
 
 pub is_same : {X : Type 0} {x y : X} → Some x ≡ Some y → x ≡ y
 is_same e = cc
@@ -222,13 +207,15 @@ pub reads_uses : (v : View) → use_of_view v ≡ reads → use_of_view v ≢ of
 reads_uses v lends e = absurd (let no : reads ≡ off = sym lends ∙ e in cc)
 
 -- a call by which a writer ends
-pub ended : {T : Type 0} (c : RwCall) (to : View) (was now : Sight T) → use_of use_of_view (view_at was) ≡ writes → Turned (leaves_by c to) was now → Ends c was now
-ended {T} c to was now held t =
-    let Q : T → Type 0 = λ y. was.0.0.told ≡ true → IfSome was.1 (λ x. y ≡ x) in (
-      does_weaker (WritesSome Q (AreSteps false c (Some Done ∷ []))) (WritesSome Q (IsCall c Done))
-          (λ own outs (x, so, (rest, comes, is, are, steps)). (x, so, (rest, comes, is, are, in_one c Done rest comes steps))) was now t.does,
-      t.left (λ e. absurd (let no : writes ≡ off = sym held ∙ e in cc)),
-    )
+pub ended : {T : Type 0} {was now : Sight T} (c : RwCall) (to : View) → use_of use_of_view (view_at was) ≡ writes → Turned (leaves_by c to) was now → Ends c was now
+ended c to held t = record {
+  does = does_weaker (λ own outs (x, so, (rest, comes, is, are, steps)). (x, so, (rest, comes, is, are, in_one c Done rest comes steps))) t.does;
+  left = t.left (λ e. absurd (let no : writes ≡ off = sym held ∙ e in cc));
+}
+
+-- a party that wrote this value wrote some value
+pub wrote_any : {T : Type 0} {was now : Sight T} {c : RwCall} → Ends c was now → Knows was → Made (model_at was.0.0) was.0.1 was.0.2.entries now.0.1 now.0.2.entries (WritesSome (λ x. Unit {0}) (IsCall c Done))
+wrote_any e knew = (weaker (λ own outs (x, so, by). (x, tt, by)) (has knew e.does)).made.0
 
 -- The steps of a call that wants to read
 
@@ -246,35 +233,32 @@ waiting Reading cm n = grind arith
 waiting Upgradable cm n = grind arith
 waiting _ cm n = absurd cm
 
-module _ {T : Type 0} (c : RwCall) (p q : Sight T) where
+module _ {T : Type 0} (c : RwCall) {p q : Sight T} where
   -- the exchange that begins the call is granted, or (`begins_missed`) has failed
   pub begins_granted : Has (AreSteps false c (admitted false)) p q → Has (IsCall c Granted) p q
-  begins_granted = weaker (AreSteps false c (admitted false)) (IsCall c Granted)
-      (λ own outs s. (Step ∷ Step ∷ [], GoingOn ∷ Answered Granted None ∷ [], s.0, s.1, (1, refl, refl))) p q
+  begins_granted = weaker (λ own outs s. (Step ∷ Step ∷ [], GoingOn ∷ Answered Granted None ∷ [], s.0, s.1, (1, refl, refl)))
 
   pub begins_missed : (n : ℕ) → Has (AreSteps false c (missed c n ∷ [])) p q → Has (Seeks c n) p q
-  begins_missed n = weaker (AreSteps false c (missed c n ∷ [])) (Seeks c n)
-      (λ own outs s. (Step ∷ [], outcome_of (missed c n) ∷ [], s.0, s.1, left_by (still c n) (Step ∷ []) (outcome_of (missed c n) ∷ []) refl refl)) p q
+  begins_missed n = weaker (λ own outs s. (Step ∷ [], outcome_of (missed c n) ∷ [], s.0, s.1, left_by (still c n) (Step ∷ []) (outcome_of (missed c n) ∷ []) refl refl))
 
   module _ (n : ℕ) (so_far : Has (Seeks c n) p q) where
     -- a try that was refused has its answer
     pub is_refused : still c n ≡ false → Has (IsCall c Refused) p q
     is_refused kept = subst (λ b. Has (Begins c (Left b)) p q) kept so_far
 
-    module _ (r : Sight T) (goes : still c n ≡ true) where
-      begun : Has (Begins c Waits) p q
-      begun = subst (λ b. Has (Begins c (Left b)) p q) goes so_far
+    begun : still c n ≡ true → Has (Begins c Waits) p q
+    begun goes = subst (λ b. Has (Begins c (Left b)) p q) goes so_far
 
+    module _ {r : Sight T} (goes : still c n ≡ true) where
       -- a further exchange of the call is granted, or (`then_missed`) has failed
       pub then_granted : Has (AreSteps true c (admitted true)) q r → Has (IsCall c Granted) p r
-      then_granted = is_answered c p q r begun Granted
+      then_granted = is_answered c (begun goes) Granted
 
       pub then_missed : (m : ℕ) → Has (AreSteps true c (missed c m ∷ [])) q r → Has (Seeks c m) p r
-      then_missed m = and_then (Begins c Waits) (AreSteps true c (missed c m ∷ [])) (Seeks c m)
-          (passes.begun c Waits (AreSteps true c (missed c m ∷ [])) (Left (still c m)) (λ own own' outs outs' w s. waits_left (still c m) own own' outs outs' w (left_by (still c m) own' outs' s.0 s.1))) p q r begun
+      then_missed m = and_then (passes.begun c Waits (AreSteps true c (missed c m ∷ [])) (Left (still c m)) (λ own own' outs outs' w s. waits_left (still c m) own own' outs outs' w (left_by (still c m) own' outs' s.0 s.1))) (begun goes)
 
 -- a look of a call that waits
-pub then_looked : {T : Type 0} (won : View) → Comes won → (p q r : Sight T) (n m : ℕ) → Has (Seeks (call_of won true) n) p q
+pub then_looked : {T : Type 0} {p q r : Sight T} (won : View) → Comes won → (n m : ℕ) → Has (Seeks (call_of won true) n) p q
     → Has (AreSteps true (call_of won true) (None ∷ [])) q r → Has (Seeks (call_of won true) m) p r
-then_looked won cm p q r n m so_far step =
-    let c = call_of won true in subst (λ b. Has (Begins c (Left b)) p r) (sym (waiting won cm m)) (stays_in c p q r (begun c p q n so_far r (waiting won cm n)) step)
+then_looked {p = p} {q = q} {r = r} won cm n m so_far step =
+    let c = call_of won true in subst (λ b. Has (Begins c (Left b)) p r) (sym (waiting won cm m)) (stays_in c (subst (λ b. Has (Begins c (Left b)) p q) (waiting won cm n) so_far) step)

@@ -41,7 +41,7 @@ use Rattle.spin_core.proofs.Views.{part_before, turn-own}
 use Rattle.spin_rwlock.specs.declared.rwlock.rule.View.{View}
 use Rattle.spin_rwlock.specs.declared.rwlock.rule.View.TheVariants.{Idle, Reading, Upgradable, Asking, Writing, WritingAsked, Coming, WaitingToWrite}
 use Rattle.spin_rwlock.specs.Rw as rws
-use Rattle.spin_rwlock.specs.Rw.{part, Word, IsRw, rw_ways, IsRwWord, Told, Turn, OneMove, Ending, use_of_view, use_of_party, seat_of, model, words_of, in_call, IsOut, grants, still, call_of, asks, weight_of, downgrade_to, came, Comes, MayCome, MayWrite, moves_of, outcome_of, outcomes_of, AreSteps, behind_write, course_of, says_with, ends_by, leaves_by, counts_by, tries_by, asks_by, looks_by, comes_by, peeks_by, either_at}
+use Rattle.spin_rwlock.specs.Rw.{part, Word, IsRw, rw_ways, IsRwWord, Told, Turn, OneMove, Ending, use_of_view, use_of_party, seat_of, model, words_of, in_call, IsOut, grants, still, call_of, asks, weight_of, downgrade_to, came, Comes, MayCome, MayWrite, moves_of, outcome_of, outcomes_of, AreSteps, behind_write, course_of, says_with, ends_by, leaves_by, counts_by, Attempt, tries_by, try_write, write, try_upgrade, upgrade, asks_by, looks_by, comes_by, peeks_by, either_at}
 use Rattle.spin_rwlock.specs.Steps.{May, FitsUse}
 
 pub kind : (v : View) → OfReaders part v
@@ -157,6 +157,12 @@ writes_as Writing e p = refl
 writes_as WritingAsked e p = refl
 writes_as _ e p = absurd cc
 
+-- and it sits in the model as a writer
+writes_sits : (v : View) → use_of_view v ≡ writes → seat_of v ≡ seat.Holding hold.Write
+writes_sits Writing e = refl
+writes_sits WritingAsked e = refl
+writes_sits _ e = absurd cc
+
 pub not_in_call : (view : Option View) → IsOut view → in_call view ≡ false
 not_in_call None out = refl
 not_in_call (Some v) out = ap rws.is_calling (seat_idle (seat_of v) out)
@@ -199,109 +205,58 @@ module _ {T : Type 0} where
   all_played false answers = none_skipped answers
 
 module _ {T : Type 0} (v₀ : T) where
-  -- the step `turn` of a party with this view, which applies `f` to the word, is a step of the model; a writer writes a value that
-  -- satisfies `Q`
-  abbrev MovesWith : (T → Type 0) → Option View → (ℕ → ℕ) → (ℕ → View → Type 0) → (ℕ → Turn T) → Type 0
-  MovesWith Q view f so turn = AreMoves (model v₀) seat_of words_of view (on_first f) first so (says_with Q turn)
-
-  abbrev Moves : Option View → (ℕ → ℕ) → (ℕ → View → Type 0) → (ℕ → Turn T) → Type 0
-  Moves = MovesWith (λ x. Unit {0})
-
-  abbrev To_next : (ℕ → Turn T) → ℕ → View → Type 0
-  To_next turn n v = v ≡ (turn n).to
-
-  abbrev alone : ℕ → Option T → Seat RwCall RwPoint → State ℕ T RwCall RwPoint
-  alone w value sits = record { words = w; value = value; seats = sits ∷ [] }
-
   abbrev sits_at : Option View → Seat RwCall RwPoint
   sits_at = sits (model v₀) seat_of words_of
 
   -- a party that is in no call, and holds nothing, sits in the model as a new party does
-  as_new : (view : Option View) → IsOut view → (f : ℕ → ℕ) (so : ℕ → View → Type 0) (turn : ℕ → Turn T) → Moves None f so turn → Moves view f so turn
-  as_new None out f so turn moves = moves
-  as_new (Some v) out f so turn moves = λ w value u is. let idle : sits_at (Some v) ≡ seat.Idle = seat_idle (seat_of v) out in rw idle (moves w value u is)
+  sits_out : (view : Option View) → IsOut view → sits_at view ≡ seat.Idle
+  sits_out None out = refl
+  sits_out (Some v) out = seat_idle (seat_of v) out
 
-  -- the model makes these moves from a word and a seat to a word and a seat, with these outcomes
+  abbrev alone : ℕ → Option T → Seat RwCall RwPoint → State ℕ T RwCall RwPoint
+  alone w value sits = record { words = w; value = value; seats = sits ∷ [] }
+
+  -- a party alone in the model makes these moves, with these outcomes, from one word and seat to another
   abbrev Plays : ℕ → Option T → Seat RwCall RwPoint → List (OneMove T) → ℕ → Option T → View → List (Ending T) → Type 0
   Plays w value from own w' now to outs =
       let s = alone w value from in let es = of_one (model v₀) seat_of words_of own in
       (after (model v₀) s es ≡ alone w' now (seat_of to)) × (outcomes (model v₀) s es ≡ outs)
 
+  -- the moves of the step `turn`, which applies `f` to the word
   abbrev PlaysTurn : Option View → (ℕ → ℕ) → (ℕ → Turn T) → ℕ → Option T → Type 0
   PlaysTurn view f turn w value =
       let t = turn w in Plays w value (sits_at view) (moves_of t.goes_on t.call t.answers) (f w) value t.to (outcomes_of t.goes_on t.answers)
 
-  by_turn : (view : Option View) (f : ℕ → ℕ) (so : ℕ → View → Type 0) (turn : ℕ → Turn T) → ((n : ℕ) → (turn n).writes ≡ false) → ((n : ℕ) (u : View) → so n u → u ≡ (turn n).to)
-      → ((w : ℕ) (value : Option T) (u : View) → so w u → PlaysTurn view f turn w value) → Moves view f so turn
-  by_turn view f so turn none to plays w value u is =
-      let t = turn w in let p = plays w value u is in let own = moves_of t.goes_on t.call t.answers in let outs = outcomes_of t.goes_on t.answers in
-      let said : course_of (λ x. Unit {0}) t own outs = subst (λ b. behind_write b (λ x. Unit {0}) (AreSteps t.goes_on t.call t.answers) own outs) (sym (none w)) (refl, refl) in
-      rw (to w u is) (own, outs, (refl, said), of_a_call t.goes_on t.call t.answers, all_played t.goes_on t.answers, f w, value, p.0, p.1, refl)
+  abbrev Tries : Option View → Attempt T → Type 0
+  Tries view a = (w : ℕ) (value : Option T) → PlaysTurn view (swaps a.old 1) (tries_by a) w value
 
-  -- the same for a step whose number alone decides the next view
-  found : (view : Option View) (f : ℕ → ℕ) (turn : ℕ → Turn T) → ((n : ℕ) → (turn n).writes ≡ false) → ((w : ℕ) (value : Option T) → PlaysTurn view f turn w value) → Moves view f (To_next turn) turn
-  found view f turn none plays = by_turn view f (To_next turn) turn none (λ n u is. is) (λ w value u is. plays w value)
+  try_write_plays : (view : Option View) → IsOut view → Tries view try_write
+  try_write_plays view out w value = rw (sits_out view out) (grind arith, grind arith)
 
-  -- an exchange by which the party may become the writer
-  abbrev Tries : Option View → Bool → RwCall → ℕ → Option (Answer T) → View → View → Type 0
-  Tries view goes_on c old answer won lost = (w : ℕ) (value : Option T) → PlaysTurn view (swaps old 1) (tries_by goes_on c old answer won lost) w value
+  write_plays : (view : Option View) → MayWrite view → Tries view (write (in_call view))
+  write_plays view (inl out) w value = rw (not_in_call view out, sits_out view out) (grind arith, grind arith)
+  write_plays view (inr is) w value = rw is (grind arith, grind arith)
 
-  try_write_plays : Tries None false call.TryWrite 0 (Some Refused) Writing Idle
-  try_write_plays w value = (grind arith, grind arith)
-
-  write_plays : Tries None false call.Write 0 None Writing WaitingToWrite
-  write_plays w value = (grind arith, grind arith)
-
-  write_on_plays : Tries (Some WaitingToWrite) true call.Write 0 None Writing WaitingToWrite
-  write_on_plays w value = (grind arith, grind arith)
-
-  try_upgrade_plays : Tries (Some Upgradable) false call.TryUpgrade 2 (Some Refused) Writing Upgradable
+  try_upgrade_plays : Tries (Some Upgradable) try_upgrade
   try_upgrade_plays w value = (grind arith, grind arith)
 
-  upgrade_plays : Tries (Some Asking) true call.Upgrade 6 None WritingAsked Asking
+  upgrade_plays : Tries (Some Asking) upgrade
   upgrade_plays w value = (grind arith, grind arith)
-
-  -- an addition or a subtraction, after which the party has this view
-  changes : (view : Option View) (f : ℕ → ℕ) (so : ℕ → Type 0) (turn : Turn T) → turn.writes ≡ false → ((w : ℕ) (value : Option T) → so w → PlaysTurn view f (λ n. turn) w value) → Moves view f (To so (λ n. turn.to)) (λ n. turn)
-  changes view f so turn none plays = by_turn view f (To so (λ n. turn.to)) (λ n. turn) (λ n. none) (λ n u is. is.1) (λ w value u is. plays w value is.0)
-
-  ask_plays : (w : ℕ) (value : Option T) → Weighs 0 w → PlaysTurn (Some Upgradable) (λ n. (n + 4) % 2 ^ 64) (λ n. asks_by) w value
-  ask_plays w value small = rw (fits_in w 4 small.1 (omega arith)) (refl, refl)
-
-  downgrade_plays : (w : ℕ) (value : Option T) → Weighs 0 w → PlaysTurn (Some Upgradable) (λ n. (n + 6) % 2 ^ 64) (λ n. ends_by call.Downgrade Done Reading) w value
-  downgrade_plays w value small = rw (fits_in w 6 small.1 (omega arith)) (refl, refl)
 
   release_plays : (won : View) → Comes won → (w : ℕ) (value : Option T) → Weighs (weight_of won) w → PlaysTurn (Some won) (λ n. (n + (2 ^ 64 - weight_of won)) % 2 ^ 64) (λ n. ends_by call.Release Done Idle) w value
   release_plays Reading cm w value some = rw (less_by w 8 some) (refl, refl)
   release_plays Upgradable cm w value some = rw (less_by w 2 some) (refl, refl)
   release_plays _ cm w value some = absurd cm
 
-  -- the moves of a writer that ends, whether or not it asked before: it writes the value `x`, and then makes the call
-  writer_moves : (x : T) (u : View) → use_of_view u ≡ writes → (f : ℕ → ℕ) (so : ℕ → Type 0) (c : RwCall) (to : View)
-      → ((w : ℕ) (value : Option T) → so w → Plays w value (seat.Holding hold.Write) (Write x ∷ moves_of false c (Some Done ∷ [])) (f w) (Some x) to (Written ∷ outcomes_of false (Some Done ∷ [])))
-      → MovesWith (λ y. y ≡ x) (Some u) f (To so (λ n. to)) (λ n. leaves_by c to)
-  writer_moves x u e f so c to plays w value v is = at u e
-    where
-      Leaves_it : View → Type 0
-      Leaves_it u = Goes (model v₀) seat_of words_of (Some u) v w value (f w, tt) (λ own outs. says_with (λ y. y ≡ x) (λ n. leaves_by c to) own outs w v)
+  -- A writer that ends, whether or not it asked before. It writes the value `x`, and then makes the call.
+  abbrev Leaves_by : T → (ℕ → ℕ) → (ℕ → Type 0) → RwCall → View → Type 0
+  Leaves_by x f so c to =
+      (w : ℕ) (value : Option T) → so w → Plays w value (seat.Holding hold.Write) (Write x ∷ moves_of false c (Some Done ∷ [])) (f w) (Some x) to (Written ∷ outcomes_of false (Some Done ∷ []))
 
-      leaves : Leaves_it Writing
-      leaves = let p = plays w value is.0 in rw is.1 (Write x ∷ Begin c ∷ Step ∷ [], Written ∷ Begun ∷ Answered Done None ∷ [], (refl, (x, refl, (Begin c ∷ Step ∷ [], Begun ∷ Answered Done None ∷ [], refl, refl, (refl, refl)))), refl, refl, f w, Some x, p.0, p.1, refl)
-
-      at : (u : View) → use_of_view u ≡ writes → Leaves_it u
-      at Writing e = leaves
-      at WritingAsked e = leaves
-      at _ e = absurd cc
-
-  writer_reads_plays : (x : T) (won : View) → Comes won → (w : ℕ) (value : Option T) → Weighs 0 w
-      → Plays w value (seat.Holding hold.Write) (Write x ∷ moves_of false (downgrade_to won) (Some Done ∷ [])) ((w + (weight_of won - 1)) % 2 ^ 64) (Some x) won (Written ∷ outcomes_of false (Some Done ∷ []))
+  writer_reads_plays : (x : T) (won : View) → Comes won → Leaves_by x (λ n. (n + (weight_of won - 1)) % 2 ^ 64) (Weighs 0) (downgrade_to won) won
   writer_reads_plays x Reading cm w value small = rw (fits_in w 7 small.1 (omega arith)) (refl, refl)
   writer_reads_plays x Upgradable cm w value small = rw (fits_in w 1 small.1 (omega arith)) (refl, refl)
   writer_reads_plays x _ cm w value small = absurd cm
-
-  writer_leaves_plays : (x : T) (w : ℕ) (value : Option T) → Weighs 1 w
-      → Plays w value (seat.Holding hold.Write) (Write x ∷ moves_of false call.Release (Some Done ∷ [])) ((w + (2 ^ 64 - 1)) % 2 ^ 64) (Some x) Idle (Written ∷ outcomes_of false (Some Done ∷ []))
-  writer_leaves_plays x w value some = rw (less_by w 1 some) (refl, refl)
 
   -- The moves of a call that wants to read
 
@@ -324,6 +279,11 @@ module _ {T : Type 0} (v₀ : T) where
   comes_again Upgradable true cm old new grant w value = (grind (arith, grant), grind (arith, grant))
   comes_again _ waits cm old new grant w value = absurd cm
 
+  come_plays : (won : View) (waits : Bool) → Comes won → (view : Option View) (old new : ℕ) → MayCome (call_of won waits) old view → grants (call_of won waits) old ≡ Some new
+      → Arrives view (in_call view) won (call_of won waits) old new
+  come_plays won waits cm view old new (inl (out, free)) grant w value = rw (not_in_call view out, free, sits_out view out) (comes_first won waits cm new (rw free at grant) w value)
+  come_plays won waits cm view old new (inr is) grant w value = rw (is, lets_in won waits cm old new grant) (comes_again won waits cm old new grant w value)
+
   -- the load of a call that waits, after a word that did not admit the reader
   look_plays : (won : View) → Comes won → (old : ℕ) → grants (call_of won true) old ≡ None → (w : ℕ) (value : Option T) → PlaysTurn (Some (Coming (call_of won true) old)) (λ n. n) (looks_by (call_of won true)) w value
   look_plays Reading cm old none w value = (grind (arith, none), grind (arith, none))
@@ -336,15 +296,6 @@ module _ {T : Type 0} (v₀ : T) where
       at : (b : Bool) → (w == old) ≡ b → PlaysTurn None (swaps old new) (peeks_by old) w value
       at true e = rw e (grind (arith, grant, e), grind (arith, grant, e))
       at false e = rw e (grind (arith, grant, e), grind (arith, grant, e))
-
-  come_moves : (won : View) (waits : Bool) → Comes won → (view : Option View) (old new : ℕ) → MayCome (call_of won waits) old view → grants (call_of won waits) old ≡ Some new
-      → Moves view (swaps old new) (λ n v. v ≡ came won (call_of won waits) old n) (comes_by (in_call view) won (call_of won waits) old)
-  come_moves won waits cm view old new (inl (out, free)) grant =
-      let c = call_of won waits in let turn : ℕ → Turn T = comes_by false won c 0 in
-      rw (not_in_call view out, free) (as_new view out (swaps 0 new) (λ n v. v ≡ came won c 0 n) turn (found None (swaps 0 new) turn (λ n. refl) (comes_first won waits cm new (rw free at grant))))
-  come_moves won waits cm view old new (inr is) grant =
-      let c = call_of won waits in
-      rw (is, lets_in won waits cm old new grant) (found (Some (Coming c old)) (swaps old new) (comes_by true won c old) (λ n. refl) (comes_again won waits cm old new grant))
 
 -- Each step keeps the rule, and appends its moves to the trace
 
@@ -391,14 +342,13 @@ module _ {T : Type 0} (opening : Opening T) where
 
   -- A step keeps the rule if the plain lock allows it and the model has moves for it. It tells the number found and these moves.
   keeps : (Q : T → Type 0) (view : Option (Numbered View)) (shown : Option T) (f : ℕ → ℕ) (so : ℕ → View → Type 0) (turn : ℕ → Turn T)
-      → ((own : List (OneMove T)) (outs : List (Ending T)) (n : ℕ) (u : View) → says_with Q turn own outs n u → Leaves (use_of use_of_view (what view)) (use_of_view u) shown own)
-      → ((own : List (OneMove T)) (outs : List (Ending T)) (n : ℕ) (u : View) → says_with Q turn own outs n u → says_with (λ x. Unit {0}) turn own outs n u)
-      → MovesWith opening.value Q (what view) f so turn → Allows Word (ways rw-lock) (what view) f so → Traces (IsRw opening) (rw_ways opening) view shown f (Told opening.value turn view)
+      → ((own : List (OneMove T)) (outs : List (Ending T)) (n : ℕ) (u : View) → says_with Q turn own outs n u → Leaves (use_of use_of_view (what view)) (use_of_view u) shown own × says_with (λ x. Unit {0}) turn own outs n u)
+      → AreMoves (model opening.value) seat_of words_of (what view) (on_first f) first so (says_with Q turn) → Allows Word (ways rw-lock) (what view) f so → Traces (IsRw opening) (rw_ways opening) view shown f (Told opening.value turn view)
   unfolding Told
-  keeps Q view shown f so turn leaves less moves allows id n t vs meets at small =
-      let (w, es, going, told) = tie.tells_less (model opening.value) seat_of words_of view (says_with Q turn) (says_with (λ x. Unit {0}) turn) less (IsRw opening) (rw_ways opening) shown f
+  keeps Q view shown f so turn leaves moves allows id n t vs meets at small =
+      let (w, es, going, told) = tie.tells_less (model opening.value) seat_of words_of view (says_with Q turn) (says_with (λ x. Unit {0}) turn) (λ own outs n u said. (leaves own outs n u said).1) (IsRw opening) (rw_ways opening) shown f
       (tie.traces (model opening.value) seat_of words_of Word opening.name T lends use_of_view (last opening) view shown f so (says_with Q turn) moves
-      (λ own outs n u said t word p. owed opening own t word p (use_of use_of_view (what view)) (use_of_view u) shown (leaves own outs n u said)) allows) id n t vs meets at small in
+      (λ own outs n u said t word p. owed opening own t word p (use_of use_of_view (what view)) (use_of_view u) shown (leaves own outs n u said).0) allows) id n t vs meets at small in
       (w, es, going, (is_word n t vs meets, told))
 
   pub starts : (t : Trace (rws.Done T) (Unit {0})) → t.name ≡ opening.name → t.entries ≡ [] → Meets (IsRw opening) (rw_ways opening) 0 t []
@@ -406,20 +356,34 @@ module _ {T : Type 0} (opening : Opening T) where
 
   module _ (view : Option (Numbered View)) (shown : Option T) where
     -- a step of a party that does not write the value
-    may : use_of use_of_view (what view) ≢ writes → (f : ℕ → ℕ) (so : ℕ → View → Type 0) (turn : ℕ → Turn T) → ((n : ℕ) → (turn n).writes ≡ false)
-        → Moves opening.value (what view) f so turn → Allows Word (ways rw-lock) (what view) f so → May opening view shown f turn
-    may not f so turn none moves allows = (
+    may : use_of use_of_view (what view) ≢ writes → (f : ℕ → ℕ) (so : ℕ → View → Type 0) (turn : ℕ → Turn T) → ((n : ℕ) → (turn n).writes ≡ false) → ((n : ℕ) (u : View) → so n u → u ≡ (turn n).to)
+        → ((w : ℕ) (value : Option T) (u : View) → so w u → PlaysTurn opening.value (what view) f turn w value) → Allows Word (ways rw-lock) (what view) f so → May opening view shown f turn
+    may not f so turn none to plays allows = (
       λ n. subst (λ b. FitsUse b (use_of use_of_view (what view)) (use_of_view (turn n).to)) (sym (none n)) not,
-      keeps (λ x. Unit {0}) view shown f so turn (λ own outs n u said. let t = turn n in
-          writes_none (use_of use_of_view (what view)) (use_of_view u) shown own not
-          (calls_leave t.goes_on t.call t.answers own outs (subst (λ b. behind_write b (λ x. Unit {0}) (AreSteps t.goes_on t.call t.answers) own outs) (none n) said.1))) (λ own outs n u said. said) moves allows,
+      keeps (λ x. Unit {0}) view shown f so turn (λ own outs n u said. let t = turn n in (
+        writes_none (use_of use_of_view (what view)) (use_of_view u) shown own not
+            (calls_leave t.goes_on t.call t.answers own outs (subst (λ b. behind_write b (λ x. Unit {0}) (AreSteps t.goes_on t.call t.answers) own outs) (none n) said.1)),
+        said,
+      ))
+          (λ w value u is.
+          let t = turn w in let p = plays w value u is in let own = moves_of t.goes_on t.call t.answers in let outs = outcomes_of t.goes_on t.answers in
+          let said : course_of (λ x. Unit {0}) t own outs = subst (λ b. behind_write b (λ x. Unit {0}) (AreSteps t.goes_on t.call t.answers) own outs) (sym (none w)) (refl, refl) in
+          rw (to w u is) (own, outs, (refl, said), of_a_call t.goes_on t.call t.answers, all_played t.goes_on t.answers, f w, value, p.0, p.1, refl)) allows,
     )
+
+    -- a load or an exchange: the number found decides the next view
+    finds : use_of use_of_view (what view) ≢ writes → (f : ℕ → ℕ) (turn : ℕ → Turn T) → ((n : ℕ) → (turn n).writes ≡ false)
+        → ((w : ℕ) (value : Option T) → PlaysTurn opening.value (what view) f turn w value) → Allows Word (ways rw-lock) (what view) f (λ n v. v ≡ (turn n).to) → May opening view shown f turn
+    finds not f turn none plays = may not f (λ n v. v ≡ (turn n).to) turn none (λ n u is. is) (λ w value u is. plays w value)
+
+    -- an addition or a subtraction by a reader
+    changes : (u : View) → use_of_view u ≢ writes → what view ≡ Some u → (f : ℕ → ℕ) (so : ℕ → Type 0) (turn : Turn T) → turn.writes ≡ false
+        → ((w : ℕ) (value : Option T) → so w → PlaysTurn opening.value (Some u) f (λ n. turn) w value) → Allows Word (ways rw-lock) (Some u) f (To so (λ n. turn.to)) → May opening view shown f (λ n. turn)
+    changes u not is f so turn none plays allows = may (is_not_writing u not (what view) is) f (To so (λ n. turn.to)) (λ n. turn) (λ n. none) (λ n u is. is.1) (λ w value v at. rw is (plays w value at.0)) (rw is allows)
 
     counts : (c : RwCall) (count : ℕ → ℕ) → ((w : ℕ) (value : Option T) → PlaysTurn opening.value None (λ n. n) (counts_by c count) w value) → IsOut (what view) → May opening view shown (λ n. n) (counts_by c count)
     counts c count plays out =
-        let turn : ℕ → Turn T = counts_by c count in let so = To_next opening.value turn in
-        may (out_uses_none (what view) out) (λ n. n) so turn (λ n. refl) (as_new opening.value (what view) out (λ n. n) so turn (found opening.value None (λ n. n) turn (λ n. refl) plays))
-        (looks_at rw-lock (what view) (λ n. Idle) (out_holds_none (what view) out) (λ n. refl))
+        finds (out_uses_none (what view) out) (λ n. n) (counts_by c count) (λ n. refl) (λ w value. rw (sits_out opening.value (what view) out) (plays w value)) (looks_at rw-lock (what view) (λ n. Idle) (out_holds_none (what view) out) (λ n. refl))
 
     pub counts_readers : IsOut (what view) → May opening view shown (λ n. n) (counts_by call.ReaderCount readers_in)
     counts_readers = counts call.ReaderCount readers_in (λ w value. (refl, refl))
@@ -429,78 +393,54 @@ module _ {T : Type 0} (opening : Opening T) where
 
     pub comes_in : (won : View) (waits : Bool) → Comes won → (old new : ℕ) → MayCome (call_of won waits) old (what view) → grants (call_of won waits) old ≡ Some new → Admits won old new
         → May opening view shown (swaps old new) (comes_by (in_call (what view)) won (call_of won waits) old)
-    comes_in won waits cm old new may_come' grant plain =
-        let c = call_of won waits in let turn : ℕ → Turn T = comes_by (in_call (what view)) won c old in
-        may (none_writes (what view) (may_come c old (what view) may_come')) (swaps old new) (To_next opening.value turn) turn (λ n. refl) (come_moves opening.value won waits cm (what view) old new may_come' grant)
-        (comes won c cm (what view) old new may_come' plain)
+    comes_in won waits cm old new so grant plain =
+        let c = call_of won waits in
+        finds (none_writes (what view) (may_come c old (what view) so)) (swaps old new) (comes_by (in_call (what view)) won c old) (λ n. refl) (come_plays opening.value won waits cm (what view) old new so grant) (comes won c cm (what view) old new so plain)
 
     pub looks_on : (won : View) → Comes won → (old : ℕ) → what view ≡ Some (Coming (call_of won true) old) → grants (call_of won true) old ≡ None → May opening view shown (λ n. n) (looks_by (call_of won true))
     looks_on won cm old is none =
-        let c = call_of won true in let turn : ℕ → Turn T = looks_by c in
-        may (is_not_writing (Coming c old) (λ e. absurd cc) (what view) is) (λ n. n) (To_next opening.value turn) turn (λ n. refl)
-        (rw is (found opening.value (Some (Coming c old)) (λ n. n) turn (λ n. refl) (look_plays opening.value won cm old none))) (rw is (looks_again c old))
+        let c = call_of won true in
+        finds (is_not_writing (Coming c old) (λ e. absurd cc) (what view) is) (λ n. n) (looks_by c) (λ n. refl) (λ w value. rw is (look_plays opening.value won cm old none w value)) (rw is (looks_again c old))
 
     -- an exchange by which the party may become the writer
-    tries : use_of use_of_view (what view) ≢ writes → (goes_on : Bool) (c : RwCall) (old : ℕ) (answer : Option (Answer T)) (won lost : View)
-        → Moves opening.value (what view) (swaps old 1) (λ n v. v ≡ either_at old won lost n) (tries_by goes_on c old answer won lost)
-        → Allows Word (ways rw-lock) (what view) (swaps old 1) (λ n v. v ≡ either_at old won lost n)
-        → May opening view shown (swaps old 1) (tries_by goes_on c old answer won lost)
-    tries unused goes_on c old answer won lost = may unused (swaps old 1) (λ n v. v ≡ either_at old won lost n) (tries_by goes_on c old answer won lost) (λ n. refl)
-
-    tried : (u : Option View) (goes_on : Bool) (c : RwCall) (old : ℕ) (answer : Option (Answer T)) (won lost : View) → Tries opening.value u goes_on c old answer won lost
-        → Moves opening.value u (swaps old 1) (λ n v. v ≡ either_at old won lost n) (tries_by goes_on c old answer won lost)
-    tried u goes_on c old answer won lost = found opening.value u (swaps old 1) (tries_by goes_on c old answer won lost) (λ n. refl)
+    tries : (a : Attempt T) → use_of use_of_view (what view) ≢ writes → Tries opening.value (what view) a → Allows Word (ways rw-lock) (what view) (swaps a.old 1) (λ n v. v ≡ either_at a.old a.won a.lost n)
+        → May opening view shown (swaps a.old 1) (tries_by a)
+    tries a not = finds not (swaps a.old 1) (tries_by a) (λ n. refl)
 
     abbrev AdmitsWriter : Type 0
     AdmitsWriter = (s : Plain) (p : ℕ) → rw_word s ≡ 0 → Decides s (gets p to_write) rw_word (Some 1)
 
-    pub tries_to_write : IsOut (what view) → AdmitsWriter → May opening view shown (swaps 0 1) (tries_by false call.TryWrite 0 (Some Refused) Writing Idle)
+    pub tries_to_write : IsOut (what view) → AdmitsWriter → May opening view shown (swaps 0 1) (tries_by try_write)
     tries_to_write out plain =
-        tries (out_uses_none (what view) out) false call.TryWrite 0 (Some Refused) Writing Idle
-        (as_new opening.value (what view) out (swaps 0 1) (λ n v. v ≡ either_at 0 Writing Idle n) (tries_by false call.TryWrite 0 (Some Refused) Writing Idle)
-        (tried None false call.TryWrite 0 (Some Refused) Writing Idle (try_write_plays opening.value)))
-        (writes_at (what view) (out_holds_none (what view) out) Idle refl 0 1 plain)
+        tries try_write (out_uses_none (what view) out) (try_write_plays opening.value (what view) out) (writes_at (what view) (out_holds_none (what view) out) Idle refl 0 1 plain)
 
-    pub writes_on : MayWrite (what view) → AdmitsWriter → May opening view shown (swaps 0 1) (tries_by (in_call (what view)) call.Write 0 None Writing WaitingToWrite)
-    writes_on may_write' plain =
-        tries (none_writes (what view) (may_write (what view) may_write')) (in_call (what view)) call.Write 0 None Writing WaitingToWrite (at (what view) may_write')
-        (writes_at (what view) (may_write (what view) may_write') WaitingToWrite refl 0 1 plain)
-      where
-        at : (u : Option View) → MayWrite u → Moves opening.value u (swaps 0 1) (λ n v. v ≡ either_at 0 Writing WaitingToWrite n) (tries_by (in_call u) call.Write 0 None Writing WaitingToWrite)
-        at u (inr is) = rw is (tried (Some WaitingToWrite) true call.Write 0 None Writing WaitingToWrite (write_on_plays opening.value))
-        at u (inl out) = rw (not_in_call u out) (as_new opening.value u out (swaps 0 1) (λ n v. v ≡ either_at 0 Writing WaitingToWrite n) (tries_by false call.Write 0 None Writing WaitingToWrite)
-            (tried None false call.Write 0 None Writing WaitingToWrite (write_plays opening.value)))
+    pub writes_on : MayWrite (what view) → AdmitsWriter → May opening view shown (swaps 0 1) (tries_by (write (in_call (what view))))
+    writes_on so plain =
+        let none = may_write (what view) so in
+        tries (write (in_call (what view))) (none_writes (what view) none) (write_plays opening.value (what view) so) (writes_at (what view) none WaitingToWrite refl 0 1 plain)
 
-    pub tries_to_upgrade : what view ≡ Some Upgradable → ((s : Plain) (p : ℕ) → OneOfEach s → is_holder p upgradable s.holders ≡ true → rw_word s ≡ 2 → Decides s (gets p to_upgrade) rw_word (Some 1))
-        → May opening view shown (swaps 2 1) (tries_by false call.TryUpgrade 2 (Some Refused) Writing Upgradable)
-    tries_to_upgrade is plain =
-        tries (is_not_writing Upgradable (λ e. absurd cc) (what view) is) false call.TryUpgrade 2 (Some Refused) Writing Upgradable
-        (rw is (tried (Some Upgradable) false call.TryUpgrade 2 (Some Refused) Writing Upgradable (try_upgrade_plays opening.value))) (rw is (upgrades_at 2 1 plain))
+    pub tries_to_upgrade : what view ≡ Some Upgradable → ((s : Plain) (p : ℕ) → OneOfEach s → is_holder p upgradable s.holders ≡ true → rw_word s ≡ 2 → Decides s (gets p to_upgrade) rw_word (Some 1)) → May opening view shown (swaps 2 1) (tries_by try_upgrade)
+    tries_to_upgrade is plain = tries try_upgrade (is_not_writing Upgradable (λ e. absurd cc) (what view) is) (rw is (try_upgrade_plays opening.value)) (rw is (upgrades_at 2 1 plain))
 
-    pub upgrades : what view ≡ Some Asking → ((s : Plain) (p : ℕ) → OneOfEach s → is_holder p asking s.holders ≡ true → rw_word s ≡ 6 → Decides s (gets p to_upgrade_asked) rw_word (Some 1))
-        → May opening view shown (swaps 6 1) (tries_by true call.Upgrade 6 None WritingAsked Asking)
-    upgrades is plain =
-        tries (is_not_writing Asking (λ e. absurd cc) (what view) is) true call.Upgrade 6 None WritingAsked Asking
-        (rw is (tried (Some Asking) true call.Upgrade 6 None WritingAsked Asking (upgrade_plays opening.value))) (rw is (upgrades_asked_at 6 1 plain))
+    pub upgrades : what view ≡ Some Asking → ((s : Plain) (p : ℕ) → OneOfEach s → is_holder p asking s.holders ≡ true → rw_word s ≡ 6 → Decides s (gets p to_upgrade_asked) rw_word (Some 1)) → May opening view shown (swaps 6 1) (tries_by upgrade)
+    upgrades is plain = tries upgrade (is_not_writing Asking (λ e. absurd cc) (what view) is) (rw is (upgrade_plays opening.value)) (rw is (upgrades_asked_at 6 1 plain))
 
-    -- an addition or a subtraction by a reader
-    changes_from : (u : View) → use_of_view u ≢ writes → what view ≡ Some u → (f : ℕ → ℕ) (so : ℕ → Type 0) (turn : Turn T) → turn.writes ≡ false
-        → ((w : ℕ) (value : Option T) → so w → PlaysTurn opening.value (Some u) f (λ n. turn) w value) → Allows Word (ways rw-lock) (Some u) f (To so (λ n. turn.to)) → May opening view shown f (λ n. turn)
-    changes_from u not is f so turn none plays allows =
-        may (is_not_writing u not (what view) is) f (To so (λ n. turn.to)) (λ n. turn) (λ n. none) (rw is (changes opening.value (Some u) f so turn none plays)) (rw is allows)
+    -- an addition by the upgradable reader
+    turns_on : (by : ℕ) (l : Kind) (turn : Turn T) → turn.writes ≡ false → may_turn upgradable l ≡ true → weight upgradable + by ≡ weight l → ((p : ℕ) → entries_of p (part turn.to) ≡ entries_of p (holds l)) → ((s : Plain) → Knows s (part turn.to))
+        → ((w : ℕ) (value : Option T) → PlaysTurn opening.value (Some Upgradable) (λ n. n + by) (λ n. turn) w value) → by < 2 ^ 63 → what view ≡ Some Upgradable → May opening view shown (λ n. (n + by) % 2 ^ 64) (λ n. turn)
+    turns_on by l turn none down less now knows plays small is =
+        changes Upgradable (λ e. absurd cc) is (λ n. (n + by) % 2 ^ 64) (Weighs 0) turn none (λ w value some. rw (fits_in w by some.1 small) (plays w value)) (turns_by Upgradable turn.to upgradable l by (λ p. refl) now knows down less)
 
     pub asks_on : what view ≡ Some Upgradable → May opening view shown (λ n. (n + 4) % 2 ^ 64) (λ n. asks_by)
-    asks_on is =
-        changes_from Upgradable (λ e. absurd cc) is (λ n. (n + 4) % 2 ^ 64) (Weighs 0) asks_by refl (ask_plays opening.value) (turns_by Upgradable Asking upgradable asking 4 (λ p. refl) (λ p. refl) (λ s. tt) refl refl)
+    asks_on = turns_on 4 asking asks_by refl refl refl (λ p. refl) (λ s. tt) (λ w value. (refl, refl)) (omega arith)
 
     pub upgradable_reads : what view ≡ Some Upgradable → May opening view shown (λ n. (n + 6) % 2 ^ 64) (λ n. ends_by call.Downgrade Done Reading)
-    upgradable_reads is =
-        changes_from Upgradable (λ e. absurd cc) is (λ n. (n + 6) % 2 ^ 64) (Weighs 0) (ends_by call.Downgrade Done Reading) refl (downgrade_plays opening.value) (turns_by Upgradable Reading upgradable reading 6 (λ p. refl) (λ p. refl) (λ s. tt) refl refl)
+    upgradable_reads = turns_on 6 reading (ends_by call.Downgrade Done Reading) refl refl refl (λ p. refl) (λ s. tt) (λ w value. (refl, refl)) (omega arith)
 
     leaves_as : (k : Kind) (won : View) → Comes won → weight_of won ≡ weight k → what view ≡ Some won → use_of_view won ≢ writes → ((p : ℕ) → entries_of p (part won) ≡ entries_of p (holds k))
         → May opening view shown (λ n. (n + (2 ^ 64 - weight k)) % 2 ^ 64) (λ n. ends_by call.Release Done Idle)
     leaves_as k won cm e is not was =
-        changes_from won not is (λ n. (n + (2 ^ 64 - weight k)) % 2 ^ 64) (Weighs (weight k)) (ends_by call.Release Done Idle) refl (rw (sym e) (release_plays opening.value won cm)) (goes won k was)
+        changes won not is (λ n. (n + (2 ^ 64 - weight k)) % 2 ^ 64) (Weighs (weight k)) (ends_by call.Release Done Idle) refl (rw (sym e) (release_plays opening.value won cm)) (goes won k was)
 
     -- a reader leaves, and subtracts its weight
     pub reader_leaves : (won : View) → Comes won → (k : ℕ) → k ≡ weight_of won → what view ≡ Some won → May opening view shown (λ n. (n + (2 ^ 64 - k)) % 2 ^ 64) (λ n. ends_by call.Release Done Idle)
@@ -510,7 +450,7 @@ module _ {T : Type 0} (opening : Opening T) where
 
   pub peeks : (shown : Option T) (old new : ℕ) → grants call.TryRead old ≡ Some new → Admits Reading old new → May opening None shown (swaps old new) (peeks_by old)
   peeks shown old new grant plain =
-      may None shown (λ e. absurd cc) (swaps old new) (To_next opening.value (peeks_by old)) (peeks_by old) (λ n. refl) (found opening.value None (swaps old new) (peeks_by old) (λ n. refl) (peek_plays opening.value old new grant))
+      finds None shown (λ e. absurd cc) (swaps old new) (peeks_by old) (λ n. refl) (peek_plays opening.value old new grant)
       (exchanges_at rw-lock None to_read Reading (λ n. Idle) old new refl (λ n. refl) (λ s p. refl) (λ s. tt) (λ s p order room e. plain s p (one_of_each s order.exclusive) room e))
 
   -- a step by which a writer ends; it writes the value that it leaves
@@ -518,15 +458,17 @@ module _ {T : Type 0} (opening : Opening T) where
     writes_then : use_of_view v ≡ writes
     writes_then = sym (ap (use_of use_of_view) is) ∙ held
 
-    ends : (f : ℕ → ℕ) (so : ℕ → Type 0) (c : RwCall) (to : View) → use_of_view to ≢ writes
-        → ((w : ℕ) (value : Option T) → so w → Plays opening.value w value (seat.Holding hold.Write) (Write x ∷ moves_of false c (Some Done ∷ [])) (f w) (Some x) to (Written ∷ outcomes_of false (Some Done ∷ [])))
-        → Allows Word (ways rw-lock) (Some v) f (To so (λ n. to)) → May opening view shown f (λ n. leaves_by c to)
+    ends : (f : ℕ → ℕ) (so : ℕ → Type 0) (c : RwCall) (to : View) → use_of_view to ≢ writes → Leaves_by opening.value x f so c to → Allows Word (ways rw-lock) (Some v) f (To so (λ n. to)) → May opening view shown f (λ n. leaves_by c to)
     ends f so c to stops plays allows = (
       λ n. (held, stops),
       keeps (λ y. y ≡ x) view shown f (To so (λ n. to)) (λ n. leaves_by c to)
-          (λ own outs n u (at, (y, same, by)). rw here (writes_last (use_of use_of_view (what view)) (use_of_view u) x own held (λ z. writes_leave y false c (Some Done ∷ []) own outs by z ∙ same)))
-          (λ own outs n u (at, (y, same, by)). (at, (y, tt, by))) (rw is (writer_moves opening.value x v writes_then f so c to plays)) (rw is allows),
+          (λ own outs n u (at, (y, same, by)). (rw here (writes_last (use_of use_of_view (what view)) (use_of_view u) x own held (λ z. writes_leave y false c (Some Done ∷ []) own outs by z ∙ same)), (at, (y, tt, by))))
+          (rw is moves) (rw is allows),
     )
+      where
+        moves : AreMoves (model opening.value) seat_of words_of (Some v) (on_first f) first (To so (λ n. to)) (says_with (λ y. y ≡ x) (λ n. leaves_by c to))
+        moves w value u at = let p = plays w value at.0 in
+            rw (at.1, writes_sits v writes_then) (Write x ∷ Begin c ∷ Step ∷ [], Written ∷ Begun ∷ Answered Done None ∷ [], (refl, (x, refl, (Begin c ∷ Step ∷ [], Begun ∷ Answered Done None ∷ [], refl, refl, (refl, refl)))), refl, refl, f w, Some x, p.0, p.1, refl)
 
     reads_as : (l : Kind) (won : View) → Comes won → use_of_view won ≢ writes → may_turn writing l ≡ true → weight writing + (weight_of won - 1) ≡ weight l → ((p : ℕ) → entries_of p (part won) ≡ entries_of p (holds l)) → ((s : Plain) → Knows s (part won))
         → May opening view shown (λ n. (n + (weight_of won - 1)) % 2 ^ 64) (λ n. leaves_by (downgrade_to won) won)
@@ -539,7 +481,7 @@ module _ {T : Type 0} (opening : Opening T) where
     writer_reads _ cm k e = absurd cm
 
     pub writer_leaves : May opening view shown (λ n. (n + (2 ^ 64 - 1)) % 2 ^ 64) (λ n. leaves_by call.Release Idle)
-    writer_leaves = ends (λ n. (n + (2 ^ 64 - 1)) % 2 ^ 64) (Weighs 1) call.Release Idle (λ e. absurd cc) (writer_leaves_plays opening.value x) (goes v writing (writes_as v writes_then))
+    writer_leaves = ends (λ n. (n + (2 ^ 64 - 1)) % 2 ^ 64) (Weighs 1) call.Release Idle (λ e. absurd cc) (λ w value some. rw (less_by w 1 some) (refl, refl)) (goes v writing (writes_as v writes_then))
 
   -- Which parties may leave the cell
 

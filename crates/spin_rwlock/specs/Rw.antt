@@ -5,7 +5,7 @@ use Rattle.spin_step.specs.Plain.{Plain, reading, upgradable, asking, writing, w
 use Rattle.spin_step.specs.Orders.{IsInOrder}
 use Rattle.spin_step_more.specs.Readers.{reader_limit, readers_in, read, read_upgradable}
 use Rattle.spin_step_more.specs.declared.rw_calls.RwCall.{RwCall}
-use Rattle.spin_step_more.specs.declared.rw_calls.RwCall.TheVariants.{TryRead, Read, TryUpgradeableRead, UpgradeableRead, Write, ReaderCount, Upgrade, Downgrade, DowngradeToUpgradeable}
+use Rattle.spin_step_more.specs.declared.rw_calls.RwCall.TheVariants.{TryRead, Read, TryUpgradeableRead, UpgradeableRead, TryWrite, Write, ReaderCount, TryUpgrade, Upgrade, Downgrade, DowngradeToUpgradeable}
 use Rattle.spin_step_more.specs.declared.rw_calls.RwPoint.{RwPoint}
 use Rattle.spin_step_more.specs.declared.rw_calls.RwPoint.TheVariants as point
 use Rattle.spin_step_more.specs.RwCalls.{rw_machine}
@@ -163,6 +163,16 @@ pub record Turn (T : Type 0) : Type 0 where
   pub answers : List (Option (Answer T))
   pub to : View
 
+-- An exchange by which a party may become the writer. If it finds the word `old`, the call is granted, and the next view is `won`. If not,
+-- the answer is `answer`, and the next view is `lost`.
+pub record Attempt (T : Type 0) : Type 0 where
+  pub goes_on : Bool
+  pub call : RwCall
+  pub old : ℕ
+  pub answer : Option (Answer T)
+  pub won : View
+  pub lost : View
+
 module _ {T : Type 0} where
   abbrev pub outcome_of : Option (Answer T) → Ending T
   outcome_of None = GoingOn
@@ -212,10 +222,27 @@ module _ {T : Type 0} where
   abbrev pub counts_by : RwCall → (ℕ → ℕ) → ℕ → Turn T
   counts_by call count n = ends_by call (Count (count n)) Idle
 
-  -- An exchange that expects the word `old`. If it finds that word, the call is granted, and the next view is `won`. If not, the answer is
-  -- `answer`, and the next view is `lost`.
-  abbrev pub tries_by : Bool → RwCall → ℕ → Option (Answer T) → View → View → ℕ → Turn T
-  tries_by goes_on call old answer won lost n = steps_by goes_on call (either_at old (Some Granted) answer n ∷ []) (either_at old won lost n)
+  -- an attempt that found the word expected; below, one that found another word
+  abbrev pub wins : Attempt T → Turn T
+  wins a = steps_by a.goes_on a.call (Some Granted ∷ []) a.won
+
+  abbrev pub loses : Attempt T → Turn T
+  loses a = steps_by a.goes_on a.call (a.answer ∷ []) a.lost
+
+  abbrev pub tries_by : Attempt T → ℕ → Turn T
+  tries_by a n = steps_by a.goes_on a.call (either_at a.old (Some Granted) a.answer n ∷ []) (either_at a.old a.won a.lost n)
+
+  abbrev pub try_write : Attempt T
+  try_write = record { goes_on = false; call = TryWrite; old = 0; answer = Some Refused; won = Writing; lost = Idle }
+
+  abbrev pub write : Bool → Attempt T
+  write goes_on = record { goes_on = goes_on; call = Write; old = 0; answer = None; won = Writing; lost = WaitingToWrite }
+
+  abbrev pub try_upgrade : Attempt T
+  try_upgrade = record { goes_on = false; call = TryUpgrade; old = 2; answer = Some Refused; won = Writing; lost = Upgradable }
+
+  abbrev pub upgrade : Attempt T
+  upgrade = record { goes_on = true; call = Upgrade; old = 6; answer = None; won = WritingAsked; lost = Asking }
 
   -- the addition by which `upgrade` asks
   abbrev pub asks_by : Turn T

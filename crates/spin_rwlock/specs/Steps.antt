@@ -96,9 +96,9 @@ module _ {T : Type 0} where
     pub does : Does course was now
 
   -- The writer has written the value that it saw, which is the one written last, and has then made this call.
-  abbrev pub Ends : RwCall → Sight T → Sight T → Type 0
-  Ends call was now =
-      Does (WritesSome (λ y. was.0.0.told ≡ true → IfSome was.1 (λ x. y ≡ x)) (IsCall call Done)) was now × IfSome was.1 (λ x. IsLast was.0.0 now.0.2.entries x)
+  pub record Ends (call : RwCall) (was now : Sight T) : Type 0 where
+    pub does : Does (WritesSome (λ y. was.0.0.told ≡ true → IfSome was.1 (λ x. y ≡ x)) (IsCall call Done)) was now
+    pub left : IfSome was.1 (λ x. IsLast was.0.0 now.0.2.entries x)
 
   -- if the moves up to `was` are of the course `P`, those up to `now` are of the course `Q`
   abbrev pub Leads : OneCourse T → OneCourse T → Sight T → Sight T → Type 0

@@ -4,13 +4,13 @@ ghost use prog.Atomic.{either};
 ghost use Rattle.spin_core.specs.Cell.{writes, use_of};
 ghost use Rattle.spin_model.specs.declared.answer.Answer.TheVariants.{Granted};
 ghost use Rattle.spin_step_more.specs.declared.rw_calls.RwCall.TheVariants.{Write};
-ghost use Rattle.spin_rwlock.specs.Rw.{IsRwWord, IsOut, MayWrite, AreSteps, in_call, use_of_view};
+ghost use Rattle.spin_rwlock.specs.Rw.{IsRwWord, IsOut, MayWrite, AreSteps, tries_by, wins, loses, in_call, use_of_view};
 ghost use Rattle.spin_rwlock.specs.Steps.{IsLent, Knows, MayKnow, MayDo, Turned, Has, IsGranted};
 ghost use Rattle.spin_rwlock.specs.Sights.{sight, view_of};
 ghost use Rattle.spin_rwlock.specs.declared.rwlock.rule.View.TheVariants.{WaitingToWrite};
 
 use super::reader::SharedGuard;
-use super::rule::{Entry, Kind, Makes, RwPermit, Turns, Writes};
+use super::rule::{Attempts, Entry, Kind, Makes, RwPermit, Tries, Turns, Writes};
 use super::writer::RwLockWriteGuard;
 use spin_core::relax::{MAX_HINTS, RelaxStrategy};
 use spin_core::trace::Watch;
@@ -105,6 +105,26 @@ impl<'a, T> Account<'a, T> {
         permit.leave();
     }
 
+    // Makes an exchange of this kind. The party becomes the writer if it finds the word `old`.
+    pub(super) fn attempt<K: Attempts, R>(
+        self,
+        old: u64,
+        new: u64,
+    ) -> Result<Held<'a, T, R>, Account<'a, T>>
+        requires may { MayDo (λ n. either (n == old) new n) (tries_by (K.attempt T (view_of self))) (sight self) }
+        requires expects { old ≡ (K.attempt T (view_of self)).old }
+        requires writes { use_of_view (K.attempt T (view_of self)).won ≡ writes }
+        ensures won { IfOk result (λ held. Turned (wins (K.attempt T (view_of self.entry))) (sight self.entry) (writes_at held)) }
+        ensures lost { IfErr result (λ next. Turned (loses (K.attempt T (view_of self.entry))) (sight self.entry) (sight next)) }
+    {
+        let (found, account) = self.exchange::<Tries<K>>(old, new);
+        if found == old {
+            Ok(account.into_writer())
+        } else {
+            Err(account)
+        }
+    }
+
     /// Makes the exchange of `write`, in a call that begins or waits. If the lock is held, the call waits.
     pub(super) fn write<R>(self) -> Result<Held<'a, T, R>, Waiting<'a, T>>
         requires { MayWrite (view_of self) × Knows (sight self) }
@@ -112,11 +132,9 @@ impl<'a, T> Account<'a, T> {
         ensures waits { IfErr result (λ next. Has (AreSteps (in_call (view_of self.entry)) Write (None ∷ [])) (sight self.entry) (sight next.account)) }
     {
         let next = rw::write(0).unwrap();
-        let (found, account) = self.exchange::<Writes>(0, next as u64);
-        if found == 0 {
-            Ok(account.into_writer())
-        } else {
-            Err(Waiting { account })
+        match self.attempt::<Writes, R>(0, next as u64) {
+            Ok(held) => Ok(held),
+            Err(account) => Err(Waiting { account }),
         }
     }
 }

@@ -331,11 +331,9 @@ impl<'a, T, R> Pass<'a, T, R> {
     {
         let Self { account, strategy } = self;
         let next = rw::write(0).unwrap();
-        let (found, account) = account.exchange::<TriesToWrite>(0, next as u64);
-        if found == 0 {
-            Ok(account.into_writer())
-        } else {
-            Err(Pass { account, strategy })
+        match account.attempt::<TriesToWrite, R>(0, next as u64) {
+            Ok(held) => Ok(held),
+            Err(account) => Err(Pass { account, strategy }),
         }
     }
 

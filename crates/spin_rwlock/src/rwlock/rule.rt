@@ -1,16 +1,16 @@
 //! What a party is to an `RwLock`, the rule of the lock, and each kind of step. Begin at [`RwRule`].
-ghost use Rattle.std.specs.Prelude.{◌≡◌, ℕ, Bool, true, false, refl, Option, Some, None};
+ghost use Rattle.std.specs.Prelude.{◌≡◌, ℕ, Bool, refl, Option};
 ghost use Rattle.spin_step.specs.Plain.{Plain, gets, rw_word};
 ghost use Rattle.spin_step.specs.Steps.{Decides};
 ghost use Rattle.spin_step_more.specs.Readers.{OneOfEach, reader_limit, readers_in, writers_in};
-ghost use Rattle.spin_step_more.specs.declared.rw_calls.RwCall.TheVariants.{TryWrite, Write, TryUpgrade, Upgrade, Downgrade, Release, ReaderCount, WriterCount};
+ghost use Rattle.spin_step_more.specs.declared.rw_calls.RwCall.TheVariants.{Downgrade, Release, ReaderCount, WriterCount};
 ghost use Rattle.spin_model.specs.declared.answer.Answer.TheVariants as answer;
 ghost use Rattle.spin_core.specs.Cell.{reads};
 ghost use Rattle.spin_core.specs.Own.{what};
 ghost use Rattle.spin_core.specs.Values.{untold};
-ghost use Rattle.spin_rwlock.specs.Rw.{IsRw, rw_ways, Told, Turn, ends_by, leaves_by, counts_by, tries_by, asks_by, use_of_view, Comes, in_call, grants, call_of, asks, weight_of, downgrade_to};
+ghost use Rattle.spin_rwlock.specs.Rw.{IsRw, rw_ways, Told, Turn, Attempt, ends_by, leaves_by, counts_by, tries_by, try_write, write, try_upgrade, upgrade, asks_by, use_of_view, Comes, in_call, grants, call_of, asks, weight_of, downgrade_to};
 ghost use Rattle.spin_rwlock.specs.declared.rwlock.rule.View.{View};
-ghost use Rattle.spin_rwlock.specs.declared.rwlock.rule.View.TheVariants.{Idle, Reading, Upgradable, Asking, Writing, WritingAsked, WaitingToWrite};
+ghost use Rattle.spin_rwlock.specs.declared.rwlock.rule.View.TheVariants.{Idle, Reading, Upgradable};
 
 use spin_core::cell::{Permit, Play, Rule, WritePermit};
 use spin_core::tie::{self, Opening};
@@ -95,6 +95,21 @@ impl<K: Turns, T> Play<Opening<T>, Party, Entry<T>> for Makes<K> {
     ghost told = { λ key old new before. Told key.value (K.turn T (what before) old) before };
 }
 
+/// A kind of exchange by which a party may become the writer.
+pub(super) trait Attempts {
+    // The exchange, given the party's view.
+    ghost attempt: { (T : Type 0) → Option View → Attempt T };
+}
+
+/// The exchange of the kind `K`.
+pub(super) struct Tries<K> {
+    kind: PhantomData<K>,
+}
+
+impl<K: Attempts> Turns for Tries<K> {
+    ghost turn = { λ T view old. tries_by (K.attempt T view) };
+}
+
 /// The load of `reader_count`.
 pub(super) struct CountsReaders;
 
@@ -112,22 +127,22 @@ impl Turns for CountsWriters {
 /// The exchange of `try_write`.
 pub(super) struct TriesToWrite;
 
-impl Turns for TriesToWrite {
-    ghost turn = { λ T view old. tries_by false TryWrite old (Some answer.Refused) Writing Idle };
+impl Attempts for TriesToWrite {
+    ghost attempt = { λ T view. try_write };
 }
 
 /// The exchange of `write`.
 pub(super) struct Writes;
 
-impl Turns for Writes {
-    ghost turn = { λ T view old. tries_by (in_call view) Write old None Writing WaitingToWrite };
+impl Attempts for Writes {
+    ghost attempt = { λ T view. write (in_call view) };
 }
 
 /// The exchange of `try_upgrade`.
 pub(super) struct TriesToUpgrade;
 
-impl Turns for TriesToUpgrade {
-    ghost turn = { λ T view old. tries_by false TryUpgrade old (Some answer.Refused) Writing Upgradable };
+impl Attempts for TriesToUpgrade {
+    ghost attempt = { λ T view. try_upgrade };
 }
 
 /// The addition by which `upgrade` asks.
@@ -140,8 +155,8 @@ impl Turns for Asks {
 /// The exchange of `upgrade`.
 pub(super) struct Upgrades;
 
-impl Turns for Upgrades {
-    ghost turn = { λ T view old. tries_by true Upgrade old None WritingAsked Asking };
+impl Attempts for Upgrades {
+    ghost attempt = { λ T view. upgrade };
 }
 
 /// The addition by which the writer becomes a reader of kind `K`.

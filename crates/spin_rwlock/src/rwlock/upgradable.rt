@@ -244,11 +244,9 @@ fn raise<'a, T, R>(account: Account<'a, T>) -> Result<Held<'a, T, R>, Lent<'a, T
     ensures refused { IfErr result (λ lent. Becomes Upgradable (IsCall TryUpgrade Refused) (sight account.entry) (reads_at lent)) }
 {
     let next = rw::upgrade(rw::UPGRADABLE).unwrap();
-    let (found, account) = account.exchange::<TriesToUpgrade>(UPGRADABLE, next as u64);
-    if found == UPGRADABLE {
-        Ok(account.into_writer())
-    } else {
-        Err(account.into_reader())
+    match account.attempt::<TriesToUpgrade, R>(UPGRADABLE, next as u64) {
+        Ok(held) => Ok(held),
+        Err(account) => Err(account.into_reader()),
     }
 }
 
@@ -258,14 +256,8 @@ fn raise_asked<'a, T, R>(asking: Account<'a, T>) -> Result<Held<'a, T, R>, Accou
     ensures granted { IfOk result (λ held. Becomes WritingAsked (AreSteps true Upgrade (Some Granted ∷ [])) (sight asking.entry) (writes_at held)) }
     ensures waits { IfErr result (λ still. Becomes Asking (AreSteps true Upgrade (None ∷ [])) (sight asking.entry) (sight still)) }
 {
-    let expected = UPGRADABLE + ASKING;
     let next = rw::upgrade_asked(rw::UPGRADABLE + rw::ASKING).unwrap();
-    let (found, account) = asking.exchange::<Upgrades>(expected, next as u64);
-    if found == expected {
-        Ok(account.into_writer())
-    } else {
-        Err(account)
-    }
+    asking.attempt::<Upgrades, R>(UPGRADABLE + ASKING, next as u64)
 }
 
 // It is not inlined, since that would lengthen the path of every caller that does not wait.

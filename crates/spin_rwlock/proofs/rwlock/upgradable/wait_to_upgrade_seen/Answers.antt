@@ -1,10 +1,7 @@
-use Rattle.std.proofs.Common.{Some, None, [], ◌∷◌, true, ap, sym, ◌∙◌}
+use Rattle.std.proofs.Common.{◌∙◌}
 use mathlib.Core.Logic.{inr}
 use Rattle.spin_model.specs.declared.answer.Answer.TheVariants.{Granted}
 use Rattle.spin_step_more.specs.declared.rw_calls.RwCall.TheVariants.{Upgrade}
-use Rattle.spin_rwlock.specs.Rw.{AreSteps}
-use Rattle.spin_rwlock.specs.Sights.{sight}
-use Rattle.spin_rwlock.specs.Waits.{writes_at}
 use Rattle.spin_rwlock.proofs.Passes.{has, stays_in, is_answered, is_same}
 use Rattle.spin_rwlock.proofs.rwlock.upgradable.wait_to_upgrade_seen.Goals as goal
 
@@ -13,14 +10,10 @@ raise_asked-requires g c = let i = c.loop.invariant in (i.2, inr i.4.0)
 
 pub returns-in-Ok : goal.returns-in-Ok
 returns-in-Ok g c =
-    let i = c.loop.invariant in let q = sight c.loop.asking in let r = writes_at c.in-Ok.held in let e = c.in-Ok.ensures.granted in
-    record {
-      asked = (is_same e.lent.0, e.same ∙ i.3);
-      granted = λ start begun. is_answered Upgrade start q r (i.5 start begun) Granted (has (AreSteps true Upgrade (Some Granted ∷ [])) q r i.4 e.does);
-    }
+    let i = c.loop.invariant in let e = c.in-Ok.ensures.granted in
+    record { asked = (is_same e.lent.0, e.same ∙ i.3); granted = λ start begun. is_answered Upgrade (i.5 start begun) Granted (has i.4 e.does) }
 
 pub loop-preserved : goal.loop-preserved
 loop-preserved g c =
-    let i = c.loop.invariant in let q = sight c.loop.asking in let r = sight c.in-Err.still in let e = c.in-Err.ensures.waits in
-    let on = has (AreSteps true Upgrade (None ∷ [])) q r i.4 e.does in
-    (tt, tt, e.lent, e.same ∙ i.3, on.knows, λ start begun. stays_in Upgrade start q r (i.5 start begun) on)
+    let i = c.loop.invariant in let e = c.in-Err.ensures.waits in let on = has i.4 e.does in
+    (tt, tt, e.lent, e.same ∙ i.3, on.knows, λ start begun. stays_in Upgrade (i.5 start begun) on)

@@ -10,15 +10,15 @@ use Rattle.spin_rwlock.proofs.rwlock.account.Waiting.wait.Goals as goal
 
 pub returns-in-Ok : goal.returns-in-Ok
 returns-in-Ok g c start begun =
-    let now = c.loop.waiting in let q = sight now.account in let r = writes_at c.in-Ok.held in
-    is_answered Write start q r (c.loop.invariant.2 start begun) Granted
-    (subst (λ b. Has (AreSteps b Write (Some Granted ∷ [])) q r) (ap in_call now.waits) c.in-Ok.ensures.writes)
+    let now = c.loop.waiting in
+    is_answered Write (c.loop.invariant.2 start begun) Granted
+    (subst (λ b. Has (AreSteps b Write (Some Granted ∷ [])) (sight now.account) (writes_at c.in-Ok.held)) (ap in_call now.waits) c.in-Ok.ensures.writes)
 
 pub loop-preserved : goal.loop-preserved
 loop-preserved g c =
-    let now = c.loop.waiting in let q = sight now.account in let r = sight c.in-Err.next.account in (
+    let now = c.loop.waiting in (
       tt,
       tt,
-      λ start begun. stays_in Write start q r (c.loop.invariant.2 start begun)
-          (subst (λ b. Has (AreSteps b Write (None ∷ [])) q r) (ap in_call now.waits) c.in-Err.ensures.waits),
+      λ start begun. stays_in Write (c.loop.invariant.2 start begun)
+          (subst (λ b. Has (AreSteps b Write (None ∷ [])) (sight now.account) (sight c.in-Err.next.account)) (ap in_call now.waits) c.in-Err.ensures.waits),
     )

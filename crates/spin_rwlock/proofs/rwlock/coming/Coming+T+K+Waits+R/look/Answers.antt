@@ -1,7 +1,4 @@
-use Rattle.std.proofs.Common.{true, None, [], ◌∷◌}
 use mathlib.Core.Logic.{inr}
-use Rattle.spin_rwlock.specs.Rw.{call_of, AreSteps}
-use Rattle.spin_rwlock.specs.Sights.{sight}
 use Rattle.spin_rwlock.proofs.Steps.{looks_on}
 use Rattle.spin_rwlock.proofs.Passes.{has, then_looked}
 use Rattle.spin_rwlock.proofs.rwlock.coming.Coming+T+K+Waits+R.look.Goals as goal
@@ -15,5 +12,4 @@ invariant_of-result g c = let t = c.load-found.ensures.turned in record { comes 
 
 pub returns : goal.returns
 returns g c start sought =
-    let me = c.args.self in let f = c.load-found in let won = g.K.Kind.view in let q = sight me.account in let r = sight f.result.1 in
-    then_looked won g.met.K.Kind.comes start q r me.word f.result.0 sought (has (AreSteps true (call_of won true) (None ∷ [])) q r me.knows f.ensures.turned.does)
+    let me = c.args.self in let f = c.load-found in then_looked g.K.Kind.view g.met.K.Kind.comes me.word f.result.0 sought (has me.knows f.ensures.turned.does)

@@ -18,7 +18,7 @@ pub returns-in-Err : goal.returns-in-Err
 returns-in-Err g c =
     let call = call_of g.K.Kind.view g.M.Mode.waits in let me = c.args.account in let p = sight me in let now = c.in-Err.coming in let q = sight now.account in
     let step = subst (λ b. Has (AreSteps b call (missed call now.word ∷ [])) p q) (not_in_call (view_of me) c.requires.0) c.in-Err.ensures.missed in
-    let begun = begins_missed call p q now.word step in let tried = c.try_at in
+    let begun = begins_missed call now.word step in let tried = c.try_at in
     record {
       lent = IfOk-weaker tried.result _ _ (λ lent is. is p begun) tried.ensures.lent;
       missed = IfErr-weaker tried.result _ _ (λ next is. is p begun) tried.ensures.missed;
@@ -28,4 +28,4 @@ pub returns-in_default-come-clause-lent : goal.returns-in_default-come-clause-le
 returns-in_default-come-clause-lent g c =
     let call = call_of g.K.Kind.view g.M.Mode.waits in let me = c.args.account in let p = sight me in
     IfOk-weaker c.come.result _ _
-    (λ lent is. begins_granted call p (reads_at lent) (subst (λ b. Has (AreSteps b call (admitted b)) p (reads_at lent)) (not_in_call (view_of me) c.requires.0) is)) c.come.ensures.lent
+    (λ lent is. begins_granted call (subst (λ b. Has (AreSteps b call (admitted b)) p (reads_at lent)) (not_in_call (view_of me) c.requires.0) is)) c.come.ensures.lent

@@ -1,8 +1,6 @@
-use Rattle.std.proofs.Common.{[], ◌∷◌, ap}
 use mathlib.Core.Logic.{inr}
-use Rattle.spin_core.specs.Cell.{reads, off}
-use Rattle.spin_rwlock.specs.Rw.{call_of, in_call, admitted, missed, use_of_view, AreSteps}
-use Rattle.spin_rwlock.specs.Sights.{sight, view_of}
+use Rattle.spin_rwlock.specs.Rw.{call_of, in_call}
+use Rattle.spin_rwlock.specs.Sights.{view_of}
 use Rattle.spin_rwlock.proofs.Steps.{comes_in}
 use Rattle.spin_rwlock.proofs.Passes.{came_in, has_missed, has, reads_uses}
 use Rattle.spin_rwlock.proofs.rwlock.coming.Coming.come.Goals as goal
@@ -14,24 +12,24 @@ exchange-found-requires g c =
 
 pub into_reader-requires : goal.into_reader-requires
 into_reader-requires g c =
-    let me = c.args.account in let f = c.exchange-found in let won = g.K.Kind.view in
-    let t = came_in (sight me) (sight f.result.1) f.result.0 c.args.word (in_call (view_of me)) (call_of won g.M.Mode.waits) won f.ensures c.if-found-word.true in
+    let f = c.exchange-found in let won = g.K.Kind.view in
+    let t = came_in f.result.0 c.args.word (in_call (view_of c.args.account)) (call_of won g.M.Mode.waits) won f.ensures c.if-found-word.true in
     (t.view, (t.sees (reads_uses won g.met.K.Kind.lends)).0)
 
 pub invariant_of-result : goal.invariant_of-result
 invariant_of-result g c =
-    let me = c.args.account in let f = c.exchange-found in let won = g.K.Kind.view in
-    let t = has_missed (sight me) (sight f.result.1) f.result.0 c.args.word (in_call (view_of me)) (call_of won g.M.Mode.waits) won f.ensures c.if-found-word.false in
+    let f = c.exchange-found in let won = g.K.Kind.view in
+    let t = has_missed f.result.0 c.args.word (in_call (view_of c.args.account)) (call_of won g.M.Mode.waits) won f.ensures c.if-found-word.false in
     record { comes = t.view; knows = (t.does.made c.requires.knows).0 }
 
 pub returns-then-found-word : goal.returns-then-found-word
 returns-then-found-word g c =
-    let me = c.args.account in let f = c.exchange-found in let won = g.K.Kind.view in let was = sight me in let now = sight f.result.1 in let on = in_call (view_of me) in let call = call_of won g.M.Mode.waits in
-    let t = came_in was now f.result.0 c.args.word on call won f.ensures c.if-found-word.true in
-    record { lent = rw c.into_reader.ensures (has (AreSteps on call (admitted on)) was now c.requires.knows t.does); missed = tt }
+    let f = c.exchange-found in let won = g.K.Kind.view in
+    let t = came_in f.result.0 c.args.word (in_call (view_of c.args.account)) (call_of won g.M.Mode.waits) won f.ensures c.if-found-word.true in
+    record { lent = rw c.into_reader.ensures (has c.requires.knows t.does); missed = tt }
 
 pub returns-else-found-word : goal.returns-else-found-word
 returns-else-found-word g c =
-    let me = c.args.account in let f = c.exchange-found in let won = g.K.Kind.view in let was = sight me in let now = sight f.result.1 in let on = in_call (view_of me) in let call = call_of won g.M.Mode.waits in
-    let t = has_missed was now f.result.0 c.args.word on call won f.ensures c.if-found-word.false in
-    record { lent = tt; missed = has (AreSteps on call (missed call f.result.0 ∷ [])) was now c.requires.knows t.does }
+    let f = c.exchange-found in let won = g.K.Kind.view in
+    let t = has_missed f.result.0 c.args.word (in_call (view_of c.args.account)) (call_of won g.M.Mode.waits) won f.ensures c.if-found-word.false in
+    record { lent = tt; missed = has c.requires.knows t.does }

@@ -14,7 +14,7 @@ returns-in-Some g c =
     let goes = lets_in won waits g.met.K.Kind.comes me.word c.in-Some.next (sym (c.next.ensures.exact waits) ∙ c.in-Some.is) in
     let on = ap in_call me.comes ∙ goes in
     record {
-      lent = IfOk-weaker r.result _ _ (λ lent made p sought. then_granted call p q me.word sought (reads_at lent) goes (subst (λ b. Has (AreSteps b call (admitted b)) q (reads_at lent)) on made)) r.ensures.lent;
-      missed = IfErr-weaker r.result _ _ (λ now made p sought. then_missed call p q me.word sought (sight now.account) goes now.word
+      lent = IfOk-weaker r.result _ _ (λ lent made p sought. then_granted call me.word sought goes (subst (λ b. Has (AreSteps b call (admitted b)) q (reads_at lent)) on made)) r.ensures.lent;
+      missed = IfErr-weaker r.result _ _ (λ now made p sought. then_missed call me.word sought goes now.word
           (subst (λ b. Has (AreSteps b call (missed call now.word ∷ [])) q (sight now.account)) on made)) r.ensures.missed;
     }

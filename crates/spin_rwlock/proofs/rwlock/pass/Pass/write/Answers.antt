@@ -1,5 +1,4 @@
-use Rattle.std.proofs.Common.{false, Some, None, [], ◌∷◌, subst}
-use Rattle.spin_core.specs.Passes.{Begins, Waits, IsCall}
+use Rattle.std.proofs.Common.{Some, None, [], ◌∷◌, subst}
 use Rattle.spin_model.specs.declared.answer.Answer.TheVariants.{Granted}
 use Rattle.spin_step_more.specs.declared.rw_calls.RwCall.TheVariants.{Write}
 use Rattle.spin_rwlock.specs.Rw.{AreSteps}
@@ -12,14 +11,12 @@ use Rattle.spin_rwlock.proofs.rwlock.pass.Pass.write.Goals as goal
 
 pub returns-in-Ok : goal.returns-in-Ok
 returns-in-Ok g c =
-    let me = c.args.self in let p = sight me.account in let q = writes_at c.in-Ok.held in
-    let is = weaker (AreSteps false Write (Some Granted ∷ [])) (IsCall Write Granted) (in_one Write Granted) p q
-    (subst (λ b. Has (AreSteps b Write (Some Granted ∷ [])) p q) (not_in_call (view_of me.account) me.knows.0) c.in-Ok.ensures.writes) in
+    let me = c.args.self in
+    let is = weaker (in_one Write Granted) (subst (λ b. Has (AreSteps b Write (Some Granted ∷ [])) (sight me.account) (writes_at c.in-Ok.held)) (not_in_call (view_of me.account) me.knows.0) c.in-Ok.ensures.writes) in
     record { writes = (is.knows, is.made.1); found = is.last; lock = is.made.2; made = is.made.0 }
 
 pub returns-in-Err : goal.returns-in-Err
 returns-in-Err g c =
-    let me = c.args.self in let p = sight me.account in let q = sight c.in-Err.waiting.account in
-    let is = c.wait.ensures p (weaker (AreSteps false Write (None ∷ [])) (Begins Write Waits) (comes_in Write) p q
-    (subst (λ b. Has (AreSteps b Write (None ∷ [])) p q) (not_in_call (view_of me.account) me.knows.0) c.in-Err.ensures.waits)) in
+    let me = c.args.self in let p = sight me.account in
+    let is = c.wait.ensures p (comes_in Write (subst (λ b. Has (AreSteps b Write (None ∷ [])) p (sight c.in-Err.waiting.account)) (not_in_call (view_of me.account) me.knows.0) c.in-Err.ensures.waits)) in
     record { writes = (is.knows, is.made.1); found = is.last; lock = is.made.2; made = is.made.0 }

@@ -1,14 +1,15 @@
-use Rattle.std.proofs.Common.{Some, [], ◌∷◌, false, ap, sym, subst}
+use Rattle.std.proofs.Common.{ap, sym, subst}
 use mathlib.Core.Logic.{inr}
 use Rattle.spin_core.specs.Passes.{IsCall}
 use Rattle.spin_model.specs.declared.answer.Answer.TheVariants.{Count}
 use Rattle.spin_step_more.specs.Readers.{writers_in}
 use Rattle.spin_step_more.specs.declared.rw_calls.RwCall.TheVariants.{WriterCount}
-use Rattle.spin_rwlock.specs.Rw.{AreSteps, is_out}
+use Rattle.spin_rwlock.specs.Rw.{is_out}
 use Rattle.spin_rwlock.specs.Sights.{sight}
 use Rattle.spin_rwlock.specs.Steps.{Has}
+use Rattle.spin_rwlock.specs.declared.rwlock.rule.View.TheVariants.{Idle}
 use Rattle.spin_rwlock.proofs.Steps.{counts_writers}
-use Rattle.spin_rwlock.proofs.Passes.{has, weaker, in_one}
+use Rattle.spin_rwlock.proofs.Passes.{called}
 use Rattle.spin_rwlock.proofs.rwlock.pass.Pass.writer_count.Goals as goal
 
 pub load-found-requires : goal.load-found-requires
@@ -19,6 +20,5 @@ invariant_of-result g c = let t = c.load-found.ensures.turned in record { knows 
 
 pub returns-clause-made : goal.returns-clause-made
 returns-clause-made g c =
-    let me = c.args.self in let f = c.load-found in let was = sight me.account in let now = sight f.result.1 in let a = Count (writers_in f.result.0) in
-    let made = weaker (AreSteps false WriterCount (Some a ∷ [])) (IsCall WriterCount a) (in_one WriterCount a) was now (has (AreSteps false WriterCount (Some a ∷ [])) was now me.knows.1 f.ensures.turned.does) in
-    (subst (λ n. Has (IsCall WriterCount (Count n)) was now) (sym c.writers.ensures.exact) made).made.0
+    let me = c.args.self in let f = c.load-found in
+    (subst (λ n. Has (IsCall WriterCount (Count n)) (sight me.account) (sight f.result.1)) (sym c.writers.ensures.exact) (called WriterCount (Count (writers_in f.result.0)) Idle me.knows.1 f.ensures.turned)).made.0

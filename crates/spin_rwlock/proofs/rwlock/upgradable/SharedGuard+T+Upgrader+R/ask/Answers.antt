@@ -1,6 +1,6 @@
 use Rattle.std.proofs.Common.{None, [], ◌∷◌, false, sym, subst}
 use Rattle.spin_step_more.specs.declared.rw_calls.RwCall.TheVariants.{Upgrade}
-use Rattle.spin_rwlock.specs.Rw.{AreSteps}
+use Rattle.spin_rwlock.specs.Rw.{AreSteps, asks_by}
 use Rattle.spin_rwlock.specs.Sights.{sight}
 use Rattle.spin_rwlock.specs.Steps.{MayKnow, Becomes}
 use Rattle.spin_rwlock.specs.declared.rwlock.rule.View.TheVariants.{Asking}
@@ -13,5 +13,5 @@ add-requires g c = let a = c.into_account in let it = a.result.permit in (subst 
 
 pub returns : goal.returns
 returns g c =
-    let a = c.into_account in let was = sight a.result in let now = sight c.add.result.1 in
-    subst (λ s. Becomes Asking (AreSteps false Upgrade (None ∷ [])) s now) a.ensures.same (becomes was now false Upgrade (None ∷ []) Asking c.add.ensures (λ e. absurd cc) a.ensures.lent.1)
+    let a = c.into_account.ensures in
+    subst (λ s. Becomes Asking (AreSteps false Upgrade (None ∷ [])) s (sight c.add.result.1)) a.same (becomes asks_by c.add.ensures (λ e. absurd cc) a.lent.1)

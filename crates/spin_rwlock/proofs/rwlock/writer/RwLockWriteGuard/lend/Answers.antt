@@ -19,4 +19,4 @@ pub returns : goal.returns
 returns g c =
     let a = c.into_account-account in let was = sight a.result in let t = c.add-account in let now = sight t.result.1 in let won = g.K.Kind.view in let call = downgrade_to won in
     let is = c.into_reader.ensures in let same = a.ensures.same in let some : was.1 ≢ None = λ e. absurd (let no : Some c.args.self.writer.value ≡ None = sym (ap (λ s. s.1) same) ∙ e in cc) in
-    (subst (λ s. Ends call s (reads_at c.into_reader.result)) same (subst (λ s. Ends call was s) (sym is) (ended call won was now a.ensures.held t.ensures)), ap (λ s. s.1) is ∙ (t.ensures.sees (reads_uses won g.met.K.Kind.lends)).1 some ∙ ap (λ s. s.1) same)
+    (subst (λ s. Ends call s (reads_at c.into_reader.result)) same (subst (λ s. Ends call was s) (sym is) (ended call won a.ensures.held t.ensures)), ap (λ s. s.1) is ∙ (t.ensures.sees (reads_uses won g.met.K.Kind.lends)).1 some ∙ ap (λ s. s.1) same)

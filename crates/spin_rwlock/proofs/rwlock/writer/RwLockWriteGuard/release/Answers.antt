@@ -17,4 +17,4 @@ subtract-requires g c =
 pub returns : goal.returns
 returns g c =
     let a = c.into_account in let t = c.subtract in
-    record { out = ap is_out t.ensures.view; made = subst (λ s. Ends Release s (sight t.result.1)) a.ensures.same (ended Release Idle (sight a.result) (sight t.result.1) a.ensures.held t.ensures) }
+    record { out = ap is_out t.ensures.view; made = subst (λ s. Ends Release s (sight t.result.1)) a.ensures.same (ended Release Idle a.ensures.held t.ensures) }
