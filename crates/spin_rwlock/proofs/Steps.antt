@@ -3,7 +3,7 @@ use Rattle.std.proofs.Common.{◌≡◌, ◌≢◌, ℕ, ◌+◌, ◌-◌, ◌%�
 use Rattle.std.specs.List.{list_all}
 use mathlib.Core.Logic.{inl, inr}
 use prog.Atomic.{either}
-use Rattle.spin_step.specs.Plain.{Plain, Kind, reading, upgradable, asking, writing, Holder, is_holder, may_turn, with_kind, weight, apply, gets, turns, to_read, to_read_upgradable, to_write, to_upgrade, to_upgrade_asked, rw_word}
+use Rattle.spin_step.specs.Plain.{Plain, Ask, Kind, reading, upgradable, asking, writing, Holder, is_holder, may_turn, with_kind, weight, apply, gets, turns, to_read, to_read_upgradable, to_write, to_upgrade, to_upgrade_asked, rw_word}
 use Rattle.spin_step.specs.Parties.{entries_after}
 use Rattle.spin_step.specs.Steps.{Decides}
 use Rattle.spin_step_more.specs.Readers.{reader_limit, OneOfEach, readers_in, writers_in}
@@ -41,7 +41,7 @@ use Rattle.spin_core.proofs.Views.{part_before, turn-own}
 use Rattle.spin_rwlock.specs.declared.rwlock.rule.View.{View}
 use Rattle.spin_rwlock.specs.declared.rwlock.rule.View.TheVariants.{Idle, Reading, Upgradable, Asking, Writing, WritingAsked, Coming, WaitingToWrite}
 use Rattle.spin_rwlock.specs.Rw as rws
-use Rattle.spin_rwlock.specs.Rw.{part, Word, IsRw, rw_ways, IsRwWord, Told, Turn, OneMove, Ending, use_of_view, use_of_party, seat_of, model, words_of, in_call, IsOut, grants, still, call_of, asks, weight_of, downgrade_to, came, Comes, MayCome, MayWrite, moves_of, outcome_of, outcomes_of, AreSteps, behind_write, course_of, says_with, ends_by, leaves_by, counts_by, Attempt, tries_by, try_write, write, try_upgrade, upgrade, asks_by, looks_by, comes_by, peeks_by, either_at}
+use Rattle.spin_rwlock.specs.Rw.{part, Word, IsRw, rw_ways, IsRwWord, Told, Turn, OneMove, Ending, use_of_view, use_of_party, seat_of, model, words_of, in_call, IsOut, grants, still, call_of, asks, weight_of, downgrade_to, came, Comes, MayCome, MayWrite, moves_of, outcome_of, outcomes_of, AreSteps, steps_of, behind_write, course_of, says_with, ends_by, leaves_by, counts_by, Attempt, tries_by, try_write, write, try_upgrade, upgrade, asks_by, looks_by, comes_by, peeks_by, either_at}
 use Rattle.spin_rwlock.specs.Steps.{May, FitsUse}
 
 pub kind : (v : View) → OfReaders part v
@@ -98,18 +98,21 @@ out_holds_none (Some (Coming c n)) out = refl
 out_holds_none (Some WaitingToWrite) out = absurd cc
 out_holds_none (Some _) out = absurd cc
 
-turns_by : (v w : View) (k l : Kind) (by : ℕ) → ((p : ℕ) → entries_of p (part v) ≡ entries_of p (holds k)) → ((p : ℕ) → entries_of p (part w) ≡ entries_of p (holds l)) → ((s : Plain) → Knows s (part w)) → may_turn k l ≡ true → weight k + by ≡ weight l
+turns_by : (v w : View) (k l : Kind) (by : ℕ) → ((p : ℕ) → entries_of p (part v) ≡ entries_of p (holds k))
+    → ((p : ℕ) → entries_of p (part w) ≡ entries_of p (holds l)) → ((s : Plain) → Knows s (part w)) → may_turn k l ≡ true → weight k + by ≡ weight l
     → Allows Word (ways rw-lock) (Some v) (λ n. (n + by) % 2 ^ 64) (To (Weighs 0) (λ n. w))
 turns_by v w k l by was now knows down less = allows rw-lock (Some v) (λ n. (n + by) % 2 ^ 64) (To (Weighs 0) (λ n. w)) (λ s p room order has.
     let stands = is_holder-from_entries p k s.holders (ap (λ e. e.holders) (has.0 ∙ was p)) in
     let small = bounded (with_kind p k l s.holders) (omega (arith, length-with_kind p k l s.holders, fits_cap s room order)) in (
       w,
-      by_step rw-lock (Some v) w s (turns p k l) ((rw_word s + by) % 2 ^ 64) tt (rw (stands, down) refl) (ap (entries_after s (Some (turns p k l))) (was p) ∙ (turn-own s p k l ∙ sym (now p))) (knows (apply s (turns p k l)))
+      by_step rw-lock (Some v) w s (turns p k l) ((rw_word s + by) % 2 ^ 64) tt (rw (stands, down) refl)
+          (ap (entries_after s (Some (turns p k l))) (was p) ∙ (turn-own s p k l ∙ sym (now p))) (knows (apply s (turns p k l)))
           (omega (arith, sum-turned weight p k l s.holders stands, less, small)) refl,
       ((omega arith, bounded s.holders (fits_cap s room order)), refl),
     ))
 
-goes : (v : View) (k : Kind) → ((p : ℕ) → entries_of p (part v) ≡ entries_of p (holds k)) → Allows Word (ways rw-lock) (Some v) (λ n. (n + (2 ^ 64 - weight k)) % 2 ^ 64) (To (Weighs (weight k)) (λ n. Idle))
+goes : (v : View) (k : Kind) → ((p : ℕ) → entries_of p (part v) ≡ entries_of p (holds k))
+    → Allows Word (ways rw-lock) (Some v) (λ n. (n + (2 ^ 64 - weight k)) % 2 ^ 64) (To (Weighs (weight k)) (λ n. Idle))
 goes v k was = leaves_at rw-lock weight (λ s. refl) (λ s room order. bounded s.holders (fits_cap s room order)) v k was
 
 -- a free lock admits each reader
@@ -132,24 +135,33 @@ pub may_write : (view : Option View) → MayWrite view → part_before part view
 may_write view (inl out) = out_holds_none view out
 may_write view (inr is) = rw is refl
 
-comes : (won : View) (c : RwCall) → Comes won → (view : Option View) (old new : ℕ) → MayCome c old view → Admits won old new → Allows Word (ways rw-lock) view (λ n. either (n == old) new n) (λ n v. v ≡ came won c old n)
-comes Reading c cm view old new may plain = exchanges_at rw-lock view to_read Reading (Coming c) old new (may_come c old view may) (λ n. refl) (λ s p. refl) (λ s. tt) (λ s p order room e. plain s p (one_of_each s order.exclusive) room e)
-comes Upgradable c cm view old new may plain = exchanges_at rw-lock view to_read_upgradable Upgradable (Coming c) old new (may_come c old view may) (λ n. refl) (λ s p. refl) (λ s. tt) (λ s p order room e. plain s p (one_of_each s order.exclusive) room e)
+comes : (won : View) (c : RwCall) → Comes won → (view : Option View) (old new : ℕ) → MayCome c old view → Admits won old new
+    → Allows Word (ways rw-lock) view (λ n. either (n == old) new n) (λ n v. v ≡ came won c old n)
+comes Reading c cm view old new may plain =
+    exchanges_at rw-lock view to_read Reading (Coming c) old new (may_come c old view may) (λ n. refl) (λ s p. refl) (λ s. tt)
+    (λ s p order room e. plain s p (one_of_each s order.exclusive) room e)
+comes Upgradable c cm view old new may plain =
+    exchanges_at rw-lock view to_read_upgradable Upgradable (Coming c) old new (may_come c old view may) (λ n. refl) (λ s p. refl) (λ s. tt)
+    (λ s p order room e. plain s p (one_of_each s order.exclusive) room e)
 comes _ c cm view old new may plain = absurd cm
 
-looks_again : (c : RwCall) (old : ℕ) → Allows Word (ways rw-lock) (Some (Coming c old)) (λ n. n) (λ n v. v ≡ Coming c n)
-looks_again c old = looks_at rw-lock (Some (Coming c old)) (Coming c) refl (λ n. refl)
+writes_at : (view : Option View) → part_before part view ≡ idle → (lost : View) → part lost ≡ idle → (old new : ℕ)
+    → ((s : Plain) (p : ℕ) → rw_word s ≡ old → Decides s (gets p to_write) rw_word (Some new))
+    → Allows Word (ways rw-lock) view (λ n. either (n == old) new n) (λ n v. v ≡ either_at old Writing lost n)
+writes_at view none lost still old new plain =
+    exchanges_at rw-lock view to_write Writing (λ n. lost) old new none (λ n. still) (λ s p. refl) (λ s. tt) (λ s p order room e. plain s p e)
 
-writes_at : (view : Option View) → part_before part view ≡ idle → (lost : View) → part lost ≡ idle → (old new : ℕ) → ((s : Plain) (p : ℕ) → rw_word s ≡ old → Decides s (gets p to_write) rw_word (Some new)) → Allows Word (ways rw-lock) view (λ n. either (n == old) new n) (λ n v. v ≡ either_at old Writing lost n)
-writes_at view none lost still old new plain = exchanges_at rw-lock view to_write Writing (λ n. lost) old new none (λ n. still) (λ s p. refl) (λ s. tt) (λ s p order room e. plain s p e)
+-- an exchange of the word `old` for the word `new` gives a holder of this kind what it asks
+abbrev Raises : Kind → Ask → ℕ → ℕ → Type 0
+Raises k ask old new = (s : Plain) (p : ℕ) → OneOfEach s → is_holder p k s.holders ≡ true → rw_word s ≡ old → Decides s (gets p ask) rw_word (Some new)
 
-upgrades_at : (old new : ℕ) → ((s : Plain) (p : ℕ) → OneOfEach s → is_holder p upgradable s.holders ≡ true → rw_word s ≡ old → Decides s (gets p to_upgrade) rw_word (Some new)) → Allows Word (ways rw-lock) (Some Upgradable) (λ n. either (n == old) new n) (λ n v. v ≡ either_at old Writing Upgradable n)
-upgrades_at old new plain = gets_at rw-lock (Some Upgradable) to_upgrade Writing (λ n. Upgradable) old new (λ s p. rw (eq-eqb p p refl) refl) (λ s. tt) (λ n. refl) (λ s n. tt)
-    (λ s p vs room order is has small e. plain s p (one_of_each s order.exclusive) (is_holder-from_entries p upgradable s.holders (ap (λ e. e.holders) has.0)) e)
-
-upgrades_asked_at : (old new : ℕ) → ((s : Plain) (p : ℕ) → OneOfEach s → is_holder p asking s.holders ≡ true → rw_word s ≡ old → Decides s (gets p to_upgrade_asked) rw_word (Some new)) → Allows Word (ways rw-lock) (Some Asking) (λ n. either (n == old) new n) (λ n v. v ≡ either_at old WritingAsked Asking n)
-upgrades_asked_at old new plain = gets_at rw-lock (Some Asking) to_upgrade_asked WritingAsked (λ n. Asking) old new (λ s p. rw (eq-eqb p p refl) refl) (λ s. tt) (λ n. refl) (λ s n. tt)
-    (λ s p vs room order is has small e. plain s p (one_of_each s order.exclusive) (is_holder-from_entries p asking s.holders (ap (λ e. e.holders) has.0)) e)
+raises_at : (v won : View) (k : Kind) (ask : Ask) → part v ≡ holds k
+    → ((s : Plain) (p : ℕ) → entries_after s (Some (gets p ask)) (entries_of p (part v)) ≡ entries_of p (part won))
+    → ((s : Plain) → Knows s (part won)) → ((s : Plain) → Knows s (part v)) → (old new : ℕ) → Raises k ask old new
+    → Allows Word (ways rw-lock) (Some v) (λ n. either (n == old) new n) (λ n u. u ≡ either_at old won v n)
+raises_at v won k ask is comes knows still old new plain =
+    gets_at rw-lock (Some v) ask won (λ n. v) old new comes knows (λ n. refl) (λ s n. still s)
+    (λ s p vs room order at has small e. plain s p (one_of_each s order.exclusive) (is_holder-from_entries p k s.holders (ap (λ e. e.holders) (has.0 ∙ ap (entries_of p) is))) e)
 
 -- a party that writes is a writer in the plain lock, whether or not it asked before
 writes_as : (v : View) → use_of_view v ≡ writes → (p : ℕ) → entries_of p (part v) ≡ entries_of p (holds writing)
@@ -237,13 +249,8 @@ module _ {T : Type 0} (v₀ : T) where
   write_plays view (inl out) w value = rw (not_in_call view out, sits_out view out) (grind arith, grind arith)
   write_plays view (inr is) w value = rw is (grind arith, grind arith)
 
-  try_upgrade_plays : Tries (Some Upgradable) try_upgrade
-  try_upgrade_plays w value = (grind arith, grind arith)
-
-  upgrade_plays : Tries (Some Asking) upgrade
-  upgrade_plays w value = (grind arith, grind arith)
-
-  release_plays : (won : View) → Comes won → (w : ℕ) (value : Option T) → Weighs (weight_of won) w → PlaysTurn (Some won) (λ n. (n + (2 ^ 64 - weight_of won)) % 2 ^ 64) (λ n. ends_by call.Release Done Idle) w value
+  release_plays : (won : View) → Comes won → (w : ℕ) (value : Option T) → Weighs (weight_of won) w
+      → PlaysTurn (Some won) (λ n. (n + (2 ^ 64 - weight_of won)) % 2 ^ 64) (λ n. ends_by call.Release Done Idle) w value
   release_plays Reading cm w value some = rw (less_by w 8 some) (refl, refl)
   release_plays Upgradable cm w value some = rw (less_by w 2 some) (refl, refl)
   release_plays _ cm w value some = absurd cm
@@ -251,7 +258,8 @@ module _ {T : Type 0} (v₀ : T) where
   -- A writer that ends, whether or not it asked before. It writes the value `x`, and then makes the call.
   abbrev Leaves_by : T → (ℕ → ℕ) → (ℕ → Type 0) → RwCall → View → Type 0
   Leaves_by x f so c to =
-      (w : ℕ) (value : Option T) → so w → Plays w value (seat.Holding hold.Write) (Write x ∷ moves_of false c (Some Done ∷ [])) (f w) (Some x) to (Written ∷ outcomes_of false (Some Done ∷ []))
+      (w : ℕ) (value : Option T) → so w → Plays w value (seat.Holding hold.Write) (Write x ∷ moves_of false c (Some Done ∷ [])) (f w) (Some x) to
+      (Written ∷ outcomes_of false (Some Done ∷ []))
 
   writer_reads_plays : (x : T) (won : View) → Comes won → Leaves_by x (λ n. (n + (weight_of won - 1)) % 2 ^ 64) (Weighs 0) (downgrade_to won) won
   writer_reads_plays x Reading cm w value small = rw (fits_in w 7 small.1 (omega arith)) (refl, refl)
@@ -272,20 +280,24 @@ module _ {T : Type 0} (v₀ : T) where
   comes_first _ waits cm new grant w value = absurd cm
 
   -- a further exchange, which expects the word found
-  comes_again : (won : View) (waits : Bool) → Comes won → (old new : ℕ) → grants (call_of won waits) old ≡ Some new → Arrives (Some (Coming (call_of won waits) old)) true won (call_of won waits) old new
+  comes_again : (won : View) (waits : Bool) → Comes won → (old new : ℕ) → grants (call_of won waits) old ≡ Some new
+      → Arrives (Some (Coming (call_of won waits) old)) true won (call_of won waits) old new
   comes_again Reading false cm old new grant w value = (grind (arith, grant), grind (arith, grant))
   comes_again Reading true cm old new grant w value = (grind (arith, grant), grind (arith, grant))
   comes_again Upgradable false cm old new grant w value = (grind (arith, grant), grind (arith, grant))
   comes_again Upgradable true cm old new grant w value = (grind (arith, grant), grind (arith, grant))
   comes_again _ waits cm old new grant w value = absurd cm
 
-  come_plays : (won : View) (waits : Bool) → Comes won → (view : Option View) (old new : ℕ) → MayCome (call_of won waits) old view → grants (call_of won waits) old ≡ Some new
+  come_plays : (won : View) (waits : Bool) → Comes won → (view : Option View) (old new : ℕ) → MayCome (call_of won waits) old view
+      → grants (call_of won waits) old ≡ Some new
       → Arrives view (in_call view) won (call_of won waits) old new
-  come_plays won waits cm view old new (inl (out, free)) grant w value = rw (not_in_call view out, free, sits_out view out) (comes_first won waits cm new (rw free at grant) w value)
+  come_plays won waits cm view old new (inl (out, free)) grant w value =
+      rw (not_in_call view out, free, sits_out view out) (comes_first won waits cm new (rw free at grant) w value)
   come_plays won waits cm view old new (inr is) grant w value = rw (is, lets_in won waits cm old new grant) (comes_again won waits cm old new grant w value)
 
   -- the load of a call that waits, after a word that did not admit the reader
-  look_plays : (won : View) → Comes won → (old : ℕ) → grants (call_of won true) old ≡ None → (w : ℕ) (value : Option T) → PlaysTurn (Some (Coming (call_of won true) old)) (λ n. n) (looks_by (call_of won true)) w value
+  look_plays : (won : View) → Comes won → (old : ℕ) → grants (call_of won true) old ≡ None → (w : ℕ) (value : Option T)
+      → PlaysTurn (Some (Coming (call_of won true) old)) (λ n. n) (looks_by (call_of won true)) w value
   look_plays Reading cm old none w value = (grind (arith, none), grind (arith, none))
   look_plays Upgradable cm old none w value = (grind (arith, none), grind (arith, none))
   look_plays _ cm old none w value = absurd cm
@@ -316,7 +328,8 @@ module _ {T : Type 0} where
   steps_leave [] v = refl
   steps_leave (a ∷ answers) v = steps_leave answers v
 
-  pub calls_leave : (goes_on : Bool) (c : RwCall) (answers : List (Option (Answer T))) (own : List (OneMove T)) (outs : List (Ending T)) → AreSteps goes_on c answers own outs → (v : T) → left own v ≡ v
+  pub calls_leave : (goes_on : Bool) (c : RwCall) (answers : List (Option (Answer T))) (own : List (OneMove T)) (outs : List (Ending T))
+      → AreSteps goes_on c answers own outs → (v : T) → left own v ≡ v
   calls_leave true c answers own outs are v = ap (λ o. left o v) are.0 ∙ steps_leave answers v
   calls_leave false c answers own outs are v = ap (λ o. left o v) are.0 ∙ steps_leave answers v
 
@@ -333,7 +346,8 @@ module _ {T : Type 0} where
   writes_last off u' x own is all = absurd (let e : off ≡ writes = is in cc)
   writes_last reads u' x own is all = absurd (let e : reads ≡ writes = is in cc)
 
-  pub writes_leave : (x : T) (goes_on : Bool) (c : RwCall) (answers : List (Option (Answer T))) (own : List (OneMove T)) (outs : List (Ending T)) → Writes x (AreSteps goes_on c answers) own outs → (v : T) → left own v ≡ x
+  pub writes_leave : (x : T) (goes_on : Bool) (c : RwCall) (answers : List (Option (Answer T))) (own : List (OneMove T)) (outs : List (Ending T))
+      → Writes x (AreSteps goes_on c answers) own outs → (v : T) → left own v ≡ x
   writes_leave x goes_on c answers own outs (rest, comes, is, came, steps) v = ap (λ o. left o v) is ∙ calls_leave goes_on c answers rest comes steps x
 
 module _ {T : Type 0} (opening : Opening T) where
@@ -343,47 +357,60 @@ module _ {T : Type 0} (opening : Opening T) where
   -- A step keeps the rule if the plain lock allows it and the model has moves for it. It tells the number found and these moves.
   keeps : (Q : T → Type 0) (view : Option (Numbered View)) (shown : Option T) (f : ℕ → ℕ) (so : ℕ → View → Type 0) (turn : ℕ → Turn T)
       → ((own : List (OneMove T)) (outs : List (Ending T)) (n : ℕ) (u : View) → says_with Q turn own outs n u → Leaves (use_of use_of_view (what view)) (use_of_view u) shown own × says_with (λ x. Unit {0}) turn own outs n u)
-      → AreMoves (model opening.value) seat_of words_of (what view) (on_first f) first so (says_with Q turn) → Allows Word (ways rw-lock) (what view) f so → Traces (IsRw opening) (rw_ways opening) view shown f (Told opening.value turn view)
+      → AreMoves (model opening.value) seat_of words_of (what view) (on_first f) first so (says_with Q turn) → Allows Word (ways rw-lock)
+      (what view) f so → Traces (IsRw opening) (rw_ways opening) view shown f (Told opening.value turn view)
   unfolding Told
   keeps Q view shown f so turn leaves moves allows id n t vs meets at small =
-      let (w, es, going, told) = tie.tells_less (model opening.value) seat_of words_of view (says_with Q turn) (says_with (λ x. Unit {0}) turn) (λ own outs n u said. (leaves own outs n u said).1) (IsRw opening) (rw_ways opening) shown f
+      let (w, es, going, told) = tie.tells_less (model opening.value) seat_of words_of view (says_with Q turn) (says_with (λ x. Unit {0}) turn)
+      (λ own outs n u said. (leaves own outs n u said).1) (IsRw opening) (rw_ways opening) shown f
       (tie.traces (model opening.value) seat_of words_of Word opening.name T lends use_of_view (last opening) view shown f so (says_with Q turn) moves
       (λ own outs n u said t word p. owed opening own t word p (use_of use_of_view (what view)) (use_of_view u) shown (leaves own outs n u said).0) allows) id n t vs meets at small in
       (w, es, going, (is_word n t vs meets, told))
 
   pub starts : (t : Trace (rws.Done T) (Unit {0})) → t.name ≡ opening.name → t.entries ≡ [] → Meets (IsRw opening) (rw_ways opening) 0 t []
-  starts t named empty = tie.opens (model opening.value) seat_of words_of Word opening.name T lends use_of_view (last opening) 0 t named empty refl (begins rw-lock 0 0 0 tt (omega arith) refl refl)
+  starts t named empty =
+      tie.opens (model opening.value) seat_of words_of Word opening.name T lends use_of_view (last opening) 0 t named empty refl
+      (begins rw-lock 0 0 0 tt (omega arith) refl refl)
 
   module _ (view : Option (Numbered View)) (shown : Option T) where
     -- a step of a party that does not write the value
-    may : use_of use_of_view (what view) ≢ writes → (f : ℕ → ℕ) (so : ℕ → View → Type 0) (turn : ℕ → Turn T) → ((n : ℕ) → (turn n).writes ≡ false) → ((n : ℕ) (u : View) → so n u → u ≡ (turn n).to)
-        → ((w : ℕ) (value : Option T) (u : View) → so w u → PlaysTurn opening.value (what view) f turn w value) → Allows Word (ways rw-lock) (what view) f so → May opening view shown f turn
+    may : use_of use_of_view (what view) ≢ writes → (f : ℕ → ℕ) (so : ℕ → View → Type 0) (turn : ℕ → Turn T) → ((n : ℕ) → (turn n).writes ≡ false)
+        → ((n : ℕ) (u : View) → so n u → u ≡ (turn n).to)
+        → ((w : ℕ) (value : Option T) (u : View) → so w u → PlaysTurn opening.value (what view) f turn w value)
+        → Allows Word (ways rw-lock) (what view) f so → May opening view shown f turn
     may not f so turn none to plays allows = (
       λ n. subst (λ b. FitsUse b (use_of use_of_view (what view)) (use_of_view (turn n).to)) (sym (none n)) not,
       keeps (λ x. Unit {0}) view shown f so turn (λ own outs n u said. let t = turn n in (
         writes_none (use_of use_of_view (what view)) (use_of_view u) shown own not
-            (calls_leave t.goes_on t.call t.answers own outs (subst (λ b. behind_write b (λ x. Unit {0}) (AreSteps t.goes_on t.call t.answers) own outs) (none n) said.1)),
+            (calls_leave t.goes_on t.call t.answers own outs (subst (λ b. behind_write b (λ x. Unit {0}) (steps_of t) own outs) (none n) said.1)),
         said,
       ))
           (λ w value u is.
           let t = turn w in let p = plays w value u is in let own = moves_of t.goes_on t.call t.answers in let outs = outcomes_of t.goes_on t.answers in
-          let said : course_of (λ x. Unit {0}) t own outs = subst (λ b. behind_write b (λ x. Unit {0}) (AreSteps t.goes_on t.call t.answers) own outs) (sym (none w)) (refl, refl) in
+          let said : course_of (λ x. Unit {0}) t own outs = subst (λ b. behind_write b (λ x. Unit {0}) (steps_of t) own outs) (sym (none w)) (refl, refl) in
           rw (to w u is) (own, outs, (refl, said), of_a_call t.goes_on t.call t.answers, all_played t.goes_on t.answers, f w, value, p.0, p.1, refl)) allows,
     )
 
     -- a load or an exchange: the number found decides the next view
     finds : use_of use_of_view (what view) ≢ writes → (f : ℕ → ℕ) (turn : ℕ → Turn T) → ((n : ℕ) → (turn n).writes ≡ false)
-        → ((w : ℕ) (value : Option T) → PlaysTurn opening.value (what view) f turn w value) → Allows Word (ways rw-lock) (what view) f (λ n v. v ≡ (turn n).to) → May opening view shown f turn
+        → ((w : ℕ) (value : Option T) → PlaysTurn opening.value (what view) f turn w value)
+        → Allows Word (ways rw-lock) (what view) f (λ n v. v ≡ (turn n).to) → May opening view shown f turn
     finds not f turn none plays = may not f (λ n v. v ≡ (turn n).to) turn none (λ n u is. is) (λ w value u is. plays w value)
 
     -- an addition or a subtraction by a reader
     changes : (u : View) → use_of_view u ≢ writes → what view ≡ Some u → (f : ℕ → ℕ) (so : ℕ → Type 0) (turn : Turn T) → turn.writes ≡ false
-        → ((w : ℕ) (value : Option T) → so w → PlaysTurn opening.value (Some u) f (λ n. turn) w value) → Allows Word (ways rw-lock) (Some u) f (To so (λ n. turn.to)) → May opening view shown f (λ n. turn)
-    changes u not is f so turn none plays allows = may (is_not_writing u not (what view) is) f (To so (λ n. turn.to)) (λ n. turn) (λ n. none) (λ n u is. is.1) (λ w value v at. rw is (plays w value at.0)) (rw is allows)
+        → ((w : ℕ) (value : Option T) → so w → PlaysTurn opening.value (Some u) f (λ n. turn) w value)
+        → Allows Word (ways rw-lock) (Some u) f (To so (λ n. turn.to)) → May opening view shown f (λ n. turn)
+    changes u not is f so turn none plays allows =
+        may (is_not_writing u not (what view) is) f (To so (λ n. turn.to)) (λ n. turn) (λ n. none) (λ n u is. is.1)
+        (λ w value v at. rw is (plays w value at.0)) (rw is allows)
 
-    counts : (c : RwCall) (count : ℕ → ℕ) → ((w : ℕ) (value : Option T) → PlaysTurn opening.value None (λ n. n) (counts_by c count) w value) → IsOut (what view) → May opening view shown (λ n. n) (counts_by c count)
+    counts : (c : RwCall) (count : ℕ → ℕ) → ((w : ℕ) (value : Option T) → PlaysTurn opening.value None (λ n. n) (counts_by c count) w value)
+        → IsOut (what view) → May opening view shown (λ n. n) (counts_by c count)
     counts c count plays out =
-        finds (out_uses_none (what view) out) (λ n. n) (counts_by c count) (λ n. refl) (λ w value. rw (sits_out opening.value (what view) out) (plays w value)) (looks_at rw-lock (what view) (λ n. Idle) (out_holds_none (what view) out) (λ n. refl))
+        finds (out_uses_none (what view) out) (λ n. n) (counts_by c count) (λ n. refl)
+        (λ w value. rw (sits_out opening.value (what view) out) (plays w value))
+        (looks_at rw-lock (what view) (λ n. Idle) (out_holds_none (what view) out) (λ n. refl))
 
     pub counts_readers : IsOut (what view) → May opening view shown (λ n. n) (counts_by call.ReaderCount readers_in)
     counts_readers = counts call.ReaderCount readers_in (λ w value. (refl, refl))
@@ -391,19 +418,24 @@ module _ {T : Type 0} (opening : Opening T) where
     pub counts_writers : IsOut (what view) → May opening view shown (λ n. n) (counts_by call.WriterCount writers_in)
     counts_writers = counts call.WriterCount writers_in (λ w value. (refl, refl))
 
-    pub comes_in : (won : View) (waits : Bool) → Comes won → (old new : ℕ) → MayCome (call_of won waits) old (what view) → grants (call_of won waits) old ≡ Some new → Admits won old new
+    pub comes_in : (won : View) (waits : Bool) → Comes won → (old new : ℕ) → MayCome (call_of won waits) old (what view)
+        → grants (call_of won waits) old ≡ Some new → Admits won old new
         → May opening view shown (swaps old new) (comes_by (in_call (what view)) won (call_of won waits) old)
     comes_in won waits cm old new so grant plain =
         let c = call_of won waits in
-        finds (none_writes (what view) (may_come c old (what view) so)) (swaps old new) (comes_by (in_call (what view)) won c old) (λ n. refl) (come_plays opening.value won waits cm (what view) old new so grant) (comes won c cm (what view) old new so plain)
+        finds (none_writes (what view) (may_come c old (what view) so)) (swaps old new) (comes_by (in_call (what view)) won c old) (λ n. refl)
+        (come_plays opening.value won waits cm (what view) old new so grant) (comes won c cm (what view) old new so plain)
 
-    pub looks_on : (won : View) → Comes won → (old : ℕ) → what view ≡ Some (Coming (call_of won true) old) → grants (call_of won true) old ≡ None → May opening view shown (λ n. n) (looks_by (call_of won true))
+    pub looks_on : (won : View) → Comes won → (old : ℕ) → what view ≡ Some (Coming (call_of won true) old) → grants (call_of won true) old ≡ None
+        → May opening view shown (λ n. n) (looks_by (call_of won true))
     looks_on won cm old is none =
         let c = call_of won true in
-        finds (is_not_writing (Coming c old) (λ e. absurd cc) (what view) is) (λ n. n) (looks_by c) (λ n. refl) (λ w value. rw is (look_plays opening.value won cm old none w value)) (rw is (looks_again c old))
+        finds (is_not_writing (Coming c old) (λ e. absurd cc) (what view) is) (λ n. n) (looks_by c) (λ n. refl)
+        (λ w value. rw is (look_plays opening.value won cm old none w value)) (rw is (looks_at rw-lock (Some (Coming c old)) (Coming c) refl (λ n. refl)))
 
     -- an exchange by which the party may become the writer
-    tries : (a : Attempt T) → use_of use_of_view (what view) ≢ writes → Tries opening.value (what view) a → Allows Word (ways rw-lock) (what view) (swaps a.old 1) (λ n v. v ≡ either_at a.old a.won a.lost n)
+    tries : (a : Attempt T) → use_of use_of_view (what view) ≢ writes → Tries opening.value (what view) a
+        → Allows Word (ways rw-lock) (what view) (swaps a.old 1) (λ n v. v ≡ either_at a.old a.won a.lost n)
         → May opening view shown (swaps a.old 1) (tries_by a)
     tries a not = finds not (swaps a.old 1) (tries_by a) (λ n. refl)
 
@@ -412,24 +444,41 @@ module _ {T : Type 0} (opening : Opening T) where
 
     pub tries_to_write : IsOut (what view) → AdmitsWriter → May opening view shown (swaps 0 1) (tries_by try_write)
     tries_to_write out plain =
-        tries try_write (out_uses_none (what view) out) (try_write_plays opening.value (what view) out) (writes_at (what view) (out_holds_none (what view) out) Idle refl 0 1 plain)
+        tries try_write (out_uses_none (what view) out) (try_write_plays opening.value (what view) out)
+        (writes_at (what view) (out_holds_none (what view) out) Idle refl 0 1 plain)
 
     pub writes_on : MayWrite (what view) → AdmitsWriter → May opening view shown (swaps 0 1) (tries_by (write (in_call (what view))))
     writes_on so plain =
         let none = may_write (what view) so in
-        tries (write (in_call (what view))) (none_writes (what view) none) (write_plays opening.value (what view) so) (writes_at (what view) none WaitingToWrite refl 0 1 plain)
+        tries (write (in_call (what view))) (none_writes (what view) none) (write_plays opening.value (what view) so)
+        (writes_at (what view) none WaitingToWrite refl 0 1 plain)
 
-    pub tries_to_upgrade : what view ≡ Some Upgradable → ((s : Plain) (p : ℕ) → OneOfEach s → is_holder p upgradable s.holders ≡ true → rw_word s ≡ 2 → Decides s (gets p to_upgrade) rw_word (Some 1)) → May opening view shown (swaps 2 1) (tries_by try_upgrade)
-    tries_to_upgrade is plain = tries try_upgrade (is_not_writing Upgradable (λ e. absurd cc) (what view) is) (rw is (try_upgrade_plays opening.value)) (rw is (upgrades_at 2 1 plain))
+    raises : (a : Attempt T) (k : Kind) (ask : Ask) → use_of_view a.lost ≢ writes → part a.lost ≡ holds k
+        → ((s : Plain) (p : ℕ) → entries_after s (Some (gets p ask)) (entries_of p (part a.lost)) ≡ entries_of p (part a.won))
+        → ((s : Plain) → Knows s (part a.won))
+        → ((s : Plain) → Knows s (part a.lost)) → Tries opening.value (Some a.lost) a → what view ≡ Some a.lost → Raises k ask a.old 1
+        → May opening view shown (swaps a.old 1) (tries_by a)
+    raises a k ask not at comes knows still plays is plain =
+        tries a (is_not_writing a.lost not (what view) is) (rw is plays) (rw is (raises_at a.lost a.won k ask at comes knows still a.old 1 plain))
 
-    pub upgrades : what view ≡ Some Asking → ((s : Plain) (p : ℕ) → OneOfEach s → is_holder p asking s.holders ≡ true → rw_word s ≡ 6 → Decides s (gets p to_upgrade_asked) rw_word (Some 1)) → May opening view shown (swaps 6 1) (tries_by upgrade)
-    upgrades is plain = tries upgrade (is_not_writing Asking (λ e. absurd cc) (what view) is) (rw is (upgrade_plays opening.value)) (rw is (upgrades_asked_at 6 1 plain))
+    pub tries_to_upgrade : what view ≡ Some Upgradable → Raises upgradable to_upgrade 2 1 → May opening view shown (swaps 2 1) (tries_by try_upgrade)
+    tries_to_upgrade =
+        raises try_upgrade upgradable to_upgrade (λ e. absurd cc) refl (λ s p. rw (eq-eqb p p refl) refl) (λ s. tt) (λ s. tt)
+        (λ w value. (grind arith, grind arith))
+
+    pub upgrades : what view ≡ Some Asking → Raises asking to_upgrade_asked 6 1 → May opening view shown (swaps 6 1) (tries_by upgrade)
+    upgrades =
+        raises upgrade asking to_upgrade_asked (λ e. absurd cc) refl (λ s p. rw (eq-eqb p p refl) refl) (λ s. tt) (λ s. tt)
+        (λ w value. (grind arith, grind arith))
 
     -- an addition by the upgradable reader
-    turns_on : (by : ℕ) (l : Kind) (turn : Turn T) → turn.writes ≡ false → may_turn upgradable l ≡ true → weight upgradable + by ≡ weight l → ((p : ℕ) → entries_of p (part turn.to) ≡ entries_of p (holds l)) → ((s : Plain) → Knows s (part turn.to))
-        → ((w : ℕ) (value : Option T) → PlaysTurn opening.value (Some Upgradable) (λ n. n + by) (λ n. turn) w value) → by < 2 ^ 63 → what view ≡ Some Upgradable → May opening view shown (λ n. (n + by) % 2 ^ 64) (λ n. turn)
+    turns_on : (by : ℕ) (l : Kind) (turn : Turn T) → turn.writes ≡ false → may_turn upgradable l ≡ true → weight upgradable + by ≡ weight l
+        → ((p : ℕ) → entries_of p (part turn.to) ≡ entries_of p (holds l)) → ((s : Plain) → Knows s (part turn.to))
+        → ((w : ℕ) (value : Option T) → PlaysTurn opening.value (Some Upgradable) (λ n. n + by) (λ n. turn) w value) → by < 2 ^ 63
+        → what view ≡ Some Upgradable → May opening view shown (λ n. (n + by) % 2 ^ 64) (λ n. turn)
     turns_on by l turn none down less now knows plays small is =
-        changes Upgradable (λ e. absurd cc) is (λ n. (n + by) % 2 ^ 64) (Weighs 0) turn none (λ w value some. rw (fits_in w by some.1 small) (plays w value)) (turns_by Upgradable turn.to upgradable l by (λ p. refl) now knows down less)
+        changes Upgradable (λ e. absurd cc) is (λ n. (n + by) % 2 ^ 64) (Weighs 0) turn none
+        (λ w value some. rw (fits_in w by some.1 small) (plays w value)) (turns_by Upgradable turn.to upgradable l by (λ p. refl) now knows down less)
 
     pub asks_on : what view ≡ Some Upgradable → May opening view shown (λ n. (n + 4) % 2 ^ 64) (λ n. asks_by)
     asks_on = turns_on 4 asking asks_by refl refl refl (λ p. refl) (λ s. tt) (λ w value. (refl, refl)) (omega arith)
@@ -437,28 +486,34 @@ module _ {T : Type 0} (opening : Opening T) where
     pub upgradable_reads : what view ≡ Some Upgradable → May opening view shown (λ n. (n + 6) % 2 ^ 64) (λ n. ends_by call.Downgrade Done Reading)
     upgradable_reads = turns_on 6 reading (ends_by call.Downgrade Done Reading) refl refl refl (λ p. refl) (λ s. tt) (λ w value. (refl, refl)) (omega arith)
 
-    leaves_as : (k : Kind) (won : View) → Comes won → weight_of won ≡ weight k → what view ≡ Some won → use_of_view won ≢ writes → ((p : ℕ) → entries_of p (part won) ≡ entries_of p (holds k))
+    leaves_as : (k : Kind) (won : View) → Comes won → weight_of won ≡ weight k → what view ≡ Some won → use_of_view won ≢ writes
+        → ((p : ℕ) → entries_of p (part won) ≡ entries_of p (holds k))
         → May opening view shown (λ n. (n + (2 ^ 64 - weight k)) % 2 ^ 64) (λ n. ends_by call.Release Done Idle)
     leaves_as k won cm e is not was =
-        changes won not is (λ n. (n + (2 ^ 64 - weight k)) % 2 ^ 64) (Weighs (weight k)) (ends_by call.Release Done Idle) refl (rw (sym e) (release_plays opening.value won cm)) (goes won k was)
+        changes won not is (λ n. (n + (2 ^ 64 - weight k)) % 2 ^ 64) (Weighs (weight k)) (ends_by call.Release Done Idle) refl
+        (rw (sym e) (release_plays opening.value won cm)) (goes won k was)
 
     -- a reader leaves, and subtracts its weight
-    pub reader_leaves : (won : View) → Comes won → (k : ℕ) → k ≡ weight_of won → what view ≡ Some won → May opening view shown (λ n. (n + (2 ^ 64 - k)) % 2 ^ 64) (λ n. ends_by call.Release Done Idle)
+    pub reader_leaves : (won : View) → Comes won → (k : ℕ) → k ≡ weight_of won → what view ≡ Some won
+        → May opening view shown (λ n. (n + (2 ^ 64 - k)) % 2 ^ 64) (λ n. ends_by call.Release Done Idle)
     reader_leaves Reading cm k e is = rw e (leaves_as reading Reading cm refl is (λ e. absurd cc) (λ p. refl))
     reader_leaves Upgradable cm k e is = rw e (leaves_as upgradable Upgradable cm refl is (λ e. absurd cc) (λ p. refl))
     reader_leaves _ cm k e is = absurd cm
 
-  pub peeks : (shown : Option T) (old new : ℕ) → grants call.TryRead old ≡ Some new → Admits Reading old new → May opening None shown (swaps old new) (peeks_by old)
+  pub peeks : (shown : Option T) (old new : ℕ) → grants call.TryRead old ≡ Some new → Admits Reading old new
+      → May opening None shown (swaps old new) (peeks_by old)
   peeks shown old new grant plain =
       finds None shown (λ e. absurd cc) (swaps old new) (peeks_by old) (λ n. refl) (peek_plays opening.value old new grant)
       (exchanges_at rw-lock None to_read Reading (λ n. Idle) old new refl (λ n. refl) (λ s p. refl) (λ s. tt) (λ s p order room e. plain s p (one_of_each s order.exclusive) room e))
 
   -- a step by which a writer ends; it writes the value that it leaves
-  module _ (view : Option (Numbered View)) (shown : Option T) (v : View) (x : T) (is : what view ≡ Some v) (here : shown ≡ Some x) (held : use_of use_of_view (what view) ≡ writes) where
+  module _ (view : Option (Numbered View)) (shown : Option T) (v : View) (x : T) (is : what view ≡ Some v) (here : shown ≡ Some x)
+      (held : use_of use_of_view (what view) ≡ writes) where
     writes_then : use_of_view v ≡ writes
     writes_then = sym (ap (use_of use_of_view) is) ∙ held
 
-    ends : (f : ℕ → ℕ) (so : ℕ → Type 0) (c : RwCall) (to : View) → use_of_view to ≢ writes → Leaves_by opening.value x f so c to → Allows Word (ways rw-lock) (Some v) f (To so (λ n. to)) → May opening view shown f (λ n. leaves_by c to)
+    ends : (f : ℕ → ℕ) (so : ℕ → Type 0) (c : RwCall) (to : View) → use_of_view to ≢ writes → Leaves_by opening.value x f so c to
+        → Allows Word (ways rw-lock) (Some v) f (To so (λ n. to)) → May opening view shown f (λ n. leaves_by c to)
     ends f so c to stops plays allows = (
       λ n. (held, stops),
       keeps (λ y. y ≡ x) view shown f (To so (λ n. to)) (λ n. leaves_by c to)
@@ -470,23 +525,30 @@ module _ {T : Type 0} (opening : Opening T) where
         moves w value u at = let p = plays w value at.0 in
             rw (at.1, writes_sits v writes_then) (Write x ∷ Begin c ∷ Step ∷ [], Written ∷ Begun ∷ Answered Done None ∷ [], (refl, (x, refl, (Begin c ∷ Step ∷ [], Begun ∷ Answered Done None ∷ [], refl, refl, (refl, refl)))), refl, refl, f w, Some x, p.0, p.1, refl)
 
-    reads_as : (l : Kind) (won : View) → Comes won → use_of_view won ≢ writes → may_turn writing l ≡ true → weight writing + (weight_of won - 1) ≡ weight l → ((p : ℕ) → entries_of p (part won) ≡ entries_of p (holds l)) → ((s : Plain) → Knows s (part won))
+    reads_as : (l : Kind) (won : View) → Comes won → use_of_view won ≢ writes → may_turn writing l ≡ true
+        → weight writing + (weight_of won - 1) ≡ weight l → ((p : ℕ) → entries_of p (part won) ≡ entries_of p (holds l)) → ((s : Plain) → Knows s (part won))
         → May opening view shown (λ n. (n + (weight_of won - 1)) % 2 ^ 64) (λ n. leaves_by (downgrade_to won) won)
     reads_as l won cm stops down less now knows =
-        ends (λ n. (n + (weight_of won - 1)) % 2 ^ 64) (Weighs 0) (downgrade_to won) won stops (writer_reads_plays opening.value x won cm) (turns_by v won writing l (weight_of won - 1) (writes_as v writes_then) now knows down less)
+        ends (λ n. (n + (weight_of won - 1)) % 2 ^ 64) (Weighs 0) (downgrade_to won) won stops (writer_reads_plays opening.value x won cm)
+        (turns_by v won writing l (weight_of won - 1) (writes_as v writes_then) now knows down less)
 
-    pub writer_reads : (won : View) → Comes won → (k : ℕ) → k ≡ weight_of won → May opening view shown (λ n. (n + (k - 1)) % 2 ^ 64) (λ n. leaves_by (downgrade_to won) won)
+    pub writer_reads : (won : View) → Comes won → (k : ℕ) → k ≡ weight_of won
+        → May opening view shown (λ n. (n + (k - 1)) % 2 ^ 64) (λ n. leaves_by (downgrade_to won) won)
     writer_reads Reading cm k e = rw e (reads_as reading Reading cm (λ e. absurd cc) refl refl (λ p. refl) (λ s. tt))
     writer_reads Upgradable cm k e = rw e (reads_as upgradable Upgradable cm (λ e. absurd cc) refl refl (λ p. refl) (λ s. tt))
     writer_reads _ cm k e = absurd cm
 
     pub writer_leaves : May opening view shown (λ n. (n + (2 ^ 64 - 1)) % 2 ^ 64) (λ n. leaves_by call.Release Idle)
-    writer_leaves = ends (λ n. (n + (2 ^ 64 - 1)) % 2 ^ 64) (Weighs 1) call.Release Idle (λ e. absurd cc) (λ w value some. rw (less_by w 1 some) (refl, refl)) (goes v writing (writes_as v writes_then))
+    writer_leaves =
+        ends (λ n. (n + (2 ^ 64 - 1)) % 2 ^ 64) (Weighs 1) call.Release Idle (λ e. absurd cc) (λ w value some. rw (less_by w 1 some) (refl, refl))
+        (goes v writing (writes_as v writes_then))
 
   -- Which parties may leave the cell
 
   rests_at : (v : View) → seat_of v ≡ seat.Idle → part v ≡ part Idle → (m k : ℕ) → Rests (IsRw opening) use_of_party (Some (v, m, k))
-  rests_at v sits is m k = tie.rests (model opening.value) seat_of words_of Word opening.name T lends use_of_view (last opening) (v, m, k) sits (plays.rests rw-lock v (rw is refl) (λ p. rw is refl))
+  rests_at v sits is m k =
+      tie.rests (model opening.value) seat_of words_of Word opening.name T lends use_of_view (last opening) (v, m, k) sits
+      (plays.rests rw-lock v (rw is refl) (λ p. rw is refl))
 
   pub idle_rests : (v : Numbered View) → v.0 ≡ Idle → Rests (IsRw opening) use_of_party (Some v)
   idle_rests v is = rw is (rests_at Idle refl refl v.1 v.2)
@@ -497,11 +559,13 @@ module _ {T : Type 0} (opening : Opening T) where
   out_rests (Some v) out = rests_at v.0 (seat_idle (seat_of v.0) out) (out_holds_none (Some v.0) out) v.1 v.2
 
   -- a party whose only exchange found another word
-  pub missed_rests : (won : View) (old found : ℕ) → found ≢ old → (v : Numbered View) → v.0 ≡ either_at old won Idle found → Rests (IsRw opening) use_of_party (Some v)
+  pub missed_rests : (won : View) (old found : ℕ) → found ≢ old → (v : Numbered View) → v.0 ≡ either_at old won Idle found
+      → Rests (IsRw opening) use_of_party (Some v)
   missed_rests won old found other v is = idle_rests v (is ∙ ap (λ b. if b then won else Idle) (ne_eqb found old other))
 
 -- A try has failed if the word that it found does not admit the reader. Its party is then in no call, and holds nothing.
-pub refused_out : (won : View) → Comes won → (n : ℕ) → grants (call_of won false) n ≡ None → (view : Option View) → view ≡ Some (Coming (call_of won false) n) → IsOut view
+pub refused_out : (won : View) → Comes won → (n : ℕ) → grants (call_of won false) n ≡ None → (view : Option View)
+    → view ≡ Some (Coming (call_of won false) n) → IsOut view
 refused_out won cm n none view is = rw is (ap rws.is_idle (sits_idle won cm n none))
 
 pub keeps_out : (won : View) → Comes won → (n : ℕ) → grants (call_of won false) n ≡ None → still (call_of won false) n ≡ false

@@ -190,13 +190,16 @@ module _ {T : Type 0} where
   abbrev pub AreSteps : Bool → RwCall → List (Option (Answer T)) → OneCourse T
   AreSteps goes_on call answers own outs = (own ≡ moves_of goes_on call answers) × (outs ≡ outcomes_of goes_on answers)
 
+  abbrev pub steps_of : Turn T → OneCourse T
+  steps_of turn = AreSteps turn.goes_on turn.call turn.answers
+
   abbrev pub behind_write : Bool → (T → Type 0) → OneCourse T → OneCourse T
   behind_write true Q P = WritesSome Q P
   behind_write false Q P = P
 
   -- the course of a step; a writer that ends writes a value that satisfies `Q`
   abbrev pub course_of : (T → Type 0) → Turn T → OneCourse T
-  course_of Q turn = behind_write turn.writes Q (AreSteps turn.goes_on turn.call turn.answers)
+  course_of Q turn = behind_write turn.writes Q (steps_of turn)
 
   -- what a step says of its moves, their outcomes, the number found and the next view
   abbrev pub says_with : (T → Type 0) → (ℕ → Turn T) → List (OneMove T) → List (Ending T) → ℕ → View → Type 0
@@ -268,7 +271,8 @@ module _ {T : Type 0} where
 
   -- the exchange of `{:?}`: a whole `try_read` if it succeeds, otherwise one more `reader_count`
   abbrev pub peeks_by : ℕ → ℕ → Turn T
-  peeks_by old n = steps_by false (either_at old TryRead ReaderCount n) (either_at old (admitted false) (Some (Count (readers_in n)) ∷ []) n) (either_at old Reading Idle n)
+  peeks_by old n =
+      steps_by false (either_at old TryRead ReaderCount n) (either_at old (admitted false) (Some (Count (readers_in n)) ∷ []) n) (either_at old Reading Idle n)
 
   -- the call by which a writer ends
   abbrev pub leaves_by : RwCall → View → Turn T

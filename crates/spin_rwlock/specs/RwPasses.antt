@@ -46,13 +46,15 @@ module _ {T R : Type 0} where
   -- from `before` to `now` the pass has acquired the lock once by `read`, and has released it
   abbrev pub ReadOnce : Pass T R → Pass T R → Type 0
   ReadOnce before now =
-      (view : Option (Numbered View)) × (seen : List (Done T)) × (lock : Opening T) × (lock ≡ opening_of before) × Called (opening_of before).value Read Granted (party before) (history before) view seen
+      (view : Option (Numbered View)) × (seen : List (Done T)) × (lock : Opening T) × (lock ≡ opening_of before) × Called
+      (opening_of before).value Read Granted (party before) (history before) view seen
       × Called lock.value Release answer.Done view seen (party now) (history now)
 
   -- From `before` to `now` the pass has acquired the lock once by `write`, and has released it. It left a value that satisfies `Q`.
   abbrev pub WroteWith : (T → Type 0) → Pass T R → Pass T R → Type 0
   WroteWith Q before now =
-      (view : Option (Numbered View)) × (seen : List (Done T)) × (lock : Opening T) × (lock ≡ opening_of before) × Called (opening_of before).value Write Granted (party before) (history before) view seen
+      (view : Option (Numbered View)) × (seen : List (Done T)) × (lock : Opening T) × (lock ≡ opening_of before) × Called
+      (opening_of before).value Write Granted (party before) (history before) view seen
       × Wrote lock.value Q Release view seen (party now) (history now)
 
   abbrev pub WroteOnce : Pass T R → Pass T R → Type 0
@@ -62,6 +64,7 @@ module _ {T R : Type 0} where
   -- released the lock. It left some value.
   abbrev pub RaisedOnce : Pass T R → Pass T R → Type 0
   RaisedOnce before now =
-      (reader : Option (Numbered View)) × (seen : List (Done T)) × Called (opening_of before).value UpgradeableRead Granted (party before) (history before) reader seen
+      (reader : Option (Numbered View)) × (seen : List (Done T)) × Called (opening_of before).value UpgradeableRead Granted (party before)
+      (history before) reader seen
       × ((writer : Option (Numbered View)) × (more : List (Done T)) × (lock : Opening T) × (lock ≡ opening_of before) × Called lock.value Upgrade Granted reader seen writer more
       × ((held : Opening T) × (held ≡ lock) × Wrote held.value (λ x. Unit {0}) Release writer more (party now) (history now)))

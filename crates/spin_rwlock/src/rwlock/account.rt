@@ -114,8 +114,10 @@ impl<'a, T> Account<'a, T> {
         requires may { MayDo (λ n. either (n == old) new n) (tries_by (K.attempt T (view_of self))) (sight self) }
         requires expects { old ≡ (K.attempt T (view_of self)).old }
         requires writes { use_of_view (K.attempt T (view_of self)).won ≡ writes }
-        ensures won { IfOk result (λ held. Turned (wins (K.attempt T (view_of self.entry))) (sight self.entry) (writes_at held)) }
-        ensures lost { IfErr result (λ next. Turned (loses (K.attempt T (view_of self.entry))) (sight self.entry) (sight next)) }
+        ensures won { IfOk result (λ held.
+            Turned (wins (K.attempt T (view_of self.entry))) (sight self.entry) (writes_at held)) }
+        ensures lost { IfErr result (λ next.
+            Turned (loses (K.attempt T (view_of self.entry))) (sight self.entry) (sight next)) }
     {
         let (found, account) = self.exchange::<Tries<K>>(old, new);
         if found == old {
@@ -128,8 +130,10 @@ impl<'a, T> Account<'a, T> {
     /// Makes the exchange of `write`, in a call that begins or waits. If the lock is held, the call waits.
     pub(super) fn write<R>(self) -> Result<Held<'a, T, R>, Waiting<'a, T>>
         requires { MayWrite (view_of self) × Knows (sight self) }
-        ensures writes { IfOk result (λ held. Has (AreSteps (in_call (view_of self.entry)) Write (Some Granted ∷ [])) (sight self.entry) (writes_at held)) }
-        ensures waits { IfErr result (λ next. Has (AreSteps (in_call (view_of self.entry)) Write (None ∷ [])) (sight self.entry) (sight next.account)) }
+        ensures writes { IfOk result (λ held.
+            Has (AreSteps (in_call (view_of self.entry)) Write (Some Granted ∷ [])) (sight self.entry) (writes_at held)) }
+        ensures waits { IfErr result (λ next.
+            Has (AreSteps (in_call (view_of self.entry)) Write (None ∷ [])) (sight self.entry) (sight next.account)) }
     {
         let next = rw::write(0).unwrap();
         match self.attempt::<Writes, R>(0, next as u64) {

@@ -85,7 +85,8 @@ impl<'a, T, K: Kind, M: Mode, R> Coming<'a, T, K, M, R> {
     /// word found. This saves a load, since a failed exchange returns the word too.
     pub(super) fn begin(account: Account<'a, T>) -> Result<Lent<'a, T, K, R>, Self>
         requires { IsPass (sight account) }
-        ensures lent { IfOk result (λ lent. Has (IsCall (call_of K.view M.waits) Granted) (sight account.entry) (reads_at lent)) }
+        ensures lent { IfOk result (λ lent.
+            Has (IsCall (call_of K.view M.waits) Granted) (sight account.entry) (reads_at lent)) }
         ensures missed { IfErr result (λ coming.
             Has (Seeks (call_of K.view M.waits) coming.word) (sight account.entry) (sight coming.account)) }
     {
@@ -133,8 +134,8 @@ impl<'a, T, K: Kind, M: Mode, R> Coming<'a, T, K, M, R> {
         requires plain { (s : Plain) (party : ℕ) → OneOfEach s → s.cap ≡ reader_limit → rw_word s ≡ word → Decides s (gets party (asks K.view)) rw_word (Some next) }
         ensures lent { IfOk result (λ lent. let begun = in_call (view_of account.entry) in
             Has (AreSteps begun (call_of K.view M.waits) (admitted begun)) (sight account.entry) (reads_at lent)) }
-        ensures missed { IfErr result (λ coming. let call = call_of K.view M.waits in
-            Has (AreSteps (in_call (view_of account.entry)) call (missed call coming.word ∷ [])) (sight account.entry) (sight coming.account)) }
+        ensures missed { IfErr result (λ coming. let call = call_of K.view M.waits in let begun = in_call (view_of account.entry) in
+            Has (AreSteps begun call (missed call coming.word ∷ [])) (sight account.entry) (sight coming.account)) }
     {
         let (found, account) = account.exchange::<Comes<K, M>>(word as u64, next as u64);
         if found == word as u64 {
@@ -159,7 +160,8 @@ impl<'a, T, K: Kind, R> Coming<'a, T, K, Tries, R> {
         account: Account<'a, T>,
     ) -> Result<Lent<'a, T, K, R>, Pass<'a, T, R>>
         requires { IsPass (sight account) }
-        ensures lent { IfOk result (λ lent. Has (IsCall (call_of K.view false) Granted) (sight account.entry) (reads_at lent)) }
+        ensures lent { IfOk result (λ lent.
+            Has (IsCall (call_of K.view false) Granted) (sight account.entry) (reads_at lent)) }
         ensures refused { IfErr result (λ pass.
             Has (IsCall (call_of K.view false) Refused) (sight account.entry) (sight pass.account)) }
     {

@@ -240,8 +240,10 @@ impl<'a, T, R: RelaxStrategy> SharedGuard<'a, T, Upgrader, R> {
 // Tries once to make the upgradable reader the writer. Fails if the lock has another holder.
 fn raise<'a, T, R>(account: Account<'a, T>) -> Result<Held<'a, T, R>, Lent<'a, T, Upgrader, R>>
     requires { IsLent account.permit.view account.permit.value Upgradable × MayKnow (sight account) }
-    ensures granted { IfOk result (λ held. Becomes Writing (IsCall TryUpgrade Granted) (sight account.entry) (writes_at held)) }
-    ensures refused { IfErr result (λ lent. Becomes Upgradable (IsCall TryUpgrade Refused) (sight account.entry) (reads_at lent)) }
+    ensures granted { IfOk result (λ held.
+        Becomes Writing (IsCall TryUpgrade Granted) (sight account.entry) (writes_at held)) }
+    ensures refused { IfErr result (λ lent.
+        Becomes Upgradable (IsCall TryUpgrade Refused) (sight account.entry) (reads_at lent)) }
 {
     let next = rw::upgrade(rw::UPGRADABLE).unwrap();
     match account.attempt::<TriesToUpgrade, R>(UPGRADABLE, next as u64) {
@@ -253,8 +255,10 @@ fn raise<'a, T, R>(account: Account<'a, T>) -> Result<Held<'a, T, R>, Lent<'a, T
 // Tries once to make the asking reader the writer. If the lock has another holder, the reader still asks.
 fn raise_asked<'a, T, R>(asking: Account<'a, T>) -> Result<Held<'a, T, R>, Account<'a, T>>
     requires { IsLent asking.permit.view asking.permit.value Asking × MayKnow (sight asking) }
-    ensures granted { IfOk result (λ held. Becomes WritingAsked (AreSteps true Upgrade (Some Granted ∷ [])) (sight asking.entry) (writes_at held)) }
-    ensures waits { IfErr result (λ still. Becomes Asking (AreSteps true Upgrade (None ∷ [])) (sight asking.entry) (sight still)) }
+    ensures granted { IfOk result (λ held.
+        Becomes WritingAsked (AreSteps true Upgrade (Some Granted ∷ [])) (sight asking.entry) (writes_at held)) }
+    ensures waits { IfErr result (λ still.
+        Becomes Asking (AreSteps true Upgrade (None ∷ [])) (sight asking.entry) (sight still)) }
 {
     let next = rw::upgrade_asked(rw::UPGRADABLE + rw::ASKING).unwrap();
     asking.attempt::<Upgrades, R>(UPGRADABLE + ASKING, next as u64)
@@ -290,7 +294,8 @@ fn wait_to_upgrade_seen<'a, T, R: RelaxStrategy, W: Wait>(
     asking: Account<'a, T>,
 ) -> Held<'a, T, R>
     requires { IsLent asking.permit.view asking.permit.value Asking × Knows (sight asking) }
-    ensures asked { (result.0.writer.view.0 ≡ WritingAsked) × (Some (write_value result.0) ≡ asking.entry.permit.value) }
+    ensures asked { result.0.writer.view.0 ≡ WritingAsked }
+    ensures value { Some (write_value result.0) ≡ asking.entry.permit.value }
     ensures granted { IsGranted Upgrade (sight asking.entry) (writes_at result) }
 {
     let mut asking = asking;

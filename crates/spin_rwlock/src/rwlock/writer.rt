@@ -154,7 +154,8 @@ impl<'a, T, R> RwLockWriteGuard<'a, T, R> {
     // Becomes a reader of kind `K`.
     fn lend<K: Kind>(self, seen: Watch<Entry<T>>) -> Lent<'a, T, K, R>
         requires { MayKnow (writes_at (self, seen)) }
-        ensures { Ends (downgrade_to K.view) (writes_at (self.entry, seen)) (reads_at result) × (shared_value result.0 ≡ Some (write_value self.entry)) }
+        ensures value { shared_value result.0 ≡ Some (write_value self.entry) }
+        ensures made { Ends (downgrade_to K.view) (writes_at (self.entry, seen)) (reads_at result) }
     {
         let account = self.into_account(seen);
         let (_, account) = account.add::<Downgrades<K>>(K::WEIGHT - WRITER);

@@ -19,7 +19,9 @@ unfolding Told
 look-word-requires-clause-rests g c log es found after told = idle_rests c.enter.result.key after told.1.6.0
 
 pub attempt-tried-requires-clause-step : goal.attempt-tried-requires-clause-step
-attempt-tried-requires-clause-step g c = let it = c.enter-2.result in (inl c.nothing-2.ensures, rw c.enter-2.ensures.fresh.0 (peeks it.key it.value c.look-word.result.0 c.in_ok-next.next (sym c.in_ok-next.ensures.exact) c.in_ok-next.ensures.plain).1)
+attempt-tried-requires-clause-step g c =
+    let it = c.enter-2.result in
+    (inl c.nothing-2.ensures, rw c.enter-2.ensures.fresh.0 (peeks it.key it.value c.look-word.result.0 c.in_ok-next.next (sym c.in_ok-next.ensures.exact) c.in_ok-next.ensures.plain).1)
 
 pub attempt-tried-requires-clause-rests : goal.attempt-tried-requires-clause-rests
 unfolding Told

@@ -6,4 +6,5 @@ use Rattle.spin_rwlock.proofs.rwlock.upgradable.wait_to_upgrade.Given as goal
 abbrev pub invariant-loop : goal.invariant-loop
 invariant-loop g l =
     let it = l.asking.permit in
-    (goal.iterator-loop g).can_next l.iterator' × (goal.iterator-loop g).is_finite l.iterator' × IsLent it.view it.value Asking × (it.value ≡ l.fn.asking.permit.value)
+    (goal.iterator-loop g).can_next l.iterator' × (goal.iterator-loop g).is_finite l.iterator' × IsLent it.view it.value Asking ×
+    (it.value ≡ l.fn.asking.permit.value)

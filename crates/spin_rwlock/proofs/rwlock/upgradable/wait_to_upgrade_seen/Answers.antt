@@ -11,7 +11,7 @@ raise_asked-requires g c = let i = c.loop.invariant in (i.2, inr i.4.0)
 pub returns-in-Ok : goal.returns-in-Ok
 returns-in-Ok g c =
     let i = c.loop.invariant in let e = c.in-Ok.ensures.granted in
-    record { asked = (is_same e.lent.0, e.same ∙ i.3); granted = λ start begun. is_answered Upgrade (i.5 start begun) Granted (has i.4 e.does) }
+    record { asked = is_same e.lent.0; value = e.same ∙ i.3; granted = λ start begun. is_answered Upgrade (i.5 start begun) Granted (has i.4 e.does) }
 
 pub loop-preserved : goal.loop-preserved
 loop-preserved g c =

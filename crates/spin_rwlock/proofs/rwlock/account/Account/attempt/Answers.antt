@@ -15,7 +15,8 @@ into_writer-requires g c =
 pub returns-then-found-old : goal.returns-then-found-old
 returns-then-found-old g c =
     let a = g.K.Attempts.attempt g.row.T.Denot (view_of c.args.self) in let f = c.exchange-found in let was = sight c.args.self in let now = sight f.result.1 in
-    let t = subst (λ b. Turned (steps_by a.goes_on a.call ((if b then Some Granted else a.answer) ∷ []) (if b then a.won else a.lost)) was now) (eq-eqb f.result.0 a.old (c.if-found-old.true ∙ c.requires.expects)) f.ensures in
+    let t = subst (λ b. Turned (steps_by a.goes_on a.call ((if b then Some Granted else a.answer) ∷ []) (if b then a.won else a.lost)) was now)
+    (eq-eqb f.result.0 a.old (c.if-found-old.true ∙ c.requires.expects)) f.ensures in
     record { won = subst (λ s. Turned (wins a) was s) (sym c.into_writer.ensures) t; lost = tt }
 
 pub returns-else-found-old : goal.returns-else-found-old
@@ -23,5 +24,7 @@ returns-else-found-old g c =
     let a = g.K.Attempts.attempt g.row.T.Denot (view_of c.args.self) in let f = c.exchange-found in let was = sight c.args.self in let now = sight f.result.1 in
     record {
       won = tt;
-      lost = subst (λ b. Turned (steps_by a.goes_on a.call ((if b then Some Granted else a.answer) ∷ []) (if b then a.won else a.lost)) was now) (ne_eqb f.result.0 a.old (λ e. c.if-found-old.false (e ∙ sym c.requires.expects))) f.ensures;
+      lost =
+          subst (λ b. Turned (steps_by a.goes_on a.call ((if b then Some Granted else a.answer) ∷ []) (if b then a.won else a.lost)) was now)
+          (ne_eqb f.result.0 a.old (λ e. c.if-found-old.false (e ∙ sym c.requires.expects))) f.ensures;
     }

@@ -5,4 +5,5 @@ use Rattle.spin_rwlock.proofs.rwlock.account.Waiting.wait.Given as goal
 
 abbrev pub invariant-loop : goal.invariant-loop
 invariant-loop g l =
-    (goal.iterator-loop g).can_next l.iterator' × (goal.iterator-loop g).is_finite l.iterator' × WaitsOn Write (sight l.fn.self.account) (sight l.waiting.account)
+    (goal.iterator-loop g).can_next l.iterator' × (goal.iterator-loop g).is_finite l.iterator' × WaitsOn Write (sight l.fn.self.account)
+    (sight l.waiting.account)

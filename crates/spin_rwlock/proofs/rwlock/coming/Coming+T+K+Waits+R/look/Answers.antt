@@ -5,7 +5,8 @@ use Rattle.spin_rwlock.proofs.rwlock.coming.Coming+T+K+Waits+R.look.Goals as goa
 
 pub load-found-requires : goal.load-found-requires
 load-found-requires g c =
-    let me = c.args.self in let it = me.account.permit in (inr me.knows.0, looks_on it.key it.view it.value g.K.Kind.view g.met.K.Kind.comes me.word me.comes c.requires)
+    let me = c.args.self in
+    let it = me.account.permit in (inr me.knows.0, looks_on it.key it.view it.value g.K.Kind.view g.met.K.Kind.comes me.word me.comes c.requires)
 
 pub invariant_of-result : goal.invariant_of-result
 invariant_of-result g c = let t = c.load-found.ensures.turned in record { comes = t.view; knows = (t.does.made c.args.self.knows).0 }

@@ -9,7 +9,8 @@ use Rattle.spin_rwlock.proofs.Passes.{becomes}
 use Rattle.spin_rwlock.proofs.rwlock.upgradable.SharedGuard+T+Upgrader+R.ask.Goals as goal
 
 pub add-requires : goal.add-requires
-add-requires g c = let a = c.into_account in let it = a.result.permit in (subst MayKnow (sym a.ensures.same) c.requires, asks_on it.key it.view it.value a.ensures.lent.0)
+add-requires g c =
+    let a = c.into_account in let it = a.result.permit in (subst MayKnow (sym a.ensures.same) c.requires, asks_on it.key it.view it.value a.ensures.lent.0)
 
 pub returns : goal.returns
 returns g c =

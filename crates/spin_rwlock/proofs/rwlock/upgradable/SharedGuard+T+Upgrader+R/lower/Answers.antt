@@ -11,7 +11,9 @@ use Rattle.spin_rwlock.proofs.Passes.{becomes, becomes_by}
 use Rattle.spin_rwlock.proofs.rwlock.upgradable.SharedGuard+T+Upgrader+R.lower.Goals as goal
 
 pub add-account-requires : goal.add-account-requires
-add-account-requires g c = let a = c.into_account in let it = a.result.permit in (subst MayKnow (sym a.ensures.same) c.requires, upgradable_reads it.key it.view it.value a.ensures.lent.0)
+add-account-requires g c =
+    let a = c.into_account in
+    let it = a.result.permit in (subst MayKnow (sym a.ensures.same) c.requires, upgradable_reads it.key it.view it.value a.ensures.lent.0)
 
 pub returns : goal.returns
 returns g c =

@@ -9,4 +9,6 @@ pub wait_to_upgrade-requires : goal.wait_to_upgrade-requires
 wait_to_upgrade-requires g c = c.in-Err.ensures.waits.lent
 
 pub returns-in-Ok : goal.returns-in-Ok
-returns-in-Ok g c = let e = c.in-Ok.ensures.granted in record { asked = is_same e.lent.0; value = e.same ∙ ap (λ p. p.value) c.forget-account.ensures.same.0 ∙ c.ask.ensures.same }
+returns-in-Ok g c =
+    let e = c.in-Ok.ensures.granted in
+    record { asked = is_same e.lent.0; value = e.same ∙ ap (λ p. p.value) c.forget-account.ensures.same.0 ∙ c.ask.ensures.same }

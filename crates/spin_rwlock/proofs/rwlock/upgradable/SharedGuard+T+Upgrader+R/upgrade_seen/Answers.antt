@@ -15,4 +15,4 @@ pub returns-in-Err : goal.returns-in-Err
 returns-in-Err g c =
     let asks = c.ask.ensures in let e = c.in-Err.ensures.waits in let w = c.wait_to_upgrade_seen.ensures in let asked = has c.requires asks.does in
     let is = w.granted (reads_at (c.args.self, c.args.seen)) (stays_in Upgrade (comes_in Upgrade asked) (has asked.knows e.does)) in
-    record { asked = w.asked.0; value = w.asked.1 ∙ e.same ∙ asks.same; writes = (is.knows, is.made.1); found = is.last; lock = is.made.2; made = is.made.0 }
+    record { asked = w.asked; value = w.value ∙ e.same ∙ asks.same; writes = (is.knows, is.made.1); found = is.last; lock = is.made.2; made = is.made.0 }
