@@ -1,6 +1,6 @@
 -- What the steps of a read-write lock tell a party, and how the steps of a call add up to the call.
 use Rattle.std.proofs.Common.{◌≡◌, ◌≢◌, ℕ, Bool, true, false, List, [], ◌∷◌, ◌++◌, Option, Some, None, if◌then◌else◌, refl, sym, ap, ◌∙◌, subst, arith, eq-eqb, ne_eqb}
-use Rattle.std.specs.Prelude.{◌⊎◌, IfSome}
+use Rattle.std.specs.Prelude.{IfSome}
 use mathlib.Core.Logic.{inl, inr}
 use Rattle.spin_core.specs.Cell.{Use, off, reads, writes, use_of, Shows, Moved, Keeps as Kept}
 use Rattle.spin_core.specs.Own.{Numbered, what, by_party, Tells}
@@ -21,7 +21,7 @@ use Rattle.spin_model.specs.declared.schedule.Outcome.TheVariants.{GoingOn, Answ
 use Rattle.spin_step_more.specs.declared.rw_calls.RwCall.{RwCall}
 use Rattle.spin_rwlock.specs.declared.rwlock.rule.View.{View}
 use Rattle.spin_rwlock.specs.declared.rwlock.rule.View.TheVariants.{Reading, Upgradable, Coming}
-use Rattle.spin_rwlock.specs.Steps.{Sight, Since, view_at, Knows, MayKnow, FitsUse, Does, Has, Turned, Becomes, Ends, model_at}
+use Rattle.spin_rwlock.specs.Steps.{Sight, view_at, Knows, MayKnow, FitsUse, Does, Has, Turned, Becomes, Ends, model_at}
 use Rattle.spin_rwlock.specs.Rw as rws
 use Rattle.spin_rwlock.specs.Rw.{IsRw, IsRwWord, rw_ways, Told, Turn, OneMove, Ending, OneCourse, seat_of, use_of_view, use_of_party, model, words_of, call_of, Comes, still, missed, admitted, AreSteps, steps_of, outcome_of, steps_by, ends_by, comes_by, leaves_by, behind_write, course_of, says_with, either_at, Left, Seeks}
 use Rattle.spin_rwlock.proofs.Steps.{writes_leave}

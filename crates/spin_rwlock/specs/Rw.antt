@@ -1,6 +1,6 @@
 -- The rule of a read-write lock. The word of the lock is that of a plain lock with the same holders. The trace is a schedule of the lock's
 -- model. The schedule leads to this word and to the views of these parties.
-use Rattle.std.specs.Prelude.{◌≡◌, ◌≢◌, ◌⊎◌, ℕ, List, [], ◌∷◌, Bool, true, false, Option, Some, None, is_some, ◌==◌, if◌then◌else◌, map}
+use Rattle.std.specs.Prelude.{◌≡◌, ◌⊎◌, ℕ, List, [], ◌∷◌, Bool, true, false, Option, Some, None, is_some, ◌==◌, if◌then◌else◌, map}
 use Rattle.spin_step.specs.Plain.{Plain, reading, upgradable, asking, writing, weight, Ask, to_read, to_read_upgradable, rw_word}
 use Rattle.spin_step.specs.Orders.{IsInOrder}
 use Rattle.spin_step_more.specs.Readers.{reader_limit, readers_in, read, read_upgradable}
@@ -24,7 +24,7 @@ use Rattle.spin_model.specs.Machines.{Machine}
 use Rattle.spin_model.specs.Schedules.{Entry}
 use Rattle.spin_core.specs.Cell.{Use, lends, Ways}
 use Rattle.spin_core.specs.Views.{Part, idle, holds, Encodes, used_by, no_word}
-use Rattle.spin_core.specs.Own.{Numbered, Runs, Tells, what}
+use Rattle.spin_core.specs.Own.{Numbered, Runs, Tells}
 use Rattle.spin_core.specs.Passes.{Course, Waits, Ends, Begins, IsCall, WritesSome, Made}
 use Rattle.spin_core.specs.Values.{last}
 use Rattle.spin_core.specs.declared.tie.Opening.{Opening}

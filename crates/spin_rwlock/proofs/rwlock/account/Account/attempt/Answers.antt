@@ -4,7 +4,6 @@ use Rattle.spin_model.specs.declared.answer.Answer.TheVariants.{Granted}
 use Rattle.spin_rwlock.specs.Rw.{steps_by, wins, use_of_view}
 use Rattle.spin_rwlock.specs.Sights.{sight, view_of}
 use Rattle.spin_rwlock.specs.Steps.{Turned}
-use Rattle.spin_rwlock.specs.Waits.{writes_at}
 use Rattle.spin_rwlock.proofs.rwlock.account.Account.attempt.Goals as goal
 
 pub into_writer-requires : goal.into_writer-requires

@@ -1,10 +1,8 @@
 use Rattle.std.proofs.Common.{sym, subst}
-use Rattle.spin_core.specs.Passes.{IsCall}
 use Rattle.spin_model.specs.declared.answer.Answer.TheVariants.{Done}
 use Rattle.spin_step_more.specs.declared.rw_calls.RwCall.TheVariants.{Downgrade}
 use Rattle.spin_rwlock.specs.Rw.{ends_by}
-use Rattle.spin_rwlock.specs.Sights.{sight}
-use Rattle.spin_rwlock.specs.Steps.{MayKnow, Becomes}
+use Rattle.spin_rwlock.specs.Steps.{MayKnow}
 use Rattle.spin_rwlock.specs.declared.rwlock.rule.View.TheVariants.{Reading}
 use Rattle.spin_rwlock.proofs.Steps.{upgradable_reads}
 use Rattle.spin_rwlock.proofs.Passes.{becomes, becomes_by}

@@ -1,5 +1,5 @@
 use Rattle.std.proofs.Common.{◌≡◌, ◌≢◌, Some, None, ap, ◌∙◌, sym, subst}
-use Rattle.spin_rwlock.specs.Rw.{is_out, downgrade_to}
+use Rattle.spin_rwlock.specs.Rw.{downgrade_to}
 use Rattle.spin_rwlock.specs.Sights.{sight}
 use Rattle.spin_rwlock.specs.Waits.{reads_at}
 use Rattle.spin_rwlock.specs.Steps.{MayKnow, Ends, view_at}

@@ -1,8 +1,7 @@
-use Rattle.std.proofs.Common.{◌≢◌, Some, None, [], ◌∷◌, false, ap, ◌∙◌, sym, subst}
-use Rattle.spin_core.specs.Cell.{off, writes}
+use Rattle.std.proofs.Common.{ap, sym, subst}
 use Rattle.spin_step_more.specs.declared.rw_calls.RwCall.TheVariants.{Release}
 use Rattle.spin_rwlock.specs.declared.rwlock.rule.View.TheVariants.{Idle}
-use Rattle.spin_rwlock.specs.Rw.{is_out, downgrade_to}
+use Rattle.spin_rwlock.specs.Rw.{is_out}
 use Rattle.spin_rwlock.specs.Sights.{sight}
 use Rattle.spin_rwlock.specs.Steps.{MayKnow, Ends, view_at}
 use Rattle.spin_rwlock.proofs.Steps.{writer_leaves}
