@@ -1,25 +1,27 @@
 -- The steps of a read-write lock keep its rule. Each step makes the plain step of its step function, and its moves of the lock's model.
-use Rattle.std.proofs.Common.{◌≡◌, ◌≢◌, ℕ, ◌+◌, ◌-◌, ◌%◌, ◌^◌, ◌<◌, ◌≤◌, Bool, true, false, List, [], ◌∷◌, length, ◌==◌, Option, Some, None, if◌then◌else◌, refl, sym, ap, ◌∙◌, subst, arith, eq-eqb, ne_eqb}
+use Rattle.std.proofs.Common.{◌≡◌, ◌≢◌, ℕ, ◌+◌, ◌-◌, ◌%◌, ◌^◌, ◌<◌, ◌≤◌, Bool, true, false, List, [], ◌∷◌, map, length, ◌==◌, Option, Some, None, if◌then◌else◌, refl, sym, ap, ◌∙◌, subst, arith, eq-eqb, ne_eqb}
 use Rattle.std.specs.List.{list_all}
 use mathlib.Core.Logic.{inl, inr}
 use prog.Atomic.{either}
-use Rattle.spin_step.specs.Plain.{Plain, Kind, reading, upgradable, asking, writing, Holder, is_holder, may_turn, with_kind, weight, apply, gets, turns, to_read, to_read_upgradable, to_write, to_upgrade, to_upgrade_asked, rw_word}
+use Rattle.spin_step.specs.Plain.{Plain, Ask, Kind, reading, upgradable, asking, writing, Holder, is_holder, may_turn, with_kind, weight, apply, gets, turns, to_read, to_read_upgradable, to_write, to_upgrade, to_upgrade_asked, rw_word}
 use Rattle.spin_step.specs.Parties.{entries_after}
 use Rattle.spin_step.specs.Steps.{Decides}
 use Rattle.spin_step_more.specs.Readers.{reader_limit, OneOfEach, readers_in, writers_in}
 use Rattle.spin_step_more.specs.declared.rw_calls.RwCall.{RwCall}
 use Rattle.spin_step_more.specs.declared.rw_calls.RwCall.TheVariants as call
-use Rattle.spin_model.specs.declared.answer.Answer.TheVariants.{Granted, Refused, Count, Done}
+use Rattle.spin_model.specs.declared.answer.Answer.{Answer}
+use Rattle.spin_model.specs.declared.answer.Answer.TheVariants.{Done}
+use Rattle.spin_model.specs.declared.place.Hold.TheVariants as hold
 use Rattle.spin_model.specs.declared.place.Seat.{Seat}
 use Rattle.spin_model.specs.declared.place.Seat.TheVariants as seat
 use Rattle.spin_model.specs.Schedules.{State, after}
 use Rattle.spin_step_more.specs.declared.rw_calls.RwPoint.{RwPoint}
 use Rattle.spin_model.specs.declared.schedule.Move.TheVariants.{Begin, Step, Write}
-use Rattle.spin_model.specs.declared.schedule.Outcome.TheVariants.{Begun, Answered, GoingOn, Written}
+use Rattle.spin_model.specs.declared.schedule.Outcome.TheVariants.{Begun, Answered, Written}
 use Rattle.spin_core.specs.Cell.{Use, off, reads, lends, writes, use_of, Meets, Allows, Rests}
 use Rattle.spin_core.specs.Own.{Numbered, what}
-use Rattle.spin_core.specs.Run.{AreMoves, on_first, first, Goes, is_of_call, is_played, outcomes, of_one}
-use Rattle.spin_core.specs.Passes.{step_by}
+use Rattle.spin_core.specs.Run.{AreMoves, on_first, first, is_of_call, is_played, outcomes, of_one, sits}
+use Rattle.spin_core.specs.Passes.{Writes}
 use Rattle.spin_core.specs.Traced.{Traces}
 use Rattle.spin_core.specs.Values.{left, Leaves, last}
 use Rattle.spin_core.specs.Views.{Knows, idle, holds, entries_of, use_of_part, no_word}
@@ -33,13 +35,14 @@ use Rattle.spin_core.proofs.Owners.{OfReaders, readers_or_writer}
 use Rattle.spin_core.proofs.Plays as plays
 use Rattle.spin_core.proofs.Plays.{Lock, ways, allows, allows_among, by_step, by_none, Weighs, less_by, looks_at, gets_at, exchanges_at, leaves_at, begins}
 use Rattle.spin_core.proofs.Ties as tie
-use Rattle.spin_core.proofs.Values.{step_leaves, write_leaves, owed}
+use Rattle.spin_core.proofs.Values.{owed}
 use Rattle.spin_step_more.proofs.Readers.{one_of_each, word_of}
 use Rattle.spin_core.proofs.Views.{part_before, turn-own}
 use Rattle.spin_rwlock.specs.declared.rwlock.rule.View.{View}
 use Rattle.spin_rwlock.specs.declared.rwlock.rule.View.TheVariants.{Idle, Reading, Upgradable, Asking, Writing, WritingAsked, Coming, WaitingToWrite}
 use Rattle.spin_rwlock.specs.Rw as rws
-use Rattle.spin_rwlock.specs.Rw.{part, Word, IsRw, rw_ways, IsRwWord, Told, Says, OneMove, Ending, use_of_view, use_of_party, seat_of, model, words_of, in_call, IsOut, grants, still, missed, call_of, asks, weight_of, downgrade_to, came, Comes, MayCome, MayWrite, IsGrant, IsArrival, IsPeek, ends_by, leaves_with, leaves_by, counts_by, tries_by, asks_by, looks_by, comes_by, peeks_by, either_at}
+use Rattle.spin_rwlock.specs.Rw.{part, Word, IsRw, rw_ways, IsRwWord, Told, Turn, OneMove, Ending, use_of_view, use_of_party, seat_of, model, words_of, in_call, IsOut, grants, still, call_of, asks, weight_of, downgrade_to, came, Comes, MayCome, MayWrite, moves_of, outcome_of, outcomes_of, AreSteps, steps_of, behind_write, course_of, says_with, ends_by, leaves_by, counts_by, Attempt, tries_by, try_write, write, try_upgrade, upgrade, asks_by, looks_by, comes_by, peeks_by, either_at}
+use Rattle.spin_rwlock.specs.Steps.{May, FitsUse}
 
 pub kind : (v : View) → OfReaders part v
 kind Reading = (λ p. refl, λ p. refl)
@@ -95,21 +98,21 @@ out_holds_none (Some (Coming c n)) out = refl
 out_holds_none (Some WaitingToWrite) out = absurd cc
 out_holds_none (Some _) out = absurd cc
 
-looks : (view : Option View) → IsOut view → Allows Word (ways rw-lock) view (λ n. n) (To IsRwWord (λ n. Idle))
-looks view out = allows rw-lock view (λ n. n) (To IsRwWord (λ n. Idle)) (λ s p room order has. (Idle, by_none rw-lock view Idle s p (ap (entries_of p) (out_holds_none view out)) tt, ((s, room, order, refl), refl)))
-
-turns_by : (v w : View) (k l : Kind) (by : ℕ) → ((p : ℕ) → entries_of p (part v) ≡ entries_of p (holds k)) → ((p : ℕ) → entries_of p (part w) ≡ entries_of p (holds l)) → ((s : Plain) → Knows s (part w)) → may_turn k l ≡ true → weight k + by ≡ weight l
+turns_by : (v w : View) (k l : Kind) (by : ℕ) → ((p : ℕ) → entries_of p (part v) ≡ entries_of p (holds k))
+    → ((p : ℕ) → entries_of p (part w) ≡ entries_of p (holds l)) → ((s : Plain) → Knows s (part w)) → may_turn k l ≡ true → weight k + by ≡ weight l
     → Allows Word (ways rw-lock) (Some v) (λ n. (n + by) % 2 ^ 64) (To (Weighs 0) (λ n. w))
 turns_by v w k l by was now knows down less = allows rw-lock (Some v) (λ n. (n + by) % 2 ^ 64) (To (Weighs 0) (λ n. w)) (λ s p room order has.
     let stands = is_holder-from_entries p k s.holders (ap (λ e. e.holders) (has.0 ∙ was p)) in
     let small = bounded (with_kind p k l s.holders) (omega (arith, length-with_kind p k l s.holders, fits_cap s room order)) in (
       w,
-      by_step rw-lock (Some v) w s (turns p k l) ((rw_word s + by) % 2 ^ 64) tt (rw (stands, down) refl) (ap (entries_after s (Some (turns p k l))) (was p) ∙ (turn-own s p k l ∙ sym (now p))) (knows (apply s (turns p k l)))
+      by_step rw-lock (Some v) w s (turns p k l) ((rw_word s + by) % 2 ^ 64) tt (rw (stands, down) refl)
+          (ap (entries_after s (Some (turns p k l))) (was p) ∙ (turn-own s p k l ∙ sym (now p))) (knows (apply s (turns p k l)))
           (omega (arith, sum-turned weight p k l s.holders stands, less, small)) refl,
       ((omega arith, bounded s.holders (fits_cap s room order)), refl),
     ))
 
-goes : (v : View) (k : Kind) → ((p : ℕ) → entries_of p (part v) ≡ entries_of p (holds k)) → Allows Word (ways rw-lock) (Some v) (λ n. (n + (2 ^ 64 - weight k)) % 2 ^ 64) (To (Weighs (weight k)) (λ n. Idle))
+goes : (v : View) (k : Kind) → ((p : ℕ) → entries_of p (part v) ≡ entries_of p (holds k))
+    → Allows Word (ways rw-lock) (Some v) (λ n. (n + (2 ^ 64 - weight k)) % 2 ^ 64) (To (Weighs (weight k)) (λ n. Idle))
 goes v k was = leaves_at rw-lock weight (λ s. refl) (λ s room order. bounded s.holders (fits_cap s room order)) v k was
 
 -- a free lock admits each reader
@@ -132,30 +135,45 @@ pub may_write : (view : Option View) → MayWrite view → part_before part view
 may_write view (inl out) = out_holds_none view out
 may_write view (inr is) = rw is refl
 
-comes : (won : View) (c : RwCall) → Comes won → (view : Option View) (old new : ℕ) → MayCome c old view → Admits won old new → Allows Word (ways rw-lock) view (λ n. either (n == old) new n) (λ n v. v ≡ came won c old n)
-comes Reading c cm view old new may plain = exchanges_at rw-lock view to_read Reading (Coming c) old new (may_come c old view may) (λ n. refl) (λ s p. refl) (λ s. tt) (λ s p order room e. plain s p (one_of_each s order.exclusive) room e)
-comes Upgradable c cm view old new may plain = exchanges_at rw-lock view to_read_upgradable Upgradable (Coming c) old new (may_come c old view may) (λ n. refl) (λ s p. refl) (λ s. tt) (λ s p order room e. plain s p (one_of_each s order.exclusive) room e)
+comes : (won : View) (c : RwCall) → Comes won → (view : Option View) (old new : ℕ) → MayCome c old view → Admits won old new
+    → Allows Word (ways rw-lock) view (λ n. either (n == old) new n) (λ n v. v ≡ came won c old n)
+comes Reading c cm view old new may plain =
+    exchanges_at rw-lock view to_read Reading (Coming c) old new (may_come c old view may) (λ n. refl) (λ s p. refl) (λ s. tt)
+    (λ s p order room e. plain s p (one_of_each s order.exclusive) room e)
+comes Upgradable c cm view old new may plain =
+    exchanges_at rw-lock view to_read_upgradable Upgradable (Coming c) old new (may_come c old view may) (λ n. refl) (λ s p. refl) (λ s. tt)
+    (λ s p order room e. plain s p (one_of_each s order.exclusive) room e)
 comes _ c cm view old new may plain = absurd cm
 
-looks_again : (c : RwCall) (old : ℕ) → Allows Word (ways rw-lock) (Some (Coming c old)) (λ n. n) (λ n v. v ≡ Coming c n)
-looks_again c old = looks_at rw-lock (Some (Coming c old)) (Coming c) refl (λ n. refl)
+writes_at : (view : Option View) → part_before part view ≡ idle → (lost : View) → part lost ≡ idle → (old new : ℕ)
+    → ((s : Plain) (p : ℕ) → rw_word s ≡ old → Decides s (gets p to_write) rw_word (Some new))
+    → Allows Word (ways rw-lock) view (λ n. either (n == old) new n) (λ n v. v ≡ either_at old Writing lost n)
+writes_at view none lost still old new plain =
+    exchanges_at rw-lock view to_write Writing (λ n. lost) old new none (λ n. still) (λ s p. refl) (λ s. tt) (λ s p order room e. plain s p e)
 
-writes_at : (view : Option View) → part_before part view ≡ idle → (lost : View) → part lost ≡ idle → (old new : ℕ) → ((s : Plain) (p : ℕ) → rw_word s ≡ old → Decides s (gets p to_write) rw_word (Some new)) → Allows Word (ways rw-lock) view (λ n. either (n == old) new n) (λ n v. v ≡ either_at old Writing lost n)
-writes_at view none lost still old new plain = exchanges_at rw-lock view to_write Writing (λ n. lost) old new none (λ n. still) (λ s p. refl) (λ s. tt) (λ s p order room e. plain s p e)
+-- an exchange of the word `old` for the word `new` gives a holder of this kind what it asks
+abbrev Raises : Kind → Ask → ℕ → ℕ → Type 0
+Raises k ask old new = (s : Plain) (p : ℕ) → OneOfEach s → is_holder p k s.holders ≡ true → rw_word s ≡ old → Decides s (gets p ask) rw_word (Some new)
 
-upgrades_at : (old new : ℕ) → ((s : Plain) (p : ℕ) → OneOfEach s → is_holder p upgradable s.holders ≡ true → rw_word s ≡ old → Decides s (gets p to_upgrade) rw_word (Some new)) → Allows Word (ways rw-lock) (Some Upgradable) (λ n. either (n == old) new n) (λ n v. v ≡ either_at old Writing Upgradable n)
-upgrades_at old new plain = gets_at rw-lock (Some Upgradable) to_upgrade Writing (λ n. Upgradable) old new (λ s p. rw (eq-eqb p p refl) refl) (λ s. tt) (λ n. refl) (λ s n. tt)
-    (λ s p vs room order is has small e. plain s p (one_of_each s order.exclusive) (is_holder-from_entries p upgradable s.holders (ap (λ e. e.holders) has.0)) e)
-
-upgrades_asked_at : (old new : ℕ) → ((s : Plain) (p : ℕ) → OneOfEach s → is_holder p asking s.holders ≡ true → rw_word s ≡ old → Decides s (gets p to_upgrade_asked) rw_word (Some new)) → Allows Word (ways rw-lock) (Some Asking) (λ n. either (n == old) new n) (λ n v. v ≡ either_at old WritingAsked Asking n)
-upgrades_asked_at old new plain = gets_at rw-lock (Some Asking) to_upgrade_asked WritingAsked (λ n. Asking) old new (λ s p. rw (eq-eqb p p refl) refl) (λ s. tt) (λ n. refl) (λ s n. tt)
-    (λ s p vs room order is has small e. plain s p (one_of_each s order.exclusive) (is_holder-from_entries p asking s.holders (ap (λ e. e.holders) has.0)) e)
+raises_at : (v won : View) (k : Kind) (ask : Ask) → part v ≡ holds k
+    → ((s : Plain) (p : ℕ) → entries_after s (Some (gets p ask)) (entries_of p (part v)) ≡ entries_of p (part won))
+    → ((s : Plain) → Knows s (part won)) → ((s : Plain) → Knows s (part v)) → (old new : ℕ) → Raises k ask old new
+    → Allows Word (ways rw-lock) (Some v) (λ n. either (n == old) new n) (λ n u. u ≡ either_at old won v n)
+raises_at v won k ask is comes knows still old new plain =
+    gets_at rw-lock (Some v) ask won (λ n. v) old new comes knows (λ n. refl) (λ s n. still s)
+    (λ s p vs room order at has small e. plain s p (one_of_each s order.exclusive) (is_holder-from_entries p k s.holders (ap (λ e. e.holders) (has.0 ∙ ap (entries_of p) is))) e)
 
 -- a party that writes is a writer in the plain lock, whether or not it asked before
 writes_as : (v : View) → use_of_view v ≡ writes → (p : ℕ) → entries_of p (part v) ≡ entries_of p (holds writing)
 writes_as Writing e p = refl
 writes_as WritingAsked e p = refl
 writes_as _ e p = absurd cc
+
+-- and it sits in the model as a writer
+writes_sits : (v : View) → use_of_view v ≡ writes → seat_of v ≡ seat.Holding hold.Write
+writes_sits Writing e = refl
+writes_sits WritingAsked e = refl
+writes_sits _ e = absurd cc
 
 pub not_in_call : (view : Option View) → IsOut view → in_call view ≡ false
 not_in_call None out = refl
@@ -177,197 +195,119 @@ sits_idle Reading cm n none = rw none refl
 sits_idle Upgradable cm n none = rw none refl
 sits_idle _ cm n none = absurd cm
 
--- The moves of each step: those of a whole call of one step, or a step of a call under way
+-- The moves of each step
+
+-- these moves are moves of a call, and none is skipped
+module _ {T : Type 0} where
+  steps_only : (answers : List (Option (Answer T))) → list_all (is_of_call {C = RwCall} {V = T}) (map (λ _. Step) answers) ≡ true
+  steps_only [] = refl
+  steps_only (a ∷ answers) = steps_only answers
+
+  none_skipped : (answers : List (Option (Answer T))) → list_all is_played (map outcome_of answers) ≡ true
+  none_skipped [] = refl
+  none_skipped (None ∷ answers) = none_skipped answers
+  none_skipped (Some a ∷ answers) = none_skipped answers
+
+  of_a_call : (goes_on : Bool) (c : RwCall) (answers : List (Option (Answer T))) → list_all is_of_call (moves_of goes_on c answers) ≡ true
+  of_a_call true c answers = steps_only answers
+  of_a_call false c answers = steps_only answers
+
+  all_played : (goes_on : Bool) (answers : List (Option (Answer T))) → list_all is_played (outcomes_of goes_on answers) ≡ true
+  all_played true answers = none_skipped answers
+  all_played false answers = none_skipped answers
 
 module _ {T : Type 0} (v₀ : T) where
-  -- the moves of a whole call of one step
-  abbrev once : RwCall → List (OneMove T)
-  once c = Begin c ∷ Step ∷ []
+  abbrev sits_at : Option View → Seat RwCall RwPoint
+  sits_at = sits (model v₀) seat_of words_of
 
-  abbrev with : Ending T → List (Ending T)
-  with end = Begun ∷ end ∷ []
-
-  abbrev Moves : Option View → (ℕ → ℕ) → (ℕ → View → Type 0) → Says T → Type 0
-  Moves view f = AreMoves (model v₀) seat_of words_of view (on_first f) first
+  -- a party that is in no call, and holds nothing, sits in the model as a new party does
+  sits_out : (view : Option View) → IsOut view → sits_at view ≡ seat.Idle
+  sits_out None out = refl
+  sits_out (Some v) out = seat_idle (seat_of v) out
 
   abbrev alone : ℕ → Option T → Seat RwCall RwPoint → State ℕ T RwCall RwPoint
   alone w value sits = record { words = w; value = value; seats = sits ∷ [] }
 
-  -- a party that is in no call, and holds nothing, sits in the model as a new party does
-  module _ (f : ℕ → ℕ) (so : ℕ → View → Type 0) (says : Says T) where
-    abbrev FromSeat : Seat RwCall RwPoint → Type 0
-    FromSeat sits =
-        (w : ℕ) (value : Option T) (u : View) → so w u
-        → (own : List (OneMove T)) × (outs : List (Ending T)) × says own outs w u × (list_all is_of_call own ≡ true) × (list_all is_played outs ≡ true) × (w' : ℕ) × (now : Option T)
-        × (after (model v₀) (alone w value sits) (of_one (model v₀) seat_of words_of own) ≡ alone w' now (seat_of u))
-        × (outcomes (model v₀) (alone w value sits) (of_one (model v₀) seat_of words_of own) ≡ outs) × (words_of w' ≡ on_first f (words_of w))
+  -- a party alone in the model makes these moves, with these outcomes, from one word and seat to another
+  abbrev Plays : ℕ → Option T → Seat RwCall RwPoint → List (OneMove T) → ℕ → Option T → View → List (Ending T) → Type 0
+  Plays w value from own w' now to outs =
+      let s = alone w value from in let es = of_one (model v₀) seat_of words_of own in
+      (after (model v₀) s es ≡ alone w' now (seat_of to)) × (outcomes (model v₀) s es ≡ outs)
 
-    as_new : (view : Option View) → IsOut view → Moves None f so says → Moves view f so says
-    as_new None out moves = moves
-    as_new (Some v) out moves = subst FromSeat (sym (seat_idle (seat_of v) out)) moves
+  -- the moves of the step `turn`, which applies `f` to the word
+  abbrev PlaysTurn : Option View → (ℕ → ℕ) → (ℕ → Turn T) → ℕ → Option T → Type 0
+  PlaysTurn view f turn w value =
+      let t = turn w in Plays w value (sits_at view) (moves_of t.goes_on t.call t.answers) (f w) value t.to (outcomes_of t.goes_on t.answers)
 
-  readers_moves : Moves None (λ n. n) (To IsRwWord (λ n. Idle)) (counts_by call.ReaderCount readers_in)
-  readers_moves w value v (word, is) =
-      rw is (once call.ReaderCount, with (Answered (Count (readers_in w)) None), (word, (refl, (refl, refl))), refl, refl, w, value, refl, refl, refl)
+  abbrev Tries : Option View → Attempt T → Type 0
+  Tries view a = (w : ℕ) (value : Option T) → PlaysTurn view (swaps a.old 1) (tries_by a) w value
 
-  writers_moves : Moves None (λ n. n) (To IsRwWord (λ n. Idle)) (counts_by call.WriterCount writers_in)
-  writers_moves w value v (word, is) =
-      rw is (once call.WriterCount, with (Answered (Count (writers_in w)) None), (word, (refl, (refl, refl))), refl, refl, w, value, refl, refl, refl)
+  try_write_plays : (view : Option View) → IsOut view → Tries view try_write
+  try_write_plays view out w value = rw (sits_out view out) (grind arith, grind arith)
 
-  -- an exchange by which the party may become the writer
-  abbrev Tries : Option View → Bool → RwCall → ℕ → Ending T → View → View → Type 0
-  Tries view goes_on c old end won lost = Moves view (swaps old 1) (λ n v. v ≡ either_at old won lost n) (tries_by goes_on c old end won lost)
+  write_plays : (view : Option View) → MayWrite view → Tries view (write (in_call view))
+  write_plays view (inl out) w value = rw (not_in_call view out, sits_out view out) (grind arith, grind arith)
+  write_plays view (inr is) w value = rw is (grind arith, grind arith)
 
-  abbrev refused : Ending T
-  refused = Answered Refused None
+  release_plays : (won : View) → Comes won → (w : ℕ) (value : Option T) → Weighs (weight_of won) w
+      → PlaysTurn (Some won) (λ n. (n + (2 ^ 64 - weight_of won)) % 2 ^ 64) (λ n. ends_by call.Release Done Idle) w value
+  release_plays Reading cm w value some = rw (less_by w 8 some) (refl, refl)
+  release_plays Upgradable cm w value some = rw (less_by w 2 some) (refl, refl)
+  release_plays _ cm w value some = absurd cm
 
-  abbrev tried : ℕ → Ending T → ℕ → Ending T
-  tried old = either_at old (Answered Granted None)
+  -- A writer that ends, whether or not it asked before. It writes the value `x`, and then makes the call.
+  abbrev Leaves_by : T → (ℕ → ℕ) → (ℕ → Type 0) → RwCall → View → Type 0
+  Leaves_by x f so c to =
+      (w : ℕ) (value : Option T) → so w → Plays w value (seat.Holding hold.Write) (Write x ∷ moves_of false c (Some Done ∷ [])) (f w) (Some x) to
+      (Written ∷ outcomes_of false (Some Done ∷ []))
 
-  try_write_moves : Tries None false call.TryWrite 0 refused Writing Idle
-  try_write_moves w value v is =
-      (once call.TryWrite, with (tried 0 refused w), (is, (refl, refl)), refl, grind arith, swaps 0 1 w, value, grind (arith, is), grind arith, refl)
-
-  write_first : Tries None false call.Write 0 GoingOn Writing WaitingToWrite
-  write_first w value v is =
-      (once call.Write, with (tried 0 GoingOn w), (is, (refl, refl)), refl, grind arith, swaps 0 1 w, value, grind (arith, is), grind arith, refl)
-
-  write_again : Tries (Some WaitingToWrite) true call.Write 0 GoingOn Writing WaitingToWrite
-  write_again w value v is =
-      (Step ∷ [], tried 0 GoingOn w ∷ [], (is, (refl, refl)), refl, grind arith, swaps 0 1 w, value, grind (arith, is), grind arith, refl)
-
-  write_moves : (view : Option View) → MayWrite view → Tries view (in_call view) call.Write 0 GoingOn Writing WaitingToWrite
-  write_moves view (inr is) = rw is write_again
-  write_moves view (inl out) =
-      let so : ℕ → View → Type 0 = λ n v. v ≡ either_at 0 Writing WaitingToWrite n in
-      rw (not_in_call view out) (as_new (swaps 0 1) so (tries_by false call.Write 0 GoingOn Writing WaitingToWrite) view out write_first)
-
-  try_upgrade_moves : Tries (Some Upgradable) false call.TryUpgrade 2 refused Writing Upgradable
-  try_upgrade_moves w value v is =
-      (once call.TryUpgrade, with (tried 2 refused w), (is, (refl, refl)), refl, grind arith, swaps 2 1 w, value, grind (arith, is), grind arith, refl)
-
-  upgrade_moves : Tries (Some Asking) true call.Upgrade 6 GoingOn WritingAsked Asking
-  upgrade_moves w value v is =
-      (Step ∷ [], tried 6 GoingOn w ∷ [], (is, (refl, refl)), refl, grind arith, swaps 6 1 w, value, grind (arith, is), grind arith, refl)
-
-  ask_moves : Moves (Some Upgradable) (λ n. (n + 4) % 2 ^ 64) (To (Weighs 0) (λ n. Asking)) asks_by
-  ask_moves w value v (small, is) =
-      rw is (once call.Upgrade, with GoingOn, (refl, (refl, refl)), refl, refl, w + 4, value, refl, refl, rw (fits_in w 4 small.1 (omega arith)) refl)
-
-  downgrade_moves : Moves (Some Upgradable) (λ n. (n + 6) % 2 ^ 64) (To (Weighs 0) (λ n. Reading)) (ends_by call.Downgrade (λ n. Done) (λ n. Reading))
-  downgrade_moves w value v (small, is) =
-      rw is (once call.Downgrade, with (Answered Done None), (refl, (refl, refl)), refl, refl, w + 6, value, refl, refl, rw (fits_in w 6 small.1 (omega arith)) refl)
-
-  -- a call by which a writer ends, whether or not the writer asked before; it first writes the value `x`
-  writer_moves : (x : T) (u : View) → use_of_view u ≡ writes → (f : ℕ → ℕ) (so : ℕ → View → Type 0) (c : RwCall) (to : View)
-      → ((w : ℕ) (v : View) → so w v → (v ≡ to)
-      × ((value : Option T) → Goes (model v₀) seat_of words_of (Some Writing) to w value (f w, tt) (λ own outs. leaves_with (λ y. y ≡ x) c to own outs w to)))
-      → Moves (Some u) f so (leaves_with (λ y. y ≡ x) c to)
-  writer_moves x Writing e f so c to goes w value v is = let g = goes w v is in rw g.0 (g.1 value)
-  writer_moves x WritingAsked e f so c to goes w value v is = let g = goes w v is in rw g.0 (g.1 value)
-  writer_moves x _ e f so c to goes w value v is = absurd cc
-
-  abbrev ended : List (Ending T)
-  ended = Written ∷ with (Answered Done None)
-
-  -- the moves of a writer that ends: it writes the value, and then makes the call
-  abbrev ending : T → RwCall → List (OneMove T)
-  ending x c = Write x ∷ once c
-
-  writes_and : (x : T) (c : RwCall) (to : View) (w : ℕ) → leaves_with (λ y. y ≡ x) c to (ending x c) ended w to
-  writes_and x c to w = (refl, (x, refl, (once c, with (Answered Done None), refl, refl, (refl, refl))))
-
-  writer_reads_moves : (x : T) (u : View) → use_of_view u ≡ writes → (won : View) → Comes won
-      → Moves (Some u) (λ n. (n + (weight_of won - 1)) % 2 ^ 64) (To (Weighs 0) (λ n. won)) (leaves_with (λ y. y ≡ x) (downgrade_to won) won)
-  writer_reads_moves x u e Reading cm = writer_moves x u e (λ n. (n + 7) % 2 ^ 64) (To (Weighs 0) (λ n. Reading)) call.Downgrade Reading (λ w v (small, is).
-      (is, λ value. (ending x call.Downgrade, ended, writes_and x call.Downgrade Reading w, refl, refl, w + 7, Some x, refl, refl, rw (fits_in w 7 small.1 (omega arith)) refl)))
-  writer_reads_moves x u e Upgradable cm = writer_moves x u e (λ n. (n + 1) % 2 ^ 64) (To (Weighs 0) (λ n. Upgradable)) call.DowngradeToUpgradeable Upgradable (λ w v (small, is).
-      (is, λ value. (ending x call.DowngradeToUpgradeable, ended, writes_and x call.DowngradeToUpgradeable Upgradable w, refl, refl, w + 1, Some x, refl, refl, rw (fits_in w 1 small.1 (omega arith)) refl)))
-  writer_reads_moves x u e _ cm = absurd cm
-
-  writer_leaves_moves : (x : T) (u : View) → use_of_view u ≡ writes → Moves (Some u) (λ n. (n + (2 ^ 64 - 1)) % 2 ^ 64) (To (Weighs 1) (λ n. Idle)) (leaves_with (λ y. y ≡ x) call.Release Idle)
-  writer_leaves_moves x u e = writer_moves x u e (λ n. (n + (2 ^ 64 - 1)) % 2 ^ 64) (To (Weighs 1) (λ n. Idle)) call.Release Idle (λ w v (some, is).
-      (is, λ value. (ending x call.Release, ended, writes_and x call.Release Idle w, refl, refl, w - 1, Some x, refl, refl, rw (less_by w 1 some) refl)))
-
-  release_moves : (won : View) → Comes won → Moves (Some won) (λ n. (n + (2 ^ 64 - weight_of won)) % 2 ^ 64) (To (Weighs (weight_of won)) (λ n. Idle)) (ends_by call.Release (λ n. Done) (λ n. Idle))
-  release_moves Reading cm w value v (some, is) =
-      rw is (once call.Release, with (Answered Done None), (refl, (refl, refl)), refl, refl, w - 8, value, refl, refl, rw (less_by w 8 some) refl)
-  release_moves Upgradable cm w value v (some, is) =
-      rw is (once call.Release, with (Answered Done None), (refl, (refl, refl)), refl, refl, w - 2, value, refl, refl, rw (less_by w 2 some) refl)
-  release_moves _ cm w value v so = absurd cm
+  writer_reads_plays : (x : T) (won : View) → Comes won → Leaves_by x (λ n. (n + (weight_of won - 1)) % 2 ^ 64) (Weighs 0) (downgrade_to won) won
+  writer_reads_plays x Reading cm w value small = rw (fits_in w 7 small.1 (omega arith)) (refl, refl)
+  writer_reads_plays x Upgradable cm w value small = rw (fits_in w 1 small.1 (omega arith)) (refl, refl)
+  writer_reads_plays x _ cm w value small = absurd cm
 
   -- The moves of a call that wants to read
 
-  abbrev Leads : Option View → ℕ → ℕ → (ℕ → View) → Says T → Type 0
-  Leads view old new to says =
-      (w : ℕ) (value : Option T) (v : View) → v ≡ to w → (b : Bool) → (w == old) ≡ b
-      → Goes (model v₀) seat_of words_of view v w value (swaps old new w, tt) (λ own outs. says own outs w v)
-
-  by_found : (view : Option View) (old new : ℕ) (to : ℕ → View) (says : Says T) → Leads view old new to says → Moves view (swaps old new) (λ n v. v ≡ to n) says
-  by_found view old new to says goes w value v is = goes w value v is (w == old) refl
-
-  abbrev granted : List (Ending T)
-  granted = Answered Granted None ∷ []
-
-  abbrev fails : RwCall → ℕ → List (Ending T)
-  fails c w = with (missed c w)
+  abbrev Arrives : Option View → Bool → View → RwCall → ℕ → ℕ → Type 0
+  Arrives view goes_on won c old new = (w : ℕ) (value : Option T) → PlaysTurn view (swaps old new) (comes_by goes_on won c old) w value
 
   -- the exchange that begins the call expects 0; it is two steps of the model if it succeeds, otherwise one
-  first_leads : (won : View) (waits : Bool) → Comes won → (new : ℕ) → grants (call_of won waits) 0 ≡ Some new
-      → Leads None 0 new (came won (call_of won waits) 0) (comes_by false won (call_of won waits) 0)
-  first_leads Reading false cm new grant w value v is true e =
-      (Begin call.TryRead ∷ Step ∷ Step ∷ [], Begun ∷ GoingOn ∷ granted, (is, rw e (refl, refl)), refl, refl, new, value, grind (arith, is, e, grant), grind (arith, is, e, grant), grind (arith, e))
-  first_leads Reading false cm new grant w value v is false e =
-      (once call.TryRead, fails call.TryRead w, (is, rw e (refl, refl)), refl, grind arith, w, value, grind (arith, is, e, grant), grind (arith, e), grind (arith, e))
-  first_leads Reading true cm new grant w value v is true e =
-      (Begin call.Read ∷ Step ∷ Step ∷ [], Begun ∷ GoingOn ∷ granted, (is, rw e (refl, refl)), refl, refl, new, value, grind (arith, is, e, grant), grind (arith, is, e, grant), grind (arith, e))
-  first_leads Reading true cm new grant w value v is false e =
-      (once call.Read, fails call.Read w, (is, rw e (refl, refl)), refl, grind arith, w, value, grind (arith, is, e, grant), grind (arith, e), grind (arith, e))
-  first_leads Upgradable false cm new grant w value v is true e =
-      (Begin call.TryUpgradeableRead ∷ Step ∷ Step ∷ [], Begun ∷ GoingOn ∷ granted, (is, rw e (refl, refl)), refl, refl, new, value, grind (arith, is, e, grant), grind (arith, is, e, grant), grind (arith, e))
-  first_leads Upgradable false cm new grant w value v is false e =
-      (once call.TryUpgradeableRead, fails call.TryUpgradeableRead w, (is, rw e (refl, refl)), refl, grind arith, w, value, grind (arith, is, e, grant), grind (arith, e), grind (arith, e))
-  first_leads Upgradable true cm new grant w value v is true e =
-      (Begin call.UpgradeableRead ∷ Step ∷ Step ∷ [], Begun ∷ GoingOn ∷ granted, (is, rw e (refl, refl)), refl, refl, new, value, grind (arith, is, e, grant), grind (arith, is, e, grant), grind (arith, e))
-  first_leads Upgradable true cm new grant w value v is false e =
-      (once call.UpgradeableRead, fails call.UpgradeableRead w, (is, rw e (refl, refl)), refl, grind arith, w, value, grind (arith, is, e, grant), grind (arith, e), grind (arith, e))
-  first_leads _ waits cm new grant w value v is b e = absurd cm
+  comes_first : (won : View) (waits : Bool) → Comes won → (new : ℕ) → grants (call_of won waits) 0 ≡ Some new → Arrives None false won (call_of won waits) 0 new
+  comes_first Reading false cm new grant w value = (grind (arith, grant), grind (arith, grant))
+  comes_first Reading true cm new grant w value = (grind (arith, grant), grind (arith, grant))
+  comes_first Upgradable false cm new grant w value = (grind (arith, grant), grind (arith, grant))
+  comes_first Upgradable true cm new grant w value = (grind (arith, grant), grind (arith, grant))
+  comes_first _ waits cm new grant w value = absurd cm
 
   -- a further exchange, which expects the word found
-  again_leads : (won : View) (waits : Bool) → Comes won → (old new : ℕ) → grants (call_of won waits) old ≡ Some new
-      → Leads (Some (Coming (call_of won waits) old)) old new (came won (call_of won waits) old) (comes_by true won (call_of won waits) old)
-  again_leads Reading false cm old new grant w value v is true e = (Step ∷ [], granted, (is, rw e (refl, refl)), refl, refl, new, value, grind (arith, is, e, grant), grind (arith, is, e, grant), grind (arith, e))
-  again_leads Reading false cm old new grant w value v is false e = (Step ∷ [], missed call.TryRead w ∷ [], (is, rw e (refl, refl)), refl, grind arith, w, value, grind (arith, is, e, grant), grind (arith, e, grant), grind (arith, e))
-  again_leads Reading true cm old new grant w value v is true e = (Step ∷ [], granted, (is, rw e (refl, refl)), refl, refl, new, value, grind (arith, is, e, grant), grind (arith, is, e, grant), grind (arith, e))
-  again_leads Reading true cm old new grant w value v is false e = (Step ∷ [], missed call.Read w ∷ [], (is, rw e (refl, refl)), refl, grind arith, w, value, grind (arith, is, e, grant), grind (arith, e, grant), grind (arith, e))
-  again_leads Upgradable false cm old new grant w value v is true e = (Step ∷ [], granted, (is, rw e (refl, refl)), refl, refl, new, value, grind (arith, is, e, grant), grind (arith, is, e, grant), grind (arith, e))
-  again_leads Upgradable false cm old new grant w value v is false e = (Step ∷ [], missed call.TryUpgradeableRead w ∷ [], (is, rw e (refl, refl)), refl, grind arith, w, value, grind (arith, is, e, grant), grind (arith, e, grant), grind (arith, e))
-  again_leads Upgradable true cm old new grant w value v is true e = (Step ∷ [], granted, (is, rw e (refl, refl)), refl, refl, new, value, grind (arith, is, e, grant), grind (arith, is, e, grant), grind (arith, e))
-  again_leads Upgradable true cm old new grant w value v is false e = (Step ∷ [], missed call.UpgradeableRead w ∷ [], (is, rw e (refl, refl)), refl, grind arith, w, value, grind (arith, is, e, grant), grind (arith, e, grant), grind (arith, e))
-  again_leads _ waits cm old new grant w value v is b e = absurd cm
+  comes_again : (won : View) (waits : Bool) → Comes won → (old new : ℕ) → grants (call_of won waits) old ≡ Some new
+      → Arrives (Some (Coming (call_of won waits) old)) true won (call_of won waits) old new
+  comes_again Reading false cm old new grant w value = (grind (arith, grant), grind (arith, grant))
+  comes_again Reading true cm old new grant w value = (grind (arith, grant), grind (arith, grant))
+  comes_again Upgradable false cm old new grant w value = (grind (arith, grant), grind (arith, grant))
+  comes_again Upgradable true cm old new grant w value = (grind (arith, grant), grind (arith, grant))
+  comes_again _ waits cm old new grant w value = absurd cm
 
-  come_moves : (won : View) (waits : Bool) → Comes won → (view : Option View) (old new : ℕ) → MayCome (call_of won waits) old view → grants (call_of won waits) old ≡ Some new
-      → Moves view (swaps old new) (λ n v. v ≡ came won (call_of won waits) old n) (comes_by (in_call view) won (call_of won waits) old)
-  come_moves won waits cm view old new (inl (out, free)) grant =
-      let c = call_of won waits in
-      let says : Says T = comes_by false won c 0 in
-      rw (not_in_call view out, free) (as_new (swaps 0 new) (λ n v. v ≡ came won c 0 n) says view out (by_found None 0 new (came won c 0) says (first_leads won waits cm new (rw free at grant))))
-  come_moves won waits cm view old new (inr is) grant =
-      let c = call_of won waits in
-      rw (is, lets_in won waits cm old new grant)
-      (by_found (Some (Coming c old)) old new (came won c old) (comes_by true won c old) (again_leads won waits cm old new grant))
+  come_plays : (won : View) (waits : Bool) → Comes won → (view : Option View) (old new : ℕ) → MayCome (call_of won waits) old view
+      → grants (call_of won waits) old ≡ Some new
+      → Arrives view (in_call view) won (call_of won waits) old new
+  come_plays won waits cm view old new (inl (out, free)) grant w value =
+      rw (not_in_call view out, free, sits_out view out) (comes_first won waits cm new (rw free at grant) w value)
+  come_plays won waits cm view old new (inr is) grant w value = rw (is, lets_in won waits cm old new grant) (comes_again won waits cm old new grant w value)
 
   -- the load of a call that waits, after a word that did not admit the reader
-  look_moves : (won : View) → Comes won → (old : ℕ) → grants (call_of won true) old ≡ None → Moves (Some (Coming (call_of won true) old)) (λ n. n) (λ n v. v ≡ Coming (call_of won true) n) (looks_by (call_of won true))
-  look_moves Reading cm old none w value v is = rw is (Step ∷ [], GoingOn ∷ [], (refl, (refl, refl)), refl, refl, w, value, grind (arith, none), grind (arith, none), refl)
-  look_moves Upgradable cm old none w value v is = rw is (Step ∷ [], GoingOn ∷ [], (refl, (refl, refl)), refl, refl, w, value, grind (arith, none), grind (arith, none), refl)
-  look_moves _ cm old none w value v is = absurd cm
+  look_plays : (won : View) → Comes won → (old : ℕ) → grants (call_of won true) old ≡ None → (w : ℕ) (value : Option T)
+      → PlaysTurn (Some (Coming (call_of won true) old)) (λ n. n) (looks_by (call_of won true)) w value
+  look_plays Reading cm old none w value = (grind (arith, none), grind (arith, none))
+  look_plays Upgradable cm old none w value = (grind (arith, none), grind (arith, none))
+  look_plays _ cm old none w value = absurd cm
 
-  -- the exchange of `{:?}`: a whole `try_read` if it succeeds, otherwise a `reader_count`
-  peek_first : (old new : ℕ) → grants call.TryRead old ≡ Some new → Leads None old new (either_at old Reading Idle) (peeks_by old)
-  peek_first old new grant w value v is true e = (Begin call.TryRead ∷ Step ∷ Step ∷ [], Begun ∷ GoingOn ∷ Answered Granted None ∷ [], (is, rw e (refl, refl)), refl, refl, new, value, grind (arith, is, e, grant), grind (arith, is, e, grant), grind (arith, e))
-  peek_first old new grant w value v is false e =
-      (once call.ReaderCount, with (Answered (Count (readers_in w)) None), (is, rw e (refl, refl)), refl, refl, w, value, grind (arith, is, e), refl, grind (arith, e))
+  peek_plays : (old new : ℕ) → grants call.TryRead old ≡ Some new → (w : ℕ) (value : Option T) → PlaysTurn None (swaps old new) (peeks_by old) w value
+  peek_plays old new grant w value = at (w == old) refl
+    where
+      at : (b : Bool) → (w == old) ≡ b → PlaysTurn None (swaps old new) (peeks_by old) w value
+      at true e = rw e (grind (arith, grant, e), grind (arith, grant, e))
+      at false e = rw e (grind (arith, grant, e), grind (arith, grant, e))
 
 -- Each step keeps the rule, and appends its moves to the trace
 
@@ -383,7 +323,17 @@ pub is_not_writing : (u : View) → use_of_view u ≢ writes → (view : Option 
 is_not_writing u not view is = rw is not
 
 module _ {T : Type 0} where
-  -- moves that write nothing leave the value as it was; below, moves that write `x` last leave `x`
+  -- steps of a call leave the value as it was
+  steps_leave : (answers : List (Option (Answer T))) (v : T) → left {C = RwCall} (map (λ _. Step) answers) v ≡ v
+  steps_leave [] v = refl
+  steps_leave (a ∷ answers) v = steps_leave answers v
+
+  pub calls_leave : (goes_on : Bool) (c : RwCall) (answers : List (Option (Answer T))) (own : List (OneMove T)) (outs : List (Ending T))
+      → AreSteps goes_on c answers own outs → (v : T) → left own v ≡ v
+  calls_leave true c answers own outs are v = ap (λ o. left o v) are.0 ∙ steps_leave answers v
+  calls_leave false c answers own outs are v = ap (λ o. left o v) are.0 ∙ steps_leave answers v
+
+  -- so moves that write nothing leave the value as it was; below, moves that write `x` last leave `x`
   writes_none : (u u' : Use) (shown : Option T) (own : List (OneMove T)) → u ≢ writes → ((v : T) → left own v ≡ v) → Leaves u u' shown own
   writes_none off u' shown own not same = same
   writes_none reads u' shown own not same = same
@@ -396,169 +346,209 @@ module _ {T : Type 0} where
   writes_last off u' x own is all = absurd (let e : off ≡ writes = is in cc)
   writes_last reads u' x own is all = absurd (let e : reads ≡ writes = is in cc)
 
-  abbrev WritesNothing : Says T → Type 0
-  WritesNothing says = (own : List (OneMove T)) (outs : List (Ending T)) (n : ℕ) (u : View) → says own outs n u → (v : T) → left own v ≡ v
-
-  nothing_by : (goes_on : Bool) (c : RwCall) (end : ℕ → Ending T) (to : ℕ → View) → WritesNothing (step_by goes_on c end to)
-  nothing_by goes_on c end to own outs n u said = step_leaves goes_on c (end n) own outs said.1
-
-  nothing_granted : (goes_on : Bool) (c : RwCall) (own : List (OneMove T)) (outs : List (Ending T)) → IsGrant goes_on c own outs → (v : T) → left own v ≡ v
-  nothing_granted true c own outs said v = ap (λ o. left o v) said.0
-  nothing_granted false c own outs said v = ap (λ o. left o v) said.0
-
-  nothing_arrived : (goes_on : Bool) (c : RwCall) (b : Bool) (n : ℕ) (own : List (OneMove T)) (outs : List (Ending T)) → IsArrival goes_on c b n own outs → (v : T) → left own v ≡ v
-  nothing_arrived goes_on c true n own outs said = nothing_granted goes_on c own outs said
-  nothing_arrived goes_on c false n own outs said = step_leaves goes_on c (missed c n) own outs said
-
-  nothing_peeked : (b : Bool) (n : ℕ) (own : List (OneMove T)) (outs : List (Ending T)) → IsPeek b n own outs → (v : T) → left own v ≡ v
-  nothing_peeked true n own outs said v = ap (λ o. left o v) said.0
-  nothing_peeked false n own outs said v = ap (λ o. left o v) said.0
+  pub writes_leave : (x : T) (goes_on : Bool) (c : RwCall) (answers : List (Option (Answer T))) (own : List (OneMove T)) (outs : List (Ending T))
+      → Writes x (AreSteps goes_on c answers) own outs → (v : T) → left own v ≡ x
+  writes_leave x goes_on c answers own outs (rest, comes, is, came, steps) v = ap (λ o. left o v) is ∙ calls_leave goes_on c answers rest comes steps x
 
 module _ {T : Type 0} (opening : Opening T) where
-  abbrev Keeps : Option (Numbered View) → Option T → (ℕ → ℕ) → Says T → Type 0
-  Keeps view shown f says = Traces (IsRw opening) (rw_ways opening) view shown f (Told opening.value says view)
+  is_word : (n : ℕ) (t : Trace (rws.Done T) (Unit {0})) (vs : List (Numbered View)) → Meets (IsRw opening) (rw_ways opening) n t vs → IsRwWord n
+  is_word n t vs meets = let rule = meets.0.1 in (rule.0, rule.1, rule.2, rule.4)
 
-  -- what the rule asks of the value that the moves of a step leave
-  abbrev Leaving : Option View → Option T → Says T → Type 0
-  Leaving view shown says = (own : List (OneMove T)) (outs : List (Ending T)) (n : ℕ) (u : View) → says own outs n u → Leaves (use_of use_of_view view) (use_of_view u) shown own
-
-  keeps : (view : Option (Numbered View)) (shown : Option T) (f : ℕ → ℕ) (so : ℕ → View → Type 0) (says : Says T) → Leaving (what view) shown says → Moves opening.value (what view) f so says → Allows Word (ways rw-lock) (what view) f so → Keeps view shown f says
-  keeps view shown f so says leaves moves allows =
-      tie.traces (model opening.value) seat_of words_of Word opening.name T lends use_of_view (last opening) view shown f so says moves
-      (λ own outs n u said t word p. owed opening own t word p (use_of use_of_view (what view)) (use_of_view u) shown (leaves own outs n u said)) allows
-
-  -- `keeps` for a party that does not write the value
-  keeps_still : (view : Option (Numbered View)) (shown : Option T) → use_of use_of_view (what view) ≢ writes → (f : ℕ → ℕ) (so : ℕ → View → Type 0) (says : Says T) → WritesNothing says → Moves opening.value (what view) f so says → Allows Word (ways rw-lock) (what view) f so
-      → Keeps view shown f says
-  keeps_still view shown not f so says none = keeps view shown f so says (λ own outs n u said. writes_none (use_of use_of_view (what view)) (use_of_view u) shown own not (none own outs n u said))
-
-  -- `keeps` for a writer, which writes the value that it leaves
-  keeps_written : (v : Numbered View) (x : T) → use_of_view v.0 ≡ writes → (f : ℕ → ℕ) (so : ℕ → View → Type 0) (c : RwCall) (to : View) → Moves opening.value (Some v.0) f so (leaves_with (λ y. y ≡ x) c to) → Allows Word (ways rw-lock) (Some v.0) f so
-      → Keeps (Some v) (Some x) f (leaves_by c to)
-  keeps_written v x e f so c to moves allows =
-      let exact : Says T = leaves_with (λ y. y ≡ x) c to in
-      tie.tells_less (model opening.value) seat_of words_of (Some v) exact (leaves_by c to) (λ own outs n u (is, (y, same, by)). (is, (y, tt, by))) (IsRw opening) (rw_ways opening) (Some x) f
-      (keeps (Some v) (Some x) f so exact (λ own outs n u (is, (y, same, by)). writes_last (use_of_view v.0) (use_of_view u) x own e (λ z. write_leaves y false c (Answered Done None) own outs by z ∙ same)) moves allows)
+  -- A step keeps the rule if the plain lock allows it and the model has moves for it. It tells the number found and these moves.
+  keeps : (Q : T → Type 0) (view : Option (Numbered View)) (shown : Option T) (f : ℕ → ℕ) (so : ℕ → View → Type 0) (turn : ℕ → Turn T)
+      → ((own : List (OneMove T)) (outs : List (Ending T)) (n : ℕ) (u : View) → says_with Q turn own outs n u → Leaves (use_of use_of_view (what view)) (use_of_view u) shown own × says_with (λ x. Unit {0}) turn own outs n u)
+      → AreMoves (model opening.value) seat_of words_of (what view) (on_first f) first so (says_with Q turn) → Allows Word (ways rw-lock)
+      (what view) f so → Traces (IsRw opening) (rw_ways opening) view shown f (Told opening.value turn view)
+  unfolding Told
+  keeps Q view shown f so turn leaves moves allows id n t vs meets at small =
+      let (w, es, going, told) = tie.tells_less (model opening.value) seat_of words_of view (says_with Q turn) (says_with (λ x. Unit {0}) turn)
+      (λ own outs n u said. (leaves own outs n u said).1) (IsRw opening) (rw_ways opening) shown f
+      (tie.traces (model opening.value) seat_of words_of Word opening.name T lends use_of_view (last opening) view shown f so (says_with Q turn) moves
+      (λ own outs n u said t word p. owed opening own t word p (use_of use_of_view (what view)) (use_of_view u) shown (leaves own outs n u said).0) allows) id n t vs meets at small in
+      (w, es, going, (is_word n t vs meets, told))
 
   pub starts : (t : Trace (rws.Done T) (Unit {0})) → t.name ≡ opening.name → t.entries ≡ [] → Meets (IsRw opening) (rw_ways opening) 0 t []
-  starts t named empty = tie.opens (model opening.value) seat_of words_of Word opening.name T lends use_of_view (last opening) 0 t named empty refl (begins rw-lock 0 0 0 tt (omega arith) refl refl)
+  starts t named empty =
+      tie.opens (model opening.value) seat_of words_of Word opening.name T lends use_of_view (last opening) 0 t named empty refl
+      (begins rw-lock 0 0 0 tt (omega arith) refl refl)
 
   module _ (view : Option (Numbered View)) (shown : Option T) where
-    counts : (call : RwCall) (count : ℕ → ℕ) → Moves opening.value None (λ n. n) (To IsRwWord (λ n. Idle)) (counts_by call count) → IsOut (what view) → Keeps view shown (λ n. n) (counts_by call count)
-    counts call count moves out =
-        let so : ℕ → View → Type 0 = To IsRwWord (λ n. Idle) in
-        keeps_still view shown (out_uses_none (what view) out) (λ n. n) so (counts_by call count) (λ own outs n u said. nothing_by false call (λ m. Answered (Count (count m)) None) (λ m. Idle) own outs n u said.1)
-        (as_new opening.value (λ n. n) so (counts_by call count) (what view) out moves) (looks (what view) out)
+    -- a step of a party that does not write the value
+    may : use_of use_of_view (what view) ≢ writes → (f : ℕ → ℕ) (so : ℕ → View → Type 0) (turn : ℕ → Turn T) → ((n : ℕ) → (turn n).writes ≡ false)
+        → ((n : ℕ) (u : View) → so n u → u ≡ (turn n).to)
+        → ((w : ℕ) (value : Option T) (u : View) → so w u → PlaysTurn opening.value (what view) f turn w value)
+        → Allows Word (ways rw-lock) (what view) f so → May opening view shown f turn
+    may not f so turn none to plays allows = (
+      λ n. subst (λ b. FitsUse b (use_of use_of_view (what view)) (use_of_view (turn n).to)) (sym (none n)) not,
+      keeps (λ x. Unit {0}) view shown f so turn (λ own outs n u said. let t = turn n in (
+        writes_none (use_of use_of_view (what view)) (use_of_view u) shown own not
+            (calls_leave t.goes_on t.call t.answers own outs (subst (λ b. behind_write b (λ x. Unit {0}) (steps_of t) own outs) (none n) said.1)),
+        said,
+      ))
+          (λ w value u is.
+          let t = turn w in let p = plays w value u is in let own = moves_of t.goes_on t.call t.answers in let outs = outcomes_of t.goes_on t.answers in
+          let said : course_of (λ x. Unit {0}) t own outs = subst (λ b. behind_write b (λ x. Unit {0}) (steps_of t) own outs) (sym (none w)) (refl, refl) in
+          rw (to w u is) (own, outs, (refl, said), of_a_call t.goes_on t.call t.answers, all_played t.goes_on t.answers, f w, value, p.0, p.1, refl)) allows,
+    )
 
-    pub counts_readers : IsOut (what view) → Keeps view shown (λ n. n) (counts_by call.ReaderCount readers_in)
-    counts_readers = counts call.ReaderCount readers_in (readers_moves opening.value)
+    -- a load or an exchange: the number found decides the next view
+    finds : use_of use_of_view (what view) ≢ writes → (f : ℕ → ℕ) (turn : ℕ → Turn T) → ((n : ℕ) → (turn n).writes ≡ false)
+        → ((w : ℕ) (value : Option T) → PlaysTurn opening.value (what view) f turn w value)
+        → Allows Word (ways rw-lock) (what view) f (λ n v. v ≡ (turn n).to) → May opening view shown f turn
+    finds not f turn none plays = may not f (λ n v. v ≡ (turn n).to) turn none (λ n u is. is) (λ w value u is. plays w value)
 
-    pub counts_writers : IsOut (what view) → Keeps view shown (λ n. n) (counts_by call.WriterCount writers_in)
-    counts_writers = counts call.WriterCount writers_in (writers_moves opening.value)
+    -- an addition or a subtraction by a reader
+    changes : (u : View) → use_of_view u ≢ writes → what view ≡ Some u → (f : ℕ → ℕ) (so : ℕ → Type 0) (turn : Turn T) → turn.writes ≡ false
+        → ((w : ℕ) (value : Option T) → so w → PlaysTurn opening.value (Some u) f (λ n. turn) w value)
+        → Allows Word (ways rw-lock) (Some u) f (To so (λ n. turn.to)) → May opening view shown f (λ n. turn)
+    changes u not is f so turn none plays allows =
+        may (is_not_writing u not (what view) is) f (To so (λ n. turn.to)) (λ n. turn) (λ n. none) (λ n u is. is.1)
+        (λ w value v at. rw is (plays w value at.0)) (rw is allows)
 
-    pub comes_in : (won : View) (waits : Bool) → Comes won → (old new : ℕ) → MayCome (call_of won waits) old (what view) → grants (call_of won waits) old ≡ Some new → Admits won old new
-        → Keeps view shown (swaps old new) (comes_by (in_call (what view)) won (call_of won waits) old)
-    comes_in won waits cm old new may grant plain =
+    counts : (c : RwCall) (count : ℕ → ℕ) → ((w : ℕ) (value : Option T) → PlaysTurn opening.value None (λ n. n) (counts_by c count) w value)
+        → IsOut (what view) → May opening view shown (λ n. n) (counts_by c count)
+    counts c count plays out =
+        finds (out_uses_none (what view) out) (λ n. n) (counts_by c count) (λ n. refl)
+        (λ w value. rw (sits_out opening.value (what view) out) (plays w value))
+        (looks_at rw-lock (what view) (λ n. Idle) (out_holds_none (what view) out) (λ n. refl))
+
+    pub counts_readers : IsOut (what view) → May opening view shown (λ n. n) (counts_by call.ReaderCount readers_in)
+    counts_readers = counts call.ReaderCount readers_in (λ w value. (refl, refl))
+
+    pub counts_writers : IsOut (what view) → May opening view shown (λ n. n) (counts_by call.WriterCount writers_in)
+    counts_writers = counts call.WriterCount writers_in (λ w value. (refl, refl))
+
+    pub comes_in : (won : View) (waits : Bool) → Comes won → (old new : ℕ) → MayCome (call_of won waits) old (what view)
+        → grants (call_of won waits) old ≡ Some new → Admits won old new
+        → May opening view shown (swaps old new) (comes_by (in_call (what view)) won (call_of won waits) old)
+    comes_in won waits cm old new so grant plain =
         let c = call_of won waits in
-        keeps_still view shown (none_writes (what view) (may_come c old (what view) may)) (swaps old new) (λ n v. v ≡ came won c old n)
-        (comes_by (in_call (what view)) won c old)
-        (λ own outs n u said. nothing_arrived (in_call (what view)) c (n == old) n own outs said.1) (come_moves opening.value won waits cm (what view) old new may grant) (comes won c cm (what view) old new may plain)
+        finds (none_writes (what view) (may_come c old (what view) so)) (swaps old new) (comes_by (in_call (what view)) won c old) (λ n. refl)
+        (come_plays opening.value won waits cm (what view) old new so grant) (comes won c cm (what view) old new so plain)
 
-    pub looks_on : (won : View) → Comes won → (old : ℕ) → what view ≡ Some (Coming (call_of won true) old) → grants (call_of won true) old ≡ None → Keeps view shown (λ n. n) (looks_by (call_of won true))
+    pub looks_on : (won : View) → Comes won → (old : ℕ) → what view ≡ Some (Coming (call_of won true) old) → grants (call_of won true) old ≡ None
+        → May opening view shown (λ n. n) (looks_by (call_of won true))
     looks_on won cm old is none =
         let c = call_of won true in
-        keeps_still view shown (is_not_writing (Coming c old) (λ e. absurd cc) (what view) is) (λ n. n) (λ n v. v ≡ Coming c n) (looks_by c) (nothing_by true c (λ n. GoingOn) (Coming c)) (rw is (look_moves opening.value won cm old none)) (rw is (looks_again c old))
+        finds (is_not_writing (Coming c old) (λ e. absurd cc) (what view) is) (λ n. n) (looks_by c) (λ n. refl)
+        (λ w value. rw is (look_plays opening.value won cm old none w value)) (rw is (looks_at rw-lock (Some (Coming c old)) (Coming c) refl (λ n. refl)))
 
     -- an exchange by which the party may become the writer
-    tries : use_of use_of_view (what view) ≢ writes → (goes_on : Bool) (c : RwCall) (old : ℕ) (end : Ending T) (won lost : View)
-        → Tries opening.value (what view) goes_on c old end won lost
-        → Allows Word (ways rw-lock) (what view) (swaps old 1) (λ n v. v ≡ either_at old won lost n)
-        → Keeps view shown (swaps old 1) (tries_by goes_on c old end won lost)
-    tries unused goes_on c old end won lost =
-        keeps_still view shown unused (swaps old 1) (λ n v. v ≡ either_at old won lost n) (tries_by goes_on c old end won lost)
-        (nothing_by goes_on c (either_at old (Answered Granted None) end) (either_at old won lost))
+    tries : (a : Attempt T) → use_of use_of_view (what view) ≢ writes → Tries opening.value (what view) a
+        → Allows Word (ways rw-lock) (what view) (swaps a.old 1) (λ n v. v ≡ either_at a.old a.won a.lost n)
+        → May opening view shown (swaps a.old 1) (tries_by a)
+    tries a not = finds not (swaps a.old 1) (tries_by a) (λ n. refl)
 
     abbrev AdmitsWriter : Type 0
     AdmitsWriter = (s : Plain) (p : ℕ) → rw_word s ≡ 0 → Decides s (gets p to_write) rw_word (Some 1)
 
-    pub tries_to_write : IsOut (what view) → AdmitsWriter → Keeps view shown (swaps 0 1) (tries_by false call.TryWrite 0 (Answered Refused None) Writing Idle)
+    pub tries_to_write : IsOut (what view) → AdmitsWriter → May opening view shown (swaps 0 1) (tries_by try_write)
     tries_to_write out plain =
-        tries (out_uses_none (what view) out) false call.TryWrite 0 (Answered Refused None) Writing Idle
-        (as_new opening.value (swaps 0 1) (λ n v. v ≡ either_at 0 Writing Idle n) (tries_by false call.TryWrite 0 (Answered Refused None) Writing Idle)
-        (what view) out (try_write_moves opening.value))
+        tries try_write (out_uses_none (what view) out) (try_write_plays opening.value (what view) out)
         (writes_at (what view) (out_holds_none (what view) out) Idle refl 0 1 plain)
 
-    pub writes_on : MayWrite (what view) → AdmitsWriter
-        → Keeps view shown (swaps 0 1) (tries_by (in_call (what view)) call.Write 0 GoingOn Writing WaitingToWrite)
-    writes_on may plain =
-        tries (none_writes (what view) (may_write (what view) may)) (in_call (what view)) call.Write 0 GoingOn Writing WaitingToWrite
-        (write_moves opening.value (what view) may) (writes_at (what view) (may_write (what view) may) WaitingToWrite refl 0 1 plain)
+    pub writes_on : MayWrite (what view) → AdmitsWriter → May opening view shown (swaps 0 1) (tries_by (write (in_call (what view))))
+    writes_on so plain =
+        let none = may_write (what view) so in
+        tries (write (in_call (what view))) (none_writes (what view) none) (write_plays opening.value (what view) so)
+        (writes_at (what view) none WaitingToWrite refl 0 1 plain)
 
-    pub tries_to_upgrade : what view ≡ Some Upgradable → ((s : Plain) (p : ℕ) → OneOfEach s → is_holder p upgradable s.holders ≡ true → rw_word s ≡ 2 → Decides s (gets p to_upgrade) rw_word (Some 1))
-        → Keeps view shown (swaps 2 1) (tries_by false call.TryUpgrade 2 (Answered Refused None) Writing Upgradable)
-    tries_to_upgrade is plain =
-        tries (is_not_writing Upgradable (λ e. absurd cc) (what view) is) false call.TryUpgrade 2 (Answered Refused None) Writing Upgradable
-        (rw is (try_upgrade_moves opening.value)) (rw is (upgrades_at 2 1 plain))
+    raises : (a : Attempt T) (k : Kind) (ask : Ask) → use_of_view a.lost ≢ writes → part a.lost ≡ holds k
+        → ((s : Plain) (p : ℕ) → entries_after s (Some (gets p ask)) (entries_of p (part a.lost)) ≡ entries_of p (part a.won))
+        → ((s : Plain) → Knows s (part a.won))
+        → ((s : Plain) → Knows s (part a.lost)) → Tries opening.value (Some a.lost) a → what view ≡ Some a.lost → Raises k ask a.old 1
+        → May opening view shown (swaps a.old 1) (tries_by a)
+    raises a k ask not at comes knows still plays is plain =
+        tries a (is_not_writing a.lost not (what view) is) (rw is plays) (rw is (raises_at a.lost a.won k ask at comes knows still a.old 1 plain))
 
-    pub upgrades : what view ≡ Some Asking → ((s : Plain) (p : ℕ) → OneOfEach s → is_holder p asking s.holders ≡ true → rw_word s ≡ 6 → Decides s (gets p to_upgrade_asked) rw_word (Some 1))
-        → Keeps view shown (swaps 6 1) (tries_by true call.Upgrade 6 GoingOn WritingAsked Asking)
-    upgrades is plain =
-        tries (is_not_writing Asking (λ e. absurd cc) (what view) is) true call.Upgrade 6 GoingOn WritingAsked Asking
-        (rw is (upgrade_moves opening.value)) (rw is (upgrades_asked_at 6 1 plain))
+    pub tries_to_upgrade : what view ≡ Some Upgradable → Raises upgradable to_upgrade 2 1 → May opening view shown (swaps 2 1) (tries_by try_upgrade)
+    tries_to_upgrade =
+        raises try_upgrade upgradable to_upgrade (λ e. absurd cc) refl (λ s p. rw (eq-eqb p p refl) refl) (λ s. tt) (λ s. tt)
+        (λ w value. (grind arith, grind arith))
+
+    pub upgrades : what view ≡ Some Asking → Raises asking to_upgrade_asked 6 1 → May opening view shown (swaps 6 1) (tries_by upgrade)
+    upgrades =
+        raises upgrade asking to_upgrade_asked (λ e. absurd cc) refl (λ s p. rw (eq-eqb p p refl) refl) (λ s. tt) (λ s. tt)
+        (λ w value. (grind arith, grind arith))
 
     -- an addition by the upgradable reader
-    turns_on : what view ≡ Some Upgradable → (f : ℕ → ℕ) (so : ℕ → View → Type 0) (c : RwCall) (end : ℕ → Ending T) (to : ℕ → View) → Moves opening.value (Some Upgradable) f so (step_by false c end to) → Allows Word (ways rw-lock) (Some Upgradable) f so → Keeps view shown f (step_by false c end to)
-    turns_on is f so c end to moves allows = keeps_still view shown (is_not_writing Upgradable (λ e. absurd cc) (what view) is) f so (step_by false c end to) (nothing_by false c end to) (rw is moves) (rw is allows)
+    turns_on : (by : ℕ) (l : Kind) (turn : Turn T) → turn.writes ≡ false → may_turn upgradable l ≡ true → weight upgradable + by ≡ weight l
+        → ((p : ℕ) → entries_of p (part turn.to) ≡ entries_of p (holds l)) → ((s : Plain) → Knows s (part turn.to))
+        → ((w : ℕ) (value : Option T) → PlaysTurn opening.value (Some Upgradable) (λ n. n + by) (λ n. turn) w value) → by < 2 ^ 63
+        → what view ≡ Some Upgradable → May opening view shown (λ n. (n + by) % 2 ^ 64) (λ n. turn)
+    turns_on by l turn none down less now knows plays small is =
+        changes Upgradable (λ e. absurd cc) is (λ n. (n + by) % 2 ^ 64) (Weighs 0) turn none
+        (λ w value some. rw (fits_in w by some.1 small) (plays w value)) (turns_by Upgradable turn.to upgradable l by (λ p. refl) now knows down less)
 
-    pub asks_on : what view ≡ Some Upgradable → Keeps view shown (λ n. (n + 4) % 2 ^ 64) asks_by
-    asks_on is =
-        turns_on is (λ n. (n + 4) % 2 ^ 64) (To (Weighs 0) (λ n. Asking)) call.Upgrade (λ n. GoingOn) (λ n. Asking) (ask_moves opening.value)
-        (turns_by Upgradable Asking upgradable asking 4 (λ p. refl) (λ p. refl) (λ s. tt) refl refl)
+    pub asks_on : what view ≡ Some Upgradable → May opening view shown (λ n. (n + 4) % 2 ^ 64) (λ n. asks_by)
+    asks_on = turns_on 4 asking asks_by refl refl refl (λ p. refl) (λ s. tt) (λ w value. (refl, refl)) (omega arith)
 
-    pub upgradable_reads : what view ≡ Some Upgradable → Keeps view shown (λ n. (n + 6) % 2 ^ 64) (ends_by call.Downgrade (λ n. Done) (λ n. Reading))
-    upgradable_reads is =
-        turns_on is (λ n. (n + 6) % 2 ^ 64) (To (Weighs 0) (λ n. Reading)) call.Downgrade (λ n. Answered Done None) (λ n. Reading) (downgrade_moves opening.value)
-        (turns_by Upgradable Reading upgradable reading 6 (λ p. refl) (λ p. refl) (λ s. tt) refl refl)
+    pub upgradable_reads : what view ≡ Some Upgradable → May opening view shown (λ n. (n + 6) % 2 ^ 64) (λ n. ends_by call.Downgrade Done Reading)
+    upgradable_reads = turns_on 6 reading (ends_by call.Downgrade Done Reading) refl refl refl (λ p. refl) (λ s. tt) (λ w value. (refl, refl)) (omega arith)
 
-    leaves_as : (k : Kind) (won : View) → Comes won → weight_of won ≡ weight k → what view ≡ Some won → use_of_view won ≢ writes → ((p : ℕ) → entries_of p (part won) ≡ entries_of p (holds k))
-        → Keeps view shown (λ n. (n + (2 ^ 64 - weight k)) % 2 ^ 64) (ends_by call.Release (λ n. Done) (λ n. Idle))
+    leaves_as : (k : Kind) (won : View) → Comes won → weight_of won ≡ weight k → what view ≡ Some won → use_of_view won ≢ writes
+        → ((p : ℕ) → entries_of p (part won) ≡ entries_of p (holds k))
+        → May opening view shown (λ n. (n + (2 ^ 64 - weight k)) % 2 ^ 64) (λ n. ends_by call.Release Done Idle)
     leaves_as k won cm e is not was =
-        let so : ℕ → View → Type 0 = To (Weighs (weight k)) (λ n. Idle) in let says : Says T = ends_by call.Release (λ n. Done) (λ n. Idle) in
-        keeps_still view shown (is_not_writing won not (what view) is) (λ n. (n + (2 ^ 64 - weight k)) % 2 ^ 64) so says (nothing_by false call.Release (λ n. Answered Done None) (λ n. Idle))
-        (rw (is, sym e) (release_moves opening.value won cm)) (rw is (goes won k was))
+        changes won not is (λ n. (n + (2 ^ 64 - weight k)) % 2 ^ 64) (Weighs (weight k)) (ends_by call.Release Done Idle) refl
+        (rw (sym e) (release_plays opening.value won cm)) (goes won k was)
 
     -- a reader leaves, and subtracts its weight
-    pub reader_leaves : (won : View) → Comes won → (k : ℕ) → k ≡ weight_of won → what view ≡ Some won → Keeps view shown (λ n. (n + (2 ^ 64 - k)) % 2 ^ 64) (ends_by call.Release (λ n. Done) (λ n. Idle))
+    pub reader_leaves : (won : View) → Comes won → (k : ℕ) → k ≡ weight_of won → what view ≡ Some won
+        → May opening view shown (λ n. (n + (2 ^ 64 - k)) % 2 ^ 64) (λ n. ends_by call.Release Done Idle)
     reader_leaves Reading cm k e is = rw e (leaves_as reading Reading cm refl is (λ e. absurd cc) (λ p. refl))
     reader_leaves Upgradable cm k e is = rw e (leaves_as upgradable Upgradable cm refl is (λ e. absurd cc) (λ p. refl))
     reader_leaves _ cm k e is = absurd cm
 
-  pub peeks : (shown : Option T) (old new : ℕ) → grants call.TryRead old ≡ Some new → Admits Reading old new → Keeps None shown (swaps old new) (peeks_by old)
+  pub peeks : (shown : Option T) (old new : ℕ) → grants call.TryRead old ≡ Some new → Admits Reading old new
+      → May opening None shown (swaps old new) (peeks_by old)
   peeks shown old new grant plain =
-      keeps_still None shown (λ e. absurd cc) (swaps old new) (λ n v. v ≡ either_at old Reading Idle n) (peeks_by old) (λ own outs n u said. nothing_peeked (n == old) n own outs said.1)
-      (by_found opening.value None old new (either_at old Reading Idle) (peeks_by old) (peek_first opening.value old new grant))
+      finds None shown (λ e. absurd cc) (swaps old new) (peeks_by old) (λ n. refl) (peek_plays opening.value old new grant)
       (exchanges_at rw-lock None to_read Reading (λ n. Idle) old new refl (λ n. refl) (λ s p. refl) (λ s. tt) (λ s p order room e. plain s p (one_of_each s order.exclusive) room e))
 
-  module _ (v : Numbered View) (x : T) (e : use_of_view v.0 ≡ writes) where
-    reads_as : (l : Kind) (won : View) → Comes won → may_turn writing l ≡ true → weight writing + (weight_of won - 1) ≡ weight l → ((p : ℕ) → entries_of p (part won) ≡ entries_of p (holds l)) → ((s : Plain) → Knows s (part won))
-        → Keeps (Some v) (Some x) (λ n. (n + (weight_of won - 1)) % 2 ^ 64) (leaves_by (downgrade_to won) won)
-    reads_as l won cm down less now knows =
-        keeps_written v x e (λ n. (n + (weight_of won - 1)) % 2 ^ 64) (To (Weighs 0) (λ n. won)) (downgrade_to won) won (writer_reads_moves opening.value x v.0 e won cm)
-        (turns_by v.0 won writing l (weight_of won - 1) (writes_as v.0 e) now knows down less)
+  -- a step by which a writer ends; it writes the value that it leaves
+  module _ (view : Option (Numbered View)) (shown : Option T) (v : View) (x : T) (is : what view ≡ Some v) (here : shown ≡ Some x)
+      (held : use_of use_of_view (what view) ≡ writes) where
+    writes_then : use_of_view v ≡ writes
+    writes_then = sym (ap (use_of use_of_view) is) ∙ held
 
-    pub writer_reads : (won : View) → Comes won → (k : ℕ) → k ≡ weight_of won → Keeps (Some v) (Some x) (λ n. (n + (k - 1)) % 2 ^ 64) (leaves_by (downgrade_to won) won)
-    writer_reads Reading cm k e = rw e (reads_as reading Reading cm refl refl (λ p. refl) (λ s. tt))
-    writer_reads Upgradable cm k e = rw e (reads_as upgradable Upgradable cm refl refl (λ p. refl) (λ s. tt))
+    ends : (f : ℕ → ℕ) (so : ℕ → Type 0) (c : RwCall) (to : View) → use_of_view to ≢ writes → Leaves_by opening.value x f so c to
+        → Allows Word (ways rw-lock) (Some v) f (To so (λ n. to)) → May opening view shown f (λ n. leaves_by c to)
+    ends f so c to stops plays allows = (
+      λ n. (held, stops),
+      keeps (λ y. y ≡ x) view shown f (To so (λ n. to)) (λ n. leaves_by c to)
+          (λ own outs n u (at, (y, same, by)). (rw here (writes_last (use_of use_of_view (what view)) (use_of_view u) x own held (λ z. writes_leave y false c (Some Done ∷ []) own outs by z ∙ same)), (at, (y, tt, by))))
+          (rw is moves) (rw is allows),
+    )
+      where
+        moves : AreMoves (model opening.value) seat_of words_of (Some v) (on_first f) first (To so (λ n. to)) (says_with (λ y. y ≡ x) (λ n. leaves_by c to))
+        moves w value u at = let p = plays w value at.0 in
+            rw (at.1, writes_sits v writes_then) (Write x ∷ Begin c ∷ Step ∷ [], Written ∷ Begun ∷ Answered Done None ∷ [], (refl, (x, refl, (Begin c ∷ Step ∷ [], Begun ∷ Answered Done None ∷ [], refl, refl, (refl, refl)))), refl, refl, f w, Some x, p.0, p.1, refl)
+
+    reads_as : (l : Kind) (won : View) → Comes won → use_of_view won ≢ writes → may_turn writing l ≡ true
+        → weight writing + (weight_of won - 1) ≡ weight l → ((p : ℕ) → entries_of p (part won) ≡ entries_of p (holds l)) → ((s : Plain) → Knows s (part won))
+        → May opening view shown (λ n. (n + (weight_of won - 1)) % 2 ^ 64) (λ n. leaves_by (downgrade_to won) won)
+    reads_as l won cm stops down less now knows =
+        ends (λ n. (n + (weight_of won - 1)) % 2 ^ 64) (Weighs 0) (downgrade_to won) won stops (writer_reads_plays opening.value x won cm)
+        (turns_by v won writing l (weight_of won - 1) (writes_as v writes_then) now knows down less)
+
+    pub writer_reads : (won : View) → Comes won → (k : ℕ) → k ≡ weight_of won
+        → May opening view shown (λ n. (n + (k - 1)) % 2 ^ 64) (λ n. leaves_by (downgrade_to won) won)
+    writer_reads Reading cm k e = rw e (reads_as reading Reading cm (λ e. absurd cc) refl refl (λ p. refl) (λ s. tt))
+    writer_reads Upgradable cm k e = rw e (reads_as upgradable Upgradable cm (λ e. absurd cc) refl refl (λ p. refl) (λ s. tt))
     writer_reads _ cm k e = absurd cm
 
-    pub writer_leaves : Keeps (Some v) (Some x) (λ n. (n + (2 ^ 64 - 1)) % 2 ^ 64) (leaves_by call.Release Idle)
+    pub writer_leaves : May opening view shown (λ n. (n + (2 ^ 64 - 1)) % 2 ^ 64) (λ n. leaves_by call.Release Idle)
     writer_leaves =
-        keeps_written v x e (λ n. (n + (2 ^ 64 - 1)) % 2 ^ 64) (To (Weighs 1) (λ n. Idle)) call.Release Idle (writer_leaves_moves opening.value x v.0 e) (goes v.0 writing (writes_as v.0 e))
+        ends (λ n. (n + (2 ^ 64 - 1)) % 2 ^ 64) (Weighs 1) call.Release Idle (λ e. absurd cc) (λ w value some. rw (less_by w 1 some) (refl, refl))
+        (goes v writing (writes_as v writes_then))
 
   -- Which parties may leave the cell
 
   rests_at : (v : View) → seat_of v ≡ seat.Idle → part v ≡ part Idle → (m k : ℕ) → Rests (IsRw opening) use_of_party (Some (v, m, k))
-  rests_at v sits is m k = tie.rests (model opening.value) seat_of words_of Word opening.name T lends use_of_view (last opening) (v, m, k) sits (plays.rests rw-lock v (rw is refl) (λ p. rw is refl))
+  rests_at v sits is m k =
+      tie.rests (model opening.value) seat_of words_of Word opening.name T lends use_of_view (last opening) (v, m, k) sits
+      (plays.rests rw-lock v (rw is refl) (λ p. rw is refl))
 
   pub idle_rests : (v : Numbered View) → v.0 ≡ Idle → Rests (IsRw opening) use_of_party (Some v)
   idle_rests v is = rw is (rests_at Idle refl refl v.1 v.2)
@@ -569,11 +559,13 @@ module _ {T : Type 0} (opening : Opening T) where
   out_rests (Some v) out = rests_at v.0 (seat_idle (seat_of v.0) out) (out_holds_none (Some v.0) out) v.1 v.2
 
   -- a party whose only exchange found another word
-  pub missed_rests : (won : View) (old found : ℕ) → found ≢ old → (v : Numbered View) → v.0 ≡ either_at old won Idle found → Rests (IsRw opening) use_of_party (Some v)
+  pub missed_rests : (won : View) (old found : ℕ) → found ≢ old → (v : Numbered View) → v.0 ≡ either_at old won Idle found
+      → Rests (IsRw opening) use_of_party (Some v)
   missed_rests won old found other v is = idle_rests v (is ∙ ap (λ b. if b then won else Idle) (ne_eqb found old other))
 
 -- A try has failed if the word that it found does not admit the reader. Its party is then in no call, and holds nothing.
-pub refused_out : (won : View) → Comes won → (n : ℕ) → grants (call_of won false) n ≡ None → (view : Option View) → view ≡ Some (Coming (call_of won false) n) → IsOut view
+pub refused_out : (won : View) → Comes won → (n : ℕ) → grants (call_of won false) n ≡ None → (view : Option View)
+    → view ≡ Some (Coming (call_of won false) n) → IsOut view
 refused_out won cm n none view is = rw is (ap rws.is_idle (sits_idle won cm n none))
 
 pub keeps_out : (won : View) → Comes won → (n : ℕ) → grants (call_of won false) n ≡ None → still (call_of won false) n ≡ false

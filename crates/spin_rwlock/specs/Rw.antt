@@ -1,11 +1,11 @@
 -- The rule of a read-write lock. The word of the lock is that of a plain lock with the same holders. The trace is a schedule of the lock's
 -- model. The schedule leads to this word and to the views of these parties.
-use Rattle.std.specs.Prelude.{◌≡◌, ◌≢◌, ◌⊎◌, ℕ, List, [], ◌∷◌, Bool, true, false, Option, Some, None, is_some, ◌==◌, if◌then◌else◌, map}
+use Rattle.std.specs.Prelude.{◌≡◌, ◌⊎◌, ℕ, List, [], ◌∷◌, Bool, true, false, Option, Some, None, is_some, ◌==◌, if◌then◌else◌, map}
 use Rattle.spin_step.specs.Plain.{Plain, reading, upgradable, asking, writing, weight, Ask, to_read, to_read_upgradable, rw_word}
 use Rattle.spin_step.specs.Orders.{IsInOrder}
 use Rattle.spin_step_more.specs.Readers.{reader_limit, readers_in, read, read_upgradable}
 use Rattle.spin_step_more.specs.declared.rw_calls.RwCall.{RwCall}
-use Rattle.spin_step_more.specs.declared.rw_calls.RwCall.TheVariants.{TryRead, Read, TryUpgradeableRead, UpgradeableRead, Write, ReaderCount, Upgrade, Downgrade, DowngradeToUpgradeable}
+use Rattle.spin_step_more.specs.declared.rw_calls.RwCall.TheVariants.{TryRead, Read, TryUpgradeableRead, UpgradeableRead, TryWrite, Write, ReaderCount, TryUpgrade, Upgrade, Downgrade, DowngradeToUpgradeable}
 use Rattle.spin_step_more.specs.declared.rw_calls.RwPoint.{RwPoint}
 use Rattle.spin_step_more.specs.declared.rw_calls.RwPoint.TheVariants as point
 use Rattle.spin_step_more.specs.RwCalls.{rw_machine}
@@ -24,10 +24,9 @@ use Rattle.spin_model.specs.Machines.{Machine}
 use Rattle.spin_model.specs.Schedules.{Entry}
 use Rattle.spin_core.specs.Cell.{Use, lends, Ways}
 use Rattle.spin_core.specs.Views.{Part, idle, holds, Encodes, used_by, no_word}
-use Rattle.spin_core.specs.Own.{Numbered, Runs, Tells, what}
-use Rattle.spin_core.specs.Passes.{Course, Waits, Ends, Begins, IsCall, IsStep, WritesSome, step_by, Made}
+use Rattle.spin_core.specs.Own.{Numbered, Runs, Tells}
+use Rattle.spin_core.specs.Passes.{Course, Waits, Ends, Begins, IsCall, WritesSome, Made}
 use Rattle.spin_core.specs.Values.{last}
-use Rattle.spin_core.specs.declared.cell.Permit.{Permit}
 use Rattle.spin_core.specs.declared.tie.Opening.{Opening}
 use Rattle.spin_core.specs.declared.trace.Trace.{Trace}
 use Rattle.spin_rwlock.specs.declared.rwlock.rule.View.{View}
@@ -153,26 +152,58 @@ either_at old won lost n = if n == old then won else lost
 abbrev pub came : View → RwCall → ℕ → ℕ → View
 came won call old n = if n == old then won else Coming call n
 
--- The steps. The number that a step finds decides its moves, their outcomes and the next view of its party.
+-- The steps. The number that a step finds decides its answers and the next view of its party.
 
-abbrev pub Says : Type 0 → Type 1
-Says T = List (OneMove T) → List (Ending T) → ℕ → View → Type 0
+-- A step is one move of the model for each of `answers`, which is `None` while the call goes on. `goes_on` says whether the call is under
+-- way before the step. If it is not, the step begins the call. A writer that ends (`writes`) first writes the value that it leaves.
+pub record Turn (T : Type 0) : Type 0 where
+  pub writes : Bool
+  pub goes_on : Bool
+  pub call : RwCall
+  pub answers : List (Option (Answer T))
+  pub to : View
+
+-- An exchange by which a party may become the writer. If it finds the word `old`, the call is granted, and the next view is `won`. If not,
+-- the answer is `answer`, and the next view is `lost`.
+pub record Attempt (T : Type 0) : Type 0 where
+  pub goes_on : Bool
+  pub call : RwCall
+  pub old : ℕ
+  pub answer : Option (Answer T)
+  pub won : View
+  pub lost : View
 
 module _ {T : Type 0} where
-  -- the outcome of an exchange that failed, and found the word `n`
-  abbrev pub missed : RwCall → ℕ → Ending T
-  missed call n = if still call n then GoingOn else Answered Refused None
+  abbrev pub outcome_of : Option (Answer T) → Ending T
+  outcome_of None = GoingOn
+  outcome_of (Some a) = Answered a None
 
-  -- The course of an exchange that admits the reader. With `true` the call is under way. With `false` the exchange begins the call. Then
-  -- the model's party first looks, and finds a free lock.
-  abbrev pub IsGrant : Bool → RwCall → OneCourse T
-  IsGrant true call own outs = IsStep true call (Answered Granted None) own outs
-  IsGrant false call own outs = (own ≡ Begin call ∷ Step ∷ Step ∷ []) × (outs ≡ Begun ∷ GoingOn ∷ Answered Granted None ∷ [])
+  abbrev pub moves_of : Bool → RwCall → List (Option (Answer T)) → List (OneMove T)
+  moves_of true call answers = map (λ _. Step) answers
+  moves_of false call answers = Begin call ∷ map (λ _. Step) answers
 
-  -- the course of any exchange; the second `Bool` says whether it found the word that it expected
-  abbrev pub IsArrival : Bool → RwCall → Bool → ℕ → OneCourse T
-  IsArrival goes_on call true n = IsGrant goes_on call
-  IsArrival goes_on call false n = IsStep goes_on call (missed call n)
+  abbrev pub outcomes_of : Bool → List (Option (Answer T)) → List (Ending T)
+  outcomes_of true answers = map outcome_of answers
+  outcomes_of false answers = Begun ∷ map outcome_of answers
+
+  -- the course of one step of the model for each answer
+  abbrev pub AreSteps : Bool → RwCall → List (Option (Answer T)) → OneCourse T
+  AreSteps goes_on call answers own outs = (own ≡ moves_of goes_on call answers) × (outs ≡ outcomes_of goes_on answers)
+
+  abbrev pub steps_of : Turn T → OneCourse T
+  steps_of turn = AreSteps turn.goes_on turn.call turn.answers
+
+  abbrev pub behind_write : Bool → (T → Type 0) → OneCourse T → OneCourse T
+  behind_write true Q P = WritesSome Q P
+  behind_write false Q P = P
+
+  -- the course of a step; a writer that ends writes a value that satisfies `Q`
+  abbrev pub course_of : (T → Type 0) → Turn T → OneCourse T
+  course_of Q turn = behind_write turn.writes Q (steps_of turn)
+
+  -- what a step says of its moves, their outcomes, the number found and the next view
+  abbrev pub says_with : (T → Type 0) → (ℕ → Turn T) → List (OneMove T) → List (Ending T) → ℕ → View → Type 0
+  says_with Q turn own outs n v = (v ≡ (turn n).to) × course_of Q (turn n) own outs
 
   -- the course of steps after which the call continues (`true`), or has been refused
   abbrev pub Left : Bool → OneCourse T
@@ -183,49 +214,74 @@ module _ {T : Type 0} where
   abbrev pub Seeks : RwCall → ℕ → OneCourse T
   Seeks call n = Begins call (Left (still call n))
 
-  -- what a step tells of its moves, in a lock that opened with the value `v`
-  abbrev pub Told : T → Says T → Option (Numbered View) → List (Done T) → List (Done T) → ℕ → Numbered View → Type 0
-  Told v = Tells (model v) seat_of words_of
+  abbrev pub steps_by : Bool → RwCall → List (Option (Answer T)) → View → Turn T
+  steps_by goes_on call answers to = record { writes = false; goes_on = goes_on; call = call; answers = answers; to = to }
 
-  -- a whole call of one step; the number found decides the answer and the next view
-  abbrev pub ends_by : RwCall → (ℕ → Answer T) → (ℕ → View) → Says T
-  ends_by call answer to = step_by false call (λ n. Answered (answer n) None) to
+  -- a whole call of one step
+  abbrev pub ends_by : RwCall → Answer T → View → Turn T
+  ends_by call answer = steps_by false call (Some answer ∷ [])
 
   -- a call that counts by the word of the lock
-  abbrev pub counts_by : RwCall → (ℕ → ℕ) → Says T
-  counts_by call count own outs n v = IsRwWord n × ends_by call (λ m. Count (count m)) (λ m. Idle) own outs n v
+  abbrev pub counts_by : RwCall → (ℕ → ℕ) → ℕ → Turn T
+  counts_by call count n = ends_by call (Count (count n)) Idle
 
-  -- An exchange that expects the word `old`. If it finds that word, the call is granted, and the next view is `won`. If not, the outcome is
-  -- `end`, and the next view is `lost`.
-  abbrev pub tries_by : Bool → RwCall → ℕ → Ending T → View → View → Says T
-  tries_by goes_on call old end won lost = step_by goes_on call (either_at old (Answered Granted None) end) (either_at old won lost)
+  -- an attempt that found the word expected; below, one that found another word
+  abbrev pub wins : Attempt T → Turn T
+  wins a = steps_by a.goes_on a.call (Some Granted ∷ []) a.won
+
+  abbrev pub loses : Attempt T → Turn T
+  loses a = steps_by a.goes_on a.call (a.answer ∷ []) a.lost
+
+  abbrev pub tries_by : Attempt T → ℕ → Turn T
+  tries_by a n = steps_by a.goes_on a.call (either_at a.old (Some Granted) a.answer n ∷ []) (either_at a.old a.won a.lost n)
+
+  abbrev pub try_write : Attempt T
+  try_write = record { goes_on = false; call = TryWrite; old = 0; answer = Some Refused; won = Writing; lost = Idle }
+
+  abbrev pub write : Bool → Attempt T
+  write goes_on = record { goes_on = goes_on; call = Write; old = 0; answer = None; won = Writing; lost = WaitingToWrite }
+
+  abbrev pub try_upgrade : Attempt T
+  try_upgrade = record { goes_on = false; call = TryUpgrade; old = 2; answer = Some Refused; won = Writing; lost = Upgradable }
+
+  abbrev pub upgrade : Attempt T
+  upgrade = record { goes_on = true; call = Upgrade; old = 6; answer = None; won = WritingAsked; lost = Asking }
 
   -- the addition by which `upgrade` asks
-  abbrev pub asks_by : Says T
-  asks_by = step_by false Upgrade (λ n. GoingOn) (λ n. Asking)
+  abbrev pub asks_by : Turn T
+  asks_by = steps_by false Upgrade (None ∷ []) Asking
 
   -- the load of a call that waits to read
-  abbrev pub looks_by : RwCall → Says T
-  looks_by call = step_by true call (λ n. GoingOn) (Coming call)
+  abbrev pub looks_by : RwCall → ℕ → Turn T
+  looks_by call n = steps_by true call (None ∷ []) (Coming call n)
+
+  -- the answer of a call that wants to read after its exchange failed, and found the word `n`
+  abbrev pub missed : RwCall → ℕ → Option (Answer T)
+  missed call n = if still call n then None else Some Refused
+
+  -- The answers of an exchange that admits the reader. With `true` the call is under way. With `false` the exchange begins the call. Then
+  -- the model's party first looks, and finds a free lock.
+  abbrev pub admitted : Bool → List (Option (Answer T))
+  admitted true = Some Granted ∷ []
+  admitted false = None ∷ Some Granted ∷ []
 
   -- the exchange of a call that wants to read
-  abbrev pub comes_by : Bool → View → RwCall → ℕ → Says T
-  comes_by goes_on won call old own outs n v = (v ≡ came won call old n) × IsArrival goes_on call (n == old) n own outs
+  abbrev pub comes_by : Bool → View → RwCall → ℕ → ℕ → Turn T
+  comes_by goes_on won call old n = steps_by goes_on call (either_at old (admitted goes_on) (missed call n ∷ []) n) (came won call old n)
 
   -- the exchange of `{:?}`: a whole `try_read` if it succeeds, otherwise one more `reader_count`
-  abbrev pub IsPeek : Bool → ℕ → OneCourse T
-  IsPeek true n = IsGrant false TryRead
-  IsPeek false n = IsStep false ReaderCount (Answered (Count (readers_in n)) None)
+  abbrev pub peeks_by : ℕ → ℕ → Turn T
+  peeks_by old n =
+      steps_by false (either_at old TryRead ReaderCount n) (either_at old (admitted false) (Some (Count (readers_in n)) ∷ []) n) (either_at old Reading Idle n)
 
-  abbrev pub peeks_by : ℕ → Says T
-  peeks_by old own outs n v = (v ≡ either_at old Reading Idle n) × IsPeek (n == old) n own outs
+  -- the call by which a writer ends
+  abbrev pub leaves_by : RwCall → View → Turn T
+  leaves_by call to = record { writes = true; goes_on = false; call = call; answers = Some answer.Done ∷ []; to = to }
 
-  -- The call by which a writer ends. The party first writes the value that it leaves, which satisfies `Q`. The next view is `to`.
-  abbrev pub leaves_with : (T → Type 0) → RwCall → View → Says T
-  leaves_with Q call to own outs n v = (v ≡ to) × WritesSome Q (IsStep false call (Answered answer.Done None)) own outs
-
-  abbrev pub leaves_by : RwCall → View → Says T
-  leaves_by = leaves_with (λ x. Unit {0})
+-- What a step tells, in a lock that opened with the value `v`: the number found is the word of a read-write lock, and the party has made
+-- the moves of this step.
+unfoldable pub Told : {T : Type 0} → T → (ℕ → Turn T) → Option (Numbered View) → List (Done T) → List (Done T) → ℕ → Numbered View → Type 0
+Told v turn before log es n now = IsRwWord n × Tells (model v) seat_of words_of (says_with (λ x. Unit {0}) turn) before log es n now
 
 -- The calls that want to read
 
@@ -265,10 +321,6 @@ MayCome call n view = (IsOut view × (n ≡ 0)) ⊎ (view ≡ Some (Coming call 
 -- the party may make the exchange of `write`: the call begins with it, or waits
 abbrev pub MayWrite : Option View → Type 0
 MayWrite view = IsOut view ⊎ (view ≡ Some WaitingToWrite)
-
--- the party has this view, and sees a value
-abbrev pub IsLent : {T P K S : Type 0} → Permit T (Numbered View) P K S → View → Type 0
-IsLent it v = (what it.view ≡ Some v) × (it.value ≢ None)
 
 -- For a pass of a lock that opened with the value `v`. Since the pass knew `old`, it has made the moves of this course and no others.
 module _ {T : Type 0} (v : T) where

@@ -13,7 +13,7 @@ use Rattle.spin_rwlock.specs.declared.rwlock.rule.View.{View}
 module _ {T R : Type 0} where
   -- all moves in the lock, up to the pass's last step
   abbrev pub history : Pass T R → List (Done T)
-  history it = it.seen.entries
+  history it = it.account.seen.entries
 
   -- the name of a lock's history
   abbrev pub name_of : {P S : Type 0} → RwLock T R (Numbered View) P (Opening T) S → ℕ
@@ -21,7 +21,7 @@ module _ {T R : Type 0} where
 
   -- the same name, by a pass of the lock
   abbrev pub lock_of : Pass T R → ℕ
-  lock_of it = it.seen.name
+  lock_of it = it.account.seen.name
 
   -- what was fixed when the lock was made: the name of its history, and the value that it opened with
   abbrev pub opening : {P S : Type 0} → RwLock T R (Numbered View) P (Opening T) S → Opening T
@@ -29,11 +29,11 @@ module _ {T R : Type 0} where
 
   -- the same, by a pass of the lock
   abbrev pub opening_of : Pass T R → Opening T
-  opening_of it = it.permit.key
+  opening_of it = it.account.permit.key
 
   -- the party of the pass; there is none before its first call
   abbrev pub party : Pass T R → Option (Numbered View)
-  party it = it.permit.view
+  party it = it.account.permit.view
 
   -- from `before` to `now` the pass has made one call, `reader_count`, with this answer
   abbrev pub CountedReaders : ℕ → Pass T R → Pass T R → Type 0
@@ -46,13 +46,15 @@ module _ {T R : Type 0} where
   -- from `before` to `now` the pass has acquired the lock once by `read`, and has released it
   abbrev pub ReadOnce : Pass T R → Pass T R → Type 0
   ReadOnce before now =
-      (view : Option (Numbered View)) × (seen : List (Done T)) × (lock : Opening T) × (lock ≡ opening_of before) × Called (opening_of before).value Read Granted (party before) (history before) view seen
+      (view : Option (Numbered View)) × (seen : List (Done T)) × (lock : Opening T) × (lock ≡ opening_of before) × Called
+      (opening_of before).value Read Granted (party before) (history before) view seen
       × Called lock.value Release answer.Done view seen (party now) (history now)
 
   -- From `before` to `now` the pass has acquired the lock once by `write`, and has released it. It left a value that satisfies `Q`.
   abbrev pub WroteWith : (T → Type 0) → Pass T R → Pass T R → Type 0
   WroteWith Q before now =
-      (view : Option (Numbered View)) × (seen : List (Done T)) × (lock : Opening T) × (lock ≡ opening_of before) × Called (opening_of before).value Write Granted (party before) (history before) view seen
+      (view : Option (Numbered View)) × (seen : List (Done T)) × (lock : Opening T) × (lock ≡ opening_of before) × Called
+      (opening_of before).value Write Granted (party before) (history before) view seen
       × Wrote lock.value Q Release view seen (party now) (history now)
 
   abbrev pub WroteOnce : Pass T R → Pass T R → Type 0
@@ -62,6 +64,7 @@ module _ {T R : Type 0} where
   -- released the lock. It left some value.
   abbrev pub RaisedOnce : Pass T R → Pass T R → Type 0
   RaisedOnce before now =
-      (reader : Option (Numbered View)) × (seen : List (Done T)) × Called (opening_of before).value UpgradeableRead Granted (party before) (history before) reader seen
+      (reader : Option (Numbered View)) × (seen : List (Done T)) × Called (opening_of before).value UpgradeableRead Granted (party before)
+      (history before) reader seen
       × ((writer : Option (Numbered View)) × (more : List (Done T)) × (lock : Opening T) × (lock ≡ opening_of before) × Called lock.value Upgrade Granted reader seen writer more
       × ((held : Opening T) × (held ≡ lock) × Wrote held.value (λ x. Unit {0}) Release writer more (party now) (history now)))

@@ -1,28 +1,33 @@
--- What a step does to a party, and to the history that the party knows.
-use Rattle.std.specs.Prelude.{◌≡◌, ◌⊎◌, ℕ, true, Some, IfSome, [], length}
+-- What a party knows of the lock's history, and what a step does to the party.
+use Rattle.std.specs.Prelude.{◌≡◌, ◌≢◌, ◌⊎◌, ℕ, Bool, true, false, Option, Some, None, IfSome, [], length}
+use Rattle.spin_core.specs.Cell.{Use, off, writes, use_of}
 use Rattle.spin_core.specs.Own.{Numbered, what}
-use Rattle.spin_core.specs.Passes.{mark_of}
+use Rattle.spin_core.specs.Passes.{mark_of, Begins, Waits, IsCall, WritesSome}
 use Rattle.spin_core.specs.Spots as spots
+use Rattle.spin_core.specs.Traced.{Traces}
 use Rattle.spin_core.specs.Values.{IsLast}
-use Rattle.spin_core.specs.declared.cell.Permit.{Permit}
-use Rattle.spin_core.specs.declared.cell.WritePermit.{WritePermit}
 use Rattle.spin_core.specs.declared.tie.Opening.{Opening}
-use Rattle.spin_core.specs.declared.trace.Watch.{Watch}
 use Rattle.spin_model.specs.Machines.{Machine}
 use Rattle.spin_model.specs.declared.answer.Answer.{Answer}
+use Rattle.spin_model.specs.declared.answer.Answer.TheVariants.{Granted, Done}
 use Rattle.spin_step_more.specs.declared.rw_calls.RwCall.{RwCall}
 use Rattle.spin_step_more.specs.declared.rw_calls.RwPoint.{RwPoint}
 use Rattle.spin_rwlock.specs.declared.rwlock.rule.View.{View}
-use Rattle.spin_rwlock.specs.Rw.{Done, OneCourse, IsOut, Moves, Wrote, model}
-
-abbrev pub Party : Type 0 → Type 0 → Type 0 → Type 0
-Party T P S = Permit T (Numbered View) P (Opening T) S
-
-abbrev pub Writer : Type 0 → Type 0 → Type 0 → Type 0
-Writer T P S = WritePermit T (Numbered View) P (Opening T) S
+use Rattle.spin_rwlock.specs.Rw as rws
+use Rattle.spin_rwlock.specs.Rw.{OneCourse, Turn, IsRw, rw_ways, Told, use_of_view, IsOut, course_of, model}
 
 abbrev pub Spot : Type 0 → Type 0
-Spot T = spots.Spot (Opening T) View (Done T)
+Spot T = spots.Spot (Opening T) View (rws.Done T)
+
+-- a party's spot, and the value that it sees
+abbrev pub Sight : Type 0 → Type 0
+Sight T = Spot T × Option T
+
+-- Only a writer that ends writes the value, and it then writes no more: how a party uses the value before and after such a step (`true`), and
+-- before any other step.
+abbrev pub FitsUse : Bool → Use → Use → Type 0
+FitsUse true before after = (before ≡ writes) × (after ≢ writes)
+FitsUse false before after = before ≢ writes
 
 module _ {T : Type 0} where
   abbrev pub model_at : Opening T → Machine ℕ T RwCall RwPoint (Answer T)
@@ -32,45 +37,77 @@ module _ {T : Type 0} where
   abbrev pub Since : OneCourse T → Spot T → Spot T → Type 0
   Since = spots.Since model_at
 
-  abbrev pub written_at : {P S : Type 0} → Writer T P S × Watch (Done T) → Spot T
-  written_at held = (held.0.key, Some held.0.view, held.1)
+  abbrev pub view_at : Sight T → Option View
+  view_at now = what now.0.1
 
-module _ {T P S : Type 0} where
-  -- `seen` is the lock's whole history, up to the party's last step
-  abbrev pub Knows : Party T P S → Watch (Done T) → Type 0
-  Knows it seen = (it.key.name ≡ seen.name) × (mark_of it.view ≡ length seen.entries)
+  -- the watch is the lock's whole history, up to the party's last step
+  abbrev pub Knows : Sight T → Type 0
+  Knows now = (now.0.0.name ≡ now.0.2.name) × (mark_of now.0.1 ≡ length now.0.2.entries)
 
-  abbrev pub KnowsWriter : Writer T P S → Watch (Done T) → Type 0
-  KnowsWriter it seen = (it.key.name ≡ seen.name) × (it.view.2 ≡ length seen.entries)
+  -- the watch is part of the history of this lock, or is empty
+  abbrev pub MayKnow : Sight T → Type 0
+  MayKnow now = (now.0.2.entries ≡ []) ⊎ (now.0.0.name ≡ now.0.2.name)
 
-  -- `seen` is part of the history of this lock, or is empty
-  abbrev pub MayKnow : Party T P S → Watch (Done T) → Type 0
-  MayKnow it seen = (seen.entries ≡ []) ⊎ (it.key.name ≡ seen.name)
+  -- the party is in no call, holds nothing, and knows the history up to its last step
+  abbrev pub IsPass : Sight T → Type 0
+  IsPass now = IsOut (view_at now) × Knows now
 
-  abbrev pub MayKnowWriter : Writer T P S → Watch (Done T) → Type 0
-  MayKnowWriter it seen = (seen.entries ≡ []) ⊎ (it.key.name ≡ seen.name)
-
-  -- a party with its watch, as in a pass: it is in no call, holds nothing, and knows the history up to its last step
-  abbrev pub IsPass : Party T P S → Watch (Done T) → Type 0
-  IsPass it seen = IsOut (what it.view) × Knows it seen
+  -- the party has this view, and sees a value
+  abbrev pub IsLent : Option (Numbered View) → Option T → View → Type 0
+  IsLent view shown v = (what view ≡ Some v) × (shown ≢ None)
 
   -- the value that the party sees is the one written last
-  abbrev pub ShowsLast : Party T P S → Watch (Done T) → Type 0
-  ShowsLast it seen = IfSome it.value (λ x. IsLast it.key seen.entries x)
+  abbrev pub SeesLast : Sight T → Type 0
+  SeesLast now = IfSome now.1 (λ x. IsLast now.0.0 now.0.2.entries x)
 
-  abbrev pub WritesLast : Writer T P S → Watch (Done T) → Type 0
-  WritesLast it seen = IsLast it.key seen.entries it.value
+  -- the party with this view may make the step `turn`, which applies `f` to the word
+  abbrev pub May : Opening T → Option (Numbered View) → Option T → (ℕ → ℕ) → (ℕ → Turn T) → Type 0
+  May opening view shown f turn =
+      ((n : ℕ) → FitsUse (turn n).writes (use_of use_of_view (what view)) (use_of_view (turn n).to))
+      × Traces (IsRw opening) (rw_ways opening) view shown f (Told opening.value turn view)
 
-  -- The party knows the whole history afterwards, if it knew the whole history before. In between it has made exactly the moves of this
-  -- course.
-  abbrev pub Makes : OneCourse T → Party T P S → Watch (Done T) → Party T P S → Watch (Done T) → Type 0
-  Makes course it seen it' seen' = Knows it seen → Knows it' seen' × (seen'.name ≡ seen.name) × Moves it.key.value course it.view seen.entries it'.view seen'.entries
+  abbrev pub MayDo : (ℕ → ℕ) → (ℕ → Turn T) → Sight T → Type 0
+  MayDo f turn now = MayKnow now × May now.0.0 now.0.1 now.1 f turn
 
-  -- like `Makes`, for a step by which the party becomes the writer
-  abbrev pub MakesWriter : OneCourse T → Party T P S → Watch (Done T) → Writer T P S → Watch (Done T) → Type 0
-  MakesWriter course it seen it' seen' = Knows it seen → KnowsWriter it' seen' × (seen'.name ≡ seen.name) × Moves it.key.value course it.view seen.entries (Some it'.view) seen'.entries
+  -- From `was` to `now` the party has made exactly the moves of this course, if it knew the whole history. It now sees the value written
+  -- last, and knows the whole history again.
+  pub record Does (course : OneCourse T) (was now : Sight T) : Type 0 where
+    pub key : now.0.0 ≡ was.0.0
+    pub last : SeesLast now
+    pub made : Knows was → Knows now × Since course was.0 now.0
 
-  -- like `Makes`, for a step after which the party no longer writes: it has recorded its value, and then made this call
-  abbrev pub EndsWriting : RwCall → Writer T P S → Watch (Done T) → Party T P S → Watch (Done T) → Type 0
-  EndsWriting call it seen it' seen' =
-      KnowsWriter it seen → Knows it' seen' × (seen'.name ≡ seen.name) × Wrote it.key.value (λ x. it.key.told ≡ true → x ≡ it.value) call (Some it.view) seen.entries it'.view seen'.entries
+  -- the same for a party that knew the whole history
+  pub record Has (course : OneCourse T) (was now : Sight T) : Type 0 where
+    pub knows : Knows now
+    pub last : SeesLast now
+    pub made : Since course was.0 now.0
+
+  -- from `was` to `now` the party has made this step
+  pub record Turned (turn : Turn T) (was now : Sight T) : Type 0 where
+    pub view : view_at now ≡ Some turn.to
+    pub does : Does (course_of (λ y. was.0.0.told ≡ true → IfSome was.1 (λ x. y ≡ x)) turn) was now
+    pub left : use_of use_of_view (view_at was) ≢ off → IfSome was.1 (λ x. IsLast was.0.0 now.0.2.entries x)
+    pub sees : use_of_view turn.to ≢ off → (now.1 ≢ None) × (was.1 ≢ None → now.1 ≡ was.1)
+
+  -- after the moves of this course the party has this view, and sees the same value as before
+  pub record Becomes (v : View) (course : OneCourse T) (was now : Sight T) : Type 0 where
+    pub lent : IsLent now.0.1 now.1 v
+    pub same : now.1 ≡ was.1
+    pub does : Does course was now
+
+  -- The writer has written the value that it saw, which is the one written last, and has then made this call.
+  pub record Ends (call : RwCall) (was now : Sight T) : Type 0 where
+    pub does : Does (WritesSome (λ y. was.0.0.told ≡ true → IfSome was.1 (λ x. y ≡ x)) (IsCall call Done)) was now
+    pub left : IfSome was.1 (λ x. IsLast was.0.0 now.0.2.entries x)
+
+  -- if the moves up to `was` are of the course `P`, those up to `now` are of the course `Q`
+  abbrev pub Leads : OneCourse T → OneCourse T → Sight T → Sight T → Type 0
+  Leads P Q was now = (start : Sight T) → Has P start was → Has Q start now
+
+  -- the call still waits
+  abbrev pub WaitsOn : RwCall → Sight T → Sight T → Type 0
+  WaitsOn call = Leads (Begins call Waits) (Begins call Waits)
+
+  -- the call that waited is granted
+  abbrev pub IsGranted : RwCall → Sight T → Sight T → Type 0
+  IsGranted call = Leads (Begins call Waits) (IsCall call Granted)

@@ -10,6 +10,7 @@ use spin_core::trace::Trace;
 use std::marker::PhantomData;
 use std::sync::Wait;
 
+mod account;
 mod coming;
 mod pass;
 mod reader;

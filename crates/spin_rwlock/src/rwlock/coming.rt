@@ -1,22 +1,21 @@
 //! The calls that acquire shared access. Begin at [`Coming`].
-ghost use Rattle.std.specs.Prelude.{◌≡◌, ℕ, Bool, true, false, Some, None, IfOk, IfErr};
+ghost use Rattle.std.specs.Prelude.{◌≡◌, ℕ, Bool, true, false, [], ◌∷◌, Some, None, IfOk, IfErr};
 ghost use Rattle.spin_step.specs.Plain.{Plain, gets, rw_word};
 ghost use Rattle.spin_step.specs.Steps.{Decides};
 ghost use Rattle.spin_step_more.specs.Readers.{OneOfEach, reader_limit};
 ghost use Rattle.spin_model.specs.declared.answer.Answer.TheVariants.{Granted, Refused};
-ghost use Rattle.spin_core.specs.Own.{what};
-ghost use Rattle.spin_rwlock.specs.Rw.{Told, comes_by, looks_by, peeks_by, in_call, call_of, grants, missed, asks, MayCome, IsGrant, Seeks};
-ghost use Rattle.spin_core.specs.Passes.{IsCall, IsStep};
-ghost use Rattle.spin_core.specs.Spots.{spot};
-ghost use Rattle.spin_rwlock.specs.Steps.{Since, Knows, IsPass};
+ghost use Rattle.spin_core.specs.Passes.{IsCall};
+ghost use Rattle.spin_rwlock.specs.Rw.{comes_by, looks_by, peeks_by, in_call, call_of, grants, missed, admitted, asks, MayCome, AreSteps, Seeks};
+ghost use Rattle.spin_rwlock.specs.Steps.{Knows, IsPass, Has};
+ghost use Rattle.spin_rwlock.specs.Sights.{sight, view_of};
 ghost use Rattle.spin_rwlock.specs.declared.rwlock.rule.View.TheVariants as view;
 
+use super::account::{Account, Lent};
 use super::pass::Pass;
 use super::reader::{RwLockReadGuard, SharedGuard};
-use super::rule::{CountsReaders, Entry, Kind, Party, RwPermit, RwRule};
-use spin_core::cell::{Cell, Play};
+use super::rule::{CountsReaders, Kind, Makes, Party, RwRule, Turns};
+use spin_core::cell::Cell;
 use spin_core::relax::{RelaxStrategy, Spin};
-use spin_core::tie::Opening;
 use spin_core::trace::Watch;
 use spin_step_more::rw;
 use std::marker::PhantomData;
@@ -50,8 +49,8 @@ struct Comes<K, M> {
     marker: PhantomData<(K, M)>,
 }
 
-impl<T, K: Kind, M: Mode> Play<Opening<T>, Party, Entry<T>> for Comes<K, M> {
-    ghost told = { λ key old new before. Told key.value (comes_by (in_call (what before)) K.view (call_of K.view M.waits) old) before };
+impl<K: Kind, M: Mode> Turns for Comes<K, M> {
+    ghost turn = { λ T view old. comes_by (in_call view) K.view (call_of K.view M.waits) old };
 }
 
 // The load of a call that waits to read.
@@ -59,48 +58,42 @@ struct Looks<K> {
     marker: PhantomData<K>,
 }
 
-impl<T, K: Kind> Play<Opening<T>, Party, Entry<T>> for Looks<K> {
-    ghost told = { λ key old new before. Told key.value (looks_by (call_of K.view true)) before };
+impl<K: Kind> Turns for Looks<K> {
+    ghost turn = { λ T view old. looks_by (call_of K.view true) };
 }
 
 // The only exchange of `{:?}`.
 struct Peeks;
 
-impl<T> Play<Opening<T>, Party, Entry<T>> for Peeks {
-    ghost told = { λ key old new before. Told key.value (peeks_by old) before };
+impl Turns for Peeks {
+    ghost turn = { λ T view old. peeks_by old };
 }
-
-/// A reader's guard, and what its party knows of the lock's history.
-pub(super) type Lent<'a, T, K, R> = (SharedGuard<'a, T, K, R>, Watch<Entry<T>>);
 
 /// A party in a call that wants to read, with the word that it found last. It wants to be a reader of kind `K`.
 pub(super) struct Coming<'a, T, K: Kind, M: Mode, R> {
-    permit: RwPermit<'a, T>,
-    seen: Watch<Entry<T>>,
+    account: Account<'a, T>,
     word: usize,
     marker: PhantomData<(K, M, R)>,
-    ghost comes: { what permit.view ≡ Some (view.Coming (call_of K.view M.waits) word) },
-    ghost knows: { Knows permit seen },
+    ghost comes: { view_of account ≡ Some (view.Coming (call_of K.view M.waits) word) },
+    ghost knows: { Knows (sight account) },
 }
 
 impl<'a, T, K: Kind, M: Mode, R> Coming<'a, T, K, M, R> {
-    ghost use Rattle.spin_rwlock.specs.Waits.{here, IsReader, SeeksOn, IsLetIn};
+    ghost use Rattle.spin_rwlock.specs.Waits.{reads_at, SeeksOn, IsLetIn};
 
     /// Begins the call with an exchange that expects a free lock. If the exchange fails, it tries once more, at the
     /// word found. This saves a load, since a failed exchange returns the word too.
-    pub(super) fn begin(
-        permit: RwPermit<'a, T>,
-        seen: Watch<Entry<T>>,
-    ) -> Result<Lent<'a, T, K, R>, Self>
-        requires { IsPass permit seen }
-        ensures lent { IfOk result (IsReader (IsCall (call_of K.view M.waits) Granted) (spot permit.entry seen)) }
+    pub(super) fn begin(account: Account<'a, T>) -> Result<Lent<'a, T, K, R>, Self>
+        requires { IsPass (sight account) }
+        ensures lent { IfOk result (λ lent.
+            Has (IsCall (call_of K.view M.waits) Granted) (sight account.entry) (reads_at lent)) }
         ensures missed { IfErr result (λ coming.
-            Since (Seeks (call_of K.view M.waits) coming.word) (spot permit.entry seen) (here coming)) }
+            Has (Seeks (call_of K.view M.waits) coming.word) (sight account.entry) (sight coming.account)) }
     {
         let Some(next) = K::next(0) else {
             unreachable!()
         };
-        match Self::come(permit, seen, 0, next) {
+        match Self::come(account, 0, next) {
             Err(coming) => coming.try_at(),
             done => done,
         }
@@ -112,18 +105,16 @@ impl<'a, T, K: Kind, M: Mode, R> Coming<'a, T, K, M, R> {
         ensures missed { IfErr result (SeeksOn (call_of K.view M.waits) self.entry) }
     {
         let Self {
-            permit,
-            seen,
+            account,
             word,
-            marker: _,
+            marker,
         } = self;
         match K::next(word) {
-            Some(next) => Self::come(permit, seen, word, next),
+            Some(next) => Self::come(account, word, next),
             None => Err(Coming {
-                permit,
-                seen,
+                account,
                 word,
-                marker: PhantomData,
+                marker,
             }),
         }
     }
@@ -136,29 +127,22 @@ impl<'a, T, K: Kind, M: Mode, R> Coming<'a, T, K, M, R> {
     }
 
     // Makes one exchange of `word` for `next`.
-    fn come(
-        permit: RwPermit<'a, T>,
-        seen: Watch<Entry<T>>,
-        word: usize,
-        next: usize,
-    ) -> Result<Lent<'a, T, K, R>, Self>
-        requires may { MayCome (call_of K.view M.waits) word (what permit.view) }
-        requires knows { Knows permit seen }
+    fn come(account: Account<'a, T>, word: usize, next: usize) -> Result<Lent<'a, T, K, R>, Self>
+        requires may { MayCome (call_of K.view M.waits) word (view_of account) }
+        requires knows { Knows (sight account) }
         requires exact { grants (call_of K.view M.waits) word ≡ Some next }
         requires plain { (s : Plain) (party : ℕ) → OneOfEach s → s.cap ≡ reader_limit → rw_word s ≡ word → Decides s (gets party (asks K.view)) rw_word (Some next) }
-        ensures lent { IfOk result
-            (IsReader (IsGrant (in_call (what permit.entry.view)) (call_of K.view M.waits)) (spot permit.entry seen)) }
-        ensures missed { IfErr result (λ coming.
-            let call = call_of K.view M.waits in
-            Since (IsStep (in_call (what permit.entry.view)) call (missed call coming.word)) (spot permit.entry seen) (here coming)) }
+        ensures lent { IfOk result (λ lent. let begun = in_call (view_of account.entry) in
+            Has (AreSteps begun (call_of K.view M.waits) (admitted begun)) (sight account.entry) (reads_at lent)) }
+        ensures missed { IfErr result (λ coming. let call = call_of K.view M.waits in let begun = in_call (view_of account.entry) in
+            Has (AreSteps begun call (missed call coming.word ∷ [])) (sight account.entry) (sight coming.account)) }
     {
-        let (found, permit, seen) = permit.exchange::<Comes<K, M>>(word as u64, next as u64, seen);
+        let (found, account) = account.exchange::<Comes<K, M>>(word as u64, next as u64);
         if found == word as u64 {
-            Ok((SharedGuard::new(permit), seen))
+            Ok(account.into_reader())
         } else {
             Err(Coming {
-                permit,
-                seen,
+                account,
                 word: found as usize,
                 marker: PhantomData,
             })
@@ -167,21 +151,21 @@ impl<'a, T, K: Kind, M: Mode, R> Coming<'a, T, K, M, R> {
 }
 
 impl<'a, T, K: Kind, R> Coming<'a, T, K, Tries, R> {
-    ghost use Rattle.spin_rwlock.specs.Waits.{IsReader, SeeksOn, IsLetIn, IsRefused};
+    ghost use Rattle.spin_rwlock.specs.Waits.{reads_at, SeeksOn, IsLetIn, IsRefused};
 
     /// Tries to become a reader of kind `K`. After a failed exchange it tries again as long as the word found admits
     /// the reader.
     pub(super) fn try_to_lend<W: Wait>(
         rt: &W,
-        permit: RwPermit<'a, T>,
-        seen: Watch<Entry<T>>,
+        account: Account<'a, T>,
     ) -> Result<Lent<'a, T, K, R>, Pass<'a, T, R>>
-        requires { IsPass permit seen }
-        ensures lent { IfOk result (IsReader (IsCall (call_of K.view false) Granted) (spot permit.entry seen)) }
+        requires { IsPass (sight account) }
+        ensures lent { IfOk result (λ lent.
+            Has (IsCall (call_of K.view false) Granted) (sight account.entry) (reads_at lent)) }
         ensures refused { IfErr result (λ pass.
-            Since (IsCall (call_of K.view false) Refused) (spot permit.entry seen) (spot pass.permit pass.seen)) }
+            Has (IsCall (call_of K.view false) Refused) (sight account.entry) (sight pass.account)) }
     {
-        let coming = match Self::begin(permit, seen) {
+        let coming = match Self::begin(account) {
             Ok(lent) => return Ok(lent),
             Err(coming) => coming,
         };
@@ -218,19 +202,20 @@ impl<'a, T, K: Kind, R> Coming<'a, T, K, Tries, R> {
         ensures missed { IfErr result (SeeksOn (call_of K.view false) self.entry) }
     {
         let Self {
-            permit,
-            seen,
+            account,
             word,
-            marker: _,
+            marker,
         } = self;
         match K::next(word) {
             Some(_) => Err(Coming {
-                permit,
-                seen,
+                account,
                 word,
-                marker: PhantomData,
+                marker,
             }),
-            None => Ok(Pass::new(permit, seen)),
+            None => Ok(Pass {
+                account,
+                strategy: PhantomData,
+            }),
         }
     }
 }
@@ -279,28 +264,29 @@ impl<'a, T, K: Kind, R: RelaxStrategy> Coming<'a, T, K, Waits, R> {
         ensures { SeeksOn (call_of K.view true) self.entry result }
     {
         let Self {
-            permit,
-            seen,
+            account,
             word: _,
-            marker: _,
+            marker,
         } = self;
-        let (found, permit, seen) = permit.load::<Looks<K>>(seen);
+        let (found, account) = account.load::<Looks<K>>();
         Coming {
-            permit,
-            seen,
+            account,
             word: found as usize,
-            marker: PhantomData,
+            marker,
         }
     }
 }
 
 /// Tries to read for `{:?}`, by one load and at most one exchange.
 pub(super) fn peek<T, R>(cell: &Cell<T, Party, RwRule<T>>) -> Option<RwLockReadGuard<'_, T, R>> {
-    let word = cell.enter().look::<CountsReaders>(Watch::nothing()).0 as usize;
+    let word = cell
+        .enter()
+        .look::<Makes<CountsReaders>>(Watch::nothing())
+        .0 as usize;
     let next = rw::read(word, rw::MAX_READERS)?;
     let (tried, _) = cell
         .enter()
-        .attempt::<Peeks>(word as u64, next as u64, Watch::nothing());
+        .attempt::<Makes<Peeks>>(word as u64, next as u64, Watch::nothing());
     match tried {
         Ok(permit) => Some(SharedGuard::new(permit)),
         Err(_) => None,

@@ -9,17 +9,16 @@ ghost use Rattle.spin_step_more.specs.Readers.{reader_limit};
 ghost use Rattle.spin_step_more.specs.declared.rw_calls.RwCall.TheVariants.{TryRead, Read, TryUpgradeableRead, UpgradeableRead, TryWrite, Write, ReaderCount, WriterCount, Release};
 ghost use Rattle.spin_rwlock.specs.Guards.{shared_party, write_party, shared_opening, write_opening, write_value, ReadsWith, WritesWith, ReadsLast, FindsLast};
 ghost use Rattle.spin_rwlock.specs.Rw.{call_of, Called, Wrote};
+ghost use Rattle.spin_rwlock.specs.Sights.{sight};
 ghost use Rattle.spin_rwlock.specs.Steps.{IsPass};
 
-use super::coming::{Coming, Lent, Tries, Waits};
+use super::RwLock;
+use super::account::{Account, Lent};
+use super::coming::{Coming, Tries, Waits};
 use super::reader::{RwLockReadGuard, SharedGuard};
-use super::rule::{
-    self, CountsReaders, CountsWriters, Entry, Kind, Reader, RwPermit, TriesToWrite, Upgrader,
-};
+use super::rule::{CountsReaders, CountsWriters, Entry, Kind, Reader, TriesToWrite, Upgrader};
 use super::upgradable::RwLockUpgradableGuard;
 use super::writer::RwLockWriteGuard;
-use super::{Party, RwLock, RwRule};
-use spin_core::cell::Permit;
 use spin_core::relax::RelaxStrategy;
 use spin_core::trace::Watch;
 use spin_step_more::rw;
@@ -54,10 +53,9 @@ use std::sync::Wait;
 /// ```
 #[must_use = "a pass that is dropped ends: bind it, or write `drop(..)`"]
 pub struct Pass<'a, T, R> {
-    permit: Permit<'a, T, Party, RwRule<T>>,
-    seen: Watch<Entry<T>>,
-    strategy: PhantomData<R>,
-    ghost knows: { IsPass permit seen },
+    pub(super) account: Account<'a, T>,
+    pub(super) strategy: PhantomData<R>,
+    ghost knows: { IsPass (sight account) },
 }
 
 impl<T, R> RwLock<T, R> {
@@ -66,10 +64,16 @@ impl<T, R> RwLock<T, R> {
     /// # Contract
     /// The pass is of this lock, and knows nothing of its history yet (`new`, `lock`).
     pub fn pass(&self) -> Pass<'_, T, R>
-        ensures new { (result.seen.name ≡ self.now.cell.name) × (result.seen.entries ≡ []) × (result.permit.view ≡ None) }
-        ensures lock { result.permit.key ≡ self.now.cell }
+        ensures new { (result.account.seen.name ≡ self.now.cell.name) × (result.account.seen.entries ≡ []) × (result.account.permit.view ≡ None) }
+        ensures lock { result.account.permit.key ≡ self.now.cell }
     {
-        Pass::new(self.cell.enter(), self.cell.watch())
+        Pass {
+            account: Account {
+                permit: self.cell.enter(),
+                seen: self.cell.watch(),
+            },
+            strategy: PhantomData,
+        }
     }
 
     /// Releases the shared access of a reader of either kind, and returns the pass by which it was acquired.
@@ -84,12 +88,14 @@ impl<T, R> RwLock<T, R> {
         seen: Watch<Entry<T>>,
     ) -> Pass<'a, T, R>
         requires { ReadsWith guard seen }
-        ensures still { ReadsLast guard.entry result.seen }
-        ensures made { Called (shared_opening guard.entry).value Release Done (shared_party guard.entry) seen.entries result.permit.view result.seen.entries }
-        ensures same { (result.seen.name ≡ seen.name) × (result.permit.key ≡ shared_opening guard.entry) }
+        ensures still { ReadsLast guard.entry result.account.seen }
+        ensures made { Called (shared_opening guard.entry).value Release Done (shared_party guard.entry) seen.entries result.account.permit.view result.account.seen.entries }
+        ensures same { (result.account.seen.name ≡ seen.name) × (result.account.permit.key ≡ shared_opening guard.entry) }
     {
-        let (permit, seen) = rule::release::<T, K>(guard.into_permit(), seen);
-        Pass::new(permit, seen)
+        Pass {
+            account: guard.release(seen),
+            strategy: PhantomData,
+        }
     }
 
     /// Releases the exclusive access of the writer, and returns the pass by which it was acquired.
@@ -102,13 +108,15 @@ impl<T, R> RwLock<T, R> {
     /// (`left`).
     pub fn unlock<'a>(guard: RwLockWriteGuard<'a, T, R>, seen: Watch<Entry<T>>) -> Pass<'a, T, R>
         requires { WritesWith guard seen }
-        ensures made { Wrote (write_opening guard.entry).value (λ x. Unit {0}) Release (write_party guard.entry) seen.entries result.permit.view result.seen.entries }
-        ensures wrote { Wrote (write_opening guard.entry).value (λ x. (write_opening guard.entry).told ≡ true → x ≡ write_value guard.entry) Release (write_party guard.entry) seen.entries result.permit.view result.seen.entries }
-        ensures left { IsLast (write_opening guard.entry) result.seen.entries (write_value guard.entry) }
-        ensures same { (result.seen.name ≡ seen.name) × (result.permit.key ≡ write_opening guard.entry) }
+        ensures made { Wrote (write_opening guard.entry).value (λ x. Unit {0}) Release (write_party guard.entry) seen.entries result.account.permit.view result.account.seen.entries }
+        ensures wrote { Wrote (write_opening guard.entry).value (λ x. (write_opening guard.entry).told ≡ true → x ≡ write_value guard.entry) Release (write_party guard.entry) seen.entries result.account.permit.view result.account.seen.entries }
+        ensures left { IsLast (write_opening guard.entry) result.account.seen.entries (write_value guard.entry) }
+        ensures same { (result.account.seen.name ≡ seen.name) × (result.account.permit.key ≡ write_opening guard.entry) }
     {
-        let (permit, seen) = rule::release_write(guard.into_writer(), seen);
-        Pass::new(permit, seen)
+        Pass {
+            account: guard.release(seen),
+            strategy: PhantomData,
+        }
     }
 }
 
@@ -119,10 +127,10 @@ impl<'a, T, R: RelaxStrategy> Pass<'a, T, R> {
     /// The call is one `Read` with the answer `Granted`, however often it looked and tried (`made`). The guard's value
     /// is the one written last in the history (`found`). Whether and when the call returns is not promised.
     pub fn read<W: Wait>(self, rt: &W) -> (RwLockReadGuard<'a, T, R>, Watch<Entry<T>>)
-        ensures reads { ReadsWith result.0 result.1 × (result.1.name ≡ self.entry.seen.name) }
+        ensures reads { ReadsWith result.0 result.1 × (result.1.name ≡ self.entry.account.seen.name) }
         ensures found { ReadsLast result.0 result.1 }
-        ensures lock { shared_opening result.0 ≡ self.entry.permit.key }
-        ensures made { Called self.entry.permit.key.value Read Granted self.entry.permit.view self.entry.seen.entries (shared_party result.0) result.1.entries }
+        ensures lock { shared_opening result.0 ≡ self.entry.account.permit.key }
+        ensures made { Called self.entry.account.permit.key.value Read Granted self.entry.account.permit.view self.entry.account.seen.entries (shared_party result.0) result.1.entries }
     {
         self.lend::<Reader, _>(rt)
     }
@@ -138,10 +146,10 @@ impl<'a, T, R: RelaxStrategy> Pass<'a, T, R> {
         self,
         rt: &W,
     ) -> (RwLockUpgradableGuard<'a, T, R>, Watch<Entry<T>>)
-        ensures reads { ReadsWith result.0 result.1 × (result.1.name ≡ self.entry.seen.name) }
+        ensures reads { ReadsWith result.0 result.1 × (result.1.name ≡ self.entry.account.seen.name) }
         ensures found { ReadsLast result.0 result.1 }
-        ensures lock { shared_opening result.0 ≡ self.entry.permit.key }
-        ensures made { Called self.entry.permit.key.value UpgradeableRead Granted self.entry.permit.view self.entry.seen.entries (shared_party result.0) result.1.entries }
+        ensures lock { shared_opening result.0 ≡ self.entry.account.permit.key }
+        ensures made { Called self.entry.account.permit.key.value UpgradeableRead Granted self.entry.account.permit.view self.entry.account.seen.entries (shared_party result.0) result.1.entries }
     {
         self.lend::<Upgrader, _>(rt)
     }
@@ -166,36 +174,33 @@ impl<'a, T, R: RelaxStrategy> Pass<'a, T, R> {
     /// drop(pass);
     /// ```
     pub fn write<W: Wait>(self, rt: &W) -> (RwLockWriteGuard<'a, T, R>, Watch<Entry<T>>)
-        ensures writes { WritesWith result.0 result.1 × (result.1.name ≡ self.entry.seen.name) }
+        ensures writes { WritesWith result.0 result.1 × (result.1.name ≡ self.entry.account.seen.name) }
         ensures found { FindsLast result.0 result.1 }
-        ensures lock { write_opening result.0 ≡ self.entry.permit.key }
-        ensures made { Called self.entry.permit.key.value Write Granted self.entry.permit.view self.entry.seen.entries (write_party result.0) result.1.entries }
+        ensures lock { write_opening result.0 ≡ self.entry.account.permit.key }
+        ensures made { Called self.entry.account.permit.key.value Write Granted self.entry.account.permit.view self.entry.account.seen.entries (write_party result.0) result.1.entries }
     {
         let Self {
-            permit,
-            seen,
+            account,
             strategy: _,
         } = self;
-        let (writer, seen) = match rule::write(permit, seen) {
+        match account.write() {
             Ok(held) => held,
-            Err(waiting) => waiting.wait::<R, W>(rt),
-        };
-        (RwLockWriteGuard::new(writer), seen)
+            Err(waiting) => waiting.wait(rt),
+        }
     }
 
     // Waits until the lock admits a reader of this kind.
     fn lend<K: Kind, W: Wait>(self, rt: &W) -> Lent<'a, T, K, R>
-        ensures reads { ReadsWith result.0 result.1 × (result.1.name ≡ self.entry.seen.name) }
+        ensures reads { ReadsWith result.0 result.1 × (result.1.name ≡ self.entry.account.seen.name) }
         ensures found { ReadsLast result.0 result.1 }
-        ensures lock { shared_opening result.0 ≡ self.entry.permit.key }
-        ensures made { Called self.entry.permit.key.value (call_of K.view true) Granted self.entry.permit.view self.entry.seen.entries (shared_party result.0) result.1.entries }
+        ensures lock { shared_opening result.0 ≡ self.entry.account.permit.key }
+        ensures made { Called self.entry.account.permit.key.value (call_of K.view true) Granted self.entry.account.permit.view self.entry.account.seen.entries (shared_party result.0) result.1.entries }
     {
         let Self {
-            permit,
-            seen,
+            account,
             strategy: _,
         } = self;
-        let begun: Result<_, Coming<T, K, Waits, R>> = Coming::begin(permit, seen);
+        let begun: Result<_, Coming<T, K, Waits, R>> = Coming::begin(account);
         match begun {
             Ok(lent) => lent,
             Err(coming) => coming.wait(rt),
@@ -228,7 +233,7 @@ impl<'a, T, R: RelaxStrategy> Pass<'a, T, R> {
         requires { F.IsAlwaysCallable by }
         ensures answers { AnswersOf F.FnOnce by result.0 }
         ensures made { WroteOnce self.entry result.1 }
-        ensures same { (result.1.seen.name ≡ self.entry.seen.name) × (result.1.permit.key ≡ self.entry.permit.key) }
+        ensures same { (result.1.account.seen.name ≡ self.entry.account.seen.name) × (result.1.account.permit.key ≡ self.entry.account.permit.key) }
     {
         let (mut guard, seen) = self.write(rt);
         let answer = by(&mut *guard);
@@ -245,7 +250,7 @@ impl<'a, T, R: RelaxStrategy> Pass<'a, T, R> {
         requires { F.IsAlwaysCallable by }
         ensures answers { AnswersOfShared F.FnOnce by result.0 }
         ensures made { ReadOnce self.entry result.1 }
-        ensures same { (result.1.seen.name ≡ self.entry.seen.name) × (result.1.permit.key ≡ self.entry.permit.key) }
+        ensures same { (result.1.account.seen.name ≡ self.entry.account.seen.name) × (result.1.account.permit.key ≡ self.entry.account.permit.key) }
     {
         let (guard, seen) = self.read(rt);
         let answer = by(&*guard);
@@ -264,18 +269,17 @@ impl<'a, T, R> Pass<'a, T, R> {
         self,
         rt: &W,
     ) -> Result<(RwLockReadGuard<'a, T, R>, Watch<Entry<T>>), Pass<'a, T, R>>
-        ensures reads { IfOk result (λ lent. ReadsWith lent.0 lent.1 × (lent.1.name ≡ self.entry.seen.name)) }
+        ensures reads { IfOk result (λ lent. ReadsWith lent.0 lent.1 × (lent.1.name ≡ self.entry.account.seen.name)) }
         ensures found { IfOk result (λ lent. ReadsLast lent.0 lent.1) }
-        ensures lock { IfOk result (λ lent. shared_opening lent.0 ≡ self.entry.permit.key) }
-        ensures granted { IfOk result (λ lent. Called self.entry.permit.key.value TryRead Granted self.entry.permit.view self.entry.seen.entries (shared_party lent.0) lent.1.entries) }
-        ensures refused { IfErr result (λ pass. (pass.permit.key ≡ self.entry.permit.key) × (pass.seen.name ≡ self.entry.seen.name) × Called self.entry.permit.key.value TryRead Refused self.entry.permit.view self.entry.seen.entries pass.permit.view pass.seen.entries) }
+        ensures lock { IfOk result (λ lent. shared_opening lent.0 ≡ self.entry.account.permit.key) }
+        ensures granted { IfOk result (λ lent. Called self.entry.account.permit.key.value TryRead Granted self.entry.account.permit.view self.entry.account.seen.entries (shared_party lent.0) lent.1.entries) }
+        ensures refused { IfErr result (λ pass. (pass.account.permit.key ≡ self.entry.account.permit.key) × (pass.account.seen.name ≡ self.entry.account.seen.name) × Called self.entry.account.permit.key.value TryRead Refused self.entry.account.permit.view self.entry.account.seen.entries pass.account.permit.view pass.account.seen.entries) }
     {
         let Self {
-            permit,
-            seen,
+            account,
             strategy: _,
         } = self;
-        Coming::<_, Reader, Tries, _>::try_to_lend(rt, permit, seen)
+        Coming::<_, Reader, Tries, _>::try_to_lend(rt, account)
     }
 
     /// Tries to acquire upgradable shared access as [`RwLock::try_upgradeable_read`] does. A failure returns the pass.
@@ -288,18 +292,17 @@ impl<'a, T, R> Pass<'a, T, R> {
         self,
         rt: &W,
     ) -> Result<(RwLockUpgradableGuard<'a, T, R>, Watch<Entry<T>>), Pass<'a, T, R>>
-        ensures reads { IfOk result (λ lent. ReadsWith lent.0 lent.1 × (lent.1.name ≡ self.entry.seen.name)) }
+        ensures reads { IfOk result (λ lent. ReadsWith lent.0 lent.1 × (lent.1.name ≡ self.entry.account.seen.name)) }
         ensures found { IfOk result (λ lent. ReadsLast lent.0 lent.1) }
-        ensures lock { IfOk result (λ lent. shared_opening lent.0 ≡ self.entry.permit.key) }
-        ensures granted { IfOk result (λ lent. Called self.entry.permit.key.value TryUpgradeableRead Granted self.entry.permit.view self.entry.seen.entries (shared_party lent.0) lent.1.entries) }
-        ensures refused { IfErr result (λ pass. (pass.permit.key ≡ self.entry.permit.key) × (pass.seen.name ≡ self.entry.seen.name) × Called self.entry.permit.key.value TryUpgradeableRead Refused self.entry.permit.view self.entry.seen.entries pass.permit.view pass.seen.entries) }
+        ensures lock { IfOk result (λ lent. shared_opening lent.0 ≡ self.entry.account.permit.key) }
+        ensures granted { IfOk result (λ lent. Called self.entry.account.permit.key.value TryUpgradeableRead Granted self.entry.account.permit.view self.entry.account.seen.entries (shared_party lent.0) lent.1.entries) }
+        ensures refused { IfErr result (λ pass. (pass.account.permit.key ≡ self.entry.account.permit.key) × (pass.account.seen.name ≡ self.entry.account.seen.name) × Called self.entry.account.permit.key.value TryUpgradeableRead Refused self.entry.account.permit.view self.entry.account.seen.entries pass.account.permit.view pass.account.seen.entries) }
     {
         let Self {
-            permit,
-            seen,
+            account,
             strategy: _,
         } = self;
-        Coming::<_, Upgrader, Tries, _>::try_to_lend(rt, permit, seen)
+        Coming::<_, Upgrader, Tries, _>::try_to_lend(rt, account)
     }
 
     /// Tries to acquire exclusive access as [`RwLock::try_write`] does. Returns the pass at once if any thread holds
@@ -320,23 +323,17 @@ impl<'a, T, R> Pass<'a, T, R> {
     /// assert!(rt; pass.try_write().is_ok());
     /// ```
     pub fn try_write(self) -> Result<(RwLockWriteGuard<'a, T, R>, Watch<Entry<T>>), Pass<'a, T, R>>
-        ensures writes { IfOk result (λ held. WritesWith held.0 held.1 × (held.1.name ≡ self.entry.seen.name)) }
+        ensures writes { IfOk result (λ held. WritesWith held.0 held.1 × (held.1.name ≡ self.entry.account.seen.name)) }
         ensures found { IfOk result (λ held. FindsLast held.0 held.1) }
-        ensures lock { IfOk result (λ held. write_opening held.0 ≡ self.entry.permit.key) }
-        ensures granted { IfOk result (λ held. Called self.entry.permit.key.value TryWrite Granted self.entry.permit.view self.entry.seen.entries (write_party held.0) held.1.entries) }
-        ensures refused { IfErr result (λ pass. (pass.permit.key ≡ self.entry.permit.key) × (pass.seen.name ≡ self.entry.seen.name) × Called self.entry.permit.key.value TryWrite Refused self.entry.permit.view self.entry.seen.entries pass.permit.view pass.seen.entries) }
+        ensures lock { IfOk result (λ held. write_opening held.0 ≡ self.entry.account.permit.key) }
+        ensures granted { IfOk result (λ held. Called self.entry.account.permit.key.value TryWrite Granted self.entry.account.permit.view self.entry.account.seen.entries (write_party held.0) held.1.entries) }
+        ensures refused { IfErr result (λ pass. (pass.account.permit.key ≡ self.entry.account.permit.key) × (pass.account.seen.name ≡ self.entry.account.seen.name) × Called self.entry.account.permit.key.value TryWrite Refused self.entry.account.permit.view self.entry.account.seen.entries pass.account.permit.view pass.account.seen.entries) }
     {
-        let Self {
-            permit,
-            seen,
-            strategy: _,
-        } = self;
+        let Self { account, strategy } = self;
         let next = rw::write(0).unwrap();
-        let (found, permit, seen) = permit.exchange::<TriesToWrite>(0, next as u64, seen);
-        if found == 0 {
-            Ok((RwLockWriteGuard::new(permit.into_writer()), seen))
-        } else {
-            Err(Pass::new(permit, seen))
+        match account.attempt::<TriesToWrite, R>(0, next as u64) {
+            Ok(held) => Ok(held),
+            Err(account) => Err(Pass { account, strategy }),
         }
     }
 
@@ -347,16 +344,12 @@ impl<'a, T, R> Pass<'a, T, R> {
     /// (`reader_limit`).
     pub fn reader_count(self) -> (usize, Pass<'a, T, R>)
         ensures limit { result.0 ≤ reader_limit }
-        ensures made { Called self.entry.permit.key.value ReaderCount (Count result.0) self.entry.permit.view self.entry.seen.entries result.1.permit.view result.1.seen.entries }
-        ensures same { (result.1.seen.name ≡ self.entry.seen.name) × (result.1.permit.key ≡ self.entry.permit.key) }
+        ensures made { Called self.entry.account.permit.key.value ReaderCount (Count result.0) self.entry.account.permit.view self.entry.account.seen.entries result.1.account.permit.view result.1.account.seen.entries }
+        ensures same { (result.1.account.seen.name ≡ self.entry.account.seen.name) × (result.1.account.permit.key ≡ self.entry.account.permit.key) }
     {
-        let Self {
-            permit,
-            seen,
-            strategy: _,
-        } = self;
-        let (found, permit, seen) = permit.load::<CountsReaders>(seen);
-        (rw::readers(found as usize), Pass::new(permit, seen))
+        let Self { account, strategy } = self;
+        let (found, account) = account.load::<CountsReaders>();
+        (rw::readers(found as usize), Pass { account, strategy })
     }
 
     /// Counts the writers, as [`RwLock::writer_count`] does.
@@ -365,16 +358,12 @@ impl<'a, T, R> Pass<'a, T, R> {
     /// The call is one `WriterCount`, with the returned answer, 0 or 1 (`made`).
     pub fn writer_count(self) -> (usize, Pass<'a, T, R>)
         ensures limit { result.0 ≤ 1 }
-        ensures made { Called self.entry.permit.key.value WriterCount (Count result.0) self.entry.permit.view self.entry.seen.entries result.1.permit.view result.1.seen.entries }
-        ensures same { (result.1.seen.name ≡ self.entry.seen.name) × (result.1.permit.key ≡ self.entry.permit.key) }
+        ensures made { Called self.entry.account.permit.key.value WriterCount (Count result.0) self.entry.account.permit.view self.entry.account.seen.entries result.1.account.permit.view result.1.account.seen.entries }
+        ensures same { (result.1.account.seen.name ≡ self.entry.account.seen.name) × (result.1.account.permit.key ≡ self.entry.account.permit.key) }
     {
-        let Self {
-            permit,
-            seen,
-            strategy: _,
-        } = self;
-        let (found, permit, seen) = permit.load::<CountsWriters>(seen);
-        (rw::writers(found as usize), Pass::new(permit, seen))
+        let Self { account, strategy } = self;
+        let (found, account) = account.load::<CountsWriters>();
+        (rw::writers(found as usize), Pass { account, strategy })
     }
 
     /// Compares what two passes of one lock know. It does nothing when it runs.
@@ -384,31 +373,19 @@ impl<'a, T, R> Pass<'a, T, R> {
     /// history. The longer of the two has the calls of both passes, each once, in the order in which each pass made
     /// them.
     pub fn compare(&self, other: &Pass<'_, T, R>)
-        requires { self.now.seen.name ≡ other.now.seen.name }
-        ensures { IsPrefix self.now.seen.entries other.now.seen.entries ⊎ IsPrefix other.now.seen.entries self.now.seen.entries }
+        requires { self.now.account.seen.name ≡ other.now.account.seen.name }
+        ensures { IsPrefix self.now.account.seen.entries other.now.account.seen.entries ⊎ IsPrefix other.now.account.seen.entries self.now.account.seen.entries }
     {
-        self.seen.compare(&other.seen);
-    }
-
-    pub(super) fn new(permit: RwPermit<'a, T>, seen: Watch<Entry<T>>) -> Self
-        requires { IsPass permit seen }
-        ensures { (result.permit ≡ permit.entry) × (result.seen ≡ seen) }
-    {
-        Pass {
-            permit,
-            seen,
-            strategy: PhantomData,
-        }
+        self.account.seen.compare(&other.account.seen);
     }
 }
 
 impl<T, R> Drop for Pass<'_, T, R> {
     fn drop(self) {
         let Self {
-            permit,
-            seen: _,
+            account,
             strategy: _,
         } = self;
-        permit.leave();
+        account.leave();
     }
 }

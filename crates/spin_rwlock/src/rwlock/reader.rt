@@ -1,10 +1,16 @@
 //! The guard of a reader, of either kind, and a reader's hold without a guard. Begin at [`RwLockReadGuard`].
 ghost use Rattle.std.specs.Prelude.{◌≡◌, Some};
 ghost use Rattle.spin_core.specs.Own.{what};
-ghost use Rattle.spin_rwlock.specs.Rw.{IsLent};
+ghost use Rattle.spin_core.specs.Passes.{IsCall};
+ghost use Rattle.spin_model.specs.declared.answer.Answer.TheVariants.{Done};
+ghost use Rattle.spin_step_more.specs.declared.rw_calls.RwCall.TheVariants.{Release};
+ghost use Rattle.spin_rwlock.specs.Rw.{IsOut};
+ghost use Rattle.spin_rwlock.specs.Sights.{sight, view_of};
+ghost use Rattle.spin_rwlock.specs.Steps.{IsLent, MayKnow, Does};
 ghost use Rattle.spin_rwlock.specs.declared.rwlock.rule.View.TheVariants.{Reading};
 
-use super::rule::{Kind, Party, Reader, RwPermit, RwRule, release};
+use super::account::Account;
+use super::rule::{Entry, Kind, Party, Reader, Releases, RwPermit, RwRule};
 use spin_core::cell::Permit;
 use spin_core::relax::Spin;
 use spin_core::trace::Watch;
@@ -22,7 +28,7 @@ use std::ops::Deref;
 pub struct SharedGuard<'a, T, K: Kind, R = Spin> {
     permit: Permit<'a, T, Party, RwRule<T>>,
     marker: PhantomData<(K, R)>,
-    ghost lent: { IsLent permit K.view },
+    ghost lent: { IsLent permit.view permit.value K.view },
 }
 
 /// The guard of a reader of an [`RwLock`](super::RwLock). Dropping it releases the shared access.
@@ -46,10 +52,11 @@ pub struct ReadHeld<'a, T, R = Spin> {
 }
 
 impl<'a, T, K: Kind, R> SharedGuard<'a, T, K, R> {
-    ghost use Rattle.spin_rwlock.specs.Guards.{shared_value};
+    ghost use Rattle.spin_rwlock.specs.Guards.{shared_value, ReadsLast};
+    ghost use Rattle.spin_rwlock.specs.Waits.{reads_at};
 
     pub(super) fn new(permit: RwPermit<'a, T>) -> Self
-        requires { IsLent permit K.view }
+        requires { IsLent permit.view permit.value K.view }
         ensures value { shared_value result ≡ permit.entry.value }
         ensures same { result.permit ≡ permit.entry }
     {
@@ -84,10 +91,30 @@ impl<'a, T, K: Kind, R> SharedGuard<'a, T, K, R> {
 
     pub(super) fn into_permit(self) -> RwPermit<'a, T>
         ensures same { result ≡ self.entry.permit }
-        ensures lent { IsLent result K.view }
+        ensures lent { IsLent result.view result.value K.view }
     {
         let Self { permit, marker: _ } = self;
         permit
+    }
+
+    pub(super) fn into_account(self, seen: Watch<Entry<T>>) -> Account<'a, T>
+        ensures same { sight result ≡ reads_at (self.entry, seen) }
+        ensures lent { IsLent result.permit.view result.permit.value K.view }
+    {
+        Account {
+            permit: self.into_permit(),
+            seen,
+        }
+    }
+
+    // Releases the shared access. The party is then in no call, and holds nothing.
+    pub(super) fn release(self, seen: Watch<Entry<T>>) -> Account<'a, T>
+        requires { MayKnow (reads_at (self, seen)) }
+        ensures out { IsOut (view_of result) }
+        ensures still { ReadsLast self.entry result.seen }
+        ensures made { Does (IsCall Release Done) (reads_at (self.entry, seen)) (sight result) }
+    {
+        self.into_account(seen).subtract::<Releases>(K::WEIGHT).1
     }
 }
 
@@ -158,9 +185,7 @@ impl<T, K: Kind, R> Deref for SharedGuard<'_, T, K, R> {
 
 impl<T, K: Kind, R> Drop for SharedGuard<'_, T, K, R> {
     fn drop(self) {
-        release::<T, K>(self.into_permit(), Watch::nothing())
-            .0
-            .leave();
+        self.release(Watch::nothing()).leave();
     }
 }
 

@@ -1,21 +1,24 @@
 //! The guard of the upgradable reader, and what it can do besides reading. Begin at `upgrade`.
-ghost use Rattle.std.specs.Prelude.{◌≡◌, Some, IfOk, IfErr};
+ghost use Rattle.std.specs.Prelude.{◌≡◌, true, false, [], ◌∷◌, Some, None, IfOk, IfErr};
+ghost use Rattle.spin_core.specs.Passes.{IsCall};
 ghost use Rattle.spin_model.specs.declared.answer.Answer.TheVariants.{Granted, Refused, Done};
 ghost use Rattle.spin_step_more.specs.declared.rw_calls.RwCall.TheVariants.{TryUpgrade, Upgrade, Downgrade};
 ghost use Rattle.spin_rwlock.specs.Guards.{write_value, shared_party, write_party, shared_opening, write_opening, ReadsWith, WritesWith, ReadsLast, FindsLast};
-ghost use Rattle.spin_rwlock.specs.Rw.{IsLent, Called};
-ghost use Rattle.spin_rwlock.specs.Steps.{Knows};
-ghost use Rattle.spin_core.specs.Spots.{spot};
-ghost use Rattle.spin_rwlock.specs.Waits.{IsGranted};
-ghost use Rattle.spin_rwlock.specs.declared.rwlock.rule.View.TheVariants.{Asking, WritingAsked};
+ghost use Rattle.spin_rwlock.specs.Rw.{AreSteps, Called};
+ghost use Rattle.spin_rwlock.specs.Sights.{sight};
+ghost use Rattle.spin_rwlock.specs.Steps.{IsLent, Knows, MayKnow, Becomes, IsGranted};
+ghost use Rattle.spin_rwlock.specs.Waits.{reads_at, writes_at};
+ghost use Rattle.spin_rwlock.specs.declared.rwlock.rule.View.TheVariants.{Reading, Upgradable, Asking, Writing, WritingAsked};
 
+use super::account::{Account, Held, Lent};
 use super::reader::{RwLockReadGuard, SharedGuard};
 use super::rule::{
-    Entry, RwPermit, Upgrader, Writer, ask, upgradable_to_read, upgrade, upgrade_asked,
+    ASKING, Asks, Entry, READER, Reader, ReadsOn, TriesToUpgrade, UPGRADABLE, Upgrader, Upgrades,
 };
 use super::writer::RwLockWriteGuard;
 use spin_core::relax::{RelaxStrategy, Spin};
 use spin_core::trace::Watch;
+use spin_step_more::rw;
 use std::sync::Wait;
 
 /// The guard of the upgradable reader of an [`RwLock`](super::RwLock). Dropping it releases the shared access.
@@ -52,9 +55,9 @@ impl<'a, T, R> SharedGuard<'a, T, Upgrader, R> {
         ensures granted { IfOk result (λ guard. Some (write_value guard) ≡ shared_value self.entry) }
         ensures refused { IfErr result (λ guard. shared_value guard ≡ shared_value self.entry) }
     {
-        match upgrade(self.into_permit(), Watch::nothing()) {
-            Ok((writer, _)) => Ok(RwLockWriteGuard::new(writer)),
-            Err((permit, _)) => Err(Self::new(permit)),
+        match raise(self.into_account(Watch::nothing())) {
+            Ok((guard, _)) => Ok(guard),
+            Err((guard, _)) => Err(guard),
         }
     }
 
@@ -79,10 +82,7 @@ impl<'a, T, R> SharedGuard<'a, T, Upgrader, R> {
         ensures granted { IfOk result (λ held. WritesWith held.0 held.1 × (held.1.name ≡ seen.name) × Called (shared_opening self.entry).value TryUpgrade Granted (shared_party self.entry) seen.entries (write_party held.0) held.1.entries) }
         ensures refused { IfErr result (λ held. ReadsWith held.0 held.1 × (held.1.name ≡ seen.name) × Called (shared_opening self.entry).value TryUpgrade Refused (shared_party self.entry) seen.entries (shared_party held.0) held.1.entries) }
     {
-        match upgrade(self.into_permit(), seen) {
-            Ok((writer, seen)) => Ok((RwLockWriteGuard::new(writer), seen)),
-            Err((permit, seen)) => Err((Self::new(permit), seen)),
-        }
+        raise(self.into_account(seen))
     }
 
     /// Like [`try_upgrade`](Self::try_upgrade), but may fail spuriously, so call it in a loop. (This implementation
@@ -118,8 +118,7 @@ impl<'a, T, R> SharedGuard<'a, T, Upgrader, R> {
     pub fn downgrade(self) -> RwLockReadGuard<'a, T, R>
         ensures { shared_value result ≡ shared_value self.entry }
     {
-        let (permit, _) = upgradable_to_read(self.into_permit(), Watch::nothing());
-        SharedGuard::new(permit)
+        self.lower(Watch::nothing()).0
     }
 
     /// Like [`downgrade`](Self::downgrade), for a guard that a [`Pass`](super::Pass) acquired.
@@ -142,8 +141,24 @@ impl<'a, T, R> SharedGuard<'a, T, Upgrader, R> {
         ensures lock { shared_opening result.0 ≡ shared_opening self.entry }
         ensures made { Called (shared_opening self.entry).value Downgrade Done (shared_party self.entry) seen.entries (shared_party result.0) result.1.entries }
     {
-        let (permit, seen) = upgradable_to_read(self.into_permit(), seen);
-        (SharedGuard::new(permit), seen)
+        self.lower(seen)
+    }
+
+    // Makes the upgradable reader a plain reader, as `rw::upgradable_to_read` says.
+    fn lower(self, seen: Watch<Entry<T>>) -> Lent<'a, T, Reader, R>
+        requires { MayKnow (reads_at (self, seen)) }
+        ensures { Becomes Reading (IsCall Downgrade Done) (reads_at (self.entry, seen)) (reads_at result) }
+    {
+        let (_, account) = self.into_account(seen).add::<ReadsOn>(READER - UPGRADABLE);
+        account.into_reader()
+    }
+
+    // Asks to make the upgradable reader the writer, as `rw::ask` says. From then on no new reader is admitted.
+    fn ask(self, seen: Watch<Entry<T>>) -> Account<'a, T>
+        requires { MayKnow (reads_at (self, seen)) }
+        ensures { Becomes Asking (AreSteps false Upgrade (None ∷ [])) (reads_at (self.entry, seen)) (sight result) }
+    {
+        self.into_account(seen).add::<Asks>(ASKING).1
     }
 }
 
@@ -174,10 +189,10 @@ impl<'a, T, R: RelaxStrategy> SharedGuard<'a, T, Upgrader, R> {
         ensures asked { result.writer.view.0 ≡ WritingAsked }
         ensures value { Some (write_value result) ≡ shared_value self.entry }
     {
-        let (party, _) = ask(self.into_permit(), Watch::nothing());
-        match upgrade_asked(party, Watch::nothing()) {
-            Ok((writer, _)) => RwLockWriteGuard::new(writer),
-            Err((party, _)) => wait_to_upgrade(rt, party),
+        let account = self.ask(Watch::nothing()).forget();
+        match raise_asked(account) {
+            Ok((guard, _)) => guard,
+            Err(asking) => wait_to_upgrade(rt, asking),
         }
     }
 
@@ -215,13 +230,38 @@ impl<'a, T, R: RelaxStrategy> SharedGuard<'a, T, Upgrader, R> {
         ensures lock { write_opening result.0 ≡ shared_opening self.entry }
         ensures made { Called (shared_opening self.entry).value Upgrade Granted (shared_party self.entry) seen.entries (write_party result.0) result.1.entries }
     {
-        let (permit, seen) = ask(self.into_permit(), seen);
-        let (writer, seen) = match upgrade_asked(permit, seen) {
+        match raise_asked(self.ask(seen)) {
             Ok(held) => held,
-            Err((permit, seen)) => wait_to_upgrade_seen::<T, R, W>(rt, permit, seen),
-        };
-        (RwLockWriteGuard::new(writer), seen)
+            Err(asking) => wait_to_upgrade_seen(rt, asking),
+        }
     }
+}
+
+// Tries once to make the upgradable reader the writer. Fails if the lock has another holder.
+fn raise<'a, T, R>(account: Account<'a, T>) -> Result<Held<'a, T, R>, Lent<'a, T, Upgrader, R>>
+    requires { IsLent account.permit.view account.permit.value Upgradable × MayKnow (sight account) }
+    ensures granted { IfOk result (λ held.
+        Becomes Writing (IsCall TryUpgrade Granted) (sight account.entry) (writes_at held)) }
+    ensures refused { IfErr result (λ lent.
+        Becomes Upgradable (IsCall TryUpgrade Refused) (sight account.entry) (reads_at lent)) }
+{
+    let next = rw::upgrade(rw::UPGRADABLE).unwrap();
+    match account.attempt::<TriesToUpgrade, R>(UPGRADABLE, next as u64) {
+        Ok(held) => Ok(held),
+        Err(account) => Err(account.into_reader()),
+    }
+}
+
+// Tries once to make the asking reader the writer. If the lock has another holder, the reader still asks.
+fn raise_asked<'a, T, R>(asking: Account<'a, T>) -> Result<Held<'a, T, R>, Account<'a, T>>
+    requires { IsLent asking.permit.view asking.permit.value Asking × MayKnow (sight asking) }
+    ensures granted { IfOk result (λ held.
+        Becomes WritingAsked (AreSteps true Upgrade (Some Granted ∷ [])) (sight asking.entry) (writes_at held)) }
+    ensures waits { IfErr result (λ still.
+        Becomes Asking (AreSteps true Upgrade (None ∷ [])) (sight asking.entry) (sight still)) }
+{
+    let next = rw::upgrade_asked(rw::UPGRADABLE + rw::ASKING).unwrap();
+    asking.attempt::<Upgrades, R>(UPGRADABLE + ASKING, next as u64)
 }
 
 // It is not inlined, since that would lengthen the path of every caller that does not wait.
@@ -229,18 +269,18 @@ impl<'a, T, R: RelaxStrategy> SharedGuard<'a, T, Upgrader, R> {
 #[inline(never)]
 fn wait_to_upgrade<'a, T, R: RelaxStrategy, W: Wait>(
     rt: &W,
-    asking: RwPermit<'a, T>,
+    asking: Account<'a, T>,
 ) -> RwLockWriteGuard<'a, T, R>
-    requires { IsLent asking Asking }
+    requires { IsLent asking.permit.view asking.permit.value Asking }
     ensures asked { result.writer.view.0 ≡ WritingAsked }
-    ensures value { Some (write_value result) ≡ asking.entry.value }
+    ensures value { Some (write_value result) ≡ asking.entry.permit.value }
 {
     let mut asking = asking;
     for _ in rt.forever() {
         R::relax(rt);
-        match upgrade_asked(asking, Watch::nothing()) {
-            Ok((writer, _)) => return RwLockWriteGuard::new(writer),
-            Err((still, _)) => asking = still,
+        match raise_asked(asking.forget()) {
+            Ok((guard, _)) => return guard,
+            Err(still) => asking = still,
         }
     }
     unreachable!()
@@ -251,23 +291,19 @@ fn wait_to_upgrade<'a, T, R: RelaxStrategy, W: Wait>(
 #[inline(never)]
 fn wait_to_upgrade_seen<'a, T, R: RelaxStrategy, W: Wait>(
     rt: &W,
-    asking: RwPermit<'a, T>,
-    seen: Watch<Entry<T>>,
-) -> (Writer<'a, T>, Watch<Entry<T>>)
-    requires { IsLent asking Asking × Knows asking seen }
-    ensures asked { (result.0.view.0 ≡ WritingAsked) × (asking.entry.value ≡ Some result.0.value) }
-    ensures granted { IsGranted Upgrade (spot asking.entry seen) result }
+    asking: Account<'a, T>,
+) -> Held<'a, T, R>
+    requires { IsLent asking.permit.view asking.permit.value Asking × Knows (sight asking) }
+    ensures asked { result.0.writer.view.0 ≡ WritingAsked }
+    ensures value { Some (write_value result.0) ≡ asking.entry.permit.value }
+    ensures granted { IsGranted Upgrade (sight asking.entry) (writes_at result) }
 {
     let mut asking = asking;
-    let mut known = seen;
     for _ in rt.forever() {
         R::relax(rt);
-        match upgrade_asked(asking, known) {
+        match raise_asked(asking) {
             Ok(held) => return held,
-            Err((still, more)) => {
-                asking = still;
-                known = more;
-            }
+            Err(still) => asking = still,
         }
     }
     unreachable!()

@@ -2,13 +2,14 @@
 ghost use Rattle.std.specs.Prelude.{◌≡◌, true, Some};
 ghost use Rattle.spin_core.specs.Cell.{use_of, writes};
 ghost use Rattle.spin_core.specs.Values.{IsLast};
-ghost use Rattle.spin_step_more.specs.declared.rw_calls.RwCall.TheVariants.{Downgrade, DowngradeToUpgradeable};
-ghost use Rattle.spin_rwlock.specs.Rw.{use_of_party, downgrade_to, Wrote};
+ghost use Rattle.spin_step_more.specs.declared.rw_calls.RwCall.TheVariants.{Downgrade, DowngradeToUpgradeable, Release};
+ghost use Rattle.spin_rwlock.specs.Rw.{use_of_party, use_of_view, downgrade_to, IsOut, Wrote};
+ghost use Rattle.spin_rwlock.specs.Sights.{sight, view_of};
+ghost use Rattle.spin_rwlock.specs.Steps.{MayKnow, Ends};
 
-use super::reader::{RwLockReadGuard, SharedGuard};
-use super::rule::{
-    Entry, Kind, Party, Reader, RwRule, Upgrader, Writer, release_write, write_to_lent,
-};
+use super::account::{Account, Lent};
+use super::reader::RwLockReadGuard;
+use super::rule::{Downgrades, Entry, Frees, Kind, Party, RwRule, WRITER, Writer};
 use super::upgradable::RwLockUpgradableGuard;
 use spin_core::cell::{Permit, WritePermit};
 use spin_core::relax::Spin;
@@ -44,6 +45,7 @@ pub struct WriteHeld<'a, T, R = Spin> {
 
 impl<'a, T, R> RwLockWriteGuard<'a, T, R> {
     ghost use Rattle.spin_rwlock.specs.Guards.{shared_value, write_value, write_held_value, shared_party, write_party, write_held_party, shared_opening, write_opening, ReadsWith, WritesWith};
+    ghost use Rattle.spin_rwlock.specs.Waits.{reads_at, writes_at};
 
     pub(super) fn new(writer: Writer<'a, T>) -> Self
         ensures { result.writer ≡ writer.entry }
@@ -75,8 +77,7 @@ impl<'a, T, R> RwLockWriteGuard<'a, T, R> {
     pub fn downgrade(self) -> RwLockReadGuard<'a, T, R>
         ensures { shared_value result ≡ Some (write_value self.entry) }
     {
-        let (permit, _) = write_to_lent::<T, Reader>(self.into_writer(), Watch::nothing());
-        SharedGuard::new(permit)
+        self.lend(Watch::nothing()).0
     }
 
     /// Like [`downgrade`](Self::downgrade), for a guard that a [`Pass`](super::Pass) acquired.
@@ -122,8 +123,7 @@ impl<'a, T, R> RwLockWriteGuard<'a, T, R> {
     pub fn downgrade_to_upgradeable(self) -> RwLockUpgradableGuard<'a, T, R>
         ensures { shared_value result ≡ Some (write_value self.entry) }
     {
-        let (permit, _) = write_to_lent::<T, Upgrader>(self.into_writer(), Watch::nothing());
-        SharedGuard::new(permit)
+        self.lend(Watch::nothing()).0
     }
 
     /// Like [`downgrade_to_upgradeable`](Self::downgrade_to_upgradeable), for a guard that a [`Pass`](super::Pass)
@@ -151,18 +151,24 @@ impl<'a, T, R> RwLockWriteGuard<'a, T, R> {
         self.lend(seen)
     }
 
-    // Becomes a reader of kind `K`, for a guard that a pass acquired.
-    fn lend<K: Kind>(self, seen: Watch<Entry<T>>) -> (SharedGuard<'a, T, K, R>, Watch<Entry<T>>)
-        requires { WritesWith self seen }
+    // Becomes a reader of kind `K`.
+    fn lend<K: Kind>(self, seen: Watch<Entry<T>>) -> Lent<'a, T, K, R>
+        requires { MayKnow (writes_at (self, seen)) }
         ensures value { shared_value result.0 ≡ Some (write_value self.entry) }
-        ensures reads { ReadsWith result.0 result.1 × (result.1.name ≡ seen.name) }
-        ensures lock { shared_opening result.0 ≡ write_opening self.entry }
-        ensures made { Wrote (write_opening self.entry).value (λ x. Unit {0}) (downgrade_to K.view) (write_party self.entry) seen.entries (shared_party result.0) result.1.entries }
-        ensures wrote { Wrote (write_opening self.entry).value (λ x. (write_opening self.entry).told ≡ true → x ≡ write_value self.entry) (downgrade_to K.view) (write_party self.entry) seen.entries (shared_party result.0) result.1.entries }
-        ensures left { IsLast (write_opening self.entry) result.1.entries (write_value self.entry) }
+        ensures made { Ends (downgrade_to K.view) (writes_at (self.entry, seen)) (reads_at result) }
     {
-        let (permit, seen) = write_to_lent::<T, K>(self.into_writer(), seen);
-        (SharedGuard::new(permit), seen)
+        let account = self.into_account(seen);
+        let (_, account) = account.add::<Downgrades<K>>(K::WEIGHT - WRITER);
+        account.into_reader()
+    }
+
+    // Releases the exclusive access. The party is then in no call, and holds nothing.
+    pub(super) fn release(self, seen: Watch<Entry<T>>) -> Account<'a, T>
+        requires { MayKnow (writes_at (self, seen)) }
+        ensures out { IsOut (view_of result) }
+        ensures made { Ends Release (writes_at (self.entry, seen)) (sight result) }
+    {
+        self.into_account(seen).subtract::<Frees>(WRITER).1
     }
 
     /// Consumes the guard and returns a mutable reference to the value.
@@ -211,6 +217,16 @@ impl<'a, T, R> RwLockWriteGuard<'a, T, R> {
             strategy: _,
         } = self;
         writer
+    }
+
+    fn into_account(self, seen: Watch<Entry<T>>) -> Account<'a, T>
+        ensures same { sight result ≡ writes_at (self.entry, seen) }
+        ensures held { use_of use_of_view (view_of result) ≡ writes }
+    {
+        Account {
+            permit: self.into_writer().into_permit(),
+            seen,
+        }
     }
 }
 
@@ -269,9 +285,7 @@ impl<T, R> DerefMut for RwLockWriteGuard<'_, T, R> {
 
 impl<T, R> Drop for RwLockWriteGuard<'_, T, R> {
     fn drop(self) {
-        release_write(self.into_writer(), Watch::nothing())
-            .0
-            .leave();
+        self.release(Watch::nothing()).leave();
     }
 }
 

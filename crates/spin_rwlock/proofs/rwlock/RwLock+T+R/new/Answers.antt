@@ -14,4 +14,7 @@ new-requires-clause-known g c =
     (λ u. known, λ v u. known, sends_word_less (entry_over call.the_row (param 0 g.row.T)))
 
 pub new-requires-clause-rule : goal.new-requires-clause-rule
-new-requires-clause-rule g c = let o = c.of-opening in let t = c.new-trace in ([], refl, starts o.result t.result (sym o.ensures.0) t.ensures.0, (opens_last o.result t.result.entries c.args.value t.ensures.0 o.ensures.1, tt))
+new-requires-clause-rule g c =
+    let o = c.of-opening in
+    let t = c.new-trace in
+    ([], refl, starts o.result t.result (sym o.ensures.0) t.ensures.0, (opens_last o.result t.result.entries c.args.value t.ensures.0 o.ensures.1, tt))

@@ -1,8 +1,10 @@
 use Rattle.std.proofs.Common.{◌≡◌}
-use Rattle.spin_rwlock.specs.Rw.{IsLent}
+use Rattle.spin_rwlock.specs.Steps.{IsLent}
 use Rattle.spin_rwlock.specs.declared.rwlock.rule.View.TheVariants.{Asking}
 use Rattle.spin_rwlock.proofs.rwlock.upgradable.wait_to_upgrade.Given as goal
 
 abbrev pub invariant-loop : goal.invariant-loop
 invariant-loop g l =
-    (goal.iterator-loop g).can_next l.iterator' × (goal.iterator-loop g).is_finite l.iterator' × IsLent l.asking Asking × (l.asking.value ≡ l.fn.asking.value)
+    let it = l.asking.permit in
+    (goal.iterator-loop g).can_next l.iterator' × (goal.iterator-loop g).is_finite l.iterator' × IsLent it.view it.value Asking ×
+    (it.value ≡ l.fn.asking.permit.value)
