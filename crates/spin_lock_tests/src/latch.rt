@@ -12,19 +12,15 @@ use std::sync::Wait;
 fn many_read_or_one_writes(rt: HostRuntime) {
     let latch = Latch::new(1);
     let (first, second) = (latch.read(&rt), latch.try_read(&rt));
-    equal(&rt, (*first, second.is_some()), (1, true));
-    equal(&rt, latch.try_write().is_none(), true);
+    let read = [second.is_some(), latch.try_write().is_none()];
+    equal(&rt, (*first, read), (1, [true; 2]));
     drop(first);
     drop(second);
     let mut writer = latch.try_write().expect(&rt, "nobody reads");
     *writer = 2;
-    equal(
-        &rt,
-        (latch.try_read(&rt).is_none(), latch.try_write().is_none()),
-        (true, true),
-    );
+    let kept_out = [latch.try_read(&rt).is_none(), latch.try_write().is_none()];
     drop(writer);
-    equal(&rt, latch.into_inner(), 2);
+    equal(&rt, (latch.into_inner(), kept_out), (2, [true; 2]));
 }
 
 const TURNS: u64 = 2000;
