@@ -1,6 +1,7 @@
 //! What has to succeed: the tries of the trait `Lock`, shared access beside other readers, and registrations in any
 //! number. Also which thread waits for which.
 use crate::equal::equal;
+use crate::parts::{Crew, in_threads};
 use crate::waiting::{await_number, comes_to, has_turn, pause};
 use spin_core::lock::{Lock, SharedLock};
 use spin_core::relax::{RelaxStrategy, Spin, Yield};
@@ -14,142 +15,240 @@ use std::process::Abort;
 use std::sync::Wait;
 use std::sync::atomic::AtomicU64;
 use std::sync::atomic::Ordering::SeqCst;
-use std::thread;
 
-macro_rules! found {
-    ($Lock:ident) => {{
-        let lock: $Lock<u64> = $Lock::new(1);
-        lock.try_with(|value| *value).ok()
-    }};
+fn found<L: Lock<u64>>(lock: &L) -> Option<u64> {
+    lock.try_with(|value| *value).ok()
 }
 
 #[test]
 fn a_try_with_is_granted_where_nobody_holds(rt: HostRuntime) {
-    equal(&rt, found!(SpinMutex), Some(1));
-    equal(&rt, found!(FairMutex), Some(1));
-    equal(&rt, found!(RwLock), Some(1));
-    equal(&rt, found!(TicketMutex), Some(1));
-    equal(&rt, found!(Mutex), Some(1));
+    let seen = [
+        found(&SpinMutex::<u64>::new(1)),
+        found(&FairMutex::<u64>::new(1)),
+        found(&RwLock::<u64>::new(1)),
+        found(&TicketMutex::<u64>::new(1)),
+        found(&Mutex::<u64>::new(1)),
+    ];
+    equal(&rt, seen, [Some(1); 5]);
+}
+
+fn found_shared<R: Wait>(rt: &R, lock: &RwLock<u64>) -> Option<u64> {
+    lock.try_with_shared(rt, |value| *value).ok()
 }
 
 #[test]
 fn a_shared_try_is_granted_beside_a_reader(rt: HostRuntime) {
     let lock: RwLock<u64> = RwLock::new(1);
     let reader = lock.read(&rt);
-    equal(&rt, lock.try_with_shared(&rt, |value| *value).ok(), Some(1));
+    let beside_reader = found_shared(&rt, &lock);
     drop(reader);
     let writer = lock.write(&rt);
-    equal(&rt, lock.try_with_shared(&rt, |value| *value).ok(), None);
+    let beside_writer = found_shared(&rt, &lock);
     drop(writer);
+    equal(&rt, [beside_reader, beside_writer], [Some(1), None]);
 }
 
-// Returns `true` if the other thread arrived while this thread had shared access.
-fn meet<R: Wait>(rt: &R, lock: &RwLock<u64, Yield>, came: &AtomicU64) -> bool {
-    lock.with_shared(rt, |_value| {
-        came.fetch_add(1, SeqCst);
-        comes_to(rt, came, 2)
-    })
+/// Two threads that share a lock.
+#[derive(Drop)]
+struct Meeting {
+    lock: RwLock<u64, Yield>,
+    came: AtomicU64,
+}
+
+impl Crew for Meeting {
+    type Answer = bool;
+
+    // Returns `true` if the other thread arrived while this thread had shared access.
+    fn act<R: Abort + Wait>(&self, rt: &R, _index: usize) -> bool {
+        self.lock.with_shared(rt, |_value| {
+            self.came.fetch_add(1, SeqCst);
+            comes_to(rt, &self.came, 2)
+        })
+    }
 }
 
 #[test]
 fn two_share_a_lock_at_once(rt: HostRuntime) {
-    let lock: RwLock<u64, Yield> = RwLock::new(1);
-    let came = AtomicU64::new(0);
-    let met = thread::join(&rt, || meet(&rt, &lock, &came), || meet(&rt, &lock, &came));
-    equal(&rt, met, (true, true));
+    let meeting = Meeting {
+        lock: RwLock::new(1),
+        came: AtomicU64::new(0),
+    };
+    let met = in_threads(&rt, rt.alloc(), &meeting, 2);
+    equal(&rt, met.as_slice(), [true; 2].as_slice());
 }
 
-// Waits until the other thread waits, and then drops the guard for which that thread waits. The other thread has to
-// continue.
-fn lets_go<G: Drop, R: Abort + Wait>(rt: &R, guard: G, came: &AtomicU64, done: &AtomicU64) {
+// Waits until the other thread waits, and then drops the guard for which that thread waits. Returns `true` if the other
+// thread continues.
+fn lets_go<G: Drop, R: Wait>(rt: &R, guard: G, came: &AtomicU64, done: &AtomicU64) -> bool {
     await_number(rt, came, 1);
     pause(rt);
     drop(guard);
-    equal(rt, comes_to(rt, done, 1), true);
+    comes_to(rt, done, 1)
+}
+
+/// A thread that holds the upgradable place of a lock, and a thread that waits for this place.
+#[derive(Drop)]
+struct UpgradablePlace {
+    lock: RwLock<u64, Yield>,
+    held: AtomicU64,
+    came: AtomicU64,
+    done: AtomicU64,
+}
+
+impl Crew for UpgradablePlace {
+    type Answer = bool;
+
+    fn act<R: Abort + Wait>(&self, rt: &R, index: usize) -> bool {
+        if index == 0 {
+            let first = self.lock.upgradeable_read(rt);
+            self.held.store(1, SeqCst);
+            return lets_go(rt, first, &self.came, &self.done);
+        }
+        await_number(rt, &self.held, 1);
+        self.came.store(1, SeqCst);
+        drop(self.lock.upgradeable_read(rt));
+        self.done.store(1, SeqCst);
+        true
+    }
 }
 
 #[test]
 fn an_upgradable_reader_that_waited_is_let_in(rt: HostRuntime) {
-    let lock: RwLock<u64, Yield> = RwLock::new(1);
-    let (came, done) = (AtomicU64::new(0), AtomicU64::new(0));
-    let first = lock.upgradeable_read(&rt);
-    let come = || {
-        came.store(1, SeqCst);
-        drop(lock.upgradeable_read(&rt));
-        done.store(1, SeqCst);
+    let both = UpgradablePlace {
+        lock: RwLock::new(1),
+        held: AtomicU64::new(0),
+        came: AtomicU64::new(0),
+        done: AtomicU64::new(0),
     };
-    thread::join(&rt, come, || lets_go(&rt, first, &came, &done));
+    let let_in = in_threads(&rt, rt.alloc(), &both, 2);
+    equal(&rt, let_in.as_slice(), [true; 2].as_slice());
+}
+
+/// A thread that starves and waits, and a newcomer.
+#[derive(Drop)]
+struct Newcomer {
+    lock: FairMutex<u64, Yield>,
+    starves: AtomicU64,
+    done: AtomicU64,
+}
+
+impl Crew for Newcomer {
+    type Answer = bool;
+
+    // Returns `true` if the newcomer did not enter while the other thread starved.
+    fn act<R: Abort + Wait>(&self, rt: &R, index: usize) -> bool {
+        if index == 0 {
+            let place = self.lock.starve(rt).expect(rt, "below the cap");
+            self.starves.store(1, SeqCst);
+            pause(rt);
+            let early = self.done.load(SeqCst) == 1;
+            drop(place);
+            return !early;
+        }
+        await_number(rt, &self.starves, 1);
+        drop(self.lock.lock(rt));
+        self.done.store(1, SeqCst);
+        true
+    }
 }
 
 #[test]
 fn a_newcomer_waits_while_somebody_starves(rt: HostRuntime) {
-    let lock: FairMutex<u64, Yield> = FairMutex::new(1);
-    let done = AtomicU64::new(0);
-    let place = lock.starve(&rt).expect(&rt, "below the cap");
-    let (early, ()) = thread::join(
-        &rt,
-        || {
-            pause(&rt);
-            let early = done.load(SeqCst) == 1;
-            drop(place);
-            early
-        },
-        || {
-            drop(lock.lock(&rt));
-            done.store(1, SeqCst);
-        },
-    );
-    equal(&rt, early, false);
+    let both = Newcomer {
+        lock: FairMutex::new(1),
+        starves: AtomicU64::new(0),
+        done: AtomicU64::new(0),
+    };
+    let waited = in_threads(&rt, rt.alloc(), &both, 2);
+    equal(&rt, waited.as_slice(), [true; 2].as_slice());
+}
+
+/// A thread that holds a lock and then starves, and a starver that waits for the lock.
+#[derive(Drop)]
+struct TwoStarve {
+    lock: FairMutex<u64, Yield>,
+    held: AtomicU64,
+    came: AtomicU64,
+    done: AtomicU64,
+}
+
+impl Crew for TwoStarve {
+    type Answer = bool;
+
+    fn act<R: Abort + Wait>(&self, rt: &R, index: usize) -> bool {
+        if index == 0 {
+            let guard = self.lock.lock(rt);
+            self.held.store(1, SeqCst);
+            await_number(rt, &self.came, 1);
+            let other = self.lock.starve(rt);
+            let entered = lets_go(rt, guard, &self.came, &self.done);
+            drop(other);
+            return entered;
+        }
+        await_number(rt, &self.held, 1);
+        if let Some(place) = self.lock.starve(rt) {
+            self.came.store(1, SeqCst);
+            drop(place.lock(rt));
+        }
+        self.done.store(1, SeqCst);
+        true
+    }
 }
 
 #[test]
 fn a_starver_that_waited_enters_beside_another(rt: HostRuntime) {
-    let lock: FairMutex<u64, Yield> = FairMutex::new(1);
-    let (came, done) = (AtomicU64::new(0), AtomicU64::new(0));
-    let guard = lock.lock(&rt);
-    thread::join(
-        &rt,
-        || {
-            await_number(&rt, &came, 1);
-            let other = lock.starve(&rt);
-            lets_go(&rt, guard, &came, &done);
-            drop(other);
-        },
-        || {
-            if let Some(place) = lock.starve(&rt) {
-                came.store(1, SeqCst);
-                drop(place.lock(&rt));
-            }
-            done.store(1, SeqCst);
-        },
-    );
+    let both = TwoStarve {
+        lock: FairMutex::new(1),
+        held: AtomicU64::new(0),
+        came: AtomicU64::new(0),
+        done: AtomicU64::new(0),
+    };
+    let entered = in_threads(&rt, rt.alloc(), &both, 2);
+    equal(&rt, entered.as_slice(), [true; 2].as_slice());
+}
+
+/// A thread whose closure fails, and a thread that waits for it with a closure of its own.
+#[derive(Drop)]
+struct FailsAndMakes {
+    once: Once<u64, Yield>,
+    begun: AtomicU64,
+    came: AtomicU64,
+    done: AtomicU64,
+}
+
+impl Crew for FailsAndMakes {
+    type Answer = Option<u64>;
+
+    // Returns the value that this thread's call gave, if it gave one.
+    fn act<R: Abort + Wait>(&self, rt: &R, index: usize) -> Option<u64> {
+        if index == 0 {
+            let value = self.once.try_call_once(rt, || {
+                self.begun.store(1, SeqCst);
+                await_number(rt, &self.came, 1);
+                pause(rt);
+                Err(())
+            });
+            equal(rt, comes_to(rt, &self.done, 1), true);
+            return value.ok().copied();
+        }
+        await_number(rt, &self.begun, 1);
+        self.came.store(1, SeqCst);
+        let made = *self.once.call_once(rt, || 7);
+        self.done.store(1, SeqCst);
+        Some(made)
+    }
 }
 
 #[test]
 fn a_waiter_runs_its_closure_where_another_failed(rt: HostRuntime) {
-    let once: Once<u64, Yield> = Once::new();
-    let (begun, came, done) = (AtomicU64::new(0), AtomicU64::new(0), AtomicU64::new(0));
-    let (failed, made) = thread::join(
-        &rt,
-        || {
-            let value = once.try_call_once(&rt, || {
-                begun.store(1, SeqCst);
-                await_number(&rt, &came, 1);
-                pause(&rt);
-                Err(())
-            });
-            equal(&rt, comes_to(&rt, &done, 1), true);
-            value.is_err()
-        },
-        || {
-            await_number(&rt, &begun, 1);
-            came.store(1, SeqCst);
-            let made = *once.call_once(&rt, || 7);
-            done.store(1, SeqCst);
-            made
-        },
-    );
-    equal(&rt, (failed, made), (true, 7));
+    let both = FailsAndMakes {
+        once: Once::new(),
+        begun: AtomicU64::new(0),
+        came: AtomicU64::new(0),
+        done: AtomicU64::new(0),
+    };
+    let values = in_threads(&rt, rt.alloc(), &both, 2);
+    equal(&rt, values.as_slice(), [None, Some(7)].as_slice());
 }
 
 /// A slow strategy.
@@ -165,71 +264,96 @@ impl RelaxStrategy for Slow {
 
 const SLOW_LOOKS: u32 = 200;
 
-// Returns `true` if a `try_read` fails within `SLOW_LOOKS` looks.
-fn comes_to_ask<R: Wait>(rt: &R, lock: &RwLock<u64, Slow>) -> bool {
-    for _ in 0..SLOW_LOOKS {
-        if lock.try_read(rt).is_none() {
-            return true;
+/// A thread that upgrades beside a reader, and the thread that reads.
+#[derive(Drop)]
+struct UpgradesBesideReader {
+    lock: RwLock<u64, Slow>,
+    reads: AtomicU64,
+    came: AtomicU64,
+}
+
+impl UpgradesBesideReader {
+    // Returns `true` if a `try_read` fails within `SLOW_LOOKS` looks.
+    fn comes_to_ask<R: Wait>(&self, rt: &R) -> bool {
+        for _ in 0..SLOW_LOOKS {
+            if self.lock.try_read(rt).is_none() {
+                return true;
+            }
+            Slow::relax(rt);
         }
-        Slow::relax(rt);
+        false
     }
-    false
+}
+
+impl Crew for UpgradesBesideReader {
+    type Answer = bool;
+
+    // The first thread returns `true` if the writer finds the value. The second one returns `true` if the first one has
+    // asked while there was a reader.
+    fn act<R: Abort + Wait>(&self, rt: &R, index: usize) -> bool {
+        if index == 0 {
+            await_number(rt, &self.reads, 1);
+            let guard = self.lock.upgradeable_read(rt);
+            self.came.store(1, SeqCst);
+            return *guard.upgrade(rt) == 1;
+        }
+        let reader = self.lock.read(rt);
+        self.reads.store(1, SeqCst);
+        await_number(rt, &self.came, 1);
+        let asked = self.comes_to_ask(rt);
+        drop(reader);
+        asked
+    }
 }
 
 #[test]
 fn an_upgrade_asks_before_it_relaxes(rt: HostRuntime) {
-    let lock: RwLock<u64, Slow> = RwLock::new(1);
-    let came = AtomicU64::new(0);
-    let (reader, guard) = (lock.read(&rt), lock.upgradeable_read(&rt));
-    let (writer, asked) = thread::join(
-        &rt,
-        || {
-            came.store(1, SeqCst);
-            guard.upgrade(&rt)
-        },
-        || {
-            await_number(&rt, &came, 1);
-            let asked = comes_to_ask(&rt, &lock);
-            drop(reader);
-            asked
-        },
-    );
-    equal(&rt, (*writer, asked), (1, true));
+    let both = UpgradesBesideReader {
+        lock: RwLock::new(1),
+        reads: AtomicU64::new(0),
+        came: AtomicU64::new(0),
+    };
+    let seen = in_threads(&rt, rt.alloc(), &both, 2);
+    equal(&rt, seen.as_slice(), [true; 2].as_slice());
 }
 
 const TURNS: u64 = 600_000;
 
-// Reads while turns are left. Returns `true` if each try succeeded.
-fn reads_beside_counts<R: Wait>(rt: &R, lock: &RwLock<u64>, turns: &AtomicU64) -> bool {
-    let mut granted = true;
-    for _ in 0..TURNS {
-        if !has_turn(turns, TURNS) {
-            break;
-        }
-        granted = granted && lock.try_read(rt).is_some();
-    }
-    granted
+/// A thread that counts and a thread that reads, while turns are left.
+#[derive(Drop)]
+struct CountsAndReads {
+    lock: RwLock<u64>,
+    turns: AtomicU64,
 }
 
-fn counts_beside_reads(lock: &RwLock<u64>, turns: &AtomicU64) {
-    for _ in 0..TURNS {
-        if !has_turn(turns, TURNS) {
-            break;
+impl Crew for CountsAndReads {
+    type Answer = bool;
+
+    // The first thread counts. Returns `true` if each try to read succeeded.
+    fn act<R: Abort + Wait>(&self, rt: &R, index: usize) -> bool {
+        let mut granted = true;
+        for _ in 0..TURNS {
+            if !has_turn(&self.turns, TURNS) {
+                break;
+            }
+            if index == 0 {
+                self.lock.reader_count();
+            } else {
+                granted = granted && self.lock.try_read(rt).is_some();
+            }
         }
-        lock.reader_count();
+        granted
     }
 }
 
 #[test]
 fn a_count_takes_no_lock(rt: HostRuntime) {
-    let lock: RwLock<u64> = RwLock::new(1);
-    let turns = AtomicU64::new(0);
-    let ((), granted) = thread::join(
-        &rt,
-        || counts_beside_reads(&lock, &turns),
-        || reads_beside_counts(&rt, &lock, &turns),
-    );
-    equal(&rt, granted, true);
+    let both = CountsAndReads {
+        lock: RwLock::new(1),
+        turns: AtomicU64::new(0),
+    };
+    let granted = in_threads(&rt, rt.alloc(), &both, 2);
+    equal(&rt, granted.as_slice(), [true; 2].as_slice());
 }
 
 #[test]

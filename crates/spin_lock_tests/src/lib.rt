@@ -15,6 +15,8 @@ mod mutex;
 #[cfg(test)]
 mod once;
 #[cfg(test)]
+mod parts;
+#[cfg(test)]
 mod relax;
 #[cfg(test)]
 mod rwlock;

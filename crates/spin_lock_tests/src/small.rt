@@ -42,9 +42,12 @@ fn a_value_that_was_there(rt: HostRuntime) {
 #[test]
 fn a_value_that_comes(rt: HostRuntime) {
     let next = Next::new(4);
-    equal(&rt, next.get(), None);
-    equal(&rt, next.force(), Some(&5));
-    equal(&rt, next.get(), Some(&5));
+    let seen = [
+        next.get().copied(),
+        next.force().copied(),
+        next.get().copied(),
+    ];
+    equal(&rt, seen, [None, Some(5), Some(5)]);
     let moved = next;
     equal(&rt, moved.get(), Some(&5));
 }
@@ -52,9 +55,12 @@ fn a_value_that_comes(rt: HostRuntime) {
 #[test]
 fn a_number_that_is_put_back(rt: HostRuntime) {
     let next = Next::new(u64::MAX);
-    equal(&rt, next.force().is_none(), true);
-    equal(&rt, next.get().is_none(), true);
-    equal(&rt, next.force().is_none(), true);
+    let seen = [
+        next.force().is_none(),
+        next.get().is_none(),
+        next.force().is_none(),
+    ];
+    equal(&rt, seen, [true; 3]);
 }
 
 // Returns `true` if a further reader is refused while `others` read.

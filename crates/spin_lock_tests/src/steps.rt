@@ -29,18 +29,15 @@ fn fair_words(rt: HostRuntime) {
         locked[word] = fair::is_locked(word);
     }
     equal(&rt, locked, [false, true, false, true]);
-    equal(
-        &rt,
-        [fair::starve(1, 1), fair::starve(2, 1)],
-        [Some(3), None],
-    );
-    equal(
-        &rt,
-        [fair::lock_fair(2), fair::lock_fair(4)],
-        [Some(3), None],
-    );
+    let starves = [fair::starve(1, 1), fair::starve(2, 1)];
+    let fairly = [fair::lock_fair(2), fair::lock_fair(4)];
     let starved = [fair::lock_starved(4), fair::lock_starved(5)];
-    equal(&rt, starved, [Some(5), None]);
+    let granted = [starves, fairly, starved];
+    equal(
+        &rt,
+        granted,
+        [[Some(3), None], [Some(3), None], [Some(5), None]],
+    );
     equal(&rt, [fair::unstarve(3), fair::unlock(3)], [1, 2]);
 }
 

@@ -2,7 +2,7 @@
 //! objects that no header makes.
 
 use crate::alike::{Alike, are_alike};
-use crate::text::worlds::run;
+use crate::text::worlds::{holds, run};
 use spin_world::{
     Answer, Event, Fair, FairCall, Flag, FlagCall, Hold, Move, Object, OnceCall, OnceObject,
     Outcome, Place, World,
@@ -57,10 +57,11 @@ where
     T: Copy + PartialEq,
 {
     for (party, place) in places.iter().enumerate() {
-        assert!(rt;
-            world.place(party).is_some_and(|at| at.is_like(place)),
-            "{party}"
-        );
+        let is_there = match world.place(party) {
+            Some(at) => at.is_like(place),
+            None => false,
+        };
+        holds(rt, "a place", party, is_there);
     }
     assert!(rt; world.place(places.len()).is_none());
     assert!(rt; world.value() == Some(value));

@@ -12,7 +12,7 @@ pub mod worlds;
 
 use self::gallery::GALLERY;
 use self::lines::{OUTSIDE, WITHIN};
-use self::transcripts::WORKED;
+use self::transcripts::{WORKED, Worked};
 use crate::ends::{Paper, Tape};
 use spin_run::run::{OfStd, RunError, Sink, Source, world_text};
 use std::alloc::Global;
@@ -74,25 +74,36 @@ fn tells_ended(rt: &impl Abort, alloc: Global, step: usize, shows: &str, text: &
     tells(rt, alloc, step, shows, without_end, told);
 }
 
-/// Plays a schedule in this way, whole and in small steps.
-fn tells_in_steps(rt: &impl Abort, alloc: Global, shows: &str, text: &str, told: &str) {
-    for step in [usize::MAX, 1, 2, 3, 4, 5, 6, 7, 8] {
-        tells_ended(rt, alloc, step, shows, text, told);
+/// Plays schedules in this way, whole and in small steps.
+fn tell_in_steps(rt: &impl Abort, alloc: Global, worked: &[Worked]) {
+    for (shows, text, told) in worked {
+        for step in [usize::MAX, 1, 2, 3, 4, 5, 6, 7, 8] {
+            tells_ended(rt, alloc, step, shows, text, told);
+        }
     }
+}
+
+/// The worked schedules of each object. All texts of a constant are part of each function that names the constant. So only
+/// this function names [`WORKED`].
+pub fn worked_texts() -> [&'static [Worked]; 6] {
+    WORKED
+}
+
+/// The schedules of the gallery. Only this function names [`GALLERY`].
+pub fn gallery_texts() -> &'static [Worked] {
+    GALLERY
 }
 
 #[test]
 fn worked_texts_whole_and_in_small_steps(rt: HostRuntime) {
-    for worked in WORKED {
-        for (shows, text, told) in worked {
-            tells_in_steps(&rt, rt.alloc(), shows, text, told);
-        }
+    for worked in worked_texts() {
+        tell_in_steps(&rt, rt.alloc(), worked);
     }
 }
 
 #[test]
 fn texts_of_the_gallery(rt: HostRuntime) {
-    for (shows, text, told) in GALLERY {
+    for (shows, text, told) in gallery_texts() {
         tells_ended(&rt, rt.alloc(), usize::MAX, shows, text, told);
     }
 }

@@ -1,12 +1,12 @@
 //! What no contract says: a party waits for its group, one party of each group leads, and which party this is.
 use super::equal::equal;
+use super::parts::{Crew, in_threads};
 use spin_barrier::barrier::Barrier;
 use spin_core::relax::{RelaxStrategy, Spin, Yield};
 use std::cell::Cell;
 use std::process::Abort;
 use std::sync::Wait;
 use std::sync::atomic::{AtomicBool, AtomicU64, Ordering};
-use std::thread::map_indices;
 
 fn is_shared<T: Send + Sync>() {}
 
@@ -72,10 +72,14 @@ impl Rounds {
             round.leaders.fetch_add(1, Ordering::SeqCst);
         }
     }
+}
 
-    fn pass_both<R: Wait>(&self, rt: &R, index: usize) {
+impl Crew for Rounds {
+    type Answer = ();
+
+    // Passes both rounds. The first thread checks that no thread leaves before the group is full.
+    fn act<R: Abort + Wait>(&self, rt: &R, index: usize) {
         if index == 0 {
-            // check that no thread leaves before the group is full
             for _ in 0..LOOKS {
                 if self.first.left.load(Ordering::SeqCst) {
                     self.left_early.store(true, Ordering::SeqCst);
@@ -102,8 +106,7 @@ fn ten_threads_wait_for_one_another_twice_over(rt: HostRuntime) {
         first: Round::new(),
         second: Round::new(),
     };
-    let pass = |index: usize| rounds.pass_both(&rt, index);
-    map_indices(&rt, rt.alloc(), 10, &pass).expect(&rt, "memory");
+    drop(in_threads(&rt, rt.alloc(), &rounds, 10));
     equal(&rt, rounds.left_early.load(Ordering::SeqCst), false);
     comes_to(&rt, &rounds.first, 10);
     comes_to(&rt, &rounds.second, 20);

@@ -5,6 +5,7 @@ ghost use Rattle.std.specs.Str.{bytes_eq};
 ghost use Rattle.std.proofs.Common.{rules};
 
 use super::equal::equal;
+use super::parts::{Crew, in_threads};
 use spin_core::relax::{RelaxStrategy, Yield};
 use spin_history::history::{BlankLog, History, Snapshot};
 use spin_uses::cache::logged::LoggedCache;
@@ -52,22 +53,37 @@ fn square<W: Wait>(
     })
 }
 
-// Returns the number of squares that one thread made, and whether all answers were right.
-fn ask_all<R: Abort + Wait>(rt: &R, cache: &SquareCache) -> (u64, bool) {
-    let made = Cell::new(0);
-    let mut right = true;
-    for key in 0..KEYS {
-        right &= square(rt, cache, key, &made).expect(rt, "memory") == key * key;
+/// Threads that ask for all squares. Each counts the squares that it makes.
+#[derive(Drop)]
+struct AskForAll {
+    cache: SquareCache,
+    made: AtomicU64,
+}
+
+impl Crew for AskForAll {
+    type Answer = bool;
+
+    // Returns whether all answers were right.
+    fn act<R: Abort + Wait>(&self, rt: &R, _index: usize) -> bool {
+        let made = Cell::new(0);
+        let mut right = true;
+        for key in 0..KEYS {
+            right &= square(rt, &self.cache, key, &made).expect(rt, "memory") == key * key;
+        }
+        self.made.fetch_add(made.get(), SeqCst);
+        right
     }
-    (made.get(), right)
 }
 
 #[test]
 fn threads_make_each_answer_once(rt: HostRuntime) {
-    let cache = Cache::new(rt.alloc());
-    let (first, second) = join(&rt, || ask_all(&rt, &cache), || ask_all(&rt, &cache));
-    equal(&rt, first.1 && second.1, true);
-    equal(&rt, first.0.wrapping_add(second.0), KEYS);
+    let both = AskForAll {
+        cache: Cache::new(rt.alloc()),
+        made: AtomicU64::new(0),
+    };
+    let right = in_threads(&rt, rt.alloc(), &both, 2);
+    equal(&rt, right.as_slice(), [true; 2].as_slice());
+    equal(&rt, both.made.load(SeqCst), KEYS);
 }
 
 // A writer would wait for ever for a reader that never leaves.
@@ -83,15 +99,16 @@ fn an_answer_that_is_there_takes_no_write(rt: HostRuntime) {
     equal(&rt, made.get(), 1);
 }
 
-// Two threads read a square that exists.
-fn read_in_two<R: Abort + Threads + Wait + Sync>(rt: &R, cache: &SquareCache) {
-    let (first, second) = join(
-        rt,
-        || cache.read(rt).answer(&3).copied(),
-        || cache.read(rt).answer(&3).copied(),
-    );
-    equal(rt, first, Some(9));
-    equal(rt, second, Some(9));
+/// Threads that read a square that exists.
+#[derive(Drop)]
+struct Readers<'a>(&'a SquareCache);
+
+impl Crew for Readers<'_> {
+    type Answer = Option<u64>;
+
+    fn act<R: Abort + Wait>(&self, rt: &R, _index: usize) -> Option<u64> {
+        self.0.read(rt).answer(&3).copied()
+    }
 }
 
 // If readers waited for the maker of an answer, they would wait for ever, since this maker waits for the readers.
@@ -100,33 +117,40 @@ fn readers_come_while_an_answer_is_made(rt: HostRuntime) {
     let cache: SquareCache = Cache::new(rt.alloc());
     equal(&rt, square(&rt, &cache, 3, &Cell::new(0)), Ok(9));
     let answer: Result<u64, AllocError> = cache.answer(&rt, 4, |key| {
-        read_in_two(&rt, &cache);
+        let found = in_threads(&rt, rt.alloc(), &Readers(&cache), 2);
+        equal(&rt, found.as_slice(), [Some(9); 2].as_slice());
         Ok(key.wrapping_mul(*key))
     });
     equal(&rt, answer, Ok(16));
     equal(&rt, cache.read(&rt).answer(&4).copied(), Some(16));
 }
 
-// The square of 3 exists. Returns whether another thread gets this square meanwhile.
-fn is_answered_meanwhile<R: Abort + Threads + Wait + Sync>(rt: &R, cache: &SquareCache) -> bool {
-    let done = AtomicU64::new(0);
-    let answer = || {
-        let answer = square(rt, cache, 3, &Cell::new(0));
-        done.store(1, SeqCst);
-        equal(rt, answer, Ok(9));
-    };
-    let look = || {
+/// A thread that asks for the square of 3, which exists, and a thread that looks whether the first one gets it.
+#[derive(Drop)]
+struct AskedMeanwhile<'a> {
+    cache: &'a SquareCache,
+    done: AtomicU64,
+}
+
+impl Crew for AskedMeanwhile<'_> {
+    type Answer = bool;
+
+    fn act<R: Abort + Wait>(&self, rt: &R, index: usize) -> bool {
+        if index == 0 {
+            let answer = square(rt, self.cache, 3, &Cell::new(0));
+            self.done.store(1, SeqCst);
+            return answer == Ok(9);
+        }
         for _ in 0..100_000 {
-            if done.load(SeqCst) == 1 {
+            if self.done.load(SeqCst) == 1 {
                 return true;
             }
             Yield::relax(rt);
         }
         // The other thread is still waiting for this thread.
-        equal(rt, done.load(SeqCst), 1);
+        equal(rt, self.done.load(SeqCst), 1);
         false
-    };
-    join(rt, answer, look).1
+    }
 }
 
 // If a caller took the upgradable place just to look for an answer, it would wait for the maker of another.
@@ -135,7 +159,12 @@ fn an_answer_is_given_while_another_is_made(rt: HostRuntime) {
     let cache: SquareCache = Cache::new(rt.alloc());
     equal(&rt, square(&rt, &cache, 3, &Cell::new(0)), Ok(9));
     let answer: Result<u64, AllocError> = cache.answer(&rt, 4, |key| {
-        equal(&rt, is_answered_meanwhile(&rt, &cache), true);
+        let both = AskedMeanwhile {
+            cache: &cache,
+            done: AtomicU64::new(0),
+        };
+        let answered = in_threads(&rt, rt.alloc(), &both, 2);
+        equal(&rt, answered.as_slice(), [true; 2].as_slice());
         Ok(key.wrapping_mul(*key))
     });
     equal(&rt, answer, Ok(16));

@@ -18,32 +18,38 @@ use std::thread;
 
 #[test]
 fn mutexes_as_in_rust(rt: HostRuntime) {
-    equal(&rt, add_from_two(&rt), 2);
+    let added = add_from_two(&rt);
     let lock = SpinMutex::new(7);
     let held = take(&rt, &lock);
-    equal(&rt, lock.is_locked(), true);
+    let at_held = lock.is_locked();
     give_back(held);
-    equal(&rt, lock.is_locked(), false);
+    equal(&rt, [at_held, lock.is_locked()], [true, false]);
     let fair = FairMutex::new(7);
     add_starving(&rt, &fair);
-    equal(&rt, fair.into_inner(), 8);
     let total = Mutex::new(7);
     set_elsewhere(&rt, &total, 1);
     add_one(&rt, &total);
-    equal(&rt, total.into_inner(), 2);
+    let values = [added, fair.into_inner(), total.into_inner()];
+    equal(&rt, values, [2, 8, 2]);
 }
 
 #[test]
 fn shared_values_as_in_rust(rt: HostRuntime) {
     let limit = RwLock::new(3);
-    equal(&rt, (raise(&rt, &limit, 2), raise(&rt, &limit, 4)), (3, 4));
-    equal(&rt, limit.into_inner(), 4);
+    let raised = [
+        raise(&rt, &limit, 2),
+        raise(&rt, &limit, 4),
+        limit.into_inner(),
+    ];
+    equal(&rt, raised, [3, 4, 4]);
     let lazy: LazyLock<u64, _> = LazyLock::new(|| 4);
-    equal(&rt, (doubled(&rt, &lazy), doubled(&rt, &lazy)), (8, 8));
+    equal(&rt, [doubled(&rt, &lazy), doubled(&rt, &lazy)], [8; 2]);
     let port: Once<u16> = Once::new();
-    equal(&rt, port_of(&rt, &port, "no port").is_err(), true);
-    equal(&rt, port_of(&rt, &port, "80").ok().copied(), Some(80));
-    equal(&rt, port_of(&rt, &port, "none").ok().copied(), Some(80));
+    let mut ports = [None; 3];
+    for (at, text) in ["no port", "80", "none"].iter().enumerate() {
+        ports[at] = port_of(&rt, &port, text).ok().copied();
+    }
+    equal(&rt, ports, [None, Some(80), Some(80)]);
 }
 
 #[test]
@@ -171,23 +177,21 @@ fn three_passes_of_a_once_know_one_history(rt: HostRuntime) {
     equal(&rt, (reason, once.get().is_none()), ("no port", true));
     drop(pass);
     let ((made, first), ((found, second), (_, third))) = make_beside_look(&rt, &once);
-    equal(&rt, made, found);
     let (there, third) = third.is_completed();
-    equal(&rt, there, true);
-    let (found, third) = third.get();
-    equal(&rt, found.copied(), Some(made));
+    let (got, third) = third.get();
+    let got = got.copied();
     let (waited, third) = third.wait(&rt);
     let waited = *waited;
     let (polled, third) = third.poll(&rt);
-    equal(&rt, (waited, polled.copied()), (made, Some(made)));
-    drop(first);
-    drop(second);
-    drop(third);
+    let looked = [got, polled.copied()];
     equal(
         &rt,
-        [Some(3), Some(5)].contains(&once.try_into_inner()),
-        true,
+        (there, [found, waited], looked),
+        (true, [made; 2], [Some(made); 2]),
     );
+    drop((first, second, third));
+    let value = once.try_into_inner();
+    equal(&rt, value == Some(3) || value == Some(5), true);
 }
 
 #[test]
@@ -213,19 +217,24 @@ fn three_passes_of_a_lazy_lock_know_one_history(rt: HostRuntime) {
 #[test]
 fn threads_know_the_history(rt: HostRuntime) {
     let ((first, second), last) = four_threads(&rt, (3, 5));
-    equal(&rt, [0, 3, 5].contains(&first), true);
-    equal(&rt, [0, 3, 5].contains(&second), true);
-    equal(&rt, [3, 5].contains(&last), true);
-    let ((first, second), (third, fourth), last) = race(&rt, 1000);
-    equal(&rt, [first, second, last].is_sorted(), true);
-    equal(&rt, [third, fourth, last].is_sorted(), true);
-    equal(&rt, last, 2000);
-    equal(&rt, totals::add_from_two(&rt, (3, 5)), (3, 5, 8));
+    let values = [0, 3, 5];
+    let were_written = [values.contains(&first), values.contains(&second)];
     equal(
         &rt,
-        totals::add_from_two(&rt, (0, u64::MAX)),
-        (0, u64::MAX, u64::MAX),
+        (were_written, last == 3 || last == 5),
+        ([true; 2], true),
     );
+    let ((first, second), (third, fourth), last) = race(&rt, 1000);
+    let grow = [
+        [first, second, last].is_sorted(),
+        [third, fourth, last].is_sorted(),
+    ];
+    equal(&rt, (grow, last == 2000), ([true; 2], true));
+    let totals = [
+        totals::add_from_two(&rt, (3, 5)),
+        totals::add_from_two(&rt, (0, u64::MAX)),
+    ];
+    equal(&rt, totals, [(3, 5, 8), (0, u64::MAX, u64::MAX)]);
 }
 
 #[test]
@@ -243,14 +252,18 @@ fn one_code_for_every_lock(rt: HostRuntime) {
         FairMutex::new(3),
     );
     let (mutex, shared): (spin::Mutex<u64>, RwLock<u64>) = (spin::Mutex::new(4), RwLock::new(5));
-    equal(&rt, any_lock::count(&rt, &spin), 2);
-    equal(&rt, any_lock::count(&rt, &ticket), 3);
-    equal(&rt, any_lock::count(&rt, &fair), 4);
-    equal(&rt, any_lock::count(&rt, &mutex), 5);
-    equal(&rt, any_lock::count(&rt, &shared), 6);
-    equal(&rt, any_lock::read_up_to(&rt, &shared, 9), 6);
-    equal(&rt, any_lock::try_count(&spin), Some(3));
+    let counted = [
+        any_lock::count(&rt, &spin),
+        any_lock::count(&rt, &ticket),
+        any_lock::count(&rt, &fair),
+        any_lock::count(&rt, &mutex),
+        any_lock::count(&rt, &shared),
+        any_lock::read_up_to(&rt, &shared, 9),
+    ];
+    equal(&rt, counted, [2, 3, 4, 5, 6, 6]);
+    let at_open = any_lock::try_count(&spin);
     let guard = spin.lock(&rt);
-    equal(&rt, any_lock::try_count(&spin), None);
+    let at_held = any_lock::try_count(&spin);
     drop(guard);
+    equal(&rt, [at_open, at_held], [Some(3), None]);
 }

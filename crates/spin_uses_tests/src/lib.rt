@@ -23,6 +23,8 @@ mod ledger;
 #[cfg(test)]
 mod names;
 #[cfg(test)]
+mod parts;
+#[cfg(test)]
 mod phases;
 #[cfg(test)]
 mod registers;

@@ -17,25 +17,27 @@ fn each_mutex_by_its_name(rt: HostRuntime) {
     let mut guard: MutexGuard<u64, Spin> = lock.lock(&rt);
     *guard = 2;
     drop(guard);
-    equal(&rt, lock.into_inner(), 2);
+    let written = lock.into_inner();
     let lock: mutex::Mutex<u64, Yield> = mutex::Mutex::new(3);
-    equal(&rt, lock.is_locked(), false);
-    let lock: SpinMutex<u64> = SpinMutex::new(4);
-    let guard: SpinMutexGuard<u64> = lock.lock(&rt);
-    equal(&rt, *guard, 4);
-    let lock: TicketMutex<u64> = TicketMutex::new(5);
-    let guard: TicketMutexGuard<u64> = lock.lock(&rt);
-    equal(&rt, *guard, 5);
+    let locked = lock.is_locked();
+    let spin: SpinMutex<u64> = SpinMutex::new(4);
+    let spins: SpinMutexGuard<u64> = spin.lock(&rt);
+    let ticket: TicketMutex<u64> = TicketMutex::new(5);
+    let queues: TicketMutexGuard<u64> = ticket.lock(&rt);
+    equal(
+        &rt,
+        (locked, [written, *spins, *queues]),
+        (false, [2, 4, 5]),
+    );
 }
 
 #[test]
 fn barriers_steps_and_strategies(rt: HostRuntime) {
     let one: Barrier = Barrier::new(1);
     let waited: barrier::BarrierWaitResult = one.wait(&rt);
-    equal(&rt, waited.is_leader(), true);
     let one: barrier::Barrier<Yield> = barrier::Barrier::new(1);
-    equal(&rt, one.wait(&rt).is_leader(), true);
-    equal(&rt, flag::lock(false), Some(true));
+    let leads = [waited.is_leader(), one.wait(&rt).is_leader()];
+    equal(&rt, (leads, flag::lock(false)), ([true; 2], Some(true)));
     Spin::relax(&rt);
     Yield::relax(&rt);
     Loop::relax(&rt);
@@ -44,13 +46,14 @@ fn barriers_steps_and_strategies(rt: HostRuntime) {
 #[test]
 fn values_that_are_made_once(rt: HostRuntime) {
     let once: Once<u64> = Once::new();
-    equal(&rt, *once.call_once(&rt, || 6), 6);
+    let made = *once.call_once(&rt, || 6);
     let unit: Once = Once::initialized(());
-    equal(&rt, unit.is_completed(), true);
+    let completed = unit.is_completed();
     let lazy: LazyLock<u64, _> = LazyLock::new(|| 7);
-    equal(&rt, *LazyLock::force(&lazy, &rt), 7);
+    let forced = *LazyLock::force(&lazy, &rt);
     let lazy: Lazy<u64, _> = Lazy::new(|| 8);
-    equal(&rt, *Lazy::force(&lazy, &rt), 8);
+    let values = [made, forced, *Lazy::force(&lazy, &rt)];
+    equal(&rt, (completed, values), (true, [6, 7, 8]));
 }
 
 // The size in bytes of each lock of a `u64`: one word and the value, or two words for tickets. A `Once` and a

@@ -30,10 +30,11 @@ impl<W: Abort + Wait> Work for ReadBeside<'_, W> {
         let shared = register::read_shared(rt, &lock, &mut seen);
         let tried = register::try_read_shared(rt, &lock, &mut seen);
         let refused = register::try_read(&lock, &mut seen);
-        equal(rt, register::try_write(&lock, 2, &mut seen), false);
+        let wrote_beside = register::try_write(&lock, 2, &mut seen);
         drop(reader);
-        equal(rt, register::try_read(&lock, &mut seen), Some(1));
-        equal(rt, register::try_write(&lock, 2, &mut seen), true);
+        let found = register::try_read(&lock, &mut seen);
+        let wrote = register::try_write(&lock, 2, &mut seen);
+        equal(rt, (wrote_beside, found, wrote), (false, Some(1), true));
         let writer = lock.write(rt);
         let kept_out = register::try_read_shared(rt, &lock, &mut seen);
         drop(writer);

@@ -2,45 +2,59 @@
 mod passes;
 
 use super::equal::equal;
+use super::parts::{Crew, in_threads};
 use spin_seats::seats::Seats;
+use std::process::Abort;
 use std::sync::Wait;
 use std::sync::atomic::{AtomicU64, Ordering};
-use std::thread::{join, map_indices};
 
 #[test]
 fn as_many_sit_as_there_are_seats(rt: HostRuntime) {
     let seats: Seats<2> = Seats::new();
-    equal(&rt, seats.count(), 0);
+    let unused = seats.count();
     let first = seats.try_enter(&rt).expect(&rt, "two are free");
     let second = seats.enter(&rt);
-    equal(&rt, seats.count(), 2);
-    equal(&rt, seats.try_enter(&rt).is_none(), true);
+    let (full, refused) = (seats.count(), seats.try_enter(&rt).is_none());
     drop(first);
-    equal(&rt, seats.count(), 1);
+    let one_left = seats.count();
     let third = seats.try_enter(&rt).expect(&rt, "one is free");
-    equal(&rt, seats.try_enter(&rt).is_none(), true);
+    let refused_again = seats.try_enter(&rt).is_none();
     drop(second);
     drop(third);
-    equal(&rt, seats.count(), 0);
+    equal(&rt, [unused, full, one_left, seats.count()], [0, 2, 1, 0]);
     let none: Seats<0> = Seats::default();
-    equal(&rt, none.try_enter(&rt).is_none(), true);
+    let refused = [refused, refused_again, none.try_enter(&rt).is_none()];
+    equal(&rt, refused, [true; 3]);
+}
+
+/// Threads that take a seat again and again, and count how many are taken.
+#[derive(Drop)]
+struct Visitors {
+    seats: Seats<2>,
+    inside: AtomicU64,
+}
+
+impl Crew for Visitors {
+    type Answer = ();
+
+    fn act<R: Abort + Wait>(&self, rt: &R, _index: usize) {
+        for _turn in 0..2000 {
+            let guard = self.seats.enter(rt);
+            equal(rt, self.inside.fetch_add(1, Ordering::SeqCst) < 2, true);
+            self.inside.fetch_sub(1, Ordering::SeqCst);
+            drop(guard);
+        }
+    }
 }
 
 #[test]
 fn three_visit_two_seats(rt: HostRuntime) {
-    let seats: Seats<2> = Seats::new();
-    let inside = AtomicU64::new(0);
-    // takes a seat again and again, and counts how many are taken
-    let visit = |_index: usize| {
-        for _turn in 0..2000 {
-            let guard = seats.enter(&rt);
-            equal(&rt, inside.fetch_add(1, Ordering::SeqCst) < 2, true);
-            inside.fetch_sub(1, Ordering::SeqCst);
-            drop(guard);
-        }
+    let visitors = Visitors {
+        seats: Seats::new(),
+        inside: AtomicU64::new(0),
     };
-    map_indices(&rt, rt.alloc(), 3, &visit).expect(&rt, "memory");
-    equal(&rt, seats.count(), 0);
+    drop(in_threads(&rt, rt.alloc(), &visitors, 3));
+    equal(&rt, visitors.seats.count(), 0);
 }
 
 #[test]
@@ -62,26 +76,35 @@ fn a_hundred_sit_at_once(rt: HostRuntime) {
 
 const TRIES: u64 = 400_000;
 
-// Returns whether each try succeeded. The threads share the tries, so they end however they are scheduled.
-fn tries_often<W: Wait>(rt: &W, seats: &Seats<4>, tries: &AtomicU64) -> bool {
-    let mut granted = true;
-    for _ in 0..TRIES {
-        if tries.fetch_add(1, Ordering::SeqCst) >= TRIES {
-            break;
+/// Threads that try often. They share the tries, so they end however they are scheduled.
+#[derive(Drop)]
+struct TryOften {
+    seats: Seats<4>,
+    tries: AtomicU64,
+}
+
+impl Crew for TryOften {
+    type Answer = bool;
+
+    // Returns whether each try succeeded.
+    fn act<R: Abort + Wait>(&self, rt: &R, _index: usize) -> bool {
+        let mut granted = true;
+        for _ in 0..TRIES {
+            if self.tries.fetch_add(1, Ordering::SeqCst) >= TRIES {
+                break;
+            }
+            granted = granted && self.seats.try_enter(rt).is_some();
         }
-        granted = granted && seats.try_enter(rt).is_some();
+        granted
     }
-    granted
 }
 
 #[test]
 fn a_try_that_lost_a_race_tries_again(rt: HostRuntime) {
-    let seats: Seats<4> = Seats::new();
-    let tries = AtomicU64::new(0);
-    let granted = join(
-        &rt,
-        || tries_often(&rt, &seats, &tries),
-        || tries_often(&rt, &seats, &tries),
-    );
-    equal(&rt, granted, (true, true));
+    let both = TryOften {
+        seats: Seats::new(),
+        tries: AtomicU64::new(0),
+    };
+    let granted = in_threads(&rt, rt.alloc(), &both, 2);
+    equal(&rt, granted.as_slice(), [true; 2].as_slice());
 }

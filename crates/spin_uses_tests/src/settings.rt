@@ -2,10 +2,11 @@
 ghost use Rattle.spin_uses.specs.Settings.{IsAnswerFor};
 
 use super::equal::equal;
+use super::parts::{Crew, in_threads};
 use spin_core::relax::Yield;
 use spin_uses::settings::{Answer, BadLine, Setting, Settings, SharedSettings};
+use std::process::Abort;
 use std::sync::Wait;
-use std::thread::map_indices;
 
 #[test]
 fn a_line_sets_one_thing_or_nothing(rt: HostRuntime) {
@@ -76,18 +77,26 @@ fn settings_are_those_of_the_text(rt: HostRuntime) {
     );
 }
 
+/// Threads that ask for the settings.
+#[derive(Drop)]
+struct Askers<'a>(SharedSettings<'a, Yield>);
+
+impl Crew for Askers<'_> {
+    type Answer = Answer;
+
+    fn act<R: Abort + Wait>(&self, rt: &R, _index: usize) -> Answer {
+        self.0.get(rt).copied()
+    }
+}
+
 #[test]
 fn ten_threads_see_the_same(rt: HostRuntime) {
-    let shared: SharedSettings<Yield> = SharedSettings::new("workers = 4\nverbose = true\n");
-    let ask_one = |_index: usize| shared.get(&rt).copied();
-    let answers = map_indices(&rt, rt.alloc(), 10, &ask_one).expect(&rt, "memory");
-    equal(&rt, answers.len(), 10);
+    let shared = SharedSettings::new("workers = 4\nverbose = true\n");
+    let answers = in_threads(&rt, rt.alloc(), &Askers(shared), 10);
     let settings = Settings {
         port: 8080,
         workers: 4,
         verbose: true,
     };
-    for answer in &answers {
-        equal(&rt, *answer, Ok(settings));
-    }
+    equal(&rt, answers.as_slice(), [Ok(settings); 10].as_slice());
 }

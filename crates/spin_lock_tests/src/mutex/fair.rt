@@ -1,11 +1,11 @@
 //! What no contract says of starvers: which calls succeed while a thread starves.
 use crate::equal::equal;
+use crate::parts::{Crew, in_threads};
 use spin_core::relax::{Loop, RelaxStrategy};
 use spin_fair::fair::{FairMutex, LockRejectReason, Starvation};
 use std::mem::forget;
 use std::process::Abort;
 use std::sync::Wait;
-use std::thread;
 
 // Whether a thread holds the lock, and the reason why `try_lock_starver` fails, if it fails.
 pub type Seen = (bool, Option<LockRejectReason>);
@@ -110,15 +110,23 @@ fn a_forgotten_starver_keeps_newcomers_away(rt: HostRuntime) {
 
 const STARVES: u32 = 100_000;
 
+/// Threads that starve. Each `starve` succeeds, though other threads change the word.
+#[derive(Drop)]
+struct StarveOften(FairMutex<u64>);
+
+impl Crew for StarveOften {
+    type Answer = ();
+
+    fn act<R: Abort + Wait>(&self, rt: &R, _index: usize) {
+        for _ in 0..STARVES {
+            drop(starve(rt, &self.0));
+        }
+    }
+}
+
 #[test]
 fn a_starver_that_lost_a_race_tries_again(rt: HostRuntime) {
-    let lock: FairMutex<u64> = FairMutex::new(1);
-    // Each `starve` succeeds, though other threads change the word.
-    let starve_often = |_index: usize| {
-        for _ in 0..STARVES {
-            drop(starve(&rt, &lock));
-        }
-    };
-    thread::map_indices(&rt, rt.alloc(), 2, &starve_often).expect(&rt, "memory");
-    shows(&rt, &lock, OPEN);
+    let often = StarveOften(FairMutex::new(1));
+    drop(in_threads(&rt, rt.alloc(), &often, 2));
+    shows(&rt, &often.0, OPEN);
 }

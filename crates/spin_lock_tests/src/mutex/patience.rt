@@ -1,11 +1,15 @@
 //! When a waiting `lock` begins to starve.
 use crate::equal::equal;
 use crate::mutex::fair::{HELD, OPEN, refusal, seen, shows};
+use crate::parts::{Crew, in_threads};
+use crate::waiting::await_number;
 use spin_core::relax::{RelaxStrategy, Spin, Yield};
 use spin_fair::attempts::{Waiting, begin, look_and_try, looks};
 use spin_fair::fair::{FairMutex, FairMutexGuard, LockRejectReason, STARVATION_SPINS};
+use std::process::Abort;
 use std::sync::Wait;
-use std::thread;
+use std::sync::atomic::AtomicU64;
+use std::sync::atomic::Ordering::SeqCst;
 
 const MAX_LOOKS: usize = 10_000_000;
 
@@ -31,24 +35,48 @@ fn stays_starved<R>(lock: &FairMutex<u64, R>) -> bool {
     starved
 }
 
+/// A thread that holds the lock, and a thread that waits for the lock.
+#[derive(Drop)]
+struct Held<S> {
+    lock: FairMutex<u64, S>,
+    held: AtomicU64,
+}
+
+impl<S> Held<S> {
+    fn of(lock: FairMutex<u64, S>) -> Held<S> {
+        Held {
+            lock,
+            held: AtomicU64::new(0),
+        }
+    }
+}
+
+impl Crew for Held<Yield> {
+    type Answer = bool;
+
+    // The first thread holds the lock until the waiting `lock` starves. Returns `true` if that call stays a starver.
+    fn act<R: Abort + Wait>(&self, rt: &R, index: usize) -> bool {
+        if index == 0 {
+            let guard = self.lock.lock(rt);
+            self.held.store(1, SeqCst);
+            let starved = comes_to_starve(rt, &self.lock) && stays_starved(&self.lock);
+            drop(guard);
+            return starved;
+        }
+        await_number(rt, &self.held, 1);
+        let mut own = self.lock.lock(rt);
+        *own = 2;
+        true
+    }
+}
+
 #[test]
 fn a_waiting_lock_comes_to_starve(rt: HostRuntime) {
-    let lock: FairMutex<u64, Yield> = FairMutex::new(1);
-    let (shared, host) = (&lock, &rt);
-    let guard = shared.lock(host);
-    let waits = || {
-        let mut own = shared.lock(host);
-        *own = 2;
-    };
-    let release = move || {
-        let starved = comes_to_starve(host, shared) && stays_starved(shared);
-        drop(guard);
-        starved
-    };
-    let (_, starved) = thread::join(host, waits, release);
-    equal(&rt, starved, true);
-    shows(&rt, &lock, OPEN);
-    equal(&rt, lock.into_inner(), 2);
+    let both = Held::of(FairMutex::<u64, Yield>::new(1));
+    let starved = in_threads(&rt, rt.alloc(), &both, 2);
+    equal(&rt, starved.as_slice(), [true; 2].as_slice());
+    shows(&rt, &both.lock, OPEN);
+    equal(&rt, both.lock.into_inner(), 2);
 }
 
 /// A slow strategy.
@@ -66,23 +94,33 @@ impl RelaxStrategy for Slow {
 // that.
 const SLOW_LOOKS: u32 = 40;
 
+impl Crew for Held<Slow> {
+    type Answer = bool;
+
+    // The first thread holds the lock for some looks. Returns `true` if the waiting `lock` did not starve meanwhile.
+    fn act<R: Abort + Wait>(&self, rt: &R, index: usize) -> bool {
+        let mut patient = true;
+        if index == 0 {
+            let guard = self.lock.lock(rt);
+            self.held.store(1, SeqCst);
+            for _ in 0..SLOW_LOOKS {
+                Slow::relax(rt);
+                patient = patient && seen(&self.lock) == HELD;
+            }
+            drop(guard);
+        } else {
+            await_number(rt, &self.held, 1);
+            drop(self.lock.lock(rt));
+        }
+        patient
+    }
+}
+
 #[test]
 fn a_waiting_lock_is_patient(rt: HostRuntime) {
-    let lock: FairMutex<u64, Slow> = FairMutex::new(1);
-    let (shared, host) = (&lock, &rt);
-    let guard = shared.lock(host);
-    let waits = || drop(shared.lock(host));
-    let release = move || {
-        let mut patient = true;
-        for _ in 0..SLOW_LOOKS {
-            Slow::relax(host);
-            patient = patient && seen(shared) == HELD;
-        }
-        drop(guard);
-        patient
-    };
-    let ((), patient) = thread::join(host, waits, release);
-    equal(&rt, patient, true);
+    let both = Held::of(FairMutex::<u64, Slow>::new(1));
+    let patient = in_threads(&rt, rt.alloc(), &both, 2);
+    equal(&rt, patient.as_slice(), [true; 2].as_slice());
 }
 
 // Makes one more attempt of a waiting call.
@@ -107,24 +145,37 @@ fn looks_on<R: Wait>(rt: &R, waiting: Waiting<'_, u64>) -> usize {
     unreachable!()
 }
 
-fn looks_until_it_enters<R: Wait>(rt: &R, lock: &FairMutex<u64, Yield>) -> usize {
-    match begin(lock) {
-        Ok(_guard) => 0,
-        Err(waiting) => looks_on(rt, waiting),
+/// A thread that holds the lock, and a thread that counts its looks.
+#[derive(Drop)]
+struct Counted(Held<Yield>);
+
+impl Crew for Counted {
+    type Answer = usize;
+
+    // The first thread holds the lock until the waiting `lock` starves, and returns 0. The second one returns how often
+    // it looked.
+    fn act<R: Abort + Wait>(&self, rt: &R, index: usize) -> usize {
+        let Held { lock, held } = &self.0;
+        if index == 0 {
+            let guard = lock.lock(rt);
+            held.store(1, SeqCst);
+            equal(rt, comes_to_starve(rt, lock), true);
+            drop(guard);
+            return 0;
+        }
+        await_number(rt, held, 1);
+        match begin(lock) {
+            Ok(_guard) => 0,
+            Err(waiting) => looks_on(rt, waiting),
+        }
     }
 }
 
 #[test]
 fn it_starves_at_the_look_after_its_patience(rt: HostRuntime) {
-    let lock: FairMutex<u64, Yield> = FairMutex::new(1);
-    let guard = lock.lock(&rt);
-    let let_go = || {
-        let starved = comes_to_starve(&rt, &lock);
-        drop(guard);
-        starved
-    };
-    let seen = thread::join(&rt, || looks_until_it_enters(&rt, &lock), let_go);
-    equal(&rt, seen, (STARVATION_SPINS + 2, true));
+    let both = Counted(Held::of(FairMutex::new(1)));
+    let looked = in_threads(&rt, rt.alloc(), &both, 2);
+    equal(&rt, looked.as_slice(), [0, STARVATION_SPINS + 2].as_slice());
 }
 
 #[test]

@@ -1,5 +1,6 @@
 //! Threads take turns. A look does not disturb them. A guard may be dropped in another thread.
 use crate::equal::equal;
+use crate::parts::{Crew, in_threads};
 use crate::waiting::has_turn;
 use spin_core::lock::Lock;
 use spin_core::relax::{RelaxStrategy, Yield};
@@ -25,27 +26,24 @@ impl RelaxStrategy for Patient {
     }
 }
 
-fn add_often<L: Lock<u64>, R: Wait>(rt: &R, lock: &L) {
-    for _ in 0..1000 {
-        lock.with(rt, |sum| *sum = sum.wrapping_add(1));
-    }
-}
+/// Threads that add a thousand times each.
+#[derive(Drop)]
+struct Adders<'a, L>(&'a L);
 
-// Each thread adds a thousand times.
-fn add_in<L: Lock<u64> + Sync, R: Abort + Threads + Wait + Sync>(
-    rt: &R,
-    alloc: Global,
-    lock: &L,
-    threads: usize,
-) {
-    let add = |_index: usize| add_often(rt, lock);
-    thread::map_indices(rt, alloc, threads, &add).expect(rt, "memory");
+impl<L: Lock<u64>> Crew for Adders<'_, L> {
+    type Answer = ();
+
+    fn act<R: Abort + Wait>(&self, rt: &R, _index: usize) {
+        for _ in 0..1000 {
+            self.0.with(rt, |sum| *sum = sum.wrapping_add(1));
+        }
+    }
 }
 
 macro_rules! sum_of {
     ($rt:expr, $Lock:ident, $threads:expr) => {{
         let lock: $Lock<u64, Patient> = $Lock::new(0);
-        add_in($rt, $rt.alloc(), &lock, $threads);
+        drop(in_threads($rt, $rt.alloc(), &Adders(&lock), $threads));
         lock.into_inner()
     }};
 }
@@ -95,36 +93,63 @@ fn a_guard_may_end_in_another_thread(rt: HostRuntime) {
 
 const TURNS: u64 = 1_000_000;
 
-// Tries while turns are left. Returns `true` if no try failed.
-fn try_often<L: Lock<u64>>(lock: &L, turns: &AtomicU64) -> bool {
-    let mut granted = true;
-    for _ in 0..TURNS {
-        if !has_turn(turns, TURNS) {
-            break;
-        }
-        granted = granted && lock.try_with(|_| ()).is_ok();
-    }
-    granted
+/// A lock that threads look at.
+trait Look: Lock<u64> {
+    fn look(&self);
 }
 
-macro_rules! granted_beside_looks {
-    ($rt:expr, $Lock:ident) => {{
-        let lock: $Lock<u64> = $Lock::new(1);
-        let turns = AtomicU64::new(0);
-        let look = || {
-            for _ in 0..TURNS {
-                if !has_turn(&turns, TURNS) {
-                    break;
-                }
-                lock.is_locked();
+impl Look for SpinMutex<u64> {
+    fn look(&self) {
+        self.is_locked();
+    }
+}
+
+impl Look for FairMutex<u64> {
+    fn look(&self) {
+        self.is_locked();
+    }
+}
+
+/// A thread that looks and a thread that tries, while turns are left.
+#[derive(Drop)]
+struct LooksAndTries<L> {
+    lock: L,
+    turns: AtomicU64,
+}
+
+impl<L: Look> Crew for LooksAndTries<L> {
+    type Answer = bool;
+
+    // The first thread looks. Returns `true` if no try failed.
+    fn act<R: Abort + Wait>(&self, rt: &R, index: usize) -> bool {
+        let _ = rt;
+        let mut granted = true;
+        for _ in 0..TURNS {
+            if !has_turn(&self.turns, TURNS) {
+                break;
             }
-        };
-        thread::join($rt, look, || try_often(&lock, &turns)).1
-    }};
+            if index == 0 {
+                self.lock.look();
+            } else {
+                granted = granted && self.lock.try_with(|_| ()).is_ok();
+            }
+        }
+        granted
+    }
+}
+
+fn are_granted<L: Look + Drop + Sync, R: Abort + Threads + Wait + Sync>(
+    rt: &R,
+    alloc: Global,
+    lock: L,
+) {
+    let turns = AtomicU64::new(0);
+    let granted = in_threads(rt, alloc, &LooksAndTries { lock, turns }, 2);
+    equal(rt, granted.as_slice(), [true; 2].as_slice());
 }
 
 #[test]
 fn a_look_takes_no_lock(rt: HostRuntime) {
-    equal(&rt, granted_beside_looks!(&rt, SpinMutex), true);
-    equal(&rt, granted_beside_looks!(&rt, FairMutex), true);
+    are_granted(&rt, rt.alloc(), SpinMutex::new(1));
+    are_granted(&rt, rt.alloc(), FairMutex::new(1));
 }

@@ -1,6 +1,7 @@
 //! What no contract says of tickets: threads enter in the order of their tickets, which calls take a ticket, and what
 //! happens once all tickets are used up. Also that a `Mutex` uses tickets.
 use crate::equal::equal;
+use crate::parts::{Crew, in_threads};
 use crate::waiting::MAX_LOOKS;
 use spin_core::lock::Lock;
 use spin_core::relax::{RelaxStrategy, Yield};
@@ -8,13 +9,10 @@ use spin_mutex::mutex::Mutex;
 use spin_mutex::tickets::{next as next_of_mutex, starting_at as mutex_starting_at};
 use spin_ticket::ticket::{TicketMutex, TicketMutexGuard};
 use spin_ticket::tickets::{next, starting_at};
-use std::alloc::Global;
 use std::process::Abort;
 use std::sync::Wait;
 use std::sync::atomic::AtomicBool;
 use std::sync::atomic::Ordering::SeqCst;
-use std::thread;
-use std::thread::Threads;
 
 #[test]
 fn used_up_tickets_are_refused(rt: HostRuntime) {
@@ -97,35 +95,35 @@ fn comes_to<Q: Tickets, R: Wait>(rt: &R, queue: &Q, number: u64) -> bool {
     false
 }
 
-// Waits until `before` threads have a ticket. Then acquires the lock, and appends the thread's digit to the value. The
-// thread holds the lock until all three threads have a ticket. The digits of the value show the order in which they
-// entered.
-fn enter<Q: Tickets, R: Wait>(rt: &R, queue: &Q, before: u64) -> bool {
-    let in_order = comes_to(rt, queue, before);
-    let append = |text: &mut u64| {
-        *text = text.wrapping_mul(10).wrapping_add(before).wrapping_add(1);
-        comes_to(rt, queue, 3)
-    };
-    queue.with(rt, append) && in_order
-}
+/// Threads that take tickets one after another, while the first one holds the lock.
+#[derive(Drop)]
+struct Entrants<'a, Q>(&'a Q);
 
-// Three threads take tickets one after another, while the first one holds the lock.
-fn enter_in_three<Q: Tickets + Sync, R: Abort + Threads + Wait + Sync>(
-    rt: &R,
-    alloc: Global,
-    queue: &Q,
-) {
-    let enter_one = |index: usize| enter(rt, queue, index as u64);
-    let in_order = thread::map_indices(rt, alloc, 3, &enter_one).expect(rt, "memory");
-    equal(rt, in_order.as_slice(), [true; 3].as_slice());
+impl<Q: Tickets> Crew for Entrants<'_, Q> {
+    type Answer = bool;
+
+    // Waits until `index` threads have a ticket. Then acquires the lock, and appends the thread's digit to the value.
+    // The thread holds the lock until all three threads have a ticket. The digits of the value show the order in which
+    // they entered.
+    fn act<R: Abort + Wait>(&self, rt: &R, index: usize) -> bool {
+        let before = index as u64;
+        let in_order = comes_to(rt, self.0, before);
+        let append = |text: &mut u64| {
+            *text = text.wrapping_mul(10).wrapping_add(before).wrapping_add(1);
+            comes_to(rt, self.0, 3)
+        };
+        self.0.with(rt, append) && in_order
+    }
 }
 
 #[test]
 fn waiters_enter_in_the_order_in_which_they_came(rt: HostRuntime) {
     let lock: TicketMutex<u64, Yield> = TicketMutex::new(0);
-    enter_in_three(&rt, rt.alloc(), &lock);
+    let in_order = in_threads(&rt, rt.alloc(), &Entrants(&lock), 3);
+    equal(&rt, in_order.as_slice(), [true; 3].as_slice());
     let mutex: Mutex<u64, Yield> = Mutex::new(0);
-    enter_in_three(&rt, rt.alloc(), &mutex);
+    let in_order = in_threads(&rt, rt.alloc(), &Entrants(&mutex), 3);
+    equal(&rt, in_order.as_slice(), [true; 3].as_slice());
     equal(&rt, (lock.into_inner(), mutex.into_inner()), (123, 123));
 }
 
@@ -178,9 +176,13 @@ impl Relay {
         self.looked.store(true, SeqCst);
         locked
     }
+}
+
+impl Crew for Relay {
+    type Answer = bool;
 
     // The first thread looks, and the two others take turns.
-    fn act<R: Wait>(&self, rt: &R, index: usize) -> bool {
+    fn act<R: Abort + Wait>(&self, rt: &R, index: usize) -> bool {
         if index == 0 {
             return self.look();
         }
@@ -195,7 +197,6 @@ fn a_look_never_finds_a_lock_free_that_is_handed_on(rt: HostRuntime) {
         lock: TicketMutex::new(0),
         looked: AtomicBool::new(false),
     };
-    let act = |index: usize| relay.act(&rt, index);
-    let locked = thread::map_indices(&rt, rt.alloc(), 3, &act).expect(&rt, "memory");
+    let locked = in_threads(&rt, rt.alloc(), &relay, 3);
     equal(&rt, locked.as_slice(), [true; 3].as_slice());
 }

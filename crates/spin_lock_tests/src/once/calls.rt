@@ -43,8 +43,8 @@ fn a_closure_that_fails_leaves_the_next_one_its_turn(rt: HostRuntime) {
 #[test]
 fn a_copy_of_a_value(rt: HostRuntime) {
     let once: Once<u64> = Once::new();
-    equal(&rt, *once.init_from_ref(&rt, &1), 1);
-    equal(&rt, *once.init_from_ref(&rt, &2), 1);
+    let copies = [*once.init_from_ref(&rt, &1), *once.init_from_ref(&rt, &2)];
+    equal(&rt, copies, [1; 2]);
 }
 
 #[test]
@@ -65,12 +65,12 @@ fn with_a_value_from_the_start_or_without(rt: HostRuntime) {
     let once: Once<u64> = Once::initialized(5);
     let found = (once.is_completed(), once.get().copied());
     let called = *once.call_once(&rt, || 6);
-    equal(&rt, (found, called), ((true, Some(5)), 5));
-    equal(&rt, once.try_into_inner(), Some(5));
+    let last = once.try_into_inner();
     let once: Once<u64> = Once::from(5);
-    equal(&rt, *once.wait(&rt), 5);
+    let waited = *once.wait(&rt);
     let once: Once<u64> = Once::default();
-    equal(&rt, once.try_into_inner(), None);
+    equal(&rt, (found, [called, waited]), ((true, Some(5)), [5; 2]));
+    equal(&rt, [last, once.try_into_inner()], [Some(5), None]);
     let once: Once = Once::new();
     once.call_once(&rt, || ());
     equal(&rt, once.is_completed(), true);
@@ -87,11 +87,10 @@ fn its_owner_changes_the_value(rt: HostRuntime) {
     if let Some(value) = lends(&mut once) {
         *value = 6;
     }
-    equal(&rt, once.is_completed(), true);
-    equal(&rt, once.try_into_inner(), Some(6));
     let mut empty: Once<u64> = Once::new();
-    equal(&rt, lends(&mut empty).is_none(), true);
-    equal(&rt, empty.try_into_inner(), None);
+    let seen = [once.is_completed(), lends(&mut empty).is_none()];
+    let values = [once.try_into_inner(), empty.try_into_inner()];
+    equal(&rt, (seen, values), ([true; 2], [Some(6), None]));
 }
 
 #[test]
@@ -100,14 +99,13 @@ fn its_owner_changes_a_value_that_was_made(rt: HostRuntime) {
     let mut once: Once<u64> = Once::new();
     let before = lends(&mut once).is_none();
     let made = make(&rt, &once, &runs, 7);
-    equal(&rt, (before, made), (true, 7));
     if let Some(value) = lends(&mut once) {
         *value = 8;
     }
     let looked = [once.get().copied(), once.poll(&rt).copied()];
-    let found = [make(&rt, &once, &runs, 9), *once.wait(&rt)];
-    equal(&rt, (looked, found), ([Some(8); 2], [8; 2]));
-    equal(&rt, once.try_into_inner(), Some(8));
+    let found = [made, make(&rt, &once, &runs, 9), *once.wait(&rt)];
+    equal(&rt, (before, looked), (true, [Some(8); 2]));
+    equal(&rt, (found, once.try_into_inner()), ([7, 8, 8], Some(8)));
 }
 
 #[test]

@@ -2,13 +2,14 @@
 //! closure, and runs no closure of its own.
 
 use crate::equal::equal;
+use crate::parts::{Crew, in_threads};
 use crate::waiting::{await_number, pause};
 use spin_core::relax::Yield;
 use spin_once::once::Once;
+use std::process::Abort;
 use std::sync::Wait;
 use std::sync::atomic::AtomicU64;
 use std::sync::atomic::Ordering::SeqCst;
-use std::thread;
 
 /// A value that four threads wait for, while a fifth makes it.
 #[derive(Drop)]
@@ -61,8 +62,12 @@ impl Shared {
         let value = self.once.poll(rt).copied();
         if is_early { value } else { None }
     }
+}
 
-    fn act<R: Wait>(&self, rt: &R, index: usize) -> Option<u64> {
+impl Crew for Shared {
+    type Answer = Option<u64>;
+
+    fn act<R: Abort + Wait>(&self, rt: &R, index: usize) -> Option<u64> {
         match index {
             0 => Some(self.make(rt)),
             // This thread begins to wait before a closure runs.
@@ -84,8 +89,7 @@ fn four_wait_for_the_closure_of_a_fifth(rt: HostRuntime) {
         came: AtomicU64::new(0),
         begun: AtomicU64::new(0),
     };
-    let act = |index: usize| shared.act(&rt, index);
-    let values = thread::map_indices(&rt, rt.alloc(), 5, &act).expect(&rt, "memory");
+    let values = in_threads(&rt, rt.alloc(), &shared, 5);
     equal(&rt, values.as_slice(), [Some(7); 5].as_slice());
     equal(&rt, shared.begun.load(SeqCst), 1);
 }

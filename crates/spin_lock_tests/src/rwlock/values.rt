@@ -74,42 +74,24 @@ fn reads_back_once_it_leaks<R>(guard: RwLockWriteGuard<'_, u64, R>, value: u64) 
 #[test]
 fn a_leak_keeps_the_value(rt: HostRuntime) {
     let lock: RwLock<u64, Loop> = RwLock::from(3);
-    equal(&rt, sees_the_same_once_it_leaks(lock.read(&rt)), (3, 3));
+    let seen = sees_the_same_once_it_leaks(lock.read(&rt));
     let lock: RwLock<u64, Loop> = RwLock::from(3);
-    equal(&rt, reads_back_once_it_leaks(lock.write(&rt), 4), 4);
-    equal(&rt, lock.into_inner(), 4);
+    let written = reads_back_once_it_leaks(lock.write(&rt), 4);
+    equal(&rt, (seen, [written, lock.into_inner()]), ((3, 3), [4; 2]));
 }
 
 #[test]
 fn conversions_keep_the_value(rt: HostRuntime) {
     let mut lock: RwLock<u64, Loop> = RwLock::from(3);
-    equal(
-        &rt,
-        sees_the_same_after_upgrade(&rt, lock.upgradeable_read(&rt)),
-        (3, 3),
-    );
-    equal(
-        &rt,
-        sees_the_same_after_a_try(lock.upgradeable_read(&rt)),
-        (3, 3),
-    );
+    let upgraded = sees_the_same_after_upgrade(&rt, lock.upgradeable_read(&rt));
+    let alone = sees_the_same_after_a_try(lock.upgradeable_read(&rt));
     let reader = lock.read(&rt);
-    equal(
-        &rt,
-        sees_the_same_after_a_try(lock.upgradeable_read(&rt)),
-        (3, 3),
-    );
-    equal(
-        &rt,
-        sees_the_same_after_downgrade(lock.upgradeable_read(&rt)),
-        (3, 3),
-    );
+    let beside_reader = sees_the_same_after_a_try(lock.upgradeable_read(&rt));
+    let downgraded = sees_the_same_after_downgrade(lock.upgradeable_read(&rt));
     drop(reader);
-    equal(&rt, reads_back_after_downgrade(lock.write(&rt), 4), 4);
-    equal(
-        &rt,
-        reads_back_after_downgrade_to_upgradeable(lock.write(&rt), 5),
-        5,
-    );
-    equal(&rt, *lock.get_mut(), 5);
+    let seen = [upgraded, alone, beside_reader, downgraded];
+    equal(&rt, seen, [(3, 3); 4]);
+    let read = reads_back_after_downgrade(lock.write(&rt), 4);
+    let read_upgradably = reads_back_after_downgrade_to_upgradeable(lock.write(&rt), 5);
+    equal(&rt, [read, read_upgradably, *lock.get_mut()], [4, 5, 5]);
 }

@@ -82,10 +82,16 @@ fn releases_and_turns_at_each_word(rt: HostRuntime) {
 #[test]
 fn the_last_reader_is_below_the_limit(rt: HostRuntime) {
     let most = 8 * rw::MAX_READERS;
-    equal(&rt, rw::read(most - 8, usize::MAX), Some(most));
-    equal(&rt, rw::read(most - 6, usize::MAX), None);
-    equal(&rt, rw::read(most, usize::MAX), None);
-    equal(&rt, rw::upgradable(most - 8, usize::MAX), Some(most - 6));
-    equal(&rt, rw::upgradable(most, usize::MAX), None);
+    let reads = [
+        rw::read(most - 8, usize::MAX),
+        rw::read(most - 6, usize::MAX),
+        rw::read(most, usize::MAX),
+    ];
+    equal(&rt, reads, [Some(most), None, None]);
+    let upgradable = [
+        rw::upgradable(most - 8, usize::MAX),
+        rw::upgradable(most, usize::MAX),
+    ];
+    equal(&rt, upgradable, [Some(most - 6), None]);
     equal(&rt, rw::upgradable_to_read(most - 6), most);
 }

@@ -8,7 +8,6 @@ use spin_explore::{Course, Entry, Found, Lock, Programs, explore, schedule};
 use spin_world::{Answer, Move, Outcome, World};
 use spin_world_seats::{Seats, SeatsCall};
 use std::alloc::AllocError;
-use std::test::Fail;
 
 /// Returns how many lines of a course were granted.
 fn granted<L: Lock>(course: &Course<L>) -> usize {
@@ -41,30 +40,30 @@ fn turns_to<L: Lock>(found: &Found<L>, place: usize) -> Result<Vec<usize>, Alloc
 }
 
 #[test]
-fn three_parties_come_to_two_seats(rt: HostRuntime) -> Result<(), Fail> {
+fn three_parties_come_to_two_seats(rt: HostRuntime) {
     let alloc = rt.alloc();
     let mut lines = Vec::new(alloc);
     for party in 0..3usize {
-        let action = Move::Begin(SeatsCall::TryEnter);
-        lines.push(Entry {
+        let entry = Entry {
             party,
             lock: 0,
-            action,
-        })?;
+            action: Move::Begin(SeatsCall::TryEnter),
+        };
+        lines.push(entry).expect(&rt, "memory");
     }
+    let world = World::new(alloc, Seats::new(2), 3).expect(&rt, "memory");
     let mut locks = Vec::new(alloc);
-    locks.push(World::new(alloc, Seats::new(2), 3)?)?;
+    locks.push(world).expect(&rt, "memory");
     let programs = Programs {
         alloc,
         lines,
         parties: 3,
     };
-    let found = explore(programs, locks, 10_000)?;
+    let found = explore(programs, locks, 10_000).expect(&rt, "memory");
     for place in 0..found.courses.len() {
         if granted(&found.courses[place]) > 2 {
-            let turns = turns_to(&found, place)?;
+            let turns = turns_to(&found, place).expect(&rt, "memory");
             assert!(rt; false, "three sit on two seats after turns of {turns:?}");
         }
     }
-    Ok(())
 }

@@ -1,98 +1,10 @@
 //! The program over streams in memory: texts with all that is written for them, and what the program says when it
 //! fails.
-ghost use Rattle.std.specs.Prelude.{◌≡◌, Some, None, false};
+ghost use Rattle.std.specs.Prelude.{◌≡◌, false};
 
-use spin_explore_run::{Failed, Sink, Source, program};
+use crate::ends::{Paper, Tape};
+use spin_explore_run::program;
 use std::alloc::Global;
-use std::process::Abort;
-
-/// A text to read. If `fails`, a read behind the text fails.
-#[derive(Drop)]
-struct Tape<'a> {
-    rest: &'a [u8],
-    fails: bool,
-    failed: bool,
-}
-
-impl<'a> Tape<'a> {
-    fn new(text: &'a str, fails: bool) -> Tape<'a>
-        ensures { result.failed ≡ false }
-    {
-        Tape {
-            rest: text.as_bytes(),
-            fails,
-            failed: false,
-        }
-    }
-}
-
-impl Source for Tape<'_> {
-    ghost remaining = { λ _. None };
-
-    ghost failed = { λ s. s.failed };
-
-    fn read(&mut self, to: &mut [u8]) -> Result<usize, Failed> {
-        let n = self.rest.len().min(to.len());
-        if n == 0 && self.fails {
-            self.failed = true;
-            return Err(Failed);
-        }
-        let (front, rest) = self.rest.split_at(n);
-        to[..n].copy_from_slice(front);
-        self.rest = rest;
-        Ok(n)
-    }
-
-    fn has_failed(&self) -> bool {
-        self.failed
-    }
-}
-
-/// A sink in memory, which fails once it holds `room` bytes.
-#[derive(Drop)]
-struct Paper {
-    bytes: Vec<u8>,
-    room: usize,
-    failed: bool,
-}
-
-impl Paper {
-    fn new(alloc: Global, room: usize) -> Paper
-        ensures { result.failed ≡ false }
-    {
-        Paper {
-            bytes: Vec::new(alloc),
-            room,
-            failed: false,
-        }
-    }
-
-    /// Compares what was written with the beginning of the text for which there is room.
-    fn shows(&self, rt: &impl Abort, text: &str, of: &str) {
-        let found = str::from_utf8(&self.bytes).expect(rt, of);
-        let (fits, _) = text.as_bytes().split_at(text.len().min(self.room));
-        assert_eq!(rt; found.as_bytes(), fits, "{of}: {found}");
-    }
-}
-
-impl Sink for Paper {
-    ghost written = { λ s. Some s.bytes.items };
-
-    ghost failed = { λ s. s.failed };
-
-    fn write(&mut self, from: &[u8]) -> Result<usize, Failed> {
-        let n = from.len().min(self.room.saturating_sub(self.bytes.len()));
-        if n == 0 && !from.is_empty() || self.bytes.extend_from_slice(&from[..n]).is_err() {
-            self.failed = true;
-            return Err(Failed);
-        }
-        Ok(n)
-    }
-
-    fn has_failed(&self) -> bool {
-        self.failed
-    }
-}
 
 /// Runs the program. A caller learns nothing of what it ensures: the tests check the results themselves.
 fn run(
@@ -210,13 +122,13 @@ const ROWS: &[Row] = &[
 #[test]
 fn texts_and_what_comes_of_them(rt: HostRuntime) {
     for (words, text, status, told, line) in ROWS {
-        let mut input = Tape::new(text, false);
-        let mut output = Paper::new(rt.alloc(), usize::MAX);
-        let mut errors = Paper::new(rt.alloc(), usize::MAX);
+        let mut input = Tape::new(text.as_bytes());
+        let mut output = Paper::endless(rt.alloc());
+        let mut errors = Paper::endless(rt.alloc());
         let ended = run(rt.alloc(), words, &mut input, &mut output, &mut errors);
         assert_eq!(rt; ended, *status, "{text}");
-        output.shows(&rt, told, text);
-        errors.shows(&rt, line, text);
+        output.shows(&rt, told.as_bytes());
+        errors.shows(&rt, line.as_bytes());
     }
 }
 
@@ -224,25 +136,26 @@ fn texts_and_what_comes_of_them(rt: HostRuntime) {
 fn streams_that_fail(rt: HostRuntime) {
     let told = "outcome 1\nend: 0 value 5\n\nstates 1, outcomes 1, stuck 0\n";
     for room in 0..told.len().saturating_add(1) {
-        let mut input = Tape::new("flag 5 1\n", false);
-        let mut output = Paper::new(rt.alloc(), room);
+        let mut input = Tape::new(b"flag 5 1\n");
+        let mut output = Paper::new(rt.alloc(), usize::MAX, room);
         // If the line does not fit either, the status is the same.
-        let mut errors = Paper::new(rt.alloc(), room);
+        let mut errors = Paper::new(rt.alloc(), usize::MAX, room);
         let ended = run(rt.alloc(), &[], &mut input, &mut output, &mut errors);
-        let fits = room == told.len();
-        assert_eq!(rt; ended, if fits { 0 } else { 1 }, "{room}");
-        output.shows(&rt, told, "a failed write");
-        errors.shows(
-            &rt,
-            if fits { "" } else { "write failed\n" },
-            "a failed write",
-        );
+        let (status, line) = if room == told.len() {
+            (0, "")
+        } else {
+            (1, "write failed\n")
+        };
+        assert_eq!(rt; ended, status, "{room}");
+        output.shows(&rt, told.as_bytes());
+        errors.shows(&rt, line.as_bytes());
     }
-    let mut input = Tape::new(LOOK, true);
-    let mut output = Paper::new(rt.alloc(), usize::MAX);
-    let mut errors = Paper::new(rt.alloc(), usize::MAX);
+    let mut input = Tape::new(LOOK.as_bytes());
+    input.fails = true;
+    let mut output = Paper::endless(rt.alloc());
+    let mut errors = Paper::endless(rt.alloc());
     let ended = run(rt.alloc(), &[], &mut input, &mut output, &mut errors);
     assert_eq!(rt; ended, 1);
-    output.shows(&rt, "", "a failed read");
-    errors.shows(&rt, "read failed\n", "a failed read");
+    output.shows(&rt, b"");
+    errors.shows(&rt, b"read failed\n");
 }

@@ -8,7 +8,7 @@ use super::worlds::{
 };
 use crate::alike::{Alike, are_alike};
 use bumpalo::Bump;
-use spin_world::{Move, run_in_two};
+use spin_world::{Move, World, run_in_two};
 use std::alloc::Global;
 use std::process::Abort;
 
@@ -40,6 +40,20 @@ fn opens_in<O: OfHeader>(rt: &impl Abort, alloc: Global, opening: Opening, left:
     opens
 }
 
+/// Returns whether a schedule is refused with this many bytes of the arena left.
+fn is_refused<O: OfHeader>(
+    rt: &impl Abort,
+    arena: &Bump,
+    world: &mut World<O, &Bump>,
+    schedule: &[(usize, Move<O::Call, u64>)],
+    left: usize,
+) -> bool {
+    let filled = filled(rt, arena, left);
+    let refused = run(world, schedule).is_err();
+    drop(filled);
+    refused
+}
+
 /// A world whose second schedule was refused: its state then, what that schedule tells once there is room, and its last
 /// state.
 #[derive(Drop)]
@@ -62,10 +76,7 @@ fn played_again<O: OfHeader>(
     let arena = arena(rt, alloc);
     let mut world = opened::<O, &Bump>(rt, &arena, opening);
     let _ = run(&mut world, past).expect(rt, opening.shows);
-    let filled = filled(rt, &arena, left);
-    let runs = run(&mut world, schedule).is_ok();
-    drop(filled);
-    if runs {
+    if !is_refused(rt, &arena, &mut world, schedule, left) {
         return None;
     }
     let refused = look_at(rt, alloc, opening, &world);
@@ -76,6 +87,23 @@ fn played_again<O: OfHeader>(
         told,
         stop,
     })
+}
+
+/// Returns whether one of the two runs of a schedule is refused with this many bytes of the arena left.
+fn is_cut_short<O: OfHeader>(
+    rt: &impl Abort,
+    arena: &Bump,
+    world: &mut World<O, &Bump>,
+    schedule: &[(usize, Move<O::Call, u64>)],
+    at: usize,
+    left: usize,
+) -> bool
+    requires { at ≤ length schedule.now }
+{
+    let filled = filled(rt, arena, left);
+    let refused = run_in_two(world, schedule, at).is_err();
+    drop(filled);
+    refused
 }
 
 /// Returns the state of a world if one of its two runs was refused with this many bytes left. Returns `None` if the
@@ -92,10 +120,7 @@ fn cut_short<O: OfHeader>(
 {
     let arena = arena(rt, alloc);
     let mut world = opened::<O, &Bump>(rt, &arena, opening);
-    let filled = filled(rt, &arena, left);
-    let runs = run_in_two(&mut world, schedule, at).is_ok();
-    drop(filled);
-    if runs {
+    if !is_cut_short(rt, &arena, &mut world, schedule, at, left) {
         return None;
     }
     Some(look_at(rt, alloc, opening, &world))

@@ -1,12 +1,12 @@
 //! Plays each worked schedule in a new world, with the same code for every object. It compares words and values as
 //! numbers.
 
-use super::gallery::GALLERY;
 use super::objects::{OfHeader, parties_of};
 use super::refused::in_each_room;
 use super::rounds::in_rounds;
 use super::stops::at_each_place;
-use super::transcripts::WORKED;
+use super::transcripts::Worked;
+use super::{gallery_texts, worked_texts};
 use crate::alike::{Alike, are_alike};
 use spin_text::{Header, Rest, entry, first_line, header_of};
 use spin_world::{
@@ -211,14 +211,16 @@ pub fn try_text(rt: &impl Abort, alloc: Global, trial: Trial, shows: &'static st
     }
 }
 
-/// Tries every worked schedule, including those of the gallery.
-pub fn try_all(rt: &impl Abort, alloc: Global, trial: Trial) {
-    for worked in WORKED {
-        for (shows, text, _) in worked {
-            try_text(rt, alloc, trial, shows, text);
-        }
-    }
-    for (shows, text, _) in GALLERY {
+fn try_each(rt: &impl Abort, alloc: Global, trial: Trial, worked: &'static [Worked]) {
+    for (shows, text, _) in worked {
         try_text(rt, alloc, trial, shows, text);
     }
+}
+
+/// Tries every worked schedule, including those of the gallery.
+pub fn try_all(rt: &impl Abort, alloc: Global, trial: Trial) {
+    for worked in worked_texts() {
+        try_each(rt, alloc, trial, worked);
+    }
+    try_each(rt, alloc, trial, gallery_texts());
 }

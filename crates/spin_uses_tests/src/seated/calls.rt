@@ -27,14 +27,13 @@ fn a_hold_lets_nobody_in(rt: HostRuntime) {
     let (lock, mut first, mut second) = open_for_two(rt.alloc(), 5).expect(&rt, "memory");
     assert!(rt; lock.try_lock(&mut first));
     assert!(rt; !lock.try_lock(&mut second));
-    equal(&rt, lock.is_locked(&mut second), true);
-    equal(&rt, (first.holds(), second.holds()), (true, false));
+    let seen = [lock.is_locked(&mut second), first.holds(), second.holds()];
     lock.write(&mut first, 9);
-    equal(&rt, lock.read(&mut first), 9);
+    let written = lock.read(&mut first);
     lock.unlock(&mut first);
-    equal(&rt, first.holds(), false);
+    equal(&rt, (seen, first.holds()), ([true, true, false], false));
     assert!(rt; lock.try_lock(&mut second));
-    equal(&rt, lock.read(&mut second), 9);
+    equal(&rt, [written, lock.read(&mut second)], [9; 2]);
 }
 
 // Adds 1 a hundred times; each time it tries until it acquires the lock.

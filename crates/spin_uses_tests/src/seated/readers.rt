@@ -20,33 +20,32 @@ fn readers_stand_beside_one_another(rt: HostRuntime) {
     assert!(rt; lock.try_read(&rt, &mut a));
     assert!(rt; lock.try_read(&rt, &mut b));
     assert!(rt; !lock.try_write(&mut c));
-    equal(&rt, lock.reader_count(&mut c), 2);
-    equal(&rt, lock.writer_count(&mut c), 0);
-    equal(&rt, lock.read(&mut b), 5);
+    let counts = [lock.reader_count(&mut c), lock.writer_count(&mut c)];
+    equal(&rt, (counts, lock.read(&mut b)), ([2, 0], 5));
     lock.unlock_read(&mut a);
     lock.unlock_read(&mut b);
-    equal(&rt, a.holds().is_none() && b.holds().is_none(), true);
+    equal(&rt, [a.holds().is_none(), b.holds().is_none()], [true; 2]);
 }
 
 #[test]
 fn a_writer_goes_on_as_a_reader(rt: HostRuntime) {
     let (lock, mut a, mut b, mut c) = open_for_three(rt.alloc(), 5).expect(&rt, "memory");
     assert!(rt; lock.try_write(&mut c));
-    equal(&rt, lock.writer_count(&mut a), 1);
+    let writers = lock.writer_count(&mut a);
     assert!(rt; !lock.try_read(&rt, &mut a));
     lock.write(&mut c, 9);
     lock.downgrade(&mut c);
     let is_reader = matches!(c.holds(), Some(SeatedHold::Read));
-    equal(&rt, is_reader, true);
     assert!(rt; lock.try_read(&rt, &mut a));
-    equal(&rt, lock.read(&mut a), 9);
+    let value = lock.read(&mut a);
     assert!(rt; !lock.try_write(&mut b));
-    equal(&rt, lock.reader_count(&mut b), 2);
+    let counts = [writers, lock.reader_count(&mut b)];
     lock.unlock_read(&mut a);
     lock.unlock_read(&mut c);
     assert!(rt; lock.try_write(&mut b));
     lock.unlock_write(&mut b);
-    equal(&rt, b.holds().is_none(), true);
+    equal(&rt, [is_reader, b.holds().is_none()], [true; 2]);
+    equal(&rt, (counts, value), ([1, 2], 9));
 }
 
 // Acquires the lock as a writer some times, and adds 1 each time. Then downgrades, and reads the number that it wrote.
@@ -130,6 +129,9 @@ fn two_threads_read_what_a_third_writes(rt: HostRuntime) {
     equal(rt, (added, first, second), (true, true, true));
     lock.meet(&mut a, &mut b);
     lock.meet(&mut a, &mut c);
-    equal(rt, lock.reader_count(&mut a), 0);
-    equal(rt, lock.writer_count(&mut a), 0);
+    equal(
+        rt,
+        [lock.reader_count(&mut a), lock.writer_count(&mut a)],
+        [0; 2],
+    );
 }

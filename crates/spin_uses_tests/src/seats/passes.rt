@@ -81,10 +81,9 @@ fn visit_beside_count<'a, W: Threads + Wait + Sync>(
 fn passes_know_one_history(rt: HostRuntime) {
     let seats: Seats<2> = Seats::new();
     let ((first, second), (count, third)) = visit_beside_count(&rt, &seats);
-    equal(&rt, count <= 2, true);
     let (first, second) = (first.enter(&rt), second.enter(&rt));
-    let (count, third) = look(third);
-    equal(&rt, count, 2);
+    let (taken, third) = look(third);
+    equal(&rt, (count <= 2, taken), (true, 2));
     let third = try_once(&rt, third).err().expect(&rt, "all are taken");
     drop(first.leave());
     drop(try_once(&rt, third).ok().expect(&rt, "one is free"));
