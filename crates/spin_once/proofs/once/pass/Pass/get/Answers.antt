@@ -9,5 +9,5 @@ pub returns-in-Ok : goal.returns-in-Ok
 returns-in-Ok g c =
     let it = c.read-account in
     let all = shown (here c.args.self.account) (here c.in-Ok.found.account) (here it.result.1)
-    (IsCall Get (Value tt)) it.result.0.now c.in-Ok.ensures.found it.ensures.same it.ensures.found in
+    (IsCall Get (Value tt)) it.result.0.now c.in-Ok.ensures it.ensures.same it.ensures.found in
     record { made = all.0; found = all.1 }
