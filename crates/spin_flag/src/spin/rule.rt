@@ -1,10 +1,10 @@
 //! What a party is to a `SpinMutex`, and what the word of the lock says of its parties. Begin at [`FlagRule`].
-ghost use Rattle.std.specs.Prelude.{◌≡◌, ℕ, refl};
+ghost use Rattle.std.specs.Prelude.{◌≡◌, Bool, true, false, refl};
 ghost use Rattle.spin_step.specs.Steps.{bit};
 ghost use Rattle.spin_core.specs.Cell.{use_of};
 ghost use Rattle.spin_core.specs.Own.{what};
 ghost use Rattle.spin_core.specs.Values.{untold};
-ghost use Rattle.spin_flag.specs.Flag.{IsFlag, Told, flag_ways, use_of_party, has_begun, set, looks_by, tries_by, frees_by, tried_by, looked_by};
+ghost use Rattle.spin_flag.specs.Flag.{IsFlag, Told, flag_ways, use_of_party, set, looks_by, tries_by, frees_by, looked_by};
 
 use spin_core::cell::{Play, Rule, WritePermit};
 use spin_core::guard::{self, Uses};
@@ -12,6 +12,7 @@ use spin_core::tie::{self, Opening};
 use spin_core::trace::{Trace, Watch};
 use spin_model::FlagCall;
 use spin_step::flag;
+use std::marker::PhantomData;
 
 /// What a party (one call, and the guard that it returns) is to the lock.
 #[derive(Clone, Copy)]
@@ -59,18 +60,33 @@ impl<T> Play<Opening<T>, Party, Entry<T>> for Load {
     ghost told = { λ key old new before. Told key.value looks_by before };
 }
 
-/// The compare-exchange of `try_lock`.
-pub(super) struct Attempt;
-
-impl<T> Play<Opening<T>, Party, Entry<T>> for Attempt {
-    ghost told = { λ key old new before. Told key.value tries_by before };
+/// A call that tries to acquire the lock.
+pub(super) trait Tries {
+    // Whether the call waits if it finds the flag set.
+    ghost waits: { Bool };
 }
 
-/// The compare-exchange of `lock`.
-pub(super) struct Tries;
+/// A call of `try_lock`.
+pub(super) struct Fails;
 
-impl<T> Play<Opening<T>, Party, Entry<T>> for Tries {
-    ghost told = { λ key old new before. Told key.value (tried_by (has_begun (what before))) before };
+impl Tries for Fails {
+    ghost waits = { false };
+}
+
+/// A call of `lock`.
+pub(super) struct Waits;
+
+impl Tries for Waits {
+    ghost waits = { true };
+}
+
+/// The compare-exchange of the call `K`.
+pub(super) struct Attempt<K> {
+    call: PhantomData<K>,
+}
+
+impl<K: Tries, T> Play<Opening<T>, Party, Entry<T>> for Attempt<K> {
+    ghost told = { λ key old new before. Told key.value (tries_by K.waits (what before)) before };
 }
 
 /// The load of `lock`.
