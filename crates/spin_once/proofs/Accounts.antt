@@ -1,12 +1,14 @@
 -- What a step tells a party that keeps a record of its calls, and how the party's steps add up to its calls.
 use Rattle.std.proofs.Common.{◌≡◌, ℕ, ◌+◌, Bool, true, false, Option, Some, None, List, [], ◌∷◌, ◌++◌, replicate, length, ◌≢◌, refl, sym, ap, ◌∙◌, subst}
 use Rattle.std.proofs.lemmas.List.{append_assoc}
-use Rattle.std.specs.Prelude.{Result, Ok, Err, IsSomeAnd}
+use Rattle.std.specs.Prelude.{Result, Ok, Err, IfErr}
 use mathlib.Core.Logic.{◌⊎◌, inl, inr}
 use Rattle.spin_core.specs.Cell.{Use, Moved, Keeps, Preserves, Rests, use_of, off, reads, writes}
 use Rattle.spin_core.specs.Own.{Numbered, what}
 use Rattle.spin_core.specs.Passes.{mark_of, Waits, Ends, Begins, IsCall, IsStep}
-use Rattle.spin_core.specs.Traced.{Watches, Named, Found}
+use Rattle.spin_core.specs.Traced.{Watches, Named}
+use Rattle.spin_core.specs.Traced as traced
+use Rattle.spin_once.specs.declared.once_core.account.Found.{Found}
 use Rattle.spin_core.specs.declared.trace.Watch.{Watch}
 use Rattle.spin_core.proofs.Passes as passes
 use Rattle.spin_core.proofs.Passes.{Learnt}
@@ -24,7 +26,7 @@ use Rattle.spin_core.specs.Stable.{maybe_stable}
 use Rattle.spin_core.specs.declared.cell.stable.MaybeStable.{MaybeStable}
 use Rattle.spin_core.specs.declared.tie.Opening.{Opening}
 use Rattle.spin_model.specs.Machines.{Machine}
-use Rattle.spin_once.specs.Accounts.{Place, Since, Turned, here, Claims, Attempts}
+use Rattle.spin_once.specs.Accounts.{Place, Since, Turned, here, Claims, Attempts, Finds}
 use Rattle.spin_once.specs.Model.{Point, model}
 use Rattle.spin_once.specs.OnceValues.{Valued, Made, bare, bare_watch, given_of, IsValue, Sees}
 use Rattle.spin_once.specs.Once.{OneMove, Ending, Moving, Moves, Says, IsMadeFrom, IsOnce, Told, once_ways, seat_of, words_of, use_of_view, use_of_party, call_from, point_of, is_out, has_begun, next_at, outcome_of, answered, view_of, Comes, turn_by, is_load, closure_call, in_closure, is_running, IsFailure, Fails, IsFailedCall}
@@ -81,7 +83,7 @@ module _ {T S : Type 0} (makes : S → T → Type 0) where
 
       -- After the step the party knows all moves up to this step, in the trace of its cell. If it uses the content, it sees the content.
       module _ (shown shown' : Option (MaybeStable (Stage T S))) (kept : Keeps (once_ways makes p.0) p.1 q.1 shown shown')
-          (learnt : Found (once_ways makes p.0) p.1 q.1 shown shown' q.2) where
+          (learnt : traced.Found (once_ways makes p.0) p.1 q.1 shown shown' q.2) where
         pub keeps : (use_of use_of_party p.1 ≡ use_of use_of_party q.1 → Sees p.0.opening p.2.entries (use_of use_of_party p.1) shown) → Knows shown'
         keeps sees =
             let told = marked q.1 (bared makes p.0 says (Of p.0 p.2.name) p.1 p.2 q.2 found q.1 moved) in
@@ -165,6 +167,12 @@ module _ {T S : Type 0} (p q r : Place T S) where
   pub call_fails : Since p (Begins (TryCallOnceOk tt) Waits) q → Since q Fails r → Since p IsFailedCall r
   call_fails = both (Begins (TryCallOnceOk tt) Waits) Fails IsFailedCall (passes.begun (TryCallOnceOk tt) Waits Fails Fails waits_fail)
 
+-- a party that has found no value is in no call
+pub none_out : {T S : Type 0} (c : OnceCall (Unit {0})) (p : Place T S) (r : Result (Found T S) (Account T S)) → Finds c p r
+    → IfErr r (λ none. is_out (what none.party.view) ≡ true)
+none_out c p (Ok found) so = tt
+none_out c p (Err none) so = ap is_out so.1
+
 -- ---- a call with a closure that waited before
 module _ {T S : Type 0} (b : Bool) (p q : Place T S) (since : Since p Waits q) where
   pub claims_on : (r : Claim T S) → Claims b q r → Claims b p r
@@ -238,7 +246,7 @@ module _ {T S : Type 0} (makes : S → T → Type 0) (me : InitPermit T S) (p q 
       (ap (λ (z : Place T S). what z.1) at ∙ call.1) (ap (λ st. st.next) (as_sure call.0 Run 0)) in
       (subst (λ z. Since z (Ends (Value tt)) q) at so.0, so.1)
 
-  pub reads_on : (shown shown' : Option (MaybeStable (Stage T S))) → Keeps (once_ways makes p.0) p.1 q.1 shown shown' → Found (once_ways makes p.0) p.1 q.1 shown shown' q.2
+  pub reads_on : (shown shown' : Option (MaybeStable (Stage T S))) → Keeps (once_ways makes p.0) p.1 q.1 shown shown' → traced.Found (once_ways makes p.0) p.1 q.1 shown shown' q.2
       → Knows makes p q 0 knew named same (turn_by (CallOnce tt) (what p.1)) moved shown'
   reads_on shown shown' kept learnt =
       let call = running_call (what me.account.party.view) me.runs in
