@@ -12,12 +12,11 @@ ghost use Rattle.spin_model.specs.declared.answer.Answer.TheVariants.{Granted, R
 ghost use Rattle.spin_model.specs.declared.flag.FlagCall.TheVariants.{Lock, TryLock, IsLocked};
 
 use super::account::Account;
-use super::rule::{Entry, Fails, Frees, Load, Waits, is_set, word};
+use super::rule::{Entry, Fails, Load, Waits, free, is_set};
 use super::{SpinMutex, SpinMutexGuard};
 use spin_core::guard::Guard;
 use spin_core::relax::RelaxStrategy;
 use spin_core::trace::Watch;
-use spin_step::flag;
 use std::marker::PhantomData;
 use std::sync::Wait;
 
@@ -81,9 +80,7 @@ impl<T, R> SpinMutex<T, R> {
         ensures left { IsLast (guard_key guard.entry) result.account.seen.entries (guard_value guard.entry) }
         ensures same { (result.account.seen.name ≡ seen.name) × (result.account.permit.key ≡ guard_key guard.entry) }
     {
-        let free = flag::unlock(true);
-        let permit = Guard::into_writer(guard).into_permit();
-        let (permit, seen) = permit.store::<Frees>(word(free), seen);
+        let (permit, seen) = free(Guard::into_writer(guard), seen);
         Pass {
             account: Account { permit, seen },
             strategy: PhantomData,

@@ -1,4 +1,4 @@
-use Rattle.std.proofs.Common.{None, Some, true, false, sym, ap, ◌∙◌}
+use Rattle.std.proofs.Common.{None, Some, true, false, ap, ◌∙◌}
 use Rattle.spin_core.specs.Own.{what}
 use Rattle.spin_core.specs.Passes.{IsStep}
 use Rattle.spin_core.proofs.Mutexes.{may_know}
