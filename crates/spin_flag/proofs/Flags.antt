@@ -20,7 +20,6 @@ use Rattle.spin_core.proofs.Mutexes.{Mutex, as_new, is_named, finds}
 use Rattle.spin_core.proofs.Owners.{OfHolders, one_holder}
 use Rattle.spin_core.proofs.Plays.{Lock as CellLock, Holds, ways, allows, by_step, looks_at, exchanges_at}
 use Rattle.spin_core.proofs.Plays as plays
-use Rattle.spin_core.proofs.Spots as spots
 use Rattle.spin_core.proofs.Spots.{stays_in, is_answered}
 use Rattle.std.specs.Prelude.{Result, Ok, Err, IfOk, IfErr}
 use Rattle.spin_core.specs.declared.guard.Guard.{Guard}
@@ -44,6 +43,7 @@ use Rattle.spin_core.specs.Values.{IsLast}
 use Rattle.spin_core.specs.declared.cell.Permit.{Permit}
 use Rattle.spin_core.specs.declared.trace.Watch.{Watch}
 use Rattle.spin_core.proofs.Passes as passes
+use Rattle.spin_core.proofs.Passes.{Learnt}
 use Rattle.spin_flag.specs.declared.spin.rule.View.{View}
 use Rattle.spin_flag.specs.declared.spin.rule.View.TheVariants.{Idle, Holding, Trying, Looking}
 
@@ -176,19 +176,18 @@ module _ {T : Type 0} (me : Account T) (it : Party T) (now : Watch (flags.Done T
   Steps says = Moved (Watches (Named (IsFlag me.permit.key) (flag_ways me.permit.key) me.seen.name) me.seen now (Told me.permit.key.value says me.permit.view) found)
 
   module _ (goes_on : Bool) (c : FlagCall) (end : ℕ → Ending T) (to : ℕ → View) (moved : Steps (step_by goes_on c end to) it.view) where
+    all : Learnt (model_at me.permit.key) me.permit.view it.view me.seen now (to found) (IsStep goes_on c (end found))
+    all =
+        passes.learnt (model_at me.permit.key) seat_of words_of (step_by goes_on c end to) to (λ n. IsStep goes_on c (end n)) (λ own outs n v said. said)
+        (Named (IsFlag me.permit.key) (flag_ways me.permit.key) me.seen.name) (is_named (mutex me.permit.key) me.seen me.named) me.permit.view it.view me.seen now
+        found me.knows moved
+
     pub stepped : Stepped model_at goes_on c (end found) (to found) (here me) (spot it now)
-    stepped =
-        spots.stepped model_at seat_of words_of (here me) (spot it now) same me.knows (is_named (mutex me.permit.key) me.seen me.named) found goes_on c end to moved
+    stepped = ((all.made, all.named, same), all.is)
 
     -- after the step the party knows all moves up to this step
     pub knows_again : record { named : it.key.name ≡ now.name; knows : mark_of it.view ≡ length now.entries }
-    knows_again = record { named = ap (λ k. k.name) same ∙ me.named ∙ sym stepped.0.1; knows = at it.view moved }
-      where
-        at : (view : Option (Numbered View)) → Steps (step_by goes_on c end to) view → mark_of view ≡ length now.entries
-        at None moved = absurd moved
-        at (Some v) moved =
-            (passes.learns (model_at me.permit.key) seat_of words_of (step_by goes_on c end to) (Named (IsFlag me.permit.key) (flag_ways me.permit.key) me.seen.name)
-            me.permit.view me.seen now found v me.knows moved).1
+    knows_again = record { named = ap (λ k. k.name) same ∙ me.named ∙ sym all.named; knows = all.knows }
 
   -- the step of an exchange; `b` says whether the exchange found the flag clear
   pub tried : (waits : Bool) → Steps (tries_by waits (what me.permit.view)) it.view → (b : Bool) → (found == 0) ≡ b

@@ -11,7 +11,7 @@ use Rattle.spin_ticket.proofs.ticket.TicketMutex.unlock.Goals as goal
 pub returns : goal.returns
 returns g c =
     let it = c.into_permit-permit in let is = c.into_writer.ensures in let seen = c.args.seen in let left = c.args.guard.writer in
-    let own = c.find_own-number in let end = c.serve-permit in let r = here end.result in
+    let own = c.find_own-number in let end = c.serve in let r = here end.result in
     let key = it.ensures.key ∙ ap (λ w. w.key) is in let view = it.ensures.same.0 ∙ ap (λ w. Some w.view) is in
     let held = own.ensures.holds left.value (it.ensures.same.1 ∙ ap (λ w. Some w.value) is) in
     let so = released_behind left.value (spot it.result seen) (here own.result.1) r own.ensures.since (end.ensures.releases left.value held.2) in
