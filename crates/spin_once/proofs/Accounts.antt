@@ -29,7 +29,7 @@ use Rattle.spin_model.specs.Machines.{Machine}
 use Rattle.spin_once.specs.Accounts.{Place, Since, Turned, here, Claims, Attempts, Finds}
 use Rattle.spin_once.specs.Model.{Point, model}
 use Rattle.spin_once.specs.OnceValues.{Valued, Made, bare, bare_watch, given_of, IsValue, Sees}
-use Rattle.spin_once.specs.Once.{OneMove, Ending, Moving, Moves, Says, IsMadeFrom, IsOnce, Told, once_ways, seat_of, words_of, use_of_view, use_of_party, call_from, point_of, is_out, has_begun, next_at, outcome_of, answered, view_of, Comes, turn_by, is_load, closure_call, in_closure, is_running, IsFailure, Fails, IsFailedCall}
+use Rattle.spin_once.specs.Once.{OneMove, Ending, Moving, Moves, Says, IsMadeFrom, IsOnce, Told, once_ways, seat_of, words_of, use_of_view, use_of_party, call_from, point_of, is_out, has_begun, next_at, outcome_of, answered, view_of, Comes, turn_by, is_load, closure_call, in_closure, is_running, IsFailure, fails_by, Fails, IsFailedCall}
 use Rattle.spin_once.proofs.Kept.{idle_rests, running_call, writes_at}
 use Rattle.spin_once.proofs.Moves.{Onward, as_sure}
 use Rattle.spin_once.proofs.Valued.{as_long, bared, Bared, stays, sees_on}
@@ -118,6 +118,10 @@ module _ {T S : Type 0} (makes : S → T → Type 0) where
           (bared makes p.0 says (Of p.0 p.2.name) p.1 p.2 q.2 found q.1 moved) in
           ((same, it.named, it.made), it.is)
 
+    -- the store after a closure that failed
+    pub failed : Took fails_by q.1 → Since p IsFailure q × (what q.1 ≡ Some Idle)
+    failed moved = made fails_by moved (λ n. Idle) (λ n. IsFailure) (λ own outs n v said. said)
+
     -- the next step of the party's call
     pub turned : (c : OnceCall (Unit {0})) → Took (turn_by c (what p.1)) q.1 → Turned c found p q
     turned c moved =
@@ -198,10 +202,8 @@ module _ {T S : Type 0} (p q : Place T S) (c : OnceCall (Unit {0})) (n : ℕ) (s
   first_by out is = subst (At None) is (by (what p.1) out step)
     where
       by : (view : Option View) → is_out view ≡ true → At view (next_at (call_from c view) (point_of view) n) → At None (next_at c Look n)
-      by None is at = at
-      by (Some Idle) is at = at
-      by (Some Reading) is at = at
       by (Some (InCall d l)) is at = absurd (cc is)
+      by _ is at = at
 
   -- a later step of a call
   pub next_by : (d : OnceCall (Unit {0})) (l : OncePoint) → what p.1 ≡ Some (InCall d l) → next_at d l n ≡ next → At (Some (InCall d l)) next
@@ -210,10 +212,8 @@ module _ {T S : Type 0} (p q : Place T S) (c : OnceCall (Unit {0})) (n : ℕ) (s
 -- ---- a call that looks again and again
 -- the next step of a party that is in no call is a load
 pub looks_first : (view : Option View) → is_out view ≡ true → is_load (point_of view) ≡ true
-looks_first None out = refl
-looks_first (Some Idle) out = refl
-looks_first (Some Reading) out = refl
 looks_first (Some (InCall c l)) out = absurd (cc out)
+looks_first _ out = refl
 
 -- from the point `p` on, the party has made no step yet, and begins the call `c` by the next one; or it is in this call, and looks next
 abbrev pub IsLooking : {T S : Type 0} → OnceCall (Unit {0}) → Place T S → Place T S → Type 0

@@ -32,12 +32,10 @@ use Rattle.spin_once.proofs.Valued.{valued, writes_none, plainly, bare_moves, Le
 
 -- a party whose next step is a load writes nothing
 load_reads : (view : Option View) → is_load (point_of view) ≡ true → use_of use_of_view view ≢ writes
-load_reads None is e = absurd (let d : off ≡ writes = e in cc)
-load_reads (Some Idle) is e = absurd (let d : off ≡ writes = e in cc)
+load_reads (Some (InCall c Run)) is e = absurd (cc is)
+load_reads (Some (InCall c TryBegin)) is e = absurd (cc is)
 load_reads (Some Reading) is e = absurd (let d : reads ≡ writes = e in cc)
-load_reads (Some (InCall c Look)) is e = absurd (let d : off ≡ writes = e in cc)
-load_reads (Some (InCall c Await)) is e = absurd (let d : off ≡ writes = e in cc)
-load_reads (Some _) is e = absurd (cc is)
+load_reads _ is e = absurd (let d : off ≡ writes = e in cc)
 
 -- while a closure runs the word is 1, and the history has no value
 abbrev at_one : ℕ → Type 0
@@ -218,8 +216,7 @@ module _ {T S : Type 0} (makes : S → T → Type 0) (key : Key T S) where
     where
       untold_is : (l : List T) (y : Stage T S) → IsMade key.opening.told l y
       untold_is l (Done value) = λ told. absurd (let d : false ≡ true = sym untold ∙ told in cc)
-      untold_is l (Seed it) = tt
-      untold_is l Taken = tt
+      untold_is l _ = tt
 
       untold_knows : (t : Trace (Valued T) (Unit {0})) (w : ℕ) (y : Stage T S) {A : Type 0} → A → Knowing (once_ways makes key).2 t w (maybe_stable y) A
       untold_knows t zero y a = (untold_is (made key.opening.value t.entries) y, a)
@@ -232,8 +229,7 @@ module _ {T S : Type 0} (makes : S → T → Type 0) (key : Key T S) where
     where
       at : (y : Stage T S) → IsMade false (made key.opening.value t.entries) y
       at (Done value) = λ told. absurd (let d : false ≡ true = told in cc)
-      at (Seed it) = tt
-      at Taken = tt
+      at _ = tt
   less t (suc w) x A known = known
 
   pub lends : Lends (IsOnce key.opening) (once_ways makes key) (IsOnce (lent_key key).opening) (once_ways makes (lent_key key))

@@ -11,7 +11,7 @@ use Rattle.spin_core.specs.Stable.{maybe_stable}
 use Rattle.spin_core.specs.declared.cell.stable.MaybeStable.{MaybeStable}
 use Rattle.spin_core.proofs.CellCounts.{moves, without}
 use Rattle.spin_model.specs.declared.once.OnceCall.{OnceCall}
-use Rattle.spin_model.specs.declared.once.OncePoint.TheVariants.{Look, Await, Run}
+use Rattle.spin_model.specs.declared.once.OncePoint.TheVariants.{TryBegin, Run}
 use Rattle.spin_once.specs.Once.{use_of_view, readers, runs, IsPhaseOf, in_phase, Word, once_ways, point_of, is_load}
 use Rattle.spin_once.specs.declared.once_core.rule.Key.{Key}
 use Rattle.spin_once.specs.declared.once_core.rule.View.{View}
@@ -140,12 +140,10 @@ module _ {T S : Type 0} (makes : S → T → Type 0) (key : Key T S) where
 
   pub loads : (view : Option View) → is_load (point_of view) ≡ true → (shown : Option Content) (to : ℕ → View) → Leads to
       → (view ≡ Some Reading → to 2 ≡ Reading) → Allowed view shown (λ n. n) (ComesTo to Any)
-  loads None is shown to leads finds = looks None shown to refl leads
-  loads (Some Idle) is shown to leads finds = looks (Some Idle) shown to refl leads
   loads (Some Reading) is shown to leads finds = reads_on shown to (finds refl)
-  loads (Some (InCall c Look)) is shown to leads finds = looks (Some (InCall c Look)) shown to refl leads
-  loads (Some (InCall c Await)) is shown to leads finds = looks (Some (InCall c Await)) shown to refl leads
-  loads (Some _) is shown to leads finds = absurd (cc is)
+  loads (Some (InCall c TryBegin)) is shown to leads finds = absurd (cc is)
+  loads (Some (InCall c Run)) is shown to leads finds = absurd (cc is)
+  loads view is shown to leads finds = looks view shown to refl leads
 
   -- ---- the exchange by which a call begins to run its closure
   pub begins : (view : Option View) (shown : Option Content) (c : OnceCall (Unit {0})) (to : ℕ → View) → use_of use_of_view view ≡ off → InCall c Run ≡ to 0
