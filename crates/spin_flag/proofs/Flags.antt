@@ -48,10 +48,8 @@ use Rattle.spin_flag.specs.declared.spin.rule.View.{View}
 use Rattle.spin_flag.specs.declared.spin.rule.View.TheVariants.{Idle, Holding, Trying, Looking}
 
 pub kind : (v : View) → OfHolders part v
-kind Idle = (refl, λ p. refl)
 kind Holding = (refl, λ p. refl)
-kind Trying = (refl, λ p. refl)
-kind Looking = (refl, λ p. refl)
+kind _ = (refl, λ p. refl)
 
 abbrev pub flag : CellLock View (Unit {0})
 flag = record {

@@ -37,7 +37,6 @@ joined [] later = refl
 joined (e ∷ es) later = ap (told_of e.0 e.1 (will_fail (es ++ later) e.0)) (joined es later) ∙ told_joined e.0 e.1 (will_fail (es ++ later) e.0) (before es later) (foretold later)
   where
     told_joined : (p : ℕ) (move : OneMove) (fails : Bool) (xs ys : List Made) → told_of p move fails (xs ++ ys) ≡ told_of p move fails xs ++ ys
-    told_joined p (Begin c) fails xs ys = refl
     told_joined p Weak fails xs ys = refl
     told_joined p _ fails xs ys = refl
 

@@ -125,10 +125,8 @@ module _ (given : Option (Unit {0})) where
   pub turn_moves : (c : Call) (view : Option View) (f : ℕ → ℕ) (Q : ℕ → Type 0) → ((n : ℕ) → (table (call_from c view) (point_of view) n).words ≡ f n)
       → ((n : ℕ) → IsFree (next_at (call_from c view) (point_of view) n))
       → Moves view f (Turns c view Q) (finding Q (turn_by c view))
-  turn_moves c None f Q words free = first_moves c f Q words free
-  turn_moves c (Some Idle) f Q words free = first_moves c f Q words free
-  turn_moves c (Some Reading) f Q words free = first_moves c f Q words free
   turn_moves c (Some (InCall d l)) f Q words free = next_moves d f Q l words free
+  turn_moves c _ f Q words free = first_moves c f Q words free
 
   -- the closure of the party's call has failed: the model's call continues as one whose closure fails
   pub fail_moves : (f : ℕ → ℕ) → ((n : ℕ) → f n ≡ 0) → Moves (Some (in_closure true Run)) f (ComesTo (λ n. Idle) (λ n. n ≡ 1)) (finding (λ n. n ≡ 1) fails_by)

@@ -63,7 +63,6 @@ module _ {T : Type 0} where
   none_written (move ∷ own) = by_move move ∙ none_written own
     where
       by_move : (move : OneMove) → value_of (plain_move move) ++ values_of (plainly own) ≡ values_of (plainly own)
-      by_move (Begin c) = refl
       by_move Weak = refl
       by_move _ = refl
 
