@@ -35,7 +35,7 @@ use Rattle.spin_flag.specs.Flag as flags
 use Rattle.spin_flag.specs.Flag.{part, IsFlag, Told, use_of_view, seat_of, model, model_at, words_of, flag_ways, use_of_party, Called, MayTry, has_begun, call_of, missed, missed_end, Says, looks_by, tries_by, frees_by, looked_by, if_clear}
 use Rattle.spin_flag.specs.Guards.{IsGranted}
 use Rattle.spin_flag.specs.Guards as guards
-use Rattle.spin_flag.specs.Waits.{Spot, Held, here, held_at, Gets, Attempts}
+use Rattle.spin_flag.specs.Waits.{Spot, Grant, here, held_at, Gets, Attempts}
 use Rattle.spin_flag.specs.declared.spin.account.Account.{Account}
 use Rattle.spin_flag.specs.declared.spin.rule.FlagRule.{FlagRule}
 use Rattle.spin_core.specs.Guard.{IsHolder, guard_key, guard_view, guard_value}
@@ -214,18 +214,18 @@ module _ {T : Type 0} (me : Account T) (it : Party T) (now : Watch (flags.Done T
 
 -- an attempt of a call that waited: the call is granted the lock, or still waits
 module _ {T P R S : Type 0} (q : Spot T) (begun : has_begun (what q.1) ≡ true) where
-  pub attempts_on : (p : Spot T) → IsIn model_at Lock p q → (r : Result (Held T P R S) (Account T)) → Attempts true q r
+  pub attempts_on : (p : Spot T) → IsIn model_at Lock p q → (r : Result (Grant T P R S) (Account T)) → Attempts true q r
       → IfOk r (Gets p) × IfErr r (λ next. IsIn model_at Lock p (here next))
   attempts_on p on (Ok held) (granted, since) =
       ((granted, is_answered model_at Lock p q (held_at held) on Granted (subst (λ b. Since model_at (IsStep b Lock (Answered Granted None)) q (held_at held)) begun since)), tt)
   attempts_on p on (Err next) (since, at) = (tt, stays_in model_at Lock p q (here next) on (subst (λ b. Since model_at (IsStep b Lock GoingOn) q (here next)) begun since))
 
-  pub looks_again : (r : Result (Held T P R S) (Account T)) → Attempts true q r → IfErr r (λ next. what next.permit.view ≡ Some Looking)
+  pub looks_again : (r : Result (Grant T P R S) (Account T)) → Attempts true q r → IfErr r (λ next. what next.permit.view ≡ Some Looking)
   looks_again (Ok held) so = tt
   looks_again (Err next) so = so.1
 
 -- what a call promises of a guard that it returns
-pub got : {T P R S : Type 0} (c : FlagCall) (p : Spot T) (held : Held T P R S) → IsGranted held.0 held.1 → HasCalled model_at c Granted p (held_at held)
+pub got : {T P R S : Type 0} (c : FlagCall) (p : Spot T) (held : Grant T P R S) → IsGranted held.0 held.1 → HasCalled model_at c Granted p (held_at held)
     → (IsHolder use_of_party held.0 × guards.Holds held.0 held.1) × ((held.1.name ≡ p.2.name) × (guard_key held.0 ≡ p.0)) × IsLast p.0 held.1.entries (guard_value held.0)
     × Called p.0.value c Granted p.1 p.2.entries (Some (guard_view held.0)) held.1.entries
 got c p held (holder, holds, last) (made, named, same) =

@@ -21,27 +21,27 @@ abbrev pub Spot : Type 0 → Type 0
 Spot T = spots.Spot (Opening T) View (Done T)
 
 -- a guard, and what its pass knows
-abbrev pub Held : (T P R S : Type 0) → Type 0
-Held T P R S = Guard T (Numbered View) P R (Opening T) S × Watch (Done T)
+abbrev pub Grant : (T P R S : Type 0) → Type 0
+Grant T P R S = Guard T (Numbered View) P R (Opening T) S × Watch (Done T)
 
 abbrev pub here : {T : Type 0} → Account T → Spot T
 here it = spot it.permit it.seen
 
 module _ {T P R S : Type 0} where
-  abbrev pub held_at : Held T P R S → Spot T
+  abbrev pub held_at : Grant T P R S → Spot T
   held_at (guard, seen) = (guard_key guard, Some (guard_view guard), seen)
 
   -- since `p` the party has made the call `lock`, which granted it this guard
-  abbrev pub Gets : Spot T → Held T P R S → Type 0
+  abbrev pub Gets : Spot T → Grant T P R S → Type 0
   Gets p held = IsGranted held.0 held.1 × HasCalled model_at Lock Granted p (held_at held)
 
   -- the result of an attempt: the call is granted the lock, or has found the flag set
-  abbrev pub Attempts : Bool → Spot T → Result (Held T P R S) (Account T) → Type 0
+  abbrev pub Attempts : Bool → Spot T → Result (Grant T P R S) (Account T) → Type 0
   Attempts waits p (Ok held) = IsGranted held.0 held.1 × Since model_at (IsStep (has_begun (what p.1)) (call_of waits) (Answered Granted None)) p (held_at held)
   Attempts waits p (Err next) = Stepped model_at (has_begun (what p.1)) (call_of waits) (missed_end waits) (missed waits) p (here next)
 
   -- the result of a look, with the attempt after it: the call that waited is granted the lock, or still waits
-  abbrev pub GoesOn : Spot T → Result (Held T P R S) (Account T) → Type 0
+  abbrev pub GoesOn : Spot T → Result (Grant T P R S) (Account T) → Type 0
   GoesOn q r =
       ((p : Spot T) → IsIn model_at Lock p q → IfOk r (Gets p) × IfErr r (λ next. IsIn model_at Lock p (here next)))
       × IfErr r (λ next. what next.permit.view ≡ Some Looking)
