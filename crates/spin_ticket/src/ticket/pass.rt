@@ -14,6 +14,7 @@ ghost use Rattle.spin_model.specs.declared.answer.Answer.TheVariants.{Granted, R
 ghost use Rattle.spin_model.specs.declared.ticket.TicketCall.{TicketCall};
 ghost use Rattle.spin_model.specs.declared.ticket.TicketCall.TheVariants.{Lock, TryLock, IsLocked};
 
+use super::account::{find_own, serve};
 use super::rule::{Await, Entry, LoadNext, Take};
 use super::waiting::{Account, Going, Grant, Place};
 use super::{HINTS_EACH, TicketMutex, TicketMutexGuard};
@@ -86,9 +87,10 @@ impl<T, R> TicketMutex<T, R> {
         ensures same { (result.account.seen.name ≡ seen.name) × (result.account.permit.key ≡ guard_key guard.entry) }
     {
         let permit = Guard::into_writer(guard).into_permit();
-        let (number, account) = Account { permit, seen }.find_own();
+        let (number, permit, seen) = find_own(permit, seen);
+        let (permit, seen) = serve(permit, seen, number);
         Pass {
-            account: account.serve(number),
+            account: Account { permit, seen },
             strategy: PhantomData,
         }
     }
