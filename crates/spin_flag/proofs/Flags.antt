@@ -195,7 +195,13 @@ module _ {T : Type 0} (me : Account T) (it : Party T) (now : Watch (flags.Done T
       subst (λ x. Stepped model_at on c (if x then Answered Granted None else missed_end waits) (if x then Holding else missed waits) (here me) (spot it now)) is
       (stepped on c (if_clear (Answered Granted None) (missed_end waits)) (if_clear Holding (missed waits)) moved)
 
-  -- the same, if the step led to a guard of this party
+  -- the same for the look of `lock`
+  pub looked : Steps looked_by it.view → (b : Bool) → (found == 0) ≡ b → Stepped model_at true Lock GoingOn (if b then Trying else Looking) (here me) (spot it now)
+  looked moved b is =
+      subst (λ x. Stepped model_at true Lock GoingOn (if x then Trying else Looking) (here me) (spot it now)) is
+      (stepped true Lock (λ n. GoingOn) (if_clear Trying Looking) moved)
+
+  -- an exchange that led to a guard of this party
   pub granted : {P R S : Type 0} (guard : Guard T (Numbered View) P R (Opening T) S) (course : Course T FlagCall (Answer T))
       → (Some (guard_view guard) ≡ it.view) × (Some (guard_value guard) ≡ it.value) × (guard_key guard ≡ it.key)
       → Since model_at course (here me) (spot it now) × (what it.view ≡ Some Holding) → mark_of it.view ≡ length now.entries
@@ -230,19 +236,6 @@ pub got : {T P R S : Type 0} (c : FlagCall) (p : Spot T) (held : Grant T P R S) 
     × Called p.0.value c Granted p.1 p.2.entries (Some (guard_view held.0)) held.1.entries
 got c p held (holder, holds, last) (made, named, same) =
     ((holder, holds), (named, same), subst (λ k. IsLast k held.1.entries (guard_value held.0)) same last, made)
-
--- if the code's test finds the flag clear, the word is 0; below, if the test finds the flag set, the word is not 0
-pub is_clear : (n : ℕ) → false ≡ flags.set n → (n == 0) ≡ true
-is_clear n is = at (n == 0) is where
-  at : (b : Bool) → false ≡ (if b then false else true) → b ≡ true
-  at true e = refl
-  at false e = cc (e)
-
-pub is_not_clear : (n : ℕ) → true ≡ flags.set n → (n == 0) ≡ false
-is_not_clear n is = at (n == 0) is where
-  at : (b : Bool) → true ≡ (if b then false else true) → b ≡ false
-  at false e = refl
-  at true e = cc (e)
 
 pub holding_of : (v : View) → use_of_view v ≡ writes → v ≡ Holding
 holding_of Holding e = refl

@@ -1,5 +1,5 @@
 //! What a party is to a `SpinMutex`, and what the word of the lock says of its parties. Begin at [`FlagRule`].
-ghost use Rattle.std.specs.Prelude.{◌≡◌, Bool, Some, true, false, length, refl};
+ghost use Rattle.std.specs.Prelude.{◌≡◌, ◌==◌, not, Bool, Some, true, false, length, refl};
 ghost use Rattle.spin_step.specs.Steps.{bit};
 ghost use Rattle.spin_core.specs.Cell.{use_of};
 ghost use Rattle.spin_core.specs.Own.{what};
@@ -153,7 +153,8 @@ pub(super) fn taken() -> u64
 
 /// Returns the flag that the word encodes.
 pub(super) fn is_set(word: u64) -> bool
-    ensures { result ≡ set word }
+    ensures set { result ≡ set word }
+    ensures clear { (word == 0) ≡ not result }
 {
     word != 0
 }

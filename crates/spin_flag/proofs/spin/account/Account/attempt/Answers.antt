@@ -6,7 +6,7 @@ use Rattle.spin_model.specs.declared.answer.Answer.TheVariants.{Granted}
 use Rattle.spin_model.specs.declared.schedule.Outcome.TheVariants.{Answered}
 use Rattle.spin_flag.specs.Flag.{has_begun, call_of, missed, missed_end, if_clear}
 use Rattle.spin_flag.specs.declared.spin.rule.View.TheVariants.{Holding}
-use Rattle.spin_flag.proofs.Flags.{mutex, tries, unused_trying, tried, knows_again, granted, is_clear, is_not_clear}
+use Rattle.spin_flag.proofs.Flags.{mutex, tries, unused_trying, tried, knows_again, granted}
 use Rattle.spin_flag.proofs.spin.account.Account.attempt.Goals as goal
 
 pub exchange-found-requires : goal.exchange-found-requires
@@ -17,7 +17,7 @@ exchange-found-requires g c =
 pub returns-then-is_set : goal.returns-then-is_set
 returns-then-is_set g c =
     let f = c.exchange-found in
-    tried c.args.self f.result.1 f.result.2 f.ensures.key f.result.0 g.K.Tries.waits f.ensures.moved false (is_not_clear f.result.0 c.if-is_set.ensures)
+    tried c.args.self f.result.1 f.result.2 f.ensures.key f.result.0 g.K.Tries.waits f.ensures.moved false c.if-is_set.ensures.clear
 
 pub returns-else-is_set : goal.returns-else-is_set
 returns-else-is_set g c =
@@ -26,7 +26,7 @@ returns-else-is_set g c =
     (if_clear Holding (missed waits)) f.ensures.moved in
     granted me f.result.1 f.result.2 f.ensures.key f.result.0 c.new.result (IsStep (has_begun view) (call_of waits) (Answered Granted None))
     (ap (λ p. Some p.view) is ∙ w.same.0, ap (λ p. Some p.value) is ∙ w.same.1, ap (λ p. p.key) is ∙ w.key)
-    (tried me f.result.1 f.result.2 f.ensures.key f.result.0 waits f.ensures.moved true (is_clear f.result.0 c.if-is_set.ensures)) again.knows f.ensures.found
+    (tried me f.result.1 f.result.2 f.ensures.key f.result.0 waits f.ensures.moved true c.if-is_set.ensures.clear) again.knows f.ensures.found
     (unused_trying me.permit.key me.permit.view me.permit.value waits c.requires)
 
 pub invariant_of-result : goal.invariant_of-result

@@ -24,4 +24,4 @@ pub returns-clause-made : goal.returns-clause-made
 returns-clause-made g c =
     let me = c.args.self.account in let f = c.load-found in let p = here me in let q = spot f.result.1 f.result.2 in
     let step = stepped me f.result.1 f.result.2 f.ensures.key f.result.0 false IsLocked (λ n. Answered (Is (set n)) None) (λ n. Idle) f.ensures.moved in
-    subst (λ b. Called p.0.value IsLocked (Is b) p.1 p.2.entries q.1 q.2.entries) (sym c.is_set.ensures) (in_one model_at IsLocked p q (Is (set f.result.0)) step.0).0
+    subst (λ b. Called p.0.value IsLocked (Is b) p.1 p.2.entries q.1 q.2.entries) (sym c.is_set.ensures.set) (in_one model_at IsLocked p q (Is (set f.result.0)) step.0).0
