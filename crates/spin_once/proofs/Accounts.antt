@@ -46,7 +46,8 @@ use Rattle.spin_once.specs.declared.once_core.rule.View.TheVariants.{Idle, Readi
 -- ---- one step
 
 -- a step of a call is the whole of its moves so far
-comes : (b : Bool) (c : OnceCall (Unit {0})) (next : Onward) (own : List OneMove) (outs : List Ending) → IsStep b c (outcome_of next) own outs → Comes b c next own outs
+comes : (b : Bool) (c : OnceCall (Unit {0})) (next : Onward) (own : List OneMove) (outs : List Ending) → IsStep b c (outcome_of next) own outs
+    → Comes b c next own outs
 comes true c (Continue l) own outs s = (1, s.0, s.1)
 comes true c (Answers a h) own outs s = (0, s.0, s.1)
 comes false c (Continue l) own outs s = (Step ∷ [], GoingOn ∷ [], s.0, s.1, (1, refl, refl))
@@ -79,7 +80,12 @@ module _ {T S : Type 0} (makes : S → T → Type 0) where
       knew_all = knew ∙ sym (as_long p.2.entries)
 
       abbrev Knows : Option (MaybeStable (Stage T S)) → Type 0
-      Knows shown = record { named : q.0.opening.name ≡ q.2.name; knows : mark_of q.1 ≡ length q.2.entries; finds : Sees q.0.opening q.2.entries (use_of use_of_party q.1) shown }
+      Knows shown = record {
+        named : q.0.opening.name ≡ q.2.name;
+        knows : mark_of q.1 ≡ length q.2.entries;
+        finds : Sees q.0.opening q.2.entries
+            (use_of use_of_party q.1) shown;
+      }
 
       -- After the step the party knows all moves up to this step, in the trace of its cell. If it uses the content, it sees the content.
       module _ (shown shown' : Option (MaybeStable (Stage T S))) (kept : Keeps (once_ways makes p.0) p.1 q.1 shown shown')
@@ -227,7 +233,8 @@ module _ {T S : Type 0} (c : OnceCall (Unit {0})) (p q : Place T S) where
   pub looked : (r : Place T S) (n : ℕ) → IsLooking c p q → Turned c n q r → (next : Onward) → next_at c Look n ≡ next
       → Since p (Comes false c next) r × (what r.1 ≡ Some (view_of c next))
   looked r n (inl at) step next is =
-      let so = first_by q r c n step next (ap (λ (z : Place T S). is_out (what z.1)) at.0 ∙ at.1) is in (subst (λ z. Since z (Comes false c next) r) at.0 so.0, so.1)
+      let so = first_by q r c n step next (ap (λ (z : Place T S). is_out (what z.1)) at.0 ∙ at.1) is in
+      (subst (λ z. Since z (Comes false c next) r) at.0 so.0, so.1)
   looked r n (inr at) step next is = let so = next_by q r c n step next c Look at.1 is in (call_on p q r c next at.0 so.0, so.1)
 
 -- The permit's party has put a value into the cell, and so come to the point `p`. By the store that ends its call it comes to `q`.
@@ -246,7 +253,8 @@ module _ {T S : Type 0} (makes : S → T → Type 0) (me : InitPermit T S) (p q 
       (ap (λ (z : Place T S). what z.1) at ∙ call.1) (ap (λ st. st.next) (as_sure call.0 Run 0)) in
       (subst (λ z. Since z (Ends (Value tt)) q) at so.0, so.1)
 
-  pub reads_on : (shown shown' : Option (MaybeStable (Stage T S))) → Keeps (once_ways makes p.0) p.1 q.1 shown shown' → traced.Found (once_ways makes p.0) p.1 q.1 shown shown' q.2
+  pub reads_on : (shown shown' : Option (MaybeStable (Stage T S))) → Keeps (once_ways makes p.0) p.1 q.1 shown shown'
+      → traced.Found (once_ways makes p.0) p.1 q.1 shown shown' q.2
       → Knows makes p q 0 knew named same (turn_by (CallOnce tt) (what p.1)) moved shown'
   reads_on shown shown' kept learnt =
       let call = running_call (what me.account.party.view) me.runs in

@@ -149,7 +149,8 @@ module _ {T S : Type 0} (makes : S → T → Type 0) (key : Key T S) where
       ends = subst (λ r. Stores view done (λ _. 2) (turn_by first r)) (sym is)
           (valued makes key view done (λ _. 2) exact (stored says) (λ own. Write value ∷ []) any_word (λ own outs n u said. sym said.0.1.0) puts
           (traces view done (λ _. 2) (Turns first running at_one) exact (rw is (turn_moves given first running (λ _. 2) at_one (end_words b) (end_free b)))
-          (rw is (subst (λ to. steps.Allowed makes key running done (λ _. 2) (ComesTo to at_one)) (λ i n. sym (reads_at n) i) (steps.ends makes key c value is_made)))))
+          (rw is (subst (λ to. steps.Allowed makes key running done (λ _. 2) (ComesTo to at_one)) (λ i n. sym (reads_at n) i)
+          (steps.ends makes key c value is_made)))))
 
   pub gives_up : (view : Option (Numbered View)) → what view ≡ Some (in_closure true Run)
       → Stores view (Some (maybe_stable (Seed key.seed.value))) (λ _. 0) fails_by

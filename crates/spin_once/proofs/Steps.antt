@@ -168,20 +168,27 @@ module _ {T S : Type 0} (makes : S → T → Type 0) (key : Key T S) where
   alone c _ id vs at has = absurd (let run = run_after id (Some (InCall c Run)) vs Idle at in omega (arith, has, run))
 
   -- a store by this party leads to the view `v` and the word `new`, if the content then suits both
-  closes : (c : OnceCall (Unit {0})) (shown : Option Content) (v : View) (new : ℕ) → ((r w : ℕ) → r ≡ reading (use_of_view v) → w ≡ writing (use_of_view v) → Numbers new r w)
+  closes : (c : OnceCall (Unit {0})) (shown : Option Content) (v : View) (new : ℕ)
+      → ((r w : ℕ) → r ≡ reading (use_of_view v) → w ≡ writing (use_of_view v) → Numbers new r w)
       → ((r : ℕ) (A : Type 0) → A → Going way writes (use_of_view v) shown r A)
       → Allowed (Some (InCall c Run)) shown (λ _. new) (ComesTo (λ n. v) (λ n. n ≡ 1))
   closes c shown v new fits suits id n m vs has at small =
       let one = alone c n id vs at (numbers n m vs has.0) in let us = after id (Some (InCall c Run)) vs v in
-      let see = see_after id (Some (InCall c Run)) vs v at in let run = run_after id (Some (InCall c Run)) vs v at in
-      (v, suits (readers vs) (Meets Word plain_ways new m us) (meets new m us (fits (readers us) (runs us) (omega (arith, see, one)) (omega (arith, run, one))) has.0.3), (refl, one.0))
+      let see = see_after id (Some (InCall c Run)) vs v at in let run = run_after id (Some (InCall c Run)) vs v at in (
+        v,
+        suits (readers vs) (Meets Word plain_ways new m us) (meets new m us
+            (fits (readers us) (runs us) (omega (arith, see, one)) (omega (arith, run, one))) has.0.3),
+        (refl, one.0),
+      )
 
   pub ends : (c : OnceCall (Unit {0})) (value : T) → makes key.seed.value value
       → Allowed (Some (InCall c Run)) (Some (maybe_stable (Done value))) (λ _. 2) (ComesTo (λ n. Reading) (λ n. n ≡ 1))
   ends c value made = closes c (Some (maybe_stable (Done value))) Reading 2 (λ r w e f. (omega arith, f)) (λ r A a. ((λ e. refl), made, a))
 
-  pub gives_up : (c : OnceCall (Unit {0})) → Allowed (Some (InCall c Run)) (Some (maybe_stable (Seed key.seed.value))) (λ _. 0) (ComesTo (λ n. Idle) (λ n. n ≡ 1))
-  gives_up c = closes c (Some (maybe_stable (Seed key.seed.value))) Idle 0 (λ r w e f. (e, f)) (λ r A a. ((λ e. absurd (let d : writes ≡ reads = e in cc)), refl, a))
+  pub gives_up : (c : OnceCall (Unit {0})) → Allowed (Some (InCall c Run)) (Some (maybe_stable (Seed key.seed.value))) (λ _. 0)
+      (ComesTo (λ n. Idle) (λ n. n ≡ 1))
+  gives_up c = closes c (Some (maybe_stable (Seed key.seed.value))) Idle 0 (λ r w e f. (e, f))
+      (λ r A a. ((λ e. absurd (let d : writes ≡ reads = e in cc)), refl, a))
 
 -- which parties may leave
 pub idle_rests : Rests Word use_of_view (Some Idle)

@@ -10,7 +10,8 @@ use Rattle.spin_once.proofs.once.make.find_or_try.Goals as goal
 pub returns-in-Err-clause-found : goal.returns-in-Err-clause-found
 returns-in-Err-clause-found g c =
     let p = here c.args.account in let q = here c.in-Err.account in
-    IfOk-weaker c.try_make.result _ _ (λ found later. call_on p q (here found.account) (TryCallOnceOk tt) (Answers (Value tt) None) c.in-Err.ensures.wants.0 later)
+    IfOk-weaker c.try_make.result _ _ (λ found later. call_on p q (here found.account) (TryCallOnceOk tt) (Answers (Value tt) None) c.in-Err.ensures.wants.0
+    later)
     c.try_make.ensures.found
 
 pub returns-in-Err-clause-failed : goal.returns-in-Err-clause-failed

@@ -14,7 +14,8 @@ returns g c =
     let so : Since me call (here c.match-come.found.account) = elim c.match-come.branch [
       | in-Ok w ↦ subst (λ x. Since me call (here x.account)) (sym w.found-is) w.in-Ok.ensures.found
       | in-Err w ↦ subst (λ x. Since me call (here x.account)) (sym w.found-is)
-          (call_on me (here w.in-Err.account) (here w.make-found.result.account) (CallOnce tt) (Answers (Value tt) None) w.in-Err.ensures.wants.0 w.make-found.ensures)
+          (call_on me (here w.in-Err.account) (here w.make-found.result.account) (CallOnce tt) (Answers (Value tt) None) w.in-Err.ensures.wants.0
+          w.make-found.ensures)
     ] in
     let all = shown me (here c.match-come.found.account) (here it.result.1) call it.result.0.now so it.ensures.same it.ensures.found in
     record { made = all.0; found = all.1 }

@@ -33,6 +33,7 @@ pub invariant_of-result-2 : goal.invariant_of-result-2
 invariant_of-result-2 g c =
     let f = c.exchange-found in let b = g.C.Closure.may_fail in let call = closure_call b in
     record {
-      runs = runs_closure b (what f.result.1.party.view) (next_by (here c.args.self) (here f.result.1) call f.result.0 f.ensures.turned (Continue Run) call TryBegin c.requires
+      runs = runs_closure b (what f.result.1.party.view) (next_by (here c.args.self) (here f.result.1) call f.result.0 f.ensures.turned (Continue Run) call
+          TryBegin c.requires
           (closure_at b TryBegin Run refl f.result.0 c.if-found-ne-NOTHING.false)).1;
     }

@@ -8,4 +8,5 @@ loop-preserved g c =
     (tt, tt, failed.1, and_waits (here c.args.self) (here c.loop.account) (here c.in-Err-look_and_begin.next) now.3 failed.0)
 
 pub returns-in-Ok-look_and_begin : goal.returns-in-Ok-look_and_begin
-returns-in-Ok-look_and_begin g c = claims_on g.C.Closure.may_fail (here c.args.self) (here c.loop.account) c.loop.invariant.3 c.in-Ok-look_and_begin.claim c.in-Ok-look_and_begin.ensures
+returns-in-Ok-look_and_begin g c = claims_on g.C.Closure.may_fail (here c.args.self) (here c.loop.account) c.loop.invariant.3 c.in-Ok-look_and_begin.claim
+    c.in-Ok-look_and_begin.ensures

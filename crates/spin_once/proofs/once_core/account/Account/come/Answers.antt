@@ -21,4 +21,5 @@ returns-then-found-eq-COMPLETE-clause-found g c =
 pub returns-else-found-eq-COMPLETE-clause-wants : goal.returns-else-found-eq-COMPLETE-clause-wants
 returns-else-found-eq-COMPLETE-clause-wants g c =
     let f = c.load-found in let b = g.C.Closure.may_fail in
-    first_by (here c.args.self) (here f.result.1) (closure_call b) f.result.0 f.ensures (Continue TryBegin) c.requires (come_on f.result.0 c.if-found-eq-COMPLETE.false b)
+    first_by (here c.args.self) (here f.result.1) (closure_call b) f.result.0 f.ensures (Continue TryBegin) c.requires
+    (come_on f.result.0 c.if-found-eq-COMPLETE.false b)

@@ -33,4 +33,5 @@ pub invariant_of-result : goal.invariant_of-result
 invariant_of-result g c =
     let me = c.args.self in let f = c.exchange-found in
     keeps g.S.Seed.makes (here me) (spot f.result.1 f.result.2) f.result.0 me.knows me.named f.ensures.key
-    (turn_by (closure_call g.C.Closure.may_fail) (what me.party.view)) f.ensures.moved me.party.value f.result.1.value f.ensures.kept f.ensures.found (λ same. me.finds)
+    (turn_by (closure_call g.C.Closure.may_fail) (what me.party.view)) f.ensures.moved me.party.value f.result.1.value f.ensures.kept f.ensures.found
+    (λ same. me.finds)

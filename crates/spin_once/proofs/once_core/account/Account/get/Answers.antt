@@ -16,8 +16,10 @@ load-found-requires g c = looks_first (what c.args.self.party.view) c.requires
 pub returns-then-found-eq-COMPLETE : goal.returns-then-found-eq-COMPLETE
 returns-then-found-eq-COMPLETE g c =
     let f = c.load-found in
-    (first_by (here c.args.self) (here f.result.1) Get f.result.0 f.ensures (Answers (Value tt) None) c.requires (ap (next_at Get Look) c.if-found-eq-COMPLETE.true)).0
+    (first_by (here c.args.self) (here f.result.1) Get f.result.0 f.ensures (Answers (Value tt) None) c.requires
+    (ap (next_at Get Look) c.if-found-eq-COMPLETE.true)).0
 
 pub returns-else-found-eq-COMPLETE : goal.returns-else-found-eq-COMPLETE
 returns-else-found-eq-COMPLETE g c =
-    let f = c.load-found in first_by (here c.args.self) (here f.result.1) Get f.result.0 f.ensures (Answers NoValue None) c.requires (get_none f.result.0 c.if-found-eq-COMPLETE.false)
+    let f = c.load-found in first_by (here c.args.self) (here f.result.1) Get f.result.0 f.ensures (Answers NoValue None) c.requires
+    (get_none f.result.0 c.if-found-eq-COMPLETE.false)

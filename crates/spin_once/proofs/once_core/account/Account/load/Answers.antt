@@ -20,5 +20,6 @@ returns g c =
 pub invariant_of-result : goal.invariant_of-result
 invariant_of-result g c =
     let me = c.args.self in let f = c.load-found in
-    keeps g.S.Seed.makes (here me) (spot f.result.1 f.result.2) f.result.0 me.knows me.named f.ensures.key (turn_by g.C.Call.call (what me.party.view)) f.ensures.moved
+    keeps g.S.Seed.makes (here me) (spot f.result.1 f.result.2) f.result.0 me.knows me.named f.ensures.key (turn_by g.C.Call.call (what me.party.view))
+    f.ensures.moved
     me.party.value f.result.1.value f.ensures.kept f.ensures.found (λ same. me.finds)

@@ -18,8 +18,12 @@ load-found-requires g c = looks_next Poll (here c.args.self) (here c.loop.accoun
 
 pub loop-preserved : goal.loop-preserved
 loop-preserved g c =
-    let f = c.load-found in
-    (tt, tt, inr (looked Poll (here c.args.self) (here c.loop.account) (here f.result.1) f.result.0 c.loop.invariant.2 f.ensures (Continue Look) (poll_on f.result.0 c.if-found-eq-COMPLETE.false c.if-found-eq-NOTHING.false)))
+    let f = c.load-found in (
+      tt,
+      tt,
+      inr (looked Poll (here c.args.self) (here c.loop.account) (here f.result.1) f.result.0 c.loop.invariant.2 f.ensures (Continue Look)
+          (poll_on f.result.0 c.if-found-eq-COMPLETE.false c.if-found-eq-NOTHING.false)),
+    )
 
 pub returns-then-found-eq-COMPLETE : goal.returns-then-found-eq-COMPLETE
 returns-then-found-eq-COMPLETE g c =

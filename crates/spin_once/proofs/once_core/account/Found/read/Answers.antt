@@ -11,6 +11,7 @@ use Rattle.spin_once.proofs.once_core.account.Found.read.Goals.{in-Done, in_defa
 pub returns-clause-found : goal.returns-clause-found
 returns-clause-found g c =
     let me = c.args.self.account in let view = me.party.view in let s = c.show-party in
-    let there : me.party.value ≡ Some (maybe_stable (Done c.known.result.now)) = elim c.match-slot.branch [ in-Done w ↦ search rules | in_default w ↦ search rules ] in
+    let there : me.party.value ≡ Some (maybe_stable (Done c.known.result.now)) = elim c.match-slot.branch
+    [ in-Done w ↦ search rules | in_default w ↦ search rules ] in
     subst (λ k. IsValue k.opening me.seen.entries c.known.result.now) (sym s.ensures.key)
     ((me.finds (ap uses (sym (tie.same_use use_of_view view) ∙ ap (use_of use_of_view) c.args.self.reads))).1 c.known.result.now there)
