@@ -1,26 +1,29 @@
 -- The steps of a lock of one flag keep its rule. Each step makes the plain step of its step function, and its moves of the lock's model.
-use Rattle.std.proofs.Common.{◌≡◌, ℕ, [], ◌∷◌, ◌==◌, Bool, true, false, Option, Some, None, if◌then◌else◌, refl, ap, subst, arith, length, inl, inr}
+use Rattle.std.proofs.Common.{◌≡◌, ℕ, [], ◌∷◌, ◌==◌, Bool, true, false, Option, Some, None, if◌then◌else◌, refl, sym, ap, ◌∙◌, subst, arith, length, inl, inr}
 use prog.Atomic.{either}
 use Rattle.spin_step.specs.Plain.{writing, releases, to_write, flag_word}
 use Rattle.spin_step.proofs.Exclusive.{writes_alone}
 use Rattle.spin_step.proofs.Flags.{flag_lock-grants, flag_unlock-gives}
 use Rattle.spin_step.proofs.Holders.{is_holder-from_entries}
-use Rattle.spin_core.specs.Cell.{alone, reads, writes, use_of, AllowsAt, Meets, Moved}
+use Rattle.spin_core.specs.Cell.{off, alone, reads, writes, use_of, AllowsAt, Meets, Moved}
 use Rattle.spin_core.specs.Own.{Numbered, what}
-use Rattle.spin_core.specs.Passes.{IsOut, Ending, step_by, leaves_by, mark_of}
+use Rattle.spin_core.specs.Passes.{Course, IsOut, IsStep, Ending, step_by, leaves_by, mark_of}
 use Rattle.spin_core.specs.Plays.{exchanges}
-use Rattle.spin_core.specs.Spots.{Stepped}
-use Rattle.spin_core.specs.Traced.{Watches, Named}
+use Rattle.spin_core.specs.Spots.{spot, Since, Stepped, IsIn, HasCalled}
+use Rattle.spin_core.specs.Traced.{Watches, Named, Found}
 use Rattle.spin_core.specs.Views.{idle, no_word}
 use Rattle.spin_core.specs.declared.tie.Opening.{Opening}
 use Rattle.spin_core.specs.declared.trace.Trace.{Trace}
 use Rattle.spin_core.proofs.Leaving.{flag_word-up, no_word-up}
 use Rattle.spin_core.proofs.Mutexes as mutexes
-use Rattle.spin_core.proofs.Mutexes.{Mutex, as_new, is_named}
+use Rattle.spin_core.proofs.Mutexes.{Mutex, as_new, is_named, finds}
 use Rattle.spin_core.proofs.Owners.{OfHolders, one_holder}
 use Rattle.spin_core.proofs.Plays.{Lock as CellLock, Holds, ways, allows, by_step, looks_at, exchanges_at}
 use Rattle.spin_core.proofs.Plays as plays
-use Rattle.spin_core.proofs.Spots as spots
+use Rattle.spin_core.proofs.Spots.{stays_in, is_answered}
+use Rattle.std.specs.Prelude.{Result, Ok, Err, IfOk, IfErr}
+use Rattle.spin_core.specs.declared.guard.Guard.{Guard}
+use Rattle.spin_model.specs.declared.answer.Answer.{Answer}
 use Rattle.spin_core.proofs.Views.{release-own, part_before}
 use Rattle.spin_model.specs.declared.answer.Answer.TheVariants.{Granted, Refused, Is, Done}
 use Rattle.spin_model.specs.declared.flag.FlagCall.{FlagCall}
@@ -29,16 +32,24 @@ use Rattle.spin_model.specs.declared.flag.FlagPoint.{FlagPoint}
 use Rattle.spin_model.specs.declared.schedule.Move.TheVariants.{Begin, Step, Write}
 use Rattle.spin_model.specs.declared.schedule.Outcome.TheVariants.{Begun, Answered, GoingOn, Written}
 use Rattle.spin_flag.specs.Flag as flags
-use Rattle.spin_flag.specs.Flag.{part, IsFlag, Told, use_of_view, seat_of, model, model_at, words_of, flag_ways, MayTry, has_begun, Says, looks_by, tries_by, frees_by, tried_by, looked_by, if_clear}
-use Rattle.spin_flag.specs.Waits.{Spot}
+use Rattle.spin_flag.specs.Flag.{part, IsFlag, Told, use_of_view, seat_of, model, model_at, words_of, flag_ways, use_of_party, Called, MayTry, has_begun, call_of, missed, missed_end, Says, looks_by, tries_by, frees_by, looked_by, if_clear}
+use Rattle.spin_flag.specs.Guards.{IsGranted}
+use Rattle.spin_flag.specs.Guards as guards
+use Rattle.spin_flag.specs.Waits.{Spot, Grant, here, held_at, Gets, Attempts}
+use Rattle.spin_flag.specs.declared.spin.account.Account.{Account}
+use Rattle.spin_flag.specs.declared.spin.rule.FlagRule.{FlagRule}
+use Rattle.spin_core.specs.Guard.{IsHolder, guard_key, guard_view, guard_value}
+use Rattle.spin_core.specs.Values.{IsLast}
+use Rattle.spin_core.specs.declared.cell.Permit.{Permit}
+use Rattle.spin_core.specs.declared.trace.Watch.{Watch}
+use Rattle.spin_core.proofs.Passes as passes
+use Rattle.spin_core.proofs.Passes.{Learnt}
 use Rattle.spin_flag.specs.declared.spin.rule.View.{View}
 use Rattle.spin_flag.specs.declared.spin.rule.View.TheVariants.{Idle, Holding, Trying, Looking}
 
 pub kind : (v : View) → OfHolders part v
-kind Idle = (refl, λ p. refl)
 kind Holding = (refl, λ p. refl)
-kind Trying = (refl, λ p. refl)
-kind Looking = (refl, λ p. refl)
+kind _ = (refl, λ p. refl)
 
 abbrev pub flag : CellLock View (Unit {0})
 flag = record {
@@ -54,6 +65,9 @@ flag = record {
   fits = one_holder part kind 0;
   names_nobody = (flag_word-up, no_word-up);
 }
+
+abbrev Party : Type 0 → Type 0
+Party T = Permit T (Numbered View) FlagRule (Opening T) (Trace (flags.Done T) (Unit {0}))
 
 abbrev pub mutex : {T : Type 0} → Opening T → Mutex Bool T FlagCall FlagPoint View (Unit {0})
 mutex opening = record { plain = flag; model = model opening.value; seat_of = seat_of; words_of = words_of; opening = opening; idle_sits = refl }
@@ -82,18 +96,18 @@ module _ {T : Type 0} (opening : Opening T) where
   load_moves true value v is =
       rw is (Begin IsLocked ∷ Step ∷ [], Begun ∷ Answered (Is true) None ∷ [], (refl, (refl, refl)), refl, refl, true, value, refl, refl, refl)
 
-  attempt_moves : MovesTo None swapped (if_clear Holding Idle) tries_by
+  attempt_moves : MovesTo None swapped (if_clear Holding Idle) (tries_by false None)
   attempt_moves false value v is =
       rw is (Begin TryLock ∷ Step ∷ [], Begun ∷ Answered Granted None ∷ [], (refl, (refl, refl)), refl, refl, true, value, refl, refl, refl)
   attempt_moves true value v is =
       rw is (Begin TryLock ∷ Step ∷ [], Begun ∷ Answered Refused None ∷ [], (refl, (refl, refl)), refl, refl, true, value, refl, refl, refl)
 
-  first_moves : MovesTo None swapped (if_clear Holding Looking) (tried_by false)
+  first_moves : MovesTo None swapped (if_clear Holding Looking) (tries_by true None)
   first_moves false value v is =
       rw is (Begin Lock ∷ Step ∷ [], Begun ∷ Answered Granted None ∷ [], (refl, (refl, refl)), refl, refl, true, value, refl, refl, refl)
   first_moves true value v is = rw is (Begin Lock ∷ Step ∷ [], Begun ∷ GoingOn ∷ [], (refl, (refl, refl)), refl, refl, true, value, refl, refl, refl)
 
-  try_moves : MovesTo (Some Trying) swapped (if_clear Holding Looking) (tried_by true)
+  try_moves : MovesTo (Some Trying) swapped (if_clear Holding Looking) (tries_by true (Some Trying))
   try_moves false value v is = rw is (Step ∷ [], Answered Granted None ∷ [], (refl, (refl, refl)), refl, refl, true, value, refl, refl, refl)
   try_moves true value v is = rw is (Step ∷ [], GoingOn ∷ [], (refl, (refl, refl)), refl, refl, true, value, refl, refl, refl)
 
@@ -119,17 +133,20 @@ module _ {T : Type 0} (opening : Opening T) where
     looks out =
         mutexes.begins (mutex opening) view shown out (λ n. n) IsLocked _ _ load_moves (looks_at flag (what view) _ (nothing out) (λ n. refl))
 
-    pub attempts : IsOut Idle (what view) → Keeps view shown swapped tries_by
-    attempts out =
-        mutexes.begins (mutex opening) view shown out swapped TryLock _ _ attempt_moves (exchanges_flag (what view) Idle (nothing out) refl)
-
-    pub tries : MayTry (what view) → Keeps view shown swapped (tried_by (has_begun (what view)))
-    tries (inl out) = rw (as_new Idle has_begun refl (what view) out)
+    pub tries : (waits : Bool) → MayTry waits (what view) → Keeps view shown swapped (tries_by waits (what view))
+    tries false (inl out) = rw (as_new Idle has_begun refl (what view) out)
+        (mutexes.begins (mutex opening) view shown out swapped TryLock _ _ attempt_moves (exchanges_flag (what view) Idle (nothing out) refl))
+    tries true (inl out) = rw (as_new Idle has_begun refl (what view) out)
         (mutexes.begins (mutex opening) view shown out swapped Lock _ _ first_moves
         (exchanges_flag (what view) Looking (nothing out) refl))
-    tries (inr is) = rw (ap has_begun is)
-        (mutexes.in_call (mutex opening) view shown (ap (use_of use_of_view) is) swapped true Lock _ _ (rw is try_moves)
-        (exchanges_flag (what view) Looking (ap (part_before part) is) refl))
+    tries true (inr is) = rw (ap has_begun is.1)
+        (mutexes.in_call (mutex opening) view shown (ap (use_of use_of_view) is.1) swapped true Lock _ _ (rw is.1 try_moves)
+        (exchanges_flag (what view) Looking (ap (part_before part) is.1) refl))
+    tries false (inr is) = absurd (cc (is.0))
+
+    pub unused_trying : (waits : Bool) → MayTry waits (what view) → use_of use_of_view (what view) ≡ off
+    unused_trying waits (inl out) = mutexes.out_off (mutex opening) (what view) out
+    unused_trying waits (inr is) = ap (use_of use_of_view) is.1
 
     pub looks_on : what view ≡ Some Looking → Keeps view shown (λ n. n) looked_by
     looks_on is =
@@ -151,35 +168,74 @@ module _ {T : Type 0} (opening : Opening T) where
         refl,
       ))))
 
--- What a step tells its party
-module _ {T : Type 0} (p q : Spot T) (same : q.0 ≡ p.0) (named : p.0.name ≡ p.2.name) (knew : mark_of p.1 ≡ length p.2.entries) (found : ℕ) where
-  abbrev Steps : Says T → Type 0
-  Steps says = Moved (Watches (Named (IsFlag p.0) (flag_ways p.0) p.2.name) p.2 q.2 (Told p.0.value says p.1) found) q.1
+-- What a step tells a party that knew all moves up to its last step
+module _ {T : Type 0} (me : Account T) (it : Party T) (now : Watch (flags.Done T)) (same : it.key ≡ me.permit.key) (found : ℕ) where
+  abbrev Steps : Says T → Option (Numbered View) → Type 0
+  Steps says = Moved (Watches (Named (IsFlag me.permit.key) (flag_ways me.permit.key) me.seen.name) me.seen now (Told me.permit.key.value says me.permit.view) found)
 
-  pub stepped : (goes_on : Bool) (c : FlagCall) (end : ℕ → Ending T) (to : ℕ → View) → Steps (step_by goes_on c end to)
-      → Stepped model_at goes_on c (end found) (to found) p q
-  stepped = spots.stepped model_at seat_of words_of p q same knew (is_named (mutex p.0) p.2 named) found
+  module _ (goes_on : Bool) (c : FlagCall) (end : ℕ → Ending T) (to : ℕ → View) (moved : Steps (step_by goes_on c end to) it.view) where
+    all : Learnt (model_at me.permit.key) me.permit.view it.view me.seen now (to found) (IsStep goes_on c (end found))
+    all =
+        passes.learnt (model_at me.permit.key) seat_of words_of (step_by goes_on c end to) to (λ n. IsStep goes_on c (end n)) (λ own outs n v said. said)
+        (Named (IsFlag me.permit.key) (flag_ways me.permit.key) me.seen.name) (is_named (mutex me.permit.key) me.seen me.named) me.permit.view it.view me.seen now
+        found me.knows moved
+
+    pub stepped : Stepped model_at goes_on c (end found) (to found) (here me) (spot it now)
+    stepped = ((all.made, all.named, same), all.is)
+
+    -- after the step the party knows all moves up to this step
+    pub knows_again : record { named : it.key.name ≡ now.name; knows : mark_of it.view ≡ length now.entries }
+    knows_again = record { named = ap (λ k. k.name) same ∙ me.named ∙ sym all.named; knows = all.knows }
 
   -- the step of an exchange; `b` says whether the exchange found the flag clear
-  pub by_clear : (b : Bool) → (found == 0) ≡ b → (goes_on : Bool) (c : FlagCall) (won lost : Ending T) (taken away : View)
-      → Steps (step_by goes_on c (if_clear won lost) (if_clear taken away))
-      → Stepped model_at goes_on c (if b then won else lost) (if b then taken else away) p q
-  by_clear b is goes_on c won lost taken away moved =
-      subst (λ x. Stepped model_at goes_on c (if x then won else lost) (if x then taken else away) p q) is
-      (stepped goes_on c (if_clear won lost) (if_clear taken away) moved)
+  pub tried : (waits : Bool) → Steps (tries_by waits (what me.permit.view)) it.view → (b : Bool) → (found == 0) ≡ b
+      → Stepped model_at (has_begun (what me.permit.view)) (call_of waits) (if b then Answered Granted None else missed_end waits) (if b then Holding else missed waits) (here me) (spot it now)
+  tried waits moved b is =
+      let on = has_begun (what me.permit.view) in let c = call_of waits in
+      subst (λ x. Stepped model_at on c (if x then Answered Granted None else missed_end waits) (if x then Holding else missed waits) (here me) (spot it now)) is
+      (stepped on c (if_clear (Answered Granted None) (missed_end waits)) (if_clear Holding (missed waits)) moved)
 
--- if the code's test finds the flag clear, the word is 0; below, if the test finds the flag set, the word is not 0
-pub is_clear : (n : ℕ) → false ≡ flags.set n → (n == 0) ≡ true
-is_clear n is = at (n == 0) is where
-  at : (b : Bool) → false ≡ (if b then false else true) → b ≡ true
-  at true e = refl
-  at false e = cc (e)
+  -- the same for the look of `lock`
+  pub looked : Steps looked_by it.view → (b : Bool) → (found == 0) ≡ b → Stepped model_at true Lock GoingOn (if b then Trying else Looking) (here me) (spot it now)
+  looked moved b is =
+      subst (λ x. Stepped model_at true Lock GoingOn (if x then Trying else Looking) (here me) (spot it now)) is
+      (stepped true Lock (λ n. GoingOn) (if_clear Trying Looking) moved)
 
-pub is_not_clear : (n : ℕ) → true ≡ flags.set n → (n == 0) ≡ false
-is_not_clear n is = at (n == 0) is where
-  at : (b : Bool) → true ≡ (if b then false else true) → b ≡ false
-  at false e = refl
-  at true e = cc (e)
+  -- an exchange that led to a guard of this party
+  pub granted : {P R S : Type 0} (guard : Guard T (Numbered View) P R (Opening T) S) (course : Course T FlagCall (Answer T))
+      → (Some (guard_view guard) ≡ it.view) × (Some (guard_value guard) ≡ it.value) × (guard_key guard ≡ it.key)
+      → Since model_at course (here me) (spot it now) × (what it.view ≡ Some Holding) → mark_of it.view ≡ length now.entries
+      → Found (flag_ways me.permit.key) me.permit.view it.view me.permit.value it.value now → use_of use_of_view (what me.permit.view) ≡ off
+      → IsGranted guard now × Since model_at course (here me) (held_at (guard, now))
+  granted guard course (view, value, key) (since, at) knows known unused =
+      let holds : Some (guard_view guard).0 ≡ Some Holding = ap what view ∙ at in
+      let last = finds (mutex me.permit.key) me.permit.view it.view me.permit.value it.value now (guard_value guard) known unused (sym value) in (
+        (
+          ap (use_of use_of_view) holds,
+          (ap (λ k. k.name) (key ∙ same) ∙ me.named ∙ sym since.1, ap mark_of view ∙ knows),
+          subst (λ k. IsLast k now.entries (guard_value guard)) (sym (key ∙ same)) last,
+        ),
+        subst (λ (z : Spot T). Since model_at course (here me) z) (λ i. (sym key i, sym view i, now)) since,
+      )
+
+-- an attempt of a call that waited: the call is granted the lock, or still waits
+module _ {T P R S : Type 0} (q : Spot T) (begun : has_begun (what q.1) ≡ true) where
+  pub attempts_on : (p : Spot T) → IsIn model_at Lock p q → (r : Result (Grant T P R S) (Account T)) → Attempts true q r
+      → IfOk r (Gets p) × IfErr r (λ next. IsIn model_at Lock p (here next))
+  attempts_on p on (Ok held) (granted, since) =
+      ((granted, is_answered model_at Lock p q (held_at held) on Granted (subst (λ b. Since model_at (IsStep b Lock (Answered Granted None)) q (held_at held)) begun since)), tt)
+  attempts_on p on (Err next) (since, at) = (tt, stays_in model_at Lock p q (here next) on (subst (λ b. Since model_at (IsStep b Lock GoingOn) q (here next)) begun since))
+
+  pub looks_again : (r : Result (Grant T P R S) (Account T)) → Attempts true q r → IfErr r (λ next. what next.permit.view ≡ Some Looking)
+  looks_again (Ok held) so = tt
+  looks_again (Err next) so = so.1
+
+-- what a call promises of a guard that it returns
+pub got : {T P R S : Type 0} (c : FlagCall) (p : Spot T) (held : Grant T P R S) → IsGranted held.0 held.1 → HasCalled model_at c Granted p (held_at held)
+    → (IsHolder use_of_party held.0 × guards.Holds held.0 held.1) × ((held.1.name ≡ p.2.name) × (guard_key held.0 ≡ p.0)) × IsLast p.0 held.1.entries (guard_value held.0)
+    × Called p.0.value c Granted p.1 p.2.entries (Some (guard_view held.0)) held.1.entries
+got c p held (holder, holds, last) (made, named, same) =
+    ((holder, holds), (named, same), subst (λ k. IsLast k held.1.entries (guard_value held.0)) same last, made)
 
 pub holding_of : (v : View) → use_of_view v ≡ writes → v ≡ Holding
 holding_of Holding e = refl

@@ -7,7 +7,7 @@ use Rattle.spin_core.specs.Cell.{Use, alone, Ways}
 use Rattle.spin_core.specs.Views.{Part, idle, holds, Encodes, used_by, no_word}
 use Rattle.spin_core.specs.Own.{Numbered, Runs, Tells}
 use Rattle.spin_core.specs.Passes as passes
-use Rattle.spin_core.specs.Passes.{Course, IsOut, IsCall, WritesSome, step_by, leaves_by, Made, Between}
+use Rattle.spin_core.specs.Passes.{Course, Ending, IsOut, IsCall, WritesSome, step_by, leaves_by, Made, Between}
 use Rattle.spin_core.specs.Values.{last}
 use Rattle.spin_core.specs.declared.tie.Opening.{Opening}
 use Rattle.spin_core.specs.declared.trace.Trace.{Trace}
@@ -66,9 +66,17 @@ abbrev pub has_begun : Option View → Bool
 has_begun (Some Trying) = true
 has_begun _ = false
 
--- the party may make the exchange of `lock`: its call begins with it, or continues with it
-abbrev pub MayTry : Option View → Type 0
-MayTry view = IsOut Idle view ⊎ (view ≡ Some Trying)
+-- A call that tries to acquire the lock. `waits` says whether it waits if it finds the flag set.
+abbrev pub call_of : Bool → FlagCall
+call_of waits = if waits then Lock else TryLock
+
+-- the party may make the exchange of this call: the call begins with it, or continues with it
+abbrev pub MayTry : Bool → Option View → Type 0
+MayTry waits view = IsOut Idle view ⊎ ((waits ≡ true) × (view ≡ Some Trying))
+
+-- the view of a party whose exchange found the flag set
+abbrev pub missed : Bool → View
+missed waits = if waits then Looking else Idle
 
 -- For a lock of values of type T
 
@@ -104,13 +112,13 @@ module _ {T : Type 0} where
   abbrev pub looks_by : Says T
   looks_by = step_by false IsLocked (λ n. Answered (Is (set n)) None) (λ n. Idle)
 
-  -- the exchange of `try_lock`
-  abbrev pub tries_by : Says T
-  tries_by = step_by false TryLock (if_clear (Answered Granted None) (Answered Refused None)) (if_clear Holding Idle)
+  -- what the exchange of a call leads to, if it found the flag set
+  abbrev pub missed_end : Bool → Ending T
+  missed_end waits = if waits then GoingOn else Answered Refused None
 
-  -- the exchange of `lock`: with `true` the call is under way, with `false` it begins here
-  abbrev pub tried_by : Bool → Says T
-  tried_by goes_on = step_by goes_on Lock (if_clear (Answered Granted None) GoingOn) (if_clear Holding Looking)
+  -- the exchange of a call of a party with this view, which is in the call or begins it
+  abbrev pub tries_by : Bool → Option View → Says T
+  tries_by waits view = step_by (has_begun view) (call_of waits) (if_clear (Answered Granted None) (missed_end waits)) (if_clear Holding (missed waits))
 
   -- the look of `lock`
   abbrev pub looked_by : Says T

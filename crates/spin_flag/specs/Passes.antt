@@ -12,7 +12,7 @@ use Rattle.spin_flag.specs.declared.spin.rule.View.{View}
 module _ {T R : Type 0} where
   -- all moves in the lock, up to the pass's last step
   abbrev pub history : Pass T R → List (Done T)
-  history it = it.seen.entries
+  history it = it.account.seen.entries
 
   -- the name of a lock's history
   abbrev pub name_of : SpinMutex T R → ℕ
@@ -20,7 +20,7 @@ module _ {T R : Type 0} where
 
   -- the same name, by a pass of the lock
   abbrev pub lock_of : Pass T R → ℕ
-  lock_of it = it.seen.name
+  lock_of it = it.account.seen.name
 
   -- what was fixed when the lock was made: the name of its history, and the value that it opened with
   abbrev pub opening : SpinMutex T R → Opening T
@@ -28,11 +28,11 @@ module _ {T R : Type 0} where
 
   -- the same, by a pass of the lock
   abbrev pub opening_of : Pass T R → Opening T
-  opening_of it = it.permit.key
+  opening_of it = it.account.permit.key
 
   -- the party of the pass; there is none before its first call
   abbrev pub party : Pass T R → Option (Numbered View)
-  party it = it.permit.view
+  party it = it.account.permit.view
 
   -- from `before` to `now` the pass has made one call, `is_locked`, with this answer
   abbrev pub Looked : Bool → Pass T R → Pass T R → Type 0

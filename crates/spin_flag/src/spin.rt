@@ -1,13 +1,12 @@
 //! A spinning mutex of one flag: the thread that finds it clear sets it. Begin at [`SpinMutex::lock`].
-ghost use Rattle.std.specs.Prelude.{◌≡◌, true, Option, Some, IfSome};
+ghost use Rattle.std.specs.Prelude.{◌≡◌, true, Option, Some, None, [], IfSome};
 ghost use Rattle.std.specs.Fmt.{DisplaysOnOk};
 ghost use Rattle.spin_core.specs.Guard.{IsHolder};
 ghost use Rattle.spin_core.specs.Texts.{lock_text};
 ghost use Rattle.spin_flag.specs.Flag.{use_of_party};
 
-use self::pass::try_with;
-use self::rule::word;
-use self::waiting::Grant;
+use self::account::Account;
+use self::rule::{Waits, word};
 use spin_core::cell::Cell;
 use spin_core::guard::{self, Guard};
 use spin_core::lock::{Lock, with_guard};
@@ -19,9 +18,9 @@ use std::fmt;
 use std::fmt::{Debug, Formatter};
 use std::sync::Wait;
 
+mod account;
 mod pass;
 mod rule;
-mod waiting;
 
 pub use self::pass::Pass;
 pub use self::rule::{Entry, FlagRule, Party, View};
@@ -108,6 +107,17 @@ impl<T, R> SpinMutex<T, R> {
         }
     }
 
+    // Returns the account of a party that has made no call.
+    fn account(&self) -> Account<'_, T>
+        ensures new { (result.seen.name ≡ self.now.cell.name) × (result.seen.entries ≡ []) × (result.permit.view ≡ None) }
+        ensures lock { result.permit.key ≡ self.now.cell }
+    {
+        Account {
+            permit: self.cell.enter(),
+            seen: self.cell.watch(),
+        }
+    }
+
     /// Consumes the mutex and returns the value.
     ///
     /// It does not look at the flag, since no other thread has the mutex. So it also returns the value if a guard was
@@ -134,11 +144,11 @@ impl<T, R: RelaxStrategy> SpinMutex<T, R> {
     {
         // This repeats `Pass::lock`. A call of `Pass::lock` would make the path for a free lock two instructions
         // longer.
-        let Grant { writer, seen: _ } = match try_with(self.cell.enter(), self.cell.watch()) {
-            Ok(grant) => grant,
-            Err(waiting) => waiting.wait::<R, W>(rt),
+        let (guard, _) = match self.account().attempt::<Waits, R>() {
+            Ok(held) => held,
+            Err(waiting) => waiting.wait(rt),
         };
-        Guard::new(writer)
+        guard
     }
 }
 
@@ -188,7 +198,8 @@ impl<T, R> SpinMutex<T, R> {
     /// # Contract
     /// Only that the call returns.
     pub fn is_locked(&self) -> bool {
-        self.pass().is_locked().0
+        let (is_locked, _pass) = self.pass().is_locked();
+        is_locked
     }
 
     /// Releases the lock that this `Held` holds.

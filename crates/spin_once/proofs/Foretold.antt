@@ -37,7 +37,6 @@ joined [] later = refl
 joined (e ∷ es) later = ap (told_of e.0 e.1 (will_fail (es ++ later) e.0)) (joined es later) ∙ told_joined e.0 e.1 (will_fail (es ++ later) e.0) (before es later) (foretold later)
   where
     told_joined : (p : ℕ) (move : OneMove) (fails : Bool) (xs ys : List Made) → told_of p move fails (xs ++ ys) ≡ told_of p move fails xs ++ ys
-    told_joined p (Begin c) fails xs ys = refl
     told_joined p Weak fails xs ys = refl
     told_joined p _ fails xs ys = refl
 
@@ -67,10 +66,8 @@ module _ (given : Option (Unit {0})) where
   own_quiet s q (Begin c) later o is played still = refl
   own_quiet s q Step later (Some (Calling c l h)) is played still = absurd (let d : false ≡ true = is in cc)
   own_quiet s q Weak later (Some (Calling c l h)) is played still = absurd (let d : false ≡ true = is in cc)
-  own_quiet s q Step later None is played still = absurd (let d : false ≡ true = played in cc)
-  own_quiet s q Step later (Some _) is played still = absurd (let d : false ≡ true = played in cc)
-  own_quiet s q Weak later None is played still = absurd (let d : false ≡ true = played in cc)
-  own_quiet s q Weak later (Some _) is played still = absurd (let d : false ≡ true = played in cc)
+  own_quiet s q Step later _ is played still = absurd (let d : false ≡ true = played in cc)
+  own_quiet s q Weak later _ is played still = absurd (let d : false ≡ true = played in cc)
   own_quiet s q _ later o is played still = still (λ e. absurd (let d : false ≡ true = e in cc))
 
   quiet_by : (s : World) (q p : ℕ) (move : OneMove) (later : Bool) → rests (slice_get s.seats p) ≡ true → is_played (happens (m given) s q move).outcome ≡ true → ((is_step move ≡ true → q ≡ p → ⊥) → later ≡ false)
@@ -191,10 +188,8 @@ module _ (given : Option (Unit {0})) where
 
   places : (came : List (Option View)) (more : ℕ) → seats_named (λ p. false) (sitting came ++ replicate more Idle) ≡ placed_at came ++ replicate more Idle
   places [] more = named_idle (λ p. false) more
-  places (None ∷ came) more = ap (λ ys. Idle ∷ ys) (places came more)
-  places (Some view.Idle ∷ came) more = ap (λ ys. Idle ∷ ys) (places came more)
-  places (Some Reading ∷ came) more = ap (λ ys. Idle ∷ ys) (places came more)
   places (Some (InCall c l) ∷ came) more = ap (λ d. Calling d l None ∷ seats_named (λ p. false) (sitting came ++ replicate more Idle)) (named_kept c) ∙ ap (λ ys. Calling c l None ∷ ys) (places came more)
+  places (_ ∷ came) more = ap (λ ys. Idle ∷ ys) (places came more)
 
   pub first_named : (f : ℕ → Bool) (n : ℕ) → object f (at_first (m given) n) ≡ at_first (t given) n
   first_named f n = ap (λ xs. let o : Object = record { words = (t given).words; value = (t given).value; seats = xs } in o) (named_idle f n)

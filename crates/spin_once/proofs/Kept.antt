@@ -1,8 +1,6 @@
 -- Each step keeps the rule of a value that is made once, and appends its moves to the trace.
 use Rattle.std.proofs.Common.{◌≡◌, ◌≢◌, Bool, true, false, ℕ, zero, suc, ◌+◌, replicate, ◌==◌, ◌<◌, List, [], ◌∷◌, map, Option, Some, None, refl, sym, ap, ◌∙◌, subst, arith}
 use prog.Atomic.{either}
-use Rattle.spin_step.specs.Plain.{Plain, gets, completes, fails, to_begin, once_word}
-use Rattle.spin_step.specs.Steps.{Decides, Gives}
 use Rattle.spin_core.specs.Cell.{off, reads, writes, use_of, alone, Fixed, Opens, Rests, Lends, Knowing, readers_of, writers_of, no_fact}
 use Rattle.spin_core.specs.Own.{Numbered, what, IsRun, Runs, Tells}
 use Rattle.spin_core.specs.Passes.{IsStep}
@@ -34,12 +32,10 @@ use Rattle.spin_once.proofs.Valued.{valued, writes_none, plainly, bare_moves, Le
 
 -- a party whose next step is a load writes nothing
 load_reads : (view : Option View) → is_load (point_of view) ≡ true → use_of use_of_view view ≢ writes
-load_reads None is e = absurd (let d : off ≡ writes = e in cc)
-load_reads (Some Idle) is e = absurd (let d : off ≡ writes = e in cc)
+load_reads (Some (InCall c Run)) is e = absurd (cc is)
+load_reads (Some (InCall c TryBegin)) is e = absurd (cc is)
 load_reads (Some Reading) is e = absurd (let d : reads ≡ writes = e in cc)
-load_reads (Some (InCall c Look)) is e = absurd (let d : off ≡ writes = e in cc)
-load_reads (Some (InCall c Await)) is e = absurd (let d : off ≡ writes = e in cc)
-load_reads (Some _) is e = absurd (cc is)
+load_reads _ is e = absurd (let d : off ≡ writes = e in cc)
 
 -- while a closure runs the word is 1, and the history has no value
 abbrev at_one : ℕ → Type 0
@@ -52,10 +48,14 @@ abbrev stored : Says → Says
 stored says own outs n v = says own outs 0 v
 
 -- the call of a party that runs its closure is one of the two kinds
-pub running_call : (v : View) → is_running v ≡ true → (b : Bool) × (v ≡ in_closure b Run)
-running_call (InCall (CallOnce u) Run) is = (false, refl)
-running_call (InCall (TryCallOnceOk u) Run) is = (true, refl)
+pub running_call : (view : Option View) → is_running view ≡ true → (b : Bool) × (view ≡ Some (in_closure b Run))
+running_call (Some (InCall (CallOnce u) Run)) is = (false, refl)
+running_call (Some (InCall (TryCallOnceOk u) Run)) is = (true, refl)
 running_call _ is = absurd (cc is)
+
+-- a party that runs its closure writes
+pub writes_at : (view : Option (Numbered View)) (c : OnceCall (Unit {0})) → what view ≡ Some (InCall c Run) → use_of use_of_party view ≡ writes
+writes_at view c is = sym (tie.same_use use_of_view view) ∙ ap (use_of use_of_view) is
 
 module _ {T S : Type 0} (makes : S → T → Type 0) (key : Key T S) where
   abbrev Content : Type 0
@@ -104,84 +104,68 @@ module _ {T S : Type 0} (makes : S → T → Type 0) (key : Key T S) where
         keeps (λ n. n) (load_reads was is) (λ n e. e) (load_moves c was is given)
         (steps.loads makes key was is shown (to_view c was) (load_leads c was is) (load_finds c was is))
 
-  module _ (b : Bool) where
+  module _ (b : Bool) (view : Option (Numbered View)) where
     abbrev c : OnceCall (Unit {0})
     c = closure_call b
 
-    pub begins : (view : Option (Numbered View)) (shown : Option Content) → what view ≡ Some (in_closure b TryBegin) → (new : ℕ) → new ≡ 1
-        → ((s : Plain) (p : ℕ) → once_word s ≡ 0 → Decides s (gets p to_begin) once_word (Some new))
-        → Keeps view shown (λ n. either (n == 0) new n) (turn_by c (what view))
-    begins view shown is new one decides =
-        let f : ℕ → ℕ = λ n. either (n == 0) new n in let at : Option View = Some (in_closure b TryBegin) in
+    pub begins : (shown : Option Content) → what view ≡ Some (in_closure b TryBegin) → Keeps view shown (λ n. either (n == 0) 1 n) (turn_by c (what view))
+    begins shown is =
+        let f : ℕ → ℕ = λ n. either (n == 0) 1 n in let at : Option View = Some (in_closure b TryBegin) in
         keeps c view shown f (λ e. absurd (let d : off ≡ writes = sym (ap (use_of use_of_view) is) ∙ e in cc)) (λ n two. rw two refl)
-        (rw is (turn_moves given c at f Any (λ n. rw one (begin_words b n)) (begin_free b)))
+        (rw is (turn_moves given c at f Any (begin_words b) (begin_free b)))
         (rw is
         (steps.begins makes key at shown c (to_view c at) refl (sym (ap (λ st. view_of c st.next) (as_sure b TryBegin 0)))
         (ap (λ st. use_of_view (view_of c st.next)) (as_sure b TryBegin 1))
-        (ap (λ st. use_of_view (view_of c st.next)) (as_sure b TryBegin 2)) new decides))
+        (ap (λ st. use_of_view (view_of c st.next)) (as_sure b TryBegin 2))))
 
     -- the last step of a call whose closure gave a value is a write of that value
-    ends_at : (first : OnceCall (Unit {0})) (p mark : ℕ) (new : ℕ) (value : T) → new ≡ 2
-        → ((s : Plain) (p : ℕ) → once_word s ≡ 1 → Gives s (completes p) once_word new) → makes key.seed.value value
-        → Stores (Some (in_closure b Run, p, mark)) (Some (maybe_stable (Done value))) (λ _. new) (turn_by first (Some (in_closure b Run)))
-    unfolding Told
-    ends_at first p mark new value two gives is_made =
-        valued makes key v shown (λ _. new) exact (stored says) (λ own. Write value ∷ []) less (λ own outs n u said. sym said.0.1.0) puts
-        (traces v shown (λ _. new) (Turns first running at_one) exact
-        (turn_moves given first running (λ _. new) at_one (λ n. end_words b n ∙ sym two) (end_free b))
-        (subst (λ to. steps.Allowed makes key running shown (λ _. new) (ComesTo to at_one)) (λ i n. sym (reads_at n) i)
-        (steps.ends makes key c new value gives is_made)))
-      where
-        running : Option View
-        running = Some (in_closure b Run)
+    module _ (is : what view ≡ Some (in_closure b Run)) (first : OnceCall (Unit {0})) (value : T) (is_made : makes key.seed.value value) where
+      abbrev running : Option View
+      running = Some (in_closure b Run)
 
-        v : Option (Numbered View)
-        v = Some (in_closure b Run, p, mark)
+      abbrev done : Option Content
+      done = Some (maybe_stable (Done value))
 
-        shown : Option Content
-        shown = Some (maybe_stable (Done value))
+      abbrev says : Says
+      says = turn_by first running
 
-        says : Says
-        says = turn_by first running
+      abbrev exact : Says
+      exact = finding at_one says
 
-        exact : Says
-        exact = finding at_one says
+      reads_at : (n : ℕ) → view_of c (next_at c Run n) ≡ Reading
+      reads_at n = ap (λ st. view_of c st.next) (as_sure b Run n)
 
-        reads_at : (n : ℕ) → view_of c (next_at c Run n) ≡ Reading
-        reads_at n = ap (λ st. view_of c st.next) (as_sure b Run n)
+      any_word : (own : List OneMove) (outs : List Ending) (n : ℕ) (u : View) → exact own outs n u → says own outs 0 u
+      any_word own outs n u said = subst (λ next. (u ≡ view_of c next) × IsStep true c (outcome_of next) own outs)
+          (ap (λ st. st.next) (as_sure b Run n ∙ sym (as_sure b Run 0))) said.0
 
-        less : (own : List OneMove) (outs : List Ending) (n : ℕ) (u : View) → exact own outs n u → says own outs 0 u
-        less own outs n u said = subst (λ next. (u ≡ view_of c next) × IsStep true c (outcome_of next) own outs)
-            (ap (λ st. st.next) (as_sure b Run n ∙ sym (as_sure b Run 0))) said.0
+      puts : Leaving makes key view done (λ _. 2) exact (stored says) (λ own. Write value ∷ [])
+      puts own outs n u said vs few =
+          let none = none_yet n vs few said.1 in let u_is : u ≡ Reading = said.0.0 ∙ reads_at n in
+          rw (none, writes_at view c is, ap use_of_view u_is) ((λ other. absurd (other refl), omega arith), λ told. refl)
 
-        puts : Leaving makes key v shown (λ _. new) exact (stored says) (λ own. Write value ∷ [])
-        puts own outs n u said vs few =
-            let none = none_yet n vs few said.1 in let u_is : u ≡ Reading = said.0.0 ∙ reads_at n in
-            rw (none, ap use_of_view u_is) ((λ other. absurd (other two), omega arith), λ told. refl)
+      pub ends : Stores view done (λ _. 2) (turn_by first (what view))
+      unfolding Told
+      ends = subst (λ r. Stores view done (λ _. 2) (turn_by first r)) (sym is)
+          (valued makes key view done (λ _. 2) exact (stored says) (λ own. Write value ∷ []) any_word (λ own outs n u said. sym said.0.1.0) puts
+          (traces view done (λ _. 2) (Turns first running at_one) exact (rw is (turn_moves given first running (λ _. 2) at_one (end_words b) (end_free b)))
+          (rw is (subst (λ to. steps.Allowed makes key running done (λ _. 2) (ComesTo to at_one)) (λ i n. sym (reads_at n) i)
+          (steps.ends makes key c value is_made)))))
 
-  pub ends : (first : OnceCall (Unit {0})) (v : Numbered View) → is_running v.0 ≡ true → (new : ℕ) (value : T) → new ≡ 2
-      → ((s : Plain) (p : ℕ) → once_word s ≡ 1 → Gives s (completes p) once_word new) → makes key.seed.value value
-      → Stores (Some v) (Some (maybe_stable (Done value))) (λ _. new) (turn_by first (Some v.0))
-  ends first v runs new value two gives is_made =
-      let at = running_call v.0 runs in
-      subst (λ x. Stores (Some (x, v.1, v.2)) (Some (maybe_stable (Done value))) (λ _. new) (turn_by first (Some x))) (sym at.1)
-      (ends_at at.0 first v.1 v.2 new value two gives is_made)
-
-  pub gives_up : (v : Numbered View) → v.0 ≡ in_closure true Run → (new : ℕ) (it : S) → new ≡ 0
-      → ((s : Plain) (p : ℕ) → once_word s ≡ 1 → Gives s (fails p) once_word new) → it ≡ key.seed.value
-      → Stores (Some v) (Some (maybe_stable (Seed it))) (λ _. new) fails_by
+  pub gives_up : (view : Option (Numbered View)) → what view ≡ Some (in_closure true Run)
+      → Stores view (Some (maybe_stable (Seed key.seed.value))) (λ _. 0) fails_by
   unfolding Told
-  gives_up v runs new it zero_is gives same =
-      let shown : Option Content = Some (maybe_stable (Seed it)) in
-      valued makes key (Some v) shown (λ _. new) (finding at_one fails_by) fails_by plainly
+  gives_up view is =
+      let shown : Option Content = Some (maybe_stable (Seed key.seed.value)) in
+      valued makes key view shown (λ _. 0) (finding at_one fails_by) fails_by plainly
       (λ own outs n u said. said.0) (λ own outs n u said. ap (λ l. bare_moves (plainly {T = T} l)) said.0.1.0 ∙ sym said.0.1.0) leaves
-      (traces (Some v) shown (λ _. new) (ComesTo (λ n. Idle) at_one) (finding at_one fails_by) (rw runs (fail_moves given (λ _. new) (λ n. zero_is)))
-      (rw runs (steps.gives_up makes key (closure_call true) new it gives same)))
+      (traces view shown (λ _. 0) (ComesTo (λ n. Idle) at_one) (finding at_one fails_by) (rw is (fail_moves given (λ _. 0) (λ n. refl)))
+      (rw is (steps.gives_up makes key (closure_call true))))
     where
-      leaves : Leaving makes key (Some v) (Some (maybe_stable (Seed it))) (λ _. new) (finding at_one fails_by) fails_by plainly
+      leaves : Leaving makes key view (Some (maybe_stable (Seed key.seed.value))) (λ _. 0) (finding at_one fails_by) fails_by plainly
       leaves own outs n u said vs few =
           let none = none_yet n vs few said.1 in let own_is : own ≡ Weak ∷ Step ∷ [] = said.0.1.0 in let u_is : u ≡ Idle = said.0.0 in
-          rw (none, own_is, ap use_of_view runs, ap use_of_view u_is) ((λ other. refl, omega arith), tt)
+          rw (none, own_is, writes_at view (closure_call true) is, ap use_of_view u_is) ((λ other. refl, omega arith), tt)
 
   -- ---- a new cell
   pub starts : (t : Trace (Valued T) (Unit {0})) → t.name ≡ name → t.entries ≡ [] → (it : S) → key.opening.value ≡ Seed it → it ≡ key.seed.value
@@ -233,8 +217,7 @@ module _ {T S : Type 0} (makes : S → T → Type 0) (key : Key T S) where
     where
       untold_is : (l : List T) (y : Stage T S) → IsMade key.opening.told l y
       untold_is l (Done value) = λ told. absurd (let d : false ≡ true = sym untold ∙ told in cc)
-      untold_is l (Seed it) = tt
-      untold_is l Taken = tt
+      untold_is l _ = tt
 
       untold_knows : (t : Trace (Valued T) (Unit {0})) (w : ℕ) (y : Stage T S) {A : Type 0} → A → Knowing (once_ways makes key).2 t w (maybe_stable y) A
       untold_knows t zero y a = (untold_is (made key.opening.value t.entries) y, a)
@@ -247,8 +230,7 @@ module _ {T S : Type 0} (makes : S → T → Type 0) (key : Key T S) where
     where
       at : (y : Stage T S) → IsMade false (made key.opening.value t.entries) y
       at (Done value) = λ told. absurd (let d : false ≡ true = told in cc)
-      at (Seed it) = tt
-      at Taken = tt
+      at _ = tt
   less t (suc w) x A known = known
 
   pub lends : Lends (IsOnce key.opening) (once_ways makes key) (IsOnce (lent_key key).opening) (once_ways makes (lent_key key))

@@ -56,13 +56,7 @@ Turns c view = ComesTo (to_view c view)
 -- each call begins with a look, which may find the value
 begins : (c : Call) → ((model None).begin c None ≡ Some (at Look)) × (view_of c (next_at c Look 2) ≡ Reading)
 begins (CallOnce v) = (refl, refl)
-begins (TryCallOnceOk v) = (refl, refl)
-begins TryCallOnceErr = (refl, refl)
-begins (InitFromRef v) = (refl, refl)
-begins Wait = (refl, refl)
-begins Poll = (refl, refl)
-begins Get = (refl, refl)
-begins IsCompleted = (refl, refl)
+begins _ = (refl, refl)
 
 abbrev World : Type 0
 World = State ℕ (Unit {0}) Call Point
@@ -131,10 +125,8 @@ module _ (given : Option (Unit {0})) where
   pub turn_moves : (c : Call) (view : Option View) (f : ℕ → ℕ) (Q : ℕ → Type 0) → ((n : ℕ) → (table (call_from c view) (point_of view) n).words ≡ f n)
       → ((n : ℕ) → IsFree (next_at (call_from c view) (point_of view) n))
       → Moves view f (Turns c view Q) (finding Q (turn_by c view))
-  turn_moves c None f Q words free = first_moves c f Q words free
-  turn_moves c (Some Idle) f Q words free = first_moves c f Q words free
-  turn_moves c (Some Reading) f Q words free = first_moves c f Q words free
   turn_moves c (Some (InCall d l)) f Q words free = next_moves d f Q l words free
+  turn_moves c _ f Q words free = first_moves c f Q words free
 
   -- the closure of the party's call has failed: the model's call continues as one whose closure fails
   pub fail_moves : (f : ℕ → ℕ) → ((n : ℕ) → f n ≡ 0) → Moves (Some (in_closure true Run)) f (ComesTo (λ n. Idle) (λ n. n ≡ 1)) (finding (λ n. n ≡ 1) fails_by)
@@ -168,18 +160,12 @@ completed : (n : ℕ) → Loads (Answers (Is (n == 2)) None) n
 completed n = (elim (n == 2) as (λ b. (n == 2) ≡ b → Loads (Answers (Is b) None) n) [ true ↦ eqb-true n 2 | false ↦ λ no. tt ]) refl
 
 loads : (c : Call) (l : OncePoint) → is_load l ≡ true → (n : ℕ) → ((table c l n).words ≡ n) × Loads (next_at c l n) n
-loads (CallOnce v) Look is n = (refl, there n (Continue TryBegin) tt)
-loads (TryCallOnceOk v) Look is n = (refl, there n (Continue TryBegin) tt)
-loads TryCallOnceErr Look is n = (refl, there n (Continue TryBegin) tt)
-loads (InitFromRef v) Look is n = (refl, there n (Continue TryBegin) tt)
-loads (CallOnce v) Await is n = (refl, there n _ (runs_not n (Continue TryBegin) (Continue Await) tt tt))
-loads (TryCallOnceOk v) Await is n = (refl, there n _ (runs_not n (Continue TryBegin) (Continue Await) tt tt))
-loads TryCallOnceErr Await is n = (refl, there n _ (runs_not n (Continue TryBegin) (Continue Await) tt tt))
-loads (InitFromRef v) Await is n = (refl, there n _ (runs_not n (Continue TryBegin) (Continue Await) tt tt))
 loads Wait l is n = (refl, there n (Continue Look) tt)
 loads Poll l is n = (refl, there n _ (runs_not n (Answers NoValue None) (Continue Look) tt tt))
 loads Get l is n = (refl, there n (Answers NoValue None) tt)
 loads IsCompleted l is n = (refl, completed n)
+loads _ Look is n = (refl, there n (Continue TryBegin) tt)
+loads _ Await is n = (refl, there n _ (runs_not n (Continue TryBegin) (Continue Await) tt tt))
 loads _ _ is n = absurd (cc is)
 
 quiet : (v : View) (n : ℕ) → Quietly v n → (seat_of v ≡ seat.Idle) × ((use_of_view v ≡ off) ⊎ ((use_of_view v ≡ reads) × (n ≡ 2)))
@@ -190,7 +176,6 @@ quiet (InCall c l) n so = absurd so
 after : (c : Call) (next : Onward) (n : ℕ) → Loads next n
     → IsFree next × ((use_of_view (view_of c next) ≡ off) ⊎ ((use_of_view (view_of c next) ≡ reads) × (n ≡ 2)))
 after c (Continue Run) n so = absurd so
-after c (Continue Look) n so = (tt, inl refl)
 after c (Continue _) n so = (tt, inl refl)
 after c (Answers a None) n so = quiet (answered a) n so
 after c (Answers a (Some h)) n so = absurd so

@@ -71,7 +71,6 @@ named_yields f [] = refl
 named_yields f (x ∷ xs) = rw (yields x (f 0), named_yields (λ q. f (suc q)) xs) refl
   where
     yields : (x : Seat Call Point) (b : Bool) → yields_to_owner (seat_named x b) ≡ yields_to_owner x
-    yields (Calling c (at l) h) b = refl
     yields (Calling c failed h) b = refl
     yields _ b = refl
 
@@ -80,7 +79,6 @@ named_seen f [] = refl
 named_seen f (x ∷ xs) = ap (λ y. y ∷ map seen_by_owner (seats_named (λ q. f (suc q)) xs)) (seen x (f 0)) ∙ ap (λ ys. seat_named (seen_by_owner x) (f 0) ∷ ys) (named_seen (λ q. f (suc q)) xs)
   where
     seen : (x : Seat Call Point) (b : Bool) → seen_by_owner (seat_named x b) ≡ seat_named (seen_by_owner x) b
-    seen (Calling c (at l) h) b = refl
     seen (Calling c failed h) b = refl
     seen _ b = refl
 
@@ -151,7 +149,6 @@ module _ (given : Option (Unit {0})) where
 
   begins_named : (c : Call) (b : Bool) (h : Option Hold) → t.begin (named c b) h ≡ t.begin c h
   begins_named (TryCallOnceOk v) true h = refl
-  begins_named (TryCallOnceOk v) false h = refl
   begins_named c b h = refl
 
   module _ (f : ℕ → Bool) (s : World) (p : ℕ) where
@@ -193,6 +190,5 @@ module _ (given : Option (Unit {0})) where
     moves_alike Leak (Holding h) there quiet ne = (seated_alike f s p (Leaked h), refl)
     moves_alike OwnerGet y there quiet ne = rw owns_alike (got_alike f s p _)
     moves_alike (OwnerSet v) y there quiet ne = rw owns_alike (sets_alike f s p v _)
-    moves_alike move (Calling c (at l) h) there quiet ne = (refl, refl)
     moves_alike move (Calling c failed h) there quiet ne = (refl, refl)
     moves_alike _ _ there quiet ne = (refl, refl)

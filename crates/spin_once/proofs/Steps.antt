@@ -6,13 +6,12 @@ use lib.ListN.{get_elem?}
 use prog.Atomic.{either}
 use Rattle.spin_step.specs.Plain as plain
 use Rattle.spin_step.specs.Plain.{Plain, Phase, nothing, complete, gets, completes, fails, to_begin, once_word}
-use Rattle.spin_step.specs.Steps.{Decides, Gives}
 use Rattle.spin_core.specs.Cell.{Use, off, reads, writes, reading, writing, use_of, Way, Ways, no_fact, Meets, Limits, Going, Stands, after, AllowsAt, Rests}
 use Rattle.spin_core.specs.Stable.{maybe_stable}
 use Rattle.spin_core.specs.declared.cell.stable.MaybeStable.{MaybeStable}
 use Rattle.spin_core.proofs.CellCounts.{moves, without}
 use Rattle.spin_model.specs.declared.once.OnceCall.{OnceCall}
-use Rattle.spin_model.specs.declared.once.OncePoint.TheVariants.{Look, Await, Run}
+use Rattle.spin_model.specs.declared.once.OncePoint.TheVariants.{TryBegin, Run}
 use Rattle.spin_once.specs.Once.{use_of_view, readers, runs, IsPhaseOf, in_phase, Word, once_ways, point_of, is_load}
 use Rattle.spin_once.specs.declared.once_core.rule.Key.{Key}
 use Rattle.spin_once.specs.declared.once_core.rule.View.{View}
@@ -141,32 +140,26 @@ module _ {T S : Type 0} (makes : S → T → Type 0) (key : Key T S) where
 
   pub loads : (view : Option View) → is_load (point_of view) ≡ true → (shown : Option Content) (to : ℕ → View) → Leads to
       → (view ≡ Some Reading → to 2 ≡ Reading) → Allowed view shown (λ n. n) (ComesTo to Any)
-  loads None is shown to leads finds = looks None shown to refl leads
-  loads (Some Idle) is shown to leads finds = looks (Some Idle) shown to refl leads
   loads (Some Reading) is shown to leads finds = reads_on shown to (finds refl)
-  loads (Some (InCall c Look)) is shown to leads finds = looks (Some (InCall c Look)) shown to refl leads
-  loads (Some (InCall c Await)) is shown to leads finds = looks (Some (InCall c Await)) shown to refl leads
-  loads (Some _) is shown to leads finds = absurd (cc is)
+  loads (Some (InCall c TryBegin)) is shown to leads finds = absurd (cc is)
+  loads (Some (InCall c Run)) is shown to leads finds = absurd (cc is)
+  loads view is shown to leads finds = looks view shown to refl leads
 
   -- ---- the exchange by which a call begins to run its closure
   pub begins : (view : Option View) (shown : Option Content) (c : OnceCall (Unit {0})) (to : ℕ → View) → use_of use_of_view view ≡ off → InCall c Run ≡ to 0
-      → use_of_view (to 1) ≡ off → use_of_view (to 2) ≡ reads
-      → (new : ℕ) → ((s : Plain) (p : ℕ) → once_word s ≡ 0 → Decides s (gets p to_begin) once_word (Some new))
-      → Allowed view shown (λ n. either (n == 0) new n) (ComesTo to Any)
-  begins view shown c to none run_at off_at reads_at new decides id zero m vs has at small =
+      → use_of_view (to 1) ≡ off → use_of_view (to 2) ≡ reads → Allowed view shown (λ n. either (n == 0) 1 n) (ComesTo to Any)
+  begins view shown c to none run_at off_at reads_at id zero m vs has at small =
       let known = numbers 0 m vs has.0 in let us = after id view vs (InCall c Run) in
       let see = sym (ap (λ u. readers us + reading u) none) ∙ see_after id view vs (InCall c Run) at in
-      let run = sym (ap (λ u. runs us + writing u) none) ∙ run_after id view vs (InCall c Run) at in
-      let next : new ≡ 1 = (decides (in_phase nothing) id refl).1 in (
+      let run = sym (ap (λ u. runs us + writing u) none) ∙ run_after id view vs (InCall c Run) at in (
         InCall c Run,
-        subst (λ u. Going way u writes shown (readers vs) (Meets Word plain_ways new m us)) (sym none)
-            (λ e. absurd (let d : off ≡ reads = e in cc), tt, subst (λ k. Meets Word plain_ways k m us) (sym next) (meets 1 m us (omega (arith, see, known), omega (arith, run, known)) has.0.3)),
+        subst (λ u. Going way u writes shown (readers vs) (Meets Word plain_ways 1 m us)) (sym none)
+            (λ e. absurd (let d : off ≡ reads = e in cc), tt, meets 1 m us (omega (arith, see, known), omega (arith, run, known)) has.0.3),
         (run_at, tt),
       )
-  begins view shown c to none run_at off_at reads_at new decides id (suc zero) m vs has at small = stays view shown to none id 1 m vs has at (inl off_at)
-  begins view shown c to none run_at off_at reads_at new decides id (suc (suc zero)) m vs has at small = stays view shown to none id 2 m vs has at
-      (inr (reads_at, refl))
-  begins view shown c to none run_at off_at reads_at new decides id (suc (suc (suc n))) m vs has at small = absurd (numbers (suc (suc (suc n))) m vs has.0)
+  begins view shown c to none run_at off_at reads_at id (suc zero) m vs has at small = stays view shown to none id 1 m vs has at (inl off_at)
+  begins view shown c to none run_at off_at reads_at id (suc (suc zero)) m vs has at small = stays view shown to none id 2 m vs has at (inr (reads_at, refl))
+  begins view shown c to none run_at off_at reads_at id (suc (suc (suc n))) m vs has at small = absurd (numbers (suc (suc (suc n))) m vs has.0)
 
   -- ---- the party that runs its closure
   alone : (c : OnceCall (Unit {0})) (n id : ℕ) (vs : List View) → Stands id (Some (InCall c Run)) vs → Numbers n (readers vs) (runs vs) → (n ≡ 1) × (readers vs ≡ 0) × (runs vs ≡ 1)
@@ -174,21 +167,28 @@ module _ {T S : Type 0} (makes : S → T → Type 0) (key : Key T S) where
   alone c (suc (suc (suc n))) id vs at has = absurd has
   alone c _ id vs at has = absurd (let run = run_after id (Some (InCall c Run)) vs Idle at in omega (arith, has, run))
 
-  pub ends : (c : OnceCall (Unit {0})) (new : ℕ) (value : T) → ((s : Plain) (p : ℕ) → once_word s ≡ 1 → Gives s (completes p) once_word new) → makes key.seed.value value
-      → Allowed (Some (InCall c Run)) (Some (maybe_stable (Done value))) (λ _. new) (ComesTo (λ n. Reading) (λ n. n ≡ 1))
-  ends c new value gives made id n m vs has at small =
-      let one = alone c n id vs at (numbers n m vs has.0) in let us = after id (Some (InCall c Run)) vs Reading in
-      let see = see_after id (Some (InCall c Run)) vs Reading at in let run = run_after id (Some (InCall c Run)) vs Reading at in
-      let next : new ≡ 2 = gives (in_phase (plain.running id)) id refl (eq-eqb id id refl) in
-      (Reading, (λ e. refl, made, subst (λ k. Meets Word plain_ways k m us) (sym next) (meets 2 m us (omega (arith, see, one), omega (arith, run, one)) has.0.3)), (refl, one.0))
+  -- a store by this party leads to the view `v` and the word `new`, if the content then suits both
+  closes : (c : OnceCall (Unit {0})) (shown : Option Content) (v : View) (new : ℕ)
+      → ((r w : ℕ) → r ≡ reading (use_of_view v) → w ≡ writing (use_of_view v) → Numbers new r w)
+      → ((r : ℕ) (A : Type 0) → A → Going way writes (use_of_view v) shown r A)
+      → Allowed (Some (InCall c Run)) shown (λ _. new) (ComesTo (λ n. v) (λ n. n ≡ 1))
+  closes c shown v new fits suits id n m vs has at small =
+      let one = alone c n id vs at (numbers n m vs has.0) in let us = after id (Some (InCall c Run)) vs v in
+      let see = see_after id (Some (InCall c Run)) vs v at in let run = run_after id (Some (InCall c Run)) vs v at in (
+        v,
+        suits (readers vs) (Meets Word plain_ways new m us) (meets new m us
+            (fits (readers us) (runs us) (omega (arith, see, one)) (omega (arith, run, one))) has.0.3),
+        (refl, one.0),
+      )
 
-  pub gives_up : (c : OnceCall (Unit {0})) (new : ℕ) (it : S) → ((s : Plain) (p : ℕ) → once_word s ≡ 1 → Gives s (fails p) once_word new) → it ≡ key.seed.value
-      → Allowed (Some (InCall c Run)) (Some (maybe_stable (Seed it))) (λ _. new) (ComesTo (λ n. Idle) (λ n. n ≡ 1))
-  gives_up c new it gives same id n m vs has at small =
-      let one = alone c n id vs at (numbers n m vs has.0) in let us = after id (Some (InCall c Run)) vs Idle in
-      let see = see_after id (Some (InCall c Run)) vs Idle at in let run = run_after id (Some (InCall c Run)) vs Idle at in
-      let next : new ≡ 0 = gives (in_phase (plain.running id)) id refl (eq-eqb id id refl) in
-      (Idle, (λ e. absurd (let d : writes ≡ reads = e in cc), same, subst (λ k. Meets Word plain_ways k m us) (sym next) (meets 0 m us (omega (arith, see, one), omega (arith, run, one)) has.0.3)), (refl, one.0))
+  pub ends : (c : OnceCall (Unit {0})) (value : T) → makes key.seed.value value
+      → Allowed (Some (InCall c Run)) (Some (maybe_stable (Done value))) (λ _. 2) (ComesTo (λ n. Reading) (λ n. n ≡ 1))
+  ends c value made = closes c (Some (maybe_stable (Done value))) Reading 2 (λ r w e f. (omega arith, f)) (λ r A a. ((λ e. refl), made, a))
+
+  pub gives_up : (c : OnceCall (Unit {0})) → Allowed (Some (InCall c Run)) (Some (maybe_stable (Seed key.seed.value))) (λ _. 0)
+      (ComesTo (λ n. Idle) (λ n. n ≡ 1))
+  gives_up c = closes c (Some (maybe_stable (Seed key.seed.value))) Idle 0 (λ r w e f. (e, f))
+      (λ r A a. ((λ e. absurd (let d : writes ≡ reads = e in cc)), refl, a))
 
 -- which parties may leave
 pub idle_rests : Rests Word use_of_view (Some Idle)

@@ -63,7 +63,6 @@ module _ {T : Type 0} where
   none_written (move ∷ own) = by_move move ∙ none_written own
     where
       by_move : (move : OneMove) → value_of (plain_move move) ++ values_of (plainly own) ≡ values_of (plainly own)
-      by_move (Begin c) = refl
       by_move Weak = refl
       by_move _ = refl
 
@@ -89,9 +88,8 @@ agree opening old new x y told more is is' =
 -- what is known of the content carries over from a party that did not write
 pub carries_on : {X : Type 0} (φ ψ : X → Type 0) (u u' : Use) (shown : Option X) → u ≢ writes
     → ((x : X) → φ x → ψ x) → Carries φ ψ u u' shown
-carries_on φ ψ off u' shown ne on = on
-carries_on φ ψ reads u' shown ne on = on
 carries_on φ ψ writes u' shown ne on = absurd (ne refl)
+carries_on φ ψ _ u' shown ne on = on
 
 module _ {T S : Type 0} (makes : S → T → Type 0) (key : Key T S) where
   abbrev first : Stage T S
@@ -211,7 +209,4 @@ module _ {T S : Type 0} (makes : S → T → Type 0) (key : Key T S) where
     sees_on u off before after had shows learnt used = absurd (let d : false ≡ true = used in cc)
     sees_on reads reads before after had shows learnt used = (some_is before after shows, kept_on reads before after (had refl) refl shows)
     sees_on writes writes before after had shows learnt used = (some_is before after shows, kept_on writes before after (had refl) refl shows)
-    sees_on off reads before after had shows learnt used = (some_is before after shows, found_by off reads before after (λ φ x l. l) learnt)
-    sees_on off writes before after had shows learnt used = (some_is before after shows, found_by off writes before after (λ φ x l. l) learnt)
-    sees_on reads writes before after had shows learnt used = (some_is before after shows, found_by reads writes before after (λ φ x l. l) learnt)
-    sees_on writes reads before after had shows learnt used = (some_is before after shows, found_by writes reads before after (λ φ x l. l) learnt)
+    sees_on u u' before after had shows learnt used = (some_is before after shows, found_by u u' before after (λ φ x l. l) learnt)

@@ -9,7 +9,7 @@ use Rattle.spin_step.specs.Plain.{Plain, Phase, nothing, complete, fresh, once_w
 use Rattle.spin_core.specs.Cell.{Use, off, reads, writes, fixes, knows, Ways, readers_of, writers_of}
 use Rattle.spin_core.specs.Own.{Numbered, Runs, Tells}
 use Rattle.spin_core.specs.Passes as passes
-use Rattle.spin_core.specs.Passes.{Course, Begins, step_by}
+use Rattle.spin_core.specs.Passes.{Course, Waits, Ends, Begins, IsCall, step_by}
 use Rattle.spin_core.specs.Views.{no_word}
 use Rattle.spin_core.specs.declared.cell.stable.MaybeStable.{MaybeStable}
 use Rattle.spin_core.specs.declared.tie.Opening.{Opening}
@@ -178,9 +178,9 @@ abbrev pub in_closure : Bool → OncePoint → View
 in_closure may_fail l = InCall (closure_call may_fail) l
 
 -- whether the party runs its closure
-abbrev pub is_running : View → Bool
-is_running (InCall (CallOnce v) Run) = true
-is_running (InCall (TryCallOnceOk v) Run) = true
+abbrev pub is_running : Option View → Bool
+is_running (Some (InCall (CallOnce v) Run)) = true
+is_running (Some (InCall (TryCallOnceOk v) Run)) = true
 is_running _ = false
 
 -- the course of the failure of a closure that runs
@@ -194,6 +194,13 @@ fails_by own outs n v = (v ≡ Idle) × IsFailure own outs
 
 abbrev pub Moving : Type 1
 Moving = Course (Unit {0}) (OnceCall (Unit {0})) (Answer (Unit {0}))
+
+-- Moves of the call `c`. With `true` the call is under way, with `false` the moves begin it. The call then waits, or has this answer.
+abbrev pub Comes : Bool → OnceCall (Unit {0}) → Next OncePoint (Answer (Unit {0})) → Moving
+Comes true c (Continue l) = Waits
+Comes true c (Answers a h) = Ends a
+Comes false c (Continue l) = Begins c Waits
+Comes false c (Answers a h) = IsCall c a
 
 -- Since the party knew `old`, it has made the moves of this course and no others. `given` says whether the cell opened with a value.
 unfoldable pub Moves : Option (Unit {0}) → Moving → Option (Numbered View) → List Made → Option (Numbered View) → List Made → Type 0

@@ -184,22 +184,7 @@ impl<T, F: Makes<T, M>, R: RelaxStrategy, M: Promise<T>> LazyLock<T, F, R, M> {
         }
     }
 
-    // Finds the value, or makes it. Spins while another thread makes it.
-    fn find_or_make<'a, W: Wait>(
-        rt: &W,
-        account: Account<'a, T, Initialiser<F, M>>,
-    ) -> Found<'a, T, Initialiser<F, M>>
-        requires out { is_out (what account.party.view) ≡ true }
-        requires can { F.can (seed_of account).f.inner (seed_of account).promise }
-        ensures { Since (here account.entry) (IsCall (CallOnce tt) (Value tt)) (here result.account) }
-    {
-        match account.come::<Sure>() {
-            Ok(found) => found,
-            Err(account) => Self::make(rt, account),
-        }
-    }
-
-    // It is not inlined, since that would lengthen the path of each caller that finds a value.
+    // Makes the value, or waits for it. It is not inlined, since that would lengthen the path of each caller that finds a value.
     #[cold]
     #[inline(never)]
     fn make<'a, W: Wait>(

@@ -82,7 +82,8 @@ impl<T, R> Once<T, R> {
     /// Returns `true` if [`get`](Once::get) finds a value. After that the answer stays `true` while the `Once` is
     /// shared, since a value stays.
     pub fn is_completed(&self) -> bool {
-        self.pass().is_completed().0
+        let (there, _pass) = self.pass().is_completed();
+        there
     }
 
     /// Returns a mutable reference to the value, or `None` if there is none.

@@ -83,7 +83,7 @@ impl<T, S: Seed<T>> OnceCore<T, S> {
     pub(crate) fn get_mut(&mut self) -> Option<&mut T>
         requires any { (seed : S) (value : T) → S.makes seed value }
     {
-        let stable = self.cell.get_stable(COMPLETE as u64)?;
+        let stable = self.cell.get_stable(COMPLETE)?;
         Some(Stage::made(stable))
     }
 }

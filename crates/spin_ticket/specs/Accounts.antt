@@ -6,6 +6,7 @@ use Rattle.spin_core.specs.Passes.{IsOut}
 use Rattle.spin_core.specs.Spots as spots
 use Rattle.spin_core.specs.Spots.{spot, Stepped, IsIn, HasCalled}
 use Rattle.spin_core.specs.Values.{IsLast}
+use Rattle.spin_core.specs.declared.cell.Permit.{Permit}
 use Rattle.spin_core.specs.declared.guard.Guard.{Guard}
 use Rattle.spin_core.specs.declared.trace.Watch.{Watch}
 use Rattle.spin_model.specs.declared.answer.Answer.TheVariants.{Granted, Refused, Done}
@@ -54,8 +55,8 @@ module _ {T : Type 0} where
       × IfErr r (λ now. Stepped model true TryLock (Answered Refused None) Idle p (here now))
 
   -- the party holds the lock with this ticket, and may write the value, which is `x`
-  abbrev pub HasTicket : ℕ → T → Account T → Type 0
-  HasTicket number x it = (number < ticket_limit) × (what it.permit.view ≡ Some (Entered number)) × (it.permit.value ≡ Some x)
+  abbrev pub HasTicket : {P S : Type 0} → ℕ → T → Permit T (Numbered View) P (Key T) S → Type 0
+  HasTicket number x permit = (number < ticket_limit) × (what permit.view ≡ Some (Entered number)) × (permit.value ≡ Some x)
 
   -- the party has written this value, and then released the lock; the value is the one written last
   abbrev pub Releases : T → Spot T → Spot T → Type 0

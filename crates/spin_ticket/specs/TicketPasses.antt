@@ -11,7 +11,7 @@ use Rattle.spin_ticket.specs.declared.ticket.rule.View.{View}
 module _ {T R : Type 0} where
   -- all moves in the lock, up to the pass's last step
   abbrev pub history : Pass T R → List (Made T)
-  history it = it.seen.entries
+  history it = it.account.seen.entries
 
   -- the name of a lock's history
   abbrev pub name_of : TicketMutex T R → ℕ
@@ -19,7 +19,7 @@ module _ {T R : Type 0} where
 
   -- the same name, by a pass of the lock
   abbrev pub lock_of : Pass T R → ℕ
-  lock_of it = it.seen.name
+  lock_of it = it.account.seen.name
 
   -- the number of a lock's first ticket
   abbrev pub first_ticket : TicketMutex T R → ℕ
@@ -27,7 +27,7 @@ module _ {T R : Type 0} where
 
   -- the same number, by a pass of the lock
   abbrev pub first_of : Pass T R → ℕ
-  first_of it = it.permit.key.1
+  first_of it = it.account.permit.key.1
 
   -- what was fixed when the lock was made
   abbrev pub opening : TicketMutex T R → Key T
@@ -35,11 +35,11 @@ module _ {T R : Type 0} where
 
   -- the same, by a pass of the lock
   abbrev pub opening_of : Pass T R → Key T
-  opening_of it = it.permit.key
+  opening_of it = it.account.permit.key
 
   -- the party of the pass; there is none before its first call
   abbrev pub party : Pass T R → Option (Numbered View)
-  party it = it.permit.view
+  party it = it.account.permit.view
 
   -- both passes are of locks with the same name and the same first ticket
   abbrev pub IsOfOneLock : Pass T R → Pass T R → Type 0

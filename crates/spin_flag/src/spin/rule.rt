@@ -1,17 +1,24 @@
 //! What a party is to a `SpinMutex`, and what the word of the lock says of its parties. Begin at [`FlagRule`].
-ghost use Rattle.std.specs.Prelude.{◌≡◌, ℕ, refl};
+ghost use Rattle.std.specs.Prelude.{◌≡◌, ◌==◌, not, Bool, Some, true, false, length, refl};
 ghost use Rattle.spin_step.specs.Steps.{bit};
 ghost use Rattle.spin_core.specs.Cell.{use_of};
 ghost use Rattle.spin_core.specs.Own.{what};
+ghost use Rattle.spin_core.specs.Passes.{mark_of, IsOut};
+ghost use Rattle.spin_core.specs.Spots.{spot, Releases};
+ghost use Rattle.spin_core.specs.Traced.{MayKnow};
 ghost use Rattle.spin_core.specs.Values.{untold};
-ghost use Rattle.spin_flag.specs.Flag.{IsFlag, Told, flag_ways, use_of_party, has_begun, set, looks_by, tries_by, frees_by, tried_by, looked_by};
+ghost use Rattle.spin_model.specs.declared.answer.Answer.TheVariants.{Done};
+ghost use Rattle.spin_model.specs.declared.flag.FlagCall.TheVariants.{Release};
+ghost use Rattle.spin_flag.specs.declared.spin.rule.View.TheVariants.{Idle};
+ghost use Rattle.spin_flag.specs.Flag.{IsFlag, Told, flag_ways, model_at, use_of_party, set, looks_by, tries_by, frees_by, looked_by};
 
-use spin_core::cell::{Play, Rule, WritePermit};
+use spin_core::cell::{Permit, Play, Rule, WritePermit};
 use spin_core::guard::{self, Uses};
 use spin_core::tie::{self, Opening};
 use spin_core::trace::{Trace, Watch};
 use spin_model::FlagCall;
 use spin_step::flag;
+use std::marker::PhantomData;
 
 /// What a party (one call, and the guard that it returns) is to the lock.
 #[derive(Clone, Copy)]
@@ -59,18 +66,33 @@ impl<T> Play<Opening<T>, Party, Entry<T>> for Load {
     ghost told = { λ key old new before. Told key.value looks_by before };
 }
 
-/// The compare-exchange of `try_lock`.
-pub(super) struct Attempt;
-
-impl<T> Play<Opening<T>, Party, Entry<T>> for Attempt {
-    ghost told = { λ key old new before. Told key.value tries_by before };
+/// A call that tries to acquire the lock.
+pub(super) trait Tries {
+    // Whether the call waits if it finds the flag set.
+    ghost waits: { Bool };
 }
 
-/// The compare-exchange of `lock`.
-pub(super) struct Tries;
+/// A call of `try_lock`.
+pub(super) struct Fails;
 
-impl<T> Play<Opening<T>, Party, Entry<T>> for Tries {
-    ghost told = { λ key old new before. Told key.value (tried_by (has_begun (what before))) before };
+impl Tries for Fails {
+    ghost waits = { false };
+}
+
+/// A call of `lock`.
+pub(super) struct Waits;
+
+impl Tries for Waits {
+    ghost waits = { true };
+}
+
+/// The compare-exchange of the call `K`.
+pub(super) struct Attempt<K> {
+    call: PhantomData<K>,
+}
+
+impl<K: Tries, T> Play<Opening<T>, Party, Entry<T>> for Attempt<K> {
+    ghost told = { λ key old new before. Told key.value (tries_by K.waits (what before)) before };
 }
 
 /// The load of `lock`.
@@ -93,13 +115,26 @@ impl Uses<Party> for FlagRule {
 
 impl<T> guard::Release<T, Party> for FlagRule {
     fn release(writer: WritePermit<'_, T, Party, FlagRule>) {
-        let free = flag::unlock(true);
-        let permit = writer.into_permit();
-        let (permit, _) = permit.store::<Frees>(word(free), Watch::nothing());
+        let (permit, _) = free(writer, Watch::nothing());
         permit.leave();
     }
 
     ghost same = { λ key view. refl };
+}
+
+/// Releases the lock. `seen` is the trace that the holder knows up to its last step, or nothing.
+pub(super) fn free<'a, T>(
+    writer: WritePermit<'a, T, Party, FlagRule>,
+    seen: Watch<Entry<T>>,
+) -> (Permit<'a, T, Party, FlagRule>, Watch<Entry<T>>)
+    requires { MayKnow (IsFlag writer.key) (flag_ways writer.key) seen }
+    ensures out { IsOut Idle (what result.0.view) }
+    ensures knows { mark_of result.0.view ≡ length result.1.entries }
+    ensures releases { writer.entry.key.name ≡ seen.name → writer.entry.view.2 ≡ length seen.entries → Releases model_at (λ o. o) Release Done writer.entry.value (writer.entry.key, Some writer.entry.view, seen) (spot result.0 result.1) }
+{
+    let free = flag::unlock(true);
+    let permit = writer.into_permit();
+    permit.store::<Frees>(word(free), seen)
 }
 
 /// Returns the word that encodes the flag.
@@ -118,7 +153,8 @@ pub(super) fn taken() -> u64
 
 /// Returns the flag that the word encodes.
 pub(super) fn is_set(word: u64) -> bool
-    ensures { result ≡ set word }
+    ensures set { result ≡ set word }
+    ensures clear { (word == 0) ≡ not result }
 {
     word != 0
 }

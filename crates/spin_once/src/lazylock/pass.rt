@@ -7,7 +7,7 @@ ghost use Rattle.spin_once.specs.Once.{is_out};
 ghost use Rattle.spin_once.specs.OnceValues.{IsValue};
 
 use super::{Initialiser, LazyLock, Makes, Promise};
-use crate::once_core::Account;
+use crate::once_core::{Account, Sure};
 use spin_core::relax::RelaxStrategy;
 use std::marker::PhantomData;
 use std::sync::Wait;
@@ -80,7 +80,11 @@ impl<'a, T, F: Makes<T, M>, R: RelaxStrategy, M: Promise<T>> Pass<'a, T, F, R, M
         ensures found { IsValue (opening_of self.entry) (history result.1) result.0.now }
     {
         let Self { account, strategy } = self;
-        let (value, account) = LazyLock::<T, F, R, M>::find_or_make(rt, account).read();
+        let found = match account.come::<Sure>() {
+            Ok(found) => found,
+            Err(account) => LazyLock::<T, F, R, M>::make(rt, account),
+        };
+        let (value, account) = found.read();
         (value, Pass { account, strategy })
     }
 }

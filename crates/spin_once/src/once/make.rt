@@ -1,9 +1,9 @@
-//! What a call with a closure does. Begin with [`find_or_make`].
+//! What a call with a closure does. Begin with [`make`].
 ghost use Rattle.std.specs.Prelude.{◌≡◌, Some, Err, true, false, IfOk, IfErr};
 ghost use Rattle.spin_core.specs.Own.{what};
 ghost use Rattle.spin_core.specs.Passes.{Ends, IsCall};
 ghost use Rattle.spin_model.specs.declared.answer.Answer.TheVariants.{Value};
-ghost use Rattle.spin_model.specs.declared.once.OnceCall.TheVariants.{CallOnce, TryCallOnceOk};
+ghost use Rattle.spin_model.specs.declared.once.OnceCall.TheVariants.{TryCallOnceOk};
 ghost use Rattle.spin_model.specs.declared.once.OncePoint.TheVariants.{TryBegin};
 ghost use Rattle.spin_once.specs.Accounts.{here, Since};
 ghost use Rattle.spin_once.specs.Once.{is_out, in_closure, Fails, IsFailedCall};
@@ -12,23 +12,8 @@ use crate::once_core::{Account, Claim, Found, Sure, Unsure};
 use spin_core::relax::RelaxStrategy;
 use std::sync::Wait;
 
-/// Finds the value, or makes it. Spins while another thread makes it.
-pub(super) fn find_or_make<'a, T, R: RelaxStrategy, F: FnOnce() -> T, W: Wait>(
-    account: Account<'a, T, ()>,
-    rt: &W,
-    f: F,
-) -> Found<'a, T, ()>
-    requires out { is_out (what account.party.view) ≡ true }
-    requires calls { F.pre f }
-    ensures { Since (here account.entry) (IsCall (CallOnce tt) (Value tt)) (here result.account) }
-{
-    match account.come::<Sure>() {
-        Ok(found) => found,
-        Err(account) => make::<T, R, F, W>(rt, account, f),
-    }
-}
-
-/// Like `find_or_make`, with a closure that may fail. If the closure fails, returns its error with the account.
+/// Finds the value, or makes it by a closure that may fail. Spins while another thread makes it. If the closure fails,
+/// returns its error with the account.
 pub(super) fn find_or_try<'a, T, R: RelaxStrategy, F: FnOnce() -> Result<T, E>, E, W: Wait>(
     account: Account<'a, T, ()>,
     rt: &W,
@@ -46,7 +31,7 @@ pub(super) fn find_or_try<'a, T, R: RelaxStrategy, F: FnOnce() -> Result<T, E>, 
     }
 }
 
-// It is not inlined, since that would lengthen the path of each caller that finds a value.
+// Makes the value, or waits for it. It is not inlined, since that would lengthen the path of each caller that finds a value.
 #[cold]
 #[inline(never)]
 pub(super) fn make<'a, T, R: RelaxStrategy, F: FnOnce() -> T, W: Wait>(

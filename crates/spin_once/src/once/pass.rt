@@ -4,12 +4,15 @@ ghost use mathlib.Core.List.{IsPrefix};
 ghost use Rattle.spin_core.specs.Own.{what};
 ghost use Rattle.spin_model.specs.declared.answer.Answer.TheVariants.{Value, Is};
 ghost use Rattle.spin_model.specs.declared.once.OnceCall.TheVariants.{CallOnce, Wait as WaitCall, Poll, Get, IsCompleted};
+ghost use Rattle.spin_model.specs.declared.once.OnceCall.{OnceCall};
+ghost use Rattle.spin_once.specs.Accounts.{Place, here, Since, Finds};
+ghost use Rattle.spin_core.specs.Passes.{IsCall};
 ghost use Rattle.spin_once.specs.Once.{is_out};
 ghost use Rattle.spin_once.specs.OnceValues.{IsValue};
 
 use super::Once;
-use super::make::{find_or_make, find_or_try};
-use crate::once_core::Account;
+use super::make::{find_or_try, make};
+use crate::once_core::{Account, Found, Sure};
 use spin_core::relax::RelaxStrategy;
 use std::marker::PhantomData;
 use std::sync::Wait;
@@ -73,13 +76,7 @@ impl<'a, T, R> Pass<'a, T, R> {
         ensures found { IfSome result.0 (λ value. IsValue (opening_of self.entry) (history result.1) value.now) }
     {
         let Self { account, strategy } = self;
-        match account.get() {
-            Ok(found) => {
-                let (value, account) = found.read();
-                (Some(value), Pass { account, strategy })
-            }
-            Err(account) => (None, Pass { account, strategy }),
-        }
+        Self::answer(account.get(), strategy)
     }
 
     /// Returns whether there is a value, as [`Once::is_completed`] does.
@@ -92,6 +89,23 @@ impl<'a, T, R> Pass<'a, T, R> {
         let Self { account, strategy } = self;
         let (there, account) = account.is_completed();
         (there, Pass { account, strategy })
+    }
+
+    // What a call returns that has found the value or none.
+    fn answer(
+        found: Result<Found<'a, T, ()>, Account<'a, T, ()>>,
+        strategy: PhantomData<R>,
+    ) -> (Option<&'a T>, Self)
+        requires { IfErr found (λ none. is_out (what none.party.view) ≡ true) }
+        ensures { (call : OnceCall (Unit {0})) (p : Place T (Unit {0})) → Finds call p found.entry → Since p (IsCall call (found_or_none result.0)) (here result.1.account) × IfSome result.0 (λ value. IsValue p.0.opening result.1.account.seen.entries value.now) }
+    {
+        match found {
+            Ok(found) => {
+                let (value, account) = found.read();
+                (Some(value), Pass { account, strategy })
+            }
+            Err(account) => (None, Pass { account, strategy }),
+        }
     }
 
     /// Compares what two passes of one `Once` know. It does nothing when it runs.
@@ -123,8 +137,12 @@ impl<'a, T, R: RelaxStrategy> Pass<'a, T, R> {
         ensures found { IsValue (opening_of self.entry) (history result.1) result.0.now }
     {
         let Self { account, strategy } = self;
-        let (value, account) = find_or_make::<T, R, F, W>(account, rt, f).read();
-        (value, Pass { account, strategy })
+        let found = match account.come::<Sure>() {
+            Ok(found) => found,
+            Err(account) => make::<T, R, F, W>(rt, account, f),
+        };
+        let (made, account) = found.read();
+        (made, Pass { account, strategy })
     }
 
     /// Like [`call_once`](Pass::call_once), with a closure that may fail, as [`Once::try_call_once`] does.
@@ -178,13 +196,7 @@ impl<'a, T, R: RelaxStrategy> Pass<'a, T, R> {
         ensures found { IfSome result.0 (λ value. IsValue (opening_of self.entry) (history result.1) value.now) }
     {
         let Self { account, strategy } = self;
-        match account.poll::<R, W>(rt) {
-            Ok(found) => {
-                let (value, account) = found.read();
-                (Some(value), Pass { account, strategy })
-            }
-            Err(account) => (None, Pass { account, strategy }),
-        }
+        Self::answer(account.poll::<R, W>(rt), strategy)
     }
 }
 

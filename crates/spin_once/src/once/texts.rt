@@ -13,6 +13,6 @@ impl<T: Debug, R> Debug for Once<T, R> {
     fn fmt<W: fmt::Write>(&self, f: &mut Formatter<W>) -> fmt::Result
         ensures { (found : Option T) × DisplaysOnOk W.write_str_gives f.old result (once_text (codes "Once") T.debug_output found) f.new }
     {
-        write_once("Once", self.get(), f)
+        write_once("Once(", "Once(<uninit>)", self.get(), f)
     }
 }

@@ -6,22 +6,22 @@ ghost use Rattle.spin_core.specs.Cell.{use_of};
 ghost use Rattle.spin_core.specs.Own.{what};
 ghost use Rattle.spin_core.specs.Passes.{mark_of, IsCall, Begins as BeginsWith, Waits as Goes};
 ghost use Rattle.spin_core.specs.Stable.{maybe_stable};
-ghost use Rattle.spin_model.specs.declared.answer.Answer.TheVariants.{Value, NoValue, Is};
+ghost use Rattle.spin_model.specs.declared.answer.Answer.TheVariants.{Value, Is};
 ghost use Rattle.spin_model.specs.declared.once.OnceCall.TheVariants.{Get, IsCompleted, Wait as WaitCall, Poll};
-ghost use Rattle.spin_model.specs.declared.once.OncePoint.TheVariants.{Look, TryBegin, Await};
+ghost use Rattle.spin_model.specs.declared.once.OncePoint.TheVariants.{TryBegin, Await};
 ghost use Rattle.spin_once.specs.Once.{use_of_party, point_of, is_load, is_out, closure_call, in_closure};
 ghost use Rattle.spin_once.specs.OnceValues.{IsValue, Sees};
 ghost use Rattle.spin_once.specs.declared.once_core.rule.Stage.TheVariants.{Done};
-ghost use Rattle.spin_once.specs.declared.once_core.rule.View.TheVariants.{Idle, Reading, InCall};
+ghost use Rattle.spin_once.specs.declared.once_core.rule.View.TheVariants.{Reading};
 
 use super::init_permit::InitPermit;
+use super::known::known;
 use super::rule::{
-    COMPLETE, Call, Caller, Closure, Completes, Entry, Gets, NOTHING, Polls, Runs, Seed, Turn,
-    Waits, show_value,
+    COMPLETE, Call, Caller, Closure, Completes, Entry, Gets, NOTHING, Polls, Runs, Seed, Stage,
+    Turn, Waits, begun,
 };
 use spin_core::relax::RelaxStrategy;
 use spin_core::trace::Watch;
-use spin_step::once;
 use std::sync::Wait;
 
 /// A party that knows which moves in the trace are its own, and the whole trace up to its own last move.
@@ -47,20 +47,24 @@ pub(crate) enum Claim<'a, T, S: Seed<T>> {
 }
 
 impl<'a, T, S: Seed<T>> Found<'a, T, S> {
-    ghost use Rattle.spin_once.specs.Accounts.{here, Same};
+    ghost use Rattle.spin_once.specs.Accounts.{here};
 
-    /// Returns the value.
+    /// Returns the value, for as long as the cell is borrowed. The party keeps reading it.
     pub(crate) fn read(self) -> (&'a T, Account<'a, T, S>)
         ensures value { self.entry.account.party.value ≡ Some (maybe_stable (Done result.0.now)) }
         ensures made { S.makes self.entry.account.party.key.seed.value result.0.now }
-        ensures same { Same (here self.entry.account) (here result.1) }
+        ensures same { here result.1 ≡ here self.entry.account }
         ensures reads { what result.1.party.view ≡ Some Reading }
         ensures found { IsValue result.1.party.key.opening result.1.seen.entries result.0.now }
     {
         let Self { account } = self;
         let Account { party, seen } = account;
-        let (value, party) = show_value(party);
-        (value, Account { party, seen })
+        let (slot, party) = party.show();
+        let value = match &slot.value {
+            Stage::Done(value) => Some(value),
+            _ => None,
+        };
+        (known(value), Account { party, seen })
     }
 
     /// Returns the value to a caller that keeps no record of its calls.
@@ -74,7 +78,7 @@ impl<'a, T, S: Seed<T>> Found<'a, T, S> {
 }
 
 impl<'a, T, S: Seed<T>> Account<'a, T, S> {
-    ghost use Rattle.spin_once.specs.Accounts.{Place, here, Since, Turned, FindsSeed, Claims, Attempts, IsPolled};
+    ghost use Rattle.spin_once.specs.Accounts.{here, Since, Turned, FindsSeed, Finds, Claims, Attempts};
 
     /// Ends the account of a party that is in no call.
     pub(crate) fn close(self)
@@ -105,11 +109,10 @@ impl<'a, T, S: Seed<T>> Account<'a, T, S> {
     /// Finds the value, or none, by one load.
     pub(crate) fn get(self) -> Result<Found<'a, T, S>, Account<'a, T, S>>
         requires { is_out (what self.party.view) ≡ true }
-        ensures found { IfOk result (λ found. Since (here self.entry) (IsCall Get (Value tt)) (here found.account)) }
-        ensures none { IfErr result (λ account. Since (here self.entry) (IsCall Get NoValue) (here account) × (what account.party.view ≡ Some Idle)) }
+        ensures { Finds Get (here self.entry) result }
     {
         let (found, account) = self.load::<Gets>();
-        if found == COMPLETE as u64 {
+        if found == COMPLETE {
             Ok(Found { account })
         } else {
             Err(account)
@@ -123,7 +126,7 @@ impl<'a, T, S: Seed<T>> Account<'a, T, S> {
         ensures out { is_out (what result.1.party.view) ≡ true }
     {
         let (found, account) = self.load::<Completes>();
-        (found == COMPLETE as u64, account)
+        (found == COMPLETE, account)
     }
 
     /// Begins a call with a closure of kind `C`, by one load. If the load finds no value, the call continues by
@@ -134,7 +137,7 @@ impl<'a, T, S: Seed<T>> Account<'a, T, S> {
         ensures wants { IfErr result (λ account. Since (here self.entry) (BeginsWith (closure_call C.may_fail) Goes) (here account) × (what account.party.view ≡ Some (in_closure C.may_fail TryBegin))) }
     {
         let (found, account) = self.load::<Runs<C>>();
-        if found == COMPLETE as u64 {
+        if found == COMPLETE {
             Ok(Found { account })
         } else {
             Err(account)
@@ -146,20 +149,10 @@ impl<'a, T, S: Seed<T>> Account<'a, T, S> {
         requires { what self.party.view ≡ Some (in_closure C.may_fail TryBegin) }
         ensures { Claims C.may_fail (here self.entry) result }
     {
-        match self.begin::<C>() {
-            Ok(claim) => claim,
-            Err(account) => account.claim_later::<C, R, W>(rt),
-        }
-    }
-
-    // Looks again until it finds the value, or gets the right to make it.
-    #[cold]
-    #[inline(never)]
-    fn claim_later<C: Closure, R: RelaxStrategy, W: Wait>(self, rt: &W) -> Claim<'a, T, S>
-        requires { what self.party.view ≡ Some (in_closure C.may_fail Await) }
-        ensures { (p : Place T S) → Since p Goes (here self.entry) → Claims C.may_fail p result }
-    {
-        let mut account = self;
+        let mut account = match self.begin::<C>() {
+            Ok(claim) => return claim,
+            Err(next) => next,
+        };
         for _ in rt.forever() {
             R::pause(rt, 1);
             match account.look_and_begin::<C>() {
@@ -176,10 +169,10 @@ impl<'a, T, S: Seed<T>> Account<'a, T, S> {
         ensures { Attempts C.may_fail (here self.entry) result }
     {
         let (found, account) = self.load::<Runs<C>>();
-        if found == COMPLETE as u64 {
+        if found == COMPLETE {
             return Ok(Claim::Found(Found { account }));
         }
-        if found != NOTHING as u64 {
+        if found != NOTHING {
             return Err(account);
         }
         account.begin::<C>()
@@ -191,13 +184,13 @@ impl<'a, T, S: Seed<T>> Account<'a, T, S> {
         ensures { Attempts C.may_fail (here self.entry) result }
     {
         let (found, account) = self.exchange::<C>();
-        if found == COMPLETE as u64 {
+        if found == COMPLETE {
             return Ok(Claim::Found(Found { account }));
         }
-        if found != NOTHING as u64 {
+        if found != NOTHING {
             return Err(account);
         }
-        Ok(Claim::Init(InitPermit::new(account)))
+        Ok(Claim::Init(InitPermit { account }))
     }
 
     // Makes the exchange by which a call begins to run its closure. A party that begins finds the seed still there.
@@ -207,12 +200,7 @@ impl<'a, T, S: Seed<T>> Account<'a, T, S> {
         ensures seed { FindsSeed result.1 }
     {
         let Self { party, seen } = self;
-        let running = once::begin(NOTHING).unwrap();
-        let (found, party, seen) = party.exchange::<Turn<Runs<C>>>(
-            NOTHING as u64,
-            running as u64,
-            seen,
-        );
+        let (found, party, seen) = party.exchange::<Turn<Runs<C>>>(NOTHING, begun(), seen);
         (found, Account { party, seen })
     }
 
@@ -221,27 +209,13 @@ impl<'a, T, S: Seed<T>> Account<'a, T, S> {
         requires { is_out (what self.party.view) ≡ true }
         ensures { Since (here self.entry) (IsCall WaitCall (Value tt)) (here result.account) }
     {
-        let (found, account) = self.load::<Waits>();
-        if found == COMPLETE as u64 {
-            return Found { account };
-        }
-        account.wait_on::<R, W>(rt)
-    }
-
-    // Looks again until there is a value.
-    #[cold]
-    #[inline(never)]
-    fn wait_on<R: RelaxStrategy, W: Wait>(self, rt: &W) -> Found<'a, T, S>
-        requires { what self.party.view ≡ Some (InCall WaitCall Look) }
-        ensures { (p : Place T S) → Since p (BeginsWith WaitCall Goes) (here self.entry) → Since p (IsCall WaitCall (Value tt)) (here result.account) }
-    {
         let mut account = self;
         for _ in rt.forever() {
-            R::pause(rt, 1);
             let (found, next) = account.load::<Waits>();
-            if found == COMPLETE as u64 {
+            if found == COMPLETE {
                 return Found { account: next };
             }
+            R::pause(rt, 1);
             account = next;
         }
         unreachable!()
@@ -253,38 +227,18 @@ impl<'a, T, S: Seed<T>> Account<'a, T, S> {
         rt: &W,
     ) -> Result<Found<'a, T, S>, Account<'a, T, S>>
         requires { is_out (what self.party.view) ≡ true }
-        ensures { IsPolled (here self.entry) result }
-    {
-        let (found, account) = self.load::<Polls>();
-        if found == COMPLETE as u64 {
-            return Ok(Found { account });
-        }
-        if found != NOTHING as u64 {
-            return account.poll_on::<R, W>(rt);
-        }
-        Err(account)
-    }
-
-    // Looks again while a thread makes the value.
-    #[cold]
-    #[inline(never)]
-    fn poll_on<R: RelaxStrategy, W: Wait>(
-        self,
-        rt: &W,
-    ) -> Result<Found<'a, T, S>, Account<'a, T, S>>
-        requires { what self.party.view ≡ Some (InCall Poll Look) }
-        ensures { (p : Place T S) → Since p (BeginsWith Poll Goes) (here self.entry) → IsPolled p result }
+        ensures { Finds Poll (here self.entry) result }
     {
         let mut account = self;
         for _ in rt.forever() {
-            R::pause(rt, 1);
             let (found, next) = account.load::<Polls>();
-            if found == COMPLETE as u64 {
+            if found == COMPLETE {
                 return Ok(Found { account: next });
             }
-            if found == NOTHING as u64 {
+            if found == NOTHING {
                 return Err(next);
             }
+            R::pause(rt, 1);
             account = next;
         }
         unreachable!()

@@ -1,29 +1,29 @@
 //! The rule of a [`OnceCore`](super::OnceCore): what each party is to the value (`View`), what the word says of all
 //! parties, and each kind of step.
-ghost use Rattle.std.specs.Prelude.{◌≡◌, Bool, Some, None, true, false};
+ghost use Rattle.std.specs.Prelude.{◌≡◌, Bool, true, false};
 ghost use Rattle.spin_core.specs.Own.{what};
-ghost use Rattle.spin_core.specs.Stable.{maybe_stable};
 ghost use Rattle.spin_model.specs.declared.once.OnceCall.{OnceCall};
 ghost use Rattle.spin_model.specs.declared.once.OnceCall.TheVariants.{Get, IsCompleted, Wait, Poll};
 ghost use Rattle.spin_once.specs.Once.{Told, turn_by, fails_by, closure_call};
-ghost use Rattle.spin_once.specs.declared.once_core.rule.View.TheVariants.{Reading};
 ghost use Rattle.spin_once.specs.declared.once_core.rule.Stage.TheVariants.{Done, Seed as InSeed};
 
-use super::known::known;
 use spin_core::cell::stable::{MaybeStable, Stabilizes, Stable};
 use spin_core::cell::{Cell, Permit, Play, Rule, WritePermit};
 use spin_core::tie::{self, Opening};
 use spin_core::trace::Trace;
 use spin_model::{OnceCall, OncePoint};
+use spin_step::once;
 use std::marker::PhantomData;
 use std::snapshot::Snapshot;
 
-// The states of the word.
-pub(super) const NOTHING: u8 = 0;
+// The word where there is no value and no closure runs.
+pub(super) const NOTHING: u64 = 0;
 
+// The word where there is a value.
+pub(super) const COMPLETE: u64 = 2;
+
+// While a closure runs the word is 1. The step functions take words as bytes.
 pub(super) const RUNNING: u8 = 1;
-
-pub(super) const COMPLETE: u8 = 2;
 
 /// What a value is made from.
 pub trait Seed<T> {
@@ -205,7 +205,7 @@ pub(super) fn with_seed<T, S: Seed<T>>(seed: S) -> SeedCell<T, S>
         opening: Opening::of(&trace, &stage),
     };
     let slot = MaybeStable { value: stage };
-    Cell::new(slot, NOTHING as u64, trace, &key)
+    Cell::new(slot, NOTHING, trace, &key)
 }
 
 /// Creates a cell with a value, as if a party had read it.
@@ -221,20 +221,13 @@ pub(super) fn completed<T, S: Seed<T>>(value: T, seed: &S) -> SeedCell<T, S>
         opening: Opening::of(&trace, &stage),
     };
     let slot = MaybeStable { value: stage };
-    Cell::new(slot, COMPLETE as u64, trace, &key)
+    Cell::new(slot, COMPLETE, trace, &key)
 }
 
-/// Returns the value to a party that reads it, for as long as the cell is borrowed. The party keeps reading it.
-pub(super) fn show_value<'a, T, S: Seed<T>>(party: Caller<'a, T, S>) -> (&'a T, Caller<'a, T, S>)
-    requires { what party.view ≡ Some Reading }
-    ensures value { party.entry.value ≡ Some (maybe_stable (Done result.0.now)) }
-    ensures made { S.makes party.entry.key.seed.value result.0.now }
-    ensures same { (result.1.key ≡ party.entry.key) × (result.1.view ≡ party.entry.view) × (result.1.value ≡ party.entry.value) }
+/// Returns the word that an exchange puts in place of `NOTHING` when a closure begins to run.
+pub(super) fn begun() -> u64
+    ensures { result ≡ 1 }
 {
-    let (slot, party) = party.show();
-    let value = match &slot.value {
-        Stage::Done(value) => Some(value),
-        _ => None,
-    };
-    (known(value), party)
+    let nothing = 0;
+    once::begin(nothing).unwrap() as u64
 }

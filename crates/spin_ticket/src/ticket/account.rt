@@ -1,18 +1,24 @@
 //! The steps of a party that knows the lock's history. Each function makes one step. Begin with [`Account::find_next`].
-ghost use Rattle.std.specs.Prelude.{◌≡◌, ◌≤◌, Some, None, true, false};
+ghost use Rattle.std.specs.Prelude.{◌≡◌, ◌≤◌, Some, None, true, false, length};
 ghost use Rattle.spin_core.specs.Cell.{use_of, writes};
 ghost use Rattle.spin_core.specs.Own.{what};
-ghost use Rattle.spin_core.specs.Passes.{IsOut, Nothing};
-ghost use Rattle.spin_core.specs.Spots.{Since, Stepped};
+ghost use Rattle.spin_core.specs.Passes.{IsOut, Nothing, mark_of};
+ghost use Rattle.spin_core.specs.Spots.{Since, Stepped, spot};
+ghost use Rattle.spin_core.specs.Traced.{MayKnow};
 ghost use Rattle.spin_step.specs.Tickets.{take};
-ghost use Rattle.spin_ticket.specs.Queue.{use_of_party, model, freed, answers_free, answers_look};
+ghost use Rattle.spin_ticket.specs.Queue.{IsQueue, queue_ways, use_of_party, model, freed, answers_free, answers_look};
 ghost use Rattle.spin_ticket.specs.Accounts.{here, Attempts, HasTicket, Releases};
 ghost use Rattle.spin_ticket.specs.declared.ticket.rule.View.TheVariants.{Idle, LoadedNext, Trying, LoadedServing};
 ghost use Rattle.spin_model.specs.declared.schedule.Outcome.TheVariants.{GoingOn};
 ghost use Rattle.spin_model.specs.declared.ticket.TicketCall.TheVariants.{TryLock, IsLocked};
 
-use super::rule::{FindOwn, LookNext, LookServing, Serve, TryLoadNext, TryLoadServing, TryTake};
+use super::rule::{
+    Entry, FindOwn, LookNext, LookServing, Party, Serve, TicketRule, TryLoadNext, TryLoadServing,
+    TryTake,
+};
 use super::waiting::{Account, Grant};
+use spin_core::cell::Permit;
+use spin_core::trace::Watch;
 use spin_step::ticket;
 
 impl<'a, T> Account<'a, T> {
@@ -77,26 +83,34 @@ impl<'a, T> Account<'a, T> {
         let (next, permit, seen) = permit.load::<LookNext>(seen);
         (next, Account { permit, seen })
     }
+}
 
-    // Begins a release: finds the number of the holder's own ticket. The model has no move for this load.
-    pub(super) fn find_own(self) -> (u64, Account<'a, T>)
-        requires { use_of use_of_party self.permit.view ≡ writes }
-        ensures holds { (x : T) → self.entry.permit.value ≡ Some x → HasTicket result.0 x result.1 }
-        ensures since { Since model Nothing (here self.entry) (here result.1) }
-    {
-        let Self { permit, seen } = self;
-        let (number, permit, seen) = permit.load_second::<FindOwn>(seen);
-        (number, Account { permit, seen })
-    }
+// Begins a release: finds the number of the holder's own ticket. The model has no move for this load. `seen` is the
+// trace that the holder knows up to its last step, or nothing.
+pub(super) fn find_own<'a, T>(
+    permit: Permit<'a, T, Party, TicketRule>,
+    seen: Watch<Entry<T>>,
+) -> (u64, Permit<'a, T, Party, TicketRule>, Watch<Entry<T>>)
+    requires uses { use_of use_of_party permit.view ≡ writes }
+    requires may { MayKnow (IsQueue permit.key) (queue_ways permit.key) seen }
+    ensures holds { (x : T) → permit.entry.value ≡ Some x → HasTicket result.0 x result.1 }
+    ensures knows { mark_of result.1.view ≡ length result.2.entries }
+    ensures since { permit.entry.key.0.name ≡ seen.name → mark_of permit.entry.view ≡ length seen.entries → Since model Nothing (spot permit.entry seen) (spot result.1 result.2) }
+{
+    permit.load_second::<FindOwn>(seen)
+}
 
-    // Releases the lock of a holder whose ticket has this number.
-    pub(super) fn serve(self, number: u64) -> Account<'a, T>
-        requires { (x : T) × HasTicket number x self }
-        ensures out { IsOut Idle (what result.permit.view) }
-        ensures releases { (x : T) → self.entry.permit.value ≡ Some x → Releases x (here self.entry) (here result) }
-    {
-        let Self { permit, seen } = self;
-        let (permit, seen) = permit.store_second::<Serve>(ticket::serve(number), seen);
-        Account { permit, seen }
-    }
+// Releases the lock of a holder whose ticket has this number.
+pub(super) fn serve<'a, T>(
+    permit: Permit<'a, T, Party, TicketRule>,
+    seen: Watch<Entry<T>>,
+    number: u64,
+) -> (Permit<'a, T, Party, TicketRule>, Watch<Entry<T>>)
+    requires holds { (x : T) × HasTicket number x permit }
+    requires may { MayKnow (IsQueue permit.key) (queue_ways permit.key) seen }
+    ensures out { IsOut Idle (what result.0.view) }
+    ensures knows { mark_of result.0.view ≡ length result.1.entries }
+    ensures releases { (x : T) → permit.entry.value ≡ Some x → permit.entry.key.0.name ≡ seen.name → mark_of permit.entry.view ≡ length seen.entries → Releases x (spot permit.entry seen) (spot result.0 result.1) }
+{
+    permit.store_second::<Serve>(ticket::serve(number), seen)
 }

@@ -1,9 +1,9 @@
 //! The calls of a [`TicketMutex`] by a thread that keeps track of them. Begin at [`TicketMutex::pass`].
-ghost use Rattle.std.specs.Prelude.{◌≡◌, ◌⊎◌, ◌≤◌, not, true, Some, None, [], ◌==◌, length, IfOk, IfErr};
+ghost use Rattle.std.specs.Prelude.{◌≡◌, ◌⊎◌, ◌≤◌, not, true, Some, None, [], ◌==◌, IfOk, IfErr};
 ghost use mathlib.Core.List.{IsPrefix};
 ghost use Rattle.spin_core.specs.Guard.{IsHolder, guard_view, guard_key, guard_value};
 ghost use Rattle.spin_core.specs.Own.{what};
-ghost use Rattle.spin_core.specs.Passes.{mark_of, IsOut};
+ghost use Rattle.spin_core.specs.Passes.{IsOut};
 ghost use Rattle.spin_core.specs.Spots.{IsIn, HasCalled};
 ghost use Rattle.spin_core.specs.Values.{IsLast};
 ghost use Rattle.spin_ticket.specs.Queue.{use_of_party, model, Called, Left};
@@ -14,10 +14,10 @@ ghost use Rattle.spin_model.specs.declared.answer.Answer.TheVariants.{Granted, R
 ghost use Rattle.spin_model.specs.declared.ticket.TicketCall.{TicketCall};
 ghost use Rattle.spin_model.specs.declared.ticket.TicketCall.TheVariants.{Lock, TryLock, IsLocked};
 
-use super::rule::{Await, Entry, LoadNext, Party, Take, TicketRule};
+use super::account::{find_own, serve};
+use super::rule::{Await, Entry, LoadNext, Take};
 use super::waiting::{Account, Going, Grant, Place};
 use super::{HINTS_EACH, TicketMutex, TicketMutexGuard};
-use spin_core::cell::Permit;
 use spin_core::guard::Guard;
 use spin_core::relax::{MAX_HINTS, RelaxStrategy};
 use spin_core::trace::Watch;
@@ -48,12 +48,9 @@ use std::sync::Wait;
 /// ```
 #[must_use = "a pass that is dropped ends: bind it, or write `drop(..)`"]
 pub struct Pass<'a, T, R> {
-    permit: Permit<'a, T, Party, TicketRule>,
-    seen: Watch<Entry<T>>,
+    account: Account<'a, T>,
     strategy: PhantomData<R>,
-    ghost named: { permit.key.0.name ≡ seen.name },
-    ghost rests: { IsOut Idle (what permit.view) },
-    ghost knows: { mark_of permit.view ≡ length seen.entries },
+    ghost rests: { IsOut Idle (what account.permit.view) },
 }
 
 impl<T, R> TicketMutex<T, R> {
@@ -62,12 +59,14 @@ impl<T, R> TicketMutex<T, R> {
     /// # Contract
     /// The pass is of this lock (`lock`), and knows nothing of its history yet (`new`).
     pub fn pass(&self) -> Pass<'_, T, R>
-        ensures new { (result.seen.entries ≡ []) × (result.permit.view ≡ None) }
-        ensures lock { (result.seen.name ≡ self.now.cell.0.name) × (result.permit.key ≡ self.now.cell) }
+        ensures new { (result.account.seen.entries ≡ []) × (result.account.permit.view ≡ None) }
+        ensures lock { (result.account.seen.name ≡ self.now.cell.0.name) × (result.account.permit.key ≡ self.now.cell) }
     {
         Pass {
-            permit: self.cell.enter(),
-            seen: self.cell.watch(),
+            account: Account {
+                permit: self.cell.enter(),
+                seen: self.cell.watch(),
+            },
             strategy: PhantomData,
         }
     }
@@ -82,17 +81,16 @@ impl<T, R> TicketMutex<T, R> {
     /// (`wrote`). So this value is the one written last (`left`).
     pub fn unlock<'a>(guard: TicketMutexGuard<'a, T, R>, seen: Watch<Entry<T>>) -> Pass<'a, T, R>
         requires { Holds guard seen }
-        ensures made { Left (guard_key guard.entry) (λ x. Unit {0}) (Some (guard_view guard.entry)) seen.entries result.permit.view result.seen.entries }
-        ensures wrote { Left (guard_key guard.entry) (λ x. (guard_key guard.entry).0.told ≡ true → x ≡ guard_value guard.entry) (Some (guard_view guard.entry)) seen.entries result.permit.view result.seen.entries }
-        ensures left { IsLast (guard_key guard.entry).0 result.seen.entries (guard_value guard.entry) }
-        ensures same { (result.seen.name ≡ seen.name) × (result.permit.key ≡ guard_key guard.entry) }
+        ensures made { Left (guard_key guard.entry) (λ x. Unit {0}) (Some (guard_view guard.entry)) seen.entries result.account.permit.view result.account.seen.entries }
+        ensures wrote { Left (guard_key guard.entry) (λ x. (guard_key guard.entry).0.told ≡ true → x ≡ guard_value guard.entry) (Some (guard_view guard.entry)) seen.entries result.account.permit.view result.account.seen.entries }
+        ensures left { IsLast (guard_key guard.entry).0 result.account.seen.entries (guard_value guard.entry) }
+        ensures same { (result.account.seen.name ≡ seen.name) × (result.account.permit.key ≡ guard_key guard.entry) }
     {
         let permit = Guard::into_writer(guard).into_permit();
-        let (number, account) = Account { permit, seen }.find_own();
-        let Account { permit, seen } = account.serve(number);
+        let (number, permit, seen) = find_own(permit, seen);
+        let (permit, seen) = serve(permit, seen, number);
         Pass {
-            permit,
-            seen,
+            account: Account { permit, seen },
             strategy: PhantomData,
         }
     }
@@ -108,16 +106,15 @@ impl<'a, T, R: RelaxStrategy> Pass<'a, T, R> {
     pub fn lock<W: Wait>(self, rt: &W) -> (TicketMutexGuard<'a, T, R>, Watch<Entry<T>>)
         ensures holder { IsHolder use_of_party result.0 }
         ensures holds { Holds result.0 result.1 }
-        ensures same { (result.1.name ≡ self.entry.seen.name) × (guard_key result.0 ≡ self.entry.permit.key) }
-        ensures found { IsLast self.entry.permit.key.0 result.1.entries (guard_value result.0) }
-        ensures made { Called self.entry.permit.key Lock Granted self.entry.permit.view self.entry.seen.entries (Some (guard_view result.0)) result.1.entries }
+        ensures same { (result.1.name ≡ self.entry.account.seen.name) × (guard_key result.0 ≡ self.entry.account.permit.key) }
+        ensures found { IsLast self.entry.account.permit.key.0 result.1.entries (guard_value result.0) }
+        ensures made { Called self.entry.account.permit.key Lock Granted self.entry.account.permit.view self.entry.account.seen.entries (Some (guard_view result.0)) result.1.entries }
     {
         let Self {
-            permit,
-            seen,
+            account,
             strategy: _,
         } = self;
-        let place = match go(Account { permit, seen }).take() {
+        let place = match go(account).take() {
             Ok(place) => place,
             Err(going) => going.keep_trying(rt),
         };
@@ -137,26 +134,15 @@ impl<'a, T, R> Pass<'a, T, R> {
     /// guard's value is the one written last in the history (`found`).
     pub fn try_lock(self) -> Result<(TicketMutexGuard<'a, T, R>, Watch<Entry<T>>), Pass<'a, T, R>>
         ensures holder { IfOk result (λ held. IsHolder use_of_party held.0 × Holds held.0 held.1) }
-        ensures same { IfOk result (λ held. (held.1.name ≡ self.entry.seen.name) × (guard_key held.0 ≡ self.entry.permit.key)) }
-        ensures found { IfOk result (λ held. IsLast self.entry.permit.key.0 held.1.entries (guard_value held.0)) }
-        ensures granted { IfOk result (λ held. Called self.entry.permit.key TryLock Granted self.entry.permit.view self.entry.seen.entries (Some (guard_view held.0)) held.1.entries) }
-        ensures refused { IfErr result (λ pass. Called self.entry.permit.key TryLock Refused self.entry.permit.view self.entry.seen.entries pass.permit.view pass.seen.entries × ((pass.seen.name ≡ self.entry.seen.name) × (pass.permit.key ≡ self.entry.permit.key))) }
+        ensures same { IfOk result (λ held. (held.1.name ≡ self.entry.account.seen.name) × (guard_key held.0 ≡ self.entry.account.permit.key)) }
+        ensures found { IfOk result (λ held. IsLast self.entry.account.permit.key.0 held.1.entries (guard_value held.0)) }
+        ensures granted { IfOk result (λ held. Called self.entry.account.permit.key TryLock Granted self.entry.account.permit.view self.entry.account.seen.entries (Some (guard_view held.0)) held.1.entries) }
+        ensures refused { IfErr result (λ pass. Called self.entry.account.permit.key TryLock Refused self.entry.account.permit.view self.entry.account.seen.entries pass.account.permit.view pass.account.seen.entries × ((pass.account.seen.name ≡ self.entry.account.seen.name) × (pass.account.permit.key ≡ self.entry.account.permit.key))) }
     {
-        let Self {
-            permit,
-            seen,
-            strategy,
-        } = self;
-        match try_once(Account { permit, seen }) {
+        let Self { account, strategy } = self;
+        match try_once(account) {
             Ok(grant) => Ok(grant.into_guard()),
-            Err(account) => {
-                let Account { permit, seen } = account;
-                Err(Pass {
-                    permit,
-                    seen,
-                    strategy,
-                })
-            }
+            Err(account) => Err(Pass { account, strategy }),
         }
     }
 
@@ -165,8 +151,8 @@ impl<'a, T, R> Pass<'a, T, R> {
     /// # Contract
     /// The call is one `IsLocked`, with the returned answer (`made`).
     pub fn is_locked(self) -> (bool, Pass<'a, T, R>)
-        ensures made { Called self.entry.permit.key IsLocked (Is result.0) self.entry.permit.view self.entry.seen.entries result.1.permit.view result.1.seen.entries }
-        ensures same { (result.1.seen.name ≡ self.entry.seen.name) × (result.1.permit.key ≡ self.entry.permit.key) }
+        ensures made { Called self.entry.account.permit.key IsLocked (Is result.0) self.entry.account.permit.view self.entry.account.seen.entries result.1.account.permit.view result.1.account.seen.entries }
+        ensures same { (result.1.account.seen.name ≡ self.entry.account.seen.name) × (result.1.account.permit.key ≡ self.entry.account.permit.key) }
     {
         let (serving, next, pass) = self.look();
         (!ticket::is_turn(serving, next), pass)
@@ -175,28 +161,15 @@ impl<'a, T, R> Pass<'a, T, R> {
     // Makes the steps of `is_locked`. Returns the served number and the next number.
     pub(super) fn look(self) -> (u64, u64, Pass<'a, T, R>)
         ensures order { result.0 ≤ result.1 }
-        ensures made { Called self.entry.permit.key IsLocked (Is (not (result.1 == result.0))) self.entry.permit.view self.entry.seen.entries result.2.permit.view result.2.seen.entries }
-        ensures same { (result.2.seen.name ≡ self.entry.seen.name) × (result.2.permit.key ≡ self.entry.permit.key) }
+        ensures made { Called self.entry.account.permit.key IsLocked (Is (not (result.1 == result.0))) self.entry.account.permit.view self.entry.account.seen.entries result.2.account.permit.view result.2.account.seen.entries }
+        ensures same { (result.2.account.seen.name ≡ self.entry.account.seen.name) × (result.2.account.permit.key ≡ self.entry.account.permit.key) }
     {
-        let Self {
-            permit,
-            seen,
-            strategy,
-        } = self;
+        let Self { account, strategy } = self;
         // The served number is loaded first. The next number is never below the served one, and only grows. So the next
         // number, which is loaded later, is at least the served number found.
-        let (serving, account) = Account { permit, seen }.look_served();
+        let (serving, account) = account.look_served();
         let (next, account) = account.look_next(serving);
-        let Account { permit, seen } = account;
-        (
-            serving,
-            next,
-            Pass {
-                permit,
-                seen,
-                strategy,
-            },
-        )
+        (serving, next, Pass { account, strategy })
     }
 
     /// Compares what two passes of one lock know. It does nothing when it runs.
@@ -206,10 +179,10 @@ impl<'a, T, R> Pass<'a, T, R> {
     /// history. The longer of the two has the calls of both passes, each once, in the order in which each pass made
     /// them.
     pub fn compare(&self, other: &Pass<'_, T, R>)
-        requires { self.now.seen.name ≡ other.now.seen.name }
-        ensures { IsPrefix self.now.seen.entries other.now.seen.entries ⊎ IsPrefix other.now.seen.entries self.now.seen.entries }
+        requires { self.now.account.seen.name ≡ other.now.account.seen.name }
+        ensures { IsPrefix self.now.account.seen.entries other.now.account.seen.entries ⊎ IsPrefix other.now.account.seen.entries self.now.account.seen.entries }
     {
-        self.seen.compare(&other.seen);
+        self.account.seen.compare(&other.account.seen);
     }
 }
 
@@ -350,10 +323,10 @@ impl<'a, T> Place<'a, T> {
 impl<T, R> Drop for Pass<'_, T, R> {
     fn drop(self) {
         let Self {
-            permit,
-            seen: _,
+            account,
             strategy: _,
         } = self;
+        let Account { permit, seen: _ } = account;
         permit.leave();
     }
 }

@@ -7,12 +7,12 @@ ghost use Rattle.spin_model.specs.declared.ticket.TicketCall.TheVariants.{Lock, 
 ghost use Rattle.spin_ticket.specs.Queue.{IsQueue, Told, queue_ways, lent as lent_key, serves_by, use_of_party, goes_on, going, taken, awaits_by, tries_by, attempted, answers_attempt, compares_by, finds_by};
 ghost use Rattle.spin_ticket.specs.declared.ticket.rule.View.TheVariants.{Idle, LoadedNext, LoadedServing};
 
+use super::account::{find_own, serve};
 use spin_core::cell::{Play, Rule, WritePermit};
 use spin_core::guard::{self, Uses};
 use spin_core::tie::{self, Opening};
 use spin_core::trace::{Trace, Watch};
 use spin_model::TicketCall;
-use spin_step::ticket;
 
 /// What a party (one call, and the guard that it returns) is to the lock. The numbers are those of tickets.
 #[derive(Clone, Copy)]
@@ -147,10 +147,8 @@ impl<T> guard::Release<T, Party> for TicketRule {
     // The served number is that of the writer's ticket. A guard does not keep this number. If it did, and the number
     // were tied to the view, `deref_mut` could not lend the guard's permit.
     fn release(writer: WritePermit<'_, T, Party, TicketRule>) {
-        let permit = writer.into_permit();
-        let (number, permit, _) = permit.load_second::<FindOwn>(Watch::nothing());
-        let next = ticket::serve(number);
-        let (permit, _) = permit.store_second::<Serve>(next, Watch::nothing());
+        let (number, permit, _) = find_own(writer.into_permit(), Watch::nothing());
+        let (permit, _) = serve(permit, Watch::nothing(), number);
         permit.leave();
     }
 

@@ -1,11 +1,12 @@
+use Rattle.std.proofs.Common.{subst}
 use Rattle.spin_core.specs.Passes.{Ends}
 use Rattle.spin_model.specs.declared.answer.Answer.TheVariants.{Value}
-use Rattle.spin_once.specs.Accounts.{here, running}
-use Rattle.spin_once.proofs.Accounts.{since_same, and_ends}
+use Rattle.spin_once.specs.Accounts.{here, Since}
+use Rattle.spin_once.proofs.Accounts.{and_ends}
 use Rattle.spin_once.proofs.lazylock.LazyLock.make.Goals as goal
 
 pub returns-in-Init : goal.returns-in-Init
 returns-in-Init g c =
-    let begun = running c.in-Init.permit in let taken = running c.take-permit.result.0 in let end = here c.complete.result.account in
-    and_ends (here c.args.account) begun end (Value tt) c.in-Init.ensures.0
-    (since_same begun taken end (Ends (Value tt)) c.take-permit.ensures.same c.complete.ensures.since)
+    let end = here c.complete.result.account in
+    and_ends (here c.args.account) (here c.in-Init.permit.account) end (Value tt) c.in-Init.ensures.0
+    (subst (λ z. Since z (Ends (Value tt)) end) c.take-permit.ensures.same c.complete.ensures.since)

@@ -1,13 +1,21 @@
+use Rattle.std.proofs.Common.{None, sym, subst}
 use Rattle.spin_core.specs.Passes.{IsCall}
 use Rattle.spin_model.specs.declared.answer.Answer.TheVariants.{Value}
 use Rattle.spin_model.specs.declared.once.OnceCall.TheVariants.{CallOnce}
-use Rattle.spin_once.specs.Accounts.{here}
-use Rattle.spin_once.proofs.Accounts.{shown}
+use Rattle.spin_model.specs.declared.step.Next.TheVariants.{Answers}
+use Rattle.spin_once.specs.Accounts.{here, Since}
+use Rattle.spin_once.proofs.Accounts.{call_on, shown}
 use Rattle.spin_once.proofs.once.pass.Pass.call_once.Goals as goal
+use Rattle.spin_once.proofs.once.pass.Pass.call_once.Goals.{in-Ok, in-Err}
 
 pub returns : goal.returns
 returns g c =
-    let it = c.read-account in
-    let all = shown (here c.args.self.account) (here c.find_or_make.result.account) (here it.result.1)
-    (IsCall (CallOnce tt) (Value tt)) it.result.0.now c.find_or_make.ensures it.ensures.same it.ensures.found in
+    let me = here c.args.self.account in let it = c.read-account in let call = IsCall (CallOnce tt) (Value tt) in
+    let so : Since me call (here c.match-come.found.account) = elim c.match-come.branch [
+      | in-Ok w ↦ subst (λ x. Since me call (here x.account)) (sym w.found-is) w.in-Ok.ensures.found
+      | in-Err w ↦ subst (λ x. Since me call (here x.account)) (sym w.found-is)
+          (call_on me (here w.in-Err.account) (here w.make-found.result.account) (CallOnce tt) (Answers (Value tt) None) w.in-Err.ensures.wants.0
+          w.make-found.ensures)
+    ] in
+    let all = shown me (here c.match-come.found.account) (here it.result.1) call it.result.0.now so it.ensures.same it.ensures.found in
     record { made = all.0; found = all.1 }

@@ -1,13 +1,10 @@
-use Rattle.spin_core.specs.Passes.{IsCall}
-use Rattle.spin_model.specs.declared.answer.Answer.TheVariants.{Value}
 use Rattle.spin_model.specs.declared.once.OnceCall.TheVariants.{Poll}
 use Rattle.spin_once.specs.Accounts.{here}
-use Rattle.spin_once.proofs.Accounts.{shown}
+use Rattle.spin_once.proofs.Accounts.{none_out}
 use Rattle.spin_once.proofs.once.pass.Pass.poll.Goals as goal
 
-pub returns-in-Ok : goal.returns-in-Ok
-returns-in-Ok g c =
-    let it = c.read-account in
-    let all = shown (here c.args.self.account) (here c.in-Ok.found.account) (here it.result.1)
-    (IsCall Poll (Value tt)) it.result.0.now c.in-Ok.ensures it.ensures.same it.ensures.found in
-    record { made = all.0; found = all.1 }
+pub answer-requires : goal.answer-requires
+answer-requires g c = none_out Poll (here c.args.self.account) c.poll.result c.poll.ensures
+
+pub returns : goal.returns
+returns g c = let so = c.answer.ensures Poll (here c.args.self.account) c.poll.ensures in record { made = so.0; found = so.1 }

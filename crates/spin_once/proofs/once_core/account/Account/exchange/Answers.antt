@@ -1,32 +1,26 @@
-use Rattle.std.proofs.Common.{◌≡◌, Some, ap, ◌∙◌, sym, subst}
+use Rattle.std.proofs.Common.{Some, ap, sym, ◌∙◌}
 use mathlib.Core.Logic.{inr}
 use Rattle.spin_core.specs.Cell.{use_of}
 use Rattle.spin_core.specs.Own.{what}
+use Rattle.spin_core.specs.Spots.{spot}
 use Rattle.spin_core.specs.Stable.{maybe_stable}
 use Rattle.spin_core.proofs.Ties as tie
-use Rattle.spin_step.specs.Plain.{gets, to_begin, once_word}
-use Rattle.spin_step.specs.Steps.{Decides}
 use Rattle.spin_once.specs.Accounts.{here}
 use Rattle.spin_once.specs.Once.{use_of_view, use_of_party, turn_by, closure_call}
 use Rattle.spin_once.specs.declared.once_core.rule.Stage.TheVariants.{Seed}
 use Rattle.spin_once.proofs.Kept.{begins}
-use Rattle.spin_once.proofs.Accounts.{may_know, keeps, turned, finds_seed}
+use Rattle.spin_once.proofs.Accounts.{may_know, turned, keeps, finds_seed}
 use Rattle.spin_once.proofs.once_core.account.Account.exchange.Goals as goal
 
 pub exchange-found-requires : goal.exchange-found-requires
 exchange-found-requires g c =
-    let me = c.args.self in let makes = g.S.Seed.makes in let key = me.party.key in let r = c.unwrap-running in
-    let one : r.result ≡ 1 = cc (r.ensures, c.begin.ensures.exact) in (
-      inr (may_know makes key me.seen me.named),
-      begins makes key g.C.Closure.may_fail me.party.view me.party.value c.requires r.result one
-          (λ s p e. subst (λ n. Decides s (gets p to_begin) once_word n) r.ensures (c.begin.ensures.plain s p e)),
-    )
+    let me = c.args.self in let makes = g.S.Seed.makes in let key = me.party.key in
+    (inr (may_know makes key me.seen me.named), rw c.begun.ensures (begins makes key g.C.Closure.may_fail me.party.view me.party.value c.requires))
 
 pub returns-clause-turned : goal.returns-clause-turned
 returns-clause-turned g c =
     let me = c.args.self in let f = c.exchange-found in
-    turned g.S.Seed.makes (closure_call g.C.Closure.may_fail) (here me)
-    (f.result.1.key, f.result.1.view, f.result.2) f.result.0 me.knows me.named f.ensures.key f.ensures.moved
+    turned g.S.Seed.makes (here me) (spot f.result.1 f.result.2) f.result.0 me.knows me.named f.ensures.key (closure_call g.C.Closure.may_fail) f.ensures.moved
 
 pub returns-clause-seed : goal.returns-clause-seed
 returns-clause-seed g c runs =
@@ -38,6 +32,6 @@ returns-clause-seed g c runs =
 pub invariant_of-result : goal.invariant_of-result
 invariant_of-result g c =
     let me = c.args.self in let f = c.exchange-found in
-    let all = keeps g.S.Seed.makes (here me) (f.result.1.key, f.result.1.view, f.result.2) f.result.0 me.knows me.named f.ensures.key
-    (turn_by (closure_call g.C.Closure.may_fail) (what me.party.view)) f.ensures.moved
-    me.party.value f.result.1.value (λ same. me.finds) f.ensures.kept f.ensures.found in record { named = all.0; knows = all.1; finds = all.2 }
+    keeps g.S.Seed.makes (here me) (spot f.result.1 f.result.2) f.result.0 me.knows me.named f.ensures.key
+    (turn_by (closure_call g.C.Closure.may_fail) (what me.party.view)) f.ensures.moved me.party.value f.result.1.value f.ensures.kept f.ensures.found
+    (λ same. me.finds)

@@ -1,9 +1,10 @@
 use mathlib.Core.Logic.{inr}
 use Rattle.spin_core.specs.Own.{what}
+use Rattle.spin_core.specs.Spots.{spot}
 use Rattle.spin_once.specs.Accounts.{here}
 use Rattle.spin_once.specs.Once.{turn_by}
 use Rattle.spin_once.proofs.Kept.{loads}
-use Rattle.spin_once.proofs.Accounts.{may_know, keeps, turned}
+use Rattle.spin_once.proofs.Accounts.{may_know, turned, keeps}
 use Rattle.spin_once.proofs.once_core.account.Account.load.Goals as goal
 
 pub load-found-requires : goal.load-found-requires
@@ -14,11 +15,11 @@ load-found-requires g c =
 pub returns : goal.returns
 returns g c =
     let me = c.args.self in let f = c.load-found in
-    turned g.S.Seed.makes g.C.Call.call (here me) (f.result.1.key, f.result.1.view, f.result.2) f.result.0 me.knows me.named f.ensures.key f.ensures.moved
+    turned g.S.Seed.makes (here me) (spot f.result.1 f.result.2) f.result.0 me.knows me.named f.ensures.key g.C.Call.call f.ensures.moved
 
 pub invariant_of-result : goal.invariant_of-result
 invariant_of-result g c =
     let me = c.args.self in let f = c.load-found in
-    let all = keeps g.S.Seed.makes (here me) (f.result.1.key, f.result.1.view, f.result.2) f.result.0 me.knows me.named f.ensures.key
-    (turn_by g.C.Call.call (what me.party.view)) f.ensures.moved
-    me.party.value f.result.1.value (λ same. me.finds) f.ensures.kept f.ensures.found in record { named = all.0; knows = all.1; finds = all.2 }
+    keeps g.S.Seed.makes (here me) (spot f.result.1 f.result.2) f.result.0 me.knows me.named f.ensures.key (turn_by g.C.Call.call (what me.party.view))
+    f.ensures.moved
+    me.party.value f.result.1.value f.ensures.kept f.ensures.found (λ same. me.finds)

@@ -1,7 +1,7 @@
 use Rattle.std.proofs.Common.{sym, subst}
 use Rattle.spin_model.specs.declared.answer.Answer.TheVariants.{Granted}
 use Rattle.spin_model.specs.declared.ticket.TicketCall.TheVariants.{Lock}
-use Rattle.spin_core.specs.Spots.{spot, IsIn, HasCalled}
+use Rattle.spin_core.specs.Spots.{IsIn, HasCalled}
 use Rattle.spin_ticket.specs.Accounts.{here}
 use Rattle.spin_ticket.specs.declared.ticket.waiting.Place.{Place}
 use Rattle.spin_ticket.specs.declared.ticket.waiting.Grant.{Grant}
@@ -11,7 +11,7 @@ use Rattle.spin_ticket.proofs.ticket.pass.Pass.lock.Goals.{in-Ok, in-Err, in-Ok-
 
 pub returns : goal.returns
 returns g c =
-    let me = c.args.self in let p = spot me.permit me.seen in
+    let p = here c.args.self.account in
     let Waits : Place g.row.T.Denot → Type 0 = λ place. IsIn model Lock p (here place.account) in
     let Gets : Grant g.row.T.Denot → Type 0 = λ grant. HasCalled model Lock Granted p (here grant.account) in
     let placed : Waits c.match-take.place = elim c.match-take.branch [
