@@ -30,18 +30,18 @@ pub use self::starving::StarvingPass;
 pub use spin_core::laws::{a_guard_reads_the_last_value_written, two_guards_read_one_value};
 pub use spin_step_more::fair::LockRejectReason;
 
-/// The patience of [`FairMutex::lock`]. A call starves after more looks than this that found the lock held.
+/// The patience of [`FairMutex::lock`]. A call starves after it has found the lock held in more looks than this.
 pub const STARVATION_SPINS: usize = 1024;
 
 /// A spinning mutual exclusion lock in which a thread that has waited for long goes before newcomers.
 ///
-/// A thread that waits for long registers as a starver. While a starver is registered, only starvers acquire the lock.
+/// A thread that has waited for long becomes a starver. While a starver is registered, only starvers acquire the lock.
 /// Starvers may overtake each other. Newcomers may overtake each other too. A waiting thread passes the time with the
 /// strategy `R`.
 ///
-/// While a guard or a hold of the lock lives, no other call acquires it. A newcomer that holds the lock acquired it
-/// before the last move of each registered starver (`no_newcomer_holds_that_came_behind_a_starver`). A guard gives a
-/// value of `T`, with all that the invariant of `T` says. Nothing else is promised of what other threads wrote.
+/// While a guard or a hold of the lock lives, no other call acquires it. If a newcomer holds the lock, each registered
+/// starver made its last move after the newcomer acquired it (`no_newcomer_holds_that_came_behind_a_starver`). A guard
+/// gives a value of `T`, with all that the invariant of `T` says. Nothing else is promised of what other threads wrote.
 ///
 /// # Examples
 /// ```
@@ -181,8 +181,8 @@ impl<T, R> FairMutex<T, R> {
     /// while other threads change the word.
     ///
     /// # Contract
-    /// The starver in `Some` is registered, as each `Starvation` is. `None` promises nothing. Whether and when the call
-    /// returns is not promised.
+    /// The `Starvation` in `Some` is a registered starver, as every `Starvation` is. `None` promises nothing. Whether and
+    /// when the call returns is not promised.
     ///
     /// # Examples
     /// ```

@@ -146,7 +146,7 @@ impl BlankLog {
     /// Opens the log under the name `H`, with entries of type `T`.
     ///
     /// # Contract
-    /// `H` has to name this log: the caller passes `Brand` for `H`. The log is empty.
+    /// `H` has to name this log: in the `run` of a [`Work`] it is the `H` of `run`, elsewhere `Brand`. The log is empty.
     pub fn open<T, H: History>(self) -> Log<T, H>
         requires { self.name ≡ H.name }
         ensures { result.entries ≡ [] }
@@ -190,7 +190,8 @@ impl<T, H: History> Log<T, H> {
     /// Compares two references to the log that are held at the same time.
     ///
     /// # Contract
-    /// Both show the same entries. So two readers that hold a lock at the same time read the same value.
+    /// Both show the same entries. So two readers that hold the lock around a value and its log at the same time read
+    /// the same value.
     pub fn same(&self, other: &Log<T, H>)
         ensures { self.now.entries ≡ other.now.entries }
     {}

@@ -184,7 +184,8 @@ impl<T, F: Makes<T, M>, R: RelaxStrategy, M: Promise<T>> LazyLock<T, F, R, M> {
         }
     }
 
-    // Makes the value, or waits for it. It is not inlined, since that would lengthen the path of each caller that finds a value.
+    // Makes the value, or waits for it. It is not inlined, since that would lengthen the path of each caller that finds
+    // a value.
     #[cold]
     #[inline(never)]
     fn make<'a, W: Wait>(

@@ -1,4 +1,4 @@
--- The steps of a read-write lock keep its rule. Each step makes the plain step of its step function, and its moves of the lock's model.
+-- The steps of a read-write lock keep its rule. Each step makes the plain step of its step function. In the lock's model it makes its moves.
 use Rattle.std.proofs.Common.{◌≡◌, ◌≢◌, ℕ, ◌+◌, ◌-◌, ◌%◌, ◌^◌, ◌<◌, ◌≤◌, Bool, true, false, List, [], ◌∷◌, map, length, ◌==◌, Option, Some, None, if◌then◌else◌, refl, sym, ap, ◌∙◌, subst, arith, eq-eqb, ne_eqb}
 use Rattle.std.specs.List.{list_all}
 use mathlib.Core.Logic.{inl, inr}
@@ -76,7 +76,7 @@ bounded hs within = omega (arith, by_kinds weight hs, all_kinds hs, within)
 pub fits_cap : (s : Plain) → s.cap ≡ reader_limit → IsInOrder s → length s.holders ≤ reader_limit
 fits_cap s room order = omega (arith, order.holders_fit, room)
 
--- the number found satisfies `P`, and the party gets the view that `to` gives for it
+-- the number that the step found satisfies `P`, and `to` gives the party's view for this number
 abbrev To : (ℕ → Type 0) → (ℕ → View) → ℕ → View → Type 0
 To P to n v = P n × (v ≡ to n)
 
@@ -169,7 +169,7 @@ writes_as Writing e p = refl
 writes_as WritingAsked e p = refl
 writes_as _ e p = absurd cc
 
--- and it sits in the model as a writer
+-- a party that writes sits in the model as a writer
 writes_sits : (v : View) → use_of_view v ≡ writes → seat_of v ≡ seat.Holding hold.Write
 writes_sits Writing e = refl
 writes_sits WritingAsked e = refl
@@ -182,7 +182,7 @@ not_in_call (Some v) out = ap rws.is_calling (seat_idle (seat_of v) out)
 abbrev swaps : ℕ → ℕ → ℕ → ℕ
 swaps old new n = either (n == old) new n
 
--- a call continues if the word that it found admits the reader
+-- a call to read is not over yet if the word that it found admits its reader
 pub lets_in : (won : View) (waits : Bool) → Comes won → (n next : ℕ) → grants (call_of won waits) n ≡ Some next → still (call_of won waits) n ≡ true
 lets_in Reading false cm n next grant = rw grant refl
 lets_in Reading true cm n next grant = rw grant refl
@@ -197,7 +197,7 @@ sits_idle _ cm n none = absurd cm
 
 -- The moves of each step
 
--- these moves are moves of a call, and none is skipped
+-- the moves of each step are moves of a call, and none is skipped
 module _ {T : Type 0} where
   steps_only : (answers : List (Option (Answer T))) → list_all (is_of_call {C = RwCall} {V = T}) (map (λ _. Step) answers) ≡ true
   steps_only [] = refl
@@ -234,7 +234,7 @@ module _ {T : Type 0} (v₀ : T) where
       let s = alone w value from in let es = of_one (model v₀) seat_of words_of own in
       (after (model v₀) s es ≡ alone w' now (seat_of to)) × (outcomes (model v₀) s es ≡ outs)
 
-  -- the moves of the step `turn`, which applies `f` to the word
+  -- a party alone in the model makes the moves of the step `turn`, which applies `f` to the word
   abbrev PlaysTurn : Option View → (ℕ → ℕ) → (ℕ → Turn T) → ℕ → Option T → Type 0
   PlaysTurn view f turn w value =
       let t = turn w in Plays w value (sits_at view) (moves_of t.goes_on t.call t.answers) (f w) value t.to (outcomes_of t.goes_on t.answers)
@@ -255,7 +255,7 @@ module _ {T : Type 0} (v₀ : T) where
   release_plays Upgradable cm w value some = rw (less_by w 2 some) (refl, refl)
   release_plays _ cm w value some = absurd cm
 
-  -- A writer that ends, whether or not it asked before. It writes the value `x`, and then makes the call.
+  -- A writer stops writing, whether or not it asked to upgrade before. It writes the value `x`, and then makes the call.
   abbrev Leaves_by : T → (ℕ → ℕ) → (ℕ → Type 0) → RwCall → View → Type 0
   Leaves_by x f so c to =
       (w : ℕ) (value : Option T) → so w → Plays w value (seat.Holding hold.Write) (Write x ∷ moves_of false c (Some Done ∷ [])) (f w) (Some x) to
@@ -271,7 +271,7 @@ module _ {T : Type 0} (v₀ : T) where
   abbrev Arrives : Option View → Bool → View → RwCall → ℕ → ℕ → Type 0
   Arrives view goes_on won c old new = (w : ℕ) (value : Option T) → PlaysTurn view (swaps old new) (comes_by goes_on won c old) w value
 
-  -- the exchange that begins the call expects 0; it is two steps of the model if it succeeds, otherwise one
+  -- The exchange that begins the call expects 0. In the model it is two steps if it succeeds, and one if it fails.
   comes_first : (won : View) (waits : Bool) → Comes won → (new : ℕ) → grants (call_of won waits) 0 ≡ Some new → Arrives None false won (call_of won waits) 0 new
   comes_first Reading false cm new grant w value = (grind (arith, grant), grind (arith, grant))
   comes_first Reading true cm new grant w value = (grind (arith, grant), grind (arith, grant))

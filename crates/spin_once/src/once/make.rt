@@ -31,7 +31,8 @@ pub(super) fn find_or_try<'a, T, R: RelaxStrategy, F: FnOnce() -> Result<T, E>, 
     }
 }
 
-// Makes the value, or waits for it. It is not inlined, since that would lengthen the path of each caller that finds a value.
+// Makes the value, or waits for it. It is not inlined, since that would lengthen the path of each caller that finds a
+// value.
 #[cold]
 #[inline(never)]
 pub(super) fn make<'a, T, R: RelaxStrategy, F: FnOnce() -> T, W: Wait>(

@@ -24,9 +24,9 @@ use std::sync::Wait;
 /// calls of others. A pass is as large as a reference. It can be sent, and a `Once` can have any number of passes.
 ///
 /// # Contract
-/// Each call takes the pass and returns it. The call ensures `Called`: among the new moves of the history, the pass's
-/// own moves are those of exactly one call, which has the returned answer. The model of a `Once` on threads plays the
-/// moves of all threads in the order of the history. It skips no move, and gives this call the same answer.
+/// Each call takes the pass and returns it. The call ensures `Called`: since its last move the pass has made the moves
+/// of exactly one call in the history, and this call has the returned answer. A model of a `Once` that threads share
+/// plays the moves of all threads in the order of the history. It skips no move, and gives this call the same answer.
 ///
 /// # Examples
 /// ```
@@ -48,7 +48,7 @@ pub struct Pass<'a, T, R> {
 }
 
 impl<T, R> Once<T, R> {
-    /// Returns a pass that has made no call. It makes no operation on the `Once`.
+    /// Returns a pass that has made no call. This makes no operation on the `Once`.
     ///
     /// # Contract
     /// The pass is of this `Once`, and knows nothing of its history yet (`new`, `lock`).
@@ -69,8 +69,8 @@ impl<'a, T, R> Pass<'a, T, R> {
     /// Returns the value, or `None` if there is none yet, as [`Once::get`] does.
     ///
     /// # Contract
-    /// The call is one `Get`, with the answer `Value` and a reference, or else `NoValue` (`made`). The value is the
-    /// only one in the history (`found`).
+    /// The call is one `Get`. Its answer is `Value` if a reference is returned, and otherwise `NoValue` (`made`). The
+    /// value is the only one in the history (`found`).
     pub fn get(self) -> (Option<&'a T>, Pass<'a, T, R>)
         ensures made { Called Get (found_or_none result.0) self.entry result.1 }
         ensures found { IfSome result.0 (λ value. IsValue (opening_of self.entry) (history result.1) value.now) }
@@ -91,7 +91,7 @@ impl<'a, T, R> Pass<'a, T, R> {
         (there, Pass { account, strategy })
     }
 
-    // What a call returns that has found the value or none.
+    // Returns what a call returns after it found the value, or none.
     fn answer(
         found: Result<Found<'a, T, ()>, Account<'a, T, ()>>,
         strategy: PhantomData<R>,
@@ -111,9 +111,9 @@ impl<'a, T, R> Pass<'a, T, R> {
     /// Compares what two passes of one `Once` know. It does nothing when it runs.
     ///
     /// # Contract
-    /// The history that one of the passes knows is a prefix of the history that the other knows. So both know one
-    /// history. The longer of the two has the calls of both passes, each once, in the order in which each pass made
-    /// them.
+    /// The history that one of the passes knows is a prefix of the history that the other knows. The longer of the two
+    /// histories has every call of both passes exactly once. It has the calls of each pass in the order in which that
+    /// pass made them.
     pub fn compare(&self, other: &Pass<'_, T, R>)
         requires { self.now.account.seen.name ≡ other.now.account.seen.name }
         ensures { IsPrefix self.now.account.seen.entries other.now.account.seen.entries ⊎ IsPrefix other.now.account.seen.entries self.now.account.seen.entries }
@@ -145,7 +145,8 @@ impl<'a, T, R: RelaxStrategy> Pass<'a, T, R> {
         (made, Pass { account, strategy })
     }
 
-    /// Like [`call_once`](Pass::call_once), with a closure that may fail, as [`Once::try_call_once`] does.
+    /// Does what [`call_once`](Pass::call_once) does, with a closure that may fail. [`Once::try_call_once`] is this call
+    /// without a pass.
     ///
     /// # Contract
     /// The precondition of `f` has to hold. An `Err` is one that this caller's own `f` may return (`err`). With a value
