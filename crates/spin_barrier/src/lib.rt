@@ -1,5 +1,5 @@
-//! `Barrier`, at which threads wait for each other: a `Mutex` over a state that a step function changes. Also the gate
-//! that a caller's workers pass.
+//! `Barrier`, at which threads wait for each other: a `Mutex` over a state that a step function changes. Also `Gate`, a
+//! call that each worker of a team makes before its first step.
 //!
 //! Begin with [`barrier::Barrier`].
 #![tactic(auto)]

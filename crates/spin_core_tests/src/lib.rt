@@ -1,5 +1,5 @@
 //! Small locks on the raw cell, one for each way in which several parties may read a value, and a cell that allows any
-//! words. And a whole lock for many readers or one writer, with its model and its object. Their tests are in
+//! words. Also a latch: a complete lock for many readers or one writer, with its object. Their tests are in
 //! `spin_lock_tests`.
 #![tactic(auto)]
 

@@ -1,5 +1,5 @@
-//! Tests of the step functions, of the raw cell and of the locks over it, each kind of lock in a module of its own:
-//! what no contract says of them.
+//! Tests of what no contract says of the step functions, the raw cell and the locks over it. Each kind of lock has a
+//! module of its own.
 #![tactic(auto)]
 
 #[cfg(test)]

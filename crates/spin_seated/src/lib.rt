@@ -1,5 +1,5 @@
-//! `SeatedMutex` and `SeatedRwLock`, whose callers can compare what they did: all calls form one history, and callers
-//! that meet know the same one.
+//! `SeatedMutex` and `SeatedRwLock`, whose callers can compare what they did: all calls form one history, and after the
+//! call `meet` two passes know the same part of it.
 //!
 //! Begin with [`mutex::SeatedMutex`]; [`laws`] has what follows from a history. A *pass* is the right to call
 //! one lock, under a number of its own. Each call takes a pass, and contracts see the history that the pass

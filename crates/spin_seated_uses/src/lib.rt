@@ -1,5 +1,5 @@
-//! Callers of the seated locks: threads that add, and threads that publish and read. The proofs use the one history
-//! that their passes know once they have met.
+//! Callers of the seated locks: threads that add, and threads that publish and read. The proofs use that two passes
+//! know one history after a `meet`.
 //!
 //! Begin with [`adding`].
 #![tactic(auto)]

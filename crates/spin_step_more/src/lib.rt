@@ -1,4 +1,4 @@
-//! The changes of the words of the larger locks: the flag with its starvers, readers and a writer, and the barrier.
+//! The changes of the words of the larger locks: the fair lock, the read-write lock and the barrier.
 //! They have the same form as those of `spin_step`, over the same plain lock.
 //!
 //! Begin with [`fair`].
