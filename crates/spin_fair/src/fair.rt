@@ -110,11 +110,12 @@ impl<T, R> FairMutex<T, R> {
 }
 
 impl<T, R: RelaxStrategy> FairMutex<T, R> {
-    /// Acquires the mutex, spinning until it is free and no starver is registered.
+    /// Acquires the mutex, spinning until it is free. A newcomer also waits until no starver is registered.
     ///
-    /// After a failed attempt the thread pauses with strategy `R`, and looks at the word before it tries again. After
-    /// more than [`STARVATION_SPINS`] looks that found the lock held it starves (see [`starve`](Self::starve)), unless
-    /// too many threads starve. The call never returns if its own thread holds the lock.
+    /// After a failed attempt the thread pauses with strategy `R`, and looks at the word before it tries again. If a
+    /// look finds the lock held after more than [`STARVATION_SPINS`] such looks, the thread starves (see
+    /// [`starve`](Self::starve)), unless too many threads starve. The call never returns if its own thread holds the
+    /// lock.
     ///
     /// # Contract
     /// The guard belongs to a holder of the lock (`IsHolder`). Whether and when the call returns is not promised.

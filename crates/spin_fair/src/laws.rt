@@ -36,12 +36,12 @@ pub fn no_newcomer_holds_that_came_behind_a_starver<T>()
 
 /// States that the blind operations on the word of a `FairMutex` do what its step functions say.
 ///
-/// The holder releases and a starver stops starving by a subtraction; a starver sets the flag by a bit operation. None
-/// of them loads the word first.
+/// The holder releases by a subtraction, and a starver stops starving by one. A starver sets the flag by a bit
+/// operation. No load of the word comes before these operations.
 ///
 /// # Contract
 /// On each word that the rule allows, the operation gives the word that the step function gives (`unlocked`,
-/// `unstarved`, `lock_starved`). If `lock_starved` gives none, the operation leaves the word as it is.
+/// `unstarved`, `lock_starved`). If `lock_starved` returns `None`, the operation leaves the word as it is.
 pub fn an_addition_is_its_step_function<T>()
     ensures unlock { (opening : Opening T) (word : ℕ) (trace : Trace (Done T) (Unit {0})) (parties : List (Numbered View)) (p : ℕ) → IsFair opening word trace parties → HoldsAt (views_of parties) p → (is_set word ≡ true) × ((word + (2 ^ 64 - holder_weight)) % 2 ^ 64 ≡ unlocked word) }
     ensures unstarve { (opening : Opening T) (word : ℕ) (trace : Trace (Done T) (Unit {0})) (parties : List (Numbered View)) (p : ℕ) → IsFair opening word trace parties → StarvesAt (views_of parties) p → (starver_weight ≤ word) × ((word + (2 ^ 64 - starver_weight)) % 2 ^ 64 ≡ unstarved word) }

@@ -142,7 +142,7 @@ fn tells_a_failed_write(rt: HostRuntime) {
     }
 }
 
-/// Texts with a writer's room, whether a read fails behind the text, and the first fault.
+/// In each row: a text, whether the read after it fails, how much the writer accepts, and the fault that is met first.
 const FAULTS: &[(&str, bool, usize, RunError)] = &[
     ("", true, usize::MAX, RunError::Read),
     ("flag 5 1", true, usize::MAX, RunError::Read),

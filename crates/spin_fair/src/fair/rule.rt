@@ -14,7 +14,7 @@ use spin_core::trace::{Trace, Watch};
 use spin_step_more::{FairCall, fair};
 use std::marker::PhantomData;
 
-/// What a party (one call, and the guard or the registration that it returns) is to the lock.
+/// What a party is to the lock: where it is in a call, or what it holds.
 #[derive(Clone, Copy)]
 pub enum View {
     Idle,
@@ -42,7 +42,7 @@ pub enum View {
 
 /// The rule of a [`FairMutex`](super::FairMutex): its word is the sum of what its holder and its starvers weigh.
 ///
-/// Callers need not name it: it is a parameter of the guard's type.
+/// Callers need not name this type. It is a parameter of the type of a guard.
 ///
 /// # Contract
 /// `IsFair`: the word is that of a plain lock of these parties. The trace is a schedule of the lock's model. The

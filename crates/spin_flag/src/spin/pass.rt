@@ -162,9 +162,8 @@ impl<'a, T, R> Pass<'a, T, R> {
     /// Compares what two passes of one lock know. It does nothing when it runs.
     ///
     /// # Contract
-    /// The history that one of the passes knows is a prefix of the history that the other knows. So both know one
-    /// history. The longer of the two has the calls of both passes, each once, in the order in which each pass made
-    /// them.
+    /// The history that one of the passes knows is a prefix of the history that the other knows. The longer of the two
+    /// histories has the calls of both passes, each once, in the order in which each pass made them.
     pub fn compare(&self, other: &Pass<'_, T, R>)
         requires { self.now.account.seen.name ≡ other.now.account.seen.name }
         ensures { IsPrefix self.now.account.seen.entries other.now.account.seen.entries ⊎ IsPrefix other.now.account.seen.entries self.now.account.seen.entries }

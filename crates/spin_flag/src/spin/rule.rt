@@ -20,7 +20,7 @@ use spin_model::FlagCall;
 use spin_step::flag;
 use std::marker::PhantomData;
 
-/// What a party (one call, and the guard that it returns) is to the lock.
+/// What a party is to the lock: where it is in a call, or what it holds.
 #[derive(Clone, Copy)]
 pub enum View {
     Idle,
@@ -33,7 +33,7 @@ pub enum View {
 
 /// The rule of a [`SpinMutex`](super::SpinMutex): its word is 1 while a party holds the lock, else 0.
 ///
-/// Callers need not name it: it is a parameter of the guard's type.
+/// Callers need not name this type. It is a parameter of the type of a guard.
 ///
 /// # Contract
 /// `IsFlag`: the word is that of a plain lock whose holders are the parties that hold. The trace is a schedule of the

@@ -28,7 +28,7 @@ pub(super) const ASKING: u64 = rw::ASKING as u64;
 
 pub(super) const WRITER: u64 = rw::WRITER as u64;
 
-/// What a party (one call, and the guard that it returns) is to the lock.
+/// What a party is to the lock: where it is in a call, or what it holds.
 #[derive(Clone, Copy)]
 pub enum View {
     Idle,

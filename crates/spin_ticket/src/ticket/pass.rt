@@ -127,7 +127,7 @@ impl<'a, T, R: RelaxStrategy> Pass<'a, T, R> {
 }
 
 impl<'a, T, R> Pass<'a, T, R> {
-    /// Tries to acquire the lock as [`TicketMutex::try_lock`] does. Returns the pass at once if the lock is held.
+    /// Tries to acquire the lock as [`TicketMutex::try_lock`] does. Returns the pass at once if the try fails.
     ///
     /// # Contract
     /// The call is one `TryLock`. Its answer is `Granted` with a guard (`granted`), else `Refused` (`refused`). The
@@ -146,7 +146,7 @@ impl<'a, T, R> Pass<'a, T, R> {
         }
     }
 
-    /// Returns whether the lock is held, as [`TicketMutex::is_locked`] does.
+    /// Returns what [`TicketMutex::is_locked`] returns.
     ///
     /// # Contract
     /// The call is one `IsLocked`, with the returned answer (`made`).
@@ -175,9 +175,8 @@ impl<'a, T, R> Pass<'a, T, R> {
     /// Compares what two passes of one lock know. It does nothing when it runs.
     ///
     /// # Contract
-    /// The history that one of the passes knows is a prefix of the history that the other knows. So both know one
-    /// history. The longer of the two has the calls of both passes, each once, in the order in which each pass made
-    /// them.
+    /// The history that one of the passes knows is a prefix of the history that the other knows. The longer of the two
+    /// histories has the calls of both passes, each once, in the order in which each pass made them.
     pub fn compare(&self, other: &Pass<'_, T, R>)
         requires { self.now.account.seen.name ≡ other.now.account.seen.name }
         ensures { IsPrefix self.now.account.seen.entries other.now.account.seen.entries ⊎ IsPrefix other.now.account.seen.entries self.now.account.seen.entries }
@@ -242,8 +241,8 @@ impl<'a, T> Going<'a, T> {
         unreachable!()
     }
 
-    // Tries to take the ticket with the number found next. After a failed exchange `Err` returns a call that tries the
-    // number that the exchange found. If no ticket is left, `Err` returns the call as it was.
+    // Tries to take the ticket `number`. If the exchange finds another next number, `Err` returns a call that will try
+    // that number. If no ticket is left, `Err` returns the call as it was.
     fn take(self) -> Result<Place<'a, T>, Going<'a, T>>
         ensures { GoesFor self.entry result }
     {

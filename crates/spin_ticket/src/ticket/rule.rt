@@ -14,27 +14,27 @@ use spin_core::tie::{self, Opening};
 use spin_core::trace::{Trace, Watch};
 use spin_model::TicketCall;
 
-/// What a party (one call, and the guard that it returns) is to the lock. The numbers are those of tickets.
+/// What a party is to the lock: where it is in a call, or what it holds. The numbers are those of tickets.
 #[derive(Clone, Copy)]
 pub enum View {
     Idle,
     /// It is in `lock`, and has found that no ticket is left.
     Coming,
-    /// It is in `lock`, and has found this number next. It tries to take the ticket with this number.
+    /// It is in `lock`, and found this as the next number. It tries to take the ticket with this number.
     Going(u64),
     Waiting(u64),
     Entered(u64),
-    /// It is in `try_lock`, and found this number next.
+    /// It is in `try_lock`, and found this as the next number.
     LoadedNext(u64),
-    /// It is in `try_lock`, and found this number both next and served.
+    /// It is in `try_lock`, and found this as the next number and as the served one.
     Trying(u64),
-    /// It is in `is_locked`, and found this number served.
+    /// It is in `is_locked`, and found this as the served number.
     LoadedServing(u64),
 }
 
 /// The rule of a [`TicketMutex`](super::TicketMutex): its words are the next ticket's number and the number served.
 ///
-/// Callers need not name it: it is a parameter of the guard's type.
+/// Callers need not name this type. It is a parameter of the type of a guard.
 ///
 /// # Contract
 /// `IsQueue`: the words are those of a plain lock whose tickets are those of the parties that wait or have entered. The
@@ -94,8 +94,8 @@ impl<T> Play<Key<T>, Party, Entry<T>> for TryLoadNext {
     ghost told = { λ key old new before. Told key (step_by false TryLock goes_on LoadedNext) before };
 }
 
-/// The load of the served number in `try_lock`. The call continues if the served number is the one that the call found
-/// next.
+/// The load of the served number in `try_lock`. The call continues if this is the number that the call found as the
+/// next one.
 pub(super) struct TryLoadServing;
 
 impl<T> Play<Key<T>, Party, Entry<T>> for TryLoadServing {
