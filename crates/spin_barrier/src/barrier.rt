@@ -80,8 +80,8 @@ impl<R: RelaxStrategy> Barrier<R> {
     ///
     /// # Contract
     /// Whether and when the call returns is not promised. The step functions promise that a thread waits for
-    /// its group and that one thread leads ([`State::arrive`] and `may_leave`). For this call only a test
-    /// shows it.
+    /// its group and that one thread leads ([`State::arrive`] and `may_leave`). Only a test shows that this
+    /// call does so.
     pub fn wait<W: Wait>(&self, rt: &W) -> BarrierWaitResult {
         let mut state = self.state.lock(rt);
         let leads = state.arrive();

@@ -24,7 +24,7 @@ pub use steps::Play;
 ///
 /// `V` is the type of a party's view, a plain `Copy` enum of the lock's own. `T` is the value's type.
 pub trait Rule<T, V> {
-    // What is fixed when a cell is made. For a lazy value it is the closure.
+    // What is fixed when a cell is made. For a lazy value this includes the closure.
     type Key;
     // What stands behind the value: a trace, or a trace with a second word. A trace alone has no bytes.
     type Second;

@@ -190,7 +190,7 @@ impl<T, H: History> Log<T, H> {
     /// Compares two references to the log that are held at the same time.
     ///
     /// # Contract
-    /// Both show the same entries. So two readers that hold the lock around a value and its log at the same time read
+    /// Both show the same entries. So if two readers hold the lock of a value and its log at the same time, they read
     /// the same value.
     pub fn same(&self, other: &Log<T, H>)
         ensures { self.now.entries ≡ other.now.entries }

@@ -429,8 +429,8 @@ pub fn read_shared<T: Copy, P: Order<T>, H: History, L: SharedLock<Register<T, H
 ///
 /// # Contract
 /// `Some` has a value like that of [`read`]. After `None` the caller's snapshot is unchanged. The contract
-/// does not say when the answer is `None`. A test shows `None` only where the lock's `try_with` returns its
-/// closure.
+/// does not say when the answer is `None`. A test shows that it is `None` only if the lock's `try_with` returns
+/// its closure.
 pub fn try_read<T: Copy, P: Order<T>, H: History, L: Lock<Register<T, H, P>>>(
     lock: &L,
     seen: &mut Snapshot<T, H>,
@@ -585,7 +585,7 @@ pub fn update<
 /// # Contract
 /// In the order, the value has to be allowed to follow any other. After `true` it is written as by [`write`].
 /// After `false` the caller's snapshot is unchanged. The contract does not say when the answer is `false`. A
-/// test shows `false` only where the lock's `try_with` returns its closure.
+/// test shows that it is `false` only if the lock's `try_with` returns its closure.
 ///
 /// # Examples
 /// ```

@@ -109,8 +109,8 @@ impl<T, R> Mutex<T, R> {
 
     /// Consumes the mutex and returns the value.
     ///
-    /// It does not acquire the lock, since no other thread can have the mutex. It also returns a value whose
-    /// guard was leaked or held.
+    /// It does not acquire the lock, since no other thread can have the mutex. So it also returns the value if
+    /// a guard was leaked, or a hold dropped.
     ///
     /// # Contract
     /// Only that the call returns.

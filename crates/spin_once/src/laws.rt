@@ -17,8 +17,8 @@ ghost use Rattle.spin_once.specs.declared.once_core.rule.View.{View};
 /// The cell keeps the list of all moves that threads have made in it so far. An entry names the party and its move. The
 /// list is ghost state, and takes no memory. In the object's table the name of a call says whether its closure will
 /// fail. On threads this shows only when the closure ends. So the schedule names each call by how its closure ended,
-/// and leaves out the moves that report failures (`foretold`). A write in the list is the last step of its call in the
-/// schedule (`bare`).
+/// and leaves out the moves that report failures (`foretold`). In the schedule each write of the list is the last
+/// step of its call (`bare`).
 ///
 /// # Contract
 /// The law holds between any two steps of threads (`IsOnce`): no move of the schedule is skipped in the object. After

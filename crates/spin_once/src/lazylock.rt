@@ -37,7 +37,7 @@ impl<T> Promise<T> for () {
 
 /// An initialiser: it makes a value that keeps a promise. Each closure is one, and a caller's own struct may be one.
 ///
-/// A struct may always make its value, unless its `can` asks for more. It may have borrowed data.
+/// A struct may always make its value, unless its `can` asks for more. A struct may hold borrowed data.
 ///
 /// # Examples
 /// ```

@@ -25,7 +25,8 @@ pub fn every_run_of_a_rwlock_is_a_schedule<T>()
 /// States that the word of an `RwLock` is the sum of the weights of its holders.
 ///
 /// # Contract
-/// If the rule holds (`IsRw`), the word is the sum over all kinds of the number of holders times the kind's weight.
+/// If the rule holds (`IsRw`), the word is a sum over the kinds of holders. Each kind adds the number of its holders
+/// times its weight.
 pub fn the_word_of_a_rwlock_counts_its_parties<T>()
     ensures { (opening : Opening T) (word : ℕ) (trace : Trace (Done T) (Unit {0})) (parties : List (Numbered View)) → IsRw opening word trace parties → word ≡ ((weight reading * readers (views parties) + weight upgradable * upgradables (views parties)) + weight asking * askers (views parties)) + weight writing * writers (views parties) }
 {}
@@ -33,8 +34,8 @@ pub fn the_word_of_a_rwlock_counts_its_parties<T>()
 /// States that several parties read an `RwLock`, or one writes it alone.
 ///
 /// # Contract
-/// If the rule holds (`IsRw`), at most one holder is upgradable, whether or not it has asked. If a party writes, it is
-/// the only holder (`ReadersOrWriter`).
+/// If the rule holds (`IsRw`), at most one holder is upgradable or has asked to upgrade. If a party writes, it is the
+/// only holder (`ReadersOrWriter`).
 pub fn the_parties_of_a_rwlock_read_or_one_writes<T>()
     ensures { (opening : Opening T) (word : ℕ) (trace : Trace (Done T) (Unit {0})) (parties : List (Numbered View)) → IsRw opening word trace parties → ReadersOrWriter (views parties) }
 {}

@@ -21,7 +21,7 @@ pub trait Play<K, V, E> {
 /// Steps on the first word.
 ///
 /// Each step is one atomic operation. The party gets a new view and appends entries to the trace, as the
-/// step's `Play` says. A value that the party may use before and after the step is the same (`Keeps`).
+/// step's `Play` says. If the party may use the value before and after the step, the value is the same (`Keeps`).
 ///
 /// Each call takes a watch: what its caller knows of the trace. It returns what is known after the step: the
 /// trace before the step, and the entries that the step appended. A caller that knows nothing passes

@@ -91,7 +91,7 @@ impl<'a, T, R> Pass<'a, T, R> {
         (there, Pass { account, strategy })
     }
 
-    // Returns what a call returns after it found the value, or none.
+    // Returns the answer of a call that found the value, or found none.
     fn answer(
         found: Result<Found<'a, T, ()>, Account<'a, T, ()>>,
         strategy: PhantomData<R>,

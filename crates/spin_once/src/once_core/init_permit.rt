@@ -88,7 +88,7 @@ fn put<'a, T, S: Seed<T>>(party: Caller<'a, T, S>, stage: Stage<T, S>) -> Caller
     writer.into_permit()
 }
 
-// Forgets the old content without a test, since the thread with the permit knows that it is no value. This saves two
+// Forgets the old content without a test, since the thread with the permit knows that there is no value. This saves two
 // tests in a first `call_once`.
 fn spend<T, S>(stage: Stage<T, S>) {
     let _gone = unsafe { ManuallyDrop::new_unchecked(stage) };

@@ -31,7 +31,7 @@ pub trait Seed<T> {
     ghost makes: { Self → T → Type 0 };
 }
 
-/// What a party (one call, and the reference that it returns) is to the value.
+/// What a party is to the value: where it is in a call, or whether it reads the value.
 #[derive(Clone, Copy)]
 pub enum View {
     Idle,
@@ -175,8 +175,8 @@ impl Closure for Unsure {
     ghost may_fail = { true };
 }
 
-/// The next step of the party's call. A party in no call begins the call `C`. In the history the store after a closure
-/// that gave a value is a write of that value.
+/// The next step of the party's call. A party in no call begins the call `C`. If a closure gave a value, the store
+/// after the closure is a write of that value in the history.
 pub(super) struct Turn<C> {
     call: PhantomData<C>,
 }

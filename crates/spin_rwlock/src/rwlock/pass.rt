@@ -216,7 +216,7 @@ impl<'a, T, R: RelaxStrategy> Pass<'a, T, R> {
     ///
     /// # Contract
     /// The closure has to be always callable. Its answer is returned (`answers`). The pass made one `Write`. Then it
-    /// wrote the value that it left, and made one `Release` (`made`). Whether and when the call returns is not
+    /// wrote the value that the closure left, and made one `Release` (`made`). Whether and when the call returns is not
     /// promised.
     ///
     /// # Examples

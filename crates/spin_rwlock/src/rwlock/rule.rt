@@ -82,7 +82,8 @@ pub(super) type Writer<'a, T> = WritePermit<'a, T, Party, RwRule<T>>;
 
 /// A kind of step of a party.
 pub(super) trait Turns {
-    // The step, given the party's view, the operand (0 if absent; of an exchange the word expected) and the word found.
+    // The step, given the party's view, the operand and the word found. The operand is 0 for a load, and for an exchange
+    // the word expected.
     ghost turn: { (T : Type 0) → Option View → ℕ → ℕ → Turn T };
 }
 

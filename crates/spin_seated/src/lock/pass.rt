@@ -22,8 +22,8 @@ impl<C> Model for Place<C> {
     ghost invariant = { λ p. IsOneSeat p.seat };
 }
 
-/// The right to call one lock, under a number of its own. Contracts see the history that the pass knows; it
-/// has all calls that the pass made.
+/// The right to call one lock, under a number of its own. Contracts see the history that the pass knows. This
+/// history has all calls that the pass made.
 ///
 /// A pass is `Send`, but cannot be copied. If it is dropped while it holds the lock, the lock stays held.
 #[derive(Drop)]

@@ -1,7 +1,7 @@
 //! The steps on the table. Begin with [`SeatedLock::meet`]; the other steps are private to the locks.
 //!
-//! A step is a call, a part of a call, or none. If it is a call, the lock shows three facts: the pass may
-//! make the call, the words become those of the machine's next state, and the answer is the machine's.
+//! A step is a whole call, a part of one, or neither. If a step is a call, the lock shows three facts: the pass
+//! may make the call, the words become those of the machine's next state, and the answer is the machine's.
 ghost use Rattle.std.specs.Prelude.{◌≡◌, ℕ, ◌<◌, ◌+◌, ◌-◌, ◌%◌, ◌^◌, ◌==◌, Option};
 ghost use prog.Atomic.{either};
 ghost use Rattle.spin_seated.specs.Histories.{Owes, Turned, Met, holds, held_then};
@@ -75,7 +75,7 @@ impl<C: Calls, A: Allocator> SeatedLock<C, A> {
         self.table.shared.store::<Told<C, T>>(seat, word, new);
     }
 
-    /// Stores `new` in a word if that is `old`. Returns the word found.
+    /// Stores `new` in a word if the word is `old`. Returns the word found.
     pub(crate) fn exchange<T: Tells<C>>(
         &self,
         place: &mut Place<C>,

@@ -35,7 +35,8 @@ pub fn a_read_gives_the_last_write()
     ensures { (k : Opening) (before after : History) (p v : ℕ) → IsLegal rw k (before ++ entry p Read (Value v) ∷ after) → v ≡ last_written k.value before }
 {}
 
-/// States that a count is the number of passes that hold in that way when the call is made.
+/// States that each count is right when its call is made: `reader_count` answers how many passes hold as readers, and
+/// `writer_count` how many hold as writers.
 pub fn a_count_is_the_number_of_holders()
     ensures { (k : Opening) (before after : History) (p n : ℕ) → (IsLegal rw k (before ++ entry p ReaderCount (Value n) ∷ after) → n ≡ reader_count (holders k before)) × (IsLegal rw k (before ++ entry p WriterCount (Value n) ∷ after) → n ≡ count_kind writing (holders k before)) }
 {}

@@ -44,7 +44,7 @@ impl<'a, const N: usize> Account<'a, N> {
     }
 
     // Tries to take a seat: exchanges `word`, which the call found, for the step function's `next`. If the
-    // exchange finds another word, it returns that one.
+    // exchange finds another word, returns that word.
     pub(super) fn sit(
         self,
         word: usize,

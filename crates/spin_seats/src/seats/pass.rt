@@ -156,7 +156,7 @@ pub(super) struct Trying<'a, const N: usize> {
 }
 
 impl<'a, const N: usize> Trying<'a, N> {
-    // Tries to take a seat at each word that it finds, as long as one is free there.
+    // Tries to take a seat at each word found, until it has one or a word has no free seat.
     pub(super) fn take<W: Wait>(self, rt: &W) -> Result<SeatGuard<'a, N>, Pass<'a, N>>
         ensures { (before : TheAccount N) → IsTrying N self.entry.word before self.entry.account → IfOk result (λ guard. Called N TryEnter Granted before guard.account) × IfErr result (λ pass. Called N TryEnter Refused before pass.account) }
     {
@@ -170,7 +170,7 @@ impl<'a, const N: usize> Trying<'a, N> {
         unreachable!()
     }
 
-    // Tries to take a seat at the word found. If no seat is free there, the call of `try_enter` fails.
+    // Tries to take a seat at the word found. If this word has no free seat, the call of `try_enter` fails.
     fn attempt(self) -> Result<Result<SeatGuard<'a, N>, Pass<'a, N>>, Trying<'a, N>>
         ensures { (before : TheAccount N) → IsTrying N self.entry.word before self.entry.account → IfOk result (λ answer. IfOk answer (λ guard. Called N TryEnter Granted before guard.account) × IfErr answer (λ pass. Called N TryEnter Refused before pass.account)) × IfErr result (λ further. IsTrying N further.word before further.account) }
     {
@@ -211,7 +211,7 @@ impl<'a, const N: usize> Entering<'a, N> {
         unreachable!()
     }
 
-    // Tries to take a seat at the word found, if one is free there.
+    // Tries to take a seat at the word found, if this word has a free seat.
     fn attempt(self) -> Result<SeatGuard<'a, N>, Entering<'a, N>>
         ensures { (before : TheAccount N) → IsIn N Enter before self.entry.account → IfOk result (λ guard. Called N Enter Granted before guard.account) × IfErr result (λ further. IsIn N Enter before further.account) }
     {

@@ -11,7 +11,7 @@ use spin_core::cell::{Permit, Play, Rule};
 use spin_core::tie;
 use spin_core::trace::{Trace, Watch};
 
-/// What a party is to the lock. A party is one call, and then the guard that the call returns.
+/// What a party is to the lock: where it is in a call, or whether it sits.
 #[derive(Clone, Copy)]
 pub enum View {
     Idle,
