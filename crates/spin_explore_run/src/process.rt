@@ -18,9 +18,9 @@ use std::env::Env;
 /// the call only writes a line about it to `errors`.
 ///
 /// # Contract
-/// The caller gives streams that have not failed. Either the status means what it means for [`program`], for
-/// some words. Or the run failed before the words were known: an argument was not text, or an allocation
-/// failed (`IsWordless`). Then `input` and `output` are unchanged.
+/// The caller gives streams that have not failed. Either the status is one that [`program`] returns for some
+/// words, and means the same. Or the run failed before the words were known: an argument was not text, or an
+/// allocation failed (`IsWordless`). Then `input` and `output` are unchanged.
 pub fn program_over_arguments<I: Source, O: Sink, E: Sink, R: Env + AllocGlobal>(
     rt: &R,
     input: &mut I,

@@ -1,4 +1,4 @@
-//! The locks ask of their value as much as a `&mut` to the value, or a `&` to the value, whatever the strategy is.
+//! To be `Send` or `Sync`, a lock asks of its value what a `&mut` or a `&` to the value asks, whatever the strategy is.
 //! These tests show that these bounds are enough. The must-fail edits of the crates show that weaker bounds are not.
 //! The exception is the `Sync` of a `Held`, which asks more than it needs.
 use spin_core::relax::Spin;

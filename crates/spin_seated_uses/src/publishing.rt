@@ -154,7 +154,7 @@ fn look_in_two<R: Threads + Wait + Sync>(
 /// The readers meet first, and then one of them meets the writer. So the writer knows what both readers know.
 ///
 /// # Contract
-/// The lock has to have three passes, which are these. Neither reader may have written. Each reader has read
+/// These have to be the three passes of the lock. Neither reader may have written. Each reader has read
 /// the opening value and values that the writer wrote, in the order in which they were written (`InOrderOf`).
 pub fn compare(lock: &SeatedRwLock, writer: &mut RwPass, first: &mut RwPass, second: &mut RwPass)
     requires writer { IsPassOf lock.now writer.old × (writer.old.known.pass ≡ 0) }

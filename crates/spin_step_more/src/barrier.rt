@@ -95,11 +95,11 @@ pub fn arrive(state: State) -> (State, bool)
     }
 }
 
-/// Returns `true` if a thread that arrived in `generation` may leave. It is asked of threads that do not lead
-/// their group.
+/// Returns `true` if a thread that arrived in `generation` may leave. Callers ask this of threads that do not
+/// lead their group.
 ///
-/// It may leave when its group is full. But the generation wraps: when exactly a multiple of 2^64 further
-/// groups are full, it may not leave until one more is.
+/// A thread may leave when its group is full. But the generation wraps: if the number of groups that filled up
+/// since the thread arrived is a multiple of 2^64, the thread may not leave until one more group is full.
 ///
 /// # Contract
 /// The plain barrier gives the same answer. If a thread that does not lead gets `true`, its group is full.

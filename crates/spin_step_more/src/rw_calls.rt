@@ -5,8 +5,8 @@ use std::alloc::AllocError;
 
 /// A call of an `Rw`. `Rw::new` of `spin_world` promises that each call does what its comment says.
 ///
-/// A try fails only if the lock would not let the party have what it asks at some moment of the call. A weak
-/// try may also fail spuriously.
+/// A try fails only if, at some moment of the call, what it asks is not open to the party. A weak try may also
+/// fail spuriously.
 #[derive(Copy)]
 pub enum RwCall {
     /// Tries to acquire shared access. It fails if a writer holds the lock, if a reader asks to upgrade, or

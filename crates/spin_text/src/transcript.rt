@@ -72,7 +72,7 @@ fn put_answer(answer: Answer<u64>, buffer: &mut [u8], end: usize) -> usize
     }
 }
 
-/// Writes the line of the transcript at which a call began. It is one more than the place, which is counted
+/// Writes the number of the line at which a call began. It is one more than the place, which is counted
 /// from 0.
 fn put_from(began: Option<usize>, buffer: &mut [u8], end: usize) -> usize
     requires line { HasLine began }
@@ -265,8 +265,8 @@ fn play<O: Spelled, K: Sink>(
 
 /// Plays the entries that the lines spell, in a world of their own, and writes the transcript as text.
 ///
-/// It reads an entry, plays it and writes its line before the next one, so it needs no list of entries or
-/// events. It allocates nothing after the first of them.
+/// It reads an entry, plays it and writes its line before it reads the next one. So it needs no list of entries
+/// or events. It allocates nothing once it reads the first entry.
 ///
 /// # Contract
 /// The caller has checked that each line spells an entry (`AllRead`).

@@ -6,7 +6,7 @@ use spin::Yield;
 use spin::mutex::{Mutex, MutexGuard};
 use std::sync::Wait;
 
-/// Counts one more. Other threads may have written the largest number; then it wraps.
+/// Counts one more. Other threads may have written the largest number; then the sum wraps.
 fn count<W: Wait>(rt: &W, counter: &Mutex<u64, Yield>) {
     let mut guard = counter.lock(rt);
     *guard = guard.wrapping_add(1);

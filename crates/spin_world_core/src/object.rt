@@ -60,8 +60,8 @@ pub trait Object: Drop {
     fn begin(&self, call: Self::Call, holds: Option<Hold>) -> Option<Self::Local>
         ensures { result ≡ (machine self.now).begin call holds };
 
-    /// Returns the next step of the call, for these words and this value: the table of the object. The step depends
-    /// only on the object and the arguments.
+    /// Returns the next step of the call, for these words and this value. This method is the table of the object. The
+    /// step depends only on the object and the arguments.
     ///
     /// # Contract
     /// The step has to be possible (`can` of the machine). Its result is then that of `step` of the machine

@@ -3,8 +3,8 @@
 //!
 //! A *round* is a stretch of the schedule (`IsRound`). Each party that is in a call when the round starts makes a step
 //! of that call in the round. Each party that holds the lock begins to release it, and no party has leaked it. An
-//! endless schedule is *fair* (`IsFair`) if, from each of its places on, each party does so some time later. A party
-//! that waits only has to get its steps.
+//! endless schedule is *fair* (`IsFair`) if, from each of its places on, it has another round. Of a party that waits, a
+//! round asks only that it makes a step.
 ghost use Rattle.std.specs.Prelude.{◌≡◌, ◌≤◌, ℕ, List, None};
 ghost use Rattle.spin_step.specs.Plain.{to_write, to_read, to_read_upgradable, to_lock_starving};
 ghost use Rattle.spin_model.specs.Asks.{waits, waits_to_write, spins_to_write, waits_or_starves, waits_starving, initializes, waits_for_value, polls, meets};
@@ -91,7 +91,7 @@ pub fn a_lock_may_be_passed_over<V: Copy>()
 {}
 
 /// States that while a starver waits for a fair lock, some party is granted the lock in every five rounds. This may be
-/// another starver each time. A law of `spin_world` says that it is no newcomer.
+/// another starver each time. A law of `spin_world` says that the party is no newcomer.
 pub fn somebody_is_granted_beside_a_starver_in_five_rounds<V: Copy>()
     ensures { (object : Fair V) (n : ℕ) (past : List (ℕ × Move FairCall V)) (rounds : List (List (ℕ × Move FairCall V))) → LocksInFive (⟦<Fair<V> as Object>⟧.machine object) n past rounds }
 {}
@@ -194,7 +194,7 @@ pub fn a_poll_may_starve<V: Copy>()
     ensures { (object : OnceObject V) → object.value ≡ None → MayStarve (⟦<OnceObject<V> as Object>⟧.machine object) 2 polls }
 {}
 
-/// States that a `wait` may starve, since nobody may make a value.
+/// States that a `wait` may starve: it is possible that nobody makes a value.
 pub fn a_wait_may_starve<V: Copy>()
     ensures { (object : OnceObject V) → object.value ≡ None → MayStarve (⟦<OnceObject<V> as Object>⟧.machine object) 1 waits_for_value }
 {}

@@ -12,7 +12,7 @@ use spin_core::guard::{Release, Uses};
 use spin_core::tie;
 use spin_core::trace::{Trace, Watch};
 
-/// What a party is to the latch. A party is one call, and then the guard that the call returns.
+/// What a party is to the latch: where it is in a call, or what it holds.
 #[derive(Clone, Copy)]
 pub enum View {
     Idle,

@@ -2,6 +2,6 @@
 use spin_core::relax::Yield;
 use spin_flag::spin::SpinMutex;
 
-/// A mutex whose waiting threads yield. With many more workers than cores, a waiting worker so lets others
-/// run.
+/// A mutex whose waiting threads yield. So a waiting worker lets others run if there are many more workers
+/// than cores.
 pub(crate) type Lock<T> = SpinMutex<T, Yield>;

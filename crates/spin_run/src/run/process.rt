@@ -19,9 +19,9 @@ use std::thread::Threads;
 /// the call only writes a line about it to `errors`.
 ///
 /// # Contract
-/// The caller gives streams that have not failed. The status is 0, 1 or 2. Either it means what it means for
-/// [`program`], for some words. Or the run failed before the words were known: an argument was not text, or
-/// an allocation failed (`IsWordless`). Then `input` and `output` are unchanged.
+/// The caller gives streams that have not failed. The status is 0, 1 or 2. Either it is a status that
+/// [`program`] returns for some words, and means the same. Or the run failed before the words were known: an
+/// argument was not text, or an allocation failed (`IsWordless`). Then `input` and `output` are unchanged.
 pub fn program_over_arguments<
     I: Source,
     O: Sink,

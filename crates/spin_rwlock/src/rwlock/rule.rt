@@ -82,8 +82,8 @@ pub(super) type Writer<'a, T> = WritePermit<'a, T, Party, RwRule<T>>;
 
 /// A kind of step of a party.
 pub(super) trait Turns {
-    // The step, given the party's view, the operand and the word found. The operand is 0 for a load, and for an exchange
-    // the word expected.
+    // The step, given the party's view, the operand and the word found. The operand is 0 for a load, and the word
+    // expected for an exchange.
     ghost turn: { (T : Type 0) → Option View → ℕ → ℕ → Turn T };
 }
 
