@@ -40,8 +40,8 @@ pub trait Lock<T> {
         requires { F.IsAlwaysCallable by }
         ensures { AnswersOf F.FnOnce by result };
 
-    /// Tries to acquire the lock. If it succeeds, goes on like [`with`](Lock::with). If the lock is held,
-    /// returns the closure.
+    /// Tries to acquire the lock. If it succeeds, goes on like [`with`](Lock::with). If it fails, for example
+    /// because the lock is held, returns the closure.
     ///
     /// # Contract
     /// The closure has to be always callable. `Ok` is an answer like that of `with`. `Err` is the closure, which was

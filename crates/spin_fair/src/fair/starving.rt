@@ -131,7 +131,7 @@ impl<'a, T, R> StarvingPass<'a, T, R> {
         Pass { account, strategy }
     }
 
-    // Begins a `lock`. The only starver acquires the lock at once.
+    // Begins a `lock`. The only starver acquires a free lock at once.
     pub(super) fn begin_lock(self) -> Result<Got<'a, T, R>, Account<'a, T>>
         ensures got { IfOk result (Gets (IsCall StarverLock Granted) self.entry.account) }
         ensures begun { IfErr result (λ next. MayAwait (view_of next) × Goes (Comes false StarverLock None) self.entry.account next) }
@@ -201,8 +201,8 @@ impl<'a, T> Awaiting<'a, T> {
     }
 }
 
-// Sets the flag if it is clear, and then ends the registration. It does not first try as the only starver. While other
-// threads starve that try fails, even if the flag is clear.
+// If the flag is clear, sets it and ends the registration. It does not first try as the only starver: while other
+// threads starve, that try fails even if the flag is clear.
 fn set_flag<'a, T, R>(account: Account<'a, T>) -> Result<Got<'a, T, R>, Account<'a, T>>
     requires { MaySet (view_of account) }
     ensures served { IfOk result (IsServed account.entry) }

@@ -123,7 +123,7 @@ impl<'a, const N: usize> Pass<'a, N> {
     /// Compares what two passes of one lock know. It does nothing at run time.
     ///
     /// # Contract
-    /// What one of them knows is a prefix of the history that the other knows.
+    /// The history that one of the passes knows is a prefix of the history that the other knows.
     pub fn compare(&self, other: &Pass<'_, N>)
         requires { self.now.account.seen.name ≡ other.now.account.seen.name }
         ensures { IsPrefix self.now.account.seen.entries other.now.account.seen.entries ⊎ IsPrefix other.now.account.seen.entries self.now.account.seen.entries }
