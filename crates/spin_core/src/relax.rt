@@ -48,13 +48,13 @@ pub trait RelaxStrategy {
 
     /// Relaxes and tries again, until an attempt succeeds.
     ///
-    /// A failed attempt returns the state in which the next one begins. Use it in calls whose first attempt
+    /// A failed attempt returns the state in which the next one begins. Use `retry` in calls whose first attempt
     /// has failed.
     ///
     /// # Contract
-    /// The closure has to be always callable. The first attempt begins in `state`, and each later one in the state of
-    /// the failure before it. The answer is that of the last attempt (`Succeeds`). Whether and when the call returns is
-    /// not promised.
+    /// The closure has to be always callable. The first attempt begins in `state`, and each later one in the state that
+    /// the failed attempt before it returned. The answer is that of the last attempt (`Succeeds`). Whether and when the
+    /// call returns is not promised.
     ///
     /// # Examples
     /// ```
@@ -73,8 +73,8 @@ pub trait RelaxStrategy {
         Self::retry_after(rt, state, |_| 1, attempt)
     }
 
-    /// Like [`retry`](RelaxStrategy::retry), but pauses before each attempt. The closure `pause` gives the
-    /// length by the state.
+    /// Like [`retry`](RelaxStrategy::retry), but the closure `pause` gives the hints of the pause before each
+    /// attempt, by the state.
     ///
     /// It is not inlined, since that would lengthen the path of each caller that does not wait.
     ///
@@ -103,9 +103,9 @@ pub trait RelaxStrategy {
         unreachable!()
     }
 
-    /// Like [`retry`](RelaxStrategy::retry), but calls [`pause`](RelaxStrategy::pause) before each attempt.
-    /// The number of hints doubles each time, up to [`MAX_HINTS`]. A lock whose waiters may overtake each
-    /// other is fastest when few of them load its word.
+    /// Like [`retry`](RelaxStrategy::retry), but each [`pause`](RelaxStrategy::pause) has twice as many hints as
+    /// the last one, up to [`MAX_HINTS`]. A lock whose waiters may overtake each other is fastest when few of them
+    /// load its word.
     ///
     /// # Contract
     /// Like that of `retry`.

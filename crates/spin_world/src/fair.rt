@@ -91,8 +91,7 @@ fn reject<V: Copy>(word: usize, holds: Option<Hold>) -> Next<FairPoint, Answer<V
 }
 
 impl<V: Copy> Fair<V> {
-    /// Makes the step of a call that registers. If `is_found`, this step is the exchange. Else it is the load before
-    /// it.
+    /// Returns the step of a call that registers: the exchange if `is_found`, else the load before the exchange.
     fn register(
         &self,
         call: FairCall,
@@ -126,7 +125,7 @@ impl<V: Copy> Fair<V> {
     }
 }
 
-/// Makes the step of a call with one step, or the first step of `StarverTryLockFair`.
+/// Returns the step of a call with one step, or the first step of `StarverTryLockFair`.
 fn first_act<V: Copy>(
     word: usize,
     call: FairCall,

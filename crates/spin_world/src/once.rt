@@ -64,7 +64,7 @@ impl<V: Copy> OnceObject<V> {
     }
 }
 
-/// Returns the answer that is the value.
+/// Returns the end of a call that answers with the value, or with `NoValue`.
 fn tell<V: Copy>(value: Option<V>, holds: Option<Hold>) -> Next<OncePoint, Answer<V>>
     ensures { result ≡ filled value (tells holds) }
 {
@@ -90,7 +90,7 @@ fn look<V: Copy>(
     }
 }
 
-/// Makes a step of a call with a closure. The closure gives the value `made`, or fails if `made` is `None`.
+/// Returns a step of a call with a closure. The closure gives the value `made`, or fails if `made` is `None`.
 fn run<V: Copy>(
     words: u8,
     value: Option<V>,

@@ -193,7 +193,7 @@ impl<'a, T, S: Seed<T>> Account<'a, T, S> {
         Ok(Claim::Init(InitPermit { account }))
     }
 
-    // Makes the exchange by which a call begins to run its closure. A party that begins finds the seed still there.
+    // Makes the exchange by which a call begins to run its closure. If the closure begins, the cell still has the seed.
     fn exchange<C: Closure>(self) -> (u64, Account<'a, T, S>)
         requires { what self.party.view ≡ Some (in_closure C.may_fail TryBegin) }
         ensures turned { Turned (closure_call C.may_fail) result.0 (here self.entry) (here result.1) }

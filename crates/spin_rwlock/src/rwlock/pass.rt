@@ -38,7 +38,7 @@ use std::sync::Wait;
 /// history. It skips no move, and gives this call the same answer.
 ///
 /// Before a writer releases or downgrades, it records its value in the history (`Wrote`). So the value of a guard is
-/// the one written last there, until the owner borrows it by `get_mut` (`found`).
+/// the one written last in the history (`found`), until the owner borrows the value by `get_mut`.
 ///
 /// # Examples
 /// ```

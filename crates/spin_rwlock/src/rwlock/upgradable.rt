@@ -168,7 +168,7 @@ impl<'a, T, R: RelaxStrategy> SharedGuard<'a, T, Upgrader, R> {
     /// Becomes the writer, spinning until every other reader has released the lock.
     ///
     /// The reader asks first, and from then on no new reader is admitted. The reader keeps its access until it is the
-    /// writer, so the value does not change. The call never returns if its own thread holds a further reader's guard.
+    /// writer, so the value does not change. The call never returns if its own thread holds a second guard of the lock.
     ///
     /// # Contract
     /// The writer's guard has the value that this one had, and its party has asked (its view is `WritingAsked`).
