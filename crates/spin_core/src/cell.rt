@@ -67,7 +67,7 @@ impl<T, V, P: Rule<T, V>> Move for Cell<T, V, P> {
 /// if that view reads or writes it.
 ///
 /// A permit cannot be dropped. A party at rest ends its permit by [`leave`](Permit::leave). A party that uses
-/// the value may end it by [`leak`](Permit::leak), and then its use lasts for ever.
+/// the value may end its permit by [`leak`](Permit::leak), and then uses the value for ever.
 pub struct Permit<'a, T, V, P: Rule<T, V>> {
     cell: *const Cell<T, V, P>,
     marker: PhantomData<&'a T>,
@@ -167,8 +167,9 @@ impl<T, V, P: Rule<T, V>> Cell<T, V, P> {
     /// permit exists.
     ///
     /// # Contract
-    /// The cell gets the key that the rule names (`lent`). Under that key the rule has to hold as before
-    /// (`Lends`). It also has to allow any value in place of one that nobody uses (`Frees`, `Freeing`).
+    /// The cell gets the key that the rule names (`lent`). Where the rule holds under the old key, it has to hold
+    /// under the new one (`Lends`). It also has to allow any value in place of one that nobody uses (`Frees`,
+    /// `Freeing`).
     pub fn get_mut(&mut self) -> &mut T
         requires free { Freeing (P.ways (P.lent self.old)).2 (Frees (P.ways (P.lent self.old)).0) }
         requires lends { Lends (P.holds self.old) (P.ways self.old) (P.holds (P.lent self.old)) (P.ways (P.lent self.old)) }

@@ -1,5 +1,5 @@
-//! Traits for code that takes any lock. Begin with [`Lock`]: each mutex of this library and its `RwLock` have an `impl`
-//! of it.
+//! Traits for code that takes any lock. Begin with [`Lock`], which each mutex of this library and its `RwLock`
+//! implement.
 ghost use Rattle.std.specs.Prelude.{◌≡◌, is_some, is_ok, MatchResult};
 ghost use Rattle.spin_core.specs.Calls.{AnswersOf, AnswersOfShared};
 

@@ -10,8 +10,8 @@ use std::marker::{Model, PhantomData};
 
 /// A list that only grows, with the exclusive right to append to it. A word of type `S` may stand beside the
 /// list.
-/// The list and its name are ghost state: a `Trace<E>` has no bytes, and a `Trace<E, u64>` has those of its word. A
-/// [`Cell`](crate::cell::Cell) that contains a trace makes it grow by the steps of its permits.
+/// The list and its name are ghost state: a `Trace<E>` has no bytes, and a `Trace<E, u64>` has those of its word. If a
+/// [`Cell`](crate::cell::Cell) contains a trace, the steps of the cell's permits make the trace grow.
 pub struct Trace<E, S = ()> {
     pub(crate) word: S,
     marker: PhantomData<E>,

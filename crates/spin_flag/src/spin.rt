@@ -1,4 +1,4 @@
-//! A spinning mutex of one flag: the thread that finds it clear sets it. Begin at [`SpinMutex::lock`].
+//! A spinning mutex of one flag: the thread that finds the flag clear sets it. Begin at [`SpinMutex::lock`].
 ghost use Rattle.std.specs.Prelude.{◌≡◌, true, Option, Some, None, [], IfSome};
 ghost use Rattle.std.specs.Fmt.{DisplaysOnOk};
 ghost use Rattle.spin_core.specs.Guard.{IsHolder};

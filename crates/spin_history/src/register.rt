@@ -118,7 +118,7 @@ impl<T, H: History, P: Order<T>> Register<T, H, P> {
         by(self.get(seen))
     }
 
-    /// Calls a closure with the value, which it may change in place, and returns its answer.
+    /// Calls a closure with the value, and returns its answer. The closure may change the value in place.
     ///
     /// # Contract
     /// The closure has to be always callable. Whatever value it finds, it has to leave one that may follow in

@@ -98,8 +98,8 @@ pub fn arrive(state: State) -> (State, bool)
 /// Returns `true` if a thread that arrived in `generation` may leave. Callers ask this of threads that do not
 /// lead their group.
 ///
-/// A thread may leave when its group is full. But the generation wraps: if the number of groups that filled up
-/// since the thread arrived is a multiple of 2^64, the thread may not leave until one more group is full.
+/// A thread may leave when its group is full. But the generation wraps. If the number of groups that filled up
+/// since the thread arrived is a multiple of 2^64, one more group has to fill up first.
 ///
 /// # Contract
 /// The plain barrier gives the same answer. If a thread that does not lead gets `true`, its group is full.

@@ -311,9 +311,9 @@ fn run_by<'a, P: Plan + Send + Sync, G: Gate + Sync, R: Threads + Wait + Sync, A
 /// If starting a thread or allocating memory for it fails, there is no total, and no worker adds anything.
 ///
 /// # Contract
-/// There may be at most [`MAX_WORKERS`] workers. What one worker adds has to fit a `u64`, and so has the sum of
-/// what all add. The total is exact. Whether workers run at the same time is not promised. Whether and when the
-/// call returns is not promised.
+/// There may be at most [`MAX_WORKERS`] workers. What one worker adds, and what all add together, has to fit a
+/// `u64`. The total is exact. Whether workers run at the same time is not promised. Whether and when the call
+/// returns is not promised.
 ///
 /// # Examples
 /// ```

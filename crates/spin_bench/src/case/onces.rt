@@ -53,8 +53,8 @@ impl Case for LateCalls {
 pub struct FirstCalls;
 
 impl Call for FirstCalls {
-    // Only one worker makes these calls. The value depends on its number, so that the compiler does not know
-    // it.
+    // Only one worker makes these calls. The value depends on the worker's number, so that the compiler does
+    // not know the value.
     #[inline(always)]
     fn call<W: Wait>(&self, rt: &W, worker: usize) -> u64 {
         let once: Once<u64> = Once::new();
@@ -74,8 +74,8 @@ pub struct Forces;
 impl Case for Forces {
     #[inline(never)]
     fn repeat<W: Wait>(&self, rt: &W, worker: usize, calls: u64) -> u64 {
-        // Only one worker makes these calls. The value depends on its number, so that the compiler does not
-        // know it.
+        // Only one worker makes these calls. The value depends on the worker's number, so that the compiler
+        // does not know the value.
         let lazy: LazyLock<u64, _> = LazyLock::new(|| (worker as u64).wrapping_add(1));
         let mut seen = 0u64;
         for _ in 0..calls {

@@ -111,7 +111,7 @@ impl<T, R> Drop for Starvation<'_, T, R> {
     }
 }
 
-// SAFETY: a `Starvation` is a starver's permit. The thread that receives it may use the lock's value by it.
+// SAFETY: a `Starvation` is a starver's permit. The thread that receives it may acquire the lock and use the value.
 unsafe impl<T: Send, R> Send for Starvation<'_, T, R> {}
 
 // SAFETY: a shared reference to a `Starvation` gives access to nothing. The bound on `T` is the one that the lock has.

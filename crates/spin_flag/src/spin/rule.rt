@@ -144,7 +144,7 @@ pub(super) fn word(flag: bool) -> u64
     flag as u64
 }
 
-/// Returns the word of a set flag, which an exchange puts in place of that of a clear flag.
+/// Returns the word of a set flag. An exchange puts this word in place of the word of a clear flag.
 pub(super) fn taken() -> u64
     ensures { result ≡ 1 }
 {

@@ -206,7 +206,7 @@ fn count_by<'a, P: Plan + Send + Sync, G: Gate + Sync, R: Threads + Wait + Sync,
 /// Counts by several threads, and returns the total.
 ///
 /// Each worker from 0 to `workers - 1` is a thread of its own. It passes the gate once, even if `times` is 0.
-/// Then it acquires one lock `times` times, and adds 1 to the number under it each time. The call joins all
+/// Then it acquires one lock `times` times, and each time adds 1 to the number under the lock. The call joins all
 /// threads before it returns. If starting a thread or allocating memory for it fails, the call joins the
 /// threads started before and returns an error.
 ///

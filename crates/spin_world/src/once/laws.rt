@@ -30,8 +30,8 @@ pub fn a_later_get_agrees<V: Copy>()
     ensures { (object : OnceObject V) (n : ℕ) (past further : Entries V) → GetAgrees (⟦<OnceObject<V> as Object>⟧.machine object) n past further }
 {}
 
-/// States that a closure that fails leaves the word at 0. When the word is 0, a call with a closure begins the closure
-/// by its next step or the one after that, if no other party steps in between.
+/// States that a closure that fails leaves the word at 0. While the word is 0 and no other party steps, a call with a
+/// closure begins the closure by its next step or the one after that.
 pub fn a_later_closure_may_run<V: Copy>()
     ensures { (object : OnceObject V) (n : ℕ) (past : Entries V) → MayRunAgain (⟦<OnceObject<V> as Object>⟧.machine object) n past }
 {}

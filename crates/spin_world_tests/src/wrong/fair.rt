@@ -13,7 +13,7 @@ pub fn a_newcomer_yields_to_starvers<V: Copy>()
     ensures { (value : V) → KeepsAll (tries_greedily value) 2 try_beside_a_starver → ⊥ }
 {}
 
-/// A `starver_try_lock` that leaves its party a starver. A call that succeeds so has made too few plain steps.
+/// A `starver_try_lock` that leaves its party a starver. A call that succeeds in this way has made too few plain steps.
 pub fn a_granted_starver_leaves_the_starvers<V: Copy>()
     ensures { (value : V) → KeepsAll (stays_a_starver value) 1 try_of_a_starver → ⊥ }
 {}
@@ -44,7 +44,7 @@ pub fn a_dropped_starver_leaves_the_flag<V: Copy>()
     ensures { (value : V) → KeepsAll (drop_frees value) 2 drop_beside_a_holder → ⊥ }
 {}
 
-/// A `try_lock_starver` that tells the other reason, though nobody starves at any moment.
+/// A `try_lock_starver` that tells the wrong reason: it answers `Starved`, though nobody starves at any moment.
 pub fn a_refusal_tells_its_reason<V: Copy>()
     ensures { (value : V) → MomentsAll (tells_the_other_reason value) 2 try_beside_a_holder → ⊥ }
 {}
