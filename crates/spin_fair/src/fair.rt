@@ -30,7 +30,7 @@ pub use self::starving::StarvingPass;
 pub use spin_core::laws::{a_guard_reads_the_last_value_written, two_guards_read_one_value};
 pub use spin_step_more::fair::LockRejectReason;
 
-/// The patience of [`FairMutex::lock`]. If a look finds the lock held after more than so many such looks, the call
+/// The patience of [`FairMutex::lock`]. If a look finds the lock held after more such looks than this number, the call
 /// starves.
 pub const STARVATION_SPINS: usize = 1024;
 

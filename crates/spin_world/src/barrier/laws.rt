@@ -13,10 +13,10 @@ pub fn every_last_of_a_group_leads()
     ensures { (object : BarrierObject) (parties : ℕ) (past : Entries) → InGroups (⟦<BarrierObject as Object>⟧.machine object) object.n parties past }
 {}
 
-/// States that a follower leaves by its next step exactly if the number of groups that are full since its arrival is no
-/// multiple of 2^64.
+/// States when a follower leaves by its next step: exactly if the number of groups that have filled up since its
+/// arrival is no multiple of 2^64.
 ///
-/// So a follower leaves by its first step after its group is full, unless a multiple of 2^64 groups are full by then.
+/// So a follower leaves by its first step after its group is full, unless this number is then a multiple of 2^64.
 pub fn a_follower_leaves_a_full_group()
     ensures { (object : BarrierObject) (parties : ℕ) (past : Entries) → FollowersLeave (⟦<BarrierObject as Object>⟧.machine object) parties past }
 {}

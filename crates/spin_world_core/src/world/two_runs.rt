@@ -19,8 +19,8 @@ use std::alloc::{AllocError, Allocator};
 ///
 /// # Contract
 /// The place `at` has to be within the schedule. On `Ok` the state is the one after the whole schedule. The two
-/// transcripts are the transcript of one run, cut at `at` (`IsCut`). All that [`World::run`] promises holds of the whole
-/// schedule (`Promised`). The two transcripts joined tell what happens in the whole schedule.
+/// transcripts are the transcript of one run, cut at `at` (`IsCut`). All that [`World::run`] promises holds of the
+/// whole schedule (`Promised`). The two transcripts joined tell what happens in the whole schedule.
 ///
 /// # Examples
 /// ```
