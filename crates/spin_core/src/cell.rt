@@ -104,8 +104,8 @@ impl<T, V, P: Rule<T, V>> Cell<T, V, P> {
     /// its value and left.
     ///
     /// # Contract
-    /// The rule has to hold of the words (`Opens`). If several parties may read the value at once, its type
-    /// has to be `Sync` wherever the rule's own type is (`Known`).
+    /// The rule has to hold of the words (`Opens`). If parties share the value, or some view reads it, its type
+    /// has to be `Sync` wherever the rule's own type is. `second` has to be `Send` (`Known`).
     pub fn new(value: T, first: u64, second: P::Second, key: &P::Key) -> Cell<T, V, P>
         requires known { Known (P.ways key.now) P.row P.Second.row T.row }
         requires rule { Opens (P.holds key.now) (P.ways key.now) first second value }
@@ -326,8 +326,8 @@ unsafe impl<T: Send, V, P: Rule<T, V> + Sync> Sync for Cell<T, V, P> {}
 // SAFETY: any thread may make the party's next step, and so reach the value.
 unsafe impl<T: Send, V, P: Rule<T, V> + Sync> Send for Permit<'_, T, V, P> {}
 
-// SAFETY: a `&` to a permit shows the value only if the view reads. Then `Known` asks what it asks of a
-// shared cell.
+// SAFETY: a `&` to a permit shows the value only if the view reads. Then `Known` asks that the value is `Sync`
+// where the rule is.
 unsafe impl<T, V, P: Rule<T, V> + Sync> Sync for Permit<'_, T, V, P> {}
 
 // SAFETY: the new thread has the value alone, as the old one had.

@@ -204,7 +204,7 @@ unsafe impl<T: Send, V, P: Release<T, V> + Sync, R> Send for Guard<'_, T, V, P, 
 // SAFETY: a shared guard lends a `&T` and no more.
 unsafe impl<T: Sync, V, P: Release<T, V>, R> Sync for Guard<'_, T, V, P, R> {}
 
-// SAFETY: the new thread may release the lock, and so pass the value to its next user. A guard asks the same.
+// SAFETY: the new thread may release the lock, and so pass the value to its next user. The bounds are those of a guard.
 unsafe impl<T: Send, V, P: Release<T, V> + Sync, R> Send for Held<'_, T, V, P, R> {}
 
 // SAFETY: a shared hold lends nothing.

@@ -357,7 +357,7 @@ unsafe impl<T: Send, R> Send for MutexGuard<'_, T, R> {}
 // SAFETY: a shared guard lends a `&T` and no more.
 unsafe impl<T: Sync, R> Sync for MutexGuard<'_, T, R> {}
 
-// SAFETY: the new thread may release the lock, and so pass the value to its next user. A guard asks the same.
+// SAFETY: the new thread may release the lock, and so pass the value to its next user. The bounds are those of a guard.
 unsafe impl<T: Send, R> Send for Held<'_, T, R> {}
 
 // SAFETY: a shared hold lends nothing.

@@ -1,4 +1,4 @@
-//! How the value of each lock is dropped. A reader-writer lock has three cases, by which kind of holder had it last.
+//! How the value of each lock is dropped. A reader-writer lock has three cases, one for each kind of holder.
 use crate::ends::counted::Counted;
 use crate::equal::equal;
 use spin_fair::fair::{FairMutex, FairMutexGuard};
