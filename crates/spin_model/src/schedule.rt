@@ -14,7 +14,7 @@ pub enum Move<C, V> {
     Read,
     /// Replaces the value. The party has to be a holder that may write; it may have leaked its guard.
     Write(V),
-    /// Leaks the guard. The party has to be a holder in no call.
+    /// Leaks what the party holds, such as a guard. The party has to be in no call.
     Leak,
     /// Reads the value as the object's owner. The party of the entry does not matter, but has to exist. The
     /// move is open if the object is owned and no party holds or is in a call. After it every party that
@@ -45,7 +45,7 @@ pub enum Outcome<A, V> {
     Value(Option<V>),
     /// The value is replaced.
     Written,
-    /// The party has leaked its guard.
+    /// The party has leaked what it held.
     Leaked,
 }
 
