@@ -114,7 +114,7 @@ module _ {T S : Type 0} (makes : S → T → Type 0) (key : Key T S) where
     abbrev pub Each : (List OneMove → ℕ → View → Type 0) → Type 0
     Each P = (own : List OneMove) (outs : List Ending) (n : ℕ) (u : View) → exact own outs n u → P own n u
 
-    -- the condition on such moves: there is still at most one value, and what is known of the value carries over
+    -- the condition on these moves: there is still at most one value, and what is known of the value carries over
     abbrev pub Leaving : Type 0
     Leaving = Each (λ own n u. (vs : List T) → AtMostOne n vs
         → AtMostOne (f n) (vs ++ values_of (put own)) × Carries (Is vs) (Is (vs ++ values_of (put own))) (use_of use_of_party view) (use_of_view u) shown)

@@ -124,7 +124,7 @@ abbrev pub call_from : OnceCall (Unit {0}) → Option View → OnceCall (Unit {0
 call_from c (Some (InCall d l)) = d
 call_from c _ = c
 
--- the point at which that call continues; a call that begins is at a look
+-- the point at which the party's call continues; a call that begins is at a look
 abbrev pub point_of : Option View → OncePoint
 point_of (Some (InCall c l)) = l
 point_of _ = Look
