@@ -20,7 +20,7 @@ steps_since m parties party history = (seen_after m (opening m parties) history)
 pub record IsWithinLimit {W V C L A X : Type 0} (m : Machine W V C L A) (call : C) (view : Option (Numbered X)) (old new : List (Entry C V)) : Type 0 where
   pub party : ℕ
   pub is_number : IsNumber party view
-  -- the history is that of a world with this many parties, and none of its moves is skipped
+  -- `new` is the history of a world with this many parties, and none of its moves is skipped
   pub parties : ℕ
   pub played : IsPlayed m parties new
   -- the history when the call was answered
