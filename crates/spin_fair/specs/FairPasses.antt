@@ -35,7 +35,7 @@ module _ {T R : Type 0} where
   abbrev pub party : Pass T R → Option (Numbered View)
   party it = it.account.permit.view
 
-  -- the same four functions, for a pass that is registered as a starver
+  -- `history`, `lock_of`, `opening_of` and `party` of a pass that is registered as a starver
   abbrev pub starving_history : StarvingPass T R → List (Done T)
   starving_history it = it.account.seen.entries
 

@@ -130,8 +130,8 @@ answers_turn number n = if n == number then Answered Granted None else GoingOn
 abbrev pub awaits_by : {T : Type 0} → Option View → Says T
 awaits_by view = let number : ℕ = number_of view in step_by true Lock (answers_turn number) (entered number)
 
--- The view in `try_lock` after it found the served number `n`. The call continues if `n` is also the next number, and a
--- ticket is left.
+-- The view in `try_lock` after it found the served number `n`. The call continues if `n` is also the next number, and
+-- a ticket is left.
 abbrev pub freed : ℕ → ℕ → View
 freed next n = if is_free next n then Trying next else Idle
 
