@@ -203,7 +203,7 @@ module _ {W V C L A B : Type 0} {t : Table W V C L B} {given : Machine W V C L A
           theirs = λ q ne. omega (arith, within_all sc pays q, other_load seen.plain l q (seat_of seen q) ne);
         }
 
-    -- what the waiting party and each other party show of their loads, for a party that does not step
+    -- the load of a party that does not step, by whether it is the waiting party
     by_whom : (sc : Event) (i : L) (o : ℕ) → ((o ≡ p) → x.mine sc.after.plain i ≤ max (x.mine seen.plain l) n) → ((o ≡ p → ⊥) → x.theirs sc.after.plain i o (seat_of seen o) ≤ max (theirs seen l o) n)
         → load_by sc.after.plain i o (seat_of seen o) ≤ max (load seen l o) n
     by_whom sc i o mine other =
@@ -405,7 +405,7 @@ module _ {W V C L A B : Type 0} {t : Table W V C L B} {given : Machine W V C L A
         or_right _ _ (subst (λ s. occurs m x.goal s (joined rounds) ≡ true) at (in_rounds rounds next y.0 y.1 fine_there (subst (λ s. AreRounds m s rounds) (sym at) are.1) y.2)))
         (one_round seen l (length rounds) es w (fine_before next (joined rounds) (good_after f seen es w.3) fine_there) within are.0)
 
-    -- the goal is reached so from the state after any schedule
+    -- the goal is reached in that many rounds also from the state after any schedule
     pub ends : (n : ℕ) (past : Turn) (rounds : List Turn) (l : L)
         → let seen = seen_after m (opening m n) past in let s = after m (at_first m n) past in
         slice_get s.seats p ≡ Some (Calling x.call l x.hold) → x.At l → x.Known seen → x.Fine (seen_after m seen (joined rounds)) → AreRounds m s rounds → (Waits seen l → Within seen l (length rounds))

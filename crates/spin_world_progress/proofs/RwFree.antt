@@ -195,7 +195,7 @@ abbrev leaves : Option RwSeat → Bool
 leaves (Some (Calling Release l h)) = true
 leaves _ = false
 
--- how many rounds are left at most once the readers beside u have left, by the kind with which u holds
+-- how many rounds remain at most after the readers beside u have left, by the kind with which u holds
 abbrev base : Option Kind → ℕ
 base None = 2
 base (Some reading) = 3
@@ -484,7 +484,7 @@ module _ {V : Type 0} (v : V) (cap : ℕ) (some : 1 ≤ cap) where
               (others_step seen q d i j reader at (subst (Sits (reads_so reader) q) at (sits (reads_so reader) q (reads_or_not (its q s.holders) (known q other)))))
 
         module _ (is : q ≡ u) where
-          -- if somebody holds beside u, at most n rounds are left once the readers beside u have left
+          -- if somebody holds beside u, at most n rounds remain after the readers beside u have left
           beside_long : b ≡ true → base kind ≤ n
           beside_long some =
               let z = reader_beside known mine_at some in

@@ -18,7 +18,7 @@ use Rattle.spin_model.specs.declared.once.OncePoint.TheVariants as once_point
 use Rattle.spin_world.specs.declared.barrier.BarrierCall.TheVariants as barrier
 use Rattle.spin_world.specs.declared.barrier.BarrierPoint.TheVariants as barrier_point
 
--- party 0 makes its exchange while the other party holds, and looks after the other party has released
+-- party 0 makes its exchange while the other party holds, and its look when the other party has released
 pub flag_starves : {V : Type 0} (v : V) → MayStarve (flag_machine v) 2 waits_to_write
 flag_starves v =
     starves (flag_machine v) 2 ((0, Begin flag.Lock) ∷ []) _ refl (1, Begin flag.Lock) ((1, Step) ∷ (0, Step) ∷ (1, Begin flag.Release) ∷ (1, Step) ∷ (0, Step) ∷ []) 0 flag.Lock flag_point.First None refl
