@@ -25,7 +25,8 @@ pub cut_none : (a : ℕ) (bs : List ℕ) → Nowhere (Passes (is_byte a) bs) 0 (
 cut_none a bs nowhere =
     slice_split_none (is_byte a) bs (λ k d l. ap (is_byte a) (get_or_default bs k d 0 l) ∙ not_passing _ (nowhere k (omega arith) l))
 
--- The first word of a line and the words after it, if the first i bytes have no space. Then they are the beginning of the first word.
+-- The first word of a line and the words after it, if the first i bytes have no space. These bytes are then the
+-- beginning of the first word.
 pub record FirstWord (line : List ℕ) (i : ℕ) : Type 0 where
   pub word : List ℕ
   pub more : List (List ℕ)

@@ -39,7 +39,7 @@ module _ {C : Type 0} (calls : Calls C) (read : List (List ℕ) → Option C) (r
       ap (λ o. o >>= λ x. (read_entries read (map (entry_words calls) es ++ (line ∷ [])) >>= λ xs. Some (x ∷ xs))) (entry_again calls read reads e fits.0)
       ∙ ap (λ o. o >>= λ xs. Some (e ∷ xs)) (entries_stop es line fits.1 is)
 
-  -- entries that fit, with one more that fits
+  -- if some entries fit and one more entry fits, then all of them fit
   pub entries_more : (es : List (ℕ × Move C ℕ)) (e : ℕ × Move C ℕ) → EntriesFit calls es → EntryFits calls e → EntriesFit calls (es ++ (e ∷ []))
   entries_more [] e fits fit = (fit, tt)
   entries_more (x ∷ xs) e fits fit = (fits.0, entries_more xs e fits.1 fit)

@@ -13,7 +13,7 @@ pub fn a_newcomer_yields_to_starvers<V: Copy>()
     ensures { (value : V) → KeepsAll (tries_greedily value) 2 try_beside_a_starver → ⊥ }
 {}
 
-/// A `starver_try_lock` that leaves its party a starver. A call that succeeds so has made too few plain steps.
+/// A `starver_try_lock` that leaves its party a starver. When this call succeeds, it has made too few plain steps.
 pub fn a_granted_starver_leaves_the_starvers<V: Copy>()
     ensures { (value : V) → KeepsAll (stays_a_starver value) 1 try_of_a_starver → ⊥ }
 {}

@@ -12,22 +12,22 @@ pub fn an_upgrade_is_refused_beside_readers<V: Copy>()
     ensures { (value : V) → KeepsAll (upgrades_at_once value) 2 upgrade_beside_a_reader → ⊥ }
 {}
 
-/// An `upgrade` that asks and succeeds in one event while another party reads, and one that asks twice. The plain step
-/// is not open to a party that has not asked, or has asked already.
+/// An `upgrade` that asks and succeeds in one event while another party reads: its plain step is not open to a party
+/// that has not asked. Also an `upgrade` that asks twice: its second plain step is not open to a party that has asked.
 pub fn an_upgrade_asks_once<V: Copy>()
     ensures unasked { (value : V) → KeepsAll (upgrades_unasked value) 2 ask_beside_a_reader → ⊥ }
     ensures twice { (value : V) → KeepsAll (asks_twice value) 1 two_steps_of_an_upgrade → ⊥ }
 {}
 
 /// An `upgrade` that tries again and again without asking. Alone it succeeds, but by other plain steps than an upgrade
-/// makes. Beside a reader it has not asked by its first step.
+/// makes. Beside a reader its first step should ask, and does not.
 pub fn an_upgrade_asks<V: Copy>()
     ensures alone { (value : V) → KeepsAll (upgrades_plainly value) 1 upgrade_alone → ⊥ }
     ensures beside { (value : V) → CountsAll (upgrades_plainly value) 2 ask_beside_a_reader → ⊥ }
 {}
 
-/// A `downgrade` of the writer that stores the word of a reader that asks. This word counts a holder that does not
-/// exist.
+/// A `downgrade` after which the word has a reader, and also the bit by which an upgradable reader asks. No party has
+/// asked, so the word is not that of the plain lock.
 pub fn a_downgrade_asks_nothing<V: Copy>()
     ensures { (value : V) → KeepsAll (downgrades_asking value) 1 downgrade_alone → ⊥ }
 {}
