@@ -109,7 +109,7 @@ module _ {T S : Type 0} (makes : S → T → Type 0) where
               (passes.learns m seat_of words_of says (Of p.0 p.2.name) p.1 before now found v knew_all bare_moved).1 ∙ as_long q.2.entries,
             )
 
-        -- the same for a party that wrote, and no longer does
+        -- the same for a party that wrote before the step, and does not write after it
         pub keeps_end : use_of use_of_party p.1 ≡ writes → (u : View) → what q.1 ≡ Some u → use_of_view u ≢ writes → Knows shown'
         keeps_end wrote u at not = keeps (λ e. absurd (not (ap (use_of use_of_view) (sym at) ∙ tie.same_use use_of_view q.1 ∙ sym e ∙ wrote)))
 

@@ -1,5 +1,5 @@
--- A step that makes moves of the model, in the history with the values. In this history the last step of a call whose closure gave a value
--- is a write of that value. Each step keeps what is known of the value.
+-- What a step that makes moves of the model appends to the history with the values. In this history the last step of a
+-- call whose closure gave a value is a write of that value. Each step keeps what is known of the value.
 use Rattle.std.proofs.Common.{◌≡◌, ◌≢◌, ℕ, suc, ◌≤◌, Bool, true, false, Option, Some, None, is_some, List, [], ◌∷◌, ◌++◌, map, length, refl, sym, ap, ◌∙◌, subst, arith}
 use Rattle.std.proofs.lemmas.List.{append_assoc, append-nil, map-append}
 use mathlib.Core.List.{IsPrefix}

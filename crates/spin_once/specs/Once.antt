@@ -57,8 +57,8 @@ readers = readers_of use_of_view
 abbrev pub runs : List View → ℕ
 runs = writers_of use_of_view
 
--- Which parties fit this phase. In `nothing` no party reads, and none runs a closure. In `running p` only `p` runs its closure, and no
--- party reads. In `complete` some party reads.
+-- Which parties fit this phase. In `nothing` no party reads, and none runs a closure. In `running p` only `p` runs its
+-- closure, and no party reads. In `complete` some party reads, and none runs a closure.
 abbrev pub IsPhaseOf : List View → Phase → Type 0
 IsPhaseOf vs nothing = (readers vs ≡ 0) × (runs vs ≡ 0)
 IsPhaseOf vs (plain.running p) = (readers vs ≡ 0) × (runs vs ≡ 1) × ((c : OnceCall (Unit {0})) × (get_elem? vs p ≡ some (InCall c Run)))

@@ -31,7 +31,7 @@ pub record IsWithinLimit {W V C L A X : Type 0} (m : Machine W V C L A) (call : 
   pub more : List (Entry C V)
   pub grown : new ≡ old ++ more
   pub moves : length (entries_by party more) ≡ suc (own_count party (steps_since m parties party answered))
-  -- these steps are within the limit that the model has for this call, if the party held `held` before
+  -- these steps are within the model's limit for this call of a party that held `held` before it
   pub held : Option Hold
   pub in_time : EndsWithin (limit m.lock_kind (m.asks call held)) m.lock_kind party (steps_since m parties party answered)
   -- the exchanges that the call repeats failed at most as often as others changed the first word

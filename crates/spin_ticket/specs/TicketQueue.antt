@@ -1,4 +1,4 @@
--- The queue of a lock of tickets, as that of a plain lock and by the numbers of the parties' tickets.
+-- The queue of a lock of tickets: as the queue of a plain lock, and as the numbers of the parties' tickets.
 use Rattle.std.specs.Prelude.{◌≡◌, ℕ, ◌<◌, ◌≤◌, Bool, true, false, List, [], ◌∷◌, length, Some, filter, slice_get, count_by, ◌==◌}
 use Rattle.spin_step.specs.Plain.{Plain, Ticket, ticket, ticket_limit, next_word, serving_word}
 use Rattle.spin_step.specs.Parties.{first_alone_entered}

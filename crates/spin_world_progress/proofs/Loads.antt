@@ -34,7 +34,7 @@ module _ {W V C L A : Type 0} {t : Table W V C L A} (n : Notes t) (test : Entrie
   pub sits_so : {f : Plays (machine_of t) n} (seen : Seen W V C L) → Invariant f seen → (p : ℕ) → test (entries p seen.plain) ≡ true → SitsSo p (seat_of seen p)
   sits_so seen good p has = sits_by p seen.plain (seen.span p) _ (good.parties p).stands (good.parties p).knows has
 
-  -- others may wait for a party with such a seat
+  -- others may wait for a party with a seat that implies such entries
   pub busy_so : (p : ℕ) (o : Option (Seat C L)) → test (entries_held p None) ≡ false → ((h : Hold) → test (entries_of p h) ≡ true → may_read h ≡ true) → SitsSo p o → is_busy o ≡ true
   busy_so p o none reads sits = grind (arith, none, reads, sits)
 
@@ -176,7 +176,7 @@ module _ {W V C L A B : Type 0} {t : Table W V C L B} {given : Machine W V C L A
   Pays seen l n es q = (load seen l q ≤ n) ⊎ ((load seen l q ≤ suc n) × (occurs m (awaited q (seat_of seen q)) seen.state es ≡ true))
 
   module _ (walks : Walks) (seen : World) (l : L) (w : Waits seen l) (n : ℕ) (es : Turn) where
-    -- the same, as it is before the event `sc`, whose move may be the party's awaited one
+    -- the same, seen before the event `sc`: the move of `sc` may be the awaited one
     abbrev Pays_by : Event → ℕ → Type 0
     Pays_by sc q =
         let o = seat_of seen q in

@@ -32,7 +32,7 @@ is_busy _ = false
 abbrev pub holds_lock : Entries → Bool
 holds_lock e = not (is_empty e.holders)
 
--- a party that has leaked or is gone is still so after the owner's use of the value
+-- the owner's use of the value leaves a party that has leaked, or is gone, as it is
 seen_left : {C L : Type 0} (o : Option (Seat C L)) → has_left o ≡ true → has_left (option_map seen_by_owner o) ≡ true
 seen_left o left = grind (arith, left)
 

@@ -1,4 +1,4 @@
--- Progress of a read-write lock: in how many rounds an upgrade is granted.
+-- Progress of a read-write lock: in how many rounds an upgrade is granted, or some waiting call.
 use Rattle.std.specs.List.{list_any}
 use Rattle.std.specs.Prelude.{◌≡◌, ℕ, ◌≤◌, Bool, false, None, ◌||◌, true, if◌then◌else◌, Option, Some, List, [], ◌∷◌, length, slice_get}
 use Rattle.spin_step.specs.Plain.{Kind, Holder, reading, upgradable, asking, writing, same_kind, is_holder}
