@@ -32,7 +32,7 @@ is_busy _ = false
 abbrev pub holds_lock : Entries → Bool
 holds_lock e = not (is_empty e.holders)
 
--- the owner's use of the value leaves a party that has leaked, or is gone, as it is
+-- a party that has left (`has_left`) has also left after the owner's use of the value
 seen_left : {C L : Type 0} (o : Option (Seat C L)) → has_left o ≡ true → has_left (option_map seen_by_owner o) ≡ true
 seen_left o left = grind (arith, left)
 

@@ -96,17 +96,17 @@ pub fn a_starver_may_not_starve_again<V: Copy>()
     ensures { (value : V) → Stepwise (starves_again value) → ⊥ }
 {}
 
-/// A `starver_try_lock` that yields to other starvers.
+/// A `starver_try_lock` that asks to lock as the only starver. It should also succeed beside other starvers.
 pub fn a_starver_tries_beside_others<V: Copy>()
     ensures { (value : V) → IsFairLock value 2 1 (tries_alone value) → ⊥ }
 {}
 
-/// A fair lock that admits one starver, whatever its cap is.
+/// A fair lock that admits one starver, though two were asked for.
 pub fn as_many_may_starve_as_the_cap_says<V: Copy>()
     ensures { (value : V) → IsFairLock value 2 1 (fair_machine value 1 1) → ⊥ }
 {}
 
-/// A fair lock with a starver at first.
+/// A fair lock whose word says at first that a starver is registered, though no party is a starver.
 pub fn a_fair_lock_opens_without_starvers<V: Copy>()
     ensures { (value : V) → KeepsAll (opens_with_a_starver value) 1 [] → ⊥ }
 {}

@@ -123,12 +123,12 @@ pub fn a_write_asks_to_write<V: Copy>()
     ensures unknown { (value : V) → Stepwise (never_writes value) → ⊥ }
 {}
 
-/// A lock that has a writer at first.
+/// A lock whose word says at first that somebody writes, though no party does.
 pub fn a_lock_opens_free<V: Copy>()
     ensures { (value : V) → KeepsAll (opens_written value) 1 [] → ⊥ }
 {}
 
-/// A lock without the value given to it, one that nobody owns, and one that admits fewer parties than its cap.
+/// A lock without the value given to it, one that nobody owns, and one that admits fewer parties than asked for.
 pub fn a_lock_is_as_it_was_made<V: Copy>()
     ensures value { (value : V) → IsRw value 9 (forgets_its_value value) → ⊥ }
     ensures owner { (value : V) → IsRw value 9 (has_no_owner value) → ⊥ }

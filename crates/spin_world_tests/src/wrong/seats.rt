@@ -52,7 +52,7 @@ pub fn an_enter_waits()
     ensures { IsSeats 2 enters_or_not → ⊥ }
 {}
 
-/// A lock with a seat taken at first.
+/// A lock whose word says at first that a seat is taken, though no party has a seat.
 pub fn all_seats_are_free_at_first()
     ensures { KeepsAll opens_taken 1 [] → ⊥ }
 {}
