@@ -42,8 +42,8 @@ stops : (b : Bool) (u v : Use) → FitsUse b u v → u ≡ writes → v ≢ writ
 stops true u v fits is = fits.1
 stops false u v fits is = absurd (fits is)
 
--- After a step by which a party does not go on writing, it sees the value written last. A value that it used before
--- the step is that value too.
+-- After a step by which a party does not go on writing, a value that it sees is the one written last. So is a value
+-- that it used before the step.
 module _ {T : Type 0} (opening : Opening T) (es : List (rws.Done T)) where
   abbrev IsLastNow : Option T → Type 0
   IsLastNow shown = IfSome shown (λ x. IsLast opening es x)

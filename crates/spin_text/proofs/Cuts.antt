@@ -119,7 +119,7 @@ first_within : (parts : List (List ℕ)) → length (first_and_further parts) �
 first_within [] = omega arith
 first_within (x ∷ more) = omega (arith, further_within more)
 
--- there are at most as many lines as bytes, and one more
+-- the number of lines is at most the number of bytes plus 1
 pub lines_within : (bs : List ℕ) → length (words_by_line bs) ≤ length bs + 1
 lines_within bs =
     omega (arith, length-map (lines_of bs) words_of, first_within (slice_split (is_byte 10) bs), length-slice_split (is_byte 10) bs, count_by-le-length (is_byte 10) bs)
