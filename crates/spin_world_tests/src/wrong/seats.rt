@@ -72,8 +72,8 @@ pub fn a_count_tells_the_seated_parties()
     ensures { MomentsAll counts_free 1 count_alone → ⊥ }
 {}
 
-/// An `enter` that looks again and again, and a kind of lock with a thousand undisturbed steps. No kind may have more
-/// than four.
+/// An `enter` that looks again and again, and promises its answer in a thousand undisturbed steps. No call may take
+/// more than four.
 pub fn a_kind_of_lock_has_four_steps()
     ensures { CountsAll looks_on 1 enter_in_vain → ⊥ }
 {}
