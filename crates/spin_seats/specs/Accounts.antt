@@ -19,7 +19,7 @@ module _ (n : ℕ) where
   abbrev pub Stepped : Bool → SeatsCall → Ending → View → Account n → Account n → Type 0
   Stepped goes_on call end view before now = spots.Stepped model goes_on call end view (known before) (known now)
 
-  -- now the party waits in this call, which it began after `before`
+  -- now the party is in this call, which it began after `before`
   abbrev pub IsIn : SeatsCall → Account n → Account n → Type 0
   IsIn call before now = spots.IsIn model call (known before) (known now)
 
