@@ -9,7 +9,7 @@ module _ {T : Type 0} where
   last_of (y ∷ []) x = refl
   last_of (y ∷ z ∷ l) x = last_of (z ∷ l) x
 
-  -- if m is the list l with x behind it, x is the last entry of m
+  -- if m is the list l followed by x, then x is the last entry of m
   pub last_is : (m l : List T) (x : T) → m ≡ l ++ x ∷ [] → last m ≡ Some x
   last_is m l x e = subst (λ (z : List T). last z ≡ Some x) (sym e) (last_of l x)
 

@@ -35,7 +35,7 @@ struct Run<'a> {
     words: &'a [&'a str],
     /// The text to read. `None`: nothing may be read.
     text: Option<&'a str>,
-    /// Whether a read fails behind the text.
+    /// Whether a read fails after the text.
     read_fails: bool,
     output: Room,
     errors: Room,

@@ -175,7 +175,7 @@ fn tells_the_fault_that_is_met_first(rt: HostRuntime) {
     }
 }
 
-/// A writer of std that accepts nothing, or fails, behind its first bytes. It counts its calls.
+/// A writer of std that accepts nothing, or fails, after its first bytes. It counts its calls.
 #[derive(Drop)]
 struct Stuck<'a> {
     room: usize,
