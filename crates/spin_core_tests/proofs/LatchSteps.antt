@@ -1,4 +1,4 @@
--- The steps of a latch keep its rule: each is the plain step of its step function, and is moves of the latch's model.
+-- The steps of a latch keep its rule. Each makes the plain step of its step function, and its moves of the model.
 use Rattle.std.proofs.Common.{◌≡◌, ◌≢◌, ℕ, ◌+◌, ◌-◌, ◌<◌, ◌%◌, ◌^◌, ◌==◌, Bool, true, false, if◌then◌else◌, List, [], ◌∷◌, Option, Some, None, refl, sym, ap, ◌∙◌, subst, arith, ne_eqb}
 use prog.Atomic.{either}
 use Rattle.spin_step.specs.Plain.{Plain, reading, writing, gets, to_read, to_write}
@@ -85,7 +85,7 @@ may_write None may = refl
 may_write (Some WaitingToWrite) may = refl
 may_write (Some _) may = absurd may
 
--- The moves of each step: it begins a call of the model and steps, or is a step of a call under way.
+-- The moves of each step. It begins a call of the model and makes the first step, or it is a step of a call under way.
 
 abbrev Moves : Option View → (ℕ → ℕ) → (ℕ → View → Type 0) → (ℕ → View) → Type 0
 Moves view f says to = AreMoves latch_machine seat_of words_of view (on_first f) first says (leads_by to)

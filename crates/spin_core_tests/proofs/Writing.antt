@@ -45,7 +45,7 @@ module _ {X : Type 0} where
     pub opens : (t : Log X) (x : X) → t.name ≡ name → t.entries ≡ [] → Opens (IsWritten {X = X} name) written_ways 0 t x
     opens t x named empty = ([], refl, meets 0 t [] (named, refl, omega arith), (subst (λ l. LastIs l x) (sym empty) (x, refl), tt))
 
-    -- what a step must show that appends these entries and leads to these views
+    -- what has to be shown of a step that appends these entries and leads to these views
     abbrev Owes : Use → Option X → Log X → List View → ℕ → View → List X → List View → Type 0
     Owes u shown t vs n w es us = Going (written_ways {X = X}).0 u (use_of_view w) shown (readers_of use_of_view vs) (Carrying (written_ways {X = X}).2 t (grown t es) u (use_of_view w) shown (Meets (IsWritten {X = X} name) written_ways n (grown t es) us))
 

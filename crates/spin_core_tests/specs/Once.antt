@@ -21,7 +21,7 @@ use_of_view Reading = reads
 abbrev pub once_ways : {S : Type 0} → ℕ → Ways Stage View S
 once_ways key = (fixes (IsMade key), use_of_view, no_fact)
 
--- the word is 0 before a party begins to make the value, 1 while it makes it, and 2 afterwards
+-- the word is 0 before a party begins to make the value, 1 while the party makes it, and 2 afterwards
 abbrev pub Stands : ℕ → ℕ → ℕ → Type 0
 Stands zero r w = (r ≡ 0) × (w ≡ 0)
 Stands (suc zero) r w = (r ≡ 0) × (w ≡ 1)

@@ -81,8 +81,8 @@ module _ {T : Type 0} (v₀ : T) where
   pub look_moves : (n : ℕ) → MovesBy (Some (Looking n)) (λ n. n) (looked_by (Some (Looking n)))
   look_moves n w value v is = rw is (Step ∷ [], GoingOn ∷ [], (refl, (refl, refl)), refl, refl, w, value, grind arith, grind arith, refl)
 
-  -- The moves of a party that registers. Its first exchange expects 0. An exchange that succeeds is the model's load and exchange. One that
-  -- fails is the load alone.
+  -- The moves of a party that registers. Its first exchange expects 0. If this exchange succeeds, it is the model's
+  -- load and exchange. If it fails, it is the load alone.
 
   -- the outcome of the model's load, or of a model's exchange that fails
   abbrev missed : FairCall → ℕ → Ending T

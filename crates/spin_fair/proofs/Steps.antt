@@ -192,7 +192,7 @@ frees_plain v holder = allows (Some v) (λ n. (n + (2 ^ 64 - 1)) % 2 ^ 64) (λ n
       (refl, is),
     ))
 
--- Each operation that is made without a load first gives the word that its step function gives
+-- Each operation without an earlier load gives the same word as its step function
 
 within : (s : Plain) → s.cap ≡ most_starvers → IsInOrder s → OneHolds s → fair_word s < words
 within s room order one = omega (arith, room, order.starvers_fit, one)

@@ -255,7 +255,7 @@ module _ (T : Type 0) where
   flag_was_set StarverTryLock = (0, refl)
   flag_was_set _ = (1, refl)
 
-  -- what comes of a starver's operation that sets the flag: the flag was clear, or (`set_at`) was set
+  -- what comes of a starver's operation that sets the flag: the flag was clear, or (`set_at`) was set already
   pub clear_at : (c : FairCall) (n : ℕ) → (n % 2 == 0) ≡ true → Comes_to {T = T} ((if n % 2 == 0 then GoingOn else flag_set_end c) ∷ []) None
   clear_at c n even = (1, ap (λ b. (if b then GoingOn else flag_set_end c) ∷ []) even)
 

@@ -70,7 +70,7 @@ seat_of (Setting c) = seat.Calling c point.SetFlag (held_before c)
 seat_of (Awaiting c) = seat.Calling c point.Await (held_before c)
 seat_of (HoldingStarving c) = seat.Calling c point.Unregister (held_before c)
 
--- a `lock` registers after this many looks that found the flag set
+-- the patience of `lock`: it registers after one more look than this has found the flag set
 abbrev pub patience : ℕ
 patience = 1025
 

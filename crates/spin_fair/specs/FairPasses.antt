@@ -19,7 +19,7 @@ module _ {T R : Type 0} where
   abbrev pub name_of : FairMutex T R → ℕ
   name_of lock = lock.cell.name
 
-  -- the same name, by a pass of the lock
+  -- the same name, as a pass of the lock keeps it
   abbrev pub lock_of : Pass T R → ℕ
   lock_of it = it.account.seen.name
 
@@ -27,7 +27,7 @@ module _ {T R : Type 0} where
   abbrev pub opening : FairMutex T R → Opening T
   opening lock = lock.cell
 
-  -- the same, by a pass of the lock
+  -- the same, as a pass of the lock keeps it
   abbrev pub opening_of : Pass T R → Opening T
   opening_of it = it.account.permit.key
 
@@ -35,7 +35,7 @@ module _ {T R : Type 0} where
   abbrev pub party : Pass T R → Option (Numbered View)
   party it = it.account.permit.view
 
-  -- the same four functions, for a pass that is registered as a starver
+  -- `history`, `lock_of`, `opening_of` and `party` of a pass that is registered as a starver
   abbrev pub starving_history : StarvingPass T R → List (Done T)
   starving_history it = it.account.seen.entries
 

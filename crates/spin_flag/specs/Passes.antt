@@ -18,7 +18,7 @@ module _ {T R : Type 0} where
   abbrev pub name_of : SpinMutex T R → ℕ
   name_of lock = lock.cell.name
 
-  -- the same name, by a pass of the lock
+  -- the same name, as a pass of the lock keeps it
   abbrev pub lock_of : Pass T R → ℕ
   lock_of it = it.account.seen.name
 
@@ -26,7 +26,7 @@ module _ {T R : Type 0} where
   abbrev pub opening : SpinMutex T R → Opening T
   opening lock = lock.cell
 
-  -- the same, by a pass of the lock
+  -- the same, as a pass of the lock keeps it
   abbrev pub opening_of : Pass T R → Opening T
   opening_of it = it.account.permit.key
 

@@ -9,7 +9,7 @@ module _ {T : Type 0} where
   last_of (y ∷ []) x = refl
   last_of (y ∷ z ∷ l) x = last_of (z ∷ l) x
 
-  -- if m is the list l with x behind it, x is the last entry of m
+  -- if m is the list l followed by x, then x is the last entry of m
   pub last_is : (m l : List T) (x : T) → m ≡ l ++ x ∷ [] → last m ≡ Some x
   last_is m l x e = subst (λ (z : List T). last z ≡ Some x) (sym e) (last_of l x)
 
@@ -42,7 +42,7 @@ module _ {T : Type 0} where
     goes_on (y ∷ []) v x h e up = (subst (λ (z : T). le z x) (sym (ap (from y) e)) up, tt)
     goes_on (y ∷ z ∷ l) v x h e up = (h.0, goes_on (z ∷ l) v x h.1 e up)
 
-    -- if v is at or after all that a caller has seen, and x may follow v, then x is at or after it too
+    -- if v is at or after all that a caller has seen, and x may follow v, then x is too
     pub at_or_after : (k : List T) (v x : T) → IsAtOrAfter le k v → le v x → IsAtOrAfter le k x
     at_or_after k v x = by_last (last k)
       where

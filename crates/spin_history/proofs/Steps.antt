@@ -66,7 +66,7 @@ module _ {M : Type 1} {𝓤 : Ura M} (𝓛 : Logic 𝓤) where
         use1 𝓛 (‵ x ⊛ ‵ x) (known_twice 𝓛 cv γ k) $ split ! $ move ! (2 ∷ []) $ use1 𝓛 (‵ y ⊛ ‵ y) (known_twice 𝓛 cv γ l) $ split ! $ move ! (2 ∷ 0 ∷ []) $
         use2 𝓛 (given (IsPrefix k l ⊎ IsPrefix l k) (‵ ftrue)) (compares 𝓛 cv γ k l) $ learn ! (λ s. drop ! $ move ! (1 ∷ 0 ∷ []) $ by ! (longer k l s))
 
-    -- to close a log, the right to append is shared for ever; so nobody has the whole of it again
+    -- to close a log, the right to append is shared for ever; so nobody has the whole right again
     pub closes_it : (l : List T) → ⟦ log_owns cv.code γ l ⟧ ⊢ H.⇛ ⟦ closed_owns cv.code γ l ⟧
     unfolding log_owns closed_owns
     closes_it l = qed 𝓛 (‵ (log_part cv.code γ l full_share) ∷ []) ∵ updating ! $ bor_new ! tt [] $ bor_fracture ! tt (log_part cv.code γ l) full_share $ keep ! (0 ∷ []) $ now ! $ done !

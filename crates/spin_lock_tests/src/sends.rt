@@ -1,6 +1,6 @@
-//! To be `Send` or `Sync`, a lock asks of its value what a `&mut` or a `&` to the value asks, whatever the strategy is.
-//! These tests show that these bounds are enough. The must-fail edits of the crates show that weaker bounds are not.
-//! The exception is the `Sync` of a `Held`, which asks more than it needs.
+//! The locks, guards and holds are `Send` and `Sync` under the bounds of the `&mut T` or `&T` that they lend, with any
+//! strategy. These tests show that these bounds are enough. The must-fail edits of the crates show that weaker bounds
+//! are not. The exception is the `Sync` of a `Held`, which asks more than it needs.
 use spin_core::relax::Spin;
 use spin_fair::fair::{FairMutex, FairMutexGuard, Starvation};
 use spin_flag::spin::{SpinMutex, SpinMutexGuard};

@@ -45,7 +45,7 @@ use Rattle.spin_once.specs.declared.once_core.rule.View.TheVariants.{Idle, Readi
 
 -- ---- one step
 
--- a step of a call is the whole of its moves so far
+-- one step as a course: with `true` it goes on with a call under way, with `false` it begins the call
 comes : (b : Bool) (c : OnceCall (Unit {0})) (next : Onward) (own : List OneMove) (outs : List Ending) → IsStep b c (outcome_of next) own outs
     → Comes b c next own outs
 comes true c (Continue l) own outs s = (1, s.0, s.1)
@@ -109,7 +109,7 @@ module _ {T S : Type 0} (makes : S → T → Type 0) where
               (passes.learns m seat_of words_of says (Of p.0 p.2.name) p.1 before now found v knew_all bare_moved).1 ∙ as_long q.2.entries,
             )
 
-        -- the same for a party that wrote, and no longer does
+        -- the same for a party that wrote before the step, and does not write after it
         pub keeps_end : use_of use_of_party p.1 ≡ writes → (u : View) → what q.1 ≡ Some u → use_of_view u ≢ writes → Knows shown'
         keeps_end wrote u at not = keeps (λ e. absurd (not (ap (use_of use_of_view) (sym at) ∙ tie.same_use use_of_view q.1 ∙ sym e ∙ wrote)))
 
@@ -161,7 +161,7 @@ module _ {T S : Type 0} (p q r : Place T S) where
   call_on c (Continue l) = both (Begins c Waits) Waits (Begins c Waits) (passes.begun c Waits Waits Waits passes.waits_on)
   call_on c (Answers a h) = both (Begins c Waits) (Ends a) (IsCall c a) (passes.begun c Waits (Ends a) (Ends a) (passes.waits_out a))
 
-  -- a call whose closure fails, after it waited
+  -- a call that waited, and whose closure then fails
   waits_fail : (own own' : List OneMove) (outs outs' : List Ending) → Waits own outs → Fails own' outs' → Fails (own ++ own') (outs ++ outs')
   waits_fail own own' outs outs' (i, is, are) (j, is', are') =
       (i + j, after_steps Step own own' (Weak ∷ Step ∷ []) is is', after_steps GoingOn outs outs' (GoingOn ∷ Answered Failed None ∷ []) are are')
@@ -183,7 +183,7 @@ pub none_out : {T S : Type 0} (c : OnceCall (Unit {0})) (p : Place T S) (r : Res
 none_out c p (Ok found) so = tt
 none_out c p (Err none) so = ap is_out so.1
 
--- ---- a call with a closure that waited before
+-- ---- a call that takes a closure, and has waited before
 module _ {T S : Type 0} (b : Bool) (p q : Place T S) (since : Since p Waits q) where
   pub claims_on : (r : Claim T S) → Claims b q r → Claims b p r
   claims_on (claim.Found found) later = and_ends p q (here found.account) (Value tt) since later
@@ -237,7 +237,8 @@ module _ {T S : Type 0} (c : OnceCall (Unit {0})) (p q : Place T S) where
       (subst (λ z. Since z (Comes false c next) r) at.0 so.0, so.1)
   looked r n (inr at) step next is = let so = next_by q r c n step next c Look at.1 is in (call_on p q r c next at.0 so.0, so.1)
 
--- The permit's party has put a value into the cell, and so come to the point `p`. By the store that ends its call it comes to `q`.
+-- The permit's party has put a value into the cell, which led it to the point `p`. The store that ends its call leads
+-- it to the point `q`.
 module _ {T S : Type 0} (makes : S → T → Type 0) (me : InitPermit T S) (p q : Place T S) (at : p ≡ here me.account) (same : q.0 ≡ p.0)
     (moved : Moved (Watches (Of makes p.0 p.2.name) p.2 q.2 (Told p.0.opening (turn_by (CallOnce tt) (what p.1)) p.1) 0) q.1) where
   abbrev knew : mark_of p.1 ≡ length p.2.entries

@@ -100,7 +100,7 @@ module _ (given : Option (Unit {0})) where
       → Alike f (happens (m given) s p move) (happens (t given) (object f s) p (renamed move (f p)))
   happens_alike f s p move still ne = rw (named_get f s.seats p) (at_alike f s p move (slice_get s.seats p) refl still ne)
 
-  -- a closure fails: the object's seats stay as they are, since the call had that name from its beginning
+  -- a closure fails: the object's seats stay as they are, since its call has the name of a failing call all along
   failed_seats : (f g : ℕ → Bool) (xs : List (Seat Call Point)) (p : ℕ) (v : Unit {0}) (h : Option Hold) → slice_get xs p ≡ Some (Calling (TryCallOnceOk v) (at Run) h) → f p ≡ true → ((q : ℕ) → (p ≡ q → ⊥) → f q ≡ g q)
       → seats_named f xs ≡ seats_named g (slice_set xs p (Calling (TryCallOnceOk v) failed h))
   failed_seats f g xs p v h there fails others =
@@ -220,7 +220,7 @@ present_marked log k [] = refl
 present_marked log k (None ∷ came) = present_marked log (suc k) came
 present_marked log k (Some u ∷ came) = ap (λ vs. (u.0, k, length (foretold (take u.1 log))) ∷ vs) (present_marked log (suc k) came)
 
--- what the object's schedule has after a part of the list
+-- the rest of the object's schedule, after its part for the first `n` moves
 cut : (n : ℕ) (es : List Made) → drop (length (foretold (take n es))) (foretold es) ≡ foretold (drop n es)
 cut zero es = refl
 cut (suc n) [] = refl

@@ -42,7 +42,7 @@ IsFree (Continue l) = Unit {0}
 IsFree (Answers a None) = seat_of (answered a) ≡ seat.Idle
 IsFree (Answers a (Some h)) = ⊥
 
--- what a step says that finds a number with the property `Q`
+-- what the step says, if the number that it finds has the property `Q`
 abbrev pub finding : (ℕ → Type 0) → Says → Says
 finding Q says own outs n v = says own outs n v × Q n
 

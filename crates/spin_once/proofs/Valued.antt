@@ -1,5 +1,5 @@
--- A step that makes moves of the model, in the history with the values. In this history the last step of a call whose closure gave a value
--- is a write of that value. Each step keeps what is known of the value.
+-- What a step that makes moves of the model appends to the history with the values. In this history the last step of a
+-- call whose closure gave a value is a write of that value. Each step keeps what is known of the value.
 use Rattle.std.proofs.Common.{◌≡◌, ◌≢◌, ℕ, suc, ◌≤◌, Bool, true, false, Option, Some, None, is_some, List, [], ◌∷◌, ◌++◌, map, length, refl, sym, ap, ◌∙◌, subst, arith}
 use Rattle.std.proofs.lemmas.List.{append_assoc, append-nil, map-append}
 use mathlib.Core.List.{IsPrefix}
@@ -114,7 +114,7 @@ module _ {T S : Type 0} (makes : S → T → Type 0) (key : Key T S) where
     abbrev pub Each : (List OneMove → ℕ → View → Type 0) → Type 0
     Each P = (own : List OneMove) (outs : List Ending) (n : ℕ) (u : View) → exact own outs n u → P own n u
 
-    -- the condition on such moves: there is still at most one value, and what is known of the value carries over
+    -- the condition on these moves: there is still at most one value, and what is known of the value carries over
     abbrev pub Leaving : Type 0
     Leaving = Each (λ own n u. (vs : List T) → AtMostOne n vs
         → AtMostOne (f n) (vs ++ values_of (put own)) × Carries (Is vs) (Is (vs ++ values_of (put own))) (use_of use_of_party view) (use_of_view u) shown)

@@ -50,7 +50,7 @@ module _ {T S : Type 0} where
   abbrev pub FindsSeed : Account T S → Type 0
   FindsSeed it = use_of use_of_party it.party.view ≡ writes → HasSeed it
 
-  -- A call with a closure has its answer. Or the party has the right to run its closure, and the seed is still in the cell.
+  -- Either a call with a closure has its answer. Or the party may run its closure, and the seed is still in the cell.
   abbrev pub Claims : Bool → Place T S → Claim T S → Type 0
   Claims may_fail p (claim.Found found) = Since p (Ends (Value tt)) (here found.account)
   Claims may_fail p (claim.Init permit) =

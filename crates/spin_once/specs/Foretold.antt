@@ -1,6 +1,6 @@
 -- A run of a `Once` on threads, as a schedule of its object. In the object's table the name of a call says from the beginning whether its
--- closure fails. So the schedule gives a call whose closure fails later that name where the call begins, and leaves out the move that
--- reports the failure.
+-- closure fails. So if a closure fails later, the schedule begins its call under the name of a failing call. It leaves
+-- out the move that reports the failure.
 use Rattle.std.specs.Prelude.{ℕ, Bool, true, false, None, List, [], ◌∷◌, length, take, if◌then◌else◌, ◌==◌}
 use Rattle.spin_core.specs.Own.{Numbered}
 use Rattle.spin_model.specs.declared.once.OnceCall.{OnceCall}

@@ -20,7 +20,7 @@ module _ {T F R M : Type 0} where
   abbrev pub name_of : LazyLock T F R M → ℕ
   name_of lazy = lazy.core.cell.opening.name
 
-  -- the same name, by a pass of the `LazyLock`
+  -- the same name, as a pass of the `LazyLock` keeps it
   abbrev pub lock_of : Pass T F R M → ℕ
   lock_of it = it.account.seen.name
 
@@ -28,11 +28,11 @@ module _ {T F R M : Type 0} where
   abbrev pub opening : LazyLock T F R M → Opening (Stage T (Initialiser F M))
   opening lazy = lazy.core.cell.opening
 
-  -- the same, by a pass of the `LazyLock`
+  -- the same, as a pass of the `LazyLock` keeps it
   abbrev pub opening_of : Pass T F R M → Opening (Stage T (Initialiser F M))
   opening_of it = it.account.party.key.opening
 
-  -- the initialiser of the `LazyLock`, by a pass of it; below, what is promised of the value
+  -- the initialiser of the `LazyLock`, as a pass keeps it; below, what is promised of the value
   abbrev pub initialiser_of : Pass T F R M → F
   initialiser_of it = (seed_of it.account).f.inner
 

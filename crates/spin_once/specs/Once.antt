@@ -57,8 +57,8 @@ readers = readers_of use_of_view
 abbrev pub runs : List View → ℕ
 runs = writers_of use_of_view
 
--- Which parties fit this phase. In `nothing` no party reads, and none runs a closure. In `running p` only `p` runs its closure, and no
--- party reads. In `complete` some party reads.
+-- Which parties fit this phase. In `nothing` no party reads, and none runs a closure. In `running p` only `p` runs its
+-- closure, and no party reads. In `complete` some party reads, and none runs a closure.
 abbrev pub IsPhaseOf : List View → Phase → Type 0
 IsPhaseOf vs nothing = (readers vs ≡ 0) × (runs vs ≡ 0)
 IsPhaseOf vs (plain.running p) = (readers vs ≡ 0) × (runs vs ≡ 1) × ((c : OnceCall (Unit {0})) × (get_elem? vs p ≡ some (InCall c Run)))
@@ -124,7 +124,7 @@ abbrev pub call_from : OnceCall (Unit {0}) → Option View → OnceCall (Unit {0
 call_from c (Some (InCall d l)) = d
 call_from c _ = c
 
--- the point at which that call continues; a call that begins is at a look
+-- the point at which the party's call continues; a call that begins is at a look
 abbrev pub point_of : Option View → OncePoint
 point_of (Some (InCall c l)) = l
 point_of _ = Look

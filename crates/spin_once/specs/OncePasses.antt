@@ -33,7 +33,7 @@ module _ {T R : Type 0} where
   abbrev pub name_of : Once T R → ℕ
   name_of once = once.core.cell.opening.name
 
-  -- the same name, by a pass of the `Once`
+  -- the same name, as a pass of the `Once` keeps it
   abbrev pub lock_of : Pass T R → ℕ
   lock_of it = it.account.seen.name
 
@@ -41,7 +41,7 @@ module _ {T R : Type 0} where
   abbrev pub opening : Once T R → Opening (Stage T (Unit {0}))
   opening once = once.core.cell.opening
 
-  -- the same, by a pass of the `Once`
+  -- the same, as a pass of the `Once` keeps it
   abbrev pub opening_of : Pass T R → Opening (Stage T (Unit {0}))
   opening_of it = it.account.party.key.opening
 

@@ -8,6 +8,6 @@ module _ {T : Type 0} where
   made_text shown empty text None = Some empty
   made_text shown empty text (Some x) = Some shown ++? text x ++? Some (codes ")")
 
-  -- the text, by the type's name
+  -- the text for a type with this name
   abbrev pub once_text : List ℕ → (T → Option (List ℕ)) → Option T → Option (List ℕ)
   once_text name = made_text (name ++ codes "(") (name ++ codes "(<uninit>)")

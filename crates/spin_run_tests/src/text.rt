@@ -66,7 +66,7 @@ fn tells(rt: &impl Abort, alloc: Global, step: usize, shows: &str, text: &[u8], 
     assert_eq!(rt; output.text(rt), told, "{shows}");
 }
 
-/// Plays a schedule in this way, with its last line feed and without.
+/// Plays a schedule as [`tells`] does, with its last line feed and without.
 fn tells_ended(rt: &impl Abort, alloc: Global, step: usize, shows: &str, text: &str, told: &str) {
     let text = text.as_bytes();
     tells(rt, alloc, step, shows, text, told);
@@ -74,7 +74,7 @@ fn tells_ended(rt: &impl Abort, alloc: Global, step: usize, shows: &str, text: &
     tells(rt, alloc, step, shows, without_end, told);
 }
 
-/// Plays schedules in this way, whole and in small steps.
+/// Plays schedules as [`tells_ended`] does, whole and in small steps.
 fn tell_in_steps(rt: &impl Abort, alloc: Global, worked: &[Worked]) {
     for (shows, text, told) in worked {
         for step in [usize::MAX, 1, 2, 3, 4, 5, 6, 7, 8] {
@@ -142,7 +142,7 @@ fn tells_a_failed_write(rt: HostRuntime) {
     }
 }
 
-/// In each row: a text, whether the read after it fails, how much the writer accepts, and the fault that is met first.
+/// Each row has a text, whether a read after it fails, how many bytes the writer accepts, and the fault that is reported.
 const FAULTS: &[(&str, bool, usize, RunError)] = &[
     ("", true, usize::MAX, RunError::Read),
     ("flag 5 1", true, usize::MAX, RunError::Read),

@@ -26,7 +26,7 @@ use Rattle.spin_rwlock.specs.Rw as rws
 use Rattle.spin_rwlock.specs.Rw.{IsRw, IsRwWord, rw_ways, Told, Turn, OneMove, Ending, OneCourse, seat_of, use_of_view, use_of_party, model, words_of, call_of, Comes, still, missed, admitted, AreSteps, steps_of, outcome_of, steps_by, ends_by, comes_by, leaves_by, behind_write, course_of, says_with, either_at, Left, Seeks}
 use Rattle.spin_rwlock.proofs.Steps.{writes_leave}
 
--- a party that uses the value after a step sees one, and it is the one that it saw
+-- a party that uses the value after a step then sees a value; if it saw one before the step, it still sees that one
 sees_on : {X : Type 0} (u : Use) (before after : Option X) → u ≢ off → Shows u before after → (after ≢ None) × (before ≢ None → after ≡ before)
 sees_on off before after uses shows = absurd (uses refl)
 sees_on reads None after uses (x, is) = (λ e. absurd (let no : Some x ≡ None = sym is ∙ e in cc), λ some. absurd (some refl))
@@ -42,7 +42,8 @@ stops : (b : Bool) (u v : Use) → FitsUse b u v → u ≡ writes → v ≢ writ
 stops true u v fits is = fits.1
 stops false u v fits is = absurd (fits is)
 
--- After a step of a party that does not go on writing, the value that it sees is the one written last, and so is the value that it saw.
+-- After a step by which a party does not go on writing, a value that it sees is the one written last. So is a value
+-- that it used before the step.
 module _ {T : Type 0} (opening : Opening T) (es : List (rws.Done T)) where
   abbrev IsLastNow : Option T → Type 0
   IsLastNow shown = IfSome shown (λ x. IsLast opening es x)
@@ -146,7 +147,7 @@ module _ {T : Type 0} (was now : Sight T) (n : ℕ) (turn : ℕ → Turn T) (key
 
 -- How courses add up
 
--- one step of a call is the whole call
+-- a step that begins and answers a call is the whole call
 pub in_one : {T : Type 0} (c : RwCall) (a : Answer T) (own : List (OneMove T)) (outs : List (Ending T)) → AreSteps false c (Some a ∷ []) own outs
     → IsCall c a own outs
 in_one c a own outs are = (Step ∷ [], Answered a None ∷ [], are.0, are.1, (0, refl, refl))
@@ -221,7 +222,7 @@ is_same e = cc
 pub reads_uses : (v : View) → use_of_view v ≡ reads → use_of_view v ≢ off
 reads_uses v lends e = absurd (let no : reads ≡ off = sym lends ∙ e in cc)
 
--- a call by which a writer ends
+-- a call by which a writer stops writing
 pub ended : {T : Type 0} {was now : Sight T} (c : RwCall) (to : View) → use_of use_of_view (view_at was) ≡ writes → Turned (leaves_by c to) was now
     → Ends c was now
 ended c to held t = record {
@@ -261,7 +262,7 @@ module _ {T : Type 0} (c : RwCall) {p q : Sight T} where
       weaker (λ own outs s. (Step ∷ [], outcome_of (missed c n) ∷ [], s.0, s.1, left_by (still c n) (Step ∷ []) (outcome_of (missed c n) ∷ []) refl refl))
 
   module _ (n : ℕ) (so_far : Has (Seeks c n) p q) where
-    -- a try that was refused has its answer
+    -- if the word found refuses the try, the try has its answer
     pub is_refused : still c n ≡ false → Has (IsCall c Refused) p q
     is_refused kept = subst (λ b. Has (Begins c (Left b)) p q) kept so_far
 

@@ -44,7 +44,7 @@ readers_or_one_writer word vs rule = let s = rule.0 in
 pub zero_when_free : (word : ℕ) (vs : List View) → Word word tt vs → (word ≡ 0 → holders vs ≡ 0) × (holders vs ≡ 0 → word ≡ 0)
 zero_when_free word vs rule = let e = counts_parties word vs rule in ((λ z. omega (arith, e, z)), (λ z. omega (arith, e, z)))
 
--- An addition that is made without a load first gives the word that the step function gives
+-- An addition without an earlier load gives the same word as the step function
 
 stands : (vs : List View) (p : ℕ) (k : Kind) (word : ℕ) (rule : Word word tt vs) → HoldsAt vs p k → is_holder p k rule.0.holders ≡ true
 stands vs p k word rule at = is_holder-from_entries p k rule.0.holders (ap (λ e. e.holders) (rule.3 p).0 ∙ ap (λ x. (entries_of p x).holders) at)

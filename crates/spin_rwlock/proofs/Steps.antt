@@ -1,4 +1,5 @@
--- The steps of a read-write lock keep its rule. Each step makes the plain step of its step function. In the lock's model it makes its moves.
+-- The steps of a read-write lock keep its rule. Each step makes the plain step of its step function, and its party's
+-- moves in the lock's model.
 use Rattle.std.proofs.Common.{◌≡◌, ◌≢◌, ℕ, ◌+◌, ◌-◌, ◌%◌, ◌^◌, ◌<◌, ◌≤◌, Bool, true, false, List, [], ◌∷◌, map, length, ◌==◌, Option, Some, None, if◌then◌else◌, refl, sym, ap, ◌∙◌, subst, arith, eq-eqb, ne_eqb}
 use Rattle.std.specs.List.{list_all}
 use mathlib.Core.Logic.{inl, inr}
@@ -506,7 +507,7 @@ module _ {T : Type 0} (opening : Opening T) where
       finds None shown (λ e. absurd cc) (swaps old new) (peeks_by old) (λ n. refl) (peek_plays opening.value old new grant)
       (exchanges_at rw-lock None to_read Reading (λ n. Idle) old new refl (λ n. refl) (λ s p. refl) (λ s. tt) (λ s p order room e. plain s p (one_of_each s order.exclusive) room e))
 
-  -- a step by which a writer ends; it writes the value that it leaves
+  -- a step by which a writer stops writing; its first move writes the value that the writer saw
   module _ (view : Option (Numbered View)) (shown : Option T) (v : View) (x : T) (is : what view ≡ Some v) (here : shown ≡ Some x)
       (held : use_of use_of_view (what view) ≡ writes) where
     writes_then : use_of_view v ≡ writes

@@ -55,8 +55,8 @@ grants TryUpgradeableRead n = read_upgradable reader_limit n
 grants UpgradeableRead n = read_upgradable reader_limit n
 grants _ n = None
 
--- Where the party of such a call sits in the model after the call has found a word that does not admit the reader. A call that waits is at
--- its first step again. A call that tries has failed, so its party is in no call.
+-- Where the party of a call that wants to read sits in the model, after the call found a word that does not admit the
+-- reader. A call that waits is at its first step again. A call that tries has failed, so its party is in no call.
 abbrev pub kept_out : RwCall → Seat RwCall RwPoint
 kept_out Read = seat.Calling Read point.First None
 kept_out UpgradeableRead = seat.Calling UpgradeableRead point.First None
@@ -154,8 +154,9 @@ came won call old n = if n == old then won else Coming call n
 
 -- The steps. The number that a step finds decides its answers and the next view of its party.
 
--- A step is one move of the model for each of `answers`, which is `None` while the call goes on. `goes_on` says whether the call is under
--- way before the step. If it is not, the step begins the call. A writer that ends (`writes`) first writes the value that it leaves.
+-- A step is one move of the model for each item of `answers`; an item is `None` while the call goes on. `goes_on` says
+-- whether the call is under way before the step. If it is not, the step begins the call. With `writes` a writer stops
+-- writing, and its first move writes the value that it leaves.
 pub record Turn (T : Type 0) : Type 0 where
   pub writes : Bool
   pub goes_on : Bool
@@ -197,7 +198,7 @@ module _ {T : Type 0} where
   behind_write true Q P = WritesSome Q P
   behind_write false Q P = P
 
-  -- the course of a step; a writer that ends writes a value that satisfies `Q`
+  -- the course of a step; a writer that stops writing first writes a value that satisfies `Q`
   abbrev pub course_of : (T → Type 0) → Turn T → OneCourse T
   course_of Q turn = behind_write turn.writes Q (steps_of turn)
 
@@ -274,7 +275,7 @@ module _ {T : Type 0} where
   peeks_by old n =
       steps_by false (either_at old TryRead ReaderCount n) (either_at old (admitted false) (Some (Count (readers_in n)) ∷ []) n) (either_at old Reading Idle n)
 
-  -- the call by which a writer ends
+  -- the step by which a writer stops writing: the whole call `call`
   abbrev pub leaves_by : RwCall → View → Turn T
   leaves_by call to = record { writes = true; goes_on = false; call = call; answers = Some answer.Done ∷ []; to = to }
 
@@ -292,7 +293,7 @@ call_of Upgradable false = TryUpgradeableRead
 call_of _ true = Read
 call_of _ false = TryRead
 
--- the weight in the word of a reader with this view
+-- the weight that a reader with this view has in the word
 abbrev pub weight_of : View → ℕ
 weight_of Upgradable = weight upgradable
 weight_of _ = weight reading

@@ -19,7 +19,7 @@ module _ {T R : Type 0} where
   abbrev pub name_of : {P S : Type 0} → RwLock T R (Numbered View) P (Opening T) S → ℕ
   name_of lock = lock.cell.name
 
-  -- the same name, by a pass of the lock
+  -- the same name, as a pass of the lock keeps it
   abbrev pub lock_of : Pass T R → ℕ
   lock_of it = it.account.seen.name
 
@@ -27,7 +27,7 @@ module _ {T R : Type 0} where
   abbrev pub opening : {P S : Type 0} → RwLock T R (Numbered View) P (Opening T) S → Opening T
   opening lock = lock.cell
 
-  -- the same, by a pass of the lock
+  -- the same, as a pass of the lock keeps it
   abbrev pub opening_of : Pass T R → Opening T
   opening_of it = it.account.permit.key
 

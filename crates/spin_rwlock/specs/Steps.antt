@@ -23,8 +23,8 @@ Spot T = spots.Spot (Opening T) View (rws.Done T)
 abbrev pub Sight : Type 0 → Type 0
 Sight T = Spot T × Option T
 
--- Only a writer that ends writes the value, and it then writes no more: how a party uses the value before and after such a step (`true`), and
--- before any other step.
+-- How a party uses the value before and after a step. A step that writes the value (`true`) ends the writing: its
+-- party may write before it, and not after it. Before any other step (`false`) its party may not write.
 abbrev pub FitsUse : Bool → Use → Use → Type 0
 FitsUse true before after = (before ≡ writes) × (after ≢ writes)
 FitsUse false before after = before ≢ writes
@@ -69,14 +69,14 @@ module _ {T : Type 0} where
   abbrev pub MayDo : (ℕ → ℕ) → (ℕ → Turn T) → Sight T → Type 0
   MayDo f turn now = MayKnow now × May now.0.0 now.0.1 now.1 f turn
 
-  -- From `was` to `now` the party has made exactly the moves of this course, if it knew the whole history. It now sees the value written
-  -- last, and knows the whole history again.
+  -- If the party knew the whole history at `was`, it knows it at `now`, and has made exactly the moves of this course
+  -- between them. In any case a value that it sees at `now` is the one written last.
   pub record Does (course : OneCourse T) (was now : Sight T) : Type 0 where
     pub key : now.0.0 ≡ was.0.0
     pub last : SeesLast now
     pub made : Knows was → Knows now × Since course was.0 now.0
 
-  -- the same for a party that knew the whole history
+  -- what `Does` says of a party that knew the whole history at `was`
   pub record Has (course : OneCourse T) (was now : Sight T) : Type 0 where
     pub knows : Knows now
     pub last : SeesLast now
@@ -95,7 +95,7 @@ module _ {T : Type 0} where
     pub same : now.1 ≡ was.1
     pub does : Does course was now
 
-  -- The writer has written the value that it saw, which is the one written last, and has then made this call.
+  -- The writer has written the value that it saw, and has then made this call. That value is the one written last.
   pub record Ends (call : RwCall) (was now : Sight T) : Type 0 where
     pub does : Does (WritesSome (λ y. was.0.0.told ≡ true → IfSome was.1 (λ x. y ≡ x)) (IsCall call Done)) was now
     pub left : IfSome was.1 (λ x. IsLast was.0.0 now.0.2.entries x)

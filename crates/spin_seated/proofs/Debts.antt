@@ -10,7 +10,8 @@ use Rattle.spin_seated.specs.Locked.{Locked}
 use Rattle.spin_seated.specs.Mutex.{mutex, Knows, holds, tries, loads, reads, writes, frees}
 use Rattle.spin_seated.proofs.Holders.{held_by, alone_state, alone_is, is_held_by}
 
--- what the step function of `try_lock` ensures: if the flag is clear, the lock is open, and `new` is the flag after it is acquired
+-- what the step function of `try_lock` ensures: if the flag is clear, the pass may acquire the lock, and `new` is the
+-- flag afterwards
 abbrev pub Takes : ℕ → Type 0
 Takes new = (s : Plain) (p : ℕ) → flag_word s ≡ 0 → (is_open s (gets p to_write) ≡ true) × (new ≡ flag_word (apply s (gets p to_write)))
 

@@ -59,7 +59,7 @@ module _ {K S C A H : Type 0} (m : Machine K S C A H) where
   legal-split n s [] ys legal = (tt, legal)
   legal-split n s (e ∷ es) ys legal = let two = legal-split n (m.next e.pass e.call s) es ys legal.3 in ((legal.0, legal.1, legal.2, two.0), two.1)
 
-  -- A property of the first state that each allowed call keeps holds after each legal history.
+  -- A property of the first state holds after each legal history, if each allowed call keeps the property.
   module _ (P : S → Type 0) (n : ℕ) (kept : (p : ℕ) (c : C) (s : S) → p < n → m.may p c s ≡ true → P s → P (m.next p c s)) where
     pub always : (s : S) (log : List (Entry C A)) → P s → IsLegalFrom m n s log → P (after m s log)
     always s [] first legal = first

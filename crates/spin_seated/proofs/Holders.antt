@@ -70,7 +70,7 @@ other_goes : (p q : ℕ) (hs : List Holder) → q ≢ p → is_holder p writing 
 other_goes p q [] apart = refl
 other_goes p q (h ∷ hs) apart = goes_by p q h hs (h.party == q) apart refl (other_goes p q hs apart)
 
--- whether a pass holds is not changed by calls of others
+-- whether a pass holds; below, calls of others do not change that
 abbrev pub is_held_by : ℕ → Locked → Bool
 is_held_by p s = is_holder p writing s.lock.holders
 

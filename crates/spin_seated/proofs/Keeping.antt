@@ -196,7 +196,7 @@ module _ {K S C A H : Type 0} (m : Machine K S C A H) where
   fit-newcomers k a zero room = tt
   fit-newcomers k a (suc n) room = (record { opening = refl; given = omega arith; begins = begins_here []; own = refl }, fit-newcomers k (a + 1) n (omega arith))
 
-  -- passes numbered from a on name a pass at most once, and none below a
+  -- in a list of passes numbered from a on, each pass occurs at most once, and none below a
   abbrev NamedOnce : ℕ → ℕ → ℕ → Type 0
   NamedOnce p a times = (times ≤ 1) × (p < a → times ≡ 0)
 

@@ -80,7 +80,7 @@ one_at_most n (h ∷ g ∷ hs) alone = absurd alone
 pub one_holder : (k : Opening) (log : History) → IsLegal mutex k log → length (holders k log) ≤ 1
 one_holder k log legal = one_at_most k.passes (state mutex k log).lock.holders (alone_state k log legal)
 
--- a try that succeeds, or fails, by the holders
+-- what a try that succeeds says of the holders; below, what a try that fails says of them
 won : (p : ℕ) (s : Locked) (hs : List Holder) → Truth true ≡ Truth (is_empty hs) → (map (λ h. h.party) hs ≡ []) × (map (λ h. h.party) (after_call p TryLock (held_by s hs)).lock.holders ≡ p ∷ [])
 won p s [] is = (refl, refl)
 won p s (h ∷ hs) is = absurd (cc (truth_is true false is))

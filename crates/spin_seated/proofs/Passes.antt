@@ -15,7 +15,7 @@ module _ {S C H : Type 0} (m : Machine Opening S C Answer H) where
   one_seat : (o : Option (Seat ℕ (List (Knows C)))) (s : Seat ℕ (List (Knows C))) → o ≡ Some s → IsOneSeat o → s.me ≡ (first_of_view s.me.0 ∷ [], [])
   one_seat o s is one = subst IsOneSeat is one
 
-  -- The seat in an open pass whose value is v.
+  -- The seat of a pass whose value is v.
   module _ (o : Option (Seat ℕ (List (Knows C)))) (s : Seat ℕ (List (Knows C))) (v : Seated C) (is : o ≡ Some s) (one : IsOneSeat o) (view : seated_of o ≡ v) where
     seat_is : seated_of (Some s) ≡ v
     seat_is = ap seated_of (sym is) ∙ view

@@ -14,7 +14,8 @@ use Rattle.spin_seated.specs.Rw.{Locked, Answer, Truth, Value, Call, TryRead, Tr
 use Rattle.spin_seated.proofs.Histories.{after_own}
 use Rattle.spin_seated.proofs.RwSteps.{places, there, Standing, standing, tracked}
 
--- what the step function of a reader ensures: at the word `old` the lock is open to a reader, and `new` is the word after it
+-- what the step function of a reader ensures: at the word `old` a reader may acquire the lock, and `new` is the word
+-- afterwards
 abbrev pub LetsRead : ℕ → ℕ → Type 0
 LetsRead old new =
     (s : Plain) (p : ℕ) → OneOfEach s → s.cap ≡ reader_limit → rw_word s ≡ old → (is_open s (gets p to_read) ≡ true) × (new ≡ rw_word (apply s (gets p to_read)))
@@ -70,7 +71,7 @@ loads_owed x free log legal has small = looks_at x.pass (found x log) (standing 
 pub acquires_read_owed : (x : Knows) (old new : ℕ) → LetsRead old new → holds x ≡ None → Owes rw x 0 (λ n. either (n == old) new n) (acquires_read old)
 acquires_read_owed x old new lets free log legal has small = comes_at x.pass (found x log) (standing x.opening log legal) old new (rw_word (found x log).lock == old) (has ∙ free) refl lets
 
--- The pass of an open call has the same value now as when the call began.
+-- The pass of a call under way has the same value now as when the call began.
 module _ {v w : Seated Call} (same : v ≡ w) where
   held_now : holds v.known ≡ holds w.known
   held_now = ap (λ (u : Seated Call). holds u.known) same

@@ -1,4 +1,5 @@
--- The steps of a lock of seats keep its rule. Each is the plain step of its step function, and is moves of the lock's model.
+-- The steps of a lock of seats keep its rule. Each makes the plain step of its step function, and its moves of the
+-- lock's model.
 use Rattle.std.proofs.Common.{◌≡◌, ℕ, ◌+◌, ◌-◌, ◌≤◌, ◌%◌, ◌^◌, ◌==◌, Bool, true, false, if◌then◌else◌, cond, List, [], ◌∷◌, length, filter, Option, Some, None, refl, sym, ap, ◌∙◌, subst, arith}
 use Rattle.std.specs.Prelude.{max, sum_by}
 use Rattle.std.proofs.lemmas.List.Sums.{sum_by-cons}

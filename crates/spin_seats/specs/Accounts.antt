@@ -19,7 +19,7 @@ module _ (n : ℕ) where
   abbrev pub Stepped : Bool → SeatsCall → Ending → View → Account n → Account n → Type 0
   Stepped goes_on call end view before now = spots.Stepped model goes_on call end view (known before) (known now)
 
-  -- now the party waits in this call, which it began after `before`
+  -- now the party is in this call, which it began after `before`
   abbrev pub IsIn : SeatsCall → Account n → Account n → Type 0
   IsIn call before now = spots.IsIn model call (known before) (known now)
 
@@ -27,7 +27,7 @@ module _ (n : ℕ) where
   abbrev pub Called : SeatsCall → Answer (Unit {0}) → Account n → Account n → Type 0
   Called call answer before now = spots.HasCalled model call answer (known before) (known now)
 
-  -- the party's `try_enter` found a word: if a seat is free there, the call goes on, and otherwise it has failed
+  -- the party's `try_enter` found a word: if by this word a seat is free, the call goes on, otherwise it has failed
   abbrev pub GoesFor : Bool → Account n → Account n → Type 0
   GoesFor true = IsIn TryEnter
   GoesFor false = Called TryEnter Refused

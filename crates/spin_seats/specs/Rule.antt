@@ -47,7 +47,7 @@ seat_of Waiting = seat.Calling call.Enter First None
 abbrev pub model : ℕ → SeatsMachine
 model = seats_machine
 
--- the lock's words, by the model's word
+-- the lock's two words for this word of the model; the second word is empty
 abbrev pub words_of : ℕ → ℕ × Unit {0}
 words_of w = (w, tt)
 

@@ -25,7 +25,8 @@ pub cut_none : (a : ℕ) (bs : List ℕ) → Nowhere (Passes (is_byte a) bs) 0 (
 cut_none a bs nowhere =
     slice_split_none (is_byte a) bs (λ k d l. ap (is_byte a) (get_or_default bs k d 0 l) ∙ not_passing _ (nowhere k (omega arith) l))
 
--- The first word of a line and the words after it, if the first i bytes have no space. Then they are the beginning of the first word.
+-- The first word of a line and the words after it, if the first i bytes have no space. These bytes are then the
+-- beginning of the first word.
 pub record FirstWord (line : List ℕ) (i : ℕ) : Type 0 where
   pub word : List ℕ
   pub more : List (List ℕ)
@@ -118,7 +119,7 @@ first_within : (parts : List (List ℕ)) → length (first_and_further parts) �
 first_within [] = omega arith
 first_within (x ∷ more) = omega (arith, further_within more)
 
--- there are at most as many lines as bytes, and one more
+-- the number of lines is at most the number of bytes plus 1
 pub lines_within : (bs : List ℕ) → length (words_by_line bs) ≤ length bs + 1
 lines_within bs =
     omega (arith, length-map (lines_of bs) words_of, first_within (slice_split (is_byte 10) bs), length-slice_split (is_byte 10) bs, count_by-le-length (is_byte 10) bs)

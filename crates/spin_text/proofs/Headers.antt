@@ -120,7 +120,7 @@ header_takes (w ∷ ws) h is =
     chosen (bytes_eq w (codes "barrier")) _ _ h (IsHeader w ws h) (barrier_takes w ws h) (λ _.
     chosen (bytes_eq w (codes "once")) _ _ h (IsHeader w ws h) (once_takes w ws h) (λ _ none. absurd (cc))))))) is
 
--- Reading goes on behind a number that is spelled in decimal.
+-- Reading goes on after a number that is spelled in decimal.
 
 number_then : (n : ℕ) (ws : List (List ℕ)) (k : ℕ × List (List ℕ) → Option Header) → n < 2 ^ 64 → (number_at (decimal n ∷ ws) >>= k) ≡ k (n, ws)
 number_then n ws k fits = ap (λ o. o >>= k) (number_at_again n ws fits)

@@ -22,7 +22,7 @@ pub and_true : (a b : Bool) → (a && b) ≡ true → (a ≡ true) × (b ≡ tru
 and_true true b is = (refl, is)
 and_true false b is = absurd (cc)
 
--- if `last` returns a result, no word is left behind it
+-- if `last` returns a result, no word follows
 pub last_takes : {A : Type 0} (read : Option (A × List (List ℕ))) (x : A) → last read ≡ Some x → read ≡ Some (x, [])
 last_takes None x is = absurd (cc)
 last_takes (Some (y, [])) x is = ap (λ z. Some (z, [])) (some_is is)

@@ -39,7 +39,7 @@ module _ {C : Type 0} (calls : Calls C) (read : List (List ℕ) → Option C) (r
       ap (λ o. o >>= λ x. (read_entries read (map (entry_words calls) es ++ (line ∷ [])) >>= λ xs. Some (x ∷ xs))) (entry_again calls read reads e fits.0)
       ∙ ap (λ o. o >>= λ xs. Some (e ∷ xs)) (entries_stop es line fits.1 is)
 
-  -- entries that fit, with one more that fits
+  -- if some entries fit and one more entry fits, then all of them fit
   pub entries_more : (es : List (ℕ × Move C ℕ)) (e : ℕ × Move C ℕ) → EntriesFit calls es → EntryFits calls e → EntriesFit calls (es ++ (e ∷ []))
   entries_more [] e fits fit = (fit, tt)
   entries_more (x ∷ xs) e fits fit = (fits.0, entries_more xs e fits.1 fit)
@@ -181,7 +181,7 @@ pub whole_text : {W L : Type 0} → (bytes : List ℕ) (h : Header) (rest : List
 whole_text bytes h rest m parties text fits is same plays =
     (record { header = h; entries = plays.0 }, record { fits = (fits, plays.1); words = is ∙ ap (λ r. header_words h ∷ r) plays.2 }, plays.3 ∙ same plays.0)
 
--- The same for the error of a call that writes.
+-- A weaker property of the error of a call that writes
 
 stops_so : (B C : RunError → Type 0) (U P Q : Type 0) → ((e : RunError) → B e → C e) → (P → Q) → (e : RunError) → StopsWriting B U P e → StopsWriting C U Q e
 stops_so B C U P Q before at_write errors.Read stops = (before errors.Read stops.0, stops.1)

@@ -4,7 +4,7 @@ use Rattle.spin_model.specs.declared.answer.Answer.{Answer}
 use Rattle.spin_model.specs.declared.schedule.Outcome.{Outcome}
 use Rattle.spin_model.specs.declared.schedule.Outcome.TheVariants as outcome
 
--- The buffer now has the text from `start` to `end`, and behind it what it had before.
+-- The buffer now has the text from `start` to `end`, and after the text what the buffer had before.
 pub record PutBefore (text before : List ℕ) (end : ℕ) (now : List ℕ) (start : ℕ) : Type 0 where
   pub begins : start + length text ≡ end
   pub stands : drop start now ≡ text ++ drop end before

@@ -4,7 +4,8 @@ use Rattle.std.specs.List.{AllByRecursion}
 use Rattle.spin_model.specs.declared.schedule.Move.{Move}
 use Rattle.spin_model.specs.declared.schedule.Move.TheVariants.{Begin, Step, Weak, Read, Write, Leak, OwnerGet, OwnerSet}
 
--- how the calls of an object are spelled (`words`), and which can be: those whose numbers are below 2^64 (`fits`)
+-- how the calls of an object are spelled (`words`), and which calls can be spelled: those with numbers below 2^64
+-- (`fits`)
 pub record Calls (C : Type 0) : Type 0 where
   pub words : C → List (List ℕ)
   pub fits : C → Bool

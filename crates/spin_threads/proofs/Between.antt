@@ -1,5 +1,5 @@
--- If the trace of a lock on threads is a run of its model, then all that the model's laws say of this schedule holds of
--- the lock.
+-- If the trace of a lock on threads is a schedule of its model, then all that the model's laws say of this schedule
+-- holds of the lock.
 use Rattle.std.proofs.Common.{◌≡◌, ℕ, suc, ◌+◌, Option, Some, None, List, [], ◌∷◌, ◌++◌, length, map, slice_get, refl, sym, ap, ◌∙◌, subst, arith}
 use Rattle.std.specs.List.{All}
 use Rattle.std.proofs.lemmas.List.{append_assoc, append-nil, length-append}

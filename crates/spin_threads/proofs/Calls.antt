@@ -96,7 +96,7 @@ module _ {W V C L A B : Type 0} {t : Table W V C L B} {by : Machine W V C L A} {
     begins_by : (c : C) (o : Outcome A V) (seat now : Option (Seat C L)) → o ≡ Begun → InItsCall {V = V} {L = L} o (Begin c) seat now → (l : L) × (now ≡ Some (Calling c l (held_at seat)))
     begins_by c o seat now comes in_call = subst (λ r. InItsCall {V = V} {L = L} r (Begin c) seat now) comes in_call
 
-    -- the moves that the party has left in its call: i steps after which the call continues, and one step that answers it
+    -- the moves that the party still makes in its call: i steps after which it continues, and one that answers it
     abbrev to_make : ℕ → List (Move C V)
     to_make i = replicate i Step ++ Step ∷ []
 

@@ -28,7 +28,7 @@ module _ {W V C L A B : Type 0} {t : Table W V C L B} {by : Machine W V C L A} {
   in_time_by p c l h a span o seat there comes in_time =
       subst (λ r. InTime m.lock_kind p span r (Some (m.asks c h))) comes (subst (λ y. InTime m.lock_kind p span o (asked m y)) there in_time)
 
-  -- the span of the answering step is that of the history with this step
+  -- the party's span after the answering step is its span in the history with this step
   span_is : (p : ℕ) (start : Seen W V C L) (old new : List (Entry C V)) (c : C) (h : Option Hold) (a : A) (n : ℕ) (it : IsAnswered facts p start old new c h a n)
       → span_of facts p it.seen ≡ (seen_after m start (it.past ++ (p, Step) ∷ [])).span p
   span_is p start old new c h a n it = ap (λ z. span_of facts p z) it.leads ∙ ap (λ (z : Seen W V C L). z.span p) (sym (one_more facts start it.past (p, Step)))

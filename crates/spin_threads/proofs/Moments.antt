@@ -57,7 +57,8 @@ module _ {W V C L A B : Type 0} {t : Table W V C L B} {by : Machine W V C L A} {
     right : (p : ℕ) (start : Seen W V C L) (old new : List (Entry C V)) (h : Option Hold) (n : ℕ) (it : IsAnswered facts p start old new c h a n) → HasMoment (m.asks c h) (m.says a) p (span_of facts p it.seen)
     right p start old new h n it = right_by p it.point h (span_of facts p it.seen) (event facts it.seen (p, Step)).outcome (event facts it.seen (p, Step)).seat it.there it.comes (kept facts it.seen p Step it.fine).right
 
-    -- Such an answer says that some state of the call passed this test. So that state also satisfied Q, if Q follows from the test for a party in this call.
+    -- By `says` the answer means that some state of the call passed this test. If Q follows from the test for a party
+    -- in this call, that state satisfied Q too.
     module _ (test : ℕ → Plain → Bool) (says : (h : Option Hold) → (m.asks c h).answers (m.says a) ≡ meaning.found test) where
       right_so : (p : ℕ) (h : Option Hold) (span : List Mark) → HasMoment (m.asks c h) (m.says a) p span → list_any (λ mark. test p mark.before) span ≡ true
       right_so p h span is = subst (λ what. moment what p span ≡ true) (says h) is

@@ -112,7 +112,7 @@ module _ (given : Option (Unit {0})) where
       by_word true is = ap (λ v. (t given).step s.words v c l h) (sym (has (eqb-true s.words 2 is)))
       by_word false other = looks_where_complete given s.words (Some tt) s.value c l h (λ e. eqb-false s.words 2 other e)
 
-  -- the outcome of a step after which the call continues or ends so
+  -- the outcome of a step with this ending
   abbrev out : Ending → Outcome (Answer (Unit {0})) (Unit {0})
   out (Continue l) = GoingOn
   out (Answers a after) = Answered a None

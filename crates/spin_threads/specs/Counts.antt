@@ -20,7 +20,7 @@ steps_since m parties party history = (seen_after m (opening m parties) history)
 pub record IsWithinLimit {W V C L A X : Type 0} (m : Machine W V C L A) (call : C) (view : Option (Numbered X)) (old new : List (Entry C V)) : Type 0 where
   pub party : ℕ
   pub is_number : IsNumber party view
-  -- the history is that of a world with this many parties, and none of its moves is skipped
+  -- `new` is the history of a world with this many parties, and none of its moves is skipped
   pub parties : ℕ
   pub played : IsPlayed m parties new
   -- the history when the call was answered
@@ -31,7 +31,7 @@ pub record IsWithinLimit {W V C L A X : Type 0} (m : Machine W V C L A) (call : 
   pub more : List (Entry C V)
   pub grown : new ≡ old ++ more
   pub moves : length (entries_by party more) ≡ suc (own_count party (steps_since m parties party answered))
-  -- these steps are within the limit that the model has for this call, if the party held `held` before
+  -- these steps are within the model's limit for this call of a party that held `held` before it
   pub held : Option Hold
   pub in_time : EndsWithin (limit m.lock_kind (m.asks call held)) m.lock_kind party (steps_since m parties party answered)
   -- the exchanges that the call repeats failed at most as often as others changed the first word

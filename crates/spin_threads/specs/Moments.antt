@@ -24,7 +24,7 @@ IsInCall {L = L} call seat = (l : L) × (held : Option Hold) × (seat ≡ Some (
 pub record AtAMoment {W V C L A X : Type 0} (m : Machine W V C L A) (call : C) (view : Option (Numbered X)) (old new : List (Entry C V)) (P : Plain → Type 0) : Type 0 where
   pub party : ℕ
   pub is_number : IsNumber party view
-  -- the history is that of a world with this many parties, and none of its moves is skipped
+  -- `new` is the history of a world with this many parties, and none of its moves is skipped
   pub parties : ℕ
   pub played : IsPlayed m parties new
   -- the history at that moment
@@ -35,7 +35,7 @@ pub record AtAMoment {W V C L A X : Type 0} (m : Machine W V C L A) (call : C) (
   pub in_call : IsInCall call (slice_get (seen_after m (opening m parties) moment).state.seats party)
   pub so : P (seen_after m (opening m parties) moment).plain
 
--- the test or count `look` of the plain lock gives this answer
+-- `look` is a test or a count of the plain lock, and gives this answer
 abbrev pub Was : {X : Type 0} → (Plain → X) → X → Plain → Type 0
 Was look answer s = look s ≡ answer
 
@@ -51,7 +51,7 @@ Found {V = V} {C = C} m View call answer P =
 pub record AsAnswered {W V C L A X : Type 0} (m : Machine W V C L A) (call : C) (answer : A) (view : Option (Numbered X)) (old new : List (Entry C V)) (P : Plain → Type 0) : Type 0 where
   pub party : ℕ
   pub is_number : IsNumber party view
-  -- the history is that of a world with this many parties, and none of its moves is skipped
+  -- `new` is the history of a world with this many parties, and none of its moves is skipped
   pub parties : ℕ
   pub played : IsPlayed m parties new
   -- the history before the step that answered the call; the party was in this call then

@@ -18,7 +18,7 @@ use Rattle.spin_world.specs.Turns.{tickets_gone}
 pub record EntersInTurn {X T : Type 0} (key : Key T) (view : Option (Numbered X)) (old new : List (Made T)) : Type 0 where
   pub party : ℕ
   pub is_number : IsNumber party view
-  -- the history is that of a world with this many parties, and none of its moves is skipped
+  -- `new` is the history of a world with this many parties, and none of its moves is skipped
   pub parties : ℕ
   pub played : IsPlayed (model key) parties new
   -- a history, between `old` and `new`, after which the party holds with its ticket

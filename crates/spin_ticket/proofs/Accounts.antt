@@ -112,7 +112,7 @@ releases me it now same x number is shown =
     released mutex Release Done (here me) (spot it now) (IsNamed me) 0 (is_named me) same me.knows me.permit.value it.value x
     (ap (use_of use_of_view) is) shown
 
--- the release from `p`: first the load that finds the holder's own number, which is no move, then the store from `q`
+-- the release from `p`: first the load of the holder's own number, then the store from `q`; the load is no move
 pub released_behind : {T : Type 0} (x : T) (p q r : Spot T) → Since model Nothing p q → Releases x q r → Releases x p r
 released_behind {T} x p q r none so =
     let at : Releases x (p.0, q.1, q.2) r = subst (λ (k : Key T). Releases x (k, q.1, q.2) r) none.2 so in

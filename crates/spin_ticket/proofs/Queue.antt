@@ -288,7 +288,7 @@ module _ {T : Type 0} (key : Key T) where
   same_shown view view' before after x n m is is' here kept =
       (subst (λ (z : Use × Use × Option T). Preserves alone z.0 z.1 z.2 after) (λ i. ((sym (tie.same_use use_of_view view) ∙ ap (use_of use_of_view) is) i, (sym (tie.same_use use_of_view view') ∙ ap (use_of use_of_view) is') i, here i)) kept).0
 
--- whether a `try_lock` may take the number that it found next
+-- whether a `try_lock` may take the next number that it found
 
 pub not_served : (next n : ℕ) → false ≡ (n == next) → is_free next n ≡ false
 not_served next n e = ap (λ b. b && is_left next) (sym e)

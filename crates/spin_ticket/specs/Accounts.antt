@@ -48,7 +48,7 @@ module _ {T : Type 0} where
       IfOk r (λ grant. HasCalled model TryLock Granted p (here grant.account))
       × IfErr r (λ now. HasCalled model TryLock Refused p (here now) × IsOut Idle (what now.permit.view))
 
-  -- the result of the exchange of a `try_lock` that found the number `next` both next and served
+  -- the result of the exchange of a `try_lock`, which found that `next` is both the next number and the served one
   abbrev pub Attempts : ℕ → Spot T → Result (Grant T) (Account T) → Type 0
   Attempts next p r =
       IfOk r (λ grant. Stepped model true TryLock (Answered Granted None) (Entered next) p (here grant.account))

@@ -111,7 +111,7 @@ number_of (Some (Trying n)) = n
 number_of (Some (LoadedServing n)) = n
 number_of _ = 0
 
--- the view in `lock` after the number `n` was found next: the party tries to take this ticket, unless no ticket is left
+-- the view in `lock` after it found the next number `n`: the party tries to take this ticket, unless none is left
 abbrev pub going : ℕ → View
 going n = if is_left n then Going n else Coming
 
@@ -130,7 +130,8 @@ answers_turn number n = if n == number then Answered Granted None else GoingOn
 abbrev pub awaits_by : {T : Type 0} → Option View → Says T
 awaits_by view = let number : ℕ = number_of view in step_by true Lock (answers_turn number) (entered number)
 
--- the view in `try_lock` after the number `n` was found served: the call continues if `n` is the number `next`, and a ticket is left
+-- The view in `try_lock` after it found the served number `n`. The call continues if `n` is also the next number, and
+-- a ticket is left.
 abbrev pub freed : ℕ → ℕ → View
 freed next n = if is_free next n then Trying next else Idle
 
@@ -150,7 +151,7 @@ answers_attempt next n = if n == next then Answered Granted None else Answered R
 abbrev pub gone : ℕ → View
 gone n = Idle
 
--- the answer of `is_locked`, which found the number `served` served and the number `n` next
+-- the answer of `is_locked`, which found the served number `served` and the next number `n`
 abbrev pub answers_look : {T : Type 0} → ℕ → ℕ → Ending T
 answers_look served n = Answered (Is (not (n == served))) None
 
@@ -174,7 +175,7 @@ abbrev pub serves_by : {T : Type 0} → Says T
 serves_by = leaves_by (λ x. Unit {0}) Release Done Idle
 
 module _ {T : Type 0} where
-  -- For a pass. Since it knew `old`, it has made the moves of this course and no others.
+  -- For a pass that knew `old`. Since then it has made the moves of this course and no others.
   abbrev pub Moves : Key T → Course T TicketCall (Answer T) → Between T TicketCall View
   Moves key course view old view' new = passes.Made (model key) view old view' new course
 

@@ -17,7 +17,7 @@ module _ {T R : Type 0} where
   abbrev pub name_of : TicketMutex T R → ℕ
   name_of lock = lock.cell.0.name
 
-  -- the same name, by a pass of the lock
+  -- the same name, as a pass of the lock keeps it
   abbrev pub lock_of : Pass T R → ℕ
   lock_of it = it.account.seen.name
 
@@ -25,7 +25,7 @@ module _ {T R : Type 0} where
   abbrev pub first_ticket : TicketMutex T R → ℕ
   first_ticket lock = lock.cell.1
 
-  -- the same number, by a pass of the lock
+  -- the same number, as a pass of the lock keeps it
   abbrev pub first_of : Pass T R → ℕ
   first_of it = it.account.permit.key.1
 
@@ -33,7 +33,7 @@ module _ {T R : Type 0} where
   abbrev pub opening : TicketMutex T R → Key T
   opening lock = lock.cell
 
-  -- the same, by a pass of the lock
+  -- the same, as a pass of the lock keeps it
   abbrev pub opening_of : Pass T R → Key T
   opening_of it = it.account.permit.key
 

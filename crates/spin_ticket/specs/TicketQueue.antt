@@ -1,4 +1,4 @@
--- The queue of a lock of tickets, as that of a plain lock and by the numbers of the parties' tickets.
+-- The queue of a lock of tickets: as the queue of a plain lock, and as the numbers of the parties' tickets.
 use Rattle.std.specs.Prelude.{◌≡◌, ℕ, ◌<◌, ◌≤◌, Bool, true, false, List, [], ◌∷◌, length, Some, filter, slice_get, count_by, ◌==◌}
 use Rattle.spin_step.specs.Plain.{Plain, Ticket, ticket, ticket_limit, next_word, serving_word}
 use Rattle.spin_step.specs.Parties.{first_alone_entered}
@@ -28,8 +28,8 @@ stands_with t (Waiting n) = n == t
 stands_with t (Entered n) = n == t
 stands_with t _ = false
 
--- Each number from the served one up to the next is the ticket of one party. Only a party with the served number has
--- entered.
+-- Each number from the served one up to the last one taken is the ticket of one party. Only a party with the served number
+-- has entered.
 pub record IsInTurn (next serving : ℕ) (vs : List View) : Type 0 where
   pub in_order : serving ≤ next
   pub within_limit : next ≤ ticket_limit

@@ -1,4 +1,4 @@
--- The lines of a text while they are read one by one: what those so far set, and which are left.
+-- The lines of a text while they are read one by one: what the lines read so far set, and which lines are left.
 use Rattle.std.proofs.Common.{◌≡◌, ◌∙◌, ℕ, ◌+◌, ap, sym, subst, refl, arith, List, [], ◌∷◌, ◌++◌, Option, Some, None, unwrap_or, length, Bor, false}
 use Rattle.std.specs.Iterator.{AlwaysYields}
 use Rattle.std.specs.Str.Iter.{lines_steps, lines_rest}

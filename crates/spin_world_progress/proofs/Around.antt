@@ -18,7 +18,7 @@ abbrev beyond : {X : Type 0} → List X → ℕ → ℕ
 beyond [] n = n
 beyond (x ∷ xs) n = suc (beyond xs n)
 
--- such a stretch begins with the rest of the turn
+-- a stretch of this length begins with the rest of the turn
 rest_first : {X : Type 0} (e : X) (es : List X) (x : X) (xs : List X) (n : ℕ) → stretch (around e es x xs) 0 (beyond (x ∷ xs) n) ≡ x ∷ xs ++ stretch (around e es e es) 0 n
 rest_first e es x [] n = ap (λ ys. x ∷ ys) (later (around e es x []) 0 n)
 rest_first e es x (y ∷ ys) n = ap (λ zs. x ∷ zs) (later (around e es x (y ∷ ys)) 0 (beyond (y ∷ ys) n) ∙ rest_first e es y ys n)

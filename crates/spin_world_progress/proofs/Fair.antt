@@ -33,7 +33,7 @@ starves_own : (p : ℕ) (qs : List ℕ) → is_starver p qs ≡ true → not (is
 starves_own p [] found = found
 starves_own p (q ∷ qs) found = grind (arith, found, starves_own p qs)
 
--- how many moves the waiting party has left if nobody holds; `theirs_by`: how many a holder with this seat has left
+-- how many moves the waiting party still makes if nobody holds; `theirs_by`: how many a holder with this seat makes
 abbrev mine_by : Bool → FairPoint → ℕ
 mine_by clear Unregister = if clear then 3 else 1
 mine_by clear SetFlag = if clear then 2 else 0
@@ -138,7 +138,7 @@ module _ {V : Type 0} (v : V) (cap patience : ℕ) where
       takes_none : (q : ℕ) (d : FairCall) (i : FairPoint) (j : Option Hold) → is_set seen.state.words ≡ true → walk.SitsSo (fair_notes v cap patience) (λ e. not (holds_lock e)) q (Some (Calling d i j)) → (sc seen q d i j).after.plain.holders ≡ s.holders
       takes_none q d i j set so = grind (arith, set, so)
 
-      -- a holder leaves, or is granted
+      -- by a step a holder leaves, or its call is granted
       holder_steps : (n q : ℕ) (d : FairCall) (i : FairPoint) (j : Option Hold) → seat_of seen q ≡ Some (Calling d i j) → Sits q (Some (Calling d i j)) → walk.After f x seen q (sc seen q d i j) → theirs_by true (Some (Calling d i j)) ≤ suc n
           → walk.Reaches f x (sc seen q d i j) ⊎ walk.Falls f x seen l q (sc seen q d i j) n
       holder_steps n q Release First (Some Write) seat so made few =

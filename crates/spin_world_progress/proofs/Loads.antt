@@ -34,7 +34,7 @@ module _ {W V C L A : Type 0} {t : Table W V C L A} (n : Notes t) (test : Entrie
   pub sits_so : {f : Plays (machine_of t) n} (seen : Seen W V C L) → Invariant f seen → (p : ℕ) → test (entries p seen.plain) ≡ true → SitsSo p (seat_of seen p)
   sits_so seen good p has = sits_by p seen.plain (seen.span p) _ (good.parties p).stands (good.parties p).knows has
 
-  -- others may wait for a party with such a seat
+  -- others may wait for a party with a seat that implies such entries
   pub busy_so : (p : ℕ) (o : Option (Seat C L)) → test (entries_held p None) ≡ false → ((h : Hold) → test (entries_of p h) ≡ true → may_read h ≡ true) → SitsSo p o → is_busy o ≡ true
   busy_so p o none reads sits = grind (arith, none, reads, sits)
 
@@ -176,7 +176,7 @@ module _ {W V C L A B : Type 0} {t : Table W V C L B} {given : Machine W V C L A
   Pays seen l n es q = (load seen l q ≤ n) ⊎ ((load seen l q ≤ suc n) × (occurs m (awaited q (seat_of seen q)) seen.state es ≡ true))
 
   module _ (walks : Walks) (seen : World) (l : L) (w : Waits seen l) (n : ℕ) (es : Turn) where
-    -- the same, as it is before the event `sc`, whose move may be the party's awaited one
+    -- the same, seen before the event `sc`: the move of `sc` may be the awaited one
     abbrev Pays_by : Event → ℕ → Type 0
     Pays_by sc q =
         let o = seat_of seen q in
@@ -203,7 +203,7 @@ module _ {W V C L A B : Type 0} {t : Table W V C L B} {given : Machine W V C L A
           theirs = λ q ne. omega (arith, within_all sc pays q, other_load seen.plain l q (seat_of seen q) ne);
         }
 
-    -- what the waiting party and each other party show of their loads, for a party that does not step
+    -- the load of a party that does not step, by whether it is the waiting party
     by_whom : (sc : Event) (i : L) (o : ℕ) → ((o ≡ p) → x.mine sc.after.plain i ≤ max (x.mine seen.plain l) n) → ((o ≡ p → ⊥) → x.theirs sc.after.plain i o (seat_of seen o) ≤ max (theirs seen l o) n)
         → load_by sc.after.plain i o (seat_of seen o) ≤ max (load seen l o) n
     by_whom sc i o mine other =
@@ -405,7 +405,7 @@ module _ {W V C L A B : Type 0} {t : Table W V C L B} {given : Machine W V C L A
         or_right _ _ (subst (λ s. occurs m x.goal s (joined rounds) ≡ true) at (in_rounds rounds next y.0 y.1 fine_there (subst (λ s. AreRounds m s rounds) (sym at) are.1) y.2)))
         (one_round seen l (length rounds) es w (fine_before next (joined rounds) (good_after f seen es w.3) fine_there) within are.0)
 
-    -- the goal is reached so from the state after any schedule
+    -- the goal is reached in that many rounds also from the state after any schedule
     pub ends : (n : ℕ) (past : Turn) (rounds : List Turn) (l : L)
         → let seen = seen_after m (opening m n) past in let s = after m (at_first m n) past in
         slice_get s.seats p ≡ Some (Calling x.call l x.hold) → x.At l → x.Known seen → x.Fine (seen_after m seen (joined rounds)) → AreRounds m s rounds → (Waits seen l → Within seen l (length rounds))

@@ -10,8 +10,8 @@ use Rattle.spin_world_progress.proofs.Progress.{is_busy, calls_not, holds_not, s
 use Rattle.spin_world_progress.proofs.Loads.{Wait}
 use Rattle.spin_world_progress.proofs.Loads as walk
 
--- How many moves a call with a closure has left, by the phase and the call's point. While another party's closure runs,
--- the call waits for this closure.
+-- How many moves a call with a closure still makes, by the phase and the call's point. While another party's closure
+-- runs, the call waits for this closure.
 abbrev mine_by : Phase → ℕ → OncePoint → ℕ
 mine_by complete p l = 1
 mine_by (running q) p l = if q == p then 1 else 0
@@ -142,7 +142,7 @@ module _ {V : Type 0} (value : Option V) where
         (at.0, at.1, same_beside m seen r q q at.0 Run at.1 at.2 move ne ∙ at.2))
         (cases_eq r q)
 
-  -- while the phase says that a closure runs, its party is in its call, after any schedule
+  -- after any schedule, while the phase says that a party runs a closure, this party is in its call
   runner_after : (seen : World) (es : Entries V) → Invariant f seen → RunnerIn seen → RunnerIn (seen_after m seen es)
   runner_after seen [] good runner = runner
   runner_after seen (e ∷ es) good runner = runner_after (scene m seen e.0 e.1).after es (kept f seen e.0 e.1 good).good (runner_kept seen good runner e.0 e.1)

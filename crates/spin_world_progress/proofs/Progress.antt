@@ -32,7 +32,7 @@ is_busy _ = false
 abbrev pub holds_lock : Entries → Bool
 holds_lock e = not (is_empty e.holders)
 
--- a party that has leaked or is gone is still so after the owner's use of the value
+-- a party that has left (`has_left`) has also left after the owner's use of the value
 seen_left : {C L : Type 0} (o : Option (Seat C L)) → has_left o ≡ true → has_left (option_map seen_by_owner o) ≡ true
 seen_left o left = grind (arith, left)
 
@@ -128,7 +128,7 @@ module _ {W V C L A : Type 0} (m : Machine W V C L A) where
   pub unawaited : (d q : ℕ) (o : Option (Seat C L)) (move : Move C V) (what : Outcome A V) → (q ≡ d → is_idle what ≡ true) → ((q == d) && is_awaited m o move what) ≡ false
   unawaited d q o move what idle = grind (arith, idle, eqb-true)
 
-  -- a party that has leaked never makes such a move
+  -- a party that has leaked never makes the awaited move
   pub left_never : (seen : Seen W V C L) (es : List (ℕ × Move C V)) (d : ℕ) (o : Option (Seat C L)) → has_left (seat_of seen d) ≡ true → occurs m (awaited_of d o) seen.state es ≡ true → ⊥
   left_never seen [] d o left found = false≢true found
   left_never seen (e ∷ es) d o left found =

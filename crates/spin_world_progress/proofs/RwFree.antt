@@ -195,7 +195,7 @@ abbrev leaves : Option RwSeat → Bool
 leaves (Some (Calling Release l h)) = true
 leaves _ = false
 
--- how many rounds are left at most once the readers beside u have left, by the kind with which u holds
+-- how many rounds remain at most after the readers beside u have left, by the kind with which u holds
 abbrev base : Option Kind → ℕ
 base None = 2
 base (Some reading) = 3
@@ -368,7 +368,7 @@ module _ {V : Type 0} (v : V) (cap : ℕ) (some : 1 ≤ cap) where
       Grants seen q c l h ⊎ (((y.change ≡ None) × (reader ≡ false)) ⊎ ((y.change ≡ Some (releases q reading)) × (reader ≡ true) × (leaves (Some (Calling c l h)) ≡ true) × (seat_of y.after q ≡ Some Idle)))
   others_step seen q c l h reader there so = grind (arith, so, get-set_same seen.state.seats q Idle _ there)
 
-  -- a step of the party u, which holds in this way
+  -- a step of the party u, which is a holder of this kind, or no holder (`None`)
   its_step : (seen : World) (u : ℕ) (c : RwCall) (l : RwPoint) (h : Option Hold) (kind : Option Kind) → seat_of seen u ≡ Some (Calling c l h) → Sits (λ e. same_kinds kind (kind_in e.holders)) u (Some (Calling c l h)) → let y = sc seen u c l h in
       Grants seen u c l h ⊎ ((y.change ≡ None) ⊎ ((same_kinds kind (from y.change) ≡ true) × ((is_out y.change ≡ true) × (is_asking kind ≡ false) × (leaves (Some (Calling c l h)) ≡ true) × (seat_of y.after u ≡ Some Idle) ⊎ (is_turn y.change ≡ true) × (leaves (Some (Calling c l h)) ≡ false) × (leaves (seat_of y.after u) ≡ false))))
   its_step seen u c l h kind there so =
@@ -484,7 +484,7 @@ module _ {V : Type 0} (v : V) (cap : ℕ) (some : 1 ≤ cap) where
               (others_step seen q d i j reader at (subst (Sits (reads_so reader) q) at (sits (reads_so reader) q (reads_or_not (its q s.holders) (known q other)))))
 
         module _ (is : q ≡ u) where
-          -- if somebody holds beside u, at most n rounds are left once the readers beside u have left
+          -- if somebody holds beside u, at most n rounds remain after the readers beside u have left
           beside_long : b ≡ true → base kind ≤ n
           beside_long some =
               let z = reader_beside known mine_at some in

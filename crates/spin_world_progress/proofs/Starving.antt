@@ -18,7 +18,7 @@ use Rattle.spin_model.specs.declared.once.OncePoint.TheVariants as once_point
 use Rattle.spin_world.specs.declared.barrier.BarrierCall.TheVariants as barrier
 use Rattle.spin_world.specs.declared.barrier.BarrierPoint.TheVariants as barrier_point
 
--- party 0 makes its exchange while the other party holds, and looks after the other party has released
+-- party 0 makes its exchange while the other party holds, and its look when the other party has released
 pub flag_starves : {V : Type 0} (v : V) → MayStarve (flag_machine v) 2 waits_to_write
 flag_starves v =
     starves (flag_machine v) 2 ((0, Begin flag.Lock) ∷ []) _ refl (1, Begin flag.Lock) ((1, Step) ∷ (0, Step) ∷ (1, Begin flag.Release) ∷ (1, Step) ∷ (0, Step) ∷ []) 0 flag.Lock flag_point.First None refl
@@ -60,7 +60,7 @@ module _ {V : Type 0} (v : V) (cap patience : ℕ) where
       (record { words = 2; value = Some v; seats = Calling fair.Lock (fair_point.Attempt 0) None ∷ Holding hold.Starver ∷ [] }) (grind (arith, room)) (0, Step) ((0, Step) ∷ []) 0 fair.Lock (fair_point.Attempt 0) None refl
       (record { fair = refl; back = refl; none = refl })
 
-  -- two starvers: the other starver holds the lock whenever party 0 looks
+  -- two starvers: the other one has set the flag whenever party 0 tries to set it, and has released when party 0 looks
   pub starver_starves : 2 ≤ cap → MayStarve (fair_machine v cap patience) 2 waits_starving
   starver_starves two =
       let room : nat_lt 0 (min cap most_starvers) ≡ true = lt-ltb 0 (min cap most_starvers) (omega (arith, two)) in
@@ -70,7 +70,7 @@ module _ {V : Type 0} (v : V) (cap patience : ℕ) where
       ((1, Step) ∷ (0, Step) ∷ (1, Step) ∷ (1, Begin fair.Release) ∷ (1, Step) ∷ (1, Begin fair.Starve) ∷ (1, Step) ∷ (1, Step) ∷ (0, Step) ∷ []) 0 fair.StarverLock fair_point.SetFlag (Some hold.Starver) refl
       (record { fair = grind (arith, more); back = grind (arith, more); none = grind (arith, more) })
 
--- the other party takes a seat before each exchange of party 0, and leaves it afterwards; if there are no seats, nobody enters
+-- before each exchange of party 0 the other party takes a seat or leaves; if there are no seats, nobody enters
 pub seats_starve : (n : ℕ) → MayStarve (seats_machine n) 2 (waits to_read)
 seats_starve zero = starves (seats_machine 0) 2 ((0, Begin seats_call.Enter) ∷ []) _ refl (0, Step) [] 0 seats_call.Enter seats_point.First None refl (record { fair = refl; back = refl; none = refl })
 seats_starve (suc n) = by_room (nat_lt 1 (seats (suc n))) refl
@@ -92,7 +92,8 @@ barrier_starves n two =
     (0, Step) [] 0 barrier.Wait (barrier_point.Leave 0) None refl (record { fair = refl; back = refl; none = refl })
 
 module _ {V : Type 0} where
-  -- a closure runs whenever party 0 looks, and fails
+  -- a closure runs whenever party 0 makes its exchange, and has failed when party 0 looks; in `poll_starves` a closure
+  -- runs whenever party 0 looks
   pub once_starves : (v : V) (value : Option V) → value ≡ None → MayStarve (once_machine value) 2 initializes
   once_starves v None none =
       starves (once_machine None) 2 ((0, Begin (once.CallOnce v)) ∷ (0, Step) ∷ []) _ refl (1, Begin once.TryCallOnceErr) ((1, Step) ∷ (1, Step) ∷ (0, Step) ∷ (1, Step) ∷ (0, Step) ∷ []) 0 (once.CallOnce v)

@@ -35,7 +35,7 @@ gives_up (serves p) = true
 gives_up (stops_starving p) = true
 gives_up _ = false
 
--- the call's purpose is such a step: its answer `done` implies one
+-- the call is a release: its answer `done` implies a plain step that passes `gives_up`
 abbrev pub is_release : Asked → Bool
 is_release what = list_any (list_any gives_up) (own_steps (what.answers done) 0)
 

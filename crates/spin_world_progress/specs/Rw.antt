@@ -1,4 +1,4 @@
--- Progress of a read-write lock: in how many rounds an upgrade is granted.
+-- Progress of a read-write lock: in how many rounds an upgrade is granted, or some waiting call.
 use Rattle.std.specs.List.{list_any}
 use Rattle.std.specs.Prelude.{◌≡◌, ℕ, ◌≤◌, Bool, false, None, ◌||◌, true, if◌then◌else◌, Option, Some, List, [], ◌∷◌, length, slice_get}
 use Rattle.spin_step.specs.Plain.{Kind, Holder, reading, upgradable, asking, writing, same_kind, is_holder}
@@ -40,7 +40,7 @@ abbrev pub leading : List Holder → Kind
 leading [] = reading
 leading (h ∷ hs) = if same_kind reading h.kind then leading hs else h.kind
 
--- in how many rounds some party is granted, by the kind of this holder and whether others read too
+-- in how many rounds some party is granted what it asks, by the kind that `leading` gives and whether others read too
 abbrev pub rounds_by : Kind → Bool → ℕ
 rounds_by reading reads = if reads then 4 else 2
 rounds_by upgradable reads = if reads then 6 else 5

@@ -168,7 +168,7 @@ keeps_the_flag v = starver_lock_by v (λ l act. elim l [
   | _ ↦ act
 ])
 
--- the flag is set, and is still set four steps later
+-- a starver sets the flag beside another starver, and then makes four more steps
 abbrev pub lock_beside_a_starver : {V : Type 0} → Entries V
 lock_beside_a_starver =
     (1, Begin Starve) ∷ (1, Step) ∷ (1, Step) ∷ (0, Begin Starve) ∷ (0, Step) ∷ (0, Step)

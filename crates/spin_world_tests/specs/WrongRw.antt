@@ -80,7 +80,7 @@ asks_twice {V} v =
     let asks : Next RwPoint (Answer V) → RwAct V = store (λ w. true) (adds (weight asking - weight upgradable)) (λ p. turns p upgradable asking) in
     upgrade_by v (λ l act. elim l [ First ↦ asks (Continue (Exchange 0)) | Exchange n ↦ asks (Continue Asking) | _ ↦ act ])
 
--- `downgrade` leaves the word of a reader that asks to upgrade
+-- `downgrade` leaves the word of a reader with the bit by which an upgradable reader asks
 abbrev pub downgrades_asking : {V : Type 0} → V → RwMachine V
 downgrades_asking {V} v =
     let asked : RwAct V = turns_to_reading (weight reading + weight asking - weight upgradable - weight writing) in

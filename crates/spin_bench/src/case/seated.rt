@@ -30,7 +30,7 @@ impl Caller {
     }
 }
 
-/// A `SeatedMutex` with its only caller. A thread takes the caller once, and makes all its calls with it.
+/// A `SeatedMutex` with its only caller. A thread takes this caller once, and makes all calls with it.
 #[derive(Drop)]
 pub struct Seated {
     caller: sync::Mutex<Caller>,

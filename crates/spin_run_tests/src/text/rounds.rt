@@ -162,8 +162,8 @@ const ROUNDS: &[Rounds] = &[
         &["0 step", "0 step", "0 step"],
         Some(0),
     ),
-    // Two tickets are taken in the rounds, so the bound is 4 rounds and 2 more. The other party's ticket costs this
-    // party an exchange. This party gets its own ticket in the same round.
+    // Two tickets are taken in the rounds, so the bound is 4 rounds and 2 more. The ticket of party 1 costs party 0 an
+    // exchange. Party 0 gets its own ticket in the same round.
     (
         "a lock of two parties is granted four rounds after the tickets",
         "ticket 5 0 2\n0 begin lock\n1 begin lock",

@@ -28,8 +28,8 @@ fn opens_in<C: Calls>(arena: &Bump, left: usize) -> bool {
     }
 }
 
-// Returns whether each allocation of a lock fails if too little memory is left. After each failure, and after each drop
-// of a lock, everything has to be free again. An arena with a block in use cannot be reset.
+// Returns whether each allocation of a lock fails if too little memory is left. Afterwards everything has to be free
+// again, also if the lock was made and dropped. An arena with a block in use cannot be reset.
 fn gives_all_back<C: Calls>(rt: &impl Abort, alloc: Global) -> bool {
     let mut refused = 0u32;
     for left in 0..256usize {

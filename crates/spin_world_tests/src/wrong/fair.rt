@@ -13,7 +13,7 @@ pub fn a_newcomer_yields_to_starvers<V: Copy>()
     ensures { (value : V) → KeepsAll (tries_greedily value) 2 try_beside_a_starver → ⊥ }
 {}
 
-/// A `starver_try_lock` that leaves its party a starver. A call that succeeds in this way has made too few plain steps.
+/// A `starver_try_lock` that leaves its party a starver. When this call succeeds, it has made too few plain steps.
 pub fn a_granted_starver_leaves_the_starvers<V: Copy>()
     ensures { (value : V) → KeepsAll (stays_a_starver value) 1 try_of_a_starver → ⊥ }
 {}
@@ -44,7 +44,7 @@ pub fn a_dropped_starver_leaves_the_flag<V: Copy>()
     ensures { (value : V) → KeepsAll (drop_frees value) 2 drop_beside_a_holder → ⊥ }
 {}
 
-/// A `try_lock_starver` that tells the wrong reason: it answers `Starved`, though nobody starves at any moment.
+/// A `try_lock_starver` that tells the other reason, though nobody starves at any moment.
 pub fn a_refusal_tells_its_reason<V: Copy>()
     ensures { (value : V) → MomentsAll (tells_the_other_reason value) 2 try_beside_a_holder → ⊥ }
 {}
@@ -96,17 +96,17 @@ pub fn a_starver_may_not_starve_again<V: Copy>()
     ensures { (value : V) → Stepwise (starves_again value) → ⊥ }
 {}
 
-/// A `starver_try_lock` that yields to other starvers.
+/// A `starver_try_lock` that asks to lock as the only starver. It should also succeed beside other starvers.
 pub fn a_starver_tries_beside_others<V: Copy>()
     ensures { (value : V) → IsFairLock value 2 1 (tries_alone value) → ⊥ }
 {}
 
-/// A fair lock that admits one starver, whatever its cap is.
+/// A fair lock that admits one starver, though two were asked for.
 pub fn as_many_may_starve_as_the_cap_says<V: Copy>()
     ensures { (value : V) → IsFairLock value 2 1 (fair_machine value 1 1) → ⊥ }
 {}
 
-/// A fair lock with a starver at first.
+/// A fair lock whose word says at first that a starver is registered, though no party is a starver.
 pub fn a_fair_lock_opens_without_starvers<V: Copy>()
     ensures { (value : V) → KeepsAll (opens_with_a_starver value) 1 [] → ⊥ }
 {}

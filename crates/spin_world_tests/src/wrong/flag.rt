@@ -42,8 +42,8 @@ pub fn a_lock_begins_by_its_exchange<V: Copy>()
     ensures { (value : V) → CountsAll (looks_first value) 1 lock_alone → ⊥ }
 {}
 
-/// A `lock` that may fail spuriously at its look. Only an exchange may fail so: it makes a plain step when it finds the
-/// expected number, and a look never makes a plain step.
+/// A `lock` that may fail spuriously at its look. Only an exchange may fail spuriously: it makes a plain step when it
+/// finds the expected number, and a look never makes a plain step.
 pub fn a_look_refuses_by_no_chance<V: Copy>()
     ensures { (value : V) → Stepwise (refuses_at_its_look value) → ⊥ }
 {}

@@ -9,13 +9,14 @@ ghost use Rattle.spin_world.specs.Keeping.{AnswersAtOnce, LooksFirst, LooksWhere
 ghost use Rattle.spin_world.specs.Once.{IsOnceOf};
 ghost use Rattle.spin_world_tests.specs.WrongOnce.{peeks, runs_on, six_steps, waits_idly, one_wait, always_fails, never_gets, never_looks, one_call, loses_by_chance, a_look_and_chance, opens_at_nothing, replaces, two_closures, sticks, sticks_silently, one_failure, gets_early, get_beside_a_closure, polls_early, poll_beside_a_closure, tells_another, places_another, one_closure, hesitates, a_failure_beside_a_call};
 
-/// A second closure whose value replaces the first one, though no closure that completes has stored it.
+/// A second closure whose value replaces the first value. Its call makes no plain step, so this closure has not
+/// completed.
 pub fn a_second_closure_does_not_run<V: Copy>()
     ensures { (u v : V) → (u ≡ v → ⊥) → KeepsAll (replaces V) 1 (two_closures u v) → ⊥ }
 {}
 
 /// A closure that fails and leaves the word at running. The answer says that the closure has failed, but its call has
-/// not made that plain step.
+/// not made the plain step of a failure.
 pub fn a_failure_lets_go<V: Copy>()
     ensures { KeepsAll (sticks V) 1 one_failure → ⊥ }
 {}

@@ -12,16 +12,15 @@ pub fn an_upgrade_is_refused_beside_readers<V: Copy>()
     ensures { (value : V) → KeepsAll (upgrades_at_once value) 2 upgrade_beside_a_reader → ⊥ }
 {}
 
-/// An `upgrade` that asks and succeeds in one event while another party reads, and one that asks twice. The plain step
-/// of the first is open only to a party that has asked before. The second plain step of the other is open only to a
-/// party that has not.
+/// An `upgrade` that asks and succeeds in one event while another party reads: its plain step is not open to a party
+/// that has not asked. Also an `upgrade` that asks twice: its second plain step is not open to a party that has asked.
 pub fn an_upgrade_asks_once<V: Copy>()
     ensures unasked { (value : V) → KeepsAll (upgrades_unasked value) 2 ask_beside_a_reader → ⊥ }
     ensures twice { (value : V) → KeepsAll (asks_twice value) 1 two_steps_of_an_upgrade → ⊥ }
 {}
 
 /// An `upgrade` that tries again and again without asking. Alone it succeeds, but by other plain steps than an upgrade
-/// makes. Beside a reader its first step has to ask, and does not.
+/// makes. Beside a reader its first step should ask, and does not.
 pub fn an_upgrade_asks<V: Copy>()
     ensures alone { (value : V) → KeepsAll (upgrades_plainly value) 1 upgrade_alone → ⊥ }
     ensures beside { (value : V) → CountsAll (upgrades_plainly value) 2 ask_beside_a_reader → ⊥ }
@@ -124,12 +123,12 @@ pub fn a_write_asks_to_write<V: Copy>()
     ensures unknown { (value : V) → Stepwise (never_writes value) → ⊥ }
 {}
 
-/// A lock that has a writer at first.
+/// A lock whose word says at first that somebody writes, though no party does.
 pub fn a_lock_opens_free<V: Copy>()
     ensures { (value : V) → KeepsAll (opens_written value) 1 [] → ⊥ }
 {}
 
-/// A lock without the value given to it, one that nobody owns, and one that admits fewer parties than its cap.
+/// A lock without the value given to it, one that nobody owns, and one that admits fewer parties than asked for.
 pub fn a_lock_is_as_it_was_made<V: Copy>()
     ensures value { (value : V) → IsRw value 9 (forgets_its_value value) → ⊥ }
     ensures owner { (value : V) → IsRw value 9 (has_no_owner value) → ⊥ }

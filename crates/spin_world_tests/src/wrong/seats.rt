@@ -52,7 +52,7 @@ pub fn an_enter_waits()
     ensures { IsSeats 2 enters_or_not → ⊥ }
 {}
 
-/// A lock with a seat taken at first.
+/// A lock whose word says at first that a seat is taken, though no party has a seat.
 pub fn all_seats_are_free_at_first()
     ensures { KeepsAll opens_taken 1 [] → ⊥ }
 {}
@@ -72,8 +72,8 @@ pub fn a_count_tells_the_seated_parties()
     ensures { MomentsAll counts_free 1 count_alone → ⊥ }
 {}
 
-/// An `enter` that looks again and again, and a kind of lock with a thousand undisturbed steps. No kind may have more
-/// than four.
+/// An `enter` that looks again and again, and promises its answer in a thousand undisturbed steps. No call may take
+/// more than four.
 pub fn a_kind_of_lock_has_four_steps()
     ensures { CountsAll looks_on 1 enter_in_vain → ⊥ }
 {}

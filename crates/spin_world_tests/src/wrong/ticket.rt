@@ -7,7 +7,7 @@ ghost use Rattle.spin_world.specs.Ticket.{IsTicketLock};
 ghost use Rattle.spin_world.specs.Turns.{TriesByTwoLoads};
 ghost use Rattle.spin_world_tests.specs.WrongTicket.{tries_by_one_load, one_load, swaps_its_loads, let_go_between, looks_in_vain, three_loads, looks_backwards, look_beside_a_queue, queues_behind_nobody, lock_beside_a_holder, never_enters, lock_alone, enters_by_look, two_queue, never_tries, try_alone, looks_at_both, locks_again, tries_by_looking, takes_by_chance, try_in_vain, lock_in_vain, opens_with_a_ticket, leaves_the_last_ticket};
 
-/// A ticket lock with a ticket in its queue at first.
+/// A ticket lock whose words say at first that a ticket is in the queue, though no party has a ticket.
 pub fn a_ticket_lock_opens_empty<V: Copy>()
     ensures { (value : V) → KeepsAll (opens_with_a_ticket value) 1 [] → ⊥ }
 {}
@@ -38,7 +38,7 @@ pub fn a_lock_enters<V: Copy>()
     ensures { (value : V) → CountsAll (never_enters value) 1 lock_alone → ⊥ }
 {}
 
-/// A `lock` that enters by its first look, though another party has an earlier ticket. This plain step is not open.
+/// A `lock` that enters by its first look, though another party has an earlier ticket. Its plain step is not open.
 pub fn tickets_enter_in_the_order_they_are_taken<V: Copy>()
     ensures { (value : V) → KeepsAll (enters_by_look value) 3 two_queue → ⊥ }
 {}

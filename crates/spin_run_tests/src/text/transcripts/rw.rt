@@ -258,7 +258,7 @@ pub const RW: &[Worked] = &[
          end: 16 value 1\n\
         ",
     ),
-    // Line 12: a party asks to upgrade by no exchange, so this step cannot fail spuriously.
+    // Line 12: a party asks to upgrade by an addition, so this step cannot fail spuriously.
     (
         "a conversion keeps the value",
         "rw 1 9 2\n\

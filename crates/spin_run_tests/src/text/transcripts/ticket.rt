@@ -32,7 +32,7 @@ pub const TICKET: &[Worked] = &[
          end: 1 1 value 6\n\
         ",
     ),
-    // Lines 8 and 9: each call finds that another party was faster, and takes the next number.
+    // Lines 8 and 9: each call finds that another party was faster, and then tries the next number.
     (
         "tickets enter in the order in which they are taken",
         "ticket 5 7 3\n\

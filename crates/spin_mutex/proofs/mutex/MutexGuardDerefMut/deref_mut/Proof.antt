@@ -98,7 +98,8 @@ deref_mut_spec {M} 𝓤 𝓛 𝓜 𝓡 wired T S LT LS =
     let m' : MutBor P.Denot = record { ref_ptr = (b, o + 0); ghost_name = δ; now = h.inner } in
     let yc : C.Ghost = ((κs', qs', (bounds.0, (bounds.1.0, (⊑_static κ, (⊑_static κ, (bounds.1.1.0, (bounds.1.1.1.0, tt)))))), (m', tt), (vptr b (o + 0) ∷ [], tt)), tt) in
     move ! (3 ∷ 0 ∷ []) $ feq_i ! (List Val) (mut_vals m') (mut_vals m') refl $ fjoin3 ! $ nothing ! $ move ! (1 ∷ 0 ∷ []) $ fjoin ! $
-    -- context: [the argument; κ; what follows; β; τ; u; T lives; S lives; ..]: the lifetime of the values is asked for the key and for the second word too
+    -- context: [the argument; κ; what follows; β; τ; u; T lives; S lives; ..]
+    -- The key and the second word need the lifetime of the values too.
     move ! (4 ∷ []) $ use1 𝓛 (‵ here ⊛ ‵ rest) (𝓛.lfts.lft_split life part) $ split ! $ move ! (1 ∷ []) $ use1 𝓛 (‵ its_key ⊛ ‵ its_second) (𝓛.lfts.lft_split life (other part)) $ split ! $
     nothing ! $ move ! (2 ∷ 0 ∷ []) $ fjoin ! $ move ! (1 ∷ 0 ∷ []) $ fjoin ! $ move ! (6 ∷ 0 ∷ []) $ fjoin ! $ use0 𝓛 (‵ σ) (𝓛.lfts.lft-nil full_share) $ fjoin ! $ use0 𝓛 (‵ σ) (𝓛.lfts.lft-nil full_share) $ fjoin ! $
     move ! (1 ∷ 0 ∷ []) $ fjoin ! $ move ! (4 ∷ 0 ∷ []) $ fjoin ! $ move ! (2 ∷ 0 ∷ []) $ fjoin ! $ join ! $

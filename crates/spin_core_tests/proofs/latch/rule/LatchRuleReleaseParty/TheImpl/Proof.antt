@@ -1,4 +1,4 @@
--- `LatchRule` implements `Release` as its trait asks, by `released`.
+-- `LatchRule` meets the contract of `Release`. The lemma `released` proves that.
 use Rattle.std.proofs.Common.{[], ◌∷◌, refl}
 use mir.Syntax.{a_type, method}
 use contract.Running.{within}
