@@ -6,7 +6,7 @@ use seplogic.Ra.Ura.{Ura}
 use base.Share
 use base.Fraction.{full_share}
 use base.Stored.{Gv}
-use base.Logic.{upd_i, apply∗, never_e, id⊢}
+use base.Logic.{apply∗, never_e, id⊢}
 use base.Fml.{Lft, Share, Incl, Incl-refl, Incl-trans, Fml, ftrue, ffalse, fsep, fseps, fex, fwand, fupd, fdead, fobs, fbor, flft, finv}
 use base.Before.{before}
 use contract.BorrowLft.{meet_⊑_left, meet_⊑_right, ⊑_meet}
@@ -30,7 +30,7 @@ use Rattle.spin_core.specs.Cell.{Use, off, reads, writes, Way, fixes, Fixes, See
 use Rattle.spin_core.specs.CellMemory.{offset, Known, Id, round_code, tag, Part, piece, reader, shown, named, tracked, right, stand, inner, kept, permit_owns, permit_shares, reader_shares, writer_at, writer_owns, writer_shares}
 use Rattle.spin_core.proofs.CellParts.{piece_in, piece_cut}
 use Rattle.spin_core.proofs.Signs.{signs}
-use Rattle.spin_core.proofs.Lemmas.{script, cite, having}
+use Rattle.spin_core.proofs.Lemmas.{script, cite, settled, having}
 
 -- ---- what is shared may be copied, and may be shared for less time
 module _ (Y R : RattleType) {V : Type 0} (c : V → Gv) (S : RattleType) (holds : ℕ → S.Denot → List V → Type 0) (ways : Ways R.Denot V S.Denot)
@@ -72,7 +72,7 @@ module _ {M : Type 1} {𝓤 : Ura M} (𝓛 : Logic 𝓤) where
 
     again : (ν : Lft) (t : Id) → raw (⟦ Tr t ⟧ -∗ ⟦ P ⟧) ⊩ ‵ (fwand (fsep (fdead ν) (fseps (Ob t ∷ fbor t.life (N t) ∷ []))) (fupd P))
     unfolding fseps
-    again ν t = script ∵ assume ! (‵ (fsep (fdead ν) (fsep (Ob t) (fsep (fbor t.life (N t)) ftrue)))) $ suffices ! ⟦ P ⟧ (upd_i 𝓤 ⟦ P ⟧) $
+    again ν t = script ∵ assume ! (‵ (fsep (fdead ν) (fsep (Ob t) (fsep (fbor t.life (N t)) ftrue)))) $ settled ! ⟦ P ⟧ $
         fsplit ! $ drop ! $ fsplit3 ! $ fjoin ! $ keep ! (0 ∷ 2 ∷ []) $ by ! (apply∗ 𝓤 ⟦ Tr t ⟧ ⟦ P ⟧)
 
     pub Lends-at : ‵ P ⊩ some Gives → (ν : Lft) → Incl ν β → (q : Share) → ‵ (fbor ν P) ⊛ ‵ (flft ν q) ⊩ later (‵ (fbor ν At) ⊛ ‵ (flft ν q))
@@ -158,7 +158,7 @@ module _ {M : Type 1} {𝓤 : Ura M} (𝓛 : Logic 𝓤) where
             → ‵ (before β t.life) ⊛ ‵ (finv (Inv b o t)) ⊛ ‵ (stand R b o t c view) ⊛ ‵ (tag t.round e (round_code R (a, x))) ⊛ ‵ (V' (a ∷ t.life)) ⊩ ‵ (fwand (fsep (fdead ν) (fseps (flft (a ∷ []) e ∷ []))) (fupd P))
         unfolding fseps
         reads_again k t a e n = script ∵ assume ! (‵ (fsep (fdead ν) (fsep (flft (a ∷ []) e) ftrue))) $
-            suffices ! ⟦ P ⟧ (upd_i 𝓤 ⟦ P ⟧) $ fsplit3 ! $ move ! (1 ∷ 6 ∷ []) $ fjoin ! $ cite _ (piece_in 𝓛 R t.round ways.0 (a, x) e n) $ move ! (0 ∷ 6 ∷ []) $ fjoin ! $
+            settled ! ⟦ P ⟧ $ fsplit3 ! $ move ! (1 ∷ 6 ∷ []) $ fjoin ! $ cite _ (piece_in 𝓛 R t.round ways.0 (a, x) e n) $ move ! (0 ∷ 6 ∷ []) $ fjoin ! $
             fpack ! ℕ (λ u. fsep (piece R ways.0 t.round (u, x)) (V' (u ∷ t.life))) a $ move ! (5 ∷ 0 ∷ []) $ fjoin ! $ move ! (3 ∷ 4 ∷ []) $ fjoin ! $ fjoin ! $
             fpack ! Id (owned_at reads (Some x)) t $ fpack ! Knows (λ _. fex Id (owned_at reads (Some x))) k $ keep ! (0 ∷ []) $ done !
 

@@ -9,20 +9,20 @@ use base.Fraction.{full_share}
 use base.FractionLaws.{Counts, counts_some, Counts-op, Counts-all, not-OpDef-full_share}
 use base.Stored.{Gv, coded×, coded_ℕ}
 use base.SetCodes.{coded, SetCoded-set}
-use base.Logic.{SProp, guard, upd, guard_i, id⊢, via, snd∗}
+use base.Logic.{SProp, guard, guard_i, id⊢, via, snd∗}
 use base.Fml.{GName, Share, Fml, fex, flft}
 use types.Logic.{Logic}
-use types.Kit.{‵, ◌⊛◌, given, ◌$◌, ◌∵◌, !, by, move, split, fsplit, fjoin, fpick, fpack, learn, check, use1, use2, done, raw}
+use types.Kit.{‵, ◌⊛◌, given, ◌$◌, ◌∵◌, !, by, move, split, fsplit, fjoin, fpick, fpack, learn, check, use1, use2, done}
 use types.Owned.{own_sum, own_join, own_step}
 use denote.RattleType.{RattleType}
 use Rattle.atomic_table.specs.Seated.{halved, itself}
 use Rattle.spin_core.specs.Cell.{Way, fixes}
 use Rattle.spin_core.specs.CellMemory.{Round, round_code, tag, share, parts, Part, piece}
 use Rattle.spin_core.proofs.Signs.{signs}
-use Rattle.spin_core.proofs.Lemmas.{script, lemma, cite}
+use Rattle.spin_core.proofs.Lemmas.{script, lemma, update, cite}
 
 module _ {M : Type 1} {𝓤 : Ura M} (𝓛 : Logic 𝓤) (R : RattleType) (γ : GName) where
-  open (signs 𝓛) use {◌⊩◌, ◌⊢◌, ◌∗◌, ⟦◌⟧}
+  open (signs 𝓛) use {◌⊩◌, ◌⊫◌, ◌⊢◌, ◌∗◌, ⟦◌⟧}
 
   sum : (g : Gv) (r e f : Share) → r ∈ Share.op e f → ◌∈◌ {α = Share × Gv} (r, g) (halved.op (e, g) (f, g))
   sum g r e f m = Prod.mk-mem-op Share.op (Ag.op (SetCoded-set (coded itself))) {a = e} {a' = f} {x = r} {b = g} {b' = g} {y = g} m (Ag.idem (SetCoded-set (coded itself)) g)
@@ -100,5 +100,5 @@ module _ {M : Type 1} {𝓤 : Ura M} (𝓛 : Logic 𝓤) (R : RattleType) (γ : 
       cite _ (halved_share s e) $ cite _ (piece_in way s (Share.left e) known) $ move ! (1 ∷ []) $
       cite _ (piece_in way s (Share.right e) known) $ done !))
 
-  pub renames : (g h : Gv) → ‵ (tag γ full_share g) ⊩ raw (upd 𝓤 ⟦ tag γ full_share h ⟧)
-  renames g h = lemma (own_step 𝓛 halved γ (full_share, g) (full_share, h) (λ f d. absurd (not-OpDef-full_share f.0 d.0)))
+  pub renames : (g h : Gv) → ‵ (tag γ full_share g) ⊫ ‵ (tag γ full_share h)
+  renames g h = update (own_step 𝓛 halved γ (full_share, g) (full_share, h) (λ f d. absurd (not-OpDef-full_share f.0 d.0)))

@@ -2,7 +2,7 @@
 use Rattle.std.proofs.Common.{ℕ, zero, suc, ◌+◌, ◌-◌, ◌^◌, ◌<◌, Bool, false, [], ◌∷◌, ◌++◌, Option, Some, None}
 use seplogic.Ra.Ura.{Ura}
 use base.Fraction.{full_share}
-use base.Logic.{via, upd, upd_i, upd_mono}
+use base.Logic.{via, upd, upd_mono}
 use base.FractionLaws.{Counts-all}
 use base.Fml.{Lft, Share, Incl, Incl-trans, Fml, ffalse, fsep, fex, fbor, flft, fdead, fobs}
 use contract.BorrowLft.{meet_⊑_left, meet_⊑_right, ⊑_meet}
@@ -14,14 +14,14 @@ use denote.RattleType.{RattleType}
 use denote.Memory.{part_at, mem}
 use denote.Shares.{Shares, settles}
 use Rattle.spin_core.specs.Cell.{Use, writes, Way, lends, fixes, Fixed}
-use Rattle.spin_core.specs.CellMemory.{Id, idle, tag, round_code, share, parts, remains, resting, offset, shown, named, tracked, waits, shared, right}
+use Rattle.spin_core.specs.CellMemory.{Id, idle, round_code, share, parts, remains, resting, offset, shown, named, tracked, waits, shared, right}
 use Rattle.spin_core.proofs.CellParts.{parts_in, parts_but, piece_in, renames}
 use Rattle.spin_core.proofs.Signs.{signs}
-use Rattle.spin_core.proofs.Lemmas.{script, lemma, cite}
+use Rattle.spin_core.proofs.Lemmas.{script, lemma, update, cite, updates, renew, settled}
 
 module _ {M : Type 1} {𝓤 : Ura M} (𝓛 : Logic 𝓤) (R : RattleType) (b o : ℕ) (t : Id) where
   open 𝓛 use {H, A}
-  open (signs 𝓛) use {◌⊩◌, ◌⊢◌, ◌∗◌, ⟦◌⟧}
+  open (signs 𝓛) use {◌⊩◌, ◌⊫◌, ◌⊢◌, ◌∗◌, ⟦◌⟧}
 
   abbrev α : Lft
   α = t.life
@@ -66,13 +66,13 @@ module _ {M : Type 1} {𝓤 : Ura M} (𝓛 : Logic 𝓤) (R : RattleType) (b o :
   abbrev pub whole : R.Denot → Fml
   whole x = fex ℕ (λ a. fsep (share R t.round (a, x) full_share) (shared R b o t (a, x)))
 
-  renews : (x : R.Denot) → ‵ (idle t.round) ⊛ ‵ (fex ℕ (begun x)) ⊩ raw (upd 𝓤 ⟦ whole x ⟧)
-  renews x = let γ : ℕ = t.round in script ∵ fpick ! (λ g. move ! (1 ∷ []) $ fpick ! (λ a. fsplit ! $ move ! (2 ∷ []) $
-      cite _ (renames 𝓛 R γ g (round_code R (a, x))) $ settle 𝓛 ⟦ whole x ⟧ (‵ (tag γ full_share (round_code R (a, x)))) $ suffices ! ⟦ whole x ⟧ (upd_i 𝓤 ⟦ whole x ⟧) $
+  renews : (x : R.Denot) → ‵ (idle t.round) ⊛ ‵ (fex ℕ (begun x)) ⊫ ‵ (whole x)
+  renews x = let γ : ℕ = t.round in updates ∵ fpick ! (λ g. move ! (1 ∷ []) $ fpick ! (λ a. fsplit ! $ move ! (2 ∷ []) $
+      renew (‵ (whole x)) _ (renames 𝓛 R γ g (round_code R (a, x))) $ settled ! _ $
       move ! (1 ∷ 0 ∷ []) $ fjoin ! $ fjoin ! $ fpack ! ℕ (λ c. fsep (share R γ (c, x) full_share) (shared R b o t (c, x))) a $ done !))
 
-  pub renewed : (x : R.Denot) (F : Fml) → ‵ (whole x) ⊩ ‵ F → ‵ (idle t.round) ⊛ ‵ (fex ℕ (begun x)) ⊩ raw (upd 𝓤 ⟦ F ⟧)
-  renewed x F to = lemma (via 𝓤 (upd 𝓤 ⟦ whole x ⟧) (renews x).prf (upd_mono 𝓤 {P = ⟦ whole x ⟧} {Q = ⟦ F ⟧} to.prf))
+  pub renewed : (x : R.Denot) (F : Fml) → ‵ (whole x) ⊩ ‵ F → ‵ (idle t.round) ⊛ ‵ (fex ℕ (begun x)) ⊫ ‵ F
+  renewed x F to = update (via 𝓤 (upd 𝓤 ⟦ whole x ⟧) (renews x).prf (upd_mono 𝓤 {P = ⟦ whole x ⟧} {Q = ⟦ F ⟧} to.prf))
 
   -- a whole round is the state of the value with r readers, whose parts are put aside
   pub rests_lent : (r : ℕ) (x : R.Denot) → r < 2 ^ 63 → ‵ (whole x) ⊩ ‵ (resting R b o t lends r x)

@@ -4,10 +4,10 @@ use Rattle.std.proofs.Common.{◌≡◌, ◌≢◌, ℕ, suc, ◌+◌, ◌-◌, 
 use seplogic.Ra.Ura.{Ura}
 use base.Fraction.{full_share}
 use base.Stored.{Gv}
-use base.Logic.{SProp, upd, upd_i, via, id⊢, never_e, snd∗}
+use base.Logic.{via, id⊢, never_e, snd∗}
 use base.Fml.{Lft, Fml, ftrue, ffalse, fsep, fex}
 use types.Logic.{Logic}
-use types.Kit.{‵, raw, ◌⊛◌, given, ◌$◌, ◌∵◌, !, by, move, keep, drop, split, fsplit, fsplit3, fjoin, fjoin3, fpick, fpack, learn, check, rewrite, settle, suffices, use1, done, Item}
+use types.Kit.{‵, ◌⊛◌, given, ◌$◌, ◌∵◌, !, by, move, keep, drop, split, fsplit, fsplit3, fjoin, fjoin3, fpick, fpack, learn, check, rewrite, use1, done, Item}
 use denote.RattleType.{RattleType, RowLaws}
 use denote.SharingLaws.{contraction}
 use denote.Steps.{nothing}
@@ -19,7 +19,7 @@ use Rattle.spin_core.proofs.CellParts.{parts_cut, parts_glue, parts_whole, parts
 use Rattle.spin_core.proofs.CellRounds.{begun, held, whole, renewed, rests_lent, rests_fixed}
 use Rattle.spin_core.proofs.Signs.{signs}
 use Rattle.spin_core.proofs.WalkSteps.{knows}
-use Rattle.spin_core.proofs.Lemmas.{script, lemma, cite}
+use Rattle.spin_core.proofs.Lemmas.{script, lemma, update, cite, updates, renew, settled}
 
 -- the number of readers with one more party, which uses the value in this way
 abbrev pub with_reader : Use → ℕ → ℕ
@@ -82,7 +82,7 @@ module _ {X : Type 0} where
     known_after u u' x turned owed had = grind arith
 
 module _ {M : Type 1} {𝓤 : Ura M} (𝓛 : Logic 𝓤) (R : RattleType) (L : RowLaws R) (b o : ℕ) (t : Id) where
-  open (signs 𝓛) use {◌⊩◌, ◌⊢◌, ◌∗◌, ⟦◌⟧}
+  open (signs 𝓛) use {◌⊩◌, ◌⊫◌, ◌⊢◌, ◌∗◌, ⟦◌⟧}
 
   abbrev X : Type 0
   X = R.Denot
@@ -110,10 +110,13 @@ module _ {M : Type 1} {𝓤 : Ura M} (𝓛 : Logic 𝓤) (R : RattleType) (L : R
   seen_on facts r s = fsep (remains R facts γ s r) (shared R b o t s)
 
   -- a party that uses the value is shown one
-  nobody : (u : Use) (way : Way X) (P : Fml) (k : Item 𝓤) → u ≢ off → ‵ P ⊛ ‵ (Held u way None) ⊩ k
+  never : (P : Fml) (k : Item 𝓤) → ‵ P ⊛ ‵ ffalse ⊫ k
+  never P k = update (via 𝓤 _ (snd∗ 𝓤 ⟦ P ⟧ ⟦ ffalse ⟧) (never_e 𝓤 _))
+
+  nobody : (u : Use) (way : Way X) (P : Fml) (k : Item 𝓤) → u ≢ off → ‵ P ⊛ ‵ (Held u way None) ⊫ k
   nobody off way P k on = absurd (on refl)
-  nobody writes alone P k on = lemma (via 𝓤 _ (snd∗ 𝓤 ⟦ P ⟧ ⟦ ffalse ⟧) (never_e 𝓤 _))
-  nobody _ _ P k on = lemma (via 𝓤 _ (snd∗ 𝓤 ⟦ P ⟧ ⟦ ffalse ⟧) (never_e 𝓤 _))
+  nobody writes alone P k on = never P k
+  nobody _ _ P k on = never P k
 
   lies : (way : Way X) (φ : X → Type 0) (r : ℕ) (x : X) → φ x → ‵ (Rest way r x) ⊩ ‵ (St way φ r 0)
   lies way φ r x known =
@@ -134,7 +137,7 @@ module _ {M : Type 1} {𝓤 : Ura M} (𝓛 : Logic 𝓤) (R : RattleType) (L : R
 
     -- a writer gives back a whole round
     gave_whole : (way : Way X) (u' : Use) (x : X) → ‵ (whole 𝓛 R b o t x) ⊩ ‵ (Rest way (room way u' r) x)
-        → ‵ (idle γ) ⊛ ‵ (fex ℕ (begun 𝓛 R b o t x)) ⊩ raw (upd 𝓤 ⟦ Given way writes u' (Some x) ⟧)
+        → ‵ (idle γ) ⊛ ‵ (fex ℕ (begun 𝓛 R b o t x)) ⊫ ‵ (Given way writes u' (Some x))
     gave_whole way u' x to =
         renewed 𝓛 R b o t x (Given way writes u' (Some x)) (script ∵ cite _ to $ cite _ (gave way writes u' (Some x) x refl tt) $ done !)
 
@@ -161,7 +164,7 @@ module _ {M : Type 1} {𝓤 : Ura M} (𝓛 : Logic 𝓤) (R : RattleType) (L : R
         keep ! (0 ∷ []) $ by ! (gave way reads reads (Some x) x refl (subst (λ (z : Round R). φ z.1) same known)).prf)))))
 
     abbrev Gives : Way X → Use → Use → Option X → Type 1
-    Gives way u u' v = ‵ (St way φ (with_reader u r) (with_writer u 0)) ⊛ ‵ (Held u way v) ⊩ raw (upd 𝓤 ⟦ Given way u u' v ⟧)
+    Gives way u u' v = ‵ (St way φ (with_reader u r) (with_writer u 0)) ⊛ ‵ (Held u way v) ⊫ ‵ (Given way u u' v)
 
   has_room : (way : Way X) (u' : Use) (v : Option X) (r : ℕ) (x : X) (A : Type 0) → Going way off u' v r A → ‵ (Rest way r x) ⊩ ‵ (Rest way (room way u' r) x)
   has_room (fixes facts) reads v zero x A going = absurd (omega (arith, going.1))
@@ -170,19 +173,17 @@ module _ {M : Type 1} {𝓤 : Ura M} (𝓛 : Logic 𝓤) (R : RattleType) (L : R
 
   gives : (φ : X → Type 0) (way : Way X) (r : ℕ) (u u' : Use) (v : Option X) (A : Type 0) → (u ≡ writes → u' ≢ writes) → Lim way r 0 u
       → Going way u u' v (with_reader u r) A → Gives φ r way u u' v
-  gives φ way r off u' (Some x) A turned lim going = lemma (via 𝓤 _ (snd∗ 𝓤 ⟦ St way φ r 0 ⟧ ⟦ ffalse ⟧) (never_e 𝓤 _))
-  gives φ way r off u' None A turned lim going = let Z : SProp 𝓤 = ⟦ Given φ r way off u' None ⟧ in
-      script ∵ suffices ! Z (upd_i 𝓤 Z) $ fpick ! (λ x. fpick ! (λ known.
+  gives φ way r off u' (Some x) A turned lim going = never (St way φ r 0) _
+  gives φ way r off u' None A turned lim going = updates ∵ settled ! _ $ fpick ! (λ x. fpick ! (λ known.
       cite _ (has_room way u' None r x A going) $ keep ! (0 ∷ []) $ by ! (gave φ r way off u' None x refl known).prf))
   gives φ way r u u' None A turned lim going = nobody u way (St way φ (with_reader u r) (with_writer u 0)) _ (λ e. absurd cc)
   gives φ alone r reads u' (Some x) A turned lim going = absurd (omega arith)
-  gives φ alone r writes u' (Some x) A turned lim going = let Z : SProp 𝓤 = ⟦ Given φ r alone writes u' (Some x) ⟧ in
-      script ∵ suffices ! Z (upd_i 𝓤 Z) $ drop ! $ by ! (gave φ r alone writes u' (Some x) x refl tt).prf
+  gives φ alone r writes u' (Some x) A turned lim going = updates ∵ settled ! _ $ drop ! $ by ! (gave φ r alone writes u' (Some x) x refl tt).prf
   gives φ lends r reads u' (Some x) A turned lim going =
-      lemma (via 𝓤 _ (gave_part φ r u' x (omega arith)).prf (upd_i 𝓤 ⟦ Given φ r lends reads u' (Some x) ⟧))
+      updates ∵ settled ! _ $ by ! (gave_part φ r u' x (omega arith)).prf
   gives φ lends r writes u' (Some x) A turned lim going = gave_whole φ r lends u' x (rests_lent 𝓛 R b o t r x (omega arith))
   gives φ (fixes facts) r reads reads (Some x) A turned lim going =
-      lemma (via 𝓤 _ (gave_piece φ r facts x).prf (upd_i 𝓤 ⟦ Given φ r (fixes facts) reads reads (Some x) ⟧))
+      updates ∵ settled ! _ $ by ! (gave_piece φ r facts x).prf
   gives φ (fixes facts) r reads u' (Some x) A turned lim going = absurd (let e : u' ≡ reads = going.0 refl in cc)
   gives φ (fixes facts) r writes off (Some x) A turned lim going = let none : r ≡ 0 = lim.1 (omega arith) in
       gave_whole φ r (fixes facts) off x (rests_fixed 𝓛 R b o t facts r x (rw none going.1))
@@ -253,7 +254,7 @@ module _ {M : Type 1} {𝓤 : Ura M} (𝓛 : Logic 𝓤) (R : RattleType) (L : R
   module _ (φ ψ : X → Type 0) (way : Way X) (r : ℕ) where
     abbrev Turns : ℕ → Use → Use → Option X → Type 1
     Turns w u u' v = Lim way r w u → Going way u u' v (with_reader u r) (Lim way r w u') → Carries φ ψ u u' v
-        → ‵ (St way φ (with_reader u r) (with_writer u w)) ⊛ ‵ (Held u way v) ⊩ raw (upd 𝓤 (⟦ St way ψ (with_reader u' r) (with_writer u' w) ⟧ ∗ ⟦ Got way ψ u u' v ⟧))
+        → ‵ (St way φ (with_reader u r) (with_writer u w)) ⊛ ‵ (Held u way v) ⊫ ‵ (St way ψ (with_reader u' r) (with_writer u' w)) ⊛ ‵ (Got way ψ u u' v)
 
     -- if nobody else writes, the party gives back what it had, and takes what it may use next
     passes : (u u' : Use) (v : Option X) → (u ≡ writes → u' ≢ writes) → Turns 0 u u' v
@@ -261,23 +262,20 @@ module _ {M : Type 1} {𝓤 : Ura M} (𝓛 : Logic 𝓤) (R : RattleType) (L : R
         let Before : Fml = St way φ (with_reader u r) (with_writer u 0) in let After : Fml = St way ψ (with_reader u' r) (with_writer u' 0) in
         let Gave : Fml = Given φ r way u u' v in let Now : X → Fml = λ x. Held u' way (shown_to u' x) in
         let So : Option X → X → Type 0 = λ z x. Preserves way u u' z (shown_to u' x) × Learns ψ u u' z (shown_to u' x) in
-        let Z : SProp 𝓤 = ⟦ After ⟧ ∗ ⟦ Got way ψ u u' v ⟧ in script ∵
-        cite _ (gives φ way r u u' v (Lim way r 0 u') turned lim going) $ settle 𝓛 Z (‵ Gave) $
-        suffices ! Z (upd_i 𝓤 Z) $ fpick ! (λ x. fpick ! (λ had.
+        updates ∵ renew (‵ After ⊛ ‵ (Got way ψ u u' v)) _ (gives φ way r u u' v (Lim way r 0 u') turned lim going) $ settled ! _ $ fpick ! (λ x. fpick ! (λ had.
         let known : ψ x = known_after φ ψ u u' x turned (subst (Carries φ ψ u u') had.0 owed) had.1 in
         cite _ (takes ψ way r u' x known (going_rest way u u' v (with_reader u r) going)) $ learn ! (λ finds.
         let so : So v x = rw had.0 ((shows u u' x, finds_so way u u' x finds), learns φ ψ u u' x known) in
         split ! $ move ! (1 ∷ []) $ cite _ (got_in way ψ u u' v (shown_to u' x) so) $ move ! (1 ∷ 0 ∷ []) $ done !)))
 
     -- a party that keeps its use keeps what it has
-    stays : (u : Use) (P : Fml) (v : Option X) → Preserves way u u v v × Learns ψ u u v v → ‵ P ⊛ ‵ (Held u way v) ⊩ raw (upd 𝓤 (⟦ P ⟧ ∗ ⟦ Got way ψ u u v ⟧))
-    stays u P v so = let Z : SProp 𝓤 = ⟦ P ⟧ ∗ ⟦ Got way ψ u u v ⟧ in script ∵
-        suffices ! Z (upd_i 𝓤 Z) $ move ! (1 ∷ []) $ cite _ (got_in way ψ u u v v so) $ move ! (1 ∷ 0 ∷ []) $ done !
+    stays : (u : Use) (P : Fml) (v : Option X) → Preserves way u u v v × Learns ψ u u v v → ‵ P ⊛ ‵ (Held u way v) ⊫ ‵ P ⊛ ‵ (Got way ψ u u v)
+    stays u P v so = updates ∵ settled ! _ $ move ! (1 ∷ []) $ cite _ (got_in way ψ u u v v so) $ move ! (1 ∷ 0 ∷ []) $ done !
 
     pub turns : (w : ℕ) (u u' : Use) (v : Option X) → Turns w u u' v
     turns w writes writes None lim going owed = nobody writes way (St way φ r (suc w)) _ (λ e. absurd cc)
     turns w writes writes (Some x) lim going owed = stays writes (St way φ r (suc w)) (Some x) (writes_so way x, tt)
-    turns (suc w) off off (Some x) lim going owed = lemma (via 𝓤 _ (snd∗ 𝓤 ⟦ St way φ r (suc w) ⟧ ⟦ ffalse ⟧) (never_e 𝓤 _))
+    turns (suc w) off off (Some x) lim going owed = never (St way φ r (suc w)) _
     turns (suc w) off off None lim going owed = stays off (St way φ r (suc w)) None (rests_so way, tt)
     turns (suc w) off u' v lim going owed =
         absurd (let e = none_else u' way r (suc w) (λ e. absurd cc) (going_rest way off u' v r going) in omega (arith, e))

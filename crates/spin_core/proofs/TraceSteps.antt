@@ -5,7 +5,7 @@ use mathlib.Core.List.{IsPrefix, append-nil}
 use seplogic.Ra.Ura.{Ura}
 use base.Fraction.{full_share}
 use base.Stored.{Coded, Gv}
-use base.Logic.{emp, upd, via}
+use base.Logic.{emp, via}
 use base.Fml.{Lft, Share, Fml, ftrue, fbor}
 use base.Growing.{Least, latest, at_least, prefix_anti}
 use base.Shift.{Keyless}
@@ -22,7 +22,7 @@ use denote.Struct.Lending.{Lends}
 use Rattle.spin_core.proofs.TracePrefixes.{one_in_other, prefix_coded, prefix_uncoded}
 use Rattle.spin_core.specs.Logs.{logs, log_owns, log_part, log_shares, known_owns}
 use Rattle.spin_core.proofs.Signs.{signs}
-use Rattle.spin_core.proofs.Lemmas.{script, lemma, cite}
+use Rattle.spin_core.proofs.Lemmas.{script, lemma, update, cite}
 
 module _ {T : Type 0} (c : T → Gv) where
   pub log_keyless : (γ : ℕ) (l : List T) → Keyless (log_owns c γ l)
@@ -40,7 +40,7 @@ module _ {T : Type 0} (c : T → Gv) where
 
 module _ {M : Type 1} {𝓤 : Ura M} (𝓛 : Logic 𝓤) where
   open 𝓛 use {H, A}
-  open (signs 𝓛) use {◌⊩◌, ◌⊢◌, ◌∗◌, ⟦◌⟧}
+  open (signs 𝓛) use {◌⊩◌, ◌⊫◌, ◌⊢◌, ◌∗◌, ⟦◌⟧}
 
   module _ {T : Type 0} (cv : Coded T) where
     pub begins : raw (emp 𝓤) ⊩ later (some (λ (γ : ℕ). ‵ (log_owns cv.code γ [])))
@@ -58,9 +58,9 @@ module _ {M : Type 1} {𝓤 : Ura M} (𝓛 : Logic 𝓤) where
     abbrev Known : List T → Fml
     Known = known_owns cv.code γ
 
-    pub appends : (l es : List T) → ‵ (Log l) ⊩ raw (upd 𝓤 ⟦ Log (l ++ es) ⟧)
+    pub appends : (l es : List T) → ‵ (Log l) ⊫ ‵ (Log (l ++ es))
     unfolding log_owns
-    appends l es = lemma (latest_grows logs 𝓛 γ (map cv.code l) (map cv.code (l ++ es)) (prefix_coded cv l es))
+    appends l es = update (latest_grows logs 𝓛 γ (map cv.code l) (map cv.code (l ++ es)) (prefix_coded cv l es))
 
     -- what a reader has: some share of the right, and no more
     pub part_halves : (l : List T) → Halves 𝓤 H A (Right l)

@@ -5,7 +5,7 @@ use mir.Syntax.{Ty}
 use base.Share
 use base.Fraction.{full_share}
 use base.Stored.{Gv, gnum}
-use base.Logic.{SProp, ex, emp, all_e, upd, upd_i, via, apply∗, id⊢}
+use base.Logic.{SProp, ex, emp, all_e, via, apply∗, id⊢}
 use base.Fml.{Lft, GName, Share, Incl, Fml, ftrue, fsep, fseps, fex, fwand, fupd, fdead, fauth, fobs, fbor, flft, finv, Incl-refl, Incl-trans}
 use base.Before.{before}
 use contract.BorrowLft.{meet_⊑_left}
@@ -13,7 +13,7 @@ use ghost.Rules.{Toks, span}
 use types.Logic.{Logic, lfts}
 use types.SemTy.{Body}
 use types.Keyed.{entries_new}
-use types.Kit.{‵, raw, ◌⊛◌, some, given, learn, check, later, ◌$◌, ◌∵◌, !, by, move, keep, drop, use0, use1, use2, split, split3, join, fsplit, fsplit3, fjoin, fjoin3, fpick, fpack, pick, assume, suffices, await, group, updating, now, done, Item, mean}
+use types.Kit.{‵, raw, ◌⊛◌, some, given, learn, check, later, ◌$◌, ◌∵◌, !, by, move, keep, drop, use0, use1, use2, split, split3, join, fsplit, fsplit3, fjoin, fjoin3, fpick, fpack, pick, assume, await, group, updating, now, done, Item, mean}
 use types.Tokens.{bor_open, obor_alter, name_new, name_agree, one_token}
 use types.Na.{before-Incl}
 use types.Owned.{basic, own_new}
@@ -44,11 +44,11 @@ use Rattle.spin_core.proofs.CellRounds.{begun, held, readies, whole, renewed, re
 use Rattle.spin_core.proofs.cell.Cell.TheLaw.Statement.{statement}
 use Rattle.spin_core.proofs.Signs.{signs}
 use Rattle.spin_core.proofs.WalkSteps.{knows}
-use Rattle.spin_core.proofs.Lemmas.{script, lemma, cite}
+use Rattle.spin_core.proofs.Lemmas.{script, lemma, cite, updates, settled}
 
 module _ {M : Type 1} {𝓤 : Ura M} (𝓛 : Logic 𝓤) (m ms : Member) (V Y K : RattleType) (g : Ghosts Y.Denot (row_of m).Denot V.Denot K.Denot (row_of ms).Denot) (key : K.Denot) (L : Lawful 𝓛 (row_of m)) (LS : Lawful 𝓛 (row_of ms)) (b o : ℕ) (κ : Lft) where
   open 𝓛 use {H, A}
-  open (signs 𝓛) use {◌⊩◌, ◌⊢◌, ◌∗◌, ◌-∗◌, ⟦◌⟧}
+  open (signs 𝓛) use {◌⊩◌, ◌⊫◌, ◌⊢◌, ◌∗◌, ◌-∗◌, ⟦◌⟧}
 
   abbrev R : RattleType
   R = row_of m
@@ -129,7 +129,7 @@ module _ {M : Type 1} {𝓤 : Ura M} (𝓛 : Logic 𝓤) (m ms : Member) (V Y K 
   way_back : (ν : GName) → raw Back ⊩ ‵ (fwand (fsep (fdead κ) (fseps (Words ν ∷ Named ν ∷ []))) (fupd P))
   unfolding fseps
   way_back ν = let J : ℕ × S.Denot × R.Denot → SProp 𝓤 = λ s. (⟦ Both (s.0, s.1) ⟧ ∗ ⟦ Lies s.2 ⟧ ∗ ⟦ fact (Starting s) ⟧) -∗ ⟦ P ⟧ in
-      script ∵ assume ! (‵ (fsep (fdead κ) (fseps (Words ν ∷ Named ν ∷ [])))) $ suffices ! ⟦ P ⟧ (upd_i 𝓤 ⟦ P ⟧) $
+      script ∵ assume ! (‵ (fsep (fdead κ) (fseps (Words ν ∷ Named ν ∷ [])))) $ settled ! ⟦ P ⟧ $
       fsplit ! $ drop ! $ fsplit3 ! $ fpick ! (λ s. move ! (1 ∷ []) $ fpick ! (λ x. fsplit ! $ keep ! (2 ∷ 0 ∷ 1 ∷ 4 ∷ []) $ fsplit3 ! $ move ! (2 ∷ []) $ fpick ! (λ vs. fsplit ! $ fpick ! (λ meets. drop ! $ fpick ! (λ v.
       -- context: [what was found; the words; the value, under its name; the way back]
       let t : ℕ × S.Denot × R.Denot = (s.0, s.1, x) in move ! (0 ∷ 4 ∷ []) $ cite _ (starts ν s vs x v meets) $ move ! (1 ∷ 2 ∷ []) $ fjoin ! $ move ! (2 ∷ 1 ∷ []) $ join ! $ move ! (1 ∷ 0 ∷ []) $ join ! $ move ! (1 ∷ []) $
@@ -165,7 +165,7 @@ module _ {M : Type 1} {𝓤 : Ura M} (𝓛 : Logic 𝓤) (m ms : Member) (V Y K 
     Ready w x = held 𝓛 R b o t writes w (Some x)
 
     rests : (k : S.Denot) (w : Way R.Denot) (r : ℕ) (x : R.Denot) → φ k x → ‵ (whole 𝓛 R b o t x) ⊩ ‵ (resting R b o t w r x)
-        → ‵ (idle γ) ⊛ ‵ (fex ℕ (begun 𝓛 R b o t x)) ⊩ raw (upd 𝓤 ⟦ St w (φ k) r 0 ⟧)
+        → ‵ (idle γ) ⊛ ‵ (fex ℕ (begun 𝓛 R b o t x)) ⊫ ‵ (St w (φ k) r 0)
     rests k w r x known to = renewed 𝓛 R b o t x (St w (φ k) r 0) (script ∵
         cite _ to $ fpack ! (φ k x) (λ _. resting R b o t w r x) known $ fpack ! R.Denot (lying R b o t w (φ k) r) x $ done !)
 
@@ -174,12 +174,12 @@ module _ {M : Type 1} {𝓤 : Ura M} (𝓛 : Logic 𝓤) (m ms : Member) (V Y K 
     away k alone r (suc n) writer = script ∵ drop ! $ nothing ! $ done !
     away k _ r (suc n) writer = lemma (id⊢ 𝓤 _)
 
-    begins : (k : S.Denot) (w : Way R.Denot) (r n : ℕ) (x : R.Denot) → Limits w r n → Knowing ways.2 k n x (Fixed w r n x) → ‵ (idle γ) ⊛ ‵ (Ready w x) ⊩ raw (upd 𝓤 ⟦ St w (φ k) r n ⟧)
-    begins k alone r zero x lim known = script ∵ drop ! $ fpack ! (φ k x) (λ _. resting R b o t alone r x) (knowing_known ways.2 k x (Fixed alone r 0 x) known) $
-        fpack ! R.Denot (lying R b o t alone (φ k) r) x $ by ! (upd_i 𝓤 ⟦ St alone (φ k) r 0 ⟧)
+    begins : (k : S.Denot) (w : Way R.Denot) (r n : ℕ) (x : R.Denot) → Limits w r n → Knowing ways.2 k n x (Fixed w r n x) → ‵ (idle γ) ⊛ ‵ (Ready w x) ⊫ ‵ (St w (φ k) r n)
+    begins k alone r zero x lim known = updates ∵ settled ! _ $ drop ! $ fpack ! (φ k x) (λ _. resting R b o t alone r x) (knowing_known ways.2 k x (Fixed alone r 0 x) known) $
+        fpack ! R.Denot (lying R b o t alone (φ k) r) x $ done !
     begins k lends r zero x lim known = rests k lends r x (knowing_known ways.2 k x (Fixed lends r 0 x) known) (rests_lent 𝓛 R b o t r x (omega arith))
     begins k (fixes fact) r zero x lim known = rests k (fixes fact) r x (knowing_known ways.2 k x (Fixed (fixes fact) r 0 x) known) (rests_fixed 𝓛 R b o t fact r x (knowing_rest ways.2 k 0 x known))
-    begins k w r (suc n) x lim known = script ∵ keep ! (0 ∷ []) $ cite _ (away k w r (suc n) (omega arith)) $ by ! (upd_i 𝓤 ⟦ St w (φ k) r (suc n) ⟧)
+    begins k w r (suc n) x lim known = updates ∵ settled ! _ $ keep ! (0 ∷ []) $ by ! (away k w r (suc n) (omega arith)).prf
 
     -- ---- what is found of the value in each state
     named_at : (w : Way R.Denot) (r : ℕ) (x : R.Denot) → ‵ (resting R b o t w r x) ⊩ given (Fixed w r 0 x) (‵ (fobs ν (R.coded.code x)))
@@ -202,7 +202,7 @@ module _ {M : Type 1} {𝓤 : Ura M} (𝓛 : Logic 𝓤) (m ms : Member) (V Y K 
 
     words_back : raw (emp 𝓤) ⊩ ‵ (fwand (fsep (fdead κ) (fseps (I ∷ []))) (fupd (Words ν)))
     unfolding fseps
-    words_back = script ∵ assume ! (‵ (fsep (fdead κ) (fsep I ftrue))) $ suffices ! ⟦ Words ν ⟧ (upd_i 𝓤 ⟦ Words ν ⟧) $ fsplit3 ! $ keep ! (1 ∷ []) $ fpick ! (λ s. fsplit3 ! $ move ! (2 ∷ []) $
+    words_back = script ∵ assume ! (‵ (fsep (fdead κ) (fsep I ftrue))) $ settled ! ⟦ Words ν ⟧ $ fsplit3 ! $ keep ! (1 ∷ []) $ fpick ! (λ s. fsplit3 ! $ move ! (2 ∷ []) $
         fpick ! (λ vs. let r = read vs in let w = wrote vs in fsplit3 ! $ move ! (1 ∷ []) $ fpick ! (λ meets. drop ! $ drop ! $
         cite _ (finds s.1 way r w) $ knows ! (Met s vs) meets $ fjoin ! $ fpack ! (List V.Denot) (views_at ν s) vs $ move ! (1 ∷ 2 ∷ 0 ∷ []) $ fjoin3 ! $
         fpack ! (ℕ × S.Denot) (standing_at ν) s $ done !)))
