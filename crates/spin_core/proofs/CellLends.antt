@@ -1,18 +1,18 @@
 -- What a `&` to a permit owns: the value, as far as its reader or writer may lend it. Assumes `Logic`.
 --     Lends-tracked     the law of a party that tracks the value
 --     permit_laws, Lends-permit     the laws of a permit.        writer_laws, Lends-writer     the laws of a writer
-use Rattle.std.proofs.Common.{arith, ◌≡◌, ℕ, ◌+◌, true, List, [], ◌∷◌, ◌++◌, refl, sym, Option, Some, None}
+use Rattle.std.proofs.Common.{arith, ◌≡◌, ℕ, ◌+◌, List, [], ◌∷◌, ◌++◌, refl, sym, Option, Some, None}
 use seplogic.Ra.Ura.{Ura}
 use base.Share
 use base.Fraction.{full_share}
 use base.Stored.{Gv}
-use base.Logic.{SProp, ex, guard, upd_i, apply∗, never_e, id⊢}
+use base.Logic.{apply∗, never_e, id⊢}
 use base.Fml.{Lft, Share, Incl, Incl-refl, Incl-trans, Fml, ftrue, ffalse, fsep, fseps, fex, fwand, fupd, fdead, fobs, fbor, flft, finv}
 use base.Before.{before}
 use contract.BorrowLft.{meet_⊑_left, meet_⊑_right, ⊑_meet}
 use ghost.Rules.{span}
 use types.Logic.{Logic, lfts}
-use types.Kit.{‵, raw, ◌⊛◌, some, later, given, ◌$◌, ◌∵◌, !, qed, by, move, keep, drop, group, use1, use2, use3, split, split3, fsplit, fsplit3, fjoin, fjoin3, fpick, fpack, pick, show, check, rewrite, assume, suffices, learn, await, updating, now, done}
+use types.Kit.{‵, raw, ◌⊛◌, some, later, given, ◌$◌, ◌∵◌, !, qed, by, move, keep, drop, group, use1, use2, use3, split, split3, fsplit, fsplit3, fjoin, fjoin3, fpick, fpack, pick, show, check, rewrite, assume, suffices, learn, await, updating, now, done, Item}
 use types.Tokens.{bor_new, bor_open, obor_close, obor_alter, bor_fracture}
 use types.Na.{before_dup, before_shorten}
 use denote.RattleType.{RattleType, RowLaws}
@@ -30,6 +30,7 @@ use Rattle.spin_core.specs.Cell.{Use, off, reads, writes, Way, fixes, Fixes, See
 use Rattle.spin_core.specs.CellMemory.{offset, Known, Id, round_code, tag, Part, piece, reader, shown, named, tracked, right, stand, inner, kept, permit_owns, permit_shares, reader_shares, writer_at, writer_owns, writer_shares}
 use Rattle.spin_core.proofs.CellParts.{piece_in, piece_cut}
 use Rattle.spin_core.proofs.Signs.{signs}
+use Rattle.spin_core.proofs.Lemmas.{script, cite, settled, having}
 
 -- ---- what is shared may be copied, and may be shared for less time
 module _ (Y R : RattleType) {V : Type 0} (c : V → Gv) (S : RattleType) (holds : ℕ → S.Denot → List V → Type 0) (ways : Ways R.Denot V S.Denot)
@@ -50,7 +51,7 @@ module _ (Y R : RattleType) {V : Type 0} (c : V → Gv) (S : RattleType) (holds 
 
 module _ {M : Type 1} {𝓤 : Ura M} (𝓛 : Logic 𝓤) where
   open 𝓛 use {H, A}
-  open (signs 𝓛) use {◌⊢◌, ◌∗◌, ◌-∗◌, ⟦◌⟧}
+  open (signs 𝓛) use {◌⊩◌, ◌⊢◌, ◌∗◌, ◌-∗◌, ⟦◌⟧}
 
   -- ---- a party that tracks the value, as a writer does
   module _ (R : RattleType) (b o : ℕ) (β : Lft) (x : R.Denot) (P : Fml) where
@@ -66,19 +67,19 @@ module _ {M : Type 1} {𝓤 : Ura M} (𝓛 : Logic 𝓤) where
     abbrev Tr : Id → Fml
     Tr t = tracked R b o t x
 
-    abbrev pub Gives : Id → SProp 𝓤
-    Gives t = ⟦ before β t.life ⟧ ∗ ⟦ Tr t ⟧ ∗ (⟦ Tr t ⟧ -∗ ⟦ P ⟧)
+    abbrev pub Gives : Id → Item 𝓤
+    Gives t = ‵ (before β t.life) ⊛ ‵ (Tr t) ⊛ raw (⟦ Tr t ⟧ -∗ ⟦ P ⟧)
 
-    again : (ν : Lft) (t : Id) → (⟦ Tr t ⟧ -∗ ⟦ P ⟧) ⊢ ⟦ fwand (fsep (fdead ν) (fseps (Ob t ∷ fbor t.life (N t) ∷ []))) (fupd P) ⟧
+    again : (ν : Lft) (t : Id) → raw (⟦ Tr t ⟧ -∗ ⟦ P ⟧) ⊩ ‵ (fwand (fsep (fdead ν) (fseps (Ob t ∷ fbor t.life (N t) ∷ []))) (fupd P))
     unfolding fseps
-    again ν t = qed 𝓛 (raw (⟦ Tr t ⟧ -∗ ⟦ P ⟧) ∷ []) ∵ assume ! (‵ (fsep (fdead ν) (fsep (Ob t) (fsep (fbor t.life (N t)) ftrue)))) $ suffices ! ⟦ P ⟧ (upd_i 𝓤 ⟦ P ⟧) $
+    again ν t = script ∵ assume ! (‵ (fsep (fdead ν) (fsep (Ob t) (fsep (fbor t.life (N t)) ftrue)))) $ settled ! ⟦ P ⟧ $
         fsplit ! $ drop ! $ fsplit3 ! $ fjoin ! $ keep ! (0 ∷ 2 ∷ []) $ by ! (apply∗ 𝓤 ⟦ Tr t ⟧ ⟦ P ⟧)
 
-    pub Lends-at : ⟦ P ⟧ ⊢ ex 𝓤 Gives → (ν : Lft) → Incl ν β → (q : Share) → A.bor ν P ∗ A.lft ν q ⊢ H.⇛ (A.bor ν At ∗ A.lft ν q)
+    pub Lends-at : ‵ P ⊩ some Gives → (ν : Lft) → Incl ν β → (q : Share) → ‵ (fbor ν P) ⊛ ‵ (flft ν q) ⊩ later (‵ (fbor ν At) ⊛ ‵ (flft ν q))
     unfolding fseps
-    Lends-at opens ν inc q = qed 𝓛 (‵ (fbor ν P) ∷ ‵ (flft ν q) ∷ []) ∵ updating ! $ bor_open ! tt $ move ! (1 ∷ []) $
-        use1 𝓛 (some (λ (t : Id). ‵ (before β t.life) ⊛ ‵ (Tr t) ⊛ raw (⟦ Tr t ⟧ -∗ ⟦ P ⟧))) opens $ pick ! (λ t. split3 ! $ move ! (1 ∷ []) $ fsplit ! $ move ! (3 ∷ []) $
-        use1 𝓛 (‵ (fwand (fsep (fdead ν) (fseps (Ob t ∷ fbor t.life (N t) ∷ []))) (fupd P))) (again ν t) $ nothing ! $ move ! (2 ∷ 3 ∷ 0 ∷ []) $ fjoin3 ! $
+    Lends-at opens ν inc q = script ∵ updating ! $ bor_open ! tt $ move ! (1 ∷ []) $
+        cite _ opens $ pick ! (λ t. split3 ! $ move ! (1 ∷ []) $ fsplit ! $ move ! (3 ∷ []) $
+        cite _ (again ν t) $ nothing ! $ move ! (2 ∷ 3 ∷ 0 ∷ []) $ fjoin3 ! $
         move ! (3 ∷ 0 ∷ 1 ∷ []) $ obor_alter ! tt (Ob t ∷ fbor t.life (N t) ∷ []) $ use1 𝓛 (‵ (fbor ν (Ob t)) ⊛ ‵ (fbor ν (fbor t.life (N t))) ⊛ ‵ ftrue) (id⊢ 𝓤 _) $ split3 ! $
         move ! (4 ∷ []) $ use1 𝓛 (‵ (before ν t.life)) (before_shorten 𝓛 β ν t.life inc) $ keep ! (0 ∷ 2 ∷ 4 ∷ 1 ∷ []) $
         use3 𝓛 (later (‵ (fbor ν (N t)) ⊛ ‵ (flft ν q))) (unnest_before 𝓛 ν t.life q (N t)) $ await ! tt $ split ! $ move ! (1 ∷ []) $
@@ -86,11 +87,11 @@ module _ {M : Type 1} {𝓤 : Ura M} (𝓛 : Logic 𝓤) where
         use3 𝓛 (later (‵ (Ob t) ⊛ ‵ (fbor ν At) ⊛ ‵ (flft ν (Share.right q)))) (settles 𝓛 (mem R) ν ((ν, Share.right q) ∷ []) (Incl-refl ν) t.value x b (o + offset R)) $ await ! tt $ split3 ! $
         move ! (3 ∷ 0 ∷ []) $ obor_close ! tt $ drop ! $ move ! (0 ∷ 2 ∷ []) $ use2 𝓛 (‵ (flft ν q)) (𝓛.lfts.lft_join ν q) $ now ! $ move ! (1 ∷ 0 ∷ []) $ done !)
 
-    pub Lends-tracked : (l : Lft) → Incl l β → Shares 𝓛 R l → ⟦ P ⟧ ⊢ ex 𝓤 Gives → Lends 𝓛 P (within β (shown R b o x)) l
+    pub Lends-tracked : (l : Lft) → Incl l β → Shares 𝓛 R l → ‵ P ⊩ some Gives → Lends 𝓛 P (within β (shown R b o x)) l
     Lends-tracked l le s opens κ ts inc sp =
         let ν : Lft = κ ++ β in let sm : Incl (span ts) ν = ⊑_meet (span ts) κ β sp (Incl-trans inc le) in
         qed 𝓛 (‵ (fbor κ P) ∷ raw (lfts 𝓛 ts) ∷ []) ∵ updating ! $ use1 𝓛 (‵ (fbor ν P)) (𝓛.bors.bor_shorten κ ν P (meet_⊑_left κ β)) $
-        use2 𝓛 (later (‵ (fbor ν At) ⊛ raw (lfts 𝓛 ts))) (by_one 𝓛 ν ts sm (A.bor ν P) (A.bor ν At) (Lends-at opens ν (meet_⊑_right κ β))) $ await ! tt $
+        use2 𝓛 (later (‵ (fbor ν At) ⊛ raw (lfts 𝓛 ts))) (by_one 𝓛 ν ts sm (A.bor ν P) (A.bor ν At) (λ q. (Lends-at opens ν (meet_⊑_right κ β) q).prf)) $ await ! tt $
         use1 𝓛 (later (‵ (shown R b o x ν) ⊛ raw (lfts 𝓛 ts))) (s x ν ts b (o + offset R) inc sm) $ await ! tt $ now ! $ done !
 
   module _ (Y R : RattleType) {V : Type 0} (c : V → Gv) (S : RattleType) (holds : ℕ → S.Denot → List V → Type 0) (ways : Ways R.Denot V S.Denot) (β : Lft) where
@@ -111,9 +112,9 @@ module _ {M : Type 1} {𝓤 : Ura M} (𝓛 : Logic 𝓤) where
       abbrev Wr : Id → Fml
       Wr = writer_at Y R c S holds ways β b o view x
 
-      writer_gives : ⟦ W ⟧ ⊢ ex 𝓤 (Gives R b o β x W)
-      writer_gives = qed 𝓛 (‵ W ∷ []) ∵ fpick ! (λ k. fpick ! (λ e. fpick ! (λ t. fsplit3 ! $ fsplit ! $ use1 𝓛 (‵ (before β t.life) ⊛ ‵ (before β t.life)) (before_dup 𝓛 β t.life) $ split ! $ move ! (0 ∷ 4 ∷ []) $
-          show ! (Gives R b o β x W) t $ types.Kit.frame ! $ types.Kit.frame ! $ assume ! (‵ (tracked R b o t x)) $ move ! (1 ∷ 2 ∷ []) $ fjoin ! $ move ! (0 ∷ 2 ∷ 1 ∷ []) $ fjoin3 ! $
+      writer_gives : ‵ W ⊩ some (Gives R b o β x W)
+      writer_gives = script ∵ fpick ! (λ k. fpick ! (λ e. fpick ! (λ t. fsplit3 ! $ fsplit ! $ use1 𝓛 (‵ (before β t.life) ⊛ ‵ (before β t.life)) (before_dup 𝓛 β t.life) $ split ! $ move ! (0 ∷ 4 ∷ []) $
+          having ! (Gives R b o β x W) t $ types.Kit.frame ! $ types.Kit.frame ! $ assume ! (‵ (tracked R b o t x)) $ move ! (1 ∷ 2 ∷ []) $ fjoin ! $ move ! (0 ∷ 2 ∷ 1 ∷ []) $ fjoin3 ! $
           fpack ! Id Wr t $ fpack ! Sure (λ _. fex Id Wr) e $ fpack ! Knows (λ _. fex Sure (λ _. fex Id Wr)) k $ done !)))
 
     pub Lends-writer : (l : Lft) → Incl l β → Shares 𝓛 R l → (p : Ptr) (view : V) (x : R.Denot) → Lends 𝓛 (writer_owns Y R c S holds ways β p view x) (writer_shares Y R c S holds ways β p view x) l
@@ -122,19 +123,19 @@ module _ {M : Type 1} {𝓤 : Ura M} (𝓛 : Logic 𝓤) where
 
     -- a value that is shown for a round's lifetime is shown for ν too, if ν lies within the round and within the cell's borrow β
     shows_for : RowLaws R → (b o : ℕ) (t : Id) (x : R.Denot) (ν : Lft) → Incl ν β → (n : ℕ)
-        → ⟦ shown R b o x (n ∷ t.life) ⟧ ∗ ⟦ before β t.life ⟧ ∗ ⟦ inside ν (n ∷ []) ⟧ ⊢ ⟦ shown R b o x ν ⟧
+        → ‵ (shown R b o x (n ∷ t.life)) ⊛ ‵ (before β t.life) ⊛ ‵ (inside ν (n ∷ [])) ⊩ ‵ (shown R b o x ν)
     shows_for L b o t x ν inc n =
         let a : Lft = n ∷ [] in let μ : Lft = a ++ ν in let V' : Lft → Fml = shown R b o x in let K = L x b (o + offset R) in
         let within_life : Incl (μ ++ t.life) (a ++ t.life) =
         ⊑_meet (μ ++ t.life) a t.life (Incl-trans (meet_⊑_left μ t.life) (meet_⊑_left a ν)) (meet_⊑_right μ t.life) in
-        qed 𝓛 (‵ (V' (n ∷ t.life)) ∷ ‵ (before β t.life) ∷ ‵ (inside ν a) ∷ []) ∵
+        script ∵
         use1 𝓛 (‵ (V' (μ ++ t.life))) (shortens 𝓛 V' K (a ++ t.life) (μ ++ t.life) within_life) $ move ! (1 ∷ []) $
         use1 𝓛 (‵ (before μ t.life)) (before_shorten 𝓛 β μ t.life (Incl-trans (meet_⊑_right a ν) inc)) $
         use2 𝓛 (‵ (V' μ)) (moves_before 𝓛 V' K μ t.life) $ move ! (1 ∷ 0 ∷ []) $ use2 𝓛 (‵ (V' ν)) (moves 𝓛 V' K ν a) $ done !
 
     -- a party that reads is shown a value
-    shows_none : (b o : ℕ) (view : Option V) → use_of ways.1 view ≡ reads → (Q : SProp 𝓤) → ⟦ permit_owns Y R c S holds ways β (block_ptr b o) view None ⟧ ⊢ Q
-    shows_none b o view is Q = qed 𝓛 (‵ (permit_owns Y R c S holds ways β (block_ptr b o) view None) ∷ []) ∵
+    shows_none : (b o : ℕ) (view : Option V) → use_of ways.1 view ≡ reads → (k : Item 𝓤) → ‵ (permit_owns Y R c S holds ways β (block_ptr b o) view None) ⊩ k
+    shows_none b o view is k = script ∵
         fpick ! (λ k. fpick ! (λ t. fsplit3 ! $ move ! (2 ∷ []) $
         rewrite ! 0 (λ (u : Use). ‵ (right R b o t ways.0 u None)) is refl $ keep ! (0 ∷ []) $ by ! (never_e 𝓤 _)))
 
@@ -154,23 +155,23 @@ module _ {M : Type 1} {𝓤 : Ura M} (𝓛 : Logic 𝓤) where
         V' = shown R b o x
 
         reads_again : (k : Knows) (t : Id) (a : ℕ) (e : Share) → Part ways.0 x e
-            → ⟦ before β t.life ⟧ ∗ A.inv (Inv b o t) ∗ ⟦ stand R b o t c view ⟧ ∗ ⟦ tag t.round e (round_code R (a, x)) ⟧ ∗ ⟦ V' (a ∷ t.life) ⟧ ⊢ ⟦ fwand (fsep (fdead ν) (fseps (flft (a ∷ []) e ∷ []))) (fupd P) ⟧
+            → ‵ (before β t.life) ⊛ ‵ (finv (Inv b o t)) ⊛ ‵ (stand R b o t c view) ⊛ ‵ (tag t.round e (round_code R (a, x))) ⊛ ‵ (V' (a ∷ t.life)) ⊩ ‵ (fwand (fsep (fdead ν) (fseps (flft (a ∷ []) e ∷ []))) (fupd P))
         unfolding fseps
-        reads_again k t a e n = qed 𝓛 (‵ (before β t.life) ∷ ‵ (finv (Inv b o t)) ∷ ‵ (stand R b o t c view) ∷ ‵ (tag t.round e (round_code R (a, x))) ∷ ‵ (V' (a ∷ t.life)) ∷ []) ∵ assume ! (‵ (fsep (fdead ν) (fsep (flft (a ∷ []) e) ftrue))) $
-            suffices ! ⟦ P ⟧ (upd_i 𝓤 ⟦ P ⟧) $ fsplit3 ! $ move ! (1 ∷ 6 ∷ []) $ fjoin ! $ use1 𝓛 (‵ (piece R ways.0 t.round (a, x))) (piece_in 𝓛 R t.round ways.0 (a, x) e n) $ move ! (0 ∷ 6 ∷ []) $ fjoin ! $
+        reads_again k t a e n = script ∵ assume ! (‵ (fsep (fdead ν) (fsep (flft (a ∷ []) e) ftrue))) $
+            settled ! ⟦ P ⟧ $ fsplit3 ! $ move ! (1 ∷ 6 ∷ []) $ fjoin ! $ cite _ (piece_in 𝓛 R t.round ways.0 (a, x) e n) $ move ! (0 ∷ 6 ∷ []) $ fjoin ! $
             fpack ! ℕ (λ u. fsep (piece R ways.0 t.round (u, x)) (V' (u ∷ t.life))) a $ move ! (5 ∷ 0 ∷ []) $ fjoin ! $ move ! (3 ∷ 4 ∷ []) $ fjoin ! $ fjoin ! $
             fpack ! Id (owned_at reads (Some x)) t $ fpack ! Knows (λ _. fex Id (owned_at reads (Some x))) k $ keep ! (0 ∷ []) $ done !
 
-        pub lends_shown : (q : Share) → A.bor ν P ∗ A.lft ν q ⊢ H.⇛ (⟦ fex Knows (λ _. V' ν) ⟧ ∗ A.lft ν q)
+        pub lends_shown : (q : Share) → ‵ (fbor ν P) ⊛ ‵ (flft ν q) ⊩ later (‵ (fex Knows (λ _. V' ν)) ⊛ ‵ (flft ν q))
         unfolding fseps
-        lends_shown q = qed 𝓛 (‵ (fbor ν P) ∷ ‵ (flft ν q) ∷ []) ∵ updating ! $ bor_open ! tt $ move ! (1 ∷ []) $ fpick ! (λ k. fpick ! (λ t. fsplit3 ! $ fsplit ! $ move ! (3 ∷ []) $ fpick ! (λ u. fsplit ! $ fpick ! (λ e. fpick ! (λ n. fsplit ! $
+        lends_shown q = script ∵ updating ! $ bor_open ! tt $ move ! (1 ∷ []) $ fpick ! (λ k. fpick ! (λ t. fsplit3 ! $ fsplit ! $ move ! (3 ∷ []) $ fpick ! (λ u. fsplit ! $ fpick ! (λ e. fpick ! (λ n. fsplit ! $
             let a : Lft = u ∷ [] in let K = L x b (o + offset R) in
             -- context: [the token; the tag; what is shown; the end; the invariant; the view; the open borrow]
             move ! (2 ∷ []) $ use1 𝓛 (‵ (V' (u ∷ t.life)) ⊛ ‵ (V' (u ∷ t.life))) (contraction 𝓛 V' K (a ++ t.life)) $ split ! $ move ! (4 ∷ []) $
-            use1 𝓛 (‵ (before β t.life) ⊛ ‵ (before β t.life)) (before_dup 𝓛 β t.life) $ split ! $ move ! (0 ∷ 6 ∷ 7 ∷ 5 ∷ 2 ∷ []) $ group ! 5 $
-            use1 𝓛 (‵ (fwand (fsep (fdead ν) (fseps (flft a e ∷ []))) (fupd P))) (reads_again k t u e n) $ nothing ! $ move ! (4 ∷ 0 ∷ []) $ fjoin ! $ move ! (4 ∷ 0 ∷ 1 ∷ []) $ obor_alter ! tt (flft a e ∷ []) $
+            use1 𝓛 (‵ (before β t.life) ⊛ ‵ (before β t.life)) (before_dup 𝓛 β t.life) $ split ! $ move ! (0 ∷ 6 ∷ 7 ∷ 5 ∷ 2 ∷ []) $
+            cite _ (reads_again k t u e n) $ nothing ! $ move ! (4 ∷ 0 ∷ []) $ fjoin ! $ move ! (4 ∷ 0 ∷ 1 ∷ []) $ obor_alter ! tt (flft a e ∷ []) $
             use1 𝓛 (‵ (fbor ν (flft a e)) ⊛ ‵ ftrue) (id⊢ 𝓤 _) $ split ! $ bor_fracture ! tt (λ r. flft a r) e $ move ! (4 ∷ 3 ∷ 0 ∷ []) $
-            use3 𝓛 (‵ (V' ν)) (shows_for L b o t x ν inc u) $ fpack ! Knows (λ _. V' ν) k $ now ! $ keep ! (0 ∷ 2 ∷ []) $ done !)))))
+            cite _ (shows_for L b o t x ν inc u) $ fpack ! Knows (λ _. V' ν) k $ now ! $ keep ! (0 ∷ 2 ∷ []) $ done !)))))
 
       no_reader : (l : Lft) → Lends 𝓛 (Owned reads None) (λ _. ffalse) l
       no_reader l κ ts inc sp = let P : Fml = Owned reads None in qed 𝓛 (‵ (fbor κ P) ∷ raw (lfts 𝓛 ts) ∷ []) ∵ updating ! $
@@ -182,50 +183,50 @@ module _ {M : Type 1} {𝓤 : Ura M} (𝓛 : Logic 𝓤) where
       Lends-owned L l le reads None = no_reader l
       Lends-owned L l le reads (Some x) = λ κ ts inc sp. let ν : Lft = κ ++ β in let P : Fml = Owned reads (Some x) in
           qed 𝓛 (‵ (fbor κ P) ∷ raw (lfts 𝓛 ts) ∷ []) ∵ use1 𝓛 (‵ (fbor ν P)) (𝓛.bors.bor_shorten κ ν P (meet_⊑_left κ β)) $
-          by ! (by_one 𝓛 ν ts (⊑_meet (span ts) κ β sp (Incl-trans inc le)) (A.bor ν P) ⟦ fex Knows (λ _. shown R b o x ν) ⟧ (lends_shown L x ν (meet_⊑_right κ β)))
+          by ! (by_one 𝓛 ν ts (⊑_meet (span ts) κ β sp (Incl-trans inc le)) (A.bor ν P) ⟦ fex Knows (λ _. shown R b o x ν) ⟧ (λ q. (lends_shown L x ν (meet_⊑_right κ β) q).prf))
 
     pub Lends-permit : RowLaws R → (l : Lft) → Incl l β → (p : Ptr) (view : Option V) (x : Option R.Denot) → Lends 𝓛 (permit_owns Y R c S holds ways β p view x) (permit_shares Y R c S holds ways β p view x) l
     Lends-permit L l le (block_ptr b o) view x = Lends-owned b o view L l le (use_of ways.1 view) x
     Lends-permit L l le null_ptr view x = Lends-false 𝓛 (permit_shares Y R c S holds ways β null_ptr view x) l
 
     -- ---- a reader may show the value for the rest of the cell's borrow: it never gives its token back
-    abbrev pub IsShown : ℕ → ℕ → Option R.Denot → R.Denot → SProp 𝓤
-    IsShown b o v x = guard 𝓤 ((v ≡ Some x) × Seen ways.0 x) ⟦ shown R b o x β ⟧
+    abbrev pub IsShown : ℕ → ℕ → Option R.Denot → R.Denot → Item 𝓤
+    IsShown b o v x = given ((v ≡ Some x) × Seen ways.0 x) (‵ (shown R b o x β))
 
     known_seen : (way : Way R.Denot) (x : R.Denot) (e : Share) → Part way x e → Seen way x
     known_seen way x e known = grind arith
 
-    shown_by : RowLaws R → (b o : ℕ) (t : Id) (x : R.Denot) → ⟦ before β t.life ⟧ ∗ ⟦ reader R b o t ways.0 x ⟧ ⊢ H.⇛ (guard 𝓤 (Seen ways.0 x) ⟦ shown R b o x β ⟧)
-    shown_by L b o t x = qed 𝓛 (‵ (before β t.life) ∷ ‵ (reader R b o t ways.0 x) ∷ []) ∵ updating ! $ move ! (1 ∷ []) $ fpick ! (λ n. fsplit ! $ fpick ! (λ e. fpick ! (λ known. fsplit ! $
+    shown_by : RowLaws R → (b o : ℕ) (t : Id) (x : R.Denot) → ‵ (before β t.life) ⊛ ‵ (reader R b o t ways.0 x) ⊩ later (given (Seen ways.0 x) (‵ (shown R b o x β)))
+    shown_by L b o t x = script ∵ updating ! $ move ! (1 ∷ []) $ fpick ! (λ n. fsplit ! $ fpick ! (λ e. fpick ! (λ known. fsplit ! $
         -- context: [the token; the tag; what is shown; the end]
         bor_new ! tt β $ bor_fracture ! tt (λ r. flft (n ∷ []) r) e $ move ! (3 ∷ 4 ∷ 0 ∷ []) $
-        use3 𝓛 (‵ (shown R b o x β)) (shows_for L b o t x β (Incl-refl β) n) $ now ! $ check ! (known_seen ways.0 x e known) $ keep ! (0 ∷ []) $ done !)))
+        cite _ (shows_for L b o t x β (Incl-refl β) n) $ now ! $ check ! (known_seen ways.0 x e known) $ keep ! (0 ∷ []) $ done !)))
 
-    pub shown_on : RowLaws R → (b o : ℕ) (view : Option V) (v : Option R.Denot) → use_of ways.1 view ≡ reads → ⟦ permit_owns Y R c S holds ways β (block_ptr b o) view v ⟧ ⊢ H.⇛ (ex 𝓤 (IsShown b o v))
+    pub shown_on : RowLaws R → (b o : ℕ) (view : Option V) (v : Option R.Denot) → use_of ways.1 view ≡ reads → ‵ (permit_owns Y R c S holds ways β (block_ptr b o) view v) ⊩ later (some (IsShown b o v))
     shown_on L b o view None is = shows_none b o view is _
-    shown_on L b o view (Some x) is = qed 𝓛 (‵ (permit_owns Y R c S holds ways β (block_ptr b o) view (Some x)) ∷ []) ∵ updating ! $ fpick ! (λ k. fpick ! (λ t. fsplit3 ! $ fsplit ! $ move ! (3 ∷ []) $
-        rewrite ! 0 (λ (u : Use). ‵ (right R b o t ways.0 u (Some x))) is refl $ move ! (1 ∷ 0 ∷ []) $ use2 𝓛 (later (given (Seen ways.0 x) (‵ (shown R b o x β)))) (shown_by L b o t x) $ await ! tt $ learn ! (λ known.
-        now ! $ show ! (IsShown b o (Some x)) x $ check ! (refl, known) $ keep ! (0 ∷ []) $ done !)))
+    shown_on L b o view (Some x) is = script ∵ updating ! $ fpick ! (λ k. fpick ! (λ t. fsplit3 ! $ fsplit ! $ move ! (3 ∷ []) $
+        rewrite ! 0 (λ (u : Use). ‵ (right R b o t ways.0 u (Some x))) is refl $ move ! (1 ∷ 0 ∷ []) $ cite _ (shown_by L b o t x) $ await ! tt $ learn ! (λ known.
+        now ! $ having ! (IsShown b o (Some x)) x $ check ! (refl, known) $ keep ! (0 ∷ []) $ done !)))
 
     -- ---- in the way `fixes` such a reader also keeps its permit
-    reader_cut : RowLaws R → (b o : ℕ) (t : Id) (way : Way R.Denot) → Fixes way → (x : R.Denot) → ⟦ reader R b o t way x ⟧ ⊢ ⟦ reader R b o t way x ⟧ ∗ ⟦ reader R b o t way x ⟧
+    reader_cut : RowLaws R → (b o : ℕ) (t : Id) (way : Way R.Denot) → Fixes way → (x : R.Denot) → ‵ (reader R b o t way x) ⊩ ‵ (reader R b o t way x) ⊛ ‵ (reader R b o t way x)
     reader_cut L b o t (fixes fact) fixed x =
         let way : Way R.Denot = fixes fact in let V' : Lft → Fml = shown R b o x in let Rd : ℕ → Fml = λ n. fsep (piece R way t.round (n, x)) (V' (n ∷ t.life)) in
-        qed 𝓛 (‵ (reader R b o t way x) ∷ []) ∵ fpick ! (λ n. fsplit ! $
-        use1 𝓛 (given (fact true x) (‵ (piece R way t.round (n, x)) ⊛ ‵ (piece R way t.round (n, x)))) (piece_cut 𝓛 R t.round fact (n, x)) $ learn ! (λ known. split ! $ move ! (2 ∷ []) $
+        script ∵ fpick ! (λ n. fsplit ! $
+        cite _ (piece_cut 𝓛 R t.round fact (n, x)) $ learn ! (λ known. split ! $ move ! (2 ∷ []) $
         use1 𝓛 (‵ (V' (n ∷ t.life)) ⊛ ‵ (V' (n ∷ t.life))) (contraction 𝓛 V' (L x b (o + offset R)) (n ∷ t.life)) $ split ! $ move ! (2 ∷ 0 ∷ []) $ fjoin ! $ fpack ! ℕ Rd n $ move ! (2 ∷ 1 ∷ []) $ fjoin ! $ fpack ! ℕ Rd n $ done !))
     reader_cut L b o t _ fixed x = absurd fixed
 
-    abbrev pub IsShownTo : ℕ → ℕ → Option V → Option R.Denot → R.Denot → SProp 𝓤
-    IsShownTo b o view v x = guard 𝓤 ((v ≡ Some x) × Seen ways.0 x) (⟦ shown R b o x β ⟧ ∗ ⟦ permit_owns Y R c S holds ways β (block_ptr b o) view v ⟧)
+    abbrev pub IsShownTo : ℕ → ℕ → Option V → Option R.Denot → R.Denot → Item 𝓤
+    IsShownTo b o view v x = given ((v ≡ Some x) × Seen ways.0 x) (‵ (shown R b o x β) ⊛ ‵ (permit_owns Y R c S holds ways β (block_ptr b o) view v))
 
-    pub shown_to : RowLaws R → (b o : ℕ) (view : Option V) (v : Option R.Denot) → use_of ways.1 view ≡ reads → Fixes ways.0 → ⟦ permit_owns Y R c S holds ways β (block_ptr b o) view v ⟧ ⊢ H.⇛ (ex 𝓤 (IsShownTo b o view v))
+    pub shown_to : RowLaws R → (b o : ℕ) (view : Option V) (v : Option R.Denot) → use_of ways.1 view ≡ reads → Fixes ways.0 → ‵ (permit_owns Y R c S holds ways β (block_ptr b o) view v) ⊩ later (some (IsShownTo b o view v))
     shown_to L b o view None is fixed = shows_none b o view is _
     shown_to L b o view (Some x) is fixed = let Rd : Id → Fml = λ t. reader R b o t ways.0 x in let At : Id → Fml = owned_at b o view (use_of ways.1 view) (Some x) in
-        qed 𝓛 (‵ (permit_owns Y R c S holds ways β (block_ptr b o) view (Some x)) ∷ []) ∵ updating ! $ fpick ! (λ k. fpick ! (λ t. fsplit3 ! $ fsplit ! $ move ! (3 ∷ []) $
-        rewrite ! 0 (λ (u : Use). ‵ (right R b o t ways.0 u (Some x))) is refl $ use1 𝓛 (‵ (Rd t) ⊛ ‵ (Rd t)) (reader_cut L b o t ways.0 fixed x) $ split ! $ move ! (2 ∷ []) $
+        script ∵ updating ! $ fpick ! (λ k. fpick ! (λ t. fsplit3 ! $ fsplit ! $ move ! (3 ∷ []) $
+        rewrite ! 0 (λ (u : Use). ‵ (right R b o t ways.0 u (Some x))) is refl $ cite _ (reader_cut L b o t ways.0 fixed x) $ move ! (2 ∷ []) $
         use1 𝓛 (‵ (before β t.life) ⊛ ‵ (before β t.life)) (before_dup 𝓛 β t.life) $ split ! $ move ! (0 ∷ 2 ∷ []) $
-        use2 𝓛 (later (given (Seen ways.0 x) (‵ (shown R b o x β)))) (shown_by L b o t x) $ await ! tt $ learn ! (λ known.
+        cite _ (shown_by L b o t x) $ await ! tt $ learn ! (λ known.
         -- context: [what is shown; the end; the reader; the invariant; the view]
         move ! (2 ∷ []) $ rewrite ! 0 (λ (u : Use). ‵ (right R b o t ways.0 u (Some x))) (sym is) refl $ move ! (4 ∷ 0 ∷ []) $ fjoin ! $ move ! (2 ∷ 3 ∷ []) $ fjoin ! $ fjoin ! $
-        fpack ! Id At t $ fpack ! Knows (λ _. fex Id At) k $ move ! (1 ∷ []) $ now ! $ show ! (IsShownTo b o view (Some x)) x $ check ! (refl, known) $ done !)))
+        fpack ! Id At t $ fpack ! Knows (λ _. fex Id At) k $ move ! (1 ∷ []) $ now ! $ having ! (IsShownTo b o view (Some x)) x $ check ! (refl, known) $ done !)))

@@ -15,19 +15,20 @@ use base.Share
 use base.Stored.{Gv, Coded}
 use base.SetCodes.{coded, SetCoded-set}
 use base.Algebras.{pcs, shares}
-use base.Logic.{SProp, ex, all, guard, upd, via, all_e, ex_e, guard_e, guard_i, upd_i, upd_mono}
+use base.Logic.{SProp, ex, guard, upd, via, ex_e, guard_e, guard_i, upd_mono}
 use base.Fml.{GName, Share, Fml, ftrue, fex}
 use types.Logic.{Logic}
 use types.Keyed.{entry, entries_take, entries_beside, entry_cut, entry_glue, entry_set}
-use types.Kit.{‵, raw, ◌⊛◌, given, ◌$◌, ◌∵◌, !, qed, by, move, keep, drop, split, fpick, fpack, pick, learn, check, each, suffices, settle, done, use1, use2, rewrite}
+use types.Kit.{‵, raw, ◌⊛◌, given, ◌$◌, ◌∵◌, !, qed, by, move, keep, drop, split, fpick, fpack, pick, learn, check, each, suffices, settle, done, use1, use2, rewrite, fsplit}
 use types.Kit as Kit
 use Rattle.atomic_table.specs.Seated.{itself, halved, seen}
 use Rattle.spin_core.specs.Cell.{Stands, after}
 use Rattle.spin_core.specs.CellMemory.{unused, roster}
 use Rattle.spin_core.proofs.Signs.{signs}
+use Rattle.spin_core.proofs.Lemmas.{lemma, cite, updates, renew, settled, having}
 
 module _ {M : Type 1} {𝓤 : Ura M} (𝓛 : Logic 𝓤) {V : Type 0} (cv : Coded V) (γ : GName) where
-  open (signs 𝓛) use {◌⊢◌, ◌∗◌, ⟦◌⟧}
+  open (signs 𝓛) use {◌⊩◌, ◌⊫◌, ◌⊢◌, ◌∗◌, ⟦◌⟧}
 
   abbrev c : V → Gv
   c = cv.code
@@ -45,72 +46,69 @@ module _ {M : Type 1} {𝓤 : Ura M} (𝓛 : Logic 𝓤) {V : Type 0} (cv : Code
   two_parts g = Prod.mk-mem-op Share.op (Ag.op (SetCoded-set (coded itself))) {a = quarter} {a' = three_quarters} {x = full_share} {b = g} {b' = g} {y = g} Share.quarters (Ag.idem (SetCoded-set (coded itself)) g)
 
   -- a whole entry gets a view, and is split in two parts
-  resets : (k : ℕ) (g : Gv) (u : V) → ⟦ Whole k g ⟧ ⊢ upd 𝓤 (⟦ L k u ⟧ ∗ ⟦ R k u ⟧)
+  resets : (k : ℕ) (g : Gv) (u : V) → ‵ (Whole k g) ⊫ ‵ (L k u) ⊛ ‵ (R k u)
   resets k g u = let B : Share × Gv → Type 0 = λ x. Path (Share × Gv) x (full_share, c u) in let F : Share × Gv → SProp 𝓤 = λ x. guard 𝓤 (B x) ⟦ entry halved γ k x ⟧ in let Z : SProp 𝓤 = ⟦ L k u ⟧ ∗ ⟦ R k u ⟧ in
-      via 𝓤 (upd 𝓤 (ex 𝓤 F)) (entry_set halved 𝓛 γ k (full_share, g) B ∣ ((full_share, c u), refl) ∣₁ (λ f d. absurd (not-OpDef-full_share f.0 d.0)))
-      (upd_mono 𝓤 {P = ex 𝓤 F} {Q = Z} (ex_e 𝓤 F (λ x. guard_e 𝓤 (B x) ⟦ entry halved γ k x ⟧ (λ e. subst (λ (y : Share × Gv). ⟦ entry halved γ k y ⟧ ⊢ Z) (sym e)
-      (entry_cut halved 𝓛 γ k (quarter, c u) (three_quarters, c u) (full_share, c u) (two_parts (c u)))))))
+      record {
+        prf = via 𝓤 (upd 𝓤 (ex 𝓤 F)) (entry_set halved 𝓛 γ k (full_share, g) B ∣ ((full_share, c u), refl) ∣₁ (λ f d. absurd (not-OpDef-full_share f.0 d.0)))
+            (upd_mono 𝓤 {P = ex 𝓤 F} {Q = Z} (ex_e 𝓤 F (λ x. guard_e 𝓤 (B x) ⟦ entry halved γ k x ⟧ (λ e. subst (λ (y : Share × Gv). ⟦ entry halved γ k y ⟧ ⊢ Z) (sym e)
+            (entry_cut halved 𝓛 γ k (quarter, c u) (three_quarters, c u) (full_share, c u) (two_parts (c u)))))));
+      }
 
-  joined : (k : ℕ) (w v : V) → ⟦ L k w ⟧ ∗ ⟦ R k v ⟧ ⊢ guard 𝓤 (w ≡ v) ⟦ Whole k (c w) ⟧
+  joined : (k : ℕ) (w v : V) → ‵ (L k w) ⊛ ‵ (R k v) ⊩ given (w ≡ v) (‵ (Whole k (c w)))
   joined k w v = let F : Share × Gv → SProp 𝓤 = λ x. guard 𝓤 (x ∈ halved.op (quarter, c w) (three_quarters, c v)) ⟦ entry halved γ k x ⟧ in let Z : SProp 𝓤 = guard 𝓤 (w ≡ v) ⟦ Whole k (c w) ⟧ in
-      via 𝓤 (ex 𝓤 F) (entry_glue halved 𝓛 γ k (quarter, c w) (three_quarters, c v)) (ex_e 𝓤 F (λ x. guard_e 𝓤 (x ∈ halved.op (quarter, c w) (three_quarters, c v)) ⟦ entry halved γ k x ⟧ (λ m.
-      subst (λ (y : Share × Gv). ⟦ entry halved γ k y ⟧ ⊢ Z) m.1 (guard_i 𝓤 (w ≡ v) ⟦ Whole k (c w) ⟧ (cv.inj w v m.0.1)))))
+      lemma (via 𝓤 (ex 𝓤 F) (entry_glue halved 𝓛 γ k (quarter, c w) (three_quarters, c v)) (ex_e 𝓤 F (λ x. guard_e 𝓤 (x ∈ halved.op (quarter, c w) (three_quarters, c v)) ⟦ entry halved γ k x ⟧ (λ m.
+      subst (λ (y : Share × Gv). ⟦ entry halved γ k y ⟧ ⊢ Z) m.1 (guard_i 𝓤 (w ≡ v) ⟦ Whole k (c w) ⟧ (cv.inj w v m.0.1))))))
 
-  abbrev Moved : ℕ → List V → ℕ → ℕ → V → SProp 𝓤
-  Moved k vs i j u = upd 𝓤 (⟦ roster c γ k (set vs i u) ⟧ ∗ ⟦ R j u ⟧)
+  -- the roster and a party's view, if the party is at place i and gets the view `next`
+  abbrev Moved : (k : ℕ) (vs : List V) (i j : ℕ) (v : V) → (get_elem? vs i ≡ some v → V) → get_elem? vs i ≡ some v → Kit.Item 𝓤
+  Moved k vs i j v next at = ‵ (roster c γ k (set vs i (next at))) ⊛ ‵ (R j (next at))
 
   -- a party's view is the one in the roster, and both change together
-  moves : (vs : List V) (k i j : ℕ) (v : V) → j ≡ k + i → ⟦ roster c γ k vs ⟧ ∗ ⟦ R j v ⟧ ⊢ guard 𝓤 (get_elem? vs i ≡ some v) (all 𝓤 (Moved k vs i j))
-  moves [] k i j v e = qed 𝓛 (‵ (roster c γ k []) ∷ ‵ (R j v) ∷ []) ∵ fpick ! (λ g. move ! (1 ∷ 0 ∷ []) $
-      use2 𝓛 (given (OpDef halved.op (three_quarters, c v) (full_share, g)) (‵ (R j v) ⊛ ‵ (unused γ k g))) (entries_beside halved 𝓛 γ k j (λ _. (full_share, g)) (three_quarters, c v) (omega arith)) $
+  moves : (vs : List V) (k i j : ℕ) (v : V) (next : get_elem? vs i ≡ some v → V) → j ≡ k + i
+      → ‵ (roster c γ k vs) ⊛ ‵ (R j v) ⊫ Kit.some (Moved k vs i j v next)
+  moves [] k i j v next e = updates ∵ fpick ! (λ g. move ! (1 ∷ 0 ∷ []) $
+      use2 𝓛 (given (OpDef halved.op (three_quarters, c v) (full_share, g)) (‵ (R j v) ⊛ ‵ (unused γ k g)))
+      (entries_beside halved 𝓛 γ k j (λ _. (full_share, g)) (three_quarters, c v) (omega arith)) $
       learn ! (λ x. absurd (not-OpDef-full_share three_quarters ((OpDef-comm (pcs shares) {a = three_quarters} {b = full_share}).0 x.0))))
-  moves (w ∷ ws) k zero j v e = let is : j ≡ k = omega arith in qed 𝓛 ((‵ (L k w) ⊛ ‵ (roster c γ (suc k) ws)) ∷ ‵ (R j v) ∷ []) ∵ split ! $ rewrite ! 2 (λ (m : ℕ). ‵ (R m v)) is refl $ move ! (0 ∷ 2 ∷ []) $
-      use2 𝓛 (given (w ≡ v) (‵ (Whole k (c w)))) (joined k w v) $ learn ! (λ same. check ! (ap some same) $ each ! (Moved k (w ∷ ws) zero j) (λ u.
-      use1 𝓛 (raw (upd 𝓤 (⟦ L k u ⟧ ∗ ⟦ R k u ⟧))) (resets k (c w) u) $ settle 𝓛 (⟦ roster c γ k (u ∷ ws) ⟧ ∗ ⟦ R j u ⟧) (‵ (L k u) ⊛ ‵ (R k u)) $ split ! $ suffices ! _ (upd_i 𝓤 (⟦ roster c γ k (u ∷ ws) ⟧ ∗ ⟦ R j u ⟧)) $
-      rewrite ! 1 (λ (m : ℕ). ‵ (R m u)) (sym is) refl $ move ! (0 ∷ 2 ∷ []) $ Kit.join ! $ done !))
-  moves (w ∷ ws) k (suc i) j v e = qed 𝓛 ((‵ (L k w) ⊛ ‵ (roster c γ (suc k) ws)) ∷ ‵ (R j v) ∷ []) ∵ split ! $ move ! (1 ∷ 2 ∷ []) $
-      use2 𝓛 (given (get_elem? ws i ≡ some v) (raw (all 𝓤 (Moved (suc k) ws i j)))) (moves ws (suc k) i j v (omega arith)) $ learn ! (λ at. check ! at $ each ! (Moved k (w ∷ ws) (suc i) j) (λ u.
-      use1 𝓛 (raw (Moved (suc k) ws i j u)) (all_e 𝓤 (Moved (suc k) ws i j) u) $ let Z : SProp 𝓤 = ⟦ roster c γ k (w ∷ set ws i u) ⟧ ∗ ⟦ R j u ⟧ in
-      settle 𝓛 Z (‵ (roster c γ (suc k) (set ws i u)) ⊛ ‵ (R j u)) $ split ! $ suffices ! _ (upd_i 𝓤 Z) $ move ! (2 ∷ 0 ∷ []) $ Kit.join ! $ done !))
+  moves (w ∷ ws) k zero j v next e = let is : j ≡ k = omega arith in updates ∵ fsplit ! $ rewrite ! 2 (λ (m : ℕ). ‵ (R m v)) is refl $
+      move ! (0 ∷ 2 ∷ []) $ cite _ (joined k w v) $ learn ! (λ same. let u : V = next (ap some same) in
+      renew (Kit.some (Moved k (w ∷ ws) zero j v next)) _ (resets k (c w) u) $ settled ! _ $ rewrite ! 1 (λ (m : ℕ). ‵ (R m u)) (sym is) refl $
+      having ! (Moved k (w ∷ ws) zero j v next) (ap some same) $ move ! (0 ∷ 2 ∷ []) $ Kit.join ! $ done !)
+  moves (w ∷ ws) k (suc i) j v next e = updates ∵ fsplit ! $ move ! (1 ∷ 2 ∷ []) $
+      renew (Kit.some (Moved k (w ∷ ws) (suc i) j v next)) _ (moves ws (suc k) i j v next (omega arith)) $
+      pick ! (λ at. split ! $ settled ! _ $ having ! (Moved k (w ∷ ws) (suc i) j v next) at $ move ! (2 ∷ 0 ∷ []) $ Kit.join ! $ done !)
 
   -- what a party owns of its view
   abbrev Stand : Option V → Fml
   Stand None = ftrue
   Stand (Some v) = fex ℕ (λ i. R i v)
 
-  abbrev Joined : ℕ → List V → V → SProp 𝓤
-  Joined k vs u = ⟦ roster c γ k (vs ++ u ∷ []) ⟧ ∗ ⟦ Stand (Some u) ⟧
+  abbrev Joined : ℕ → List V → V → Kit.Item 𝓤
+  Joined k vs u = ‵ (roster c γ k (vs ++ u ∷ [])) ⊛ ‵ (Stand (Some u))
 
   -- a new party takes the next key
-  joins : (vs : List V) (k : ℕ) (u : V) → ⟦ roster c γ k vs ⟧ ⊢ upd 𝓤 (Joined k vs u)
-  joins [] k u = let Z : SProp 𝓤 = Joined k [] u in qed 𝓛 (‵ (roster c γ k []) ∷ []) ∵ fpick ! (λ g.
+  joins : (vs : List V) (k : ℕ) (u : V) → ‵ (roster c γ k vs) ⊫ Joined k vs u
+  joins [] k u = updates ∵ fpick ! (λ g.
       use1 𝓛 (‵ (Whole k g) ⊛ ‵ (unused γ (suc k) g)) (entries_take halved 𝓛 γ k (λ _. (full_share, g))) $ split ! $
-      use1 𝓛 (raw (upd 𝓤 (⟦ L k u ⟧ ∗ ⟦ R k u ⟧))) (resets k g u) $ settle 𝓛 Z (‵ (L k u) ⊛ ‵ (R k u)) $ split ! $ suffices ! Z (upd_i 𝓤 Z) $
+      renew (Joined k [] u) _ (resets k g u) $ settled ! _ $
       move ! (1 ∷ []) $ fpack ! ℕ (λ i. R i u) k $ move ! (2 ∷ []) $ fpack ! Gv (unused γ (suc k)) g $ move ! (2 ∷ 0 ∷ []) $ Kit.join ! $ done !)
-  joins (w ∷ ws) k u = let Z : SProp 𝓤 = Joined k (w ∷ ws) u in qed 𝓛 (‵ (L k w) ∷ ‵ (roster c γ (suc k) ws) ∷ []) ∵ move ! (1 ∷ []) $
-      use1 𝓛 (raw (upd 𝓤 (Joined (suc k) ws u))) (joins ws (suc k) u) $
-      settle 𝓛 Z (‵ (roster c γ (suc k) (ws ++ u ∷ [])) ⊛ ‵ (Stand (Some u))) $ split ! $ suffices ! Z (upd_i 𝓤 Z) $ move ! (2 ∷ 0 ∷ []) $ Kit.join ! $ done !
+  joins (w ∷ ws) k u = updates ∵ fsplit ! $ move ! (1 ∷ []) $ renew (Joined k (w ∷ ws) u) _ (joins ws (suc k) u) $ settled ! _ $ move ! (2 ∷ 0 ∷ []) $ Kit.join ! $ done !
 
-  abbrev pub Turned : ℕ → Option V → List V → V → SProp 𝓤
-  Turned id view vs w = upd 𝓤 (⟦ roster c γ 0 (after id view vs w) ⟧ ∗ ⟦ Stand (Some w) ⟧)
-
-  abbrev pub Placed : Option V → List V → ℕ → SProp 𝓤
-  Placed view vs id = guard 𝓤 (Stands id view vs) (all 𝓤 (Turned id view vs))
+  -- a place, and the roster and the party's view if the party is there and gets the view `next`
+  abbrev pub Placed : (view : Option V) (vs : List V) → ((id : ℕ) → Stands id view vs → V) → (id : ℕ) × Stands id view vs → Kit.Item 𝓤
+  Placed view vs next z = ‵ (roster c γ 0 (after z.0 view vs (next z.0 z.1))) ⊛ ‵ (Stand (Some (next z.0 z.1)))
 
   -- a party has its place among the views, or takes the next one; at that place it gets any view
-  pub places : (view : Option V) (vs : List V) → ⟦ roster c γ 0 vs ⟧ ∗ ⟦ Stand view ⟧ ⊢ ex 𝓤 (Placed view vs)
-  places None vs = qed 𝓛 (‵ (roster c γ 0 vs) ∷ ‵ ftrue ∷ []) ∵ Kit.show ! (Placed None vs) 0 $ check ! tt $ each ! (Turned 0 None vs) (λ w.
-      use1 𝓛 (raw (Turned 0 None vs w)) (joins vs 0 w) $ keep ! (0 ∷ []) $ done !)
-  places (Some v) vs = qed 𝓛 (‵ (roster c γ 0 vs) ∷ ‵ (Stand (Some v)) ∷ []) ∵ move ! (1 ∷ []) $ fpick ! (λ id. move ! (1 ∷ 0 ∷ []) $
-      use2 𝓛 (given (get_elem? vs id ≡ some v) (raw (all 𝓤 (Moved 0 vs id id)))) (moves vs 0 id id v (omega arith)) $ learn ! (λ at.
-      Kit.show ! (Placed (Some v) vs) id $ check ! at $ each ! (Turned id (Some v) vs) (λ w. let us = set vs id w in
-      use1 𝓛 (raw (Moved 0 vs id id w)) (all_e 𝓤 (Moved 0 vs id id) w) $ let Z : SProp 𝓤 = ⟦ roster c γ 0 us ⟧ ∗ ⟦ Stand (Some w) ⟧ in
-      settle 𝓛 Z (‵ (roster c γ 0 us) ⊛ ‵ (R id w)) $ split ! $ suffices ! Z (upd_i 𝓤 Z) $
-      move ! (1 ∷ []) $ fpack ! ℕ (λ i. R i w) id $ move ! (1 ∷ 0 ∷ []) $ done !)))
+  pub places : (view : Option V) (vs : List V) (next : (id : ℕ) → Stands id view vs → V)
+      → ‵ (roster c γ 0 vs) ⊛ ‵ (Stand view) ⊫ Kit.some (Placed view vs next)
+  places None vs next = updates ∵ renew (Kit.some (Placed None vs next)) _ (joins vs 0 (next 0 tt)) $ settled ! _ $ having ! (Placed None vs next) (0, tt) $ keep ! (0 ∷ 1 ∷ []) $ done !
+  places (Some v) vs next = updates ∵ move ! (1 ∷ []) $ fpick ! (λ id. move ! (1 ∷ 0 ∷ []) $
+      renew (Kit.some (Placed (Some v) vs next)) _ (moves vs 0 id id v (next id) (omega arith)) $ pick ! (λ at. split ! $ settled ! _ $ having ! (Placed (Some v) vs next) (id, at) $
+      move ! (1 ∷ []) $ fpack ! ℕ (λ i. R i (next id at)) id $ move ! (1 ∷ 0 ∷ []) $ done !))
 
   -- unused entries become the views of parties that have left
-  pub enrols : (vs : List V) (k : ℕ) (g : Gv) → ⟦ unused γ k g ⟧ ⊢ upd 𝓤 ⟦ roster c γ k vs ⟧
-  enrols [] k g = qed 𝓛 (‵ (unused γ k g) ∷ []) ∵ suffices ! _ (upd_i 𝓤 ⟦ roster c γ k [] ⟧) $ fpack ! Gv (unused γ k) g $ done !
-  enrols (w ∷ ws) k g = let Z : SProp 𝓤 = ⟦ roster c γ k (w ∷ ws) ⟧ in qed 𝓛 (‵ (unused γ k g) ∷ []) ∵ use1 𝓛 (‵ (Whole k g) ⊛ ‵ (unused γ (suc k) g)) (entries_take halved 𝓛 γ k (λ _. (full_share, g))) $ split ! $
-      use1 𝓛 (raw (upd 𝓤 (⟦ L k w ⟧ ∗ ⟦ R k w ⟧))) (resets k g w) $ settle 𝓛 Z (‵ (L k w) ⊛ ‵ (R k w)) $ split ! $ move ! (2 ∷ []) $
-      use1 𝓛 (raw (upd 𝓤 ⟦ roster c γ (suc k) ws ⟧)) (enrols ws (suc k) g) $ settle 𝓛 Z (‵ (roster c γ (suc k) ws)) $ suffices ! _ (upd_i 𝓤 Z) $ keep ! (1 ∷ 0 ∷ []) $ done !
+  pub enrols : (vs : List V) (k : ℕ) (g : Gv) → ‵ (unused γ k g) ⊫ ‵ (roster c γ k vs)
+  enrols [] k g = updates ∵ settled ! _ $ fpack ! Gv (unused γ k) g $ done !
+  enrols (w ∷ ws) k g = updates ∵ use1 𝓛 (‵ (Whole k g) ⊛ ‵ (unused γ (suc k) g)) (entries_take halved 𝓛 γ k (λ _. (full_share, g))) $ split ! $
+      renew (‵ (roster c γ k (w ∷ ws))) _ (resets k g w) $ move ! (2 ∷ []) $
+      renew (‵ (roster c γ k (w ∷ ws))) _ (enrols ws (suc k) g) $ settled ! _ $ keep ! (1 ∷ 0 ∷ []) $ done !

@@ -2,7 +2,7 @@
 use Rattle.std.proofs.Common.{ℕ, zero, suc, ◌+◌, ◌-◌, ◌^◌, ◌<◌, Bool, false, [], ◌∷◌, ◌++◌, Option, Some, None}
 use seplogic.Ra.Ura.{Ura}
 use base.Fraction.{full_share}
-use base.Logic.{SProp, via, upd, upd_i, upd_mono}
+use base.Logic.{via, upd, upd_mono}
 use base.FractionLaws.{Counts-all}
 use base.Fml.{Lft, Share, Incl, Incl-trans, Fml, ffalse, fsep, fex, fbor, flft, fdead, fobs}
 use contract.BorrowLft.{meet_⊑_left, meet_⊑_right, ⊑_meet}
@@ -14,13 +14,14 @@ use denote.RattleType.{RattleType}
 use denote.Memory.{part_at, mem}
 use denote.Shares.{Shares, settles}
 use Rattle.spin_core.specs.Cell.{Use, writes, Way, lends, fixes, Fixed}
-use Rattle.spin_core.specs.CellMemory.{Id, idle, tag, round_code, share, parts, piece, remains, resting, offset, shown, named, tracked, waits, shared, right}
+use Rattle.spin_core.specs.CellMemory.{Id, idle, round_code, share, parts, remains, resting, offset, shown, named, tracked, waits, shared, right}
 use Rattle.spin_core.proofs.CellParts.{parts_in, parts_but, piece_in, renames}
 use Rattle.spin_core.proofs.Signs.{signs}
+use Rattle.spin_core.proofs.Lemmas.{script, lemma, update, cite, updates, renew, settled}
 
 module _ {M : Type 1} {𝓤 : Ura M} (𝓛 : Logic 𝓤) (R : RattleType) (b o : ℕ) (t : Id) where
   open 𝓛 use {H, A}
-  open (signs 𝓛) use {◌⊢◌, ◌∗◌, ⟦◌⟧}
+  open (signs 𝓛) use {◌⊩◌, ◌⊫◌, ◌⊢◌, ◌∗◌, ⟦◌⟧}
 
   abbrev α : Lft
   α = t.life
@@ -46,9 +47,9 @@ module _ {M : Type 1} {𝓤 : Ura M} (𝓛 : Logic 𝓤) (R : RattleType) (b o :
 
   -- from a borrow of the value a new lifetime begins, for which the value is shared
   pub begins : (l : Lft) → Shares 𝓛 R l → (x : R.Denot) (μ : Lft) (s : Share) (τ : Lft) (r : Share) → Incl μ α → Incl τ l
-      → ⟦ tracked R b o t x ⟧ ∗ A.lft μ s ∗ A.lft τ r ⊢ H.⇛ (⟦ fex ℕ (begun x) ⟧ ∗ A.lft μ s ∗ A.lft τ r)
+      → ‵ (tracked R b o t x) ⊛ ‵ (flft μ s) ⊛ ‵ (flft τ r) ⊩ later (‵ (fex ℕ (begun x)) ⊛ ‵ (flft μ s) ⊛ ‵ (flft τ r))
   begins l shares x μ s τ r i j = let e : ℕ = o + offset R in
-      qed 𝓛 (‵ (tracked R b o t x) ∷ ‵ (flft μ s) ∷ ‵ (flft τ r) ∷ []) ∵ updating ! $ fsplit ! $ lft_new ! tt (λ a.
+      script ∵ updating ! $ fsplit ! $ lft_new ! tt (λ a.
       let ts : Toks = (a ∷ [], full_share) ∷ (μ, s) ∷ (τ, r) ∷ [] in let more : Lft = μ ++ τ in
       let sp : Incl (span ts) (a ∷ α) = ⊑_meet (a ∷ more) (a ∷ []) α (meet_⊑_left (a ∷ []) more) (Incl-trans (meet_⊑_right (a ∷ []) more) (Incl-trans (meet_⊑_left μ τ) i)) in
       move ! (2 ∷ []) $ use1 𝓛 (later (‵ (fbor (a ∷ α) (named R b o t)) ⊛ ‵ (waits R b o t a))) (𝓛.more.bor_reborrow α (a ∷ α) (named R b o t) (meet_⊑_right (a ∷ []) α)) $ await ! tt $ split ! $
@@ -57,48 +58,48 @@ module _ {M : Type 1} {𝓤 : Ura M} (𝓛 : Logic 𝓤) (R : RattleType) (b o :
       use2 𝓛 (later (‵ (shown R b o x (a ∷ α)) ⊛ ‵ (flft (a ∷ []) full_share) ⊛ ‵ (flft μ s) ⊛ ‵ (flft τ r))) (shares x (a ∷ α) ts b e (Incl-trans (meet_⊑_right (a ∷ []) more) (Incl-trans (meet_⊑_right μ τ) j)) sp) $ await ! tt $ split3 ! $
       move ! (3 ∷ 0 ∷ 4 ∷ []) $ fjoin3 ! $ move ! (1 ∷ 0 ∷ []) $ fjoin ! $ fpack ! ℕ (begun x) a $ now ! $ keep ! (0 ∷ 1 ∷ []) $ done !)
 
-  pub ends : (x : R.Denot) (a : ℕ) → ⟦ begun x a ⟧ ⊢ H.⇛ ⟦ tracked R b o t x ⟧
-  ends x a = qed 𝓛 (‵ (begun x a) ∷ []) ∵ updating ! $ fsplit ! $ lft_end ! tt $ use1 𝓛 (‵ (fdead (a ∷ α))) (𝓛.lfts.dead-incl (a ∷ α) (a ∷ []) (meet_⊑_left (a ∷ []) α)) $
+  pub ends : (x : R.Denot) (a : ℕ) → ‵ (begun x a) ⊩ later (‵ (tracked R b o t x))
+  ends x a = script ∵ updating ! $ fsplit ! $ lft_end ! tt $ use1 𝓛 (‵ (fdead (a ∷ α))) (𝓛.lfts.dead-incl (a ∷ α) (a ∷ []) (meet_⊑_left (a ∷ []) α)) $
       move ! (1 ∷ []) $ fsplit3 ! $ move ! (3 ∷ 2 ∷ []) $ lent_back ! tt $ move ! (1 ∷ 0 ∷ []) $ fjoin ! $ now ! $ keep ! (0 ∷ []) $ done !
 
   -- the whole of the cell's round, which a writer began
   abbrev pub whole : R.Denot → Fml
   whole x = fex ℕ (λ a. fsep (share R t.round (a, x) full_share) (shared R b o t (a, x)))
 
-  renews : (x : R.Denot) → ⟦ idle t.round ⟧ ∗ ⟦ fex ℕ (begun x) ⟧ ⊢ upd 𝓤 ⟦ whole x ⟧
-  renews x = let γ : ℕ = t.round in qed 𝓛 (‵ (idle γ) ∷ ‵ (fex ℕ (begun x)) ∷ []) ∵ fpick ! (λ g. move ! (1 ∷ []) $ fpick ! (λ a. fsplit ! $ move ! (2 ∷ []) $
-      use1 𝓛 (raw (upd 𝓤 ⟦ tag γ full_share (round_code R (a, x)) ⟧)) (renames 𝓛 R γ g (round_code R (a, x))) $ settle 𝓛 ⟦ whole x ⟧ (‵ (tag γ full_share (round_code R (a, x)))) $ suffices ! ⟦ whole x ⟧ (upd_i 𝓤 ⟦ whole x ⟧) $
+  renews : (x : R.Denot) → ‵ (idle t.round) ⊛ ‵ (fex ℕ (begun x)) ⊫ ‵ (whole x)
+  renews x = let γ : ℕ = t.round in updates ∵ fpick ! (λ g. move ! (1 ∷ []) $ fpick ! (λ a. fsplit ! $ move ! (2 ∷ []) $
+      renew (‵ (whole x)) _ (renames 𝓛 R γ g (round_code R (a, x))) $ settled ! _ $
       move ! (1 ∷ 0 ∷ []) $ fjoin ! $ fjoin ! $ fpack ! ℕ (λ c. fsep (share R γ (c, x) full_share) (shared R b o t (c, x))) a $ done !))
 
-  pub renewed : (x : R.Denot) (Z : SProp 𝓤) → ⟦ whole x ⟧ ⊢ Z → ⟦ idle t.round ⟧ ∗ ⟦ fex ℕ (begun x) ⟧ ⊢ upd 𝓤 Z
-  renewed x Z to = via 𝓤 (upd 𝓤 ⟦ whole x ⟧) (renews x) (upd_mono 𝓤 {P = ⟦ whole x ⟧} {Q = Z} to)
+  pub renewed : (x : R.Denot) (F : Fml) → ‵ (whole x) ⊩ ‵ F → ‵ (idle t.round) ⊛ ‵ (fex ℕ (begun x)) ⊫ ‵ F
+  renewed x F to = update (via 𝓤 (upd 𝓤 ⟦ whole x ⟧) (renews x).prf (upd_mono 𝓤 {P = ⟦ whole x ⟧} {Q = ⟦ F ⟧} to.prf))
 
   -- a whole round is the state of the value with r readers, whose parts are put aside
-  pub rests_lent : (r : ℕ) (x : R.Denot) → r < 2 ^ 63 → ⟦ whole x ⟧ ⊢ ⟦ resting R b o t lends r x ⟧
-  rests_lent r x small = qed 𝓛 (‵ (whole x) ∷ []) ∵ fpick ! (λ a. fsplit ! $
-      use1 𝓛 (‵ (parts R t.round (a, x) (2 ^ 63))) (parts_in 𝓛 R t.round (a, x) (2 ^ 63) full_share (Counts-all 63)) $
-      use1 𝓛 (‵ (parts R t.round (a, x) (2 ^ 63 - r))) (parts_but 𝓛 R t.round (a, x) r small) $
+  pub rests_lent : (r : ℕ) (x : R.Denot) → r < 2 ^ 63 → ‵ (whole x) ⊩ ‵ (resting R b o t lends r x)
+  rests_lent r x small = script ∵ fpick ! (λ a. fsplit ! $
+      cite _ (parts_in 𝓛 R t.round (a, x) (2 ^ 63) full_share (Counts-all 63)) $
+      cite _ (parts_but 𝓛 R t.round (a, x) r small) $
       fjoin ! $ fpack ! ℕ (λ c. fsep (parts R t.round (c, x) (2 ^ 63 - r)) (shared R b o t (c, x))) a $ done !)
 
   -- a whole round is also the state of the way `fixes` with r readers
-  pub rests_fixed : (fact : Bool → R.Denot → Type 0) (r : ℕ) (x : R.Denot) → Fixed (fixes fact) r 0 x → ⟦ whole x ⟧ ⊢ ⟦ resting R b o t (fixes fact) r x ⟧
-  rests_fixed fact zero x known = qed 𝓛 (‵ (whole x) ∷ []) ∵ fpick ! (λ a. fsplit ! $ fpack ! (fact false x) (λ _. share R t.round (a, x) full_share) known $
+  pub rests_fixed : (fact : Bool → R.Denot → Type 0) (r : ℕ) (x : R.Denot) → Fixed (fixes fact) r 0 x → ‵ (whole x) ⊩ ‵ (resting R b o t (fixes fact) r x)
+  rests_fixed fact zero x known = script ∵ fpick ! (λ a. fsplit ! $ fpack ! (fact false x) (λ _. share R t.round (a, x) full_share) known $
       fjoin ! $ fpack ! ℕ (λ c. fsep (remains R fact t.round (c, x) zero) (shared R b o t (c, x))) a $ done !)
-  rests_fixed fact (suc r) x known = qed 𝓛 (‵ (whole x) ∷ []) ∵ fpick ! (λ a. fsplit ! $ use1 𝓛 (‵ (piece R (fixes fact) t.round (a, x))) (piece_in 𝓛 R t.round (fixes fact) (a, x) full_share known) $
+  rests_fixed fact (suc r) x known = script ∵ fpick ! (λ a. fsplit ! $ cite _ (piece_in 𝓛 R t.round (fixes fact) (a, x) full_share known) $
       fjoin ! $ fpack ! ℕ (λ c. fsep (remains R fact t.round (c, x) (suc r)) (shared R b o t (c, x))) a $ done !)
 
   -- before a step a party's right becomes what it has during the step
   pub readies : (l : Lft) → Shares 𝓛 R l → (u : Use) (way : Way R.Denot) (v : Option R.Denot) (μ : Lft) (s : Share) (τ : Lft) (r : Share) → Incl μ α → Incl τ l
-      → ⟦ right R b o t way u v ⟧ ∗ A.lft μ s ∗ A.lft τ r ⊢ H.⇛ (⟦ held u way v ⟧ ∗ A.lft μ s ∗ A.lft τ r)
+      → ‵ (right R b o t way u v) ⊛ ‵ (flft μ s) ⊛ ‵ (flft τ r) ⊩ later (‵ (held u way v) ⊛ ‵ (flft μ s) ⊛ ‵ (flft τ r))
   readies l shares writes lends (Some x) = begins l shares x
   readies l shares writes (fixes fact) (Some x) = begins l shares x
-  readies l shares _ _ _ = λ μ s τ r i j. 𝓛.laws.⇛_intro _
+  readies l shares _ _ _ = λ μ s τ r i j. lemma (𝓛.laws.⇛_intro _)
 
-  puts_down : (way : Way R.Denot) (v : Option R.Denot) → ⟦ next v ⟧ ⊢ H.⇛ ⟦ right R b o t way writes v ⟧
-  puts_down way None = 𝓛.laws.⇛_intro _
-  puts_down way (Some x) = qed 𝓛 (‵ (fex ℕ (begun x)) ∷ []) ∵ updating ! $ fpick ! (λ a. use1 𝓛 (later (‵ (tracked R b o t x))) (ends x a) $ await ! tt $ now ! $ done !)
+  puts_down : (way : Way R.Denot) (v : Option R.Denot) → ‵ (next v) ⊩ later (‵ (right R b o t way writes v))
+  puts_down way None = lemma (𝓛.laws.⇛_intro _)
+  puts_down way (Some x) = script ∵ updating ! $ fpick ! (λ a. cite _ (ends x a) $ await ! tt $ now ! $ done !)
 
-  pub settles_down : (u : Use) (way : Way R.Denot) (v : Option R.Denot) → ⟦ held u way v ⟧ ⊢ H.⇛ ⟦ right R b o t way u v ⟧
+  pub settles_down : (u : Use) (way : Way R.Denot) (v : Option R.Denot) → ‵ (held u way v) ⊩ later (‵ (right R b o t way u v))
   settles_down writes lends v = puts_down lends v
   settles_down writes (fixes fact) v = puts_down (fixes fact) v
-  settles_down _ _ v = 𝓛.laws.⇛_intro _
+  settles_down _ _ v = lemma (𝓛.laws.⇛_intro _)

@@ -8,11 +8,11 @@ use seplogic.Ra.Ura.{Ura}
 use mir.Syntax.{ty_int}
 use mir.Val.{Val, vint, has_ty, WT}
 use base.Fraction.{full_share}
-use base.Logic.{SProp, ex, all, all_e, apply∗, guard, upd, upd_i}
-use base.Fml.{Share, Fml, fsep, fex, flft, fbor}
+use base.Logic.{ex, all_e, apply∗, upd_i}
+use base.Fml.{Share, Fml, fsep, fex, flft, fbor, finv}
 use base.Stored.{Coded}
 use types.Logic.{Logic}
-use types.Kit.{‵, raw, ◌⊛◌, some, given, ◌$◌, ◌∵◌, !, qed, by, move, drop, group, split, fsplit, fjoin, fpick, fpack, pick, learn, check, rewrite, settle, suffices, use1, use2, done, show, frame, each, assume}
+use types.Kit.{‵, raw, ◌⊛◌, given, ◌$◌, ◌∵◌, !, qed, by, move, drop, split, fsplit, fjoin, fpick, fpack, pick, learn, check, rewrite, suffices, use1, use2, done, show, frame, each, assume, Item}
 use denote.RattleType.{RattleType, RowLaws}
 use denote.RawPtr.{block_ptr}
 use denote.Memory.{part_at, part_of, cell_at}
@@ -27,7 +27,7 @@ use Rattle.spin_core.specs.Cell.{words, Ways, use_of, readers_of, writers_of, Me
 use Rattle.spin_core.specs.CellMemory.{second_at, roster, Id, state, stand, core, core_at, standing, inner}
 use Rattle.spin_core.specs.Traced.{grown, grown_at, Learnt, Named, Traces, TracesSecond}
 use Rattle.spin_core.proofs.CellCounts.{part_of as counted, splits}
-use Rattle.spin_core.proofs.CellRoster.{Turned, places}
+use Rattle.spin_core.proofs.CellRoster.{places}
 use Rattle.spin_core.proofs.CellRounds.{held}
 use Rattle.spin_core.proofs.CellTurns as value
 use Rattle.spin_core.proofs.CellWays.{going_rest, going_map, carrying_rest, carrying_carries, learnt_of}
@@ -35,9 +35,10 @@ use Rattle.spin_core.proofs.Signs.{signs}
 use Rattle.spin_core.proofs.WalkSteps.{knows}
 use Rattle.spin_core.proofs.TraceSteps.{appends, observes_whole, shows_whole}
 use Rattle.spin_core.proofs.TraceWord.{beside, with, Takes, word_apart}
+use Rattle.spin_core.proofs.Lemmas.{script, lemma, cite, updates, renew, settled}
 
 module _ {M : Type 1} {𝓤 : Ura M} (𝓛 : Logic 𝓤) (Er Ur : RattleType) where
-  open (signs 𝓛) use {◌⊢◌, ◌∗◌, ⟦◌⟧}
+  open (signs 𝓛) use {◌⊩◌, ◌⊫◌, ◌⊢◌, ◌∗◌, ⟦◌⟧}
 
   abbrev pub S : RattleType
   S = trace.the_row Er Ur
@@ -55,23 +56,23 @@ module _ {M : Type 1} {𝓤 : Ura M} (𝓛 : Logic 𝓤) (Er Ur : RattleType) wh
   Known = known_owns Er.coded.code
 
   -- what a watch of this trace knew is a prefix of the trace; a watch that knew nothing knows the empty prefix
-  knew : (γ : ℕ) (k : List E) (m : Trace E U) → (k ≡ []) ⊎ (m.name ≡ γ) → ⟦ Log m ⟧ ∗ ⟦ Known γ k ⟧ ⊢ guard 𝓤 (IsPrefix k m.entries) ⟦ Log m ⟧
-  knew γ k m (inl none) = qed 𝓛 (‵ (Log m) ∷ ‵ (Known γ k) ∷ []) ∵ move ! (1 ∷ []) $ drop ! $
+  knew : (γ : ℕ) (k : List E) (m : Trace E U) → (k ≡ []) ⊎ (m.name ≡ γ) → ‵ (Log m) ⊛ ‵ (Known γ k) ⊩ given (IsPrefix k m.entries) (‵ (Log m))
+  knew γ k m (inl none) = script ∵ move ! (1 ∷ []) $ drop ! $
       check ! (rw none (m.entries, refl)) $ done !
-  knew γ k m (inr is) = qed 𝓛 (‵ (Log m) ∷ ‵ (Known γ k) ∷ []) ∵ rewrite ! 1 (λ (z : ℕ). ‵ (Known z k)) (sym is) refl $
-      use2 𝓛 (given (IsPrefix k m.entries) (‵ (Log m) ⊛ ‵ (Known m.name m.entries))) (observes_whole 𝓛 Er.coded m.name m.entries k) $
+  knew γ k m (inr is) = script ∵ rewrite ! 1 (λ (z : ℕ). ‵ (Known z k)) (sym is) refl $
+      cite _ (observes_whole 𝓛 Er.coded m.name m.entries k) $
       learn ! (λ p. check ! p $ split ! $ move ! (1 ∷ []) $ drop ! $ done !)
 
   -- a trace in memory grows; then the watch knows all of it
-  shows : (γ : ℕ) (k : List E) (m : Trace E U) (es : List E) (b e : ℕ) → (k ≡ []) ⊎ (m.name ≡ γ) → ⟦ part_at S full_share m b e ⟧ ∗ ⟦ Known γ k ⟧
-      ⊢ guard 𝓤 (IsPrefix k m.entries) (upd 𝓤 (⟦ part_at S full_share (grown m es) b e ⟧ ∗ ⟦ Known m.name (m.entries ++ es) ⟧))
+  shows : (γ : ℕ) (k : List E) (m : Trace E U) (es : List E) (b e : ℕ) → (k ≡ []) ⊎ (m.name ≡ γ) → ‵ (part_at S full_share m b e) ⊛ ‵ (Known γ k)
+      ⊫ given (IsPrefix k m.entries) (‵ (part_at S full_share (grown m es) b e) ⊛ ‵ (Known m.name (m.entries ++ es)))
   unfolding part_of
   shows γ k m es b e may = let m' : Trace E U = grown m es in let Now : Fml = Known m.name (m.entries ++ es) in
-      let Z : SProp 𝓤 = ⟦ part_at S full_share m' b e ⟧ ∗ ⟦ Now ⟧ in qed 𝓛 (‵ (part_at S full_share m b e) ∷ ‵ (Known γ k) ∷ []) ∵
+      let To : Item 𝓤 = given (IsPrefix k m.entries) (‵ (part_at S full_share m' b e) ⊛ ‵ Now) in updates ∵
       fpick ! (λ vs. fsplit ! $ move ! (1 ∷ []) $ fsplit ! $ move ! (1 ∷ 3 ∷ []) $
-      use2 𝓛 (given (IsPrefix k m.entries) (‵ (Log m))) (knew γ k m may) $ learn ! (λ p. check ! p $
-      use1 𝓛 (raw (upd 𝓤 ⟦ Log m' ⟧)) (appends 𝓛 Er.coded m.name m.entries es) $ settle 𝓛 Z (‵ (Log m')) $
-      use1 𝓛 (‵ (Log m') ⊛ ‵ Now) (shows_whole 𝓛 Er.coded m.name (m.entries ++ es)) $ split ! $ suffices ! Z (upd_i 𝓤 Z) $
+      cite _ (knew γ k m may) $ learn ! (λ p.
+      renew To _ (appends 𝓛 Er.coded m.name m.entries es) $ settled ! _ $ check ! p $
+      cite _ (shows_whole 𝓛 Er.coded m.name (m.entries ++ es)) $
       move ! (2 ∷ 0 ∷ []) $ fjoin ! $ move ! (2 ∷ 0 ∷ []) $ fjoin ! $
       fpack ! (List Val) (λ us. fsep (cell_at full_share S.mir us b e) (S.own_val m' us)) vs $ done !))
 
@@ -150,7 +151,7 @@ module _ {M : Type 1} {𝓤 : Ura M} (𝓛 : Logic 𝓤) (Er Ur : RattleType) wh
       carrying = going_rest way u (f w) v (readers_of f vs) owed
 
       -- the state of the value changes with the views
-      shifts : Stands id view vs → Limits way (readers_of f vs) (writers_of f vs) → ⟦ states m vs ⟧ ∗ ⟦ Held u v ⟧ ⊢ upd 𝓤 (⟦ states s.1 us ⟧ ∗ ⟦ Got s.1 w ⟧)
+      shifts : Stands id view vs → Limits way (readers_of f vs) (writers_of f vs) → ‵ (states m vs) ⊛ ‵ (Held u v) ⊫ ‵ (states s.1 us) ⊛ ‵ (Got s.1 w)
       shifts h lim =
           let r = splits (λ y. reading (f y)) id view vs h in let q = splits (λ y. writing (f y)) id view vs h in
           let was_r : readers_of f vs ≡ value.with_reader u r.0 = omega (arith, r.1, use_part reading refl view, value.one_reader u r.0) in
@@ -159,7 +160,7 @@ module _ {M : Type 1} {𝓤 : Ura M} (𝓛 : Logic 𝓤) (Er Ur : RattleType) wh
           let now_w : writers_of f us ≡ value.with_writer (f w) q.0 = q.2 w ∙ value.one_writer (f w) q.0 in
           let Turns : (ℕ × ℕ) × (ℕ × ℕ) → Type 1 = λ z. Limits way z.0.0 z.0.1 → Going way u (f w) v z.0.0 (Limits way z.1.0 z.1.1)
           → Carries (know m) (know s.1) u (f w) v
-          → ⟦ St (know m) z.0.0 z.0.1 ⟧ ∗ ⟦ Held u v ⟧ ⊢ upd 𝓤 (⟦ St (know s.1) z.1.0 z.1.1 ⟧ ∗ ⟦ Got s.1 w ⟧) in
+          → ‵ (St (know m) z.0.0 z.0.1) ⊛ ‵ (Held u v) ⊫ ‵ (St (know s.1) z.1.0 z.1.1) ⊛ ‵ (Got s.1 w) in
           let limits_of : Carrying ways.2 m s.1 u (f w) v (Meets holds ways s.0 s.1 us) → Limits way (readers_of f us) (writers_of f us) =
           λ rest. (carrying_rest ways.2 m s.1 u (f w) v rest).1 in
           subst Turns (λ i. ((sym was_r i, sym was_w i), (sym now_r i, sym now_w i)))
@@ -168,10 +169,9 @@ module _ {M : Type 1} {𝓤 : Ura M} (𝓛 : Logic 𝓤) (Er Ur : RattleType) wh
           (carrying_carries ways.2 m s.1 u (f w) v (Meets holds ways s.0 s.1 us) carrying)
 
       -- the rule holds again, and the party has its new view and its part of the value
-      leads : (then : ℕ → V → Type 0) (k : ℕ) → then k w → ⟦ roster cv.code ρ 0 us ⟧ ∗ ⟦ Stand (Some w) ⟧ ∗ ⟦ states s.1 us ⟧ ∗ ⟦ Got s.1 w ⟧
-          ⊢ ⟦ Core s ⟧ ∗ ⟦ moved (finding s.1.entries then k) ⟧
+      leads : (then : ℕ → V → Type 0) (k : ℕ) → then k w → ‵ (roster cv.code ρ 0 us) ⊛ ‵ (Stand (Some w)) ⊛ ‵ (states s.1 us) ⊛ ‵ (Got s.1 w) ⊩ ‵ (Core s) ⊛ ‵ (moved (finding s.1.entries then k))
       leads then k so = let tells : V → Option R.Denot → Type 0 = finding s.1.entries then k in
-          qed 𝓛 (‵ (roster cv.code ρ 0 us) ∷ ‵ (Stand (Some w)) ∷ ‵ (states s.1 us) ∷ ‵ (Got s.1 w) ∷ []) ∵
+          script ∵
           move ! (3 ∷ []) $ fpick ! (λ v'. fsplit ! $ fpick ! (λ kept. drop ! $ move ! (2 ∷ 0 ∷ []) $ fjoin ! $ knows ! (tells w v' × Keeps ways view (Some w) v v') ((so, learnt_of ways.2 s.1 u (f w) v v' kept.1), kept.0) $ fjoin ! $
           fpack ! (V × Option R.Denot) (left_to tells) (w, v') $ move ! (2 ∷ []) $ knows ! (Meets holds ways s.0 s.1 us) (carrying_rest ways.2 m s.1 u (f w) v carrying) $ fjoin ! $ move ! (2 ∷ 0 ∷ []) $ fjoin ! $
           fpack ! (List V) (core_at R b o t cv.code S holds ways s.0 s.1) us $ done !))
@@ -200,52 +200,45 @@ module _ {M : Type 1} {𝓤 : Ura M} (𝓛 : Logic 𝓤) (Er Ur : RattleType) wh
 
       -- the ghost part of such a step, if its words already stand in memory
       pub grows : (γ : ℕ) (k : List E) → May γ k → (n₀ n : ℕ) (m : Trace E U) (y : U) (found : ℕ) → Grows n₀ m n y found
-          → ⟦ word b (o + 0) n ⟧ ∗ ⟦ Traced (beside m y) ⟧ ∗ ⟦ Core (n₀, m) ⟧ ∗ ⟦ Mine ⟧ ∗ ⟦ Known γ k ⟧ ⊢ upd 𝓤 (⟦ I ⟧ ∗ ⟦ watched γ k found ⟧)
-      grows γ k may n₀ n m y found law = let m' : Trace E U = beside m y in let Z : SProp 𝓤 = ⟦ I ⟧ ∗ ⟦ watched γ k found ⟧ in
-          qed 𝓛 (‵ (word b (o + 0) n) ∷ ‵ (Traced m') ∷ ‵ (Core (n₀, m)) ∷ ‵ Mine ∷ ‵ (Known γ k) ∷ []) ∵
-          move ! (2 ∷ []) $ fpick ! (λ vs. fsplit ! $ move ! (4 ∷ []) $ fsplit ! $ move ! (2 ∷ 0 ∷ []) $
-          -- context: [the views; the party's view; what it had; the rest of the core; the first word; the trace; the watch]
-          use2 𝓛 (some (λ (id : ℕ). given (Stands id view vs) (raw (all 𝓤 (Turned 𝓛 cv ρ id view vs))))) (places 𝓛 cv ρ view vs) $
-          pick ! (λ id. learn ! (λ here. move ! (2 ∷ []) $ fsplit ! $ fpick ! (λ meets. drop ! $
-          let r = law id vs meets here in let w : V = r.0 in let es : List E = r.1 in let s : ℕ × Trace E U = (n, grown_at m y es) in
+          → ‵ (word b (o + 0) n) ⊛ ‵ (Traced (beside m y)) ⊛ ‵ (Core (n₀, m)) ⊛ ‵ Mine ⊛ ‵ (Known γ k) ⊫ ‵ I ⊛ ‵ (watched γ k found)
+      grows γ k may n₀ n m y found law = let m' : Trace E U = beside m y in let To : Item 𝓤 = ‵ I ⊛ ‵ (watched γ k found) in updates ∵
+          move ! (2 ∷ []) $ fpick ! (λ vs. fsplit ! $ move ! (1 ∷ []) $ fsplit ! $ fpick ! (λ meets. drop ! $ move ! (4 ∷ []) $ fsplit ! $ move ! (3 ∷ 0 ∷ []) $
+          -- context: [the views; the party's view; what it had; the state; the first word; the trace; the watch]
+          renew To _ (places 𝓛 cv ρ view vs (λ id here. (law id vs meets here).0)) $
+          pick ! (λ z. let id = z.0 in let here = z.1 in let r = law id vs meets here in let w : V = r.0 in let es : List E = r.1 in let s : ℕ × Trace E U = (n, grown_at m y es) in
           let us : List V = after id view vs w in let Now : Fml = Known m.name (m.entries ++ es) in
-          move ! (1 ∷ []) $ use1 𝓛 (raw (Turned 𝓛 cv ρ id view vs w)) (all_e 𝓤 (Turned 𝓛 cv ρ id view vs) w) $
-          settle 𝓛 Z (‵ (roster cv.code ρ 0 us) ⊛ ‵ (Stand (Some w))) $ split ! $ move ! (2 ∷ 3 ∷ []) $
-          use2 𝓛 (raw (upd 𝓤 (⟦ states s.1 us ⟧ ∗ ⟦ Got s.1 w ⟧))) (shifts id vs m s w r.2 here meets.1) $
-          settle 𝓛 Z (‵ (states s.1 us) ⊛ ‵ (Got s.1 w)) $ split ! $ move ! (5 ∷ 6 ∷ []) $
-          use2 𝓛 (given (IsPrefix k m.entries) (raw (upd 𝓤 (⟦ Traced s.1 ⟧ ∗ ⟦ Now ⟧))))
-          (shows γ k m' es b at (name_of γ m.name k may (λ named. named n₀ m vs meets))) $ learn ! (λ p.
-          settle 𝓛 Z (‵ (Traced s.1) ⊛ ‵ Now) $ split ! $ suffices ! Z (upd_i 𝓤 Z) $ move ! (4 ∷ 5 ∷ 2 ∷ 3 ∷ []) $ group ! 4 $
-          use1 𝓛 (‵ (Core s) ⊛ ‵ (moved (finding s.1.entries (told m.entries es) found))) (leads id vs m s w r.2 (told m.entries es) found r.3) $ split ! $
+          split ! $ move ! (3 ∷ 2 ∷ []) $ renew To _ (shifts id vs m s w r.2 here meets.1) $ move ! (5 ∷ 6 ∷ []) $
+          renew To _ (shows γ k m' es b at (name_of γ m.name k may (λ named. named n₀ m vs meets))) $ learn ! (λ p. split ! $ settled ! _ $ move ! (4 ∷ 5 ∷ 2 ∷ 3 ∷ []) $
+          cite _ (leads id vs m s w r.2 (told m.entries es) found r.3) $
           -- context: [the core; what the step leaves; the trace; what the watch knows; the first word]
           move ! (2 ∷ 0 ∷ []) $ fjoin ! $ move ! (3 ∷ 0 ∷ []) $ fjoin ! $ fpack ! (ℕ × Trace E U) (standing R b o t cv.code S holds ways) s $
           move ! (2 ∷ 1 ∷ []) $ fjoin ! $ knows ! (IsPrefix k m.entries × (Named holds ways γ → m.name ≡ γ)) (p, λ named. named n₀ m vs meets) $ fjoin ! $
-          fpack ! (ℕ × (List E × List E)) (seen_by γ k found) (m.name, (m.entries, es)) $ move ! (1 ∷ 0 ∷ []) $ done !)))))
+          fpack ! (ℕ × (List E × List E)) (seen_by γ k found) (m.name, (m.entries, es)) $ move ! (1 ∷ 0 ∷ []) $ done !))))
 
       -- a step finds the word n, and puts `to n` in its place
-      pub answers : (e : ℕ) (to : ℕ → ℕ) (q : Share) (left : ℕ → Fml) (n : ℕ) (P : SProp 𝓤) → (n < words → ⟦ word b e (to n) ⟧ ∗ P ⊢ upd 𝓤 (⟦ I ⟧ ∗ ⟦ left n ⟧))
-          → ⟦ word b e n ⟧ ∗ P ⊢ ex 𝓤 (Lies 𝓛 t.life q I b e to always left)
-      answers e to q left n P go = qed 𝓛 (‵ (word b e n) ∷ raw P ∷ []) ∵
+      pub answers : (e : ℕ) (to : ℕ → ℕ) (q : Share) (left : ℕ → Fml) (n : ℕ) (k : Item 𝓤)
+          → (n < words → ‵ (word b e (to n)) ⊛ k ⊫ ‵ I ⊛ ‵ (left n))
+          → ‵ (word b e n) ⊛ k ⊩ raw (ex 𝓤 (Lies 𝓛 t.life q I b e to always left))
+      answers e to q left n k go = lemma (qed 𝓛 (‵ (word b e n) ∷ k ∷ []) ∵
           use1 𝓛 (given (T (has_ty (ty_int w64) (vint w64 n)) × WT (vint w64 n)) (‵ (word b e n))) (𝓛.laws.at_wt full_share (ty_int w64) b e (vint w64 n)) $
           learn ! (λ typed. show ! (Lies 𝓛 t.life q I b e to always left) n $ frame ! $
-          each ! (λ (_ : Unit {0}). Again 𝓛 t.life q I b e to always left n) (λ _. assume ! (‵ (word b e (to n))) $ by ! (go typed.1.fits)))
+          each ! (λ (_ : Unit {0}). Again 𝓛 t.life q I b e to always left n) (λ _. assume ! (‵ (word b e (to n))) $ by ! (go typed.1.fits).prf)))
 
       pub first_steps : (q : Share) (to : ℕ → ℕ) (γ : ℕ) (k : List E) → May γ k → Traces holds ways view v to told
-          → 𝓛.A.inv (fbor t.life I) ∗ (𝓛.A.lft t.life q ∗ ⟦ fsep Mine (Known γ k) ⟧)
-          ⊢ asks 𝓛 (block_ptr b (o + 0)) to always (λ n. fsep (flft t.life q) (watched γ k n))
+          → ‵ (finv (fbor t.life I)) ⊛ ‵ (flft t.life q) ⊛ ‵ (fsep Mine (Known γ k)) ⊩ raw (asks 𝓛 (block_ptr b (o + 0)) to always (λ n. fsep (flft t.life q) (watched γ k n)))
       first_steps q to γ k may allows =
           let e : ℕ = o + 0 in let Own : Fml = fsep Mine (Known γ k) in let left : ℕ → Fml = watched γ k in
-          borrowed 𝓛 t.life q I b e to always left ⟦ Own ⟧ (qed 𝓛 (‵ I ∷ ‵ Own ∷ []) ∵ suffices ! _ (upd_i 𝓤 (ex 𝓤 (Lies 𝓛 t.life q I b e to always left))) $
+          lemma (borrowed 𝓛 t.life q I b e to always left ⟦ Own ⟧ (qed 𝓛 (‵ I ∷ ‵ Own ∷ []) ∵ suffices ! _ (upd_i 𝓤 (ex 𝓤 (Lies 𝓛 t.life q I b e to always left))) $
           fpick ! (λ s. let n : ℕ = s.0 in let m : Trace E U = s.1 in let Rest : Fml = fsep (Traced m) (Core s) in fsplit ! $
-          by ! (answers e to q left n (⟦ Rest ⟧ ∗ ⟦ Own ⟧) (λ small. qed 𝓛 (‵ (word b e (to n)) ∷ ‵ Rest ∷ ‵ Own ∷ []) ∵
+          by ! (answers e to q left n (‵ Rest ⊛ ‵ Own) (λ small. updates ∵
           move ! (1 ∷ []) $ fsplit ! $ move ! (3 ∷ []) $ fsplit ! $ move ! (4 ∷ 2 ∷ 3 ∷ 0 ∷ 1 ∷ []) $
-          by ! (grows γ k may n (to n) m m.word n (λ id vs meets here. allows id n m vs meets here small))))))
+          by ! (grows γ k may n (to n) m m.word n (λ id vs meets here. allows id n m vs meets here small)).prf)).prf)))
 
 -- the same if the word next to the trace is a number
 module _ {M : Type 1} {𝓤 : Ura M} (𝓛 : Logic 𝓤) (Er R : RattleType) (L : RowLaws R) (b o : ℕ) (t : Id) {V : Type 0} (cv : Coded V)
     (holds : ℕ → Trace Er.Denot ℕ → List V → Type 0) (ways : Ways R.Denot V (Trace Er.Denot ℕ)) (view : Option V) (v : Option R.Denot)
     (told : List Er.Denot → List Er.Denot → ℕ → V → Type 0) where
-  open (signs 𝓛) use {◌⊢◌, ◌∗◌, ⟦◌⟧}
+  open (signs 𝓛) use {◌⊩◌, ◌⊫◌, ◌⊢◌, ◌∗◌, ⟦◌⟧}
 
   abbrev place : ℕ
   place = at 𝓛 Er u64 R L b o t cv holds ways view v
@@ -260,17 +253,16 @@ module _ {M : Type 1} {𝓤 : Ura M} (𝓛 : Logic 𝓤) (Er R : RattleType) (L 
   left = watched 𝓛 Er u64 R L b o t cv holds ways view v told
 
   pub second_steps : (q : Share) (to : ℕ → ℕ) (γ : ℕ) (k : List Er.Denot) → (k ≡ []) ⊎ Named holds ways γ → TracesSecond holds ways view v to told
-      → 𝓛.A.inv (fbor t.life J) ∗ (𝓛.A.lft t.life q ∗ ⟦ Hand γ k ⟧) ⊢ asks 𝓛 (block_ptr b (place + 0)) to always (λ n. fsep (flft t.life q) (left γ k n))
+      → ‵ (finv (fbor t.life J)) ⊛ ‵ (flft t.life q) ⊛ ‵ (Hand γ k) ⊩ raw (asks 𝓛 (block_ptr b (place + 0)) to always (λ n. fsep (flft t.life q) (left γ k n)))
   second_steps q to γ k may allows =
       let e : ℕ = place + 0 in let Own : Fml = Hand γ k in
-      borrowed 𝓛 t.life q J b e to always (left γ k) ⟦ Own ⟧ (qed 𝓛 (‵ J ∷ ‵ Own ∷ []) ∵
+      lemma (borrowed 𝓛 t.life q J b e to always (left γ k) ⟦ Own ⟧ (qed 𝓛 (‵ J ∷ ‵ Own ∷ []) ∵
       suffices ! _ (upd_i 𝓤 (ex 𝓤 (Lies 𝓛 t.life q J b e to always (left γ k)))) $
       fpick ! (λ s. let n : ℕ = s.0 in let m : Trace Er.Denot ℕ = s.1 in let y : ℕ = m.word in let First : Fml = word b (o + 0) n in
       let Inside : Fml = core R b o t cv.code (S 𝓛 Er u64) holds ways s in
-      fsplit ! $ move ! (1 ∷ []) $ fsplit ! $ use1 𝓛 (‵ (word b e y) ⊛ raw (Takes 𝓛 Er b place m)) (word_apart 𝓛 Er b place m) $ split ! $
-      by ! (answers 𝓛 Er u64 R L b o t cv holds ways view v told e to q (left γ k) y (Takes 𝓛 Er b place m ∗ ⟦ Inside ⟧ ∗ ⟦ First ⟧ ∗ ⟦ Own ⟧) (λ small.
-      qed 𝓛 (‵ (word b e (to y)) ∷ raw (Takes 𝓛 Er b place m) ∷ ‵ Inside ∷ ‵ First ∷ ‵ Own ∷ []) ∵
+      fsplit ! $ move ! (1 ∷ []) $ fsplit ! $ cite _ (word_apart 𝓛 Er b place m) $
+      by ! (answers 𝓛 Er u64 R L b o t cv holds ways view v told e to q (left γ k) y (raw (Takes 𝓛 Er b place m) ⊛ ‵ Inside ⊛ ‵ First ⊛ ‵ Own) (λ small. updates ∵
       let Here : Fml = Traced 𝓛 Er u64 R L b o t cv holds ways view v (beside m (to y)) in
       move ! (1 ∷ []) $ use1 𝓛 (raw (with 𝓛 Er b place m (to y))) (all_e 𝓤 (with 𝓛 Er b place m) (to y)) $
       move ! (1 ∷ 0 ∷ []) $ use2 𝓛 (‵ Here) (apply∗ 𝓤 ⟦ word b e (to y) ⟧ ⟦ Here ⟧) $ move ! (3 ∷ []) $ fsplit ! $ move ! (4 ∷ 2 ∷ 3 ∷ 0 ∷ 1 ∷ []) $
-      by ! (grows 𝓛 Er u64 R L b o t cv holds ways view v told γ k may n n m (to y) y (λ id vs meets here. allows id n m vs meets here small))))))
+      by ! (grows 𝓛 Er u64 R L b o t cv holds ways view v told γ k may n n m (to y) y (λ id vs meets here. allows id n m vs meets here small)).prf)).prf)))

@@ -1,24 +1,25 @@
 -- A party changes its use of a cell's value: it gives back what it had of the value, and takes what it may use. Assumes
 -- `Logic`.
-use Rattle.std.proofs.Common.{◌≡◌, ◌≢◌, ℕ, suc, ◌+◌, ◌-◌, ◌^◌, ◌<◌, Bool, zero, true, [], ◌∷◌, refl, subst, arith, Option, Some, None}
+use Rattle.std.proofs.Common.{◌≡◌, ◌≢◌, ℕ, suc, ◌+◌, ◌-◌, ◌^◌, ◌<◌, Bool, zero, [], ◌∷◌, refl, subst, arith, Option, Some, None}
 use seplogic.Ra.Ura.{Ura}
 use base.Fraction.{full_share}
 use base.Stored.{Gv}
-use base.Logic.{SProp, guard, upd, upd_i, via, id⊢, never_e, snd∗}
+use base.Logic.{via, id⊢, never_e, snd∗}
 use base.Fml.{Lft, Fml, ftrue, ffalse, fsep, fex}
 use types.Logic.{Logic}
-use types.Kit.{‵, raw, ◌⊛◌, given, ◌$◌, ◌∵◌, !, qed, by, move, keep, drop, split, fsplit, fsplit3, fjoin, fjoin3, fpick, fpack, learn, check, rewrite, settle, suffices, use1, use2, done}
+use types.Kit.{‵, ◌⊛◌, given, ◌$◌, ◌∵◌, !, by, move, keep, drop, split, fsplit, fsplit3, fjoin, fjoin3, fpick, fpack, learn, check, rewrite, use1, done, Item}
 use denote.RattleType.{RattleType, RowLaws}
 use denote.SharingLaws.{contraction}
 use denote.Steps.{nothing}
 use Rattle.atomic_table.specs.Seated.{fact}
 use Rattle.spin_core.specs.Cell.{Going, Preserves, Shows, Finds, Carries, Learns, Use, off, reads, writes, Way, alone, lends, fixes, reading, writing, Limits}
-use Rattle.spin_core.specs.CellMemory.{Id, Round, round_code, tag, share, parts, piece, remains, idle, offset, shown, tracked, shared, resting, lying, state, reader}
+use Rattle.spin_core.specs.CellMemory.{Id, Round, round_code, tag, parts, piece, remains, idle, offset, shown, shared, resting, lying, state, reader}
 use Rattle.spin_core.proofs.CellWays.{going_rest}
 use Rattle.spin_core.proofs.CellParts.{parts_cut, parts_glue, parts_whole, parts_agree, pieces_agree, piece_cut}
 use Rattle.spin_core.proofs.CellRounds.{begun, held, whole, renewed, rests_lent, rests_fixed}
 use Rattle.spin_core.proofs.Signs.{signs}
 use Rattle.spin_core.proofs.WalkSteps.{knows}
+use Rattle.spin_core.proofs.Lemmas.{script, lemma, update, cite, updates, renew, settled}
 
 -- the number of readers with one more party, which uses the value in this way
 abbrev pub with_reader : Use → ℕ → ℕ
@@ -81,7 +82,7 @@ module _ {X : Type 0} where
     known_after u u' x turned owed had = grind arith
 
 module _ {M : Type 1} {𝓤 : Ura M} (𝓛 : Logic 𝓤) (R : RattleType) (L : RowLaws R) (b o : ℕ) (t : Id) where
-  open (signs 𝓛) use {◌⊢◌, ◌∗◌, ⟦◌⟧}
+  open (signs 𝓛) use {◌⊩◌, ◌⊫◌, ◌⊢◌, ◌∗◌, ⟦◌⟧}
 
   abbrev X : Type 0
   X = R.Denot
@@ -109,14 +110,17 @@ module _ {M : Type 1} {𝓤 : Ura M} (𝓛 : Logic 𝓤) (R : RattleType) (L : R
   seen_on facts r s = fsep (remains R facts γ s r) (shared R b o t s)
 
   -- a party that uses the value is shown one
-  nobody : (u : Use) (way : Way X) (P Q : SProp 𝓤) → u ≢ off → P ∗ ⟦ Held u way None ⟧ ⊢ Q
-  nobody off way P Q on = absurd (on refl)
-  nobody writes alone P Q on = via 𝓤 _ (snd∗ 𝓤 P ⟦ ffalse ⟧) (never_e 𝓤 _)
-  nobody _ _ P Q on = via 𝓤 _ (snd∗ 𝓤 P ⟦ ffalse ⟧) (never_e 𝓤 _)
+  never : (P : Fml) (k : Item 𝓤) → ‵ P ⊛ ‵ ffalse ⊫ k
+  never P k = update (via 𝓤 _ (snd∗ 𝓤 ⟦ P ⟧ ⟦ ffalse ⟧) (never_e 𝓤 _))
 
-  lies : (way : Way X) (φ : X → Type 0) (r : ℕ) (x : X) → φ x → ⟦ Rest way r x ⟧ ⊢ ⟦ St way φ r 0 ⟧
+  nobody : (u : Use) (way : Way X) (P : Fml) (k : Item 𝓤) → u ≢ off → ‵ P ⊛ ‵ (Held u way None) ⊫ k
+  nobody off way P k on = absurd (on refl)
+  nobody writes alone P k on = never P k
+  nobody _ _ P k on = never P k
+
+  lies : (way : Way X) (φ : X → Type 0) (r : ℕ) (x : X) → φ x → ‵ (Rest way r x) ⊩ ‵ (St way φ r 0)
   lies way φ r x known =
-      qed 𝓛 (‵ (Rest way r x) ∷ []) ∵ fpack ! (φ x) (λ _. Rest way r x) known $ fpack ! X (lying R b o t way φ r) x $ done !
+      script ∵ fpack ! (φ x) (λ _. Rest way r x) known $ fpack ! X (lying R b o t way φ r) x $ done !
 
   -- ---- a party gives back what it had
   module _ (φ : X → Type 0) (r : ℕ) where
@@ -127,61 +131,59 @@ module _ {M : Type 1} {𝓤 : Ura M} (𝓛 : Logic 𝓤) (R : RattleType) (L : R
     Given way u u' v = fex X (given_at way u u' v)
 
     gave : (way : Way X) (u u' : Use) (v : Option X) (x : X) → v ≡ shown_to u x → Had φ u x
-        → ⟦ Rest way (room way u' r) x ⟧ ⊢ ⟦ Given way u u' v ⟧
-    gave way u u' v x is had = qed 𝓛 (‵ (Rest way (room way u' r) x) ∷ []) ∵
+        → ‵ (Rest way (room way u' r) x) ⊩ ‵ (Given way u u' v)
+    gave way u u' v x is had = script ∵
         fpack ! ((v ≡ shown_to u x) × Had φ u x) (λ _. Rest way (room way u' r) x) (is, had) $ fpack ! X (given_at way u u' v) x $ done !
 
     -- a writer gives back a whole round
-    gave_whole : (way : Way X) (u' : Use) (x : X) → ⟦ whole 𝓛 R b o t x ⟧ ⊢ ⟦ Rest way (room way u' r) x ⟧
-        → ⟦ idle γ ⟧ ∗ ⟦ fex ℕ (begun 𝓛 R b o t x) ⟧ ⊢ upd 𝓤 ⟦ Given way writes u' (Some x) ⟧
+    gave_whole : (way : Way X) (u' : Use) (x : X) → ‵ (whole 𝓛 R b o t x) ⊩ ‵ (Rest way (room way u' r) x)
+        → ‵ (idle γ) ⊛ ‵ (fex ℕ (begun 𝓛 R b o t x)) ⊫ ‵ (Given way writes u' (Some x))
     gave_whole way u' x to =
-        renewed 𝓛 R b o t x ⟦ Given way writes u' (Some x) ⟧ (via 𝓤 ⟦ Rest way (room way u' r) x ⟧ to (gave way writes u' (Some x) x refl tt))
+        renewed 𝓛 R b o t x (Given way writes u' (Some x)) (script ∵ cite _ to $ cite _ (gave way writes u' (Some x) x refl tt) $ done !)
 
     -- a reader gives back one part; the part is of the round in the state
-    gave_part : (u' : Use) (x : X) → r < 2 ^ 63 → ⟦ St lends φ (suc r) 0 ⟧ ∗ ⟦ reader R b o t lends x ⟧ ⊢ ⟦ Given lends reads u' (Some x) ⟧
-    gave_part u' x small = qed 𝓛 (‵ (St lends φ (suc r) 0) ∷ ‵ (reader R b o t lends x) ∷ []) ∵ fpick ! (λ y. fpick ! (λ known. fpick ! (λ a.
+    gave_part : (u' : Use) (x : X) → r < 2 ^ 63 → ‵ (St lends φ (suc r) 0) ⊛ ‵ (reader R b o t lends x) ⊩ ‵ (Given lends reads u' (Some x))
+    gave_part u' x small = script ∵ fpick ! (λ y. fpick ! (λ known. fpick ! (λ a.
         fsplit ! $ move ! (2 ∷ []) $ fpick ! (λ c. let s : Round R = (a, y) in let u : Round R = (c, x) in fsplit ! $ move ! (2 ∷ 0 ∷ []) $
-        use2 𝓛 (given (s ≡ u) (‵ (parts R γ s (2 ^ 63 - suc r)) ⊛ ‵ (parts R γ u 1))) (parts_agree 𝓛 R γ s u (2 ^ 63 - suc r) 1) $
+        cite _ (parts_agree 𝓛 R γ s u (2 ^ 63 - suc r) 1) $
         learn ! (λ same. split ! $ rewrite ! 0 (λ (z : Round R). ‵ (parts R γ z (2 ^ 63 - suc r))) same refl $
-        use2 𝓛 (‵ (parts R γ u ((2 ^ 63 - suc r) + 1))) (parts_glue 𝓛 R γ u (2 ^ 63 - suc r) 1 (omega arith) (omega arith)) $
+        cite _ (parts_glue 𝓛 R γ u (2 ^ 63 - suc r) 1 (omega arith) (omega arith)) $
         let more : (2 ^ 63 - suc r) + 1 ≡ 2 ^ 63 - r = omega arith in rewrite ! 0 (λ (k : ℕ). ‵ (parts R γ u k)) more refl $ move ! (2 ∷ []) $
         rewrite ! 0 (λ (z : Round R). ‵ (shared R b o t z)) same refl $ move ! (1 ∷ 0 ∷ []) $ fjoin ! $ fpack ! ℕ (λ e. lent r (e, x)) c $
-        keep ! (0 ∷ []) $ by ! (gave lends reads u' (Some x) x refl (subst (λ (z : Round R). φ z.1) same known)))))))
+        keep ! (0 ∷ []) $ by ! (gave lends reads u' (Some x) x refl (subst (λ (z : Round R). φ z.1) same known)).prf)))))
 
     -- in the way `fixes` a reader drops its part
     gave_piece : (facts : Bool → X → Type 0) (x : X)
-        → ⟦ St (fixes facts) φ (suc r) 0 ⟧ ∗ ⟦ reader R b o t (fixes facts) x ⟧ ⊢ ⟦ Given (fixes facts) reads reads (Some x) ⟧
+        → ‵ (St (fixes facts) φ (suc r) 0) ⊛ ‵ (reader R b o t (fixes facts) x) ⊩ ‵ (Given (fixes facts) reads reads (Some x))
     gave_piece facts x = let way : Way X = fixes facts in
-        qed 𝓛 (‵ (St way φ (suc r) 0) ∷ ‵ (reader R b o t way x) ∷ []) ∵ fpick ! (λ y. fpick ! (λ known. fpick ! (λ a. fsplit ! $ move ! (2 ∷ []) $
+        script ∵ fpick ! (λ y. fpick ! (λ known. fpick ! (λ a. fsplit ! $ move ! (2 ∷ []) $
         fpick ! (λ c. let s : Round R = (a, y) in let u : Round R = (c, x) in fsplit ! $ move ! (2 ∷ 0 ∷ []) $
-        use2 𝓛 (given (s ≡ u) (‵ (piece R way γ s) ⊛ ‵ (piece R way γ u))) (pieces_agree 𝓛 R γ way s u) $ learn ! (λ same. split ! $
+        cite _ (pieces_agree 𝓛 R γ way s u) $ learn ! (λ same. split ! $
         move ! (0 ∷ 3 ∷ []) $ fjoin ! $ rewrite ! 0 (λ (z : Round R). ‵ (seen_on facts (suc r) z)) same refl $
         fpack ! ℕ (λ e. seen_on facts (suc r) (e, x)) c $
-        keep ! (0 ∷ []) $ by ! (gave way reads reads (Some x) x refl (subst (λ (z : Round R). φ z.1) same known)))))))
+        keep ! (0 ∷ []) $ by ! (gave way reads reads (Some x) x refl (subst (λ (z : Round R). φ z.1) same known)).prf)))))
 
     abbrev Gives : Way X → Use → Use → Option X → Type 1
-    Gives way u u' v = ⟦ St way φ (with_reader u r) (with_writer u 0) ⟧ ∗ ⟦ Held u way v ⟧ ⊢ upd 𝓤 ⟦ Given way u u' v ⟧
+    Gives way u u' v = ‵ (St way φ (with_reader u r) (with_writer u 0)) ⊛ ‵ (Held u way v) ⊫ ‵ (Given way u u' v)
 
-  has_room : (way : Way X) (u' : Use) (v : Option X) (r : ℕ) (x : X) (A : Type 0) → Going way off u' v r A → ⟦ Rest way r x ⟧ ⊢ ⟦ Rest way (room way u' r) x ⟧
+  has_room : (way : Way X) (u' : Use) (v : Option X) (r : ℕ) (x : X) (A : Type 0) → Going way off u' v r A → ‵ (Rest way r x) ⊩ ‵ (Rest way (room way u' r) x)
   has_room (fixes facts) reads v zero x A going = absurd (omega (arith, going.1))
-  has_room (fixes facts) reads v (suc r) x A going = id⊢ 𝓤 _
-  has_room _ u' v r x A going = id⊢ 𝓤 _
+  has_room (fixes facts) reads v (suc r) x A going = lemma (id⊢ 𝓤 _)
+  has_room _ u' v r x A going = lemma (id⊢ 𝓤 _)
 
   gives : (φ : X → Type 0) (way : Way X) (r : ℕ) (u u' : Use) (v : Option X) (A : Type 0) → (u ≡ writes → u' ≢ writes) → Lim way r 0 u
       → Going way u u' v (with_reader u r) A → Gives φ r way u u' v
-  gives φ way r off u' (Some x) A turned lim going = via 𝓤 _ (snd∗ 𝓤 ⟦ St way φ r 0 ⟧ ⟦ ffalse ⟧) (never_e 𝓤 _)
-  gives φ way r off u' None A turned lim going = let Z : SProp 𝓤 = ⟦ Given φ r way off u' None ⟧ in
-      qed 𝓛 (‵ (St way φ r 0) ∷ ‵ ftrue ∷ []) ∵ suffices ! Z (upd_i 𝓤 Z) $ fpick ! (λ x. fpick ! (λ known.
-      use1 𝓛 (‵ (Rest way (room way u' r) x)) (has_room way u' None r x A going) $ keep ! (0 ∷ []) $ by ! (gave φ r way off u' None x refl known)))
-  gives φ way r u u' None A turned lim going = nobody u way ⟦ St way φ (with_reader u r) (with_writer u 0) ⟧ _ (λ e. absurd cc)
+  gives φ way r off u' (Some x) A turned lim going = never (St way φ r 0) _
+  gives φ way r off u' None A turned lim going = updates ∵ settled ! _ $ fpick ! (λ x. fpick ! (λ known.
+      cite _ (has_room way u' None r x A going) $ keep ! (0 ∷ []) $ by ! (gave φ r way off u' None x refl known).prf))
+  gives φ way r u u' None A turned lim going = nobody u way (St way φ (with_reader u r) (with_writer u 0)) _ (λ e. absurd cc)
   gives φ alone r reads u' (Some x) A turned lim going = absurd (omega arith)
-  gives φ alone r writes u' (Some x) A turned lim going = let Z : SProp 𝓤 = ⟦ Given φ r alone writes u' (Some x) ⟧ in
-      qed 𝓛 (‵ ftrue ∷ ‵ (tracked R b o t x) ∷ []) ∵ suffices ! Z (upd_i 𝓤 Z) $ drop ! $ by ! (gave φ r alone writes u' (Some x) x refl tt)
+  gives φ alone r writes u' (Some x) A turned lim going = updates ∵ settled ! _ $ drop ! $ by ! (gave φ r alone writes u' (Some x) x refl tt).prf
   gives φ lends r reads u' (Some x) A turned lim going =
-      via 𝓤 _ (gave_part φ r u' x (omega arith)) (upd_i 𝓤 ⟦ Given φ r lends reads u' (Some x) ⟧)
+      updates ∵ settled ! _ $ by ! (gave_part φ r u' x (omega arith)).prf
   gives φ lends r writes u' (Some x) A turned lim going = gave_whole φ r lends u' x (rests_lent 𝓛 R b o t r x (omega arith))
   gives φ (fixes facts) r reads reads (Some x) A turned lim going =
-      via 𝓤 _ (gave_piece φ r facts x) (upd_i 𝓤 ⟦ Given φ r (fixes facts) reads reads (Some x) ⟧)
+      updates ∵ settled ! _ $ by ! (gave_piece φ r facts x).prf
   gives φ (fixes facts) r reads u' (Some x) A turned lim going = absurd (let e : u' ≡ reads = going.0 refl in cc)
   gives φ (fixes facts) r writes off (Some x) A turned lim going = let none : r ≡ 0 = lim.1 (omega arith) in
       gave_whole φ r (fixes facts) off x (rests_fixed 𝓛 R b o t facts r x (rw none going.1))
@@ -191,35 +193,32 @@ module _ {M : Type 1} {𝓤 : Ura M} (𝓛 : Logic 𝓤) (R : RattleType) (L : R
   -- ---- a party takes what it may use
   module _ (ψ : X → Type 0) where
     abbrev Takes : Way X → ℕ → Use → X → Type 1
-    Takes way r u x = ⟦ Rest way (room way u r) x ⟧
-        ⊢ guard 𝓤 (Finds way off u (shown_to u x)) (⟦ St way ψ (with_reader u r) (with_writer u 0) ⟧ ∗ ⟦ Held u way (shown_to u x) ⟧)
+    Takes way r u x = ‵ (Rest way (room way u r) x) ⊩ given (Finds way off u (shown_to u x)) (‵ (St way ψ (with_reader u r) (with_writer u 0)) ⊛ ‵ (Held u way (shown_to u x)))
 
-    takes_nothing : (way : Way X) (r : ℕ) (x : X) → ψ x → (A : Type 0) → A → ⟦ Rest way r x ⟧ ⊢ guard 𝓤 A (⟦ St way ψ r 0 ⟧ ∗ ⟦ ftrue ⟧)
+    takes_nothing : (way : Way X) (r : ℕ) (x : X) → ψ x → (A : Type 0) → A → ‵ (Rest way r x) ⊩ given A (‵ (St way ψ r 0) ⊛ ‵ ftrue)
     takes_nothing way r x known A a =
-        qed 𝓛 (‵ (Rest way r x) ∷ []) ∵ check ! a $ use1 𝓛 (‵ (St way ψ r 0)) (lies way ψ r x known) $ nothing ! $ move ! (1 ∷ 0 ∷ []) $ done !
+        script ∵ check ! a $ cite _ (lies way ψ r x known) $ nothing ! $ move ! (1 ∷ 0 ∷ []) $ done !
 
     -- a reader takes its piece of a round, and the state keeps the rest
-    taken : (way : Way X) (r : ℕ) (Rem : Round R → Fml) (x : X) (a : ℕ) → ψ x → ⟦ fex ℕ (λ e. fsep (Rem (e, x)) (shared R b o t (e, x))) ⟧
-        ⊢ ⟦ Rest way (suc r) x ⟧
-        → ⟦ piece R way γ (a, x) ⟧ ∗ ⟦ Rem (a, x) ⟧ ∗ ⟦ shared R b o t (a, x) ⟧ ⊢ ⟦ St way ψ (suc r) 0 ⟧ ∗ ⟦ reader R b o t way x ⟧
+    taken : (way : Way X) (r : ℕ) (Rem : Round R → Fml) (x : X) (a : ℕ) → ψ x → ‵ (fex ℕ (λ e. fsep (Rem (e, x)) (shared R b o t (e, x)))) ⊩ ‵ (Rest way (suc r) x)
+        → ‵ (piece R way γ (a, x)) ⊛ ‵ (Rem (a, x)) ⊛ ‵ (shared R b o t (a, x)) ⊩ ‵ (St way ψ (suc r) 0) ⊛ ‵ (reader R b o t way x)
     taken way r Rem x a known rests = let Lent : ℕ → Fml = λ e. fsep (Rem (e, x)) (shared R b o t (e, x)) in
-        qed 𝓛 (‵ (piece R way γ (a, x)) ∷ ‵ (Rem (a, x)) ∷ ‵ (shared R b o t (a, x)) ∷ []) ∵ move ! (2 ∷ []) $ fsplit3 ! $ move ! (1 ∷ []) $
+        script ∵ move ! (2 ∷ []) $ fsplit3 ! $ move ! (1 ∷ []) $
         use1 𝓛 (‵ (V x (a ∷ t.life)) ⊛ ‵ (V x (a ∷ t.life))) (contraction 𝓛 (V x) (L x b (o + offset R)) (a ∷ t.life)) $ split ! $
         move ! (4 ∷ 0 ∷ []) $ fjoin ! $ fpack ! ℕ (λ e. fsep (piece R way γ (e, x)) (V x (e ∷ t.life))) a $
-        move ! (2 ∷ 1 ∷ 3 ∷ []) $ fjoin3 ! $ move ! (2 ∷ 0 ∷ []) $ fjoin ! $ fpack ! ℕ Lent a $ use1 𝓛 (‵ (Rest way (suc r) x)) rests $
-        use1 𝓛 (‵ (St way ψ (suc r) 0)) (lies way ψ (suc r) x known) $ done !
+        move ! (2 ∷ 1 ∷ 3 ∷ []) $ fjoin3 ! $ move ! (2 ∷ 0 ∷ []) $ fjoin ! $ fpack ! ℕ Lent a $ cite _ rests $
+        cite _ (lies way ψ (suc r) x known) $ done !
 
     takes_part : (r : ℕ) (x : X) → ψ x → suc r < 2 ^ 63 → Takes lends r reads x
-    takes_part r x known small = qed 𝓛 (‵ (Rest lends r x) ∷ []) ∵ check ! tt $ fpick ! (λ a. fsplit ! $
-        use1 𝓛 (‵ (parts R γ (a, x) 1) ⊛ ‵ (parts R γ (a, x) (2 ^ 63 - suc r)))
-        (parts_cut 𝓛 R γ (a, x) (2 ^ 63 - r) 1 (2 ^ 63 - suc r) (omega arith) (omega arith) (omega arith) (omega arith)) $ split ! $
-        by ! (taken lends r (λ s. parts R γ s (2 ^ 63 - suc r)) x a known (id⊢ 𝓤 _)))
+    takes_part r x known small = script ∵ check ! tt $ fpick ! (λ a. fsplit ! $
+        cite _ (parts_cut 𝓛 R γ (a, x) (2 ^ 63 - r) 1 (2 ^ 63 - suc r) (omega arith) (omega arith) (omega arith) (omega arith)) $
+        by ! (taken lends r (λ s. parts R γ s (2 ^ 63 - suc r)) x a known (lemma (id⊢ 𝓤 _))).prf)
 
     -- a reader takes half of what the earlier readers left
     takes_piece : (facts : Bool → X → Type 0) (r : ℕ) (x : X) → ψ x → Takes (fixes facts) r reads x
-    takes_piece facts r x known = let way : Way X = fixes facts in qed 𝓛 (‵ (Rest way (suc r) x) ∷ []) ∵ fpick ! (λ a. fsplit ! $
-        use1 𝓛 (given (facts true x) (‵ (piece R way γ (a, x)) ⊛ ‵ (piece R way γ (a, x)))) (piece_cut 𝓛 R γ facts (a, x)) $
-        learn ! (λ so. check ! so $ split ! $ by ! (taken way r (λ s. piece R way γ s) x a known (id⊢ 𝓤 _))))
+    takes_piece facts r x known = let way : Way X = fixes facts in script ∵ fpick ! (λ a. fsplit ! $
+        cite _ (piece_cut 𝓛 R γ facts (a, x)) $
+        learn ! (λ so. check ! so $ split ! $ by ! (taken way r (λ s. piece R way γ s) x a known (lemma (id⊢ 𝓤 _))).prf))
 
     -- each party takes what it may use: a writer takes the whole round
     takes : (way : Way X) (r : ℕ) (u : Use) (x : X) → ψ x → Lim way r 0 u → Takes way r u x
@@ -228,13 +227,13 @@ module _ {M : Type 1} {𝓤 : Ura M} (𝓛 : Logic 𝓤) (R : RattleType) (L : R
     takes alone r reads x known lim = absurd (omega arith)
     takes lends r reads x known lim = takes_part r x known (omega arith)
     takes (fixes facts) r reads x known lim = takes_piece facts r x known
-    takes alone r writes x known lim = qed 𝓛 (‵ (tracked R b o t x) ∷ []) ∵ check ! tt $ nothing ! $ done !
+    takes alone r writes x known lim = script ∵ check ! tt $ nothing ! $ done !
     takes lends (suc r) writes x known lim = absurd (omega arith)
-    takes lends zero writes x known lim = qed 𝓛 (‵ (Rest lends 0 x) ∷ []) ∵ check ! tt $ fpick ! (λ a. fsplit ! $
-        use1 𝓛 (‵ (share R γ (a, x) full_share)) (parts_whole 𝓛 R γ (a, x)) $ fsplit ! $ move ! (0 ∷ 2 ∷ []) $ fjoin ! $
+    takes lends zero writes x known lim = script ∵ check ! tt $ fpick ! (λ a. fsplit ! $
+        cite _ (parts_whole 𝓛 R γ (a, x)) $ fsplit ! $ move ! (0 ∷ 2 ∷ []) $ fjoin ! $
         fpack ! ℕ (begun 𝓛 R b o t x) a $ move ! (1 ∷ []) $ fpack ! Gv (tag γ full_share) (round_code R (a, x)) $ done !)
     takes (fixes facts) (suc r) writes x known lim = absurd (let e : suc r ≡ 0 = lim.1 (omega arith) in omega (arith, e))
-    takes (fixes facts) zero writes x known lim = qed 𝓛 (‵ (Rest (fixes facts) 0 x) ∷ []) ∵ fpick ! (λ a. fsplit ! $ fpick ! (λ so. check ! so $
+    takes (fixes facts) zero writes x known lim = script ∵ fpick ! (λ a. fsplit ! $ fpick ! (λ so. check ! so $
         fsplit ! $ move ! (0 ∷ 2 ∷ []) $ fjoin ! $ fpack ! ℕ (begun 𝓛 R b o t x) a $ move ! (1 ∷ []) $
         fpack ! Gv (tag γ full_share) (round_code R (a, x)) $ done !))
 
@@ -246,8 +245,8 @@ module _ {M : Type 1} {𝓤 : Ura M} (𝓛 : Logic 𝓤) (R : RattleType) (L : R
   Got way ψ u u' v = fex (Option X) (got way ψ u u' v)
 
   got_in : (way : Way X) (ψ : X → Type 0) (u u' : Use) (v v' : Option X) → Preserves way u u' v v' × Learns ψ u u' v v'
-      → ⟦ Held u' way v' ⟧ ⊢ ⟦ Got way ψ u u' v ⟧
-  got_in way ψ u u' v v' so = qed 𝓛 (‵ (Held u' way v') ∷ []) ∵
+      → ‵ (Held u' way v') ⊩ ‵ (Got way ψ u u' v)
+  got_in way ψ u u' v v' so = script ∵
       knows ! (Preserves way u u' v v' × Learns ψ u u' v v') so $ fjoin ! $
       fpack ! (Option X) (got way ψ u u' v) v' $ done !
 
@@ -255,8 +254,7 @@ module _ {M : Type 1} {𝓤 : Ura M} (𝓛 : Logic 𝓤) (R : RattleType) (L : R
   module _ (φ ψ : X → Type 0) (way : Way X) (r : ℕ) where
     abbrev Turns : ℕ → Use → Use → Option X → Type 1
     Turns w u u' v = Lim way r w u → Going way u u' v (with_reader u r) (Lim way r w u') → Carries φ ψ u u' v
-        → ⟦ St way φ (with_reader u r) (with_writer u w) ⟧ ∗ ⟦ Held u way v ⟧
-        ⊢ upd 𝓤 (⟦ St way ψ (with_reader u' r) (with_writer u' w) ⟧ ∗ ⟦ Got way ψ u u' v ⟧)
+        → ‵ (St way φ (with_reader u r) (with_writer u w)) ⊛ ‵ (Held u way v) ⊫ ‵ (St way ψ (with_reader u' r) (with_writer u' w)) ⊛ ‵ (Got way ψ u u' v)
 
     -- if nobody else writes, the party gives back what it had, and takes what it may use next
     passes : (u u' : Use) (v : Option X) → (u ≡ writes → u' ≢ writes) → Turns 0 u u' v
@@ -264,24 +262,20 @@ module _ {M : Type 1} {𝓤 : Ura M} (𝓛 : Logic 𝓤) (R : RattleType) (L : R
         let Before : Fml = St way φ (with_reader u r) (with_writer u 0) in let After : Fml = St way ψ (with_reader u' r) (with_writer u' 0) in
         let Gave : Fml = Given φ r way u u' v in let Now : X → Fml = λ x. Held u' way (shown_to u' x) in
         let So : Option X → X → Type 0 = λ z x. Preserves way u u' z (shown_to u' x) × Learns ψ u u' z (shown_to u' x) in
-        let Z : SProp 𝓤 = ⟦ After ⟧ ∗ ⟦ Got way ψ u u' v ⟧ in qed 𝓛 (‵ Before ∷ ‵ (Held u way v) ∷ []) ∵
-        use2 𝓛 (raw (upd 𝓤 ⟦ Gave ⟧)) (gives φ way r u u' v (Lim way r 0 u') turned lim going) $ settle 𝓛 Z (‵ Gave) $
-        suffices ! Z (upd_i 𝓤 Z) $ fpick ! (λ x. fpick ! (λ had.
+        updates ∵ renew (‵ After ⊛ ‵ (Got way ψ u u' v)) _ (gives φ way r u u' v (Lim way r 0 u') turned lim going) $ settled ! _ $ fpick ! (λ x. fpick ! (λ had.
         let known : ψ x = known_after φ ψ u u' x turned (subst (Carries φ ψ u u') had.0 owed) had.1 in
-        use1 𝓛 (given (Finds way off u' (shown_to u' x)) (‵ After ⊛ ‵ (Now x)))
-        (takes ψ way r u' x known (going_rest way u u' v (with_reader u r) going)) $ learn ! (λ finds.
+        cite _ (takes ψ way r u' x known (going_rest way u u' v (with_reader u r) going)) $ learn ! (λ finds.
         let so : So v x = rw had.0 ((shows u u' x, finds_so way u u' x finds), learns φ ψ u u' x known) in
-        split ! $ move ! (1 ∷ []) $ use1 𝓛 (‵ (Got way ψ u u' v)) (got_in way ψ u u' v (shown_to u' x) so) $ move ! (1 ∷ 0 ∷ []) $ done !)))
+        split ! $ move ! (1 ∷ []) $ cite _ (got_in way ψ u u' v (shown_to u' x) so) $ move ! (1 ∷ 0 ∷ []) $ done !)))
 
     -- a party that keeps its use keeps what it has
-    stays : (u : Use) (P : Fml) (v : Option X) → Preserves way u u v v × Learns ψ u u v v → ⟦ P ⟧ ∗ ⟦ Held u way v ⟧ ⊢ upd 𝓤 (⟦ P ⟧ ∗ ⟦ Got way ψ u u v ⟧)
-    stays u P v so = let Z : SProp 𝓤 = ⟦ P ⟧ ∗ ⟦ Got way ψ u u v ⟧ in qed 𝓛 (‵ P ∷ ‵ (Held u way v) ∷ []) ∵
-        suffices ! Z (upd_i 𝓤 Z) $ move ! (1 ∷ []) $ use1 𝓛 (‵ (Got way ψ u u v)) (got_in way ψ u u v v so) $ move ! (1 ∷ 0 ∷ []) $ done !
+    stays : (u : Use) (P : Fml) (v : Option X) → Preserves way u u v v × Learns ψ u u v v → ‵ P ⊛ ‵ (Held u way v) ⊫ ‵ P ⊛ ‵ (Got way ψ u u v)
+    stays u P v so = updates ∵ settled ! _ $ move ! (1 ∷ []) $ cite _ (got_in way ψ u u v v so) $ move ! (1 ∷ 0 ∷ []) $ done !
 
     pub turns : (w : ℕ) (u u' : Use) (v : Option X) → Turns w u u' v
-    turns w writes writes None lim going owed = nobody writes way ⟦ St way φ r (suc w) ⟧ _ (λ e. absurd cc)
+    turns w writes writes None lim going owed = nobody writes way (St way φ r (suc w)) _ (λ e. absurd cc)
     turns w writes writes (Some x) lim going owed = stays writes (St way φ r (suc w)) (Some x) (writes_so way x, tt)
-    turns (suc w) off off (Some x) lim going owed = via 𝓤 _ (snd∗ 𝓤 ⟦ St way φ r (suc w) ⟧ ⟦ ffalse ⟧) (never_e 𝓤 _)
+    turns (suc w) off off (Some x) lim going owed = never (St way φ r (suc w)) _
     turns (suc w) off off None lim going owed = stays off (St way φ r (suc w)) None (rests_so way, tt)
     turns (suc w) off u' v lim going owed =
         absurd (let e = none_else u' way r (suc w) (λ e. absurd cc) (going_rest way off u' v r going) in omega (arith, e))

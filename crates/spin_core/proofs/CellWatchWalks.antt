@@ -3,7 +3,7 @@
 use Rattle.std.proofs.Common.{◌≡◌, ℕ, ◌+◌, ◌<◌, ◌^◌, List, [], ◌∷◌, ◌++◌, Option, Some, refl, w64}
 use seplogic.Ra.Ura.{Ura}
 use mir.Val.{Val, vint, vstruct, vcons, vnil, of_list}
-use base.Logic.{SProp, sep, ex, guard, guard_i, ex_i, via, apply∗}
+use base.Logic.{SProp, sep, apply∗}
 use base.Before.{before}
 use types.Na.{before_dup}
 use contract.Shared.{Lends-one}
@@ -13,7 +13,7 @@ use contract.Running.{Running}
 use contract.Monad.{fact}
 use contract.BorrowLft.{◌⊑◌}
 use types.Logic.{Logic}
-use types.Kit.{Goal, !, qed, ◌∵◌, Soaks, Seq, Item, ‵, raw, ◌⊛◌, some, later, given, ◌$◌, done, now, updating, show, join, learn, drop, move, split, split3, fsplit, fjoin, fpick, fpack, pick, await, use0, use1, use2, use3, feq_i, flt_i}
+use types.Kit.{Goal, !, ◌∵◌, Soaks, Seq, Item, ‵, raw, ◌⊛◌, some, later, given, ◌$◌, done, now, updating, join, learn, drop, move, split, split3, fsplit, fjoin, fpick, fpack, pick, await, use0, use1, use2, use3, feq_i, flt_i}
 use denote.RattleType.{RattleType, Valss, owns}
 use denote.Ref.{NamedLft}
 use denote.Steps.{nothing}
@@ -28,15 +28,16 @@ use Rattle.spin_core.specs.declared.trace.Watch.{Watch}
 use Rattle.spin_core.specs.declared.cell.Permit.{Permit}
 use Rattle.spin_core.proofs.TraceTokens.{token, Token, token_made}
 use Rattle.spin_core.specs.Cell.{Use, Ways, use_of, Keeps}
-use Rattle.spin_core.specs.CellMemory.{second_at, Known as Shares, Id, right, inner, kept, permit_at, permit_owns}
+use Rattle.spin_core.specs.CellMemory.{second_at, Known as Shares, Id, inner, kept, permit_at, permit_owns}
 use Rattle.spin_core.specs.Traced.{Watches, Learnt, Named, MayKnow, Traces, TracesSecond}
 use Rattle.spin_core.specs.declared.cell.Rule.{Ghosts}
 use Rattle.spin_core.specs.contracts.cell.Permit as hand
 use Rattle.spin_core.proofs.PermitFields.{hand_of, Words, made}
-use Rattle.spin_core.proofs.CellRounds.{held, readies, settles_down}
+use Rattle.spin_core.proofs.CellRounds.{readies, settles_down}
 use Rattle.spin_core.proofs.Signs.{signs}
 use Rattle.spin_core.proofs.WalkSteps.{says, Facts, after_facts, first_and_last, takes_at}
 use Rattle.spin_core.proofs.CellSteps as steps
+use Rattle.spin_core.proofs.Lemmas.{script, cite, having, holding, pack}
 
 -- the watch with this name and these entries
 abbrev pub knowing : {E : Type 0} → ℕ × List E → Watch E
@@ -49,7 +50,7 @@ next h b o s = record { cell = block_ptr b o; marker = record {}; key = h.key; v
 module _ {M : Type 1} {𝓤 : Ura M} (𝓛 : Logic 𝓤) (𝓜 : Model 𝓤 𝓛.H) (𝓡 : Running 𝓤 𝓛.H 𝓜) (ℓ : NamedLft) (T W Y Kr Er Ur : RattleType)
     (L : Laws T) (g : Ghosts Y.Denot T.Denot W.Denot Kr.Denot (trace.the_row Er Ur).Denot) where
   open 𝓛 use {H, A}
-  open (signs 𝓛) use {◌⊢◌, ◌∗◌, ◌-∗◌, ⟦◌⟧}
+  open (signs 𝓛) use {◌⊩◌, ◌⊢◌, ◌∗◌, ◌-∗◌, ⟦◌⟧}
 
   abbrev R : RattleType
   R = param 0 T
@@ -114,40 +115,38 @@ module _ {M : Type 1} {𝓤 : Ura M} (𝓛 : Logic 𝓤) (𝓜 : Model 𝓤 𝓛
       abbrev back : SProp 𝓤
       back = ⟦ Remains ⟧ ∗ Gives ∗ A.lft τ r
 
-      abbrev Entered : SProp 𝓤
-      Entered = A.inv Inv ∗ ⟦ alive ⟧ ∗ ⟦ Mine ⟧ ∗ back
+      abbrev Entered : Item 𝓤
+      Entered = ‵ (finv Inv) ⊛ ‵ alive ⊛ ‵ Mine ⊛ raw back
 
-    enters : Incl τ R.lives → ⟦ Owned h.view h.value ⟧ ∗ A.lft β q ∗ A.lft τ r ⊢ H.⇛ (ex 𝓤 Entered)
-    enters le = let u : Use = use_of ways.1 h.view in qed 𝓛 (‵ (Owned h.view h.value) ∷ ‵ (flft β q) ∷ ‵ (flft τ r) ∷ []) ∵ updating ! $
+    enters : Incl τ R.lives → ‵ (Owned h.view h.value) ⊛ ‵ (flft β q) ⊛ ‵ (flft τ r) ⊩ later (some Entered)
+    enters le = let u : Use = use_of ways.1 h.view in script ∵ updating ! $
         fpick ! (λ known. fpick ! (λ t. let J : Fml = fbor t.life (inner R b o t W.coded.code Sr (g.holds h.key) ways) in fsplit ! $ fsplit ! $
         use1 𝓛 (‵ (before β t.life) ⊛ ‵ (before β t.life)) (before_dup 𝓛 β t.life) $ split ! $ move ! (2 ∷ []) $
         use1 𝓛 (‵ (finv J) ⊛ ‵ (finv J)) (𝓛.invs.inv_dup J) $ split ! $ move ! (2 ∷ 0 ∷ []) $ fjoin ! $ move ! (2 ∷ 4 ∷ []) $
         use2 𝓛 (later (some (λ (s : Share). ‵ (flft t.life s) ⊛ raw (A.lft t.life s -∗ H.⇛ (A.lft β q))))) (Lends-one 𝓛 𝓜 𝓡 β t.life q) $ await ! tt $
         pick ! (λ s. split ! $ move ! (4 ∷ []) $ fsplit ! $ move ! (1 ∷ 2 ∷ 6 ∷ []) $
-        use3 𝓛 (later (‵ (held 𝓛 R b o t u ways.0 h.value) ⊛ ‵ (flft t.life s) ⊛ ‵ (flft τ r)))
-        (readies 𝓛 R b o t R.lives (LR.shares 𝓛) u ways.0 h.value t.life s τ r (Incl-refl t.life) le) $ await ! tt $ split3 ! $
-        move ! (3 ∷ 0 ∷ []) $ fjoin ! $ now ! $ show ! Entered (known, (t, s)) $ move ! (5 ∷ 1 ∷ 0 ∷ 4 ∷ 3 ∷ 2 ∷ []) $ done !)))
+        cite _ (readies 𝓛 R b o t R.lives (LR.shares 𝓛) u ways.0 h.value t.life s τ r (Incl-refl t.life) le) $ await ! tt $ split3 ! $
+        move ! (3 ∷ 0 ∷ []) $ fjoin ! $ now ! $ having ! Entered (known, (t, s)) $ move ! (5 ∷ 1 ∷ 0 ∷ 4 ∷ 3 ∷ 2 ∷ []) $ done !)))
 
     -- what holds of a permit at its new view and value: the step tells it, and a value that it keeps using is the same
     abbrev Closed : (W.Denot → Option R.Denot → Type 0) → W.Denot × Option R.Denot → Type 0
     Closed tells s = tells s.0 s.1 × Keeps ways h.view (Some s.0) h.value s.1
 
-    abbrev Left : (W.Denot → Option R.Denot → Type 0) → W.Denot × Option R.Denot → SProp 𝓤
-    Left tells s = guard 𝓤 (Closed tells s) ⟦ Owned (Some s.0) s.1 ⟧
+    abbrev Left : (W.Denot → Option R.Denot → Type 0) → W.Denot × Option R.Denot → Item 𝓤
+    Left tells s = given (Closed tells s) (‵ (Owned (Some s.0) s.1))
 
     abbrev moved : Entry → (W.Denot → Option R.Denot → Type 0) → Fml
     moved k tells = steps.moved 𝓛 Er Ur R LR.shr_laws b o k.1.0 W.coded (g.holds h.key) ways h.view h.value tells
 
-    exits : (k : Entry) (tells : W.Denot → Option R.Denot → Type 0) → ⟦ alive k ⟧ ∗ ⟦ moved k tells ⟧ ∗ back k ⊢ H.⇛ (ex 𝓤 (Left tells) ∗ A.lft β q ∗ A.lft τ r)
+    exits : (k : Entry) (tells : W.Denot → Option R.Denot → Type 0) → ‵ (alive k) ⊛ ‵ (moved k tells) ⊛ ‵ (Remains k) ⊛ raw (Gives k) ⊛ ‵ (flft τ r) ⊩ later (some (Left tells) ⊛ ‵ (flft β q) ⊛ ‵ (flft τ r))
     exits k tells = let t : Id = k.1.0 in let At : Option W.Denot → Option R.Denot → Id → Fml = permit_at Y R W.coded.code Sr (g.holds h.key) ways β b o in
-        qed 𝓛 (‵ (alive k) ∷ ‵ (moved k tells) ∷ ‵ (Remains k) ∷ raw (Gives k) ∷ ‵ (flft τ r) ∷ []) ∵ updating ! $ move ! (0 ∷ 3 ∷ []) $
+        script ∵ updating ! $ move ! (0 ∷ 3 ∷ []) $
         use2 𝓛 (later (‵ (flft β q))) (apply∗ 𝓤 (A.lft t.life k.1.1) (H.⇛ (A.lft β q))) $ await ! tt $ move ! (1 ∷ []) $
         fpick ! (λ s. fsplit ! $ fpick ! (λ so. drop ! $ fsplit ! $ move ! (1 ∷ []) $
-        use1 𝓛 (later (‵ (right R b o t ways.0 (ways.1 s.0) s.1))) (settles_down 𝓛 R b o t (ways.1 s.0) ways.0 s.1) $ await ! tt $
+        cite _ (settles_down 𝓛 R b o t (ways.1 s.0) ways.0 s.1) $ await ! tt $
         move ! (1 ∷ 0 ∷ []) $ fjoin ! $ move ! (2 ∷ 0 ∷ []) $ fjoin ! $ fpack ! Id (At (Some s.0) s.1) t $
         fpack ! (Shares ways Y Sr R) (λ _. fex Id (At (Some s.0) s.1)) k.0 $
-        use1 𝓛 (raw (ex 𝓤 (Left tells)))
-        (via 𝓤 (Left tells s) (guard_i 𝓤 (Closed tells s) ⟦ Owned (Some s.0) s.1 ⟧ so) (ex_i 𝓤 (Left tells) s)) $ now ! $ done !))
+        holding ! so $ pack ! (Left tells) s $ now ! $ done !))
 
     -- what the step tells and the party learns of the value, for a watch that knows these entries
     abbrev finds : List Er.Denot → W.Denot → Option R.Denot → Type 0
@@ -173,8 +172,7 @@ module _ {M : Type 1} {𝓤 : Ura M} (𝓛 : Logic 𝓤) (𝓜 : Model 𝓤 𝓛
           let tells : W.Denot → Option R.Denot → Type 0 = λ w x. told s.1.0 s.1.1 n w × finds l.1 w x in
           -- context: [what the step leaves; what the watch knows; the lifetime's token; the way back; the other tokens]
           move t (2 ∷ 0 ∷ 3 ∷ []) $
-          use3 𝓛 (later (some (λ (v : W.Denot × Option R.Denot). given (Closed tells v) (‵ (Owned (Some v.0) v.1))) ⊛ ‵ (flft β q) ⊛ ‵ (flft τ r)))
-          (exits k tells) $ await t z $ split3 t $ pick t (λ v. learn t (λ so.
+          use3 𝓛 (later (some (Left tells) ⊛ ‵ (flft β q) ⊛ ‵ (flft τ r))) (exits k tells).prf $ await t z $ split3 t $ pick t (λ v. learn t (λ so.
           use0 𝓛 (‵ ((Words ℓ R W Y Kr Sr g).own_val (here, (tt, tt)) (hand_of here ∷ []))) (made ℓ R W Y Kr Sr g 𝓛 here) $ fjoin t $
           says t (h.key ≡ h.key) refl $ says t (finds l.1 v.0 v.1) so.0.1 $ join t $ says t (Keeps ways h.view (Some v.0) h.value v.1) so.1 $ join t $
           says t (then l n v.0) (p.1, (s.1.0, s.1.1, p.0, refl, so.0.0)) $ join t $
@@ -226,16 +224,16 @@ module _ {M : Type 1} {𝓤 : Ura M} (𝓛 : Logic 𝓤) (𝓜 : Model 𝓤 𝓛
 
     -- what the machine's step on this word asks
     pub record Asked (at : Ptr) (f : ℕ → ℕ) : Type 1 where
-      pub step : (k : Entry) → A.inv (Inv k) ∗ ⟦ alive k ⟧ ∗ ⟦ fsep (Mine k) (Known seen) ⟧ ⊢ asks 𝓛 at f always (left k)
+      pub step : (k : Entry) → ‵ (finv (Inv k)) ⊛ ‵ (alive k) ⊛ ‵ (fsep (Mine k) (Known seen)) ⊩ raw (asks 𝓛 at f always (left k))
 
     module _ {K : Type 0} {Γ : List (Item 𝓤)} {G : Goal 𝓤 𝓛.H} where
       opens_at : K → Soaks G → Incl τ R.lives → (at : Ptr) (f : ℕ → ℕ) → Asked at f
           → ((k : Entry) → Seq K 𝓛 (raw (asks 𝓛 at f always (left k)) ∷ raw (back k) ∷ Γ) G)
           → Seq K 𝓛 (‵ (Owned h.view h.value) ∷ ‵ (flft β q) ∷ ‵ (flft τ r) ∷ ‵ (Known seen) ∷ Γ) G
       opens_at t z le at f can go =
-          use3 𝓛 (later (some (λ (k : Entry). ‵ (finv (Inv k)) ⊛ ‵ (alive k) ⊛ ‵ (Mine k) ⊛ raw (back k)))) (enters le) $ await t z $
+          cite _ (enters le) $ await t z $
           pick t (λ k. split3 t $ move t (2 ∷ []) $ split t $ move t (0 ∷ 4 ∷ []) $ fjoin t $ move t (2 ∷ 3 ∷ 0 ∷ []) $
-          use3 𝓛 (raw (asks 𝓛 at f always (left k))) (can.step k) $ go k)
+          cite _ (can.step k) $ go k)
 
       -- A permit is opened for a step that finds a number.
       pub opens : K → Soaks G → Incl τ R.lives → (at : Ptr) (f : ℕ → ℕ) → Asked at f

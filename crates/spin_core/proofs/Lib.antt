@@ -1,4 +1,5 @@
 pub mod Signs
+pub mod Lemmas
 pub mod Leaving
 pub mod Owners
 pub mod Plays

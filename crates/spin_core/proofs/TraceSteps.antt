@@ -5,16 +5,16 @@ use mathlib.Core.List.{IsPrefix, append-nil}
 use seplogic.Ra.Ura.{Ura}
 use base.Fraction.{full_share}
 use base.Stored.{Coded, Gv}
-use base.Logic.{ex, guard, emp, upd, via}
+use base.Logic.{emp, via}
 use base.Fml.{Lft, Share, Fml, ftrue, fbor}
 use base.Growing.{Least, latest, at_least, prefix_anti}
 use base.Shift.{Keyless}
 use ghost.Rules.{Halves}
-use contract.Monad.{fact, fact_i}
+use contract.Monad.{fact_i}
 use types.Logic.{Logic, lfts}
 use types.Owned.{basic}
 use types.Growing.{latest_new, latest_grows, latest_shows, latest_bounds, latest_cut, latest_glue, latest_agrees, at_least_dup, at_least_join}
-use types.Kit.{‵, raw, ◌⊛◌, some, given, ◌$◌, ◌∵◌, !, qed, by, keep, move, drop, split, learn, check, pick, updating, now, done, use1, use2}
+use types.Kit.{‵, raw, ◌⊛◌, some, given, ◌$◌, ◌∵◌, !, qed, by, keep, move, drop, split, learn, check, pick, updating, now, done, use2, later}
 use types.Tokens.{bor_fracture}
 use denote.Steps.{nothing}
 use denote.Opens.{Cuts-Halves}
@@ -22,6 +22,7 @@ use denote.Struct.Lending.{Lends}
 use Rattle.spin_core.proofs.TracePrefixes.{one_in_other, prefix_coded, prefix_uncoded}
 use Rattle.spin_core.specs.Logs.{logs, log_owns, log_part, log_shares, known_owns}
 use Rattle.spin_core.proofs.Signs.{signs}
+use Rattle.spin_core.proofs.Lemmas.{script, lemma, update, cite}
 
 module _ {T : Type 0} (c : T → Gv) where
   pub log_keyless : (γ : ℕ) (l : List T) → Keyless (log_owns c γ l)
@@ -39,12 +40,12 @@ module _ {T : Type 0} (c : T → Gv) where
 
 module _ {M : Type 1} {𝓤 : Ura M} (𝓛 : Logic 𝓤) where
   open 𝓛 use {H, A}
-  open (signs 𝓛) use {◌⊢◌, ◌∗◌, ⟦◌⟧}
+  open (signs 𝓛) use {◌⊩◌, ◌⊫◌, ◌⊢◌, ◌∗◌, ⟦◌⟧}
 
   module _ {T : Type 0} (cv : Coded T) where
-    pub begins : emp 𝓤 ⊢ H.⇛ (ex 𝓤 (λ (γ : ℕ). ⟦ log_owns cv.code γ [] ⟧))
+    pub begins : raw (emp 𝓤) ⊩ later (some (λ (γ : ℕ). ‵ (log_owns cv.code γ [])))
     unfolding log_owns
-    begins = via 𝓤 _ (latest_new logs 𝓛 []) (basic 𝓛 _)
+    begins = lemma (via 𝓤 _ (latest_new logs 𝓛 []) (basic 𝓛 _))
 
   module _ {T : Type 0} (cv : Coded T) (γ : ℕ) where
     -- `Right` is a share of the right to append, `Log` is all of that right, and `Known` is what a watch knows.
@@ -57,9 +58,9 @@ module _ {M : Type 1} {𝓤 : Ura M} (𝓛 : Logic 𝓤) where
     abbrev Known : List T → Fml
     Known = known_owns cv.code γ
 
-    pub appends : (l es : List T) → ⟦ Log l ⟧ ⊢ upd 𝓤 ⟦ Log (l ++ es) ⟧
+    pub appends : (l es : List T) → ‵ (Log l) ⊫ ‵ (Log (l ++ es))
     unfolding log_owns
-    appends l es = latest_grows logs 𝓛 γ (map cv.code l) (map cv.code (l ++ es)) (prefix_coded cv l es)
+    appends l es = update (latest_grows logs 𝓛 γ (map cv.code l) (map cv.code (l ++ es)) (prefix_coded cv l es))
 
     -- what a reader has: some share of the right, and no more
     pub part_halves : (l : List T) → Halves 𝓤 H A (Right l)
@@ -73,48 +74,47 @@ module _ {M : Type 1} {𝓤 : Ura M} (𝓛 : Logic 𝓤) where
     log_lends l κ₀ κ ts inc sp = qed 𝓛 (‵ (fbor κ (Right l full_share)) ∷ raw (lfts 𝓛 ts) ∷ []) ∵ updating ! $ bor_fracture ! tt (Right l) full_share $
         now ! $ done !
 
-    pub shows : (q : Share) (l : List T) → ⟦ Right l q ⟧ ⊢ ⟦ Right l q ⟧ ∗ ⟦ Known l ⟧
+    pub shows : (q : Share) (l : List T) → ‵ (Right l q) ⊩ ‵ (Right l q) ⊛ ‵ (Known l)
     unfolding known_owns
-    shows q [] = qed 𝓛 (‵ (Right [] q) ∷ []) ∵ nothing ! $ move ! (1 ∷ 0 ∷ []) $ done !
-    shows q (x ∷ l) = let l' = map cv.code (x ∷ l) in latest_shows logs 𝓛 q γ l' l' (logs.same l')
+    shows q [] = script ∵ nothing ! $ move ! (1 ∷ 0 ∷ []) $ done !
+    shows q (x ∷ l) = let l' = map cv.code (x ∷ l) in lemma (latest_shows logs 𝓛 q γ l' l' (logs.same l'))
 
-    pub observes : (q : Share) (l k : List T) → ⟦ Right l q ⟧ ∗ ⟦ Known k ⟧ ⊢ guard 𝓤 (IsPrefix k l) (⟦ Right l q ⟧ ∗ ⟦ Known l ⟧)
+    pub observes : (q : Share) (l k : List T) → ‵ (Right l q) ⊛ ‵ (Known k) ⊩ given (IsPrefix k l) (‵ (Right l q) ⊛ ‵ (Known l))
     unfolding known_owns
-    observes q l [] = qed 𝓛 (‵ (Right l q) ∷ ‵ ftrue ∷ []) ∵ keep ! (0 ∷ []) $ use1 𝓛 (‵ (Right l q) ⊛ ‵ (Known l)) (shows q l) $ check ! (l, refl) $
-        split ! $ done !
+    observes q l [] = script ∵ keep ! (0 ∷ []) $ cite _ (shows q l) $ check ! (l, refl) $ done !
     observes q l (x ∷ more) = let k : List T = x ∷ more in let top : Fml = Right l q in let had : Fml = at_least logs γ (map cv.code k) in
         let has : Fml = Known l in
-        qed 𝓛 (‵ top ∷ ‵ had ∷ []) ∵ use2 𝓛 (given (IsPrefix (map cv.code k) (map cv.code l)) (‵ top ⊛ ‵ had)) (latest_bounds logs 𝓛 q γ (map cv.code l) (map cv.code k)) $
-        learn ! (λ p. check ! (prefix_uncoded cv k l p) $ split ! $ keep ! (0 ∷ []) $ use1 𝓛 (‵ top ⊛ ‵ has) (shows q l) $ split ! $ done !)
+        script ∵ use2 𝓛 (given (IsPrefix (map cv.code k) (map cv.code l)) (‵ top ⊛ ‵ had)) (latest_bounds logs 𝓛 q γ (map cv.code l) (map cv.code k)) $
+        learn ! (λ p. check ! (prefix_uncoded cv k l p) $ split ! $ keep ! (0 ∷ []) $ cite _ (shows q l) $ done !)
 
     -- who appends learns that what a watch knew is a prefix of the log
-    pub observes_whole : (l k : List T) → ⟦ Log l ⟧ ∗ ⟦ Known k ⟧ ⊢ guard 𝓤 (IsPrefix k l) (⟦ Log l ⟧ ∗ ⟦ Known l ⟧)
+    pub observes_whole : (l k : List T) → ‵ (Log l) ⊛ ‵ (Known k) ⊩ given (IsPrefix k l) (‵ (Log l) ⊛ ‵ (Known l))
     unfolding log_owns
     observes_whole l k = observes full_share l k
 
-    pub shows_whole : (l : List T) → ⟦ Log l ⟧ ⊢ ⟦ Log l ⟧ ∗ ⟦ Known l ⟧
+    pub shows_whole : (l : List T) → ‵ (Log l) ⊩ ‵ (Log l) ⊛ ‵ (Known l)
     unfolding log_owns
     shows_whole l = shows full_share l
 
     -- two owners of shares of one right agree on the log
-    pub same_log : (q r : Share) (l k : List T) → ⟦ Right l q ⟧ ∗ ⟦ Right k r ⟧ ⊢ guard 𝓤 (l ≡ k) (⟦ Right l q ⟧ ∗ ⟦ Right k r ⟧)
+    pub same_log : (q r : Share) (l k : List T) → ‵ (Right l q) ⊛ ‵ (Right k r) ⊩ given (l ≡ k) (‵ (Right l q) ⊛ ‵ (Right k r))
     same_log q r l k = let a = map cv.code l in let b = map cv.code k in let x : Fml = Right l q in let y : Fml = Right k r in
-        qed 𝓛 (‵ x ∷ ‵ y ∷ []) ∵ use2 𝓛 (given (a ≡ b) (‵ x ⊛ ‵ y)) (latest_agrees logs 𝓛 q r γ a b) $
+        script ∵ use2 𝓛 (given (a ≡ b) (‵ x ⊛ ‵ y)) (latest_agrees logs 𝓛 q r γ a b) $
         learn ! (λ e. check ! (prefix_anti l k (prefix_uncoded cv l k ([], append-nil a ∙ e)) (prefix_uncoded cv k l ([], append-nil b ∙ sym e))) $ split ! $ done !)
 
-    pub known_twice : (k : List T) → ⟦ Known k ⟧ ⊢ ⟦ Known k ⟧ ∗ ⟦ Known k ⟧
+    pub known_twice : (k : List T) → ‵ (Known k) ⊩ ‵ (Known k) ⊛ ‵ (Known k)
     unfolding known_owns
-    known_twice [] = qed 𝓛 (‵ ftrue ∷ []) ∵ nothing ! $ done !
-    known_twice (x ∷ k) = at_least_dup logs 𝓛 γ (map cv.code (x ∷ k))
+    known_twice [] = script ∵ nothing ! $ done !
+    known_twice (x ∷ k) = lemma (at_least_dup logs 𝓛 γ (map cv.code (x ∷ k)))
 
     uncode : (k l : List T) → IsPrefix (map cv.code k) (map cv.code l) ⊎ IsPrefix (map cv.code l) (map cv.code k) → IsPrefix k l ⊎ IsPrefix l k
     uncode k l (inl p) = inl (prefix_uncoded cv k l p)
     uncode k l (inr p) = inr (prefix_uncoded cv l k p)
 
-    pub compares : (k l : List T) → ⟦ Known k ⟧ ∗ ⟦ Known l ⟧ ⊢ fact 𝓤 (IsPrefix k l ⊎ IsPrefix l k)
+    pub compares : (k l : List T) → ‵ (Known k) ⊛ ‵ (Known l) ⊩ given (IsPrefix k l ⊎ IsPrefix l k) (‵ ftrue)
     unfolding known_owns
-    compares [] l = qed 𝓛 (‵ ftrue ∷ ‵ (Known l) ∷ []) ∵ drop ! $ drop ! $ by ! (fact_i 𝓤 _ (emp 𝓤) (inl (l, refl)))
-    compares (x ∷ k) [] = qed 𝓛 (‵ (Known (x ∷ k)) ∷ ‵ ftrue ∷ []) ∵ drop ! $ drop ! $ by ! (fact_i 𝓤 _ (emp 𝓤) (inr (x ∷ k, refl)))
+    compares [] l = script ∵ drop ! $ drop ! $ by ! (fact_i 𝓤 _ (emp 𝓤) (inl (l, refl)))
+    compares (x ∷ k) [] = script ∵ drop ! $ drop ! $ by ! (fact_i 𝓤 _ (emp 𝓤) (inr (x ∷ k, refl)))
     compares (x ∷ k') (y ∷ l') = let k : List T = x ∷ k' in let l : List T = y ∷ l' in let a = map cv.code k in let b = map cv.code l in
-        qed 𝓛 (‵ (at_least logs γ a) ∷ ‵ (at_least logs γ b) ∷ []) ∵ use2 𝓛 (some (λ (m : List Gv). given (Least logs.le a b m) (‵ (at_least logs γ m)))) (at_least_join logs 𝓛 γ a b) $
+        script ∵ use2 𝓛 (some (λ (m : List Gv). given (Least logs.le a b m) (‵ (at_least logs γ m)))) (at_least_join logs 𝓛 γ a b) $
         pick ! (λ m. learn ! (λ s. drop ! $ by ! (fact_i 𝓤 _ (emp 𝓤) (uncode k l (one_in_other a b m s.0 s.1)))))

@@ -6,7 +6,7 @@ use base.Fraction.{full_share}
 use base.Logic.{SProp, all, all_e, apply∗}
 use base.Fml.{Fml, ftrue, fsep}
 use types.Logic.{Logic}
-use types.Kit.{‵, raw, ◌⊛◌, ◌$◌, ◌∵◌, !, qed, move, keep, use1, use2, use3, split, split3, fsplit, fjoin, fpick, fpack, each, assume, done}
+use types.Kit.{‵, raw, ◌⊛◌, ◌$◌, ◌∵◌, !, move, keep, use1, use2, split, split3, fsplit, fjoin, fpick, fpack, each, assume, done}
 use denote.RattleType.{RattleType, Denots}
 use denote.Memory.{part_of, part_at, cell_at, lone}
 use denote.Steps.{nothing}
@@ -23,13 +23,14 @@ use Rattle.spin_core.specs.Logs.{log_owns}
 use Rattle.spin_core.specs.contracts.trace.Trace as trace
 use Rattle.spin_core.specs.declared.trace.Trace.{Trace}
 use Rattle.spin_core.proofs.Signs.{signs}
+use Rattle.spin_core.proofs.Lemmas.{script, cite}
 
 -- the trace with this word
 abbrev pub beside : {E S : Type 0} → Trace E S → S → Trace E S
 beside m w = record { word = w; marker = m.marker; name = m.name; entries = m.entries }
 
 module _ {M : Type 1} {𝓤 : Ura M} (𝓛 : Logic 𝓤) (Er : RattleType) (b o : ℕ) where
-  open (signs 𝓛) use {◌⊢◌, ◌∗◌, ◌-∗◌, ⟦◌⟧}
+  open (signs 𝓛) use {◌⊩◌, ◌⊢◌, ◌∗◌, ◌-∗◌, ⟦◌⟧}
 
   abbrev S : RattleType
   S = trace.the_row Er u64
@@ -67,9 +68,9 @@ module _ {M : Type 1} {𝓤 : Ura M} (𝓛 : Logic 𝓤) (Er : RattleType) (b o 
   abbrev pub Takes : Trace Er.Denot ℕ → SProp 𝓤
   Takes m = all 𝓤 (with m)
 
-  takes : (m : Trace Er.Denot ℕ) → ⟦ Mark ⟧ ∗ Back ∗ ⟦ Log m ⟧ ⊢ Takes m
+  takes : (m : Trace Er.Denot ℕ) → ‵ Mark ⊛ raw Back ⊛ ‵ (Log m) ⊩ raw (Takes m)
   unfolding part_of
-  takes m = qed 𝓛 (‵ Mark ∷ raw Back ∷ ‵ (Log m) ∷ []) ∵ each ! (with m) (λ w. let a : Denots (rows_of ks) = data_of w in let m' : Trace Er.Denot ℕ = beside m w in assume {P = ⟦ In m' ⟧} ! (‵ (word b (o + 0) w)) $
+  takes m = script ∵ each ! (with m) (λ w. let a : Denots (rows_of ks) = data_of w in let m' : Trace Er.Denot ℕ = beside m w in assume {P = ⟦ In m' ⟧} ! (‵ (word b (o + 0) w)) $
       use1 𝓛 (‵ (Word w)) (word_in 𝓛 b (o + 0) w) $ nothing ! $
       -- context: [nothing; the word; the marker; the way back; the log]
       move ! (2 ∷ 0 ∷ []) $ fjoin ! $ move ! (1 ∷ 0 ∷ []) $ fjoin ! $ move ! (1 ∷ []) $
@@ -77,10 +78,10 @@ module _ {M : Type 1} {𝓤 : Ura M} (𝓛 : Logic 𝓤) (Er : RattleType) (b o 
       move ! (1 ∷ 0 ∷ []) $ use2 𝓛 (‵ (part_at Data full_share a b o)) (apply∗ 𝓤 ⟦ parts_at full_share ks zero a b o ⟧ ⟦ part_at Data full_share a b o ⟧) $
       fpick ! (λ vs. fsplit ! $ move ! (1 ∷ 2 ∷ []) $ fjoin ! $ move ! (1 ∷ 0 ∷ []) $ fjoin ! $ fpack ! (List Val) (λ us. fsep (cell_at full_share S.mir us b o) (S.own_val m' us)) vs $ done !))
 
-  pub word_apart : (m : Trace Er.Denot ℕ) → ⟦ In m ⟧ ⊢ ⟦ word b (o + 0) m.word ⟧ ∗ Takes m
+  pub word_apart : (m : Trace Er.Denot ℕ) → ‵ (In m) ⊩ ‵ (word b (o + 0) m.word) ⊛ raw (Takes m)
   unfolding part_of
-  word_apart m = qed 𝓛 (‵ (In m) ∷ []) ∵ fpick ! (λ vs. fsplit ! $ move ! (1 ∷ []) $ fsplit ! $
+  word_apart m = script ∵ fpick ! (λ vs. fsplit ! $ move ! (1 ∷ []) $ fsplit ! $
       -- context: [the fields; the log; the place]
       move ! (2 ∷ 0 ∷ []) $ fjoin ! $ fpack ! (List Val) (λ us. fsep (cell_at full_share Data.mir us b o) (Data.own_val (data_of m.word) us)) vs $
       use1 𝓛 ((‵ (Word m.word) ⊛ ‵ Mark ⊛ ‵ ftrue) ⊛ raw Back) (Struct-parts 𝓛 full_share [] ks (u64-laws.lawful 𝓛, (Struct-Lawful 𝓛 (denote.Struct.Declared.shape (marker.the_type Er)) tt, tt)) (data_of m.word) b o) $
-      split ! $ split3 ! $ use1 𝓛 (‵ (word b (o + 0) m.word)) (word_out 𝓛 b (o + 0) m.word) $ move ! (1 ∷ 3 ∷ 4 ∷ []) $ use3 𝓛 (raw (Takes m)) (takes m) $ keep ! (1 ∷ 0 ∷ []) $ done !)
+      split ! $ split3 ! $ use1 𝓛 (‵ (word b (o + 0) m.word)) (word_out 𝓛 b (o + 0) m.word) $ move ! (1 ∷ 3 ∷ 4 ∷ []) $ cite _ (takes m) $ keep ! (1 ∷ 0 ∷ []) $ done !)

@@ -11,13 +11,13 @@ use Rattle.spin_core.proofs.CellWays.{restarts}
 use Rattle.spin_core.proofs.WalkSteps.{last_two}
 use Rattle.spin_core.proofs.Walking.{walks, as_mut}
 use Rattle.spin_core.specs.Cell.{Frees, Freeing, Lends}
-use Rattle.atomic_table.specs.Seated.{fact as said}
 use Rattle.spin_core.specs.CellMemory.{offset}
-use Rattle.spin_core.proofs.CellFields.{Knows, All, Rule, Row, row_out, row_in, standing_words, At, Joins, fields_out, rejoined, rekeyed}
+use Rattle.spin_core.proofs.CellFields.{Row, row_out, row_in, standing_words, At, Joins, fields_out, rejoined, rekeyed}
 use Rattle.spin_core.specs.contracts.cell.Cell as cell
 use Rattle.spin_core.specs.contracts.cell.Cell.get_mut.{ended, clauses}
 use Rattle.spin_core.proofs.cell.Cell.get_mut.Statement.{statement}
 use Rattle.spin_core.proofs.cell.Cell.get_mut.Code as code
+use Rattle.spin_core.proofs.Lemmas.{cite}
 
 pub get_mut_spec : {M : Type 1} → statement M
 get_mut_spec 𝓤 𝓛 𝓜 𝓡 wired X U P K S L _ _ _ LS g d _ =
@@ -34,12 +34,12 @@ get_mut_spec 𝓤 𝓛 𝓜 𝓡 wired X U P K S L _ _ _ LS g d _ =
     let back = row_in 𝓛 m ms V Y Kr g key b o in let Joined = Joins 𝓛 m ms V Y Kr g key b o Lw Ls Cell takes_out back in
     move ! (2 ∷ []) $ use1 𝓛 (raw (fact 𝓤 (Free × Same))) (last_two 𝓤 Free Same 5 (_, (_, (_, (_, (_, tt)))))) $
     heard ! (Free × Same) (λ asked. fsplit ! $ move ! (2 ∷ []) $ fsplit ! $ fsplit3 ! $ keep ! (1 ∷ 2 ∷ 4 ∷ 5 ∷ []) $
-    alloc_all ! (λ l. pass_all ! refl ((tt, tt), tt) $ open_ref ! tt (in_memory Ty) $ use1 𝓛 (‵ Cell) (rekeyed 𝓛 m ms V Y Kr g old key b o asked.1) $
-    use1 𝓛 (some (λ (z : Knows 𝓛 m ms V Y Kr g key b o × All 𝓛 m ms V Y Kr g key b o). ‵ (words (z.1.0, z.1.1)) ⊛ ‵ (Lies z.1.2) ⊛ ‵ (said (Rule 𝓛 m ms V Y Kr g key b o z.1)) ⊛ raw Joined)) (fields_out 𝓛 m ms V Y Kr g key b o Lw Ls Cell takes_out back) $
+    alloc_all ! (λ l. pass_all ! refl ((tt, tt), tt) $ open_ref ! tt (in_memory Ty) $ cite _ (rekeyed 𝓛 m ms V Y Kr g old key b o asked.1) $
+    cite _ (fields_out 𝓛 m ms V Y Kr g key b o Lw Ls Cell takes_out back) $
     pick ! (λ z. let n = z.1.0 in let k = z.1.1 in let x = z.1.2 in split ! $ move ! (1 ∷ []) $ split3 ! $ move ! (1 ∷ []) $ fpick ! (λ rule. drop ! $
     -- context: [the value; the way back; the words; the open borrow; its two names; the tokens]
     move ! (2 ∷ 1 ∷ []) $ join ! $ move ! (2 ∷ 3 ∷ 4 ∷ 1 ∷ 0 ∷ []) $ group ! 5 $
     use1 𝓛 (later (some (λ (δ : GName). ‵ (Lent.own_val (record { ref_ptr = (b, e); ghost_name = δ; now = x }) (at ∷ [])) ⊛ ‵ (flft κ q) ⊛ ‵ (follows Ty R γ δ (λ _. key)))))
-    (lends_Part 𝓛 Ty R (λ _. key) (named 0) κ q b o b e γ (sep 𝓤 (sem 𝓛 (words (n, k))) Joined) (λ v. rejoined 𝓛 m ms V Y Kr g key b o Lw Ls Cell takes_out back (n, k, v) (restarts (g.holds key) (g.ways key) n k x v asked.0 rule)) (K.coded.code old) (K.coded.code old) x) $ await ! tt $ pick ! (λ δ. split3 ! $
+    (lends_Part 𝓛 Ty R (λ _. key) (named 0) κ q b o b e γ (sep 𝓤 (sem 𝓛 (words (n, k))) Joined) (λ v. (rejoined 𝓛 m ms V Y Kr g key b o Lw Ls Cell takes_out back (n, k, v) (restarts (g.holds key) (g.ways key) n k x v asked.0 rule)).prf) (K.coded.code old) (K.coded.code old) x) $ await ! tt $ pick ! (λ δ. split3 ! $
     sets ! (addr ! (through ! refl (fld ! refl (stop !)))) refl (tt, tt) $ move ! (1 ∷ 3 ∷ []) $ fjoin ! $
     returns ! (look_at ! 0 refl) $ free_all ! refl $ keep ! (0 ∷ 1 ∷ 2 ∷ []) $ by ! (out at (record { ref_ptr = (b, e); ghost_name = δ; now = x }))))))))

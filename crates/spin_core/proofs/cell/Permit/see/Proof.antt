@@ -1,5 +1,5 @@
 -- `see` gives up a reader's part of the value, and lends the value for the rest of the cell's borrow.
-use Rattle.spin_core.proofs.WalkNames.{Some, some, pick, hidden_shr, param_laws, ◌≡◌, sym, ◌+◌, List, [], ◌∷◌, refl, ap, dcons, dnil, Val, vptr, inst_fn, Fml, ‵, given, later, at_ret, ◌$◌, !, by, keep, join, fjoin, learn, use1, await, feq_i, stop, fld, addr, of_opd, first, blocks, exec, returns, alloc_all, pass_all, free_all, look_at, get, get_in, through, sets, sets_last, is, env, sub, whole, tables, fact, named_lft, Ptr, ptr_val, block_of, count_of, at_block, param, bounded, tail, says}
+use Rattle.spin_core.proofs.WalkNames.{Some, pick, param_laws, ◌≡◌, sym, ◌+◌, List, [], ◌∷◌, refl, ap, dcons, dnil, Val, vptr, inst_fn, Fml, at_ret, ◌$◌, !, by, keep, join, fjoin, learn, await, feq_i, stop, fld, addr, of_opd, first, blocks, exec, returns, alloc_all, pass_all, free_all, look_at, get, get_in, through, sets, sets_last, is, env, sub, whole, tables, fact, named_lft, Ptr, ptr_val, block_of, count_of, at_block, param, bounded, tail, says}
 use Rattle.spin_core.proofs.WalkSteps.{last_fact, takes_at}
 use Rattle.spin_core.proofs.Walking.{walks}
 use Rattle.spin_core.specs.CellMemory.{offset, permit_owns}
@@ -9,6 +9,7 @@ use Rattle.spin_core.proofs.CellLends.{shown_on}
 use Rattle.spin_core.specs.contracts.cell.Permit.see.{ended, clauses}
 use Rattle.spin_core.proofs.cell.Permit.see.Statement.{statement}
 use Rattle.spin_core.proofs.cell.Permit.see.Code as code
+use Rattle.spin_core.proofs.Lemmas.{cite}
 
 pub see_spec : {M : Type 1} → statement M
 see_spec 𝓤 𝓛 𝓜 𝓡 wired T V P K S L _ _ _ LS g d _ =
@@ -23,7 +24,7 @@ see_spec 𝓤 𝓛 𝓜 𝓡 wired T V P K S L _ _ _ LS g d _ =
     let Asked : Type 0 = use_of ways.1 h.view ≡ reads in
     takes_at ! Owned refl p (last_fact 𝓤 (fact 𝓤 Asked) 5 (_, (_, (_, (_, (_, tt)))))) (λ asked inb. let at = at_block p inb in
     alloc_all ! (λ l. pass_all ! refl (typed p inb, tt) $ let Ev = types.ByLocal.env fn.locals l in
-    use1 𝓛 (later (some (λ (x : T.Denot). given ((h.value ≡ Some x) × Seen ways.0 x) (‵ (hidden_shr R β x b e))))) (shown_on 𝓛 Y R cw.code Sr (g.holds h.key) ways β LR.shr_laws b o h.view h.value asked) $ await ! tt $ pick ! (λ x. learn ! (λ so.
+    cite _ (shown_on 𝓛 Y R cw.code Sr (g.holds h.key) ways β LR.shr_laws b o h.view h.value asked) $ await ! tt $ pick ! (λ x. learn ! (λ so.
     sets ! (is ! (of_opd ! (get_in ! (fld ! refl (stop !)) (sub ! 0 refl (whole !)))) (ap ptr_val at)) refl (tt, tt) $ first ! $ blocks ! $
     sets_last ! (addr ! (through ! refl (fld ! refl (stop !)))) refl (tt, tt) $ exec ! 𝓣.C 𝓣.Λ Ev (tail (tail fn.body)) (at_ret Ev Post) $ sets ! (of_opd ! (get ! refl)) refl (tt, tt) $
     feq_i ! (List Val) (vptr b e ∷ []) (vptr b e ∷ []) refl $ fjoin ! $ says ! (Seen ways.0 x) so.1 $ says ! (Some x ≡ h.value) (sym so.0) $ join ! $

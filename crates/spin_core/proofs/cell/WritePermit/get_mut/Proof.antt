@@ -1,17 +1,15 @@
 -- `get_mut` lends the value, and the permit then has the value that was written. Assumes `Logic`.
-use Rattle.spin_core.proofs.WalkNames.{◌≡◌, ℕ, ◌+◌, List, [], ◌∷◌, refl, sym, ap, ◌∙◌, named, dcons, dnil, Val, vptr, inst_fn, full_share, SProp, ent, wand, apply∗, Lft, Share, Fml, fsep, flft, before, Logic, sem, split3, ‵, raw, ◌⊛◌, at_ret, ◌$◌, ◌∵◌, !, qed, by, move, keep, split, join, fsplit, fsplit3, fjoin, use1, use2, use3, later, some, await, pick, fpick, fpack, rewrite, stop, addr, of_opd, first, blocks, exec, returns, fld, hop, alloc_all, pass_all, free_all, look_at, get, through, sets, sets_last, env, sub, whole, look_in, tables, RattleType, Is, shows, named_lft, peeks, param, bounded, cell_at, part_at, Ptr, block_ptr, block_of, count_of, at_block, tail, says, lies}
+use Rattle.spin_core.proofs.WalkNames.{◌≡◌, ℕ, ◌+◌, List, [], ◌∷◌, refl, sym, ap, ◌∙◌, named, dcons, dnil, Val, vptr, inst_fn, full_share, SProp, wand, apply∗, Lft, Share, Fml, fsep, Logic, sem, split3, ‵, raw, ◌⊛◌, at_ret, ◌$◌, ◌∵◌, !, by, move, keep, split, join, fsplit, fsplit3, fjoin, use1, use2, some, await, pick, fpick, fpack, rewrite, stop, addr, of_opd, first, blocks, exec, returns, fld, hop, alloc_all, pass_all, free_all, look_at, get, through, sets, sets_last, env, sub, whole, look_in, tables, RattleType, Is, shows, named_lft, peeks, param, bounded, cell_at, part_at, Ptr, block_ptr, block_of, count_of, at_block, tail, says, lies}
 use seplogic.Ra.Ura.{Ura}
-use base.Logic.{ex, all, all_e}
+use base.Logic.{all_e}
 use denote.Ref.{NamedLft, MutBor}
 use Rattle.spin_core.proofs.Walking.{walks, as_mut}
 use Rattle.spin_core.specs.declared.cell.Rule.{Ghosts}
-use base.Fml.{Incl, GName}
-use types.Kit.{each, show, frame, assume}
+use base.Fml.{Incl}
+use types.Kit.{each, frame, assume, Item}
 use types.Mut.{open_ref, close_ref}
-use denote.Ref.{MutRef}
 use denote.Memory.{part_of, mem as in_memory}
 use denote.Struct.OwningLaws.{part_out, part_in}
-use denote.Follow.{follows}
 use Rattle.spin_core.specs.CellMemory.{Id, offset, tracked, writer_owns}
 use Rattle.spin_core.specs.Writer.{with_value}
 use Rattle.spin_core.specs.contracts.cell.WritePermit.{the_type, the_row}
@@ -20,6 +18,7 @@ use Rattle.spin_core.proofs.CellThrough.{cuts, Opened, through as goes_through}
 use Rattle.spin_core.specs.contracts.cell.WritePermit.get_mut.{ended, clauses}
 use Rattle.spin_core.proofs.cell.WritePermit.get_mut.Statement.{statement}
 use Rattle.spin_core.proofs.cell.WritePermit.get_mut.Code as code
+use Rattle.spin_core.proofs.Lemmas.{cite, Lemma, script, having}
 
 module _ {M : Type 1} {𝓤 : Ura M} (𝓛 : Logic 𝓤) (ℓ : NamedLft) (R W Y Kr Sr : RattleType) (g : Ghosts Y.Denot R.Denot W.Denot Kr.Denot Sr.Denot) (κ : Lft) (inc : Incl κ ℓ.lft) (q : Share) (m : MutBor (the_row ℓ R W Y Kr Sr g).Denot) (c e : ℕ) (at : m.now.cell ≡ block_ptr c e) where
   abbrev G : RattleType
@@ -43,16 +42,16 @@ module _ {M : Type 1} {𝓤 : Ura M} (𝓛 : Logic 𝓤) (ℓ : NamedLft) (R W Y
   abbrev same : (x z : R.Denot) → F x ≡ F z → x ≡ z
   same x z = ap (λ (it : G.Denot). it.value)
 
-  abbrev pub Open : Id → SProp 𝓤
+  abbrev pub Open : Id → Item 𝓤
   Open = Opened 𝓛 Y R W.coded Sr (g.holds h.key) (g.ways h.key) ℓ.lft c e h.view G F same (named 0) κ inc q m h.value
 
   abbrev Back : Id → R.Denot → SProp 𝓤
   Back t z = wand 𝓤 (sem 𝓛 (tracked R c e t z)) (sem 𝓛 (Pen (block_ptr c e) z))
 
-  cut : ent 𝓤 (sem 𝓛 (Whole h.value)) (ex 𝓤 Open)
-  cut = qed 𝓛 (‵ (Whole h.value) ∷ []) ∵ use1 𝓛 (‵ Ws ⊛ ‵ (Pen h.cell h.value)) (part_out 𝓛 (the_type ℓ R W Y Kr Sr g) full_share h m.ref_ptr.0 m.ref_ptr.1) $ split ! $ move ! (1 ∷ []) $
+  cut : Lemma 𝓛 (‵ (Whole h.value)) (some Open)
+  cut = script ∵ use1 𝓛 (‵ Ws ⊛ ‵ (Pen h.cell h.value)) (part_out 𝓛 (the_type ℓ R W Y Kr Sr g) full_share h m.ref_ptr.0 m.ref_ptr.1) $ split ! $ move ! (1 ∷ []) $
       rewrite ! 0 (λ (p : Ptr). ‵ (Pen p h.value)) at refl $
-      use1 𝓛 (some (λ (t : Id). ‵ (before ℓ.lft t.life) ⊛ ‵ (tracked R c e t h.value) ⊛ raw (all 𝓤 (Back t)))) (cuts 𝓛 Y R W.coded Sr (g.holds h.key) (g.ways h.key) ℓ.lft c e h.view h.value) $ pick ! (λ t. split3 ! $ show ! Open t $ frame ! $ frame ! $
+      cite _ (cuts 𝓛 Y R W.coded Sr (g.holds h.key) (g.ways h.key) ℓ.lft c e h.view h.value) $ pick ! (λ t. split3 ! $ having ! Open t $ frame ! $ frame ! $
       each ! (λ (z : R.Denot). wand 𝓤 (sem 𝓛 (tracked R c e t z)) (sem 𝓛 (Whole z))) (λ z. use1 𝓛 (raw (Back t z)) (all_e 𝓤 (Back t) z) $ assume ! (‵ (tracked R c e t z)) $
       use2 𝓛 (‵ (Pen (block_ptr c e) z)) (apply∗ 𝓤 (sem 𝓛 (tracked R c e t z)) (sem 𝓛 (Pen (block_ptr c e) z))) $ rewrite ! 0 (λ (p : Ptr). ‵ (Pen p z)) (sym at) refl $ move ! (1 ∷ 0 ∷ []) $
       by ! (part_in 𝓛 (the_type ℓ R W Y Kr Sr g) full_share (F z) m.ref_ptr.0 m.ref_ptr.1)))
@@ -83,7 +82,6 @@ get_mut_spec 𝓤 𝓛 𝓜 𝓡 wired T V P K S L _ _ _ LS g d _ =
     rewrite ! 1 (λ (us : List Val). ‵ (cell_at full_share D.mir us b o)) (sym ev) refl $ move ! (1 ∷ 0 ∷ []) $ fjoin ! $
     fpack ! (List Val) (λ us. fsep (cell_at full_share D.mir us b o) (D.own_val (p, (tt, tt)) us)) vs $
     use2 𝓛 (‵ (part_at G full_share h b o)) (part_in 𝓛 (the_type ℓ R W Y Kr Sr g) full_share h b o) $ close_ref ! tt (in_memory G) h $
-    use3 𝓛 (later (some (λ (δ : GName). ‵ ((MutRef (named 0) κ R).own_val (record { ref_ptr = (pb, e); ghost_name = δ; now = x }) (vptr pb e ∷ [])) ⊛ ‵ (flft κ q) ⊛ ‵ (follows G R γ δ F))))
-    (goes_through 𝓛 Y R cw Sr (g.holds h.key) (g.ways h.key) β pb po h.view G F (same 𝓛 ℓ R W Y Kr Sr g κ bounds.0 q m pb po at) (named 0) κ bounds.0 q m x (cut 𝓛 ℓ R W Y Kr Sr g κ bounds.0 q m pb po at)) $ await ! tt $ pick ! (λ δ. split3 ! $
+    cite _ (goes_through 𝓛 Y R cw Sr (g.holds h.key) (g.ways h.key) β pb po h.view G F (same 𝓛 ℓ R W Y Kr Sr g κ bounds.0 q m pb po at) (named 0) κ bounds.0 q m x (cut 𝓛 ℓ R W Y Kr Sr g κ bounds.0 q m pb po at)) $ await ! tt $ pick ! (λ δ. split3 ! $
     move ! (1 ∷ 3 ∷ []) $ fjoin ! $ says ! (x ≡ x) refl $ move ! (3 ∷ 0 ∷ []) $ join ! $
     returns ! (look_at ! 0 refl) $ free_all ! refl $ keep ! (1 ∷ 2 ∷ 0 ∷ []) $ by ! (out (vptr pb e) (record { ref_ptr = (pb, e); ghost_name = δ; now = x }))))))))

@@ -29,7 +29,7 @@ new_spec 𝓤 𝓛 𝓜 𝓡 wired Ty S L N =
     feq_i ! (List Val) (v ∷ []) (v ∷ []) refl $ fjoin ! $ fpack ! (Valss (S' ∷ Mk ∷ [])) (within (fields_of T' S') (x, (record {}, tt)) (v ∷ [])) (vy ∷ [], (vstruct vnil ∷ [], tt)) $
     suffices ! (Run (vy ∷ [])) (subst (λ (ws : List Val). ent 𝓤 (Run (vy ∷ [])) (Run ws)) (sym (λ i. got.1 i ++ [])) (id⊢ 𝓤 (Run (vy ∷ [])))) $
     enter ! 𝓣.C 𝓣.Λ fn (vy ∷ []) Post $ alloc_all ! (λ l. pass_all ! refl (fy, tt) $
-    use0 𝓛 (later (some (λ (γ : ℕ). ‵ (log_owns cv.code γ [])))) (steps.begins 𝓛 cv) $ await ! tt $ pick ! (λ γ.
+    use0 𝓛 (later (some (λ (γ : ℕ). ‵ (log_owns cv.code γ [])))) (steps.begins 𝓛 cv).prf $ await ! tt $ pick ! (λ γ.
     sets ! (of_opd ! (get ! refl)) refl fy $ sets ! (agg ! (no_more !)) refl (tt, tt) $ sets ! (agg ! (and_then ! (get ! refl) (and_then ! (get ! refl) (no_more !)))) refl typed $
     move ! (1 ∷ 0 ∷ []) $ fjoin ! $ nothing ! $ nothing ! $ fjoin ! $
     returns ! (look_at ! 0 refl) $ free_all ! refl $ keep ! (2 ∷ 0 ∷ 1 ∷ []) $ by ! (ends 𝓛 En hs c z v (record { word = x; marker = record {}; name = γ; entries = [] }) (tt, tt) (tt, tt) (fact_i 𝓤 _ (emp 𝓤) (refl, refl))))))

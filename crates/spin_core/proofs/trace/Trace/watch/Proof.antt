@@ -1,6 +1,6 @@
 use Rattle.spin_core.proofs.TraceWalk.{◌≡◌, [], ◌∷◌, refl, a_type, named, inst_fn, fhide, ‵, ◌⊛◌, ◌$◌, !, by, move, keep, drop, split, fsplit, fjoin, use0, use1, no_more, and_then, returns, alloc_all, pass_all, free_all, look_at, get, sets, obor_close, shr_bor-open, agg, tables, RattleType, hidden_shr, unhide, param, layouts, lent_out, token, Token, Beside, token_made}
 use Rattle.core.specs.contracts.marker.PhantomData as marker
-use Rattle.spin_core.specs.Logs.{log_part, log_shares, known_owns}
+use Rattle.spin_core.specs.Logs.{log_shares}
 use Rattle.spin_core.proofs.TraceSteps as steps
 use Rattle.spin_core.specs.contracts.trace.Trace as Trace
 use Rattle.spin_core.specs.contracts.trace.Trace.watch.{ended, clauses}
@@ -8,6 +8,7 @@ use Rattle.spin_core.proofs.trace.Trace.watch.Statement.{statement}
 use Rattle.spin_core.proofs.trace.Trace.watch.Code as code
 use Rattle.spin_core.proofs.WalkSteps.{says}
 use Rattle.spin_core.proofs.Walking.{walks, as_shr}
+use Rattle.spin_core.proofs.Lemmas.{cite}
 
 pub watch_spec : {M : Type 1} → statement M
 watch_spec 𝓤 𝓛 𝓜 𝓡 wired T S L N =
@@ -21,7 +22,7 @@ watch_spec 𝓤 𝓛 𝓜 𝓡 wired T S L N =
     alloc_all ! (λ l. pass_all ! refl ((tt, tt), tt) $
     use1 𝓛 (‵ (hidden_shr (Beside All S') κs.0 (me.word, (record {}, tt)) a.0.ref_ptr.0 a.0.ref_ptr.1) ⊛ ‵ (fhide (log_shares cv.code me.name me.entries κs.0))) (lent_out 𝓛 (Trace.struct T' S') (Trace.the_codes T.Denot S.Denot T'.coded S'.coded (marker.the_row All).coded) (Trace.the_heap T' S') (Trace.the_lent T' S') κs.0 me a.0.ref_ptr.0 a.0.ref_ptr.1) $ split ! $ drop ! $ unhide ! $
     shr_bor-open ! tt (steps.part_halves 𝓛 cv me.name me.entries) (λ q. move ! (1 ∷ []) $
-    use1 𝓛 (‵ (log_part cv.code me.name me.entries q) ⊛ ‵ (known_owns cv.code me.name me.entries)) (steps.shows 𝓛 cv me.name q me.entries) $ split ! $ move ! (2 ∷ 0 ∷ []) $ obor_close ! tt $ drop ! $ move ! (1 ∷ []) $
+    cite _ (steps.shows 𝓛 cv me.name q me.entries) $ move ! (2 ∷ 0 ∷ []) $ obor_close ! tt $ drop ! $ move ! (1 ∷ []) $
     use0 𝓛 (‵ ((Token (All)).own_val (record {}, tt) (token ∷ []))) (token_made (All) 𝓛) $ fjoin ! $
     sets ! (agg ! (no_more !)) refl (tt, tt) $ sets ! (agg ! (and_then ! (get ! refl) (no_more !))) refl (tt, (tt, tt)) $
     move ! (1 ∷ 2 ∷ []) $ fjoin ! $ move ! (1 ∷ []) $

@@ -1,4 +1,4 @@
-use Rattle.spin_core.proofs.TraceWalk.{◌≡◌, ℕ, sym, List, [], ◌∷◌, refl, ◌⊎◌, IsPrefix, a_type, named, Val, vunit, inst_fn, ftrue, fhide, ‵, raw, ◌⊛◌, given, ◌$◌, !, by, move, keep, drop, split, fsplit, learn, use1, use2, feq_i, unit_lit, of_opd, returns, alloc_all, pass_all, free_all, look_at, sets, fact, rewrite, tables, RattleType, hidden_shr, unhide, param, layouts, lent_out, Token}
+use Rattle.spin_core.proofs.TraceWalk.{◌≡◌, ℕ, sym, List, [], ◌∷◌, refl, ◌⊎◌, IsPrefix, a_type, named, Val, vunit, inst_fn, fhide, ‵, raw, ◌⊛◌, ◌$◌, !, by, move, keep, drop, split, fsplit, learn, use1, feq_i, unit_lit, of_opd, returns, alloc_all, pass_all, free_all, look_at, sets, fact, rewrite, tables, RattleType, hidden_shr, unhide, param, layouts, lent_out, Token}
 use denote.Steps.{heard}
 use Rattle.core.specs.contracts.marker.PhantomData as marker
 use Rattle.spin_core.specs.Logs.{known_owns}
@@ -9,6 +9,7 @@ use Rattle.spin_core.proofs.trace.Watch.compare.Statement.{statement}
 use Rattle.spin_core.proofs.trace.Watch.compare.Code as code
 use Rattle.spin_core.proofs.WalkSteps.{says, last_fact}
 use Rattle.spin_core.proofs.Walking.{walks, as_shr}
+use Rattle.spin_core.proofs.Lemmas.{cite}
 
 pub compare_spec : {M : Type 1} → statement M
 compare_spec 𝓤 𝓛 𝓜 𝓡 wired T L =
@@ -25,7 +26,7 @@ compare_spec 𝓤 𝓛 𝓜 𝓡 wired T L =
     use1 𝓛 (‵ (hidden_shr (Token All) κs.1.0 (record {}, tt) s.ref_ptr.0 s.ref_ptr.1) ⊛ ‵ (fhide (known_owns cv.code other.name other.entries))) (lent_out 𝓛 (Watch.struct T') (Watch.the_codes T.Denot T'.coded (marker.the_row All).coded) (Watch.the_heap T') (Watch.the_lent T') κs.1.0 other s.ref_ptr.0 s.ref_ptr.1) $ split ! $ drop ! $ unhide ! $
     rewrite ! 0 (λ (z : ℕ). ‵ (known_owns cv.code z other.entries)) (sym asked) refl $ move ! (1 ∷ []) $
     use1 𝓛 (‵ (hidden_shr (Token All) κs.0 (record {}, tt) r.ref_ptr.0 r.ref_ptr.1) ⊛ ‵ (fhide (known_owns cv.code me.name me.entries))) (lent_out 𝓛 (Watch.struct T') (Watch.the_codes T.Denot T'.coded (marker.the_row All).coded) (Watch.the_heap T') (Watch.the_lent T') κs.0 me r.ref_ptr.0 r.ref_ptr.1) $ split ! $ drop ! $ unhide ! $
-    use2 𝓛 (given (IsPrefix me.entries other.entries ⊎ IsPrefix other.entries me.entries) (‵ ftrue)) (steps.compares 𝓛 cv me.name me.entries other.entries) $ learn ! (λ so. drop ! $
+    cite _ (steps.compares 𝓛 cv me.name me.entries other.entries) $ learn ! (λ so. drop ! $
     sets ! (of_opd ! (unit_lit !)) refl (tt, tt) $ feq_i ! (List Val) (vunit ∷ []) (vunit ∷ []) refl $
     says ! (IsPrefix me.entries other.entries ⊎ IsPrefix other.entries me.entries) so $
     returns ! (look_at ! 0 refl) $ free_all ! refl $ keep ! (2 ∷ 1 ∷ 0 ∷ []) $ by ! (out vunit tt)))))

@@ -1,0 +1,70 @@
+-- Lemmas of the logic as scripts prove and cite them. A script reads what a lemma asks and gives off the lemma, and does not repeat it.
+use Rattle.std.proofs.Common.{List, [], ◌∷◌, ◌++◌}
+use seplogic.Ra.Ura.{Ura}
+use base.Logic.{SProp, ent, sep, via, id⊢, mono_r, ex_i, guard_i, upd, upd_i}
+use types.Logic.{Logic}
+use types.Kit.{Item, ◌⊛◌, some, given, raw, mean, ⋆, push, pop, Goal, prop, Seq, Step, step, Go, cut, settle, suffices}
+
+-- the parts of an item, as the entries of a context
+abbrev pub flat : {M : Type 1} {𝓤 : Ura M} → Item 𝓤 → List (Item 𝓤)
+flat (i ⊛ j) = i ∷ flat j
+flat i = i ∷ []
+
+-- what i means entails what k means; written i ⊩ k
+pub record Lemma {M : Type 1} {𝓤 : Ura M} (𝓛 : Logic 𝓤) (i k : Item 𝓤) : Type 1 where
+  pub prf : ent 𝓤 (mean 𝓛 i) (mean 𝓛 k)
+
+-- what i means can be updated to what k means; written i ⊫ k
+pub record Update {M : Type 1} {𝓤 : Ura M} (𝓛 : Logic 𝓤) (i k : Item 𝓤) : Type 1 where
+  pub prf : ent 𝓤 (mean 𝓛 i) (upd 𝓤 (mean 𝓛 k))
+
+module _ {M : Type 1} {𝓤 : Ura M} (𝓛 : Logic 𝓤) where
+  joined : (i : Item 𝓤) → ent 𝓤 (⋆ 𝓛 (flat i)) (mean 𝓛 i)
+  joined (i ⊛ j) = via 𝓤 (sep 𝓤 (mean 𝓛 i) (⋆ 𝓛 (flat j))) (pop 𝓛 i (flat j)) (mono_r 𝓤 (mean 𝓛 i) (joined j))
+  joined _ = id⊢ 𝓤 _
+
+  apart : (i : Item 𝓤) → ent 𝓤 (mean 𝓛 i) (⋆ 𝓛 (flat i))
+  apart (i ⊛ j) = via 𝓤 (sep 𝓤 (mean 𝓛 i) (⋆ 𝓛 (flat j))) (mono_r 𝓤 (mean 𝓛 i) (apart j)) (push 𝓛 i (flat j))
+  apart _ = id⊢ 𝓤 _
+
+module _ {M : Type 1} {𝓤 : Ura M} {𝓛 : Logic 𝓤} where
+  -- a script proves a lemma: the context begins with the parts of what the lemma asks
+  pub script : {i k : Item 𝓤} → Seq (Go {0}) 𝓛 (flat i) (prop (mean 𝓛 k)) → Lemma 𝓛 i k
+  script {i} s = record { prf = via 𝓤 (⋆ 𝓛 (flat i)) (apart 𝓛 i) s.prf }
+
+  -- the same for an update
+  pub updates : {i k : Item 𝓤} → Seq (Go {0}) 𝓛 (flat i) (prop (upd 𝓤 (mean 𝓛 k))) → Update 𝓛 i k
+  updates {i} s = record { prf = via 𝓤 (⋆ 𝓛 (flat i)) (apart 𝓛 i) s.prf }
+
+  -- a script cites a lemma: what it asks stands first in the context, and what it gives takes that place
+  pub cite : {K : Type 0} {i k : Item 𝓤} {G : Goal 𝓤 𝓛.H} (Γ : List (Item 𝓤)) → Lemma 𝓛 i k → Step K 𝓛 (flat k ++ Γ) G (flat i ++ Γ) G
+  cite {i = i} {k = k} Γ l = cut (flat i) (flat k) Γ (via 𝓤 (mean 𝓛 i) (joined 𝓛 i) (via 𝓤 (mean 𝓛 k) l.prf (apart 𝓛 k)))
+
+  -- the goal is that there is an x with F x: this x
+  pub having : {K : Type 0} → K → {Γ : List (Item 𝓤)} {X : Type 0} (F : X → Item 𝓤) (x : X) → Step K 𝓛 Γ (prop (mean 𝓛 (F x))) Γ (prop (mean 𝓛 (some F)))
+  having t F x = step (λ s. record { prf = via 𝓤 (mean 𝓛 (F x)) s.prf (ex_i 𝓤 (λ y. mean 𝓛 (F y)) x) })
+
+  -- the head is F x, so there is an x with F x; and a fact is kept with the head
+  pub pack : {K : Type 0} → K → {Γ : List (Item 𝓤)} {G : Goal 𝓤 𝓛.H} {X : Type 0} (F : X → Item 𝓤) (x : X) → Step K 𝓛 (some F ∷ Γ) G (F x ∷ Γ) G
+  pack t {Γ = Γ} F x = cut (F x ∷ []) (some F ∷ []) Γ (ex_i 𝓤 (λ y. mean 𝓛 (F y)) x)
+
+  pub holding : {K : Type 0} → K → {Γ : List (Item 𝓤)} {G : Goal 𝓤 𝓛.H} {φ : Type 0} {i : Item 𝓤} → φ → Step K 𝓛 (given φ i ∷ Γ) G (i ∷ Γ) G
+  holding t {Γ = Γ} {φ = φ} {i = i} x = cut (i ∷ []) (given φ i ∷ []) Γ (guard_i 𝓤 φ (mean 𝓛 i) x)
+
+  -- the goal is an update to `to`: a lemma that updates is cited; and nothing is left to update
+  pub renew : {K : Type 0} {i k : Item 𝓤} (to : Item 𝓤) (Γ : List (Item 𝓤)) → Update 𝓛 i k
+      → Step K 𝓛 (flat k ++ Γ) (prop (upd 𝓤 (mean 𝓛 to))) (flat i ++ Γ) (prop (upd 𝓤 (mean 𝓛 to)))
+  renew {i = i} {k = k} to Γ l = let P : SProp 𝓤 = mean 𝓛 to in
+      let asks = cut {𝓛 = 𝓛} {G = prop (upd 𝓤 P)} (flat i) (raw (upd 𝓤 (mean 𝓛 k)) ∷ []) Γ (via 𝓤 (mean 𝓛 i) (joined 𝓛 i) l.prf) in
+      let gives = cut {𝓛 = 𝓛} {G = prop (upd 𝓤 P)} (k ∷ []) (flat k) Γ (apart 𝓛 k) in
+      step (λ s. asks.go ((settle 𝓛 P k).go (gives.go s)))
+
+  pub settled : {K : Type 0} → K → {Γ : List (Item 𝓤)} (P : SProp 𝓤) → Step K 𝓛 Γ (prop P) Γ (prop (upd 𝓤 P))
+  settled t P = suffices t P (upd_i 𝓤 P)
+
+  -- an entailment, as a lemma
+  pub lemma : {i k : Item 𝓤} → ent 𝓤 (mean 𝓛 i) (mean 𝓛 k) → Lemma 𝓛 i k
+  lemma e = record { prf = e }
+
+  pub update : {i k : Item 𝓤} → ent 𝓤 (mean 𝓛 i) (upd 𝓤 (mean 𝓛 k)) → Update 𝓛 i k
+  update e = record { prf = e }
