@@ -20,6 +20,6 @@ use Rattle.spin_history.proofs.history.ClosedLog.TheLaw.Statement.{statement}
 pub shares : (T L : RattleType) (g : Ghosts L.Denot) (W : Laws T) (W' : Laws L) → statement T L g W W'
 shares T L g W W' = let All = Tuple (T ∷ L ∷ []) in
     of_Lends (C.struct T L g) (C.the_codes T.Denot L.Denot T.coded L.coded (marker.the_row All).coded) (C.the_heap T L g) (C.the_lent T L g)
-    (λ d p. record { contraction = λ M 𝓤 𝓛 κ. closed_twice 𝓛 T.coded g.name d.entries; mono = λ M 𝓤 𝓛 κ' κ. snd∗ 𝓤 (sem 𝓛 (before κ' κ)) (sem 𝓛 (closed_owns T.coded.code g.name d.entries)) })
+    (λ d p. record { contraction = λ M 𝓤 𝓛 κ. (closed_twice 𝓛 T.coded g.name d.entries).prf; mono = λ M 𝓤 𝓛 κ' κ. snd∗ 𝓤 (sem 𝓛 (before κ' κ)) (sem 𝓛 (closed_owns T.coded.code g.name d.entries)) })
     (copy_shared (marker.the_field All) (field_copy (marker.the_type All) tt), tt)
-    (λ M 𝓤 𝓛 d p. lends_twice 𝓛 (closed_owns T.coded.code g.name d.entries) (closed_twice 𝓛 T.coded g.name d.entries) (C.the_row T L g).lives)
+    (λ M 𝓤 𝓛 d p. lends_twice 𝓛 (closed_owns T.coded.code g.name d.entries) (closed_twice 𝓛 T.coded g.name d.entries).prf (C.the_row T L g).lives)

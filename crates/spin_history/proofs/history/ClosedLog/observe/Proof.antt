@@ -1,6 +1,5 @@
-use Rattle.spin_core.proofs.TraceWalk.{List, [], ◌∷◌, refl, IsPrefix, a_type, dcons, dnil, named, Val, vunit, vptr, inst_fn, SProp, emp, Fml, ftrue, fsep, flft, fhide, ‵, raw, ◌⊛◌, given, later, ◌$◌, ◌∵◌, !, qed, by, move, keep, drop, split, fsplit, fsplit3, fjoin, fjoin3, learn, use1, use2, await, feq_i, unit_lit, of_opd, returns, enter, alloc_all, pass_all, free_all, look_at, sets, fact_i, tables, yes, RattleType, owns, types_at, plain, RefOf, mut_vals, mut_Tells, shr_vals, shr_Tells, hidden_shr, unhide, nothing, opens, closes, param, bounded, Tuple, lent_out, Stays, stay_dropped, stay_ref, walk_of, Goes-dropped, Goes-ref, proved, Token, ends}
+use Rattle.spin_core.proofs.TraceWalk.{List, [], ◌∷◌, refl, a_type, dcons, dnil, named, Val, vunit, vptr, inst_fn, SProp, emp, Fml, ftrue, fsep, flft, fhide, ‵, raw, ◌⊛◌, ◌$◌, ◌∵◌, !, qed, by, move, keep, drop, split, fsplit, fsplit3, fjoin, fjoin3, learn, use1, await, feq_i, unit_lit, of_opd, returns, enter, alloc_all, pass_all, free_all, look_at, sets, fact_i, tables, yes, RattleType, owns, types_at, plain, RefOf, mut_vals, mut_Tells, shr_vals, shr_Tells, hidden_shr, unhide, nothing, opens, closes, param, bounded, Tuple, lent_out, Stays, stay_dropped, stay_ref, walk_of, Goes-dropped, Goes-ref, proved, Token, ends}
 use Rattle.core.specs.contracts.marker.PhantomData as marker
-use Rattle.spin_core.specs.Logs.{known_owns}
 use Rattle.spin_history.specs.History.{closed_owns}
 use Rattle.spin_history.proofs.Steps as steps
 use Rattle.spin_history.specs.contracts.history.Snapshot as Snapshot
@@ -9,6 +8,7 @@ use Rattle.spin_history.specs.contracts.history.ClosedLog.observe.{ended, clause
 use Rattle.spin_history.specs.contracts.history.ClosedLog.observe.Key.{name as #self}
 use Rattle.spin_history.proofs.history.ClosedLog.observe.Statement.{statement}
 use Rattle.spin_history.proofs.history.ClosedLog.observe.Code as code
+use Rattle.spin_core.proofs.Lemmas.{cite}
 
 pub observe_spec : {M : Type 1} → statement M
 observe_spec 𝓤 𝓛 𝓜 𝓡 wired T L _ _ g d _ =
@@ -26,7 +26,7 @@ observe_spec 𝓤 𝓛 𝓜 𝓡 wired T L _ _ g d _ =
     enter ! 𝓣.C 𝓣.Λ fn (u ∷ v ∷ []) Post $ alloc_all ! (λ l. pass_all ! refl ((tt, tt), ((tt, tt), tt)) $
     use1 𝓛 (‵ (hidden_shr (Token All) κs.0 (record {}, tt) r.ref_ptr.0 r.ref_ptr.1) ⊛ ‵ (fhide (closed_owns cv.code g.name me.entries))) (lent_out 𝓛 (ClosedLog.struct T' L' g) (ClosedLog.the_codes T.Denot L.Denot T'.coded L'.coded (marker.the_row All).coded) (ClosedLog.the_heap T' L' g) (ClosedLog.the_lent T' L' g) κs.0 me r.ref_ptr.0 r.ref_ptr.1) $ split ! $ drop ! $ unhide ! $ move ! (2 ∷ 3 ∷ 4 ∷ []) $
     opens ! tt Sr s.ref_ptr.0 s.ref_ptr.1 (λ ds. move ! (1 ∷ []) $ fsplit ! $ move ! (6 ∷ 1 ∷ []) $
-    use2 𝓛 (later (given (IsPrefix had.entries me.entries) (‵ (known_owns cv.code g.name me.entries)))) (steps.closed_observes 𝓛 cv g.name me.entries had.entries) $ await ! tt $ learn ! (λ so.
+    cite _ (steps.closed_observes 𝓛 cv g.name me.entries had.entries) $ await ! tt $ learn ! (λ so.
     move ! (1 ∷ 0 ∷ []) $ fjoin ! $ move ! (1 ∷ 0 ∷ 2 ∷ 3 ∷ 4 ∷ []) $ closes ! tt Sr now' ds s.ref_ptr.0 s.ref_ptr.1 $
     sets ! (of_opd ! (unit_lit !)) refl (tt, tt) $ feq_i ! (List Val) (vunit ∷ []) (vunit ∷ []) refl $
     move ! (3 ∷ 5 ∷ []) $ fjoin ! $ move ! (4 ∷ 0 ∷ []) $ fjoin ! $ nothing ! $ feq_i ! (List Val) (v ∷ []) (v ∷ []) refl $ move ! (0 ∷ 4 ∷ 5 ∷ []) $ fjoin3 ! $ fjoin ! $ nothing ! $ fjoin ! $

@@ -1,11 +1,11 @@
-use Rattle.spin_core.proofs.TraceWalk.{List, [], ◌∷◌, ◌++◌, refl, a_type, dcons, dnil, named, Val, vunit, vptr, inst_fn, SProp, emp, Fml, ftrue, fsep, flft, ‵, raw, ◌⊛◌, later, ◌$◌, ◌∵◌, !, qed, by, move, keep, split, fsplit, fsplit3, fjoin, fjoin3, use1, await, feq_i, unit_lit, of_opd, returns, enter, alloc_all, pass_all, free_all, look_at, sets, fact_i, tables, yes, RattleType, owns, types_at, plain, RefOf, mut_vals, mut_Tells, shr_vals, shr_Tells, nothing, opens, closes, param, bounded, Stays, stay_dropped, stay_ref, walk_of, Goes-dropped, Goes-ref, proved, ends}
-use Rattle.spin_core.specs.Logs.{log_owns}
+use Rattle.spin_core.proofs.TraceWalk.{List, [], ◌∷◌, ◌++◌, refl, a_type, dcons, dnil, named, Val, vunit, vptr, inst_fn, SProp, emp, Fml, ftrue, fsep, flft, ‵, raw, ◌⊛◌, ◌$◌, ◌∵◌, !, qed, by, move, keep, split, fsplit, fsplit3, fjoin, fjoin3, await, feq_i, unit_lit, of_opd, returns, enter, alloc_all, pass_all, free_all, look_at, sets, fact_i, tables, yes, RattleType, owns, types_at, plain, RefOf, mut_vals, mut_Tells, shr_vals, shr_Tells, nothing, opens, closes, param, bounded, Stays, stay_dropped, stay_ref, walk_of, Goes-dropped, Goes-ref, proved, ends}
 use Rattle.spin_history.proofs.Steps as steps
 use Rattle.spin_history.specs.contracts.history.Log as Log
 use Rattle.spin_history.specs.contracts.history.Log.append.{ended, clauses}
 use Rattle.spin_history.specs.contracts.history.Log.append.Key.{name as #self}
 use Rattle.spin_history.proofs.history.Log.append.Statement.{statement}
 use Rattle.spin_history.proofs.history.Log.append.Code as code
+use Rattle.spin_core.proofs.Lemmas.{cite}
 
 pub append_spec : {M : Type 1} → statement M
 append_spec 𝓤 𝓛 𝓜 𝓡 wired T L _ _ g d _ =
@@ -22,7 +22,7 @@ append_spec 𝓤 𝓛 𝓜 𝓡 wired T L _ _ g d _ =
     fsplit ! $ move ! (1 ∷ []) $ fsplit ! $ move ! (3 ∷ []) $ fsplit ! $ fsplit3 ! $ keep ! (1 ∷ 2 ∷ 6 ∷ 4 ∷ 5 ∷ []) $
     enter ! 𝓣.C 𝓣.Λ fn (u ∷ v ∷ []) Post $ alloc_all ! (λ l. pass_all ! refl ((tt, tt), ((tt, tt), tt)) $
     opens ! tt Lr a.0.ref_ptr.0 a.0.ref_ptr.1 (λ cs. move ! (1 ∷ []) $ fsplit ! $ move ! (1 ∷ []) $
-    use1 𝓛 (later (‵ (log_owns cv.code g.name me'.entries))) (steps.appends 𝓛 cv g.name me.entries x) $ await ! tt $ move ! (1 ∷ 0 ∷ []) $ fjoin ! $
+    cite _ (steps.appends 𝓛 cv g.name me.entries x) $ await ! tt $ move ! (1 ∷ 0 ∷ []) $ fjoin ! $
     move ! (1 ∷ 0 ∷ 2 ∷ 3 ∷ 4 ∷ []) $ closes ! tt Lr me' cs a.0.ref_ptr.0 a.0.ref_ptr.1 $ sets ! (of_opd ! (unit_lit !)) refl (tt, tt) $ feq_i ! (List Val) (vunit ∷ []) (vunit ∷ []) refl $
     move ! (4 ∷ 5 ∷ []) $ fjoin ! $ move ! (4 ∷ 0 ∷ []) $ fjoin ! $ nothing ! $ nothing ! $ fjoin ! $ feq_i ! (List Val) (u ∷ []) (u ∷ []) refl $ move ! (0 ∷ 4 ∷ 5 ∷ []) $ fjoin3 ! $ fjoin ! $
     returns ! (look_at ! 0 refl) $ free_all ! refl $ keep ! (1 ∷ 0 ∷ 2 ∷ []) $ by ! (ends 𝓛 En hs c y vunit tt (me', (tt, tt)) (tt, (tt, tt)) (fact_i 𝓤 _ (emp 𝓤) refl)))))

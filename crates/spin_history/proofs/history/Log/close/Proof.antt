@@ -1,11 +1,11 @@
-use Rattle.spin_core.proofs.TraceWalk.{[], ◌∷◌, refl, a_type, dcons, dnil, Val, inst_fn, SProp, emp, Fml, ftrue, fsep, flft, ‵, raw, ◌⊛◌, later, ◌$◌, ◌∵◌, !, qed, by, move, keep, split, fsplit, fjoin, use0, use1, await, no_more, and_then, returns, enter, alloc_all, pass_all, free_all, look_at, get, sets, agg, fact_i, tables, no, RattleType, owns, types_at, plain, nothing, param, bounded, Tuple, Stays, stay_dropped, walk_of, Goes-dropped, proved, token, Token, token_told, token_made, ends}
-use Rattle.spin_history.specs.History.{closed_owns}
+use Rattle.spin_core.proofs.TraceWalk.{[], ◌∷◌, refl, a_type, dcons, dnil, Val, inst_fn, SProp, emp, Fml, ftrue, fsep, flft, ‵, raw, ◌⊛◌, ◌$◌, ◌∵◌, !, qed, by, move, keep, split, fsplit, fjoin, use0, await, no_more, and_then, returns, enter, alloc_all, pass_all, free_all, look_at, get, sets, agg, fact_i, tables, no, RattleType, owns, types_at, plain, nothing, param, bounded, Tuple, Stays, stay_dropped, walk_of, Goes-dropped, proved, token, Token, token_told, token_made, ends}
 use Rattle.spin_history.proofs.Steps as steps
 use Rattle.spin_history.specs.contracts.history.Log as Log
 use Rattle.spin_history.specs.contracts.history.Log.close.{ended, clauses}
 use Rattle.spin_history.specs.contracts.history.Log.close.Key.{name as #self}
 use Rattle.spin_history.proofs.history.Log.close.Statement.{statement}
 use Rattle.spin_history.proofs.history.Log.close.Code as code
+use Rattle.spin_core.proofs.Lemmas.{cite}
 
 pub close_spec : {M : Type 1} → statement M
 close_spec 𝓤 𝓛 𝓜 𝓡 wired T L _ _ g d _ =
@@ -20,7 +20,7 @@ close_spec 𝓤 𝓛 𝓜 𝓡 wired T L _ _ g d _ =
     qed 𝓛 ((‵ toks ⊛ ‵ (owns (types_at En.signature.params κs) a y.0.4)) ∷ raw ((c κs a).requires gh) ∷ []) ∵ keep ! (0 ∷ []) $ split ! $
     move ! (1 ∷ []) $ fsplit ! $ fsplit ! $ keep ! (1 ∷ 3 ∷ []) $
     enter ! 𝓣.C 𝓣.Λ fn (token ∷ []) Post $ alloc_all ! (λ l. pass_all ! refl ((tt, (tt, tt)), tt) $
-    use1 𝓛 (later (‵ (closed_owns cv.code g.name me.entries))) (steps.closes_it 𝓛 cv g.name me.entries) $ await ! tt $
+    cite _ (steps.closes_it 𝓛 cv g.name me.entries) $ await ! tt $
     sets ! (agg ! (no_more !)) refl (tt, tt) $ sets ! (agg ! (and_then ! (get ! refl) (no_more !))) refl (tt, (tt, tt)) $
     use0 𝓛 (‵ ((Token (All)).own_val (record {}, tt) (token ∷ []))) (token_made (All) 𝓛) $ fjoin ! $ nothing ! $ nothing ! $ fjoin ! $
     returns ! (look_at ! 0 refl) $ free_all ! refl $ keep ! (2 ∷ 0 ∷ 1 ∷ []) $ by ! (ends 𝓛 En hs c y token (record { marker = record {}; entries = me.entries }) (tt, tt) (tt, tt) (fact_i 𝓤 _ (emp 𝓤) refl))))

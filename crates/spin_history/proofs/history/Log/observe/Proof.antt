@@ -1,6 +1,6 @@
-use Rattle.spin_core.proofs.TraceWalk.{List, [], ◌∷◌, refl, IsPrefix, a_type, dcons, dnil, named, Val, vunit, vptr, inst_fn, SProp, emp, Fml, ftrue, fsep, flft, fhide, ‵, raw, ◌⊛◌, given, ◌$◌, ◌∵◌, !, qed, by, move, keep, drop, split, fsplit, fsplit3, fjoin, fjoin3, learn, use1, use2, feq_i, unit_lit, of_opd, returns, enter, alloc_all, pass_all, free_all, look_at, sets, obor_close, shr_bor-open, fact_i, tables, yes, RattleType, owns, types_at, plain, RefOf, mut_vals, mut_Tells, shr_vals, shr_Tells, hidden_shr, unhide, nothing, opens, closes, param, bounded, Tuple, lent_out, Stays, stay_dropped, stay_ref, walk_of, Goes-dropped, Goes-ref, proved, Token, ends}
+use Rattle.spin_core.proofs.TraceWalk.{List, [], ◌∷◌, refl, a_type, dcons, dnil, named, Val, vunit, vptr, inst_fn, SProp, emp, Fml, ftrue, fsep, flft, fhide, ‵, raw, ◌⊛◌, ◌$◌, ◌∵◌, !, qed, by, move, keep, drop, split, fsplit, fsplit3, fjoin, fjoin3, learn, use1, feq_i, unit_lit, of_opd, returns, enter, alloc_all, pass_all, free_all, look_at, sets, obor_close, shr_bor-open, fact_i, tables, yes, RattleType, owns, types_at, plain, RefOf, mut_vals, mut_Tells, shr_vals, shr_Tells, hidden_shr, unhide, nothing, opens, closes, param, bounded, Tuple, lent_out, Stays, stay_dropped, stay_ref, walk_of, Goes-dropped, Goes-ref, proved, Token, ends}
 use Rattle.core.specs.contracts.marker.PhantomData as marker
-use Rattle.spin_core.specs.Logs.{log_part, log_shares, known_owns}
+use Rattle.spin_core.specs.Logs.{log_shares}
 use Rattle.spin_history.proofs.Steps as steps
 use Rattle.spin_history.specs.contracts.history.Log as Log
 use Rattle.spin_history.specs.contracts.history.Snapshot as Snapshot
@@ -8,6 +8,7 @@ use Rattle.spin_history.specs.contracts.history.Log.observe.{ended, clauses}
 use Rattle.spin_history.specs.contracts.history.Log.observe.Key.{name as #self}
 use Rattle.spin_history.proofs.history.Log.observe.Statement.{statement}
 use Rattle.spin_history.proofs.history.Log.observe.Code as code
+use Rattle.spin_core.proofs.Lemmas.{cite}
 
 pub observe_spec : {M : Type 1} → statement M
 observe_spec 𝓤 𝓛 𝓜 𝓡 wired T L _ _ g d _ =
@@ -25,7 +26,7 @@ observe_spec 𝓤 𝓛 𝓜 𝓡 wired T L _ _ g d _ =
     enter ! 𝓣.C 𝓣.Λ fn (u ∷ v ∷ []) Post $ alloc_all ! (λ l. pass_all ! refl ((tt, tt), ((tt, tt), tt)) $
     use1 𝓛 (‵ (hidden_shr (Token All) κs.0 (record {}, tt) r.ref_ptr.0 r.ref_ptr.1) ⊛ ‵ (fhide (log_shares cv.code g.name me.entries κs.0))) (lent_out 𝓛 (Log.struct T' L' g) (Log.the_codes T.Denot L.Denot T'.coded L'.coded (marker.the_row All).coded) (Log.the_heap T' L' g) (Log.the_lent T' L' g) κs.0 me r.ref_ptr.0 r.ref_ptr.1) $ split ! $ drop ! $ unhide ! $
     shr_bor-open ! tt (steps.part_halves 𝓛 cv g.name me.entries) (λ q. move ! (2 ∷ 3 ∷ 4 ∷ []) $ opens ! tt Sr s.ref_ptr.0 s.ref_ptr.1 (λ ds. move ! (1 ∷ []) $ fsplit ! $ move ! (7 ∷ 1 ∷ []) $
-    use2 𝓛 (given (IsPrefix had.entries me.entries) (‵ (log_part cv.code g.name me.entries q) ⊛ ‵ (known_owns cv.code g.name me.entries))) (steps.observes 𝓛 cv g.name q me.entries had.entries) $ learn ! (λ so. split ! $
+    cite _ (steps.observes 𝓛 cv g.name q me.entries had.entries) $ learn ! (λ so. split ! $
     move ! (7 ∷ 0 ∷ []) $ obor_close ! tt $ drop ! $ move ! (2 ∷ 1 ∷ []) $ fjoin ! $
     move ! (2 ∷ 0 ∷ 3 ∷ 4 ∷ 5 ∷ []) $ closes ! tt Sr now' ds s.ref_ptr.0 s.ref_ptr.1 $
     sets ! (of_opd ! (unit_lit !)) refl (tt, tt) $ feq_i ! (List Val) (vunit ∷ []) (vunit ∷ []) refl $

@@ -1,12 +1,13 @@
-use Rattle.spin_core.proofs.TraceWalk.{obor_close, shr_bor-open, ◌≡◌, List, [], ◌∷◌, refl, a_type, dcons, dnil, named, Val, vunit, vptr, inst_fn, SProp, emp, Fml, ftrue, fsep, flft, fhide, ‵, raw, ◌⊛◌, given, ◌$◌, ◌∵◌, !, qed, by, move, keep, drop, split, fsplit, fjoin, learn, use1, use2, feq_i, unit_lit, of_opd, returns, enter, alloc_all, pass_all, free_all, look_at, sets, fact_i, tables, yes, RattleType, owns, types_at, plain, RefOf, shr_vals, shr_Tells, hidden_shr, unhide, nothing, param, bounded, Tuple, lent_out, Stays, stay_dropped, walk_of, Goes-dropped, proved, Token, ends}
+use Rattle.spin_core.proofs.TraceWalk.{obor_close, shr_bor-open, List, [], ◌∷◌, refl, a_type, dcons, dnil, named, Val, vunit, vptr, inst_fn, SProp, emp, Fml, ftrue, fsep, flft, fhide, ‵, raw, ◌⊛◌, ◌$◌, ◌∵◌, !, qed, by, move, keep, drop, split, fsplit, fjoin, learn, use1, feq_i, unit_lit, of_opd, returns, enter, alloc_all, pass_all, free_all, look_at, sets, fact_i, tables, yes, RattleType, owns, types_at, plain, RefOf, shr_vals, shr_Tells, hidden_shr, unhide, nothing, param, bounded, Tuple, lent_out, Stays, stay_dropped, walk_of, Goes-dropped, proved, Token, ends}
 use Rattle.core.specs.contracts.marker.PhantomData as marker
-use Rattle.spin_core.specs.Logs.{log_part, log_shares}
+use Rattle.spin_core.specs.Logs.{log_shares}
 use Rattle.spin_history.proofs.Steps as steps
 use Rattle.spin_history.specs.contracts.history.Log as Log
 use Rattle.spin_history.specs.contracts.history.Log.same.{ended, clauses}
 use Rattle.spin_history.specs.contracts.history.Log.same.Key.{name as #self}
 use Rattle.spin_history.proofs.history.Log.same.Statement.{statement}
 use Rattle.spin_history.proofs.history.Log.same.Code as code
+use Rattle.spin_core.proofs.Lemmas.{cite}
 
 pub same_spec : {M : Type 1} → statement M
 same_spec 𝓤 𝓛 𝓜 𝓡 wired T L _ _ g d _ =
@@ -24,7 +25,7 @@ same_spec 𝓤 𝓛 𝓜 𝓡 wired T L _ _ g d _ =
     use1 𝓛 (‵ (hidden_shr (Token All) κs.1.0 (record {}, tt) s.ref_ptr.0 s.ref_ptr.1) ⊛ ‵ (fhide (log_shares cv.code g.name other.entries κs.1.0))) (lent_out 𝓛 (Log.struct T' L' g) (Log.the_codes T.Denot L.Denot T'.coded L'.coded (marker.the_row All).coded) (Log.the_heap T' L' g) (Log.the_lent T' L' g) κs.1.0 other s.ref_ptr.0 s.ref_ptr.1) $ split ! $ drop ! $ unhide ! $ move ! (1 ∷ []) $
     use1 𝓛 (‵ (hidden_shr (Token All) κs.0 (record {}, tt) r.ref_ptr.0 r.ref_ptr.1) ⊛ ‵ (fhide (log_shares cv.code g.name me.entries κs.0))) (lent_out 𝓛 (Log.struct T' L' g) (Log.the_codes T.Denot L.Denot T'.coded L'.coded (marker.the_row All).coded) (Log.the_heap T' L' g) (Log.the_lent T' L' g) κs.0 me r.ref_ptr.0 r.ref_ptr.1) $ split ! $ drop ! $ unhide ! $
     move ! (0 ∷ 4 ∷ []) $ shr_bor-open ! tt (steps.part_halves 𝓛 cv g.name me.entries) (λ q. move ! (2 ∷ 3 ∷ []) $ shr_bor-open ! tt (steps.part_halves 𝓛 cv g.name other.entries) (λ p. move ! (3 ∷ 1 ∷ []) $
-    use2 𝓛 (given (me.entries ≡ other.entries) (‵ (log_part cv.code g.name me.entries q) ⊛ ‵ (log_part cv.code g.name other.entries p))) (steps.same_log 𝓛 cv g.name q p me.entries other.entries) $ learn ! (λ so. split ! $
+    cite _ (steps.same_log 𝓛 cv g.name q p me.entries other.entries) $ learn ! (λ so. split ! $
     move ! (3 ∷ 0 ∷ []) $ obor_close ! tt $ drop ! $ move ! (2 ∷ 1 ∷ []) $ obor_close ! tt $ drop ! $
     sets ! (of_opd ! (unit_lit !)) refl (tt, tt) $ feq_i ! (List Val) (vunit ∷ []) (vunit ∷ []) refl $
     move ! (1 ∷ 3 ∷ []) $ fjoin ! $ move ! (2 ∷ 0 ∷ []) $ fjoin ! $ nothing ! $ nothing ! $ fjoin ! $ nothing ! $ fjoin ! $

@@ -1,12 +1,13 @@
 use Rattle.spin_core.proofs.TraceWalk.{[], ◌∷◌, refl, a_type, dcons, dnil, named, Val, vptr, inst_fn, SProp, emp, Fml, ftrue, fsep, flft, fhide, ‵, raw, ◌⊛◌, ◌$◌, ◌∵◌, !, qed, by, move, keep, drop, split, fsplit, fjoin, use0, use1, no_more, and_then, returns, enter, alloc_all, pass_all, free_all, look_at, get, sets, obor_close, shr_bor-open, agg, fact_i, tables, yes, RattleType, owns, types_at, plain, RefOf, shr_vals, shr_Tells, hidden_shr, unhide, nothing, param, bounded, Tuple, lent_out, Stays, stay_dropped, walk_of, Goes-dropped, proved, token, Token, token_made, ends}
 use Rattle.core.specs.contracts.marker.PhantomData as marker
-use Rattle.spin_core.specs.Logs.{log_part, log_shares, known_owns}
+use Rattle.spin_core.specs.Logs.{log_shares}
 use Rattle.spin_history.proofs.Steps as steps
 use Rattle.spin_history.specs.contracts.history.Log as Log
 use Rattle.spin_history.specs.contracts.history.Log.snapshot.{ended, clauses}
 use Rattle.spin_history.specs.contracts.history.Log.snapshot.Key.{name as #self}
 use Rattle.spin_history.proofs.history.Log.snapshot.Statement.{statement}
 use Rattle.spin_history.proofs.history.Log.snapshot.Code as code
+use Rattle.spin_core.proofs.Lemmas.{cite}
 
 pub snapshot_spec : {M : Type 1} → statement M
 snapshot_spec 𝓤 𝓛 𝓜 𝓡 wired T L _ _ g d _ =
@@ -23,7 +24,7 @@ snapshot_spec 𝓤 𝓛 𝓜 𝓡 wired T L _ _ g d _ =
     enter ! 𝓣.C 𝓣.Λ fn (u ∷ []) Post $ alloc_all ! (λ l. pass_all ! refl ((tt, tt), tt) $
     use1 𝓛 (‵ (hidden_shr (Token All) κs.0 (record {}, tt) a.0.ref_ptr.0 a.0.ref_ptr.1) ⊛ ‵ (fhide (log_shares cv.code g.name me.entries κs.0))) (lent_out 𝓛 (Log.struct T' L' g) (Log.the_codes T.Denot L.Denot T'.coded L'.coded (marker.the_row All).coded) (Log.the_heap T' L' g) (Log.the_lent T' L' g) κs.0 me a.0.ref_ptr.0 a.0.ref_ptr.1) $ split ! $ drop ! $ unhide ! $
     shr_bor-open ! tt (steps.part_halves 𝓛 cv g.name me.entries) (λ q. move ! (1 ∷ []) $
-    use1 𝓛 (‵ (log_part cv.code g.name me.entries q) ⊛ ‵ (known_owns cv.code g.name me.entries)) (steps.shows 𝓛 cv g.name q me.entries) $ split ! $ move ! (2 ∷ 0 ∷ []) $ obor_close ! tt $ drop ! $ move ! (1 ∷ []) $
+    cite _ (steps.shows 𝓛 cv g.name q me.entries) $ move ! (2 ∷ 0 ∷ []) $ obor_close ! tt $ drop ! $ move ! (1 ∷ []) $
     use0 𝓛 (‵ ((Token (All)).own_val (record {}, tt) (token ∷ []))) (token_made (All) 𝓛) $ fjoin ! $
     sets ! (agg ! (no_more !)) refl (tt, tt) $ sets ! (agg ! (and_then ! (get ! refl) (no_more !))) refl (tt, (tt, tt)) $
     move ! (1 ∷ 2 ∷ []) $ fjoin ! $ nothing ! $ nothing ! $ fjoin ! $

@@ -1,4 +1,4 @@
-use Rattle.spin_core.proofs.TraceWalk.{List, [], ◌∷◌, refl, ◌⊎◌, IsPrefix, a_type, dcons, dnil, named, Val, vunit, vptr, inst_fn, SProp, emp, Fml, ftrue, fsep, flft, fhide, ‵, raw, ◌⊛◌, given, ◌$◌, ◌∵◌, !, qed, by, move, keep, drop, split, fsplit, fjoin, learn, use1, use2, feq_i, unit_lit, of_opd, returns, enter, alloc_all, pass_all, free_all, look_at, sets, fact_i, tables, yes, RattleType, owns, types_at, plain, RefOf, shr_vals, shr_Tells, hidden_shr, unhide, nothing, param, bounded, Tuple, lent_out, Stays, stay_dropped, walk_of, Goes-dropped, proved, Token, ends}
+use Rattle.spin_core.proofs.TraceWalk.{List, [], ◌∷◌, refl, a_type, dcons, dnil, named, Val, vunit, vptr, inst_fn, SProp, emp, Fml, ftrue, fsep, flft, fhide, ‵, raw, ◌⊛◌, ◌$◌, ◌∵◌, !, qed, by, move, keep, drop, split, fsplit, fjoin, learn, use1, feq_i, unit_lit, of_opd, returns, enter, alloc_all, pass_all, free_all, look_at, sets, fact_i, tables, yes, RattleType, owns, types_at, plain, RefOf, shr_vals, shr_Tells, hidden_shr, unhide, nothing, param, bounded, Tuple, lent_out, Stays, stay_dropped, walk_of, Goes-dropped, proved, Token, ends}
 use Rattle.core.specs.contracts.marker.PhantomData as marker
 use Rattle.spin_core.specs.Logs.{known_owns}
 use Rattle.spin_history.proofs.Steps as steps
@@ -7,6 +7,7 @@ use Rattle.spin_history.specs.contracts.history.Snapshot.compare.{ended, clauses
 use Rattle.spin_history.specs.contracts.history.Snapshot.compare.Key.{name as #self}
 use Rattle.spin_history.proofs.history.Snapshot.compare.Statement.{statement}
 use Rattle.spin_history.proofs.history.Snapshot.compare.Code as code
+use Rattle.spin_core.proofs.Lemmas.{cite}
 
 pub compare_spec : {M : Type 1} → statement M
 compare_spec 𝓤 𝓛 𝓜 𝓡 wired T L _ _ g d _ =
@@ -23,7 +24,7 @@ compare_spec 𝓤 𝓛 𝓜 𝓡 wired T L _ _ g d _ =
     enter ! 𝓣.C 𝓣.Λ fn (u ∷ v ∷ []) Post $ alloc_all ! (λ l. pass_all ! refl ((tt, tt), ((tt, tt), tt)) $
     use1 𝓛 (‵ (hidden_shr (Token All) κs.1.0 (record {}, tt) s.ref_ptr.0 s.ref_ptr.1) ⊛ ‵ (fhide (known_owns cv.code g.name other.entries))) (lent_out 𝓛 (Snapshot.struct T' L' g) (Snapshot.the_codes T.Denot L.Denot T'.coded L'.coded (marker.the_row All).coded) (Snapshot.the_heap T' L' g) (Snapshot.the_lent T' L' g) κs.1.0 other s.ref_ptr.0 s.ref_ptr.1) $ split ! $ drop ! $ unhide ! $ move ! (1 ∷ []) $
     use1 𝓛 (‵ (hidden_shr (Token All) κs.0 (record {}, tt) r.ref_ptr.0 r.ref_ptr.1) ⊛ ‵ (fhide (known_owns cv.code g.name me.entries))) (lent_out 𝓛 (Snapshot.struct T' L' g) (Snapshot.the_codes T.Denot L.Denot T'.coded L'.coded (marker.the_row All).coded) (Snapshot.the_heap T' L' g) (Snapshot.the_lent T' L' g) κs.0 me r.ref_ptr.0 r.ref_ptr.1) $ split ! $ drop ! $ unhide ! $
-    use2 𝓛 (given (IsPrefix me.entries other.entries ⊎ IsPrefix other.entries me.entries) (‵ ftrue)) (steps.compares 𝓛 cv g.name me.entries other.entries) $ learn ! (λ so. drop ! $
+    cite _ (steps.compares 𝓛 cv g.name me.entries other.entries) $ learn ! (λ so. drop ! $
     sets ! (of_opd ! (unit_lit !)) refl (tt, tt) $ feq_i ! (List Val) (vunit ∷ []) (vunit ∷ []) refl $
     move ! (1 ∷ 2 ∷ []) $ fjoin ! $ move ! (2 ∷ 0 ∷ []) $ fjoin ! $ nothing ! $ nothing ! $ fjoin ! $ nothing ! $ fjoin ! $
     returns ! (look_at ! 0 refl) $ free_all ! refl $ keep ! (1 ∷ 0 ∷ 2 ∷ []) $ by ! (ends 𝓛 En hs c y vunit tt (tt, (tt, tt)) (tt, (tt, tt)) (fact_i 𝓤 _ (emp 𝓤) so)))))

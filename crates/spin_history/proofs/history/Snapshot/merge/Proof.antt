@@ -1,4 +1,4 @@
-use Rattle.spin_core.proofs.TraceWalk.{List, [], ◌∷◌, refl, IsPrefix, a_type, dcons, dnil, named, Val, vunit, vptr, inst_fn, SProp, emp, Fml, ftrue, fsep, flft, fhide, ‵, raw, ◌⊛◌, some, given, ◌$◌, ◌∵◌, !, qed, by, move, keep, drop, split, fsplit, fsplit3, fjoin, fjoin3, pick, learn, use1, use2, feq_i, unit_lit, of_opd, returns, enter, alloc_all, pass_all, free_all, look_at, sets, fact_i, tables, yes, RattleType, owns, types_at, plain, RefOf, mut_vals, mut_Tells, shr_vals, shr_Tells, hidden_shr, unhide, nothing, opens, closes, param, bounded, Tuple, lent_out, Stays, stay_dropped, stay_ref, walk_of, Goes-dropped, Goes-ref, proved, Token, ends}
+use Rattle.spin_core.proofs.TraceWalk.{List, [], ◌∷◌, refl, a_type, dcons, dnil, named, Val, vunit, vptr, inst_fn, SProp, emp, Fml, ftrue, fsep, flft, fhide, ‵, raw, ◌⊛◌, ◌$◌, ◌∵◌, !, qed, by, move, keep, drop, split, fsplit, fsplit3, fjoin, fjoin3, pick, learn, use1, feq_i, unit_lit, of_opd, returns, enter, alloc_all, pass_all, free_all, look_at, sets, fact_i, tables, yes, RattleType, owns, types_at, plain, RefOf, mut_vals, mut_Tells, shr_vals, shr_Tells, hidden_shr, unhide, nothing, opens, closes, param, bounded, Tuple, lent_out, Stays, stay_dropped, stay_ref, walk_of, Goes-dropped, Goes-ref, proved, Token, ends}
 use Rattle.core.specs.contracts.marker.PhantomData as marker
 use Rattle.spin_core.specs.Logs.{known_owns}
 use Rattle.spin_history.proofs.Steps as steps
@@ -7,6 +7,7 @@ use Rattle.spin_history.specs.contracts.history.Snapshot.merge.{ended, clauses}
 use Rattle.spin_history.specs.contracts.history.Snapshot.merge.Key.{name as #self}
 use Rattle.spin_history.proofs.history.Snapshot.merge.Statement.{statement}
 use Rattle.spin_history.proofs.history.Snapshot.merge.Code as code
+use Rattle.spin_core.proofs.Lemmas.{cite}
 
 pub merge_spec : {M : Type 1} → statement M
 merge_spec 𝓤 𝓛 𝓜 𝓡 wired T L _ _ g d _ =
@@ -23,7 +24,7 @@ merge_spec 𝓤 𝓛 𝓜 𝓡 wired T L _ _ g d _ =
     enter ! 𝓣.C 𝓣.Λ fn (u ∷ v ∷ []) Post $ alloc_all ! (λ l. pass_all ! refl ((tt, tt), ((tt, tt), tt)) $
     use1 𝓛 (‵ (hidden_shr (Token All) κs.1.0 (record {}, tt) s.ref_ptr.0 s.ref_ptr.1) ⊛ ‵ (fhide (known_owns cv.code g.name other.entries))) (lent_out 𝓛 (Snapshot.struct T' L' g) (Snapshot.the_codes T.Denot L.Denot T'.coded L'.coded (marker.the_row All).coded) (Snapshot.the_heap T' L' g) (Snapshot.the_lent T' L' g) κs.1.0 other s.ref_ptr.0 s.ref_ptr.1) $ split ! $ drop ! $ unhide ! $ move ! (1 ∷ 2 ∷ 3 ∷ []) $
     opens ! tt Sr r.ref_ptr.0 r.ref_ptr.1 (λ ds. move ! (1 ∷ []) $ fsplit ! $ move ! (1 ∷ 6 ∷ []) $
-    use2 𝓛 (some (λ (m : List T'.Denot). given (IsPrefix me.entries m × IsPrefix other.entries m) (‵ (known_owns cv.code g.name m)))) (steps.merges 𝓛 cv g.name me.entries other.entries) $ pick ! (λ m. learn ! (λ so.
+    cite _ (steps.merges 𝓛 cv g.name me.entries other.entries) $ pick ! (λ m. learn ! (λ so.
     let me' : Sr.Denot = record { marker = record {}; entries = m } in
     move ! (1 ∷ 0 ∷ []) $ fjoin ! $ move ! (1 ∷ 0 ∷ 2 ∷ 3 ∷ 4 ∷ []) $ closes ! tt Sr me' ds r.ref_ptr.0 r.ref_ptr.1 $
     sets ! (of_opd ! (unit_lit !)) refl (tt, tt) $ feq_i ! (List Val) (vunit ∷ []) (vunit ∷ []) refl $
