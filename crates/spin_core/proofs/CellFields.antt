@@ -142,7 +142,8 @@ module _ {M : Type 1} {𝓤 : Ura M} (𝓛 : Logic 𝓤) (m ms : Member) (V Y K 
     Apart z = ‵ (standing_words (z.1.0, z.1.1)) ⊛ ‵ (At z.1.2) ⊛ ‵ (fact (Rule z.1)) ⊛ raw Joins
 
     joins : (k : Knows) → ‵ Mark ⊛ raw Back ⊩ raw Joins
-    joins k = script ∵ each ! joined (λ s. let a : Denots (rows_of ks) = data_of s in assume ! (‵ (standing_words (s.0, s.1)) ⊛ ‵ (At s.2) ⊛ ‵ (fact (Rule s))) $ split3 ! $ fsplit ! $
+    joins k = script ∵ each ! joined (λ s. let a : Denots (rows_of ks) = data_of s in
+        assume ! (‵ (standing_words (s.0, s.1)) ⊛ ‵ (At s.2) ⊛ ‵ (fact (Rule s))) $ split3 ! $ fsplit ! $
         use1 𝓛 (‵ (First s.0)) (word_in 𝓛 b (o + 0) s.0) $ nothing ! $
         -- context: [nothing; the first word; the second; the value; the rule; the marker; the way back]
         move ! (2 ∷ 0 ∷ []) $ fjoin ! $ move ! (2 ∷ 0 ∷ []) $ fjoin ! $ move ! (3 ∷ 1 ∷ 0 ∷ []) $ fjoin3 ! $ move ! (2 ∷ []) $

@@ -91,7 +91,8 @@ module _ {M : Type 1} {𝓤 : Ura M} (𝓛 : Logic 𝓤) where
     Lends-tracked l le s opens κ ts inc sp =
         let ν : Lft = κ ++ β in let sm : Incl (span ts) ν = ⊑_meet (span ts) κ β sp (Incl-trans inc le) in
         qed 𝓛 (‵ (fbor κ P) ∷ raw (lfts 𝓛 ts) ∷ []) ∵ updating ! $ use1 𝓛 (‵ (fbor ν P)) (𝓛.bors.bor_shorten κ ν P (meet_⊑_left κ β)) $
-        use2 𝓛 (later (‵ (fbor ν At) ⊛ raw (lfts 𝓛 ts))) (by_one 𝓛 ν ts sm (A.bor ν P) (A.bor ν At) (λ q. (Lends-at opens ν (meet_⊑_right κ β) q).prf)) $ await ! tt $
+        use2 𝓛 (later (‵ (fbor ν At) ⊛ raw (lfts 𝓛 ts))) (by_one 𝓛 ν ts sm (A.bor ν P) (A.bor ν At) (λ q. (Lends-at opens ν (meet_⊑_right κ β) q).prf)) $
+        await ! tt $
         use1 𝓛 (later (‵ (shown R b o x ν) ⊛ raw (lfts 𝓛 ts))) (s x ν ts b (o + offset R) inc sm) $ await ! tt $ now ! $ done !
 
   module _ (Y R : RattleType) {V : Type 0} (c : V → Gv) (S : RattleType) (holds : ℕ → S.Denot → List V → Type 0) (ways : Ways R.Denot V S.Denot) (β : Lft) where
@@ -113,8 +114,10 @@ module _ {M : Type 1} {𝓤 : Ura M} (𝓛 : Logic 𝓤) where
       Wr = writer_at Y R c S holds ways β b o view x
 
       writer_gives : ‵ W ⊩ some (Gives R b o β x W)
-      writer_gives = script ∵ fpick ! (λ k. fpick ! (λ e. fpick ! (λ t. fsplit3 ! $ fsplit ! $ use1 𝓛 (‵ (before β t.life) ⊛ ‵ (before β t.life)) (before_dup 𝓛 β t.life) $ split ! $ move ! (0 ∷ 4 ∷ []) $
-          having ! (Gives R b o β x W) t $ types.Kit.frame ! $ types.Kit.frame ! $ assume ! (‵ (tracked R b o t x)) $ move ! (1 ∷ 2 ∷ []) $ fjoin ! $ move ! (0 ∷ 2 ∷ 1 ∷ []) $ fjoin3 ! $
+      writer_gives = script ∵ fpick ! (λ k. fpick ! (λ e. fpick ! (λ t. fsplit3 ! $ fsplit ! $
+          use1 𝓛 (‵ (before β t.life) ⊛ ‵ (before β t.life)) (before_dup 𝓛 β t.life) $ split ! $ move ! (0 ∷ 4 ∷ []) $
+          having ! (Gives R b o β x W) t $ types.Kit.frame ! $ types.Kit.frame ! $ assume ! (‵ (tracked R b o t x)) $
+          move ! (1 ∷ 2 ∷ []) $ fjoin ! $ move ! (0 ∷ 2 ∷ 1 ∷ []) $ fjoin3 ! $
           fpack ! Id Wr t $ fpack ! Sure (λ _. fex Id Wr) e $ fpack ! Knows (λ _. fex Sure (λ _. fex Id Wr)) k $ done !)))
 
     pub Lends-writer : (l : Lft) → Incl l β → Shares 𝓛 R l → (p : Ptr) (view : V) (x : R.Denot) → Lends 𝓛 (writer_owns Y R c S holds ways β p view x) (writer_shares Y R c S holds ways β p view x) l
@@ -164,7 +167,8 @@ module _ {M : Type 1} {𝓤 : Ura M} (𝓛 : Logic 𝓤) where
 
         pub lends_shown : (q : Share) → ‵ (fbor ν P) ⊛ ‵ (flft ν q) ⊩ later (‵ (fex Knows (λ _. V' ν)) ⊛ ‵ (flft ν q))
         unfolding fseps
-        lends_shown q = script ∵ updating ! $ bor_open ! tt $ move ! (1 ∷ []) $ fpick ! (λ k. fpick ! (λ t. fsplit3 ! $ fsplit ! $ move ! (3 ∷ []) $ fpick ! (λ u. fsplit ! $ fpick ! (λ e. fpick ! (λ n. fsplit ! $
+        lends_shown q = script ∵ updating ! $ bor_open ! tt $ move ! (1 ∷ []) $ fpick ! (λ k. fpick ! (λ t. fsplit3 ! $
+            fsplit ! $ move ! (3 ∷ []) $ fpick ! (λ u. fsplit ! $ fpick ! (λ e. fpick ! (λ n. fsplit ! $
             let a : Lft = u ∷ [] in let K = L x b (o + offset R) in
             -- context: [the token; the tag; what is shown; the end; the invariant; the view; the open borrow]
             move ! (2 ∷ []) $ use1 𝓛 (‵ (V' (u ∷ t.life)) ⊛ ‵ (V' (u ∷ t.life))) (contraction 𝓛 V' K (a ++ t.life)) $ split ! $ move ! (4 ∷ []) $
@@ -196,20 +200,24 @@ module _ {M : Type 1} {𝓤 : Ura M} (𝓛 : Logic 𝓤) where
     known_seen : (way : Way R.Denot) (x : R.Denot) (e : Share) → Part way x e → Seen way x
     known_seen way x e known = grind arith
 
-    shown_by : RowLaws R → (b o : ℕ) (t : Id) (x : R.Denot) → ‵ (before β t.life) ⊛ ‵ (reader R b o t ways.0 x) ⊩ later (given (Seen ways.0 x) (‵ (shown R b o x β)))
+    shown_by : RowLaws R → (b o : ℕ) (t : Id) (x : R.Denot)
+        → ‵ (before β t.life) ⊛ ‵ (reader R b o t ways.0 x) ⊩ later (given (Seen ways.0 x) (‵ (shown R b o x β)))
     shown_by L b o t x = script ∵ updating ! $ move ! (1 ∷ []) $ fpick ! (λ n. fsplit ! $ fpick ! (λ e. fpick ! (λ known. fsplit ! $
         -- context: [the token; the tag; what is shown; the end]
         bor_new ! tt β $ bor_fracture ! tt (λ r. flft (n ∷ []) r) e $ move ! (3 ∷ 4 ∷ 0 ∷ []) $
         cite _ (shows_for L b o t x β (Incl-refl β) n) $ now ! $ check ! (known_seen ways.0 x e known) $ keep ! (0 ∷ []) $ done !)))
 
-    pub shown_on : RowLaws R → (b o : ℕ) (view : Option V) (v : Option R.Denot) → use_of ways.1 view ≡ reads → ‵ (permit_owns Y R c S holds ways β (block_ptr b o) view v) ⊩ later (some (IsShown b o v))
+    pub shown_on : RowLaws R → (b o : ℕ) (view : Option V) (v : Option R.Denot) → use_of ways.1 view ≡ reads
+        → ‵ (permit_owns Y R c S holds ways β (block_ptr b o) view v) ⊩ later (some (IsShown b o v))
     shown_on L b o view None is = shows_none b o view is _
     shown_on L b o view (Some x) is = script ∵ updating ! $ fpick ! (λ k. fpick ! (λ t. fsplit3 ! $ fsplit ! $ move ! (3 ∷ []) $
-        rewrite ! 0 (λ (u : Use). ‵ (right R b o t ways.0 u (Some x))) is refl $ move ! (1 ∷ 0 ∷ []) $ cite _ (shown_by L b o t x) $ await ! tt $ learn ! (λ known.
+        rewrite ! 0 (λ (u : Use). ‵ (right R b o t ways.0 u (Some x))) is refl $ move ! (1 ∷ 0 ∷ []) $
+        cite _ (shown_by L b o t x) $ await ! tt $ learn ! (λ known.
         now ! $ having ! (IsShown b o (Some x)) x $ check ! (refl, known) $ keep ! (0 ∷ []) $ done !)))
 
     -- ---- in the way `fixes` such a reader also keeps its permit
-    reader_cut : RowLaws R → (b o : ℕ) (t : Id) (way : Way R.Denot) → Fixes way → (x : R.Denot) → ‵ (reader R b o t way x) ⊩ ‵ (reader R b o t way x) ⊛ ‵ (reader R b o t way x)
+    reader_cut : RowLaws R → (b o : ℕ) (t : Id) (way : Way R.Denot) → Fixes way → (x : R.Denot)
+        → ‵ (reader R b o t way x) ⊩ ‵ (reader R b o t way x) ⊛ ‵ (reader R b o t way x)
     reader_cut L b o t (fixes fact) fixed x =
         let way : Way R.Denot = fixes fact in let V' : Lft → Fml = shown R b o x in let Rd : ℕ → Fml = λ n. fsep (piece R way t.round (n, x)) (V' (n ∷ t.life)) in
         script ∵ fpick ! (λ n. fsplit ! $
@@ -220,7 +228,8 @@ module _ {M : Type 1} {𝓤 : Ura M} (𝓛 : Logic 𝓤) where
     abbrev pub IsShownTo : ℕ → ℕ → Option V → Option R.Denot → R.Denot → Item 𝓤
     IsShownTo b o view v x = given ((v ≡ Some x) × Seen ways.0 x) (‵ (shown R b o x β) ⊛ ‵ (permit_owns Y R c S holds ways β (block_ptr b o) view v))
 
-    pub shown_to : RowLaws R → (b o : ℕ) (view : Option V) (v : Option R.Denot) → use_of ways.1 view ≡ reads → Fixes ways.0 → ‵ (permit_owns Y R c S holds ways β (block_ptr b o) view v) ⊩ later (some (IsShownTo b o view v))
+    pub shown_to : RowLaws R → (b o : ℕ) (view : Option V) (v : Option R.Denot) → use_of ways.1 view ≡ reads
+        → Fixes ways.0 → ‵ (permit_owns Y R c S holds ways β (block_ptr b o) view v) ⊩ later (some (IsShownTo b o view v))
     shown_to L b o view None is fixed = shows_none b o view is _
     shown_to L b o view (Some x) is fixed = let Rd : Id → Fml = λ t. reader R b o t ways.0 x in let At : Id → Fml = owned_at b o view (use_of ways.1 view) (Some x) in
         script ∵ updating ! $ fpick ! (λ k. fpick ! (λ t. fsplit3 ! $ fsplit ! $ move ! (3 ∷ []) $
@@ -229,4 +238,5 @@ module _ {M : Type 1} {𝓤 : Ura M} (𝓛 : Logic 𝓤) where
         cite _ (shown_by L b o t x) $ await ! tt $ learn ! (λ known.
         -- context: [what is shown; the end; the reader; the invariant; the view]
         move ! (2 ∷ []) $ rewrite ! 0 (λ (u : Use). ‵ (right R b o t ways.0 u (Some x))) (sym is) refl $ move ! (4 ∷ 0 ∷ []) $ fjoin ! $ move ! (2 ∷ 3 ∷ []) $ fjoin ! $ fjoin ! $
-        fpack ! Id At t $ fpack ! Knows (λ _. fex Id At) k $ move ! (1 ∷ []) $ now ! $ having ! (IsShownTo b o view (Some x)) x $ check ! (refl, known) $ done !)))
+        fpack ! Id At t $ fpack ! Knows (λ _. fex Id At) k $ move ! (1 ∷ []) $ now ! $
+        having ! (IsShownTo b o view (Some x)) x $ check ! (refl, known) $ done !)))

@@ -95,7 +95,8 @@ module _ {M : Type 1} {𝓤 : Ura M} (𝓛 : Logic 𝓤) (R : RattleType) (γ : 
       script ∵ fsplit ! $ use1 𝓛 (‵ (flft (s.0 ∷ []) l) ⊛ ‵ (flft (s.0 ∷ []) r)) (𝓛.lfts.lft_split (s.0 ∷ []) e) $ split ! $ move ! (2 ∷ []) $
       use1 𝓛 (‵ (tag γ l g) ⊛ ‵ (tag γ r g)) (𝓛.algebras.own_cut halved γ (l, g) (r, g) (e, g) (sum g e l r (Share.halves e))) $ split ! $ move ! (3 ∷ 1 ∷ []) $ fjoin ! $ move ! (2 ∷ 1 ∷ []) $ fjoin ! $ done !
 
-  pub piece_cut : (fact : Bool → R.Denot → Type 0) (s : Round R) → ‵ (piece R (fixes fact) γ s) ⊩ given (fact true s.1) (‵ (piece R (fixes fact) γ s) ⊛ ‵ (piece R (fixes fact) γ s))
+  pub piece_cut : (fact : Bool → R.Denot → Type 0) (s : Round R)
+      → ‵ (piece R (fixes fact) γ s) ⊩ given (fact true s.1) (‵ (piece R (fixes fact) γ s) ⊛ ‵ (piece R (fixes fact) γ s))
   piece_cut fact s = let way : Way R.Denot = fixes fact in script ∵ fpick ! (λ e. fpick ! (λ known. check ! known $
       cite _ (halved_share s e) $ cite _ (piece_in way s (Share.left e) known) $ move ! (1 ∷ []) $
       cite _ (piece_in way s (Share.right e) known) $ done !))

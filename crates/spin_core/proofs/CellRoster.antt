@@ -92,7 +92,8 @@ module _ {M : Type 1} {𝓤 : Ura M} (𝓛 : Logic 𝓤) {V : Type 0} (cv : Code
       use1 𝓛 (‵ (Whole k g) ⊛ ‵ (unused γ (suc k) g)) (entries_take halved 𝓛 γ k (λ _. (full_share, g))) $ split ! $
       renew (Joined k [] u) _ (resets k g u) $ settled ! _ $
       move ! (1 ∷ []) $ fpack ! ℕ (λ i. R i u) k $ move ! (2 ∷ []) $ fpack ! Gv (unused γ (suc k)) g $ move ! (2 ∷ 0 ∷ []) $ Kit.join ! $ done !)
-  joins (w ∷ ws) k u = updates ∵ fsplit ! $ move ! (1 ∷ []) $ renew (Joined k (w ∷ ws) u) _ (joins ws (suc k) u) $ settled ! _ $ move ! (2 ∷ 0 ∷ []) $ Kit.join ! $ done !
+  joins (w ∷ ws) k u = updates ∵ fsplit ! $ move ! (1 ∷ []) $ renew (Joined k (w ∷ ws) u) _ (joins ws (suc k) u) $
+      settled ! _ $ move ! (2 ∷ 0 ∷ []) $ Kit.join ! $ done !
 
   -- a place, and the roster and the party's view if the party is there and gets the view `next`
   abbrev pub Placed : (view : Option V) (vs : List V) → ((id : ℕ) → Stands id view vs → V) → (id : ℕ) × Stands id view vs → Kit.Item 𝓤
@@ -101,9 +102,11 @@ module _ {M : Type 1} {𝓤 : Ura M} (𝓛 : Logic 𝓤) {V : Type 0} (cv : Code
   -- a party has its place among the views, or takes the next one; at that place it gets any view
   pub places : (view : Option V) (vs : List V) (next : (id : ℕ) → Stands id view vs → V)
       → ‵ (roster c γ 0 vs) ⊛ ‵ (Stand view) ⊫ Kit.some (Placed view vs next)
-  places None vs next = updates ∵ renew (Kit.some (Placed None vs next)) _ (joins vs 0 (next 0 tt)) $ settled ! _ $ having ! (Placed None vs next) (0, tt) $ keep ! (0 ∷ 1 ∷ []) $ done !
+  places None vs next = updates ∵ renew (Kit.some (Placed None vs next)) _ (joins vs 0 (next 0 tt)) $ settled ! _ $
+      having ! (Placed None vs next) (0, tt) $ keep ! (0 ∷ 1 ∷ []) $ done !
   places (Some v) vs next = updates ∵ move ! (1 ∷ []) $ fpick ! (λ id. move ! (1 ∷ 0 ∷ []) $
-      renew (Kit.some (Placed (Some v) vs next)) _ (moves vs 0 id id v (next id) (omega arith)) $ pick ! (λ at. split ! $ settled ! _ $ having ! (Placed (Some v) vs next) (id, at) $
+      renew (Kit.some (Placed (Some v) vs next)) _ (moves vs 0 id id v (next id) (omega arith)) $
+      pick ! (λ at. split ! $ settled ! _ $ having ! (Placed (Some v) vs next) (id, at) $
       move ! (1 ∷ []) $ fpack ! ℕ (λ i. R i (next id at)) id $ move ! (1 ∷ 0 ∷ []) $ done !))
 
   -- unused entries become the views of parties that have left

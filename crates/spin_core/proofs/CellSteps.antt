@@ -169,7 +169,8 @@ module _ {M : Type 1} {𝓤 : Ura M} (𝓛 : Logic 𝓤) (Er Ur : RattleType) wh
           (carrying_carries ways.2 m s.1 u (f w) v (Meets holds ways s.0 s.1 us) carrying)
 
       -- the rule holds again, and the party has its new view and its part of the value
-      leads : (then : ℕ → V → Type 0) (k : ℕ) → then k w → ‵ (roster cv.code ρ 0 us) ⊛ ‵ (Stand (Some w)) ⊛ ‵ (states s.1 us) ⊛ ‵ (Got s.1 w) ⊩ ‵ (Core s) ⊛ ‵ (moved (finding s.1.entries then k))
+      leads : (then : ℕ → V → Type 0) (k : ℕ) → then k w
+          → ‵ (roster cv.code ρ 0 us) ⊛ ‵ (Stand (Some w)) ⊛ ‵ (states s.1 us) ⊛ ‵ (Got s.1 w) ⊩ ‵ (Core s) ⊛ ‵ (moved (finding s.1.entries then k))
       leads then k so = let tells : V → Option R.Denot → Type 0 = finding s.1.entries then k in
           script ∵
           move ! (3 ∷ []) $ fpick ! (λ v'. fsplit ! $ fpick ! (λ kept. drop ! $ move ! (2 ∷ 0 ∷ []) $ fjoin ! $ knows ! (tells w v' × Keeps ways view (Some w) v v') ((so, learnt_of ways.2 s.1 u (f w) v v' kept.1), kept.0) $ fjoin ! $
@@ -205,10 +206,12 @@ module _ {M : Type 1} {𝓤 : Ura M} (𝓛 : Logic 𝓤) (Er Ur : RattleType) wh
           move ! (2 ∷ []) $ fpick ! (λ vs. fsplit ! $ move ! (1 ∷ []) $ fsplit ! $ fpick ! (λ meets. drop ! $ move ! (4 ∷ []) $ fsplit ! $ move ! (3 ∷ 0 ∷ []) $
           -- context: [the views; the party's view; what it had; the state; the first word; the trace; the watch]
           renew To _ (places 𝓛 cv ρ view vs (λ id here. (law id vs meets here).0)) $
-          pick ! (λ z. let id = z.0 in let here = z.1 in let r = law id vs meets here in let w : V = r.0 in let es : List E = r.1 in let s : ℕ × Trace E U = (n, grown_at m y es) in
+          pick ! (λ z. let id = z.0 in let here = z.1 in let r = law id vs meets here in let w : V = r.0 in
+          let es : List E = r.1 in let s : ℕ × Trace E U = (n, grown_at m y es) in
           let us : List V = after id view vs w in let Now : Fml = Known m.name (m.entries ++ es) in
           split ! $ move ! (3 ∷ 2 ∷ []) $ renew To _ (shifts id vs m s w r.2 here meets.1) $ move ! (5 ∷ 6 ∷ []) $
-          renew To _ (shows γ k m' es b at (name_of γ m.name k may (λ named. named n₀ m vs meets))) $ learn ! (λ p. split ! $ settled ! _ $ move ! (4 ∷ 5 ∷ 2 ∷ 3 ∷ []) $
+          renew To _ (shows γ k m' es b at (name_of γ m.name k may (λ named. named n₀ m vs meets))) $
+          learn ! (λ p. split ! $ settled ! _ $ move ! (4 ∷ 5 ∷ 2 ∷ 3 ∷ []) $
           cite _ (leads id vs m s w r.2 (told m.entries es) found r.3) $
           -- context: [the core; what the step leaves; the trace; what the watch knows; the first word]
           move ! (2 ∷ 0 ∷ []) $ fjoin ! $ move ! (3 ∷ 0 ∷ []) $ fjoin ! $ fpack ! (ℕ × Trace E U) (standing R b o t cv.code S holds ways) s $
@@ -228,7 +231,8 @@ module _ {M : Type 1} {𝓤 : Ura M} (𝓛 : Logic 𝓤) (Er Ur : RattleType) wh
           → ‵ (finv (fbor t.life I)) ⊛ ‵ (flft t.life q) ⊛ ‵ (fsep Mine (Known γ k)) ⊩ raw (asks 𝓛 (block_ptr b (o + 0)) to always (λ n. fsep (flft t.life q) (watched γ k n)))
       first_steps q to γ k may allows =
           let e : ℕ = o + 0 in let Own : Fml = fsep Mine (Known γ k) in let left : ℕ → Fml = watched γ k in
-          lemma (borrowed 𝓛 t.life q I b e to always left ⟦ Own ⟧ (qed 𝓛 (‵ I ∷ ‵ Own ∷ []) ∵ suffices ! _ (upd_i 𝓤 (ex 𝓤 (Lies 𝓛 t.life q I b e to always left))) $
+          lemma (borrowed 𝓛 t.life q I b e to always left ⟦ Own ⟧ (qed 𝓛 (‵ I ∷ ‵ Own ∷ []) ∵
+          suffices ! _ (upd_i 𝓤 (ex 𝓤 (Lies 𝓛 t.life q I b e to always left))) $
           fpick ! (λ s. let n : ℕ = s.0 in let m : Trace E U = s.1 in let Rest : Fml = fsep (Traced m) (Core s) in fsplit ! $
           by ! (answers e to q left n (‵ Rest ⊛ ‵ Own) (λ small. updates ∵
           move ! (1 ∷ []) $ fsplit ! $ move ! (3 ∷ []) $ fsplit ! $ move ! (4 ∷ 2 ∷ 3 ∷ 0 ∷ 1 ∷ []) $

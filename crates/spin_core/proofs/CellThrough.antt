@@ -52,7 +52,9 @@ module _ {M : Type 1} {𝓤 : Ura M} (𝓛 : Logic 𝓤) where
     Cut x t = ‵ (before β t.life) ⊛ ‵ (tracked R c e t x) ⊛ raw (all 𝓤 (λ (z : R.Denot). ⟦ tracked R c e t z ⟧ -∗ ⟦ Pen z ⟧))
 
     pub cuts : (x : R.Denot) → ‵ (Pen x) ⊩ some (Cut x)
-    cuts x = script ∵ fpick ! (λ known. fpick ! (λ so. fpick ! (λ t. fsplit3 ! $ fsplit ! $ use1 𝓛 (‵ (before β t.life) ⊛ ‵ (before β t.life)) (before_dup 𝓛 β t.life) $ split ! $ having ! (Cut x) t $ frame ! $
+    cuts x = script ∵ fpick ! (λ known. fpick ! (λ so. fpick ! (λ t. fsplit3 ! $ fsplit ! $
+        use1 𝓛 (‵ (before β t.life) ⊛ ‵ (before β t.life)) (before_dup 𝓛 β t.life) $ split ! $ having ! (Cut x) t $
+        frame ! $
         move ! (3 ∷ []) $ frame ! $ each ! (λ (z : R.Denot). ⟦ tracked R c e t z ⟧ -∗ ⟦ Pen z ⟧) (λ z. assume ! (‵ (tracked R c e t z)) $ move ! (1 ∷ 2 ∷ []) $ fjoin ! $ move ! (0 ∷ 2 ∷ 1 ∷ []) $ fjoin3 ! $
         let At : Id → Fml = writer_at Y R cv.code S holds ways β c e w z in fpack ! Id At t $ fpack ! (ways.1 w ≡ writes) (λ _. fex Id At) so $ fpack ! (Known ways Y S R) (λ _. fex (ways.1 w ≡ writes) (λ _. fex Id At)) known $ done !))))
 
@@ -89,4 +91,5 @@ module _ {M : Type 1} {𝓤 : Ura M} (𝓛 : Logic 𝓤) where
       through x cut = script ∵ updating ! $
           use3 𝓛 (later (some (λ (γ : GName). ‵ (fobs γ (R.coded.code x)) ⊛ ‵ (fbor κ (Body (mem R) c (e + offset R) γ)) ⊛ ‵ (flft κ q) ⊛ ‵ (follows G R m.ghost_name γ F))))
           (hands_before 𝓛 (mem G) (mem R) F inj m.ref_ptr.0 m.ref_ptr.1 c (e + offset R) m.ghost_name κ β inc Id (λ t. t.life) (λ t. t.value) (λ t. all 𝓤 (Again t)) (λ t z. (Parts-in t z).prf) q m.now x (via 𝓤 _ cut.prf (Parts-out x).prf)) $
-          await ! tt $ pick ! (λ γ. split3 ! $ feq_i ! (List Val) (mut_vals (inside x)) (mut_vals (inside x)) refl $ fjoin3 ! $ now ! $ having ! (Lending x) γ $ done !)
+          await ! tt $ pick ! (λ γ. split3 ! $ feq_i ! (List Val) (mut_vals (inside x)) (mut_vals (inside x)) refl $
+          fjoin3 ! $ now ! $ having ! (Lending x) γ $ done !)

@@ -200,7 +200,8 @@ module _ {M : Type 1} {𝓤 : Ura M} (𝓛 : Logic 𝓤) (R : RattleType) (L : R
         script ∵ check ! a $ cite _ (lies way ψ r x known) $ nothing ! $ move ! (1 ∷ 0 ∷ []) $ done !
 
     -- a reader takes its piece of a round, and the state keeps the rest
-    taken : (way : Way X) (r : ℕ) (Rem : Round R → Fml) (x : X) (a : ℕ) → ψ x → ‵ (fex ℕ (λ e. fsep (Rem (e, x)) (shared R b o t (e, x)))) ⊩ ‵ (Rest way (suc r) x)
+    taken : (way : Way X) (r : ℕ) (Rem : Round R → Fml) (x : X) (a : ℕ) → ψ x
+        → ‵ (fex ℕ (λ e. fsep (Rem (e, x)) (shared R b o t (e, x)))) ⊩ ‵ (Rest way (suc r) x)
         → ‵ (piece R way γ (a, x)) ⊛ ‵ (Rem (a, x)) ⊛ ‵ (shared R b o t (a, x)) ⊩ ‵ (St way ψ (suc r) 0) ⊛ ‵ (reader R b o t way x)
     taken way r Rem x a known rests = let Lent : ℕ → Fml = λ e. fsep (Rem (e, x)) (shared R b o t (e, x)) in
         script ∵ move ! (2 ∷ []) $ fsplit3 ! $ move ! (1 ∷ []) $
@@ -262,7 +263,8 @@ module _ {M : Type 1} {𝓤 : Ura M} (𝓛 : Logic 𝓤) (R : RattleType) (L : R
         let Before : Fml = St way φ (with_reader u r) (with_writer u 0) in let After : Fml = St way ψ (with_reader u' r) (with_writer u' 0) in
         let Gave : Fml = Given φ r way u u' v in let Now : X → Fml = λ x. Held u' way (shown_to u' x) in
         let So : Option X → X → Type 0 = λ z x. Preserves way u u' z (shown_to u' x) × Learns ψ u u' z (shown_to u' x) in
-        updates ∵ renew (‵ After ⊛ ‵ (Got way ψ u u' v)) _ (gives φ way r u u' v (Lim way r 0 u') turned lim going) $ settled ! _ $ fpick ! (λ x. fpick ! (λ had.
+        updates ∵ renew (‵ After ⊛ ‵ (Got way ψ u u' v)) _ (gives φ way r u u' v (Lim way r 0 u') turned lim going) $
+        settled ! _ $ fpick ! (λ x. fpick ! (λ had.
         let known : ψ x = known_after φ ψ u u' x turned (subst (Carries φ ψ u u') had.0 owed) had.1 in
         cite _ (takes ψ way r u' x known (going_rest way u u' v (with_reader u r) going)) $ learn ! (λ finds.
         let so : So v x = rw had.0 ((shows u u' x, finds_so way u u' x finds), learns φ ψ u u' x known) in

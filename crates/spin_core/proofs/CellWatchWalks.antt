@@ -138,7 +138,8 @@ module _ {M : Type 1} {𝓤 : Ura M} (𝓛 : Logic 𝓤) (𝓜 : Model 𝓤 𝓛
     abbrev moved : Entry → (W.Denot → Option R.Denot → Type 0) → Fml
     moved k tells = steps.moved 𝓛 Er Ur R LR.shr_laws b o k.1.0 W.coded (g.holds h.key) ways h.view h.value tells
 
-    exits : (k : Entry) (tells : W.Denot → Option R.Denot → Type 0) → ‵ (alive k) ⊛ ‵ (moved k tells) ⊛ ‵ (Remains k) ⊛ raw (Gives k) ⊛ ‵ (flft τ r) ⊩ later (some (Left tells) ⊛ ‵ (flft β q) ⊛ ‵ (flft τ r))
+    exits : (k : Entry) (tells : W.Denot → Option R.Denot → Type 0)
+        → ‵ (alive k) ⊛ ‵ (moved k tells) ⊛ ‵ (Remains k) ⊛ raw (Gives k) ⊛ ‵ (flft τ r) ⊩ later (some (Left tells) ⊛ ‵ (flft β q) ⊛ ‵ (flft τ r))
     exits k tells = let t : Id = k.1.0 in let At : Option W.Denot → Option R.Denot → Id → Fml = permit_at Y R W.coded.code Sr (g.holds h.key) ways β b o in
         script ∵ updating ! $ move ! (0 ∷ 3 ∷ []) $
         use2 𝓛 (later (‵ (flft β q))) (apply∗ 𝓤 (A.lft t.life k.1.1) (H.⇛ (A.lft β q))) $ await ! tt $ move ! (1 ∷ []) $

@@ -70,7 +70,8 @@ module _ {M : Type 1} {𝓤 : Ura M} (𝓛 : Logic 𝓤) (Er : RattleType) (b o 
 
   takes : (m : Trace Er.Denot ℕ) → ‵ Mark ⊛ raw Back ⊛ ‵ (Log m) ⊩ raw (Takes m)
   unfolding part_of
-  takes m = script ∵ each ! (with m) (λ w. let a : Denots (rows_of ks) = data_of w in let m' : Trace Er.Denot ℕ = beside m w in assume {P = ⟦ In m' ⟧} ! (‵ (word b (o + 0) w)) $
+  takes m = script ∵ each ! (with m) (λ w. let a : Denots (rows_of ks) = data_of w in
+      let m' : Trace Er.Denot ℕ = beside m w in assume {P = ⟦ In m' ⟧} ! (‵ (word b (o + 0) w)) $
       use1 𝓛 (‵ (Word w)) (word_in 𝓛 b (o + 0) w) $ nothing ! $
       -- context: [nothing; the word; the marker; the way back; the log]
       move ! (2 ∷ 0 ∷ []) $ fjoin ! $ move ! (1 ∷ 0 ∷ []) $ fjoin ! $ move ! (1 ∷ []) $
@@ -84,4 +85,5 @@ module _ {M : Type 1} {𝓤 : Ura M} (𝓛 : Logic 𝓤) (Er : RattleType) (b o 
       -- context: [the fields; the log; the place]
       move ! (2 ∷ 0 ∷ []) $ fjoin ! $ fpack ! (List Val) (λ us. fsep (cell_at full_share Data.mir us b o) (Data.own_val (data_of m.word) us)) vs $
       use1 𝓛 ((‵ (Word m.word) ⊛ ‵ Mark ⊛ ‵ ftrue) ⊛ raw Back) (Struct-parts 𝓛 full_share [] ks (u64-laws.lawful 𝓛, (Struct-Lawful 𝓛 (denote.Struct.Declared.shape (marker.the_type Er)) tt, tt)) (data_of m.word) b o) $
-      split ! $ split3 ! $ use1 𝓛 (‵ (word b (o + 0) m.word)) (word_out 𝓛 b (o + 0) m.word) $ move ! (1 ∷ 3 ∷ 4 ∷ []) $ cite _ (takes m) $ keep ! (1 ∷ 0 ∷ []) $ done !)
+      split ! $ split3 ! $ use1 𝓛 (‵ (word b (o + 0) m.word)) (word_out 𝓛 b (o + 0) m.word) $ move ! (1 ∷ 3 ∷ 4 ∷ []) $
+      cite _ (takes m) $ keep ! (1 ∷ 0 ∷ []) $ done !)

@@ -77,4 +77,5 @@ module _ {M : Type 1} {𝓤 : Ura M} (𝓛 : Logic 𝓤) where
     pub closed_observes : (l k : List T) → ‵ (closed_owns cv.code γ l) ⊛ ‵ (Known k) ⊩ later (given (IsPrefix k l) (‵ (Known l)))
     unfolding closed_owns
     closed_observes l k = script ∵ updating ! $ use0 𝓛 (‵ (flft [] full_share)) (𝓛.lfts.lft-nil full_share) $ move ! (1 ∷ 0 ∷ []) $
-        shr_bor-open ! tt (part_halves 𝓛 cv γ l) (λ q. move ! (1 ∷ 2 ∷ []) $ cite _ (observes 𝓛 cv γ q l k) $ learn ! (λ p. split ! $ keep ! (1 ∷ []) $ now ! $ check ! p $ done !))
+        shr_bor-open ! tt (part_halves 𝓛 cv γ l) (λ q. move ! (1 ∷ 2 ∷ []) $ cite _ (observes 𝓛 cv γ q l k) $
+        learn ! (λ p. split ! $ keep ! (1 ∷ []) $ now ! $ check ! p $ done !))

@@ -124,7 +124,9 @@ module _ {M : Type 1} {𝓤 : Ura M} (𝓛 : Logic 𝓤) (m ms : Member) (V Y K 
   starts ν s vs x None meets = let w = wrote vs in script ∵ fpick ! (λ writes. drop ! $
       drop ! $ knows ! (Starting (s.0, s.1, x)) (vs, meets, knowing_none ways.2 s.1 w x writes (unknown way (read vs) w x meets.1 writes)) $ done !)
   starts ν s vs x (Some y) meets = let r = read vs in let w = wrote vs in
-      script ∵ fsplit ! $ move ! (1 ∷ []) $ fpick ! (λ known. drop ! $ name_agree ! R.coded (λ same. drop ! $ drop ! $ knows ! (Starting (s.0, s.1, x)) (vs, meets, subst (λ (z : R.Denot). Knowing ways.2 s.1 w z (Fixed way r w z)) same known) $ done !))
+      script ∵ fsplit ! $ move ! (1 ∷ []) $ fpick ! (λ known. drop ! $ name_agree ! R.coded (λ same. drop ! $ drop ! $
+      knows ! (Starting (s.0, s.1, x)) (vs, meets, subst (λ (z : R.Denot). Knowing ways.2 s.1 w z (Fixed way r w z)) same known) $
+      done !))
 
   way_back : (ν : GName) → raw Back ⊩ ‵ (fwand (fsep (fdead κ) (fseps (Words ν ∷ Named ν ∷ []))) (fupd P))
   unfolding fseps
@@ -132,7 +134,8 @@ module _ {M : Type 1} {𝓤 : Ura M} (𝓛 : Logic 𝓤) (m ms : Member) (V Y K 
       script ∵ assume ! (‵ (fsep (fdead κ) (fseps (Words ν ∷ Named ν ∷ [])))) $ settled ! ⟦ P ⟧ $
       fsplit ! $ drop ! $ fsplit3 ! $ fpick ! (λ s. move ! (1 ∷ []) $ fpick ! (λ x. fsplit ! $ keep ! (2 ∷ 0 ∷ 1 ∷ 4 ∷ []) $ fsplit3 ! $ move ! (2 ∷ []) $ fpick ! (λ vs. fsplit ! $ fpick ! (λ meets. drop ! $ fpick ! (λ v.
       -- context: [what was found; the words; the value, under its name; the way back]
-      let t : ℕ × S.Denot × R.Denot = (s.0, s.1, x) in move ! (0 ∷ 4 ∷ []) $ cite _ (starts ν s vs x v meets) $ move ! (1 ∷ 2 ∷ []) $ fjoin ! $ move ! (2 ∷ 1 ∷ []) $ join ! $ move ! (1 ∷ 0 ∷ []) $ join ! $ move ! (1 ∷ []) $
+      let t : ℕ × S.Denot × R.Denot = (s.0, s.1, x) in move ! (0 ∷ 4 ∷ []) $ cite _ (starts ν s vs x v meets) $
+      move ! (1 ∷ 2 ∷ []) $ fjoin ! $ move ! (2 ∷ 1 ∷ []) $ join ! $ move ! (1 ∷ 0 ∷ []) $ join ! $ move ! (1 ∷ []) $
       use1 𝓛 (raw (J t)) (all_e 𝓤 J t) $ move ! (1 ∷ 0 ∷ []) $ by ! (apply∗ 𝓤 (⟦ Both s ⟧ ∗ ⟦ Lies x ⟧ ∗ ⟦ fact (Starting t) ⟧) ⟦ P ⟧))))))
 
   cut : (q : Share) → ‵ (fbor κ P) ⊛ ‵ (flft κ q) ⊩ later (‵ Two ⊛ ‵ (flft κ q))
@@ -174,8 +177,10 @@ module _ {M : Type 1} {𝓤 : Ura M} (𝓛 : Logic 𝓤) (m ms : Member) (V Y K 
     away k alone r (suc n) writer = script ∵ drop ! $ nothing ! $ done !
     away k _ r (suc n) writer = lemma (id⊢ 𝓤 _)
 
-    begins : (k : S.Denot) (w : Way R.Denot) (r n : ℕ) (x : R.Denot) → Limits w r n → Knowing ways.2 k n x (Fixed w r n x) → ‵ (idle γ) ⊛ ‵ (Ready w x) ⊫ ‵ (St w (φ k) r n)
-    begins k alone r zero x lim known = updates ∵ settled ! _ $ drop ! $ fpack ! (φ k x) (λ _. resting R b o t alone r x) (knowing_known ways.2 k x (Fixed alone r 0 x) known) $
+    begins : (k : S.Denot) (w : Way R.Denot) (r n : ℕ) (x : R.Denot) → Limits w r n
+        → Knowing ways.2 k n x (Fixed w r n x) → ‵ (idle γ) ⊛ ‵ (Ready w x) ⊫ ‵ (St w (φ k) r n)
+    begins k alone r zero x lim known = updates ∵ settled ! _ $ drop ! $
+        fpack ! (φ k x) (λ _. resting R b o t alone r x) (knowing_known ways.2 k x (Fixed alone r 0 x) known) $
         fpack ! R.Denot (lying R b o t alone (φ k) r) x $ done !
     begins k lends r zero x lim known = rests k lends r x (knowing_known ways.2 k x (Fixed lends r 0 x) known) (rests_lent 𝓛 R b o t r x (omega arith))
     begins k (fixes fact) r zero x lim known = rests k (fixes fact) r x (knowing_known ways.2 k x (Fixed (fixes fact) r 0 x) known) (rests_fixed 𝓛 R b o t fact r x (knowing_rest ways.2 k 0 x known))
@@ -193,7 +198,9 @@ module _ {M : Type 1} {𝓤 : Ura M} (𝓛 : Logic 𝓤) (m ms : Member) (V Y K 
 
     finds : (k : S.Denot) (w : Way R.Denot) (r n : ℕ) → ‵ (St w (φ k) r n) ⊩ ‵ (IsFound k w ν r n)
     finds k w r zero = script ∵ fpick ! (λ x. fpick ! (λ is.
-        cite _ (named_at w r x) $ learn ! (λ known. knows ! (Knowing ways.2 k 0 x (Fixed w r 0 x)) (knowing_at ways.2 k x is known) $ move ! (1 ∷ 0 ∷ []) $ fjoin ! $
+        cite _ (named_at w r x) $
+        learn ! (λ known. knows ! (Knowing ways.2 k 0 x (Fixed w r 0 x)) (knowing_at ways.2 k x is known) $
+        move ! (1 ∷ 0 ∷ []) $ fjoin ! $
         fpack ! (Option R.Denot) (found k w ν r 0) (Some x) $ done !)))
     finds k w r (suc n) = script ∵ drop ! $ knows ! (0 < suc n) (omega arith) $ fpack ! (Option R.Denot) (found k w ν r (suc n)) None $ done !
 
@@ -202,7 +209,8 @@ module _ {M : Type 1} {𝓤 : Ura M} (𝓛 : Logic 𝓤) (m ms : Member) (V Y K 
 
     words_back : raw (emp 𝓤) ⊩ ‵ (fwand (fsep (fdead κ) (fseps (I ∷ []))) (fupd (Words ν)))
     unfolding fseps
-    words_back = script ∵ assume ! (‵ (fsep (fdead κ) (fsep I ftrue))) $ settled ! ⟦ Words ν ⟧ $ fsplit3 ! $ keep ! (1 ∷ []) $ fpick ! (λ s. fsplit3 ! $ move ! (2 ∷ []) $
+    words_back = script ∵ assume ! (‵ (fsep (fdead κ) (fsep I ftrue))) $ settled ! ⟦ Words ν ⟧ $ fsplit3 ! $
+        keep ! (1 ∷ []) $ fpick ! (λ s. fsplit3 ! $ move ! (2 ∷ []) $
         fpick ! (λ vs. let r = read vs in let w = wrote vs in fsplit3 ! $ move ! (1 ∷ []) $ fpick ! (λ meets. drop ! $ drop ! $
         cite _ (finds s.1 way r w) $ knows ! (Met s vs) meets $ fjoin ! $ fpack ! (List V.Denot) (views_at ν s) vs $ move ! (1 ∷ 2 ∷ 0 ∷ []) $ fjoin3 ! $
         fpack ! (ℕ × S.Denot) (standing_at ν) s $ done !)))
@@ -221,7 +229,8 @@ module _ {M : Type 1} {𝓤 : Ura M} (𝓛 : Logic 𝓤) (m ms : Member) (V Y K 
       abbrev Given : Gv → Item 𝓤
       Given u = ‵ (fbor κ (Words ν)) ⊛ ‵ (fbor κ (Named ν)) ⊛ ‵ (unused ρ 0 u) ⊛ ‵ (idle γ) ⊛ ‵ (flft μ e) ⊛ ‵ (flft μ f)
 
-      guarded : (k : Sure) (u : Gv) (q : Share) → Given u ⊛ ‵ (flft κ q) ⊩ later ((‵ (cell_shares Y R c S (g.holds key) ways (block_ptr b o) κ) ⊛ ‵ (flft μ e) ⊛ ‵ (flft μ f)) ⊛ ‵ (flft κ q))
+      guarded : (k : Sure) (u : Gv) (q : Share)
+          → Given u ⊛ ‵ (flft κ q) ⊩ later ((‵ (cell_shares Y R c S (g.holds key) ways (block_ptr b o) κ) ⊛ ‵ (flft μ e) ⊛ ‵ (flft μ f)) ⊛ ‵ (flft κ q))
       unfolding fseps
       guarded k u q = script ∵ updating ! $
           split ! $ move ! (1 ∷ []) $ split3 ! $ move ! (2 ∷ []) $ split3 ! $ move ! (5 ∷ 6 ∷ []) $ bor_open ! tt $ move ! (1 ∷ []) $ fpick ! (λ s. fsplit3 ! $ move ! (2 ∷ []) $ fpick ! (λ vs. fsplit ! $ fpick ! (λ meets. drop ! $ fpick ! (λ v.
@@ -231,14 +240,19 @@ module _ {M : Type 1} {𝓤 : Ura M} (𝓛 : Logic 𝓤) (m ms : Member) (V Y K 
           move ! (6 ∷ []) $ use1 𝓛 (later (‵ (roster c ρ 0 vs))) (via 𝓤 _ (enrols 𝓛 V.coded ρ vs 0 u).prf (basic 𝓛 ⟦ roster c ρ 0 vs ⟧)) $ await ! tt $
           knows ! (Met s vs) meets $
           move ! (1 ∷ 0 ∷ 2 ∷ []) $ fjoin3 ! $ fpack ! (List V.Denot) (core_at R b o t c S (g.holds key) ways s.0 s.1) vs $ move ! (3 ∷ 4 ∷ 0 ∷ []) $ fjoin3 ! $ fpack ! (ℕ × S.Denot) (standing R b o t c S (g.holds key) ways) s $
-          nothing ! $ move ! (1 ∷ 0 ∷ []) $ fjoin ! $ use0 𝓛 (‵ (fwand (fsep (fdead κ) (fseps (I ∷ []))) (fupd (Words ν)))) words_back.prf $ move ! (4 ∷ 1 ∷ 0 ∷ []) $ obor_alter ! tt (I ∷ []) $
+          nothing ! $ move ! (1 ∷ 0 ∷ []) $ fjoin ! $
+          use0 𝓛 (‵ (fwand (fsep (fdead κ) (fseps (I ∷ []))) (fupd (Words ν)))) words_back.prf $
+          move ! (4 ∷ 1 ∷ 0 ∷ []) $ obor_alter ! tt (I ∷ []) $
           use1 𝓛 (‵ (fbor κ I) ⊛ ‵ ftrue) (id⊢ 𝓤 _) $ split ! $ use1 𝓛 (later (‵ (finv (fbor κ I)))) (𝓛.invs.inv_new (fbor κ I)) $ await ! tt $
           use0 𝓛 (‵ (before κ κ)) (before-Incl 𝓛 κ κ (Incl-refl κ)) $ fjoin ! $ fpack ! Id (λ y. kept R b o y c S (g.holds key) ways κ) t $
           fpack ! Sure (λ _. fex Id (λ y. kept R b o y c S (g.holds key) ways κ)) k $ now ! $ move ! (0 ∷ 3 ∷ 4 ∷ []) $ group ! 3 $ keep ! (0 ∷ 2 ∷ []) $ done !))))
 
-  made : (l : Lft) → Shares 𝓛 R l → (ts : Toks) → Incl (span ts) l → Incl (span ts) κ → ‵ (fbor κ P) ⊛ raw (lfts 𝓛 ts) ⊩ later (‵ (cell_shares Y R c S (g.holds key) ways (block_ptr b o) κ) ⊛ raw (lfts 𝓛 ts))
+  made : (l : Lft) → Shares 𝓛 R l → (ts : Toks) → Incl (span ts) l → Incl (span ts) κ
+      → ‵ (fbor κ P) ⊛ raw (lfts 𝓛 ts) ⊩ later (‵ (cell_shares Y R c S (g.holds key) ways (block_ptr b o) κ) ⊛ raw (lfts 𝓛 ts))
   made l shares ts inc sp = let μ = span ts in let none = gnum 0 in let Q = cell_shares Y R c S (g.holds key) ways (block_ptr b o) κ in
-      script ∵ updating ! $ use2 𝓛 (later (‵ Two ⊛ raw (lfts 𝓛 ts))) (by_one 𝓛 κ ts sp (A.bor κ P) ⟦ Two ⟧ (λ q. (cut q).prf)) $ await ! tt $ split ! $ fpick ! (λ k. fpick ! (λ ν. fsplit ! $
+      script ∵ updating ! $
+      use2 𝓛 (later (‵ Two ⊛ raw (lfts 𝓛 ts))) (by_one 𝓛 κ ts sp (A.bor κ P) ⟦ Two ⟧ (λ q. (cut q).prf)) $ await ! tt $
+      split ! $ fpick ! (λ k. fpick ! (λ ν. fsplit ! $
       use0 𝓛 (later (some (λ (γ : GName). ‵ (tag γ full_share none)))) (via 𝓤 _ (own_new 𝓛 halved (full_share, none)) (basic 𝓛 (ex 𝓤 (λ (γ : GName). ⟦ tag γ full_share none ⟧)))) $ await ! tt $ pick ! (λ γ. fpack ! Gv (tag γ full_share) none $
       use0 𝓛 (later (some (λ (ρ : GName). ‵ (unused ρ 0 none)))) (via 𝓤 _ (entries_new halved 𝓛 0 (λ _. (full_share, none))) (basic 𝓛 (ex 𝓤 (λ (ρ : GName). ⟦ unused ρ 0 none ⟧)))) $ await ! tt $ pick ! (λ ρ.
       -- context: [the keys; the name of the round; the words; the value; the tokens]
@@ -247,7 +261,8 @@ module _ {M : Type 1} {𝓤 : Ura M} (𝓛 : Logic 𝓤) (m ms : Member) (V Y K 
       split ! $ use1 𝓛 (‵ (flft μ a) ⊛ ‵ (flft μ d)) (𝓛.lfts.lft_split μ q) $ split ! $ move ! (1 ∷ []) $ use1 𝓛 (‵ (flft μ e) ⊛ ‵ (flft μ f)) (𝓛.lfts.lft_split μ d) $ split ! $
       -- context: [two tokens; a third; the way back; the keys; the name of the round; the words; the value]
       move ! (6 ∷ 7 ∷ 4 ∷ 5 ∷ 0 ∷ 1 ∷ []) $ group ! 6 $
-      use2 𝓛 (later ((‵ Q ⊛ ‵ (flft μ e) ⊛ ‵ (flft μ f)) ⊛ ‵ (flft μ a))) (by_one 𝓛 κ ((μ, a) ∷ []) sp (mean 𝓛 (Given γ ρ ν l shares μ e f sp inc none)) (⟦ Q ⟧ ∗ A.lft μ e ∗ A.lft μ f) (λ z. (guarded γ ρ ν l shares μ e f sp inc k none z).prf)) $ await ! tt $
+      use2 𝓛 (later ((‵ Q ⊛ ‵ (flft μ e) ⊛ ‵ (flft μ f)) ⊛ ‵ (flft μ a))) (by_one 𝓛 κ ((μ, a) ∷ []) sp (mean 𝓛 (Given γ ρ ν l shares μ e f sp inc none)) (⟦ Q ⟧ ∗ A.lft μ e ∗ A.lft μ f) (λ z. (guarded γ ρ ν l shares μ e f sp inc k none z).prf)) $
+      await ! tt $
       split ! $ split3 ! $ move ! (1 ∷ 2 ∷ []) $ use2 𝓛 (‵ (flft μ d)) (𝓛.lfts.lft_join μ d) $ move ! (2 ∷ 0 ∷ []) $ use2 𝓛 (‵ (flft μ q)) (𝓛.lfts.lft_join μ q) $
       move ! (0 ∷ 2 ∷ []) $ use2 𝓛 (raw (lfts 𝓛 ts)) (apply∗ 𝓤 (A.lft μ q) (lfts 𝓛 ts)) $ now ! $ keep ! (1 ∷ 0 ∷ []) $ done !)))))
 

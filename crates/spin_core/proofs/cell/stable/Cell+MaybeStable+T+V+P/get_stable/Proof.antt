@@ -61,7 +61,8 @@ get_stable_spec 𝓤 𝓛 𝓜 𝓡 wired X U P K N L _ _ _ LN s d' g d _ _ =
     let shuts = rejoined 𝓛 m ms V Y Kr g key b o Lw Ls (Row 𝓛 m ms V Y Kr g key b o) (row_out 𝓛 m ms V Y Kr g key b o) (row_in 𝓛 m ms V Y Kr g key b o) in
     move ! (2 ∷ []) $ use1 𝓛 (raw (fact 𝓤 (Ok × Same))) (last_two 𝓤 Ok Same 5 (_, (_, (_, (_, (_, tt)))))) $ heard ! (Ok × Same) (λ asked. fsplit ! $ move ! (2 ∷ []) $ fsplit ! $ fsplit3 ! $ keep ! (1 ∷ 2 ∷ 4 ∷ 5 ∷ []) $
     alloc_all ! (λ l. pass_all ! refl ((tt, tt), ((tt, record { fits = are.1.0.1 }), tt)) $ let Ev = env fn.locals l in
-    open_ref ! tt (in_memory Ty) $ cite _ (rekeyed 𝓛 m ms V Y Kr g old key b o asked.1) $ cite _ (fields_out 𝓛 m ms V Y Kr g key b o Lw Ls (Row 𝓛 m ms V Y Kr g key b o) (row_out 𝓛 m ms V Y Kr g key b o) (row_in 𝓛 m ms V Y Kr g key b o)) $
+    open_ref ! tt (in_memory Ty) $ cite _ (rekeyed 𝓛 m ms V Y Kr g old key b o asked.1) $
+    cite _ (fields_out 𝓛 m ms V Y Kr g key b o Lw Ls (Row 𝓛 m ms V Y Kr g key b o) (row_out 𝓛 m ms V Y Kr g key b o) (row_in 𝓛 m ms V Y Kr g key b o)) $
     pick ! (λ z. let n = z.1.0 in let k = z.1.1 in let x = z.1.2 in
     split ! $ fsplit ! $ move ! (2 ∷ []) $ split3 ! $ move ! (1 ∷ []) $ fpick ! (λ rule. drop ! $ move ! (2 ∷ []) $
     -- context: [the first word; the value; the way back; the second word; the open borrow; its two names; the tokens]
@@ -74,11 +75,14 @@ get_stable_spec 𝓤 𝓛 𝓜 𝓡 wired X U P K N L _ _ _ LN s d' g d _ _ =
     sets_last ! (agg ! (and_then ! (lit ! tt) (and_then ! (get ! refl) (no_more !)))) refl (tt, (record { fits = lit< tt }, (tt, tt))) $ exec ! 𝓣.C 𝓣.Λ Ev (after 4 fn.body) (at_ret Ev Post) $ sets ! (of_opd ! (get ! refl)) refl (tt, (record { fits = lit< tt }, (tt, tt))) $
     move ! (0 ∷ 3 ∷ []) $ fjoin ! $ move ! (0 ∷ 2 ∷ []) $ join ! $ move ! (1 ∷ []) $ rewrite ! 0 (λ (F : Fml). ‵ F) (sym (lies X₀ s w b e)) refl $ move ! (2 ∷ 3 ∷ 4 ∷ 0 ∷ 1 ∷ []) $ group ! 5 $
     use1 𝓛 (later (some (λ (δ : GName). ‵ (Lent.own_val (record { ref_ptr = (b, e); ghost_name = δ; now = w }) (at ∷ [])) ⊛ ‵ (flft κ q) ⊛ ‵ (follows Ty S γ δ (λ _. key)))))
-    (lends_Part 𝓛 Ty S (λ _. key) (named 0) κ q b o b e γ (Rest (n, k)) (λ v. subst (λ (F : Fml). ent 𝓤 (sep 𝓤 (sem 𝓛 F) (Rest (n, k))) Q) (sym (lies X₀ s v b e)) (shuts (n, k, record { value = v.value }) (subst (λ (j : ℕ). Starts (g.holds key) (g.ways key) j k (record { value = v.value })) (sym is) (may.1 v.value v.stable))).prf) (K.coded.code old) (K.coded.code old) w) $ await ! tt $ pick ! (λ δ.
+    (lends_Part 𝓛 Ty S (λ _. key) (named 0) κ q b o b e γ (Rest (n, k)) (λ v. subst (λ (F : Fml). ent 𝓤 (sep 𝓤 (sem 𝓛 F) (Rest (n, k))) Q) (sym (lies X₀ s v b e)) (shuts (n, k, record { value = v.value }) (subst (λ (j : ℕ). Starts (g.holds key) (g.ways key) j k (record { value = v.value })) (sym is) (may.1 v.value v.stable))).prf) (K.coded.code old) (K.coded.code old) w) $
+    await ! tt $ pick ! (λ δ.
     let r : MutBor S.Denot = record { ref_ptr = (b, e); ghost_name = δ; now = w } in
     split3 ! $ use1 𝓛 (‵ (Out.own_val (Some r) (live 1 (vcons at vnil) ∷ []))) (Some-of 𝓛 Lent r at) $ move ! (2 ∷ []) $ drop ! $ move ! (1 ∷ 2 ∷ []) $ fjoin ! $ move ! (1 ∷ []) $ nothing ! $
     returns ! (look_at ! 0 refl) $ free_all ! refl $ keep ! (2 ∷ 1 ∷ 0 ∷ []) $ by ! (out (live 1 (vcons at vnil)) (Some r))))
     (λ other. sets_last ! (agg ! (and_then ! (lit ! tt) (no_more !))) refl (tt, (record { fits = lit< tt }, tt)) $ exec ! 𝓣.C 𝓣.Λ Ev (after 4 fn.body) (at_ret Ev Post) $ sets ! (of_opd ! (get ! refl)) refl (tt, (record { fits = lit< tt }, tt)) $
-    move ! (0 ∷ 3 ∷ []) $ fjoin ! $ move ! (0 ∷ 2 ∷ []) $ join ! $ move ! (1 ∷ 0 ∷ []) $ use2 𝓛 (‵ (Row 𝓛 m ms V Y Kr g key b o)) (shuts z.1 rule).prf $ close_ref ! tt (in_memory Ty) key $ drop ! $ drop ! $ fjoin ! $
+    move ! (0 ∷ 3 ∷ []) $ fjoin ! $ move ! (0 ∷ 2 ∷ []) $ join ! $ move ! (1 ∷ 0 ∷ []) $
+    use2 𝓛 (‵ (Row 𝓛 m ms V Y Kr g key b o)) (shuts z.1 rule).prf $ close_ref ! tt (in_memory Ty) key $ drop ! $
+    drop ! $ fjoin ! $
     use0 𝓛 (‵ (Out.own_val None (live 0 vnil ∷ []))) (none_of 𝓛 Lent) $ nothing ! $
     returns ! (look_at ! 0 refl) $ free_all ! refl $ keep ! (2 ∷ 1 ∷ 0 ∷ []) $ by ! (out (live 0 vnil) None))))))))
