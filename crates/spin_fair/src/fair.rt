@@ -202,9 +202,9 @@ impl<T, R> FairMutex<T, R> {
         Some(Starvation { pass })
     }
 
-    /// Returns `true` if the lock was held at some moment during this call.
+    /// Returns `true` if its one load finds the lock held, else `false`.
     ///
-    /// It makes one load. By the time the caller reads the answer it may be out of date.
+    /// By the time the caller reads the answer it may be out of date.
     ///
     /// # Contract
     /// Only that the call returns.

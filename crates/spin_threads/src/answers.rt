@@ -101,7 +101,7 @@ pub fn a_look_at_a_fair_mutex_was_so_at_a_moment<T>()
 {}
 
 /// If a pass tried once to register as a starver of a `FairMutex` and failed, the failure was right at a moment of the
-/// call. As many starvers were registered then as may be.
+/// call. As many starvers were registered then as the lock allows.
 ///
 /// # Contract
 /// `Found`: at a moment of the call the plain lock had at least `most_starvers` starvers.
@@ -123,7 +123,7 @@ pub fn a_refused_starver_was_kept_out_at_a_moment<T>()
 {}
 
 /// If a pass tried once to acquire shared access to an `RwLock` and failed, the failure was right at a moment of the
-/// call. A writer or a reader that had asked to upgrade held the lock then, or as many parties held the lock as may.
+/// call. A writer or a reader that had asked to upgrade held the lock then, or as many parties held it as it allows.
 ///
 /// # Contract
 /// `Found`: at a moment of the call one of the clause's three cases was true of the plain lock.
@@ -133,7 +133,7 @@ pub fn a_refused_try_read_was_kept_out_at_a_moment<T>()
 {}
 
 /// If a pass tried once to acquire upgradable access to an `RwLock` and failed, the failure was right at a moment of
-/// the call. A writer or an upgradable reader held the lock then, or as many parties held the lock as may.
+/// the call. A writer or an upgradable reader held the lock then, or as many parties held it as it allows.
 ///
 /// # Contract
 /// `Found`: at a moment of the call one of the clause's three cases was true of the plain lock.
@@ -213,7 +213,7 @@ pub fn a_call_without_a_value_found_none_at_a_moment()
 /// If a call of a pass of a `Once` or a `LazyLock` returned a value, there was a value when the call was answered.
 ///
 /// # Contract
-/// `GaveOnce`: just after a step of a call answered `Value`, the plain lock passed the test `has_value`.
+/// `GaveOnce`: just after the step that answered the call with `Value`, the plain lock passed the test `has_value`.
 pub fn there_was_a_value_as_a_once_gave_it()
     ensures { GaveOnce }
 {}

@@ -69,8 +69,8 @@ pub fn between_any_two_steps_of_a_rwlock<T>()
 {}
 
 /// Between any two steps of the threads that use a `Once` or a `LazyLock`, the word tells the phase: 0 without a value,
-/// 1 while a closure runs, 2 with a value. At most one closure runs, and none once there is a value. Each call is in
-/// the plain lock as its view says.
+/// 1 while a closure runs, 2 with a value. At most one closure runs, and none once there is a value. Each party is
+/// in the plain lock what its view says.
 ///
 /// # Contract
 /// `Between` says this of the word and the parties of the cell. The moves in the cell's trace make a schedule of the

@@ -8,8 +8,8 @@ ghost use Rattle.spin_world_core.specs.Joined.{RunsAreOne};
 
 use crate::object::Object;
 
-/// States that a read finds the value last written. This holds for a holder that may read, also after a leak, and for
-/// the owner, also after leaks.
+/// States that a read finds the value last written. This holds for a holder that may read, even if it has leaked, and
+/// for the owner, even after leaks.
 pub fn looks_find_the_last_write<O: Object>()
     ensures { (object : O) (n : ℕ) (past : List (ℕ × Move O.Call O.Value)) → FindsLastWritten (O.machine object) n past }
 {

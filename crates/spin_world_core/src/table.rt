@@ -247,7 +247,7 @@ impl<O: Object, A: Allocator> Table<O, A> {
     }
 
     /// Makes the next step of the party's call. If `is_weak`, that step fails spuriously; a step that cannot fail
-    /// so is skipped.
+    /// spuriously is skipped.
     // `next_act` is called at one place, so that the compiler inlines it and builds no `Act`.
     fn step(
         &mut self,

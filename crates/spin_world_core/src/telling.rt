@@ -33,7 +33,7 @@ pub fn forget_begins(begins: &mut [Option<usize>])
 ///
 /// # Contract
 /// An answer gets the place that the table has for the party, and any other outcome is unchanged (`with_begin`). After
-/// `Begun` the table has this place for the party, if the table has an entry for the party. Otherwise the table is
+/// `Begun` the table has `place` for the party, if the table has an entry for the party. Otherwise the table is
 /// unchanged (`begins_after`).
 pub fn with_begin<A, V>(
     begins: &mut [Option<usize>],

@@ -91,7 +91,7 @@ pub fn a_lock_may_be_passed_over<V: Copy>()
 {}
 
 /// States that while a starver waits for a fair lock, some party is granted the lock in every five rounds. This may be
-/// another starver each time. A law of `spin_world` says that the party is no newcomer.
+/// another starver each time. A law of `spin_world` says that the party that is granted the lock is no newcomer.
 pub fn somebody_is_granted_beside_a_starver_in_five_rounds<V: Copy>()
     ensures { (object : Fair V) (n : ℕ) (past : List (ℕ × Move FairCall V)) (rounds : List (List (ℕ × Move FairCall V))) → LocksInFive (⟦<Fair<V> as Object>⟧.machine object) n past rounds }
 {}
@@ -135,7 +135,7 @@ pub fn an_upgrade_is_never_starved<V: Copy>()
 /// rounds, or some exchange fails spuriously. The number of rounds depends on the holders (`rounds_beside`). The cap
 /// has to be at least 1.
 ///
-/// The number of readers does not matter, since all readers leave in the same round.
+/// The number of readers does not matter, since all readers leave within the same two rounds.
 pub fn somebody_is_granted_in_the_rounds_of_the_holders<V: Copy>()
     ensures { (object : Rw V) (n : ℕ) (past : List (ℕ × Move RwCall V)) (rounds : List (List (ℕ × Move RwCall V))) → 1 ≤ object.cap → GrantsSomebody (⟦<Rw<V> as Object>⟧.machine object) n past rounds }
 {}

@@ -46,7 +46,7 @@ pub(crate) type Got<'a, T, R> = (FairMutexGuard<'a, T, R>, Watch<Entry<T>>);
 impl<'a, T> Account<'a, T> {
     ghost use Rattle.spin_fair.specs.Waits.{view_of, May, Turned};
 
-    // Makes a step of this kind by a load. Like the operations below it returns the word found.
+    // Makes a step of this kind by a load. It returns the word found, as the operations below do.
     pub(super) fn load<K: Turns>(self) -> (u64, Account<'a, T>)
         requires { May (λ n. n) (K.turn T (view_of self) 0) self }
         ensures { Turned (K.turn T (view_of self.entry) 0) result.0 self.entry result.1 }

@@ -24,9 +24,10 @@ pub enum View {
     Holding,
     /// It holds the lock, and acquired it as a starver.
     Served,
-    /// It is in `lock`, and its next step is the exchange. This many looks have found the lock held.
+    /// It is in `lock`, and its next step is the exchange. The number counts looks that found the lock held. The count
+    /// stops once there are enough looks to starve.
     Trying(usize),
-    /// It is in `lock`, and its next step is a look. This many looks have found the lock held.
+    /// It is in `lock`, and its next step is a look. The number is that of `Trying`.
     Looking(usize),
     /// It is in `lock`, and has looked often enough to register.
     Loading,
@@ -124,7 +125,7 @@ impl Turns for Looks {
     ghost turn = { λ T view old. looked_by view };
 }
 
-/// A compare-exchange: if it finds the word expected, the party registers as a starver.
+/// A compare-exchange. If it finds the expected word, the party registers as a starver.
 pub(super) struct Register;
 
 impl Turns for Register {

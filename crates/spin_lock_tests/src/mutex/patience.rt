@@ -90,8 +90,8 @@ impl RelaxStrategy for Slow {
     }
 }
 
-// About how often the waiting `lock` may look while the test looks for a starver. The patience of `lock` is 25 times
-// that.
+// The test looks for a starver this many times. Meanwhile the waiting `lock` makes about as many looks. The patience
+// of `lock` is 25 times as large.
 const SLOW_LOOKS: u32 = 40;
 
 impl Crew for Held<Slow> {

@@ -149,7 +149,7 @@ pub fn program<I: Source, O: Sink, E: Sink, R: AllocGlobal + Threads + Wait + Sy
     }) }
     ensures silent { result ≡ 0 → errors.new ≡ errors.old }
 
-    // Any other status is that of a fault, whose line is on standard error.
+    // Any other status is that of a fault. The fault's line is on standard error, or its beginning if a write failed.
     ensures fault { 0 < result → (fault : Fault) × (result ≡ status_of fault)
         × Stops (texts_of words.now) (input.new ≡ input.old) (output.new ≡ output.old) (record {
           left = I.remaining input.old;
@@ -161,7 +161,7 @@ pub fn program<I: Source, O: Sink, E: Sink, R: AllocGlobal + Threads + Wait + Sy
         }) fault
         × Told (E.failed errors.new) (E.written errors.old) (E.written errors.new) (line_of fault) }
 
-    // If the words are no command.
+    // If the words are no command, the status is 2, and the line tells the usage.
     ensures usage { AsksNothing (texts_of words.now) → (result ≡ 2)
         × Told (E.failed errors.new) (E.written errors.old) (E.written errors.new) usage_line }
     ensures nothing_written { result ≡ 2 → output.new ≡ output.old }

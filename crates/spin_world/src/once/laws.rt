@@ -25,7 +25,8 @@ pub fn a_value_is_answered_at_once<V: Copy>()
     ensures { (object : OnceObject V) (n : ℕ) (past : Entries V) → AnswersAtOnce (⟦<OnceObject<V> as Object>⟧.machine object) n past }
 {}
 
-/// States that after a call answered with a value, a later `get` answers with this value, unless the owner replaced it.
+/// States that once a call has answered with a value, a later `get` answers with this value, unless the owner has
+/// replaced it.
 pub fn a_later_get_agrees<V: Copy>()
     ensures { (object : OnceObject V) (n : ℕ) (past further : Entries V) → GetAgrees (⟦<OnceObject<V> as Object>⟧.machine object) n past further }
 {}
@@ -42,7 +43,7 @@ pub fn a_closure_begins_after_a_look<V: Copy>()
     ensures { (object : OnceObject V) (n : ℕ) (past : Entries V) → LooksFirst (⟦<OnceObject<V> as Object>⟧.machine object) n past }
 {}
 
-/// States that no step depends on the value unless the word says that there is one. Otherwise a closure may be writing
+/// States that no step depends on the value unless the word says that there is one. Until then a closure may be writing
 /// the value.
 pub fn a_value_is_looked_at_where_it_is_complete<V: Copy>()
     ensures { (object : OnceObject V) → LooksWhereComplete (⟦<OnceObject<V> as Object>⟧.machine object) }

@@ -18,7 +18,8 @@ pub fn tickets_stand_in_order<V: Copy>()
     ensures { (object : Ticket V) (n : ℕ) (past : List (ℕ × Move TicketCall V)) → let m = ⟦<Ticket<V> as Object>⟧.machine object in InOrder (after m (at_first m n) past).words (seen_after m (opening m n) past).plain }
 {}
 
-/// States that each party enters as soon as the tickets before its own have left, and so before any later ticket.
+/// States that a party with a ticket enters by its next step once the tickets before its own have left, and not
+/// earlier. So no later ticket enters before it.
 ///
 /// Let `s` be the number served after `past`. After `further`, the next step of a party that waits with ticket `t`
 /// succeeds exactly if `t - s` tickets have left since. If a party holds with ticket `t`, then `t - s` tickets have

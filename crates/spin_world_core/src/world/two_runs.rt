@@ -13,9 +13,9 @@ use std::alloc::{AllocError, Allocator};
 
 /// Plays a schedule in two runs: the entries before the place `at`, then the others.
 ///
-/// Each transcript tells where a call began by a place in its own part of the schedule. The second transcript tells no
-/// place for a call that began in the first part. After an `Err` the world is unchanged, or is in the state after the
-/// first part.
+/// Each transcript counts places from the start of its own part of the schedule. For a call that began in the first
+/// part, the second transcript does not tell where the call began. After an `Err` the world is unchanged, or is in the
+/// state after the first part.
 ///
 /// # Contract
 /// The place `at` has to be within the schedule. On `Ok` the state is the one after the whole schedule. The two
