@@ -223,7 +223,7 @@ impl<T, H: History> ClosedLog<T, H> {
         }
     }
 
-    /// Brings a snapshot up to date. The log is closed, so it stays up to date.
+    /// Brings a snapshot up to date. The log is closed, so the snapshot stays up to date.
     ///
     /// # Contract
     /// Like that of [`Log::observe`].

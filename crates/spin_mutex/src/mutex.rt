@@ -167,7 +167,7 @@ impl<T, R> Mutex<T, R> {
         })
     }
 
-    /// Returns `true` if a thread held the lock, or waited for it, at some moment during this call.
+    /// Returns `true` if it finds that a thread holds the lock or waits for it, else `false`.
     ///
     /// By the time the caller reads the answer it may be out of date.
     ///

@@ -11,8 +11,8 @@ ghost use Rattle.spin_ticket.specs.TicketQueue.{IsInTurn, IsPlainQueue};
 /// States that the two words of a `TicketMutex` encode a plain lock, whose tickets are those of its parties.
 ///
 /// # Contract
-/// If the rule holds (`IsQueue`), a plain lock exists with that next number and that served number. In this plain lock
-/// each party has just the ticket that its view names (`IsPlainQueue`).
+/// If the rule holds (`IsQueue`), a plain lock exists whose next number and served number are the two words. In this
+/// plain lock each party has just the ticket that its view names (`IsPlainQueue`).
 pub fn the_words_of_a_ticket_mutex_are_its_queue<T>()
     ensures { (key : Key T) (next : ℕ) (trace : Trace (Made T) ℕ) (parties : List (Numbered View)) → IsQueue key next trace parties → (s : Plain) × IsPlainQueue s next trace.word (views parties) }
 {}

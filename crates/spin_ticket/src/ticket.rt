@@ -135,7 +135,7 @@ impl<T, R> TicketMutex<T, R> {
         }
     }
 
-    /// Returns `true` if a thread held the lock, or waited for it, at some moment during this call.
+    /// Returns `true` if it finds that a thread holds the lock or waits for it, else `false`.
     ///
     /// It makes two loads. By the time the caller reads the answer it may be out of date.
     ///

@@ -3,8 +3,8 @@ use crate::ticket::TicketMutex;
 
 /// Returns the number of the next ticket.
 ///
-/// The first ticket of [`TicketMutex::new`] has the number 0. So the answer is how many tickets were taken. No counter
-/// beside the lock is needed.
+/// The first ticket of a lock from [`TicketMutex::new`] has the number 0. So for this lock the answer is how many
+/// tickets were taken, and no counter beside the lock is needed.
 ///
 /// # Contract
 /// Only that the call returns.

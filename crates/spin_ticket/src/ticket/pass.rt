@@ -286,8 +286,8 @@ impl<'a, T> Place<'a, T> {
         unreachable!()
     }
 
-    // Returns how many hints to give before the next look. The thread that is next gives one. A thread with others
-    // before it looks seldom, so that it does not disturb them.
+    // Returns how many hints to give before the next look. The thread that is next gives one. While others wait before
+    // it, a thread looks seldom, so that it does not disturb them.
     fn pause(&self) -> u32 {
         if self.ahead <= 1 {
             return 1;
