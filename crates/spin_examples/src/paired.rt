@@ -44,7 +44,7 @@ pub struct Audited<L: Ledger, H: History> {
     ghost tied: { tally.count ≡ totals.value },
 }
 
-/// Adds to the tally and logs the new total, under one lock. If the caller has every share, the call returns
+/// Adds to the tally and logs the new total, under one lock. The caller needs all parts of the ledger. Returns
 /// the total, which is the last entry of the log.
 pub fn add_and_audit<L: Ledger, H: History, W: Wait>(
     rt: &W,

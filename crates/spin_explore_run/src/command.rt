@@ -48,10 +48,10 @@ fn run<I: Source, O: Sink>(
 
 /// Runs the program on these words and streams, and returns the status of the process.
 ///
-/// It reads a text from `input`. The text is a schedule as [`world_text`](spin_text::world_text) reads it,
-/// but without the moves `step` and `weak`. The lines of one party, in their order, are its program. In place
-/// of the header the text may begin with lines `lock NAME HEADER`, each with a header that lacks the number
-/// of parties. Then each move names its lock: `PARTY NAME MOVE`.
+/// It reads a text from `input`. The text is a schedule as [`world_text`](spin_text::world_text) reads it. The
+/// search leaves out its moves `step` and `weak`, and the moves of parties that do not exist. The lines left of one
+/// party, in their order, are its program. In place of the header the text may begin with lines `lock NAME HEADER`,
+/// each with a header that lacks the number of parties. Then each move names its lock: `PARTY NAME MOVE`.
 ///
 /// It writes each outcome that any interleaving has, each way to get stuck with a schedule that leads there,
 /// and how many states it has seen. The words `--schedule NUMBER` ask for a schedule of the outcome with this
@@ -68,7 +68,7 @@ fn run<I: Source, O: Sink>(
 /// - 2: the words are no command, a line of the text is wrong, or there is no such outcome.
 ///
 /// Status 1 or 2 is that of a fault (`status_of`). The run stopped as the fault says (`StopsProgram`), and
-/// the fault's line is on `errors` (`Told`).
+/// the fault's line is on `errors`. If that write failed, a beginning of the line is there (`Told`).
 pub fn program<I: Source, O: Sink, E: Sink>(
     alloc: Global,
     words: &[&str],

@@ -23,7 +23,7 @@ pub enum Place {
     InCall,
     /// The party holds this, and is in no call.
     Holding(Hold),
-    /// The party leaked what it held. It holds this for ever, and makes no further call.
+    /// The party leaked what it held. It still holds this, and makes no further call.
     Leaked(Hold),
     /// The party leaked what it held, and later the owner used the value. The party no longer uses the value.
     Gone,

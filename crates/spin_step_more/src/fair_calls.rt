@@ -36,10 +36,10 @@ pub enum FairCall {
 pub enum FairPoint {
     /// The only step of a one-step call, or the exchange of `StarverTryLockFair`.
     First,
-    /// `Lock` tries to set the flag, after this many looks that found it set.
-    Attempt(usize),
-    /// `Lock` looks at the flag, after this many looks that found it set. The count stops at the patience of
+    /// `Lock` tries to set the flag, after this many looks that found it set. The count stops at the patience of
     /// the lock.
+    Attempt(usize),
+    /// `Lock` looks at the flag. The number is that of `Attempt`.
     Look(usize),
     /// `Lock` or `Starve` loads the word before it registers.
     Load,
