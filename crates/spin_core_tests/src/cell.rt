@@ -86,7 +86,7 @@ pub fn steps_on_the_second_word() -> [u64; 3] {
     [before, after, first]
 }
 
-// Makes a step on each word that appends an entry, and returns what is then known of the trace.
+// Makes a step on each word. Each of the two steps appends an entry. Returns what is then known of the trace.
 fn mark_both(cell: &Words, seen: Watch<()>) -> Watch<()>
     requires { seen.name ≡ cell.now.name }
     ensures name { result.name ≡ seen.name }

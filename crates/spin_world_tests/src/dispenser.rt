@@ -43,7 +43,7 @@ pub enum DispenserAnswer {
     Count(u64),
 }
 
-/// The numbers from 0 up to a cap. Parties draw the next number, and the word is this next number.
+/// The numbers below a cap. Parties draw the next number, and the word is this next number.
 #[derive(Drop)]
 pub struct Dispenser {
     cap: u64,

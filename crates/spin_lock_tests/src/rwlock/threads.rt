@@ -138,7 +138,8 @@ fn a_writer_waits_for_a_writer_and_for_a_reader(rt: HostRuntime) {
     equal(&rt, *both.lock.try_write().expect(&rt, "free"), 6);
 }
 
-// So many turns that some tries of two threads overlap each other, or overlap a look that would take the lock.
+// So many turns that some tries overlap a try or a count of the other thread. If a count took the lock, such a try
+// would fail.
 const TURNS: u64 = 1_000_000;
 
 /// Two threads that count the writers, and try to read while turns are left. The first one tries to read upgradably.

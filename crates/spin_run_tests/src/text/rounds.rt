@@ -212,7 +212,7 @@ const ROUNDS: &[Rounds] = &[
         ],
         None,
     ),
-    // The readers leave in the same round, and each costs the waiting party an exchange.
+    // One reader leaves in the first round and one in the second. Each costs the waiting party an exchange.
     (
         "a read beside two readers is granted in the fourth round",
         "rw 5 3 3\n1 begin read\n1 step\n1 step\n2 begin read\n2 step\n2 step\n0 begin read",
@@ -237,7 +237,7 @@ const ROUNDS: &[Rounds] = &[
         ],
         None,
     ),
-    // The upgradable reader tries to upgrade until the reader has left, and then downgrades.
+    // The upgradable reader tries twice to upgrade while the other reader holds, and then downgrades.
     (
         "a write beside one that may upgrade is granted in the sixth round",
         "rw 5 3 3\n2 begin read\n2 step\n2 step\n\
