@@ -175,7 +175,7 @@ fn come<'a, T>(
     Err((found as usize, permit))
 }
 
-// A call of `write` that goes on with its exchange.
+// A call of `write` whose next step is the exchange.
 struct Waiting<'a, T> {
     permit: LatchPermit<'a, T>,
     ghost waits: { what permit.view ≡ Some WaitingToWrite },

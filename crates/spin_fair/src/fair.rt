@@ -30,8 +30,8 @@ pub use self::starving::StarvingPass;
 pub use spin_core::laws::{a_guard_reads_the_last_value_written, two_guards_read_one_value};
 pub use spin_step_more::fair::LockRejectReason;
 
-/// The patience of [`FairMutex::lock`]. If a look finds the lock held after more such looks than this number, the call
-/// starves.
+/// The patience of [`FairMutex::lock`]. After more than this many looks that found the lock held, the next such look
+/// makes the call starve.
 pub const STARVATION_SPINS: usize = 1024;
 
 /// A spinning mutual exclusion lock in which a thread that has waited for long goes before newcomers.
@@ -113,8 +113,8 @@ impl<T, R> FairMutex<T, R> {
 impl<T, R: RelaxStrategy> FairMutex<T, R> {
     /// Acquires the mutex, spinning until it is free. A newcomer also waits until no starver is registered.
     ///
-    /// After a failed attempt the thread pauses with strategy `R`, and looks at the word before it tries again. If a
-    /// look finds the lock held after more than [`STARVATION_SPINS`] such looks, the thread starves (see
+    /// After a failed attempt the thread pauses with strategy `R`, and looks at the word before it tries again. After
+    /// more than [`STARVATION_SPINS`] looks that found the lock held, the next such look makes the thread starve (see
     /// [`starve`](Self::starve)), unless too many threads starve. The call never returns if its own thread holds the
     /// lock.
     ///

@@ -50,8 +50,8 @@ pub fn a_pass_holds_from_its_try_until_it_unlocks()
     ensures calls { (k : Opening) (before after : History) (p : ℕ) (c : Call) (a : Answer) → IsLegal rw k (before ++ entry p c a ∷ after) → MayCall c (holds_by (calls_by p before)) }
 {}
 
-/// States that two passes that met agree on every answer so far: each entry that either knew before is at the
-/// same place in the history that both know now.
+/// States that two passes that met agree on every answer so far. Each entry that either pass knew before is at
+/// the same place in the history that both know now.
 pub fn passes_that_met_agree()
     ensures { (a b met_a met_b : Knows) → Met rw a met_a.seen met_a → Met rw b met_a.seen met_b → (met_b.seen ≡ met_a.seen) × ((n : ℕ) (e : Entry Call Answer) → slice_get a.seen n ≡ Some e → slice_get met_b.seen n ≡ Some e) × ((n : ℕ) (e : Entry Call Answer) → slice_get b.seen n ≡ Some e → slice_get met_a.seen n ≡ Some e) }
 {}

@@ -25,7 +25,7 @@ pub fn starvers_come_first<V: Copy>()
 {}
 
 /// States that a starver that has set the flag is granted the lock by its next step, whatever other parties do. So such
-/// a starver has the flag without an answer only while it does not step.
+/// a starver waits for its answer only while it does not step.
 pub fn a_starver_with_the_flag_is_granted_next<V: Copy>()
     ensures { (object : Fair V) (n : ℕ) (past : List (ℕ × Move FairCall V)) → IsGrantedNext (⟦<Fair<V> as Object>⟧.machine object) n past }
 {}
