@@ -1,4 +1,4 @@
-//! Tests of the names at the root of `spin`, each by its path there. Begin at [`a_mutex_by_its_short_name`].
+//! Tests of the names at the root of `spin`, each by its path there. Begin at [`each_mutex_by_its_name`].
 use super::equal::equal;
 use spin::mutex::{
     FairMutex, FairMutexGuard, SpinMutex, SpinMutexGuard, TicketMutex, TicketMutexGuard,

@@ -75,7 +75,8 @@ pub fn a_ticket_is_never_starved<V: Copy>()
 {}
 
 /// States how soon a `lock` of one of `n` parties is granted. It takes at most 3 n - 2 rounds (2 if n is 1), and one
-/// more round for each ticket taken meanwhile, its own included. At the end the next number has to be below the limit.
+/// more round for each ticket taken meanwhile, that of this `lock` included. At the end the next number has to be
+/// below the limit.
 ///
 /// As long as the party has no ticket, each ticket that another party takes may cost it an exchange.
 pub fn a_lock_is_granted_in_rounds<V: Copy>()

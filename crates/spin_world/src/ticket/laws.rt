@@ -19,7 +19,7 @@ pub fn tickets_stand_in_order<V: Copy>()
 {}
 
 /// States that a party with a ticket enters by its next step once the tickets before its own have left, and not
-/// earlier. So no later ticket enters before it.
+/// earlier. So no party with a later ticket enters before it.
 ///
 /// Let `s` be the number served after `past`. After `further`, the next step of a party that waits with ticket `t`
 /// succeeds exactly if `t - s` tickets have left since. If a party holds with ticket `t`, then `t - s` tickets have
