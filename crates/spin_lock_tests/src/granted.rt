@@ -2,7 +2,7 @@
 //! number. Also which thread waits for which.
 use crate::equal::equal;
 use crate::parts::{Crew, in_threads};
-use crate::waiting::{await_number, comes_to, has_turn, pause};
+use crate::waiting::{await_number, comes_to, has_turn, is_kept_out, pause};
 use spin_core::lock::{Lock, SharedLock};
 use spin_core::relax::{RelaxStrategy, Spin, Yield};
 use spin_fair::fair::FairMutex;
@@ -272,19 +272,6 @@ struct UpgradesBesideReader {
     came: AtomicU64,
 }
 
-impl UpgradesBesideReader {
-    // Returns `true` if a `try_read` fails within `SLOW_LOOKS` looks.
-    fn comes_to_ask<R: Wait>(&self, rt: &R) -> bool {
-        for _ in 0..SLOW_LOOKS {
-            if self.lock.try_read(rt).is_none() {
-                return true;
-            }
-            Slow::relax(rt);
-        }
-        false
-    }
-}
-
 impl Crew for UpgradesBesideReader {
     type Answer = bool;
 
@@ -300,7 +287,7 @@ impl Crew for UpgradesBesideReader {
         let reader = self.lock.read(rt);
         self.reads.store(1, SeqCst);
         await_number(rt, &self.came, 1);
-        let asked = self.comes_to_ask(rt);
+        let asked = is_kept_out(rt, &self.lock, SLOW_LOOKS);
         drop(reader);
         asked
     }

@@ -1,5 +1,6 @@
 //! How one thread of a test waits for another.
 use spin_core::relax::{RelaxStrategy, Yield};
+use spin_rwlock::rwlock::RwLock;
 use std::sync::Wait;
 use std::sync::atomic::AtomicU64;
 use std::sync::atomic::Ordering::SeqCst;
@@ -31,6 +32,17 @@ pub fn comes_to<R: Wait>(rt: &R, number: &AtomicU64, wanted: u64) -> bool {
             return true;
         }
         Yield::relax(rt);
+    }
+    false
+}
+
+/// Tries to read until a try fails, at most `looks` times. Returns `true` if one failed.
+pub fn is_kept_out<R: RelaxStrategy, W: Wait>(rt: &W, lock: &RwLock<u64, R>, looks: u32) -> bool {
+    for _ in 0..looks {
+        if lock.try_read(rt).is_none() {
+            return true;
+        }
+        R::relax(rt);
     }
     false
 }

@@ -3,8 +3,8 @@
 use crate::equal::equal;
 use crate::mutex::threads::write_elsewhere;
 use crate::parts::{Crew, in_threads};
-use crate::waiting::{MAX_LOOKS, await_number, has_turn, pause};
-use spin_core::relax::{RelaxStrategy, Yield};
+use crate::waiting::{MAX_LOOKS, await_number, has_turn, is_kept_out, pause};
+use spin_core::relax::Yield;
 use spin_rwlock::rwlock::{RwLock, RwLockReadGuard};
 use std::process::Abort;
 use std::sync::Wait;
@@ -49,19 +49,6 @@ struct UpgradesBesideTwo {
     came: AtomicU64,
 }
 
-impl UpgradesBesideTwo {
-    // Tries to read until a try fails. Returns `true` if one did.
-    fn is_kept_out<R: Wait>(&self, rt: &R) -> bool {
-        for _ in 0..MAX_LOOKS {
-            if self.lock.try_read(rt).is_none() {
-                return true;
-            }
-            Yield::relax(rt);
-        }
-        false
-    }
-}
-
 impl Crew for UpgradesBesideTwo {
     type Answer = (bool, [usize; 2]);
 
@@ -79,7 +66,7 @@ impl Crew for UpgradesBesideTwo {
         let readers = (self.lock.read(rt), self.lock.read(rt));
         self.reads.store(1, SeqCst);
         await_number(rt, &self.came, 1);
-        let kept_out = self.is_kept_out(rt);
+        let kept_out = is_kept_out(rt, &self.lock, MAX_LOOKS);
         drop(readers);
         (kept_out, [0, 1])
     }
