@@ -1,4 +1,5 @@
--- What a log and its tokens own. The entries are kept as their codes, in an algebra that names no type parameter.
+-- What a trace (`log_owns`) and a watch (`known_owns`) own. The algebra has the codes of the entries, so it names no
+-- type parameter.
 use Rattle.std.specs.Prelude.{ℕ, List, [], ◌∷◌, map}
 use base.Fraction.{full_share}
 use base.Stored.{Gv, Coded}
