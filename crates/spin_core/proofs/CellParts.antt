@@ -1,4 +1,4 @@
--- The parts of a round: how they are split, joined and compared. Assumes `Logic`.
+-- The parts of a round (a lifetime and its value, `Round`): how they are split, joined and compared. Assumes `Logic`.
 use Rattle.std.proofs.Common.{◌≡◌, Bool, true, ℕ, zero, suc, ◌+◌, ◌-◌, ◌^◌, ◌<◌, ◌≤◌, [], ◌∷◌, refl, arith}
 use mathlib.Mathlib.Data.Part.{◌∈◌}
 use seplogic.Ra.Ura.{Ura}

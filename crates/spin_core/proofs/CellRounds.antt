@@ -39,7 +39,8 @@ module _ {M : Type 1} {𝓤 : Ura M} (𝓛 : Logic 𝓤) (R : RattleType) (b o :
   next None = ffalse
   next (Some x) = fex ℕ (begun x)
 
-  -- what a party has during a step; if others may read next, a writer has already begun the next round
+  -- What a party has of the value during a step. In the ways `lends` and `fixes` others may read after a writer, so a
+  -- writer has already begun the next round.
   abbrev pub held : Use → Way R.Denot → Option R.Denot → Fml
   held writes lends v = next v
   held writes (fixes fact) v = next v
@@ -74,7 +75,7 @@ module _ {M : Type 1} {𝓤 : Ura M} (𝓛 : Logic 𝓤) (R : RattleType) (b o :
   pub renewed : (x : R.Denot) (F : Fml) → ‵ (whole x) ⊩ ‵ F → ‵ (idle t.round) ⊛ ‵ (fex ℕ (begun x)) ⊫ ‵ F
   renewed x F to = update (via 𝓤 (upd 𝓤 ⟦ whole x ⟧) (renews x).prf (upd_mono 𝓤 {P = ⟦ whole x ⟧} {Q = ⟦ F ⟧} to.prf))
 
-  -- a whole round is the state of the value with r readers, whose parts are put aside
+  -- a whole round, without the parts of r readers, is the state of the value with r readers
   pub rests_lent : (r : ℕ) (x : R.Denot) → r < 2 ^ 63 → ‵ (whole x) ⊩ ‵ (resting R b o t lends r x)
   rests_lent r x small = script ∵ fpick ! (λ a. fsplit ! $
       cite _ (parts_in 𝓛 R t.round (a, x) (2 ^ 63) full_share (Counts-all 63)) $

@@ -5,7 +5,8 @@
 -- In the way `lends` a value that nobody writes is shared for a lifetime `a` of its own. This lifetime and the value
 -- are a *round* (not one of a schedule). A reader has one of the 2^63 parts of the token of `a`. A writer ends the
 -- lifetime `a`. When it stops writing, it begins the next round.
--- In the way `fixes` a reader has some part of the token of `a`, never gives this part back, and knows the fact.
+-- In the way `fixes` there are rounds too. A reader has some part of the token of `a`, never gives this part back, and
+-- knows the fact.
 -- Ghost names: ρ has the views. γ has the round, split like the token of `a`. ν tracks the value while the cell is
 -- shared.
 use Rattle.std.specs.Prelude.{◌≡◌, Bool, true, false, ℕ, zero, suc, ◌+◌, ◌-◌, ◌^◌, [], ◌∷◌, List, Option, Some, None}
@@ -171,7 +172,7 @@ module _ (R : RattleType) (b o : ℕ) where
         kept = beside (ends t.life) (always (fbor t.life inner))
 
 module _ (Y R : RattleType) {V : Type 0} (c : V → Gv) (S : RattleType) (holds : ℕ → S.Denot → List V → Type 0) (ways : Ways R.Denot V S.Denot) where
-  -- what the owner of the cell has: its fields, such that the rule holds of the words and some views
+  -- what the owner of the cell has: the cell's fields, such that the rule holds of them and of some views
   abbrev pub cell_owns : (ℕ → S.Denot → R.Denot → Fml) → Fml
   cell_owns fields = fex (Known ways Y S R) (λ _. fex (ℕ × S.Denot × R.Denot) (λ s. fsep (fields s.0 s.1 s.2) (fact (Starts holds ways s.0 s.1 s.2))))
 
