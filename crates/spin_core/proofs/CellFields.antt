@@ -113,7 +113,7 @@ module _ {M : Type 1} {𝓤 : Ura M} (𝓛 : Logic 𝓤) (m ms : Member) (V Y K 
       fpick ! (λ vs. fsplit3 ! $ move ! (2 ∷ 3 ∷ []) $ fjoin ! $ fpack ! All (owned vs) s $ fpack ! Knows (λ _. fex All (owned vs)) k $ move ! (2 ∷ 0 ∷ []) $ fjoin ! $ move ! (1 ∷ 0 ∷ []) $ fjoin ! $
       fpack ! (List Val) (λ us. fsep (cell_at full_share Data.mir us b o) ((C.the_row R V Y K S g).own_val key us)) vs $ done !)
 
-  -- ---- the words beside the value
+  -- ---- the cell's words, without the value
   abbrev pub standing_words : ℕ × S.Denot → Fml
   standing_words s = fsep (word b (o + 0) s.0) (part_at S full_share s.1 b (o + second_at S R))
 

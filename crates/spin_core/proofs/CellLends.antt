@@ -1,6 +1,7 @@
 -- What a `&` to a permit owns: the value, as far as the permit's party may lend it. Assumes `Logic`.
---     Lends-tracked     the law of a party that tracks the value
---     permit_laws, Lends-permit     the laws of a permit.        writer_laws, Lends-writer     the laws of a writer
+--     Lends-tracked     a borrow of what owns the value as `tracked` lends the value
+--     permit_laws, Lends-permit     the laws of a `&` to a permit
+--     writer_laws, Lends-writer     the laws of a `&` to a write permit
 use Rattle.std.proofs.Common.{arith, ◌≡◌, ℕ, ◌+◌, List, [], ◌∷◌, ◌++◌, refl, sym, Option, Some, None}
 use seplogic.Ra.Ura.{Ura}
 use base.Share
@@ -53,7 +54,7 @@ module _ {M : Type 1} {𝓤 : Ura M} (𝓛 : Logic 𝓤) where
   open 𝓛 use {H, A}
   open (signs 𝓛) use {◌⊩◌, ◌⊢◌, ◌∗◌, ◌-∗◌, ⟦◌⟧}
 
-  -- ---- a party that tracks the value, as a writer does
+  -- ---- a party that owns the value as `tracked`, like a writer
   module _ (R : RattleType) (b o : ℕ) (β : Lft) (x : R.Denot) (P : Fml) where
     abbrev At : Fml
     At = part_at R full_share x b (o + offset R)

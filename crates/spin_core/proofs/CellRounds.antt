@@ -82,14 +82,14 @@ module _ {M : Type 1} {𝓤 : Ura M} (𝓛 : Logic 𝓤) (R : RattleType) (b o :
       cite _ (parts_but 𝓛 R t.round (a, x) r small) $
       fjoin ! $ fpack ! ℕ (λ c. fsep (parts R t.round (c, x) (2 ^ 63 - r)) (shared R b o t (c, x))) a $ done !)
 
-  -- a whole round is also the state of the way `fixes` with r readers
+  -- a whole round is also the state of the value with r readers in the way `fixes`
   pub rests_fixed : (fact : Bool → R.Denot → Type 0) (r : ℕ) (x : R.Denot) → Fixed (fixes fact) r 0 x → ‵ (whole x) ⊩ ‵ (resting R b o t (fixes fact) r x)
   rests_fixed fact zero x known = script ∵ fpick ! (λ a. fsplit ! $ fpack ! (fact false x) (λ _. share R t.round (a, x) full_share) known $
       fjoin ! $ fpack ! ℕ (λ c. fsep (remains R fact t.round (c, x) zero) (shared R b o t (c, x))) a $ done !)
   rests_fixed fact (suc r) x known = script ∵ fpick ! (λ a. fsplit ! $ cite _ (piece_in 𝓛 R t.round (fixes fact) (a, x) full_share known) $
       fjoin ! $ fpack ! ℕ (λ c. fsep (remains R fact t.round (c, x) (suc r)) (shared R b o t (c, x))) a $ done !)
 
-  -- before a step a party's right becomes what it has during the step
+  -- what a party owns of the value (`right`) becomes, before a step, what it has during the step (`held`)
   pub readies : (l : Lft) → Shares 𝓛 R l → (u : Use) (way : Way R.Denot) (v : Option R.Denot) (μ : Lft) (s : Share) (τ : Lft) (r : Share) → Incl μ α → Incl τ l
       → ‵ (right R b o t way u v) ⊛ ‵ (flft μ s) ⊛ ‵ (flft τ r) ⊩ later (‵ (held u way v) ⊛ ‵ (flft μ s) ⊛ ‵ (flft τ r))
   readies l shares writes lends (Some x) = begins l shares x

@@ -29,11 +29,11 @@ use types.Keyed.{entries_from}
 use base.Share.{quarter}
 use Rattle.spin_core.specs.Cell.{Use, off, reads, writes, Way, alone, lends, fixes, Ways, IsShared, IsKnown, use_of, readers_of, writers_of, Meets, Starts}
 
--- the place of the value, behind the first word
+-- the place of the value, after the first word
 abbrev pub offset : RattleType → ℕ
 offset R = up (align (lone R.mir)) 8
 
--- the place of the second word's data, behind the value
+-- the place of the `Second`, after the value
 abbrev pub second_at : RattleType → RattleType → ℕ
 second_at S R = up (align (lone S.mir)) (offset R + size (lone R.mir))
 

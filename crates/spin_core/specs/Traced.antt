@@ -17,8 +17,8 @@ module _ {E S : Type 0} where
 
 module _ {E : Type 0} where
   -- A step got the watch `before`, and returned the watch `now`. `now` knows the trace before the step (log), which
-  -- begins with what `before` knew, and the entries that the step appended (es). `told` holds of both. If `before`
-  -- was a watch of this trace (`named`), `now` has the same name.
+  -- begins with what `before` knew, and the entries that the step appended (es). `told` holds of log and es. If
+  -- `before` was a watch of this trace (`named`), `now` has the same name.
   abbrev pub Watches : {V : Type 0} → Type 0 → Watch E → Watch E → (List E → List E → ℕ → V → Type 0) → ℕ → V → Type 0
   Watches named before now told n v = (named → now.name ≡ before.name) × ((log es : List E) × IsPrefix before.entries log × (now.entries ≡ log ++ es) × told log es n v)
 

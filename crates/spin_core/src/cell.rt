@@ -305,7 +305,7 @@ impl<T, V, P: Rule<T, V>> WritePermit<'_, T, V, P> {
     }
 }
 
-// Forgets a `Second`, a type that need not be `Drop`.
+// Forgets a `Second`, whose type need not be `Drop`.
 pub(crate) fn let_go<S>(second: S) {
     let _gone = unsafe { ManuallyDrop::new_unchecked(second) };
 }
