@@ -227,7 +227,7 @@ module _ {M : Type 1} {𝓤 : Ura M} (𝓛 : Logic 𝓤) (𝓜 : Model 𝓤 𝓛
           fpack t (Valss (Hr ∷ Wr ∷ [])) (both v l) (hand_of here ∷ [], (token ∷ [], tt)) $ move t (1 ∷ []) $ go v l);
     }
 
-    -- what the machine's step on this word asks
+    -- the party has what the machine's step on the word `at` asks
     pub record Asked (at : Ptr) (f : ℕ → ℕ) : Type 1 where
       pub step : (k : Entry) → ‵ (finv (Inv k)) ⊛ ‵ (alive k) ⊛ ‵ (fsep (Mine k) (Known seen)) ⊩ raw (asks 𝓛 at f always (left k))
 

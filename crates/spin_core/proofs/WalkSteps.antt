@@ -33,7 +33,7 @@ module _ {M : Type 1} {𝓤 : Ura M} {𝓛 : Logic 𝓤} {K : Type 0} {Γ : List
   lies_at t F never (block_ptr b o) go = go tt
   lies_at t F never null_ptr go = lies t F never null_ptr (λ no. absurd no)
 
--- facts that a walk does not use, and behind them what it uses
+-- n facts that a walk does not use; in `after_facts` they stand before P, which the walk uses
 abbrev pub Facts : ℕ → Type 1
 Facts zero = Unit {1}
 Facts (suc n) = Type 0 × Facts n
@@ -47,7 +47,7 @@ module _ {M : Type 1} (𝓤 : Ura M) (P : SProp 𝓤) where
   last_fact zero φs = id⊢ 𝓤 P
   last_fact (suc n) φs = via 𝓤 (after_facts n φs.1) (snd∗ 𝓤 (fact 𝓤 φs.0) (after_facts n φs.1)) (last_fact n φs.1)
 
-  -- a requirement of which a walk uses nothing
+  -- for a walk that uses nothing of the requirement P
   pub unasked : ent 𝓤 P (fact 𝓤 (Unit {0}))
   unasked = via 𝓤 (sep 𝓤 (emp 𝓤) P) (emp∗ 𝓤 P) (via 𝓤 (emp 𝓤) (fst∗ 𝓤 (emp 𝓤) P) (fact_i 𝓤 (Unit {0}) (emp 𝓤) tt))
 
