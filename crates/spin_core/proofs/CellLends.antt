@@ -1,5 +1,5 @@
 -- What a `&` to a permit owns: the value, as far as the permit's party may lend it. Assumes `Logic`.
---     Lends-tracked     a borrow of what owns the value as `tracked` lends the value
+--     Lends-tracked     if P owns the value as `tracked`, a borrow of P lends the value
 --     permit_laws, Lends-permit     the laws of a `&` to a permit
 --     writer_laws, Lends-writer     the laws of a `&` to a write permit
 use Rattle.std.proofs.Common.{arith, ◌≡◌, ℕ, ◌+◌, List, [], ◌∷◌, ◌++◌, refl, sym, Option, Some, None}
