@@ -1,6 +1,7 @@
 -- The fields of a cell in memory: the first word, the value, and the second word or nothing. Assumes `Logic`.
---     fields_out     the words and the value, and the cell again from any that satisfy the rule
---     written_out, written_in, row_out, row_in      the fields of the cell as it is written, and of its row
+--     fields_out     takes the words and the value out of the cell; any that satisfy the rule make the cell again
+--     written_out, written_in     from a cell of the type `the_written` to its fields, and back
+--     row_out, row_in             the same for the type `the_row`
 use Rattle.std.proofs.Common.{ℕ, zero, ◌+◌, List, [], ◌∷◌, refl, sym, ◌∙◌}
 use seplogic.Ra.Ura.{Ura}
 use mir.Val.{Val}
@@ -112,7 +113,7 @@ module _ {M : Type 1} {𝓤 : Ura M} (𝓛 : Logic 𝓤) (m ms : Member) (V Y K 
       fpick ! (λ vs. fsplit3 ! $ move ! (2 ∷ 3 ∷ []) $ fjoin ! $ fpack ! All (owned vs) s $ fpack ! Knows (λ _. fex All (owned vs)) k $ move ! (2 ∷ 0 ∷ []) $ fjoin ! $ move ! (1 ∷ 0 ∷ []) $ fjoin ! $
       fpack ! (List Val) (λ us. fsep (cell_at full_share Data.mir us b o) ((C.the_row R V Y K S g).own_val key us)) vs $ done !)
 
-  -- ---- the words beside the value
+  -- ---- the cell's words, without the value
   abbrev pub standing_words : ℕ × S.Denot → Fml
   standing_words s = fsep (word b (o + 0) s.0) (part_at S full_share s.1 b (o + second_at S R))
 
@@ -163,7 +164,7 @@ module _ {M : Type 1} {𝓤 : Ura M} (𝓛 : Logic 𝓤) (m ms : Member) (V Y K 
     rejoined s rule = script ∵ knows ! (Rule s) rule $ move ! (1 ∷ 0 ∷ []) $ join ! $ move ! (1 ∷ 0 ∷ []) $ join ! $ move ! (1 ∷ []) $
         use1 𝓛 (raw (joined s)) (all_e 𝓤 joined s) $ move ! (1 ∷ 0 ∷ []) $ by ! (apply∗ 𝓤 (⟦ standing_words (s.0, s.1) ⟧ ∗ ⟦ At s.2 ⟧ ∗ ⟦ fact (Rule s) ⟧) ⟦ P ⟧)
 
--- The same for a cell that gets another key.
+-- A cell gets another key, if the rule under the old key implies the rule under the new one (`Lends`).
 module _ {M : Type 1} {𝓤 : Ura M} (𝓛 : Logic 𝓤) (m ms : Member) (V Y K : RattleType) (g : Ghosts Y.Denot (row_of m).Denot V.Denot K.Denot (row_of ms).Denot) (old key : K.Denot) (b o : ℕ)
     (lends : Lends (g.holds old) (g.ways old) (g.holds key) (g.ways key)) where
   open (signs 𝓛) use {◌⊩◌, ◌⊢◌, ◌∗◌, ◌-∗◌, ⟦◌⟧}

@@ -1,6 +1,7 @@
--- What a `&` to a permit owns: the value, as far as its reader or writer may lend it. Assumes `Logic`.
---     Lends-tracked     the law of a party that tracks the value
---     permit_laws, Lends-permit     the laws of a permit.        writer_laws, Lends-writer     the laws of a writer
+-- What a `&` to a permit owns: the value, as far as the permit's party may lend it. Assumes `Logic`.
+--     Lends-tracked     if P owns the value as `tracked`, a borrow of P lends the value
+--     permit_laws, Lends-permit     the laws of a `&` to a permit
+--     writer_laws, Lends-writer     the laws of a `&` to a write permit
 use Rattle.std.proofs.Common.{arith, ◌≡◌, ℕ, ◌+◌, List, [], ◌∷◌, ◌++◌, refl, sym, Option, Some, None}
 use seplogic.Ra.Ura.{Ura}
 use base.Share
@@ -53,7 +54,7 @@ module _ {M : Type 1} {𝓤 : Ura M} (𝓛 : Logic 𝓤) where
   open 𝓛 use {H, A}
   open (signs 𝓛) use {◌⊩◌, ◌⊢◌, ◌∗◌, ◌-∗◌, ⟦◌⟧}
 
-  -- ---- a party that tracks the value, as a writer does
+  -- ---- a party that owns the value as `tracked`, like a writer
   module _ (R : RattleType) (b o : ℕ) (β : Lft) (x : R.Denot) (P : Fml) where
     abbrev At : Fml
     At = part_at R full_share x b (o + offset R)
@@ -124,7 +125,8 @@ module _ {M : Type 1} {𝓤 : Ura M} (𝓛 : Logic 𝓤) where
     Lends-writer l le s (block_ptr b o) view x = Lends-tracked R b o β x (writer_owns Y R c S holds ways β (block_ptr b o) view x) l le s (writer_gives b o view x)
     Lends-writer l le s null_ptr view x = Lends-false 𝓛 (writer_shares Y R c S holds ways β null_ptr view x) l
 
-    -- a value that is shown for a round's lifetime is shown for ν too, if ν lies within the round and within the cell's borrow β
+    -- A value that is shown for the lifetimes n and `t.life` is shown for ν too, if ν lies within n and within the
+    -- cell's borrow β, which ends before `t.life`.
     shows_for : RowLaws R → (b o : ℕ) (t : Id) (x : R.Denot) (ν : Lft) → Incl ν β → (n : ℕ)
         → ‵ (shown R b o x (n ∷ t.life)) ⊛ ‵ (before β t.life) ⊛ ‵ (inside ν (n ∷ [])) ⊩ ‵ (shown R b o x ν)
     shows_for L b o t x ν inc n =
@@ -170,7 +172,8 @@ module _ {M : Type 1} {𝓤 : Ura M} (𝓛 : Logic 𝓤) where
         lends_shown q = script ∵ updating ! $ bor_open ! tt $ move ! (1 ∷ []) $ fpick ! (λ k. fpick ! (λ t. fsplit3 ! $
             fsplit ! $ move ! (3 ∷ []) $ fpick ! (λ u. fsplit ! $ fpick ! (λ e. fpick ! (λ n. fsplit ! $
             let a : Lft = u ∷ [] in let K = L x b (o + offset R) in
-            -- context: [the token; the tag; what is shown; the end; the invariant; the view; the open borrow]
+            -- context: [the token of u; the tag; what is shown; `before β t.life`; the invariant; the view; the open
+            -- borrow]
             move ! (2 ∷ []) $ use1 𝓛 (‵ (V' (u ∷ t.life)) ⊛ ‵ (V' (u ∷ t.life))) (contraction 𝓛 V' K (a ++ t.life)) $ split ! $ move ! (4 ∷ []) $
             use1 𝓛 (‵ (before β t.life) ⊛ ‵ (before β t.life)) (before_dup 𝓛 β t.life) $ split ! $ move ! (0 ∷ 6 ∷ 7 ∷ 5 ∷ 2 ∷ []) $
             cite _ (reads_again k t u e n) $ nothing ! $ move ! (4 ∷ 0 ∷ []) $ fjoin ! $ move ! (4 ∷ 0 ∷ 1 ∷ []) $ obor_alter ! tt (flft a e ∷ []) $
@@ -193,7 +196,7 @@ module _ {M : Type 1} {𝓤 : Ura M} (𝓛 : Logic 𝓤) where
     Lends-permit L l le (block_ptr b o) view x = Lends-owned b o view L l le (use_of ways.1 view) x
     Lends-permit L l le null_ptr view x = Lends-false 𝓛 (permit_shares Y R c S holds ways β null_ptr view x) l
 
-    -- ---- a reader may show the value for the rest of the cell's borrow: it never gives its token back
+    -- ---- a reader may show the value for the rest of the cell's borrow: it never gives back its token of the round
     abbrev pub IsShown : ℕ → ℕ → Option R.Denot → R.Denot → Item 𝓤
     IsShown b o v x = given ((v ≡ Some x) × Seen ways.0 x) (‵ (shown R b o x β))
 
@@ -203,7 +206,7 @@ module _ {M : Type 1} {𝓤 : Ura M} (𝓛 : Logic 𝓤) where
     shown_by : RowLaws R → (b o : ℕ) (t : Id) (x : R.Denot)
         → ‵ (before β t.life) ⊛ ‵ (reader R b o t ways.0 x) ⊩ later (given (Seen ways.0 x) (‵ (shown R b o x β)))
     shown_by L b o t x = script ∵ updating ! $ move ! (1 ∷ []) $ fpick ! (λ n. fsplit ! $ fpick ! (λ e. fpick ! (λ known. fsplit ! $
-        -- context: [the token; the tag; what is shown; the end]
+        -- context: [the token of n; the tag; what is shown; `before β t.life`]
         bor_new ! tt β $ bor_fracture ! tt (λ r. flft (n ∷ []) r) e $ move ! (3 ∷ 4 ∷ 0 ∷ []) $
         cite _ (shows_for L b o t x β (Incl-refl β) n) $ now ! $ check ! (known_seen ways.0 x e known) $ keep ! (0 ∷ []) $ done !)))
 
@@ -215,7 +218,7 @@ module _ {M : Type 1} {𝓤 : Ura M} (𝓛 : Logic 𝓤) where
         cite _ (shown_by L b o t x) $ await ! tt $ learn ! (λ known.
         now ! $ having ! (IsShown b o (Some x)) x $ check ! (refl, known) $ keep ! (0 ∷ []) $ done !)))
 
-    -- ---- in the way `fixes` such a reader also keeps its permit
+    -- ---- in the way `fixes` a reader that shows the value also keeps its permit
     reader_cut : RowLaws R → (b o : ℕ) (t : Id) (way : Way R.Denot) → Fixes way → (x : R.Denot)
         → ‵ (reader R b o t way x) ⊩ ‵ (reader R b o t way x) ⊛ ‵ (reader R b o t way x)
     reader_cut L b o t (fixes fact) fixed x =
@@ -236,7 +239,7 @@ module _ {M : Type 1} {𝓤 : Ura M} (𝓛 : Logic 𝓤) where
         rewrite ! 0 (λ (u : Use). ‵ (right R b o t ways.0 u (Some x))) is refl $ cite _ (reader_cut L b o t ways.0 fixed x) $ move ! (2 ∷ []) $
         use1 𝓛 (‵ (before β t.life) ⊛ ‵ (before β t.life)) (before_dup 𝓛 β t.life) $ split ! $ move ! (0 ∷ 2 ∷ []) $
         cite _ (shown_by L b o t x) $ await ! tt $ learn ! (λ known.
-        -- context: [what is shown; the end; the reader; the invariant; the view]
+        -- context: [what is shown; `before β t.life`; the reader; the invariant; the view]
         move ! (2 ∷ []) $ rewrite ! 0 (λ (u : Use). ‵ (right R b o t ways.0 u (Some x))) (sym is) refl $ move ! (4 ∷ 0 ∷ []) $ fjoin ! $ move ! (2 ∷ 3 ∷ []) $ fjoin ! $ fjoin ! $
         fpack ! Id At t $ fpack ! Knows (λ _. fex Id At) k $ move ! (1 ∷ []) $ now ! $
         having ! (IsShownTo b o view (Some x)) x $ check ! (refl, known) $ done !)))

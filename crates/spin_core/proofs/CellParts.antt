@@ -1,4 +1,4 @@
--- The parts of a round: how they are split, joined and compared. Assumes `Logic`.
+-- The parts of a round (a lifetime and its value, `Round`): how they are split, joined and compared. Assumes `Logic`.
 use Rattle.std.proofs.Common.{◌≡◌, Bool, true, ℕ, zero, suc, ◌+◌, ◌-◌, ◌^◌, ◌<◌, ◌≤◌, [], ◌∷◌, refl, arith}
 use mathlib.Mathlib.Data.Part.{◌∈◌}
 use seplogic.Ra.Ura.{Ura}
@@ -27,7 +27,7 @@ module _ {M : Type 1} {𝓤 : Ura M} (𝓛 : Logic 𝓤) (R : RattleType) (γ : 
   sum : (g : Gv) (r e f : Share) → r ∈ Share.op e f → ◌∈◌ {α = Share × Gv} (r, g) (halved.op (e, g) (f, g))
   sum g r e f m = Prod.mk-mem-op Share.op (Ag.op (SetCoded-set (coded itself))) {a = e} {a' = f} {x = r} {b = g} {b' = g} {y = g} m (Ag.idem (SetCoded-set (coded itself)) g)
 
-  -- a share that satisfies P
+  -- some share of the round that satisfies P
   abbrev Some : (Share → Type 0) → Round R → Fml
   Some P s = fex Share (λ e. fex (P e) (λ _. share R γ s e))
 
@@ -66,7 +66,7 @@ module _ {M : Type 1} {𝓤 : Ura M} (𝓛 : Logic 𝓤) (R : RattleType) (γ : 
       cite _ (parts_cut s (2 ^ 63) 1 (2 ^ 63 - 1) (omega arith) (omega arith) (omega arith) (omega arith)) $
       by ! (glued s 1 (2 ^ 63 - 1) full_share (Counts-all 63)).prf
 
-  -- two shares under one name are of one round, and so of one value
+  -- two shares under one ghost name are of one round, and so of one value
   shares_agree : (s u : Round R) (e f : Share) → ‵ (share R γ s e) ⊛ ‵ (share R γ u f) ⊩ given (s ≡ u) (‵ (share R γ s e) ⊛ ‵ (share R γ u f))
   shares_agree s u e f = let g : Gv = round_code R s in let h : Gv = round_code R u in let Z : SProp 𝓤 = ⟦ tag γ e g ⟧ ∗ ⟦ tag γ f h ⟧ in
       script ∵ fsplit ! $ move ! (2 ∷ []) $ fsplit ! $ move ! (3 ∷ 1 ∷ []) $

@@ -86,7 +86,7 @@ module _ {M : Type 1} {𝓤 : Ura M} (𝓛 : Logic 𝓤) {V : Type 0} (cv : Code
   abbrev Joined : ℕ → List V → V → Kit.Item 𝓤
   Joined k vs u = ‵ (roster c γ k (vs ++ u ∷ [])) ⊛ ‵ (Stand (Some u))
 
-  -- a new party takes the next key
+  -- a new party takes the first unused entry
   joins : (vs : List V) (k : ℕ) (u : V) → ‵ (roster c γ k vs) ⊫ Joined k vs u
   joins [] k u = updates ∵ fpick ! (λ g.
       use1 𝓛 (‵ (Whole k g) ⊛ ‵ (unused γ (suc k) g)) (entries_take halved 𝓛 γ k (λ _. (full_share, g))) $ split ! $
@@ -95,7 +95,7 @@ module _ {M : Type 1} {𝓤 : Ura M} (𝓛 : Logic 𝓤) {V : Type 0} (cv : Code
   joins (w ∷ ws) k u = updates ∵ fsplit ! $ move ! (1 ∷ []) $ renew (Joined k (w ∷ ws) u) _ (joins ws (suc k) u) $
       settled ! _ $ move ! (2 ∷ 0 ∷ []) $ Kit.join ! $ done !
 
-  -- a place, and the roster and the party's view if the party is there and gets the view `next`
+  -- the roster and the party's view, after the party got the view `next` at its place z.0
   abbrev pub Placed : (view : Option V) (vs : List V) → ((id : ℕ) → Stands id view vs → V) → (id : ℕ) × Stands id view vs → Kit.Item 𝓤
   Placed view vs next z = ‵ (roster c γ 0 (after z.0 view vs (next z.0 z.1))) ⊛ ‵ (Stand (Some (next z.0 z.1)))
 
@@ -109,7 +109,7 @@ module _ {M : Type 1} {𝓤 : Ura M} (𝓛 : Logic 𝓤) {V : Type 0} (cv : Code
       pick ! (λ at. split ! $ settled ! _ $ having ! (Placed (Some v) vs next) (id, at) $
       move ! (1 ∷ []) $ fpack ! ℕ (λ i. R i (next id at)) id $ move ! (1 ∷ 0 ∷ []) $ done !))
 
-  -- unused entries become the views of parties that have left
+  -- unused entries become a roster of these views, whose parties no longer have a permit
   pub enrols : (vs : List V) (k : ℕ) (g : Gv) → ‵ (unused γ k g) ⊫ ‵ (roster c γ k vs)
   enrols [] k g = updates ∵ settled ! _ $ fpack ! Gv (unused γ k) g $ done !
   enrols (w ∷ ws) k g = updates ∵ use1 𝓛 (‵ (Whole k g) ⊛ ‵ (unused γ (suc k) g)) (entries_take halved 𝓛 γ k (λ _. (full_share, g))) $ split ! $

@@ -39,7 +39,8 @@ module _ {M : Type 1} {𝓤 : Ura M} (𝓛 : Logic 𝓤) (R : RattleType) (b o :
   next None = ffalse
   next (Some x) = fex ℕ (begun x)
 
-  -- what a party has during a step; if others may read next, a writer has already begun the next round
+  -- What a party has of the value during a step. In the ways `lends` and `fixes` others may read after a writer, so a
+  -- writer has already begun the next round.
   abbrev pub held : Use → Way R.Denot → Option R.Denot → Fml
   held writes lends v = next v
   held writes (fixes fact) v = next v
@@ -74,21 +75,21 @@ module _ {M : Type 1} {𝓤 : Ura M} (𝓛 : Logic 𝓤) (R : RattleType) (b o :
   pub renewed : (x : R.Denot) (F : Fml) → ‵ (whole x) ⊩ ‵ F → ‵ (idle t.round) ⊛ ‵ (fex ℕ (begun x)) ⊫ ‵ F
   renewed x F to = update (via 𝓤 (upd 𝓤 ⟦ whole x ⟧) (renews x).prf (upd_mono 𝓤 {P = ⟦ whole x ⟧} {Q = ⟦ F ⟧} to.prf))
 
-  -- a whole round is the state of the value with r readers, whose parts are put aside
+  -- a whole round, without the parts of r readers, is the state of the value with r readers
   pub rests_lent : (r : ℕ) (x : R.Denot) → r < 2 ^ 63 → ‵ (whole x) ⊩ ‵ (resting R b o t lends r x)
   rests_lent r x small = script ∵ fpick ! (λ a. fsplit ! $
       cite _ (parts_in 𝓛 R t.round (a, x) (2 ^ 63) full_share (Counts-all 63)) $
       cite _ (parts_but 𝓛 R t.round (a, x) r small) $
       fjoin ! $ fpack ! ℕ (λ c. fsep (parts R t.round (c, x) (2 ^ 63 - r)) (shared R b o t (c, x))) a $ done !)
 
-  -- a whole round is also the state of the way `fixes` with r readers
+  -- a whole round is also the state of the value with r readers in the way `fixes`
   pub rests_fixed : (fact : Bool → R.Denot → Type 0) (r : ℕ) (x : R.Denot) → Fixed (fixes fact) r 0 x → ‵ (whole x) ⊩ ‵ (resting R b o t (fixes fact) r x)
   rests_fixed fact zero x known = script ∵ fpick ! (λ a. fsplit ! $ fpack ! (fact false x) (λ _. share R t.round (a, x) full_share) known $
       fjoin ! $ fpack ! ℕ (λ c. fsep (remains R fact t.round (c, x) zero) (shared R b o t (c, x))) a $ done !)
   rests_fixed fact (suc r) x known = script ∵ fpick ! (λ a. fsplit ! $ cite _ (piece_in 𝓛 R t.round (fixes fact) (a, x) full_share known) $
       fjoin ! $ fpack ! ℕ (λ c. fsep (remains R fact t.round (c, x) (suc r)) (shared R b o t (c, x))) a $ done !)
 
-  -- before a step a party's right becomes what it has during the step
+  -- what a party owns of the value (`right`) becomes, before a step, what it has during the step (`held`)
   pub readies : (l : Lft) → Shares 𝓛 R l → (u : Use) (way : Way R.Denot) (v : Option R.Denot) (μ : Lft) (s : Share) (τ : Lft) (r : Share) → Incl μ α → Incl τ l
       → ‵ (right R b o t way u v) ⊛ ‵ (flft μ s) ⊛ ‵ (flft τ r) ⊩ later (‵ (held u way v) ⊛ ‵ (flft μ s) ⊛ ‵ (flft τ r))
   readies l shares writes lends (Some x) = begins l shares x

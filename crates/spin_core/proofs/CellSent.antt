@@ -1,5 +1,5 @@
--- What a `&` to a cell owns, and what a permit owns, does not depend on the thread, if the value is `Send` and the rule is `Sync`. `sees`
--- says that a value which parties share is `Sync`.
+-- What a `&` to a cell owns, and what a permit owns, does not depend on the thread, if the value is `Send` and the
+-- rule is `Sync`. The argument `sees` says that a value which parties share is `Sync`.
 use Rattle.std.proofs.Common.{arith, ◌≡◌, Bool, ℕ, zero, suc, ◌+◌, List, [], ◌∷◌, refl, Option, Some, None}
 use base.Fraction.{full_share}
 use base.Stored.{Gv}

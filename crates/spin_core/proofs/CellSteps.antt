@@ -118,11 +118,11 @@ module _ {M : Type 1} {𝓤 : Ura M} (𝓛 : Logic 𝓤) (Er Ur : RattleType) wh
     abbrev Got : Trace E U → V → Fml
     Got m w = value.Got 𝓛 R L b o t way (know m) u (f w) v
 
-    -- what a step tells that found the number n, if the trace then has the entries es
+    -- what a step that found the number n tells, if the trace then has the entries es
     abbrev pub finding : List E → (ℕ → V → Type 0) → ℕ → V → Option R.Denot → Type 0
     finding es then n w x = then n w × Learnt ways.2 u (f w) v x es
 
-    -- what such a step leaves to its party
+    -- what a step leaves to its party, if it tells `tells` of the party's new view and value
     abbrev pub left_to : (V → Option R.Denot → Type 0) → V × Option R.Denot → Fml
     left_to tells s = fsep (fact (tells s.0 s.1 × Keeps ways view (Some s.0) v s.1)) (fsep (Stand (Some s.0)) (Held (f s.0) s.1))
 
@@ -139,7 +139,7 @@ module _ {M : Type 1} {𝓤 : Ura M} (𝓛 : Logic 𝓤) (Er Ur : RattleType) wh
     use_part : (g : Use → ℕ) → g off ≡ 0 → (w : Option V) → counted (λ x. g (f x)) w ≡ g (use_of f w)
     use_part g none w = grind arith
 
-    -- what a step from m must show that leads to these words and views, while r parties read
+    -- what a step that leads from m to the words s and the views us must show, while r parties read
     abbrev Owed : ℕ → Trace E U → ℕ × Trace E U → List V → V → Type 0
     Owed r m s us w = Going way u (f w) v r (Carrying ways.2 m s.1 u (f w) v (Meets holds ways s.0 s.1 us))
 
@@ -194,17 +194,18 @@ module _ {M : Type 1} {𝓤 : Ura M} (𝓛 : Logic 𝓤) (Er Ur : RattleType) wh
       abbrev pub watched : ℕ → List E → ℕ → Fml
       watched γ k n = fex (ℕ × (List E × List E)) (seen_by γ k n)
 
-      -- What a step must show that finds the number k and changes the words from n₀ and that of m to n and y.
+      -- What a step that finds the number k must show. It changes the first word from n₀ to n, and m's word to y.
       abbrev pub Grows : ℕ → Trace E U → ℕ → U → ℕ → Type 0
       Grows n₀ m n y k = (id : ℕ) (vs : List V) → Meets holds ways n₀ m vs → Stands id view vs
           → (w : V) × (es : List E) × Owed (readers_of f vs) m (n, grown_at m y es) (after id view vs w) w × told m.entries es k w
 
-      -- the ghost part of such a step, if its words already stand in memory
+      -- the ghost part of this step, after its new words are in memory
       pub grows : (γ : ℕ) (k : List E) → May γ k → (n₀ n : ℕ) (m : Trace E U) (y : U) (found : ℕ) → Grows n₀ m n y found
           → ‵ (word b (o + 0) n) ⊛ ‵ (Traced (beside m y)) ⊛ ‵ (Core (n₀, m)) ⊛ ‵ Mine ⊛ ‵ (Known γ k) ⊫ ‵ I ⊛ ‵ (watched γ k found)
       grows γ k may n₀ n m y found law = let m' : Trace E U = beside m y in let To : Item 𝓤 = ‵ I ⊛ ‵ (watched γ k found) in updates ∵
           move ! (2 ∷ []) $ fpick ! (λ vs. fsplit ! $ move ! (1 ∷ []) $ fsplit ! $ fpick ! (λ meets. drop ! $ move ! (4 ∷ []) $ fsplit ! $ move ! (3 ∷ 0 ∷ []) $
-          -- context: [the views; the party's view; what it had; the state; the first word; the trace; the watch]
+          -- context: [the views; the party's view; its part of the value; the state; the first word; the trace;
+          -- the watch]
           renew To _ (places 𝓛 cv ρ view vs (λ id here. (law id vs meets here).0)) $
           pick ! (λ z. let id = z.0 in let here = z.1 in let r = law id vs meets here in let w : V = r.0 in
           let es : List E = r.1 in let s : ℕ × Trace E U = (n, grown_at m y es) in
@@ -238,7 +239,7 @@ module _ {M : Type 1} {𝓤 : Ura M} (𝓛 : Logic 𝓤) (Er Ur : RattleType) wh
           move ! (1 ∷ []) $ fsplit ! $ move ! (3 ∷ []) $ fsplit ! $ move ! (4 ∷ 2 ∷ 3 ∷ 0 ∷ 1 ∷ []) $
           by ! (grows γ k may n (to n) m m.word n (λ id vs meets here. allows id n m vs meets here small)).prf)).prf)))
 
--- the same if the word next to the trace is a number
+-- the same for a step on the word next to the trace, if this word is a number
 module _ {M : Type 1} {𝓤 : Ura M} (𝓛 : Logic 𝓤) (Er R : RattleType) (L : RowLaws R) (b o : ℕ) (t : Id) {V : Type 0} (cv : Coded V)
     (holds : ℕ → Trace Er.Denot ℕ → List V → Type 0) (ways : Ways R.Denot V (Trace Er.Denot ℕ)) (view : Option V) (v : Option R.Denot)
     (told : List Er.Denot → List Er.Denot → ℕ → V → Type 0) where

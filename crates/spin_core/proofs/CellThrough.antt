@@ -1,5 +1,5 @@
--- The borrow of the value leaves a write permit, either for the rest of the cell's borrow or for a borrow of the permit. In the second case
--- the permit follows the borrowed value. Assumes `Logic`.
+-- How the borrow of the value is taken out of a write permit, either for the rest of the cell's borrow or for a
+-- borrow of the permit. In the second case the permit follows the borrowed value. Assumes `Logic`.
 use Rattle.std.proofs.Common.{◌≡◌, ℕ, ◌+◌, List, [], ◌∷◌, ◌++◌, refl}
 use seplogic.Ra.Ura.{Ura}
 use mir.Syntax.{Lifetime}
@@ -82,7 +82,8 @@ module _ {M : Type 1} {𝓤 : Ura M} (𝓛 : Logic 𝓤) where
       Parts-in t z = script ∵ drop ! $ fjoin ! $ move ! (1 ∷ []) $
           use1 𝓛 (raw (Again t z)) (all_e 𝓤 (Again t) z) $ move ! (1 ∷ 0 ∷ []) $ by ! (apply∗ 𝓤 ⟦ tracked R c e t z ⟧ (Whole z))
 
-      -- a reference to the inner value, which lasts as long as the outer one, and which the outer one follows
+      -- A reference to the value in the permit. It lasts as long as the reference m to the object that has the
+      -- permit. This object follows the value.
       abbrev Lending : R.Denot → GName → Item 𝓤
       Lending x δ = ‵ ((MutRef ℓ κ R).own_val (renamed (inside x) δ) (mut_vals (inside x))) ⊛ ‵ (flft κ q) ⊛ ‵ (follows G R m.ghost_name δ F)
 

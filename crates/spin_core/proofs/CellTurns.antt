@@ -21,12 +21,12 @@ use Rattle.spin_core.proofs.Signs.{signs}
 use Rattle.spin_core.proofs.WalkSteps.{knows}
 use Rattle.spin_core.proofs.Lemmas.{script, lemma, update, cite, updates, renew, settled}
 
--- the number of readers with one more party, which uses the value in this way
+-- the number of readers, if a party with this use joins r readers
 abbrev pub with_reader : Use → ℕ → ℕ
 with_reader reads r = suc r
 with_reader _ r = r
 
--- the number of writers with one more party, which uses the value in this way
+-- the number of writers, if a party with this use joins w writers
 abbrev pub with_writer : Use → ℕ → ℕ
 with_writer writes w = suc w
 with_writer _ w = w
@@ -50,7 +50,8 @@ module _ {X : Type 0} where
   none_else : (u : Use) (way : Way X) (r w : ℕ) → u ≢ off → Lim way r w u → w ≡ 0
   none_else u way r w on lim = grind arith
 
-  -- how many readers there are when a party takes its part; in the way `fixes` a reader takes its part from a part of another reader
+  -- How many readers the state has when a party with the use u takes its part. In the way `fixes` a new reader is
+  -- counted already: it cuts its part from the part in the state.
   abbrev room : Way X → Use → ℕ → ℕ
   room (fixes facts) reads r = suc r
   room _ u r = r
@@ -109,7 +110,7 @@ module _ {M : Type 1} {𝓤 : Ura M} (𝓛 : Logic 𝓤) (R : RattleType) (L : R
   abbrev seen_on : (Bool → X → Type 0) → ℕ → Round R → Fml
   seen_on facts r s = fsep (remains R facts γ s r) (shared R b o t s)
 
-  -- a party that uses the value is shown one
+  -- a party that uses the value is shown a value: it never has `ffalse`
   never : (P : Fml) (k : Item 𝓤) → ‵ P ⊛ ‵ ffalse ⊫ k
   never P k = update (via 𝓤 _ (snd∗ 𝓤 ⟦ P ⟧ ⟦ ffalse ⟧) (never_e 𝓤 _))
 

@@ -73,7 +73,8 @@ module _ {M : Type 1} {𝓤 : Ura M} (𝓛 : Logic 𝓤) (𝓜 : Model 𝓤 𝓛
   abbrev pub Known : Watch Er.Denot → Fml
   Known s = steps.Known 𝓛 Er Ur s.name s.entries
 
-  -- a step of the party with this permit and this watch; its tokens are those of its cell and of its value's type
+  -- A step of the party with this permit and this watch. Its two tokens are of the cell's borrow β, and of a lifetime
+  -- τ of the value's type.
   module _ (b o : ℕ) (h : Hr.Denot) (q : Share) (τ : Lft) (r : Share) (seen : Watch Er.Denot)
       (told : List Er.Denot → List Er.Denot → ℕ → W.Denot → Type 0) where
     abbrev ways : Ways R.Denot W.Denot Sr.Denot
@@ -85,7 +86,7 @@ module _ {M : Type 1} {𝓤 : Ura M} (𝓛 : Logic 𝓤) (𝓜 : Model 𝓤 𝓛
     abbrev Owned : Option W.Denot → Option R.Denot → Fml
     Owned view v = permit_owns Y R W.coded.code Sr (g.holds h.key) ways β here view v
 
-    -- three things: why parties may share the value, the cell's names, and a share of its lifetime's token
+    -- three things: why parties may share the value, the cell's ghost names, and a share of the token of its lifetime
     abbrev Entry : Type 0
     Entry = Shares ways Y Sr R × (Id × Share)
 
@@ -108,7 +109,7 @@ module _ {M : Type 1} {𝓤 : Ura M} (𝓛 : Logic 𝓤) (𝓜 : Model 𝓤 𝓛
       abbrev Gives : SProp 𝓤
       Gives = A.lft t.life k.1.1 -∗ H.⇛ (A.lft β q)
 
-      -- what the step leaves of the cell, with the watch, if it found this number
+      -- what the step leaves if it found the number n: the token of the cell's lifetime, and what `watched` says
       abbrev left : ℕ → Fml
       left n = fsep alive (steps.watched 𝓛 Er Ur R LR.shr_laws b o t W.coded (g.holds h.key) ways h.view h.value told seen.name seen.entries n)
 
@@ -128,7 +129,8 @@ module _ {M : Type 1} {𝓤 : Ura M} (𝓛 : Logic 𝓤) (𝓜 : Model 𝓤 𝓛
         cite _ (readies 𝓛 R b o t R.lives (LR.shares 𝓛) u ways.0 h.value t.life s τ r (Incl-refl t.life) le) $ await ! tt $ split3 ! $
         move ! (3 ∷ 0 ∷ []) $ fjoin ! $ now ! $ having ! Entered (known, (t, s)) $ move ! (5 ∷ 1 ∷ 0 ∷ 4 ∷ 3 ∷ 2 ∷ []) $ done !)))
 
-    -- what holds of a permit at its new view and value: the step tells it, and a value that it keeps using is the same
+    -- What holds of a permit at its new view and value: what the step tells of them. The value is the same if the
+    -- party goes on using it.
     abbrev Closed : (W.Denot → Option R.Denot → Type 0) → W.Denot × Option R.Denot → Type 0
     Closed tells s = tells s.0 s.1 × Keeps ways h.view (Some s.0) h.value s.1
 
@@ -149,10 +151,11 @@ module _ {M : Type 1} {𝓤 : Ura M} (𝓛 : Logic 𝓤) (𝓜 : Model 𝓤 𝓛
         fpack ! (Shares ways Y Sr R) (λ _. fex Id (At (Some s.0) s.1)) k.0 $
         holding ! so $ pack ! (Left tells) s $ now ! $ done !))
 
-    -- what the step tells and the party learns of the value, for a watch that knows these entries
+    -- what the party learns of the value, if the trace has these entries after the step
     abbrev finds : List Er.Denot → W.Denot → Option R.Denot → Type 0
     finds es w x = Learnt ways.2 (use_of ways.1 h.view) (ways.1 w) h.value x es
 
+    -- what the step tells, if it returns the watch with this name and these entries
     abbrev then : ℕ × List Er.Denot → ℕ → W.Denot → Type 0
     then l = Watches (Named (g.holds h.key) ways seen.name) seen (knowing l) told
 
@@ -164,7 +167,7 @@ module _ {M : Type 1} {𝓤 : Ura M} (𝓛 : Logic 𝓤) (𝓜 : Model 𝓤 𝓛
     Tokens os = ‵ (flft β q) ⊛ ‵ (flft τ r) ⊛ ‵ os
 
     module _ {K : Type 0} {Γ : List (Item 𝓤)} {G : Goal 𝓤 𝓛.H} where
-      -- the permit at its new view and the watch, and all tokens
+      -- after the step the walk goes on with the permit at its new view, the watch, and all tokens
       closes : K → Soaks G → (k : Entry) (n : ℕ) (os : Fml) → ((s : W.Denot × Option R.Denot) (l : ℕ × List Er.Denot)
           → Seq K 𝓛 (‵ (Wr.own_val (knowing l) (token ∷ [])) ∷ Tokens os ∷ ‵ (Hr.own_val (next h b o s) (hand_of here ∷ [])) ∷ Says l n s ∷ Γ) G)
           → Seq K 𝓛 (‵ (left k n) ∷ raw (back k) ∷ ‵ os ∷ Γ) G
@@ -196,7 +199,8 @@ module _ {M : Type 1} {𝓤 : Ura M} (𝓛 : Logic 𝓤) (𝓜 : Model 𝓤 𝓛
     both s l uss = fsep (feq (List Val) (pair_of ∷ []) (vstruct (of_list (uss.0 ++ (uss.1.0 ++ []))) ∷ []))
         (owns (Hr ∷ Wr ∷ []) (next h b o s, (knowing l, tt)) uss)
 
-    -- How a walk closes the permit, from what the step leaves by the number found, and from what the walk put aside.
+    -- How a walk closes the permit. `leaves` says what the step leaves for each number that it may find. `rest` is
+    -- what the walk put aside when it opened the permit.
     pub record Closes (leaves : ℕ → Fml) (rest : SProp 𝓤) : Type 2 where
       pub found : {K : Type 0} {Γ : List (Item 𝓤)} {G : Goal 𝓤 𝓛.H} → K → Soaks G → (n : ℕ) → n < 2 ^ 64 → (os : Fml)
           → ((s : W.Denot × Option R.Denot) (l : ℕ × List Er.Denot) → Seq K 𝓛 (Tokens os ∷ ‵ (fex (Valss (u64 ∷ Hr ∷ Wr ∷ [])) (all n s l)) ∷ Says l n s ∷ Γ) G)
@@ -223,7 +227,7 @@ module _ {M : Type 1} {𝓤 : Ura M} (𝓛 : Logic 𝓤) (𝓜 : Model 𝓤 𝓛
           fpack t (Valss (Hr ∷ Wr ∷ [])) (both v l) (hand_of here ∷ [], (token ∷ [], tt)) $ move t (1 ∷ []) $ go v l);
     }
 
-    -- what the machine's step on this word asks
+    -- the party has what the machine's step on the word `at` asks
     pub record Asked (at : Ptr) (f : ℕ → ℕ) : Type 1 where
       pub step : (k : Entry) → ‵ (finv (Inv k)) ⊛ ‵ (alive k) ⊛ ‵ (fsep (Mine k) (Known seen)) ⊩ raw (asks 𝓛 at f always (left k))
 
@@ -278,7 +282,7 @@ module _ {M : Type 1} {𝓤 : Ura M} (𝓛 : Logic 𝓤) (ℓ : NamedLft) (T W Y
   abbrev Row : RattleType
   Row = hand.the_row ℓ (param 0 T) W Y Kr Sr g
 
-  -- a step begins with the permit, two tokens and the others, and the other arguments
+  -- the walk of a step begins with the permit, its two tokens, the other tokens, and the other arguments
   pub begins_with : {K : Type 0} → K → (n : ℕ) (φs : Facts n) (h : Row.Denot) {q r : Share} {τ : Lft} {os words rest : Fml} {Asked : Type 0} {G : Goal 𝓤 𝓛.H}
       → (let Owned : Ptr → Fml = λ p. permit_owns Y (param 0 T) W.coded.code Sr (g.holds h.key) (g.ways h.key) ℓ.lft p h.view h.value in
       (Asked → τ ⊑ T.lives → InBlock h.cell

@@ -1,4 +1,5 @@
--- Lemmas of the logic as scripts prove and cite them. A script reads what a lemma asks and gives off the lemma, and does not repeat it.
+-- Lemmas of the logic in a form that scripts prove and cite. A script need not write out what a cited lemma asks and
+-- gives: both are read from the lemma.
 use Rattle.std.proofs.Common.{List, [], ◌∷◌, ◌++◌}
 use seplogic.Ra.Ura.{Ura}
 use base.Logic.{SProp, ent, sep, via, id⊢, mono_r, ex_i, guard_i, upd, upd_i}
@@ -36,22 +37,23 @@ module _ {M : Type 1} {𝓤 : Ura M} {𝓛 : Logic 𝓤} where
   pub updates : {i k : Item 𝓤} → Seq (Go {0}) 𝓛 (flat i) (prop (upd 𝓤 (mean 𝓛 k))) → Update 𝓛 i k
   updates {i} s = record { prf = via 𝓤 (⋆ 𝓛 (flat i)) (apart 𝓛 i) s.prf }
 
-  -- a script cites a lemma: what it asks stands first in the context, and what it gives takes that place
+  -- a script cites a lemma l: what l asks stands first in the context, and what l gives takes that place
   pub cite : {K : Type 0} {i k : Item 𝓤} {G : Goal 𝓤 𝓛.H} (Γ : List (Item 𝓤)) → Lemma 𝓛 i k → Step K 𝓛 (flat k ++ Γ) G (flat i ++ Γ) G
   cite {i = i} {k = k} Γ l = cut (flat i) (flat k) Γ (via 𝓤 (mean 𝓛 i) (joined 𝓛 i) (via 𝓤 (mean 𝓛 k) l.prf (apart 𝓛 k)))
 
-  -- the goal is that there is an x with F x: this x
+  -- the goal `some F` becomes F x, for this x
   pub having : {K : Type 0} → K → {Γ : List (Item 𝓤)} {X : Type 0} (F : X → Item 𝓤) (x : X) → Step K 𝓛 Γ (prop (mean 𝓛 (F x))) Γ (prop (mean 𝓛 (some F)))
   having t F x = step (λ s. record { prf = via 𝓤 (mean 𝓛 (F x)) s.prf (ex_i 𝓤 (λ y. mean 𝓛 (F y)) x) })
 
-  -- the head is F x, so there is an x with F x; and a fact is kept with the head
+  -- the item F x at the head of the context becomes `some F`
   pub pack : {K : Type 0} → K → {Γ : List (Item 𝓤)} {G : Goal 𝓤 𝓛.H} {X : Type 0} (F : X → Item 𝓤) (x : X) → Step K 𝓛 (some F ∷ Γ) G (F x ∷ Γ) G
   pack t {Γ = Γ} F x = cut (F x ∷ []) (some F ∷ []) Γ (ex_i 𝓤 (λ y. mean 𝓛 (F y)) x)
 
+  -- the item i at the head of the context becomes `given φ i`: it now has the fact φ with it
   pub holding : {K : Type 0} → K → {Γ : List (Item 𝓤)} {G : Goal 𝓤 𝓛.H} {φ : Type 0} {i : Item 𝓤} → φ → Step K 𝓛 (given φ i ∷ Γ) G (i ∷ Γ) G
   holding t {Γ = Γ} {φ = φ} {i = i} x = cut (i ∷ []) (given φ i ∷ []) Γ (guard_i 𝓤 φ (mean 𝓛 i) x)
 
-  -- the goal is an update to `to`: a lemma that updates is cited; and nothing is left to update
+  -- while the goal is an update to `to`, a script cites a lemma that updates
   pub renew : {K : Type 0} {i k : Item 𝓤} (to : Item 𝓤) (Γ : List (Item 𝓤)) → Update 𝓛 i k
       → Step K 𝓛 (flat k ++ Γ) (prop (upd 𝓤 (mean 𝓛 to))) (flat i ++ Γ) (prop (upd 𝓤 (mean 𝓛 to)))
   renew {i = i} {k = k} to Γ l = let P : SProp 𝓤 = mean 𝓛 to in
@@ -59,6 +61,7 @@ module _ {M : Type 1} {𝓤 : Ura M} {𝓛 : Logic 𝓤} where
       let gives = cut {𝓛 = 𝓛} {G = prop (upd 𝓤 P)} (k ∷ []) (flat k) Γ (apart 𝓛 k) in
       step (λ s. asks.go ((settle 𝓛 P k).go (gives.go s)))
 
+  -- nothing is left to update: the goal is now P itself
   pub settled : {K : Type 0} → K → {Γ : List (Item 𝓤)} (P : SProp 𝓤) → Step K 𝓛 Γ (prop P) Γ (prop (upd 𝓤 P))
   settled t P = suffices t P (upd_i 𝓤 P)
 

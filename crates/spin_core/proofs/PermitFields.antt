@@ -1,4 +1,4 @@
--- The machine values of the two permits: a pointer to the cell and an empty marker. Assumes `Logic`.
+-- The machine value of a permit or a write permit: a pointer to the cell and an empty marker. Assumes `Logic`.
 use Rattle.std.proofs.Common.{arith, ◌&&◌, Bool, ◌≡◌, ℕ, T, List, [], ◌∷◌, ◌++◌, refl, sym, subst, ap, ◌∙◌, Option, Some, None}
 use seplogic.Ra.Ura.{Ura}
 use mir.Syntax.{ty_ptr, ty_struct, tcons, tnil}

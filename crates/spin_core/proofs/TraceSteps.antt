@@ -62,7 +62,7 @@ module _ {M : Type 1} {𝓤 : Ura M} (𝓛 : Logic 𝓤) where
     unfolding log_owns
     appends l es = update (latest_grows logs 𝓛 γ (map cv.code l) (map cv.code (l ++ es)) (prefix_coded cv l es))
 
-    -- what a reader has: some share of the right, and no more
+    -- a share of the right can be halved, so each `&` to the trace gets some share
     pub part_halves : (l : List T) → Halves 𝓤 H A (Right l)
     part_halves l = Cuts-Halves 𝓛 (Right l) (record {
       cut = λ q q₁ q₂ m. latest_cut logs 𝓛 q q₁ q₂ γ (map cv.code l) m;
@@ -87,7 +87,7 @@ module _ {M : Type 1} {𝓤 : Ura M} (𝓛 : Logic 𝓤) where
         script ∵ use2 𝓛 (given (IsPrefix (map cv.code k) (map cv.code l)) (‵ top ⊛ ‵ had)) (latest_bounds logs 𝓛 q γ (map cv.code l) (map cv.code k)) $
         learn ! (λ p. check ! (prefix_uncoded cv k l p) $ split ! $ keep ! (0 ∷ []) $ cite _ (shows q l) $ done !)
 
-    -- who appends learns that what a watch knew is a prefix of the log
+    -- the owner of the whole right learns that what a watch knows is a prefix of the log
     pub observes_whole : (l k : List T) → ‵ (Log l) ⊛ ‵ (Known k) ⊩ given (IsPrefix k l) (‵ (Log l) ⊛ ‵ (Known l))
     unfolding log_owns
     observes_whole l k = observes full_share l k

@@ -1,4 +1,5 @@
--- The machine value of a token, how a walk over tokens ends, and what a shared token lends. Assumes `Logic`.
+-- A token is a value without bytes, such as a `Watch`. Here are its machine value, how a walk over tokens ends, and
+-- what a `&` to a token lends. Assumes `Logic`.
 use Rattle.std.proofs.Common.{◌≡◌, List, [], ◌∷◌, ◌++◌, refl, ap, ◌∙◌}
 use seplogic.Ra.Ura.{Ura}
 use mir.Val.{Val, vstruct, vcons, vnil, of_list}

@@ -1,4 +1,5 @@
--- The word next to a trace, in memory: it is where the trace is, and the trace may get another word. Assumes `Logic`.
+-- The word next to a trace, in memory: it lies at the trace's address, and another word may replace it. Assumes
+-- `Logic`.
 use Rattle.std.proofs.Common.{ℕ, zero, ◌+◌, List, [], ◌∷◌}
 use seplogic.Ra.Ura.{Ura}
 use mir.Val.{Val}

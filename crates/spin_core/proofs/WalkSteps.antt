@@ -23,7 +23,7 @@ module _ {M : Type 1} {𝓤 : Ura M} {𝓛 : Logic 𝓤} {K : Type 0} {Γ : List
   pub knows : K → (φ : Type 0) → φ → Step K 𝓛 (‵ (fex φ (λ _. ftrue)) ∷ Γ) G Γ G
   knows t φ holds = record { go = λ s. nothing t $ fpack t φ (λ _. ftrue) holds $ s }
 
-  -- if a null pointer owns nothing of this kind, a party that owns it has a pointer into a block
+  -- if F is false of the null pointer, each pointer that has F points into a block
   pub lies : K → (F : Ptr → Fml) → F null_ptr ≡ ffalse → (p : Ptr) → (InBlock p → Seq K 𝓛 (‵ (F p) ∷ Γ) G) → Seq K 𝓛 (‵ (F p) ∷ Γ) G
   lies t F never (block_ptr b o) go = go tt
   lies t F never null_ptr go = rewrite t 0 (λ (P : Fml). ‵ P) never refl $ use1 𝓛 (given ⊥ (‵ ftrue)) (never_e 𝓤 _) $ learn t (λ no. absurd no)
@@ -33,7 +33,7 @@ module _ {M : Type 1} {𝓤 : Ura M} {𝓛 : Logic 𝓤} {K : Type 0} {Γ : List
   lies_at t F never (block_ptr b o) go = go tt
   lies_at t F never null_ptr go = lies t F never null_ptr (λ no. absurd no)
 
--- facts that a walk does not use, and behind them what it uses
+-- n facts that a walk does not use; in `after_facts` they stand before P, which the walk uses
 abbrev pub Facts : ℕ → Type 1
 Facts zero = Unit {1}
 Facts (suc n) = Type 0 × Facts n
@@ -47,7 +47,7 @@ module _ {M : Type 1} (𝓤 : Ura M) (P : SProp 𝓤) where
   last_fact zero φs = id⊢ 𝓤 P
   last_fact (suc n) φs = via 𝓤 (after_facts n φs.1) (snd∗ 𝓤 (fact 𝓤 φs.0) (after_facts n φs.1)) (last_fact n φs.1)
 
-  -- a requirement of which a walk uses nothing
+  -- for a walk that uses nothing of the requirement P
   pub unasked : ent 𝓤 P (fact 𝓤 (Unit {0}))
   unasked = via 𝓤 (sep 𝓤 (emp 𝓤) P) (emp∗ 𝓤 P) (via 𝓤 (emp 𝓤) (fst∗ 𝓤 (emp 𝓤) P) (fact_i 𝓤 (Unit {0}) (emp 𝓤) tt))
 
@@ -62,8 +62,8 @@ first_and_last 𝓤 φ ψ n φs = let First : SProp 𝓤 = fact 𝓤 φ in let L
 pub last_two : {M : Type 1} (𝓤 : Ura M) (φ ψ : Type 0) (n : ℕ) (φs : Facts n) → ent 𝓤 (after_facts 𝓤 (sep 𝓤 (fact 𝓤 φ) (fact 𝓤 ψ)) n φs) (fact 𝓤 (φ × ψ))
 last_two 𝓤 φ ψ n φs = via 𝓤 (sep 𝓤 (fact 𝓤 φ) (fact 𝓤 ψ)) (last_fact 𝓤 (sep 𝓤 (fact 𝓤 φ) (fact 𝓤 ψ)) n φs) (first_and_last 𝓤 φ ψ 0 tt)
 
--- The walk of a function that takes a permit first learns what the contract asks. A null pointer owns nothing of this kind, so the permit's
--- pointer points into a block.
+-- The walk of a function that takes a permit first learns what the contract asks. What a permit owns (F) is false of
+-- the null pointer, so the permit's pointer points into a block.
 module _ {M : Type 1} {𝓤 : Ura M} {𝓛 : Logic 𝓤} {K : Type 0} {toks words rest : Fml} {Req : SProp 𝓤} {φ : Type 0} {G : Goal 𝓤 𝓛.H} where
   heard_of : K → {F : Fml} → ent 𝓤 Req (fact 𝓤 φ) → (φ → Seq K 𝓛 (‵ F ∷ ‵ toks ∷ ‵ rest ∷ []) G)
       → Seq K 𝓛 (‵ toks ∷ ‵ (fsep (fsep words F) rest) ∷ raw Req ∷ []) G

@@ -1,5 +1,5 @@
--- How a walk begins and ends, for a function that keeps none of its arguments: the contract says nothing of them at the exit.
--- Assumes `Logic`.
+-- A walk proves a function by hand, statement by statement. Here is how it begins and ends, for a function of whose
+-- arguments the contract says nothing at the exit. Assumes `Logic`.
 use Rattle.std.proofs.Common.{◌≡◌, ℕ, zero, suc, List, [], ◌∷◌, refl, sym, ap, subst, w64}
 use seplogic.Ra.Ura.{Ura}
 use mir.Syntax.{Fn, Callee, Lifetime}
@@ -33,7 +33,7 @@ abbrev pub others : (n : ℕ) → Lfts n → Shares n → Fml
 others zero κs qs = ftrue
 others (suc n) κs qs = fsep (flft κs.0 qs.0) (others n κs.1 qs.1)
 
--- how the machine stores a parameter: its value says in which machine values
+-- how the machine stores a parameter of this type: as machine values that depend only on the parameter's value
 abbrev pub Spelled : RattleType → Type 0
 Spelled R = (vals : R.Denot → List Val) × Tells R (Is R) vals
 
@@ -72,7 +72,7 @@ module _ {n : ℕ} where
   fits (s ∷ ss) ks κs a ws = (tt, fits ss ks.1 κs a.1 ws.1)
 
   module _ {M : Type 1} {𝓤 : Ura M} (𝓛 : Logic 𝓤) where
-    -- the contract says nothing of these parameters
+    -- the contract says nothing of these parameters at the exit
     abbrev pub AllSilent : (ss : List (Slot n)) → Kepts ss → Type 1
     AllSilent [] ks = Unit {1}
     AllSilent (s ∷ ss) ks = Silent 𝓛 n s ks.0 × AllSilent ss ks.1
@@ -101,8 +101,8 @@ module _ {M : Type 1} {𝓤 : Ura M} (𝓛 : Logic 𝓤) (T : Ended) (c : Clause
   abbrev 𝓣 : MachineTables 𝓤 H 𝓜
   𝓣 = tables 𝓤 H 𝓜 𝓡 𝓡.env
 
-  -- The walk is given its parameters and where it has to arrive. It begins when the locals are allocated. It ends with the tokens, the
-  -- result and the `ensures`.
+  -- The walk is given the function's parameters and the postcondition. It begins with the allocation of the locals.
+  -- It ends with the tokens, the result and the `ensures`.
   pub walks : AllSilent 𝓛 S.params T.kept → (k : Callee) (e : Fn) → Closed 𝓤 H 𝓣.C 𝓣.Λ k e → (sp : (κs : Lfts S.lifetimes) → AllSpelled (types_at S.params κs))
       → ((κs : Lfts S.lifetimes) (qs : Shares S.lifetimes) → AllOutlive S.lifetimes S.outlives κs → (a : Args S κs) (g : (c κs a).ghost)
       → let Rs = types_at S.params κs in let vss = valss Rs (spells Rs (sp κs)) a in let toks = others S.lifetimes κs qs in

@@ -1,4 +1,4 @@
--- What a closure that ran under a lock answered.
+-- The answers that a closure may give when it runs under a lock.
 use Rattle.std.specs.Fn.{Once, FnOnceReturns}
 use denote.Ref.{Bor, MutBor}
 

@@ -9,14 +9,16 @@ pub data Use : Type 0 where
   reads : Use
   writes : Use
 
--- How the parties share a value of type X. `alone`: one user at a time. `lends`: many readers, or one writer. `fixes`: like `lends`, and a
--- party may also read for ever. Then `fact true` holds of a value that somebody reads, and `fact false` of a value that nobody uses.
+-- How the parties share a value of type X. `alone`: one user at a time. `lends`: many readers, or one writer.
+-- `fixes fact`: like `lends`, but a party may also read for ever. In this way `fact true` holds of a value that
+-- somebody reads, and `fact false` of a value that nobody uses.
 pub data Way (X : Type 0) : Type 1 where
   alone : Way X
   lends : Way X
   fixes : (Bool → X → Type 0) → Way X
 
--- what is known of a value that nobody writes: nothing, or a fact that relates the value to the `Second` of the cell, such as its trace
+-- What is known of a value that nobody writes: nothing, or a fact that relates the value to the cell's `Second`, such
+-- as a trace.
 pub data Knowledge (S X : Type 0) : Type 1 where
   no_fact : Knowledge S X
   knows : (S → X → Type 0) → Knowledge S X
@@ -107,8 +109,8 @@ module _ {X : Type 0} where
   Freeing no_fact A = A
   Freeing {S} (knows φ) A = ((m : S) (x : X) → φ m x) × A
 
-  -- What a step must show if the known fact is φ before it and ψ after it. A party that stops writing shows ψ of the value that it leaves.
-  -- Any other party shows that φ implies ψ.
+  -- What a step must show if the known fact is φ before it and ψ after it. A party that stops writing shows ψ of the
+  -- value that it leaves. A party that writes on shows nothing. Any other party shows that φ implies ψ.
   abbrev pub Carries : (X → Type 0) → (X → Type 0) → Use → Use → Option X → Type 0
   Carries φ ψ writes writes shown = Unit {0}
   Carries φ ψ writes _ None = Unit {0}
@@ -167,7 +169,8 @@ module _ {X : Type 0} where
   abbrev pub Preserves : Way X → Use → Use → Option X → Option X → Type 0
   Preserves way u v before after = Shows v before after × Finds way u v after
 
-  -- a step from one view to the next shows the value that it showed before, and tells a new user what `Finds` says
+  -- After a step from one view to the next, a party that goes on using the value is shown the same value. A new user
+  -- of the value learns what `Finds` says.
   abbrev pub Keeps : {V S : Type 0} → Ways X V S → Option V → Option V → Option X → Option X → Type 0
   Keeps ways view new before after = Preserves ways.0 (use_of ways.1 view) (use_of ways.1 new) before after
 
@@ -206,8 +209,8 @@ module _ {V : Type 0} where
   Rests holds f None = Unit {0}
   Rests {S} holds f (Some v) = (f v ≡ off) × ((n : ℕ) (m : S) (before behind : List V) → holds n m (before ++ v ∷ behind) → holds n m (before ++ behind))
 
--- What a step must show that applies f to a word; `shown` is the value that its party is shown, if any. Whatever the words and the views
--- are, the party has a next view that keeps the rule.
+-- What a step that applies f to a word must show. `shown` is the value that the step's party is shown, if any.
+-- Whatever the words and the views are, the party has a next view that keeps the rule.
 module _ {X V S : Type 0} (holds : ℕ → S → List V → Type 0) (ways : Ways X V S) (view : Option V) where
   -- a step on the first word
   abbrev pub AllowsAt : Option X → (ℕ → ℕ) → (ℕ → V → Type 0) → Type 0

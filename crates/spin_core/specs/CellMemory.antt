@@ -1,10 +1,14 @@
--- What a `Cell` shares, and what its permits own.
--- The cell is shared for a lifetime α. One invariant holds its words, a quarter of each party's view, and the state of the value.
--- In the way `alone` the state is the borrow of the value, or nothing while a writer has it.
--- In the way `lends` a value that nobody writes is shared for a lifetime a of its own. A reader has one of the 2^63 parts of a's token. A
--- writer ends the lifetime a, and begins the next one when it stops writing.
--- In the way `fixes` a reader has some part of a's token, never gives it back, and knows the fact.
--- Ghost names: ρ has the views. γ has a and the value, split like a's token. ν tracks the value as long as the cell is shared.
+-- What a `&` to a `Cell` owns, and what the cell's permits own.
+-- The cell is shared for a lifetime α. One invariant has the cell's words, a quarter of each party's view, and the
+-- state of the value.
+-- In the way `alone` the state is the borrow of the value, or nothing while a writer has this borrow.
+-- In the way `lends` a value that nobody writes is shared for a lifetime `a` of its own. This lifetime and the value
+-- are a *round* (not one of a schedule). A reader has one of the 2^63 parts of the token of `a`. A writer ends the
+-- lifetime `a`. When it stops writing, it begins the next round.
+-- In the way `fixes` there are rounds too. A reader has some part of the token of `a`, never gives this part back, and
+-- knows the fact.
+-- Ghost names: ρ has the views. γ has the round, split like the token of `a`. ν tracks the value while the cell is
+-- shared.
 use Rattle.std.specs.Prelude.{◌≡◌, Bool, true, false, ℕ, zero, suc, ◌+◌, ◌-◌, ◌^◌, [], ◌∷◌, List, Option, Some, None}
 use base.Fraction.{full_share}
 use base.FractionLaws.{Counts}
@@ -25,11 +29,11 @@ use types.Keyed.{entries_from}
 use base.Share.{quarter}
 use Rattle.spin_core.specs.Cell.{Use, off, reads, writes, Way, alone, lends, fixes, Ways, IsShared, IsKnown, use_of, readers_of, writers_of, Meets, Starts}
 
--- the place of the value, behind the first word
+-- the place of the value, after the first word
 abbrev pub offset : RattleType → ℕ
 offset R = up (align (lone R.mir)) 8
 
--- the place of the second word's data, behind the value
+-- the place of the `Second`, after the value
 abbrev pub second_at : RattleType → RattleType → ℕ
 second_at S R = up (align (lone S.mir)) (offset R + size (lone R.mir))
 
@@ -41,19 +45,19 @@ Common R = (x : R.Denot) (b e : ℕ) (κ : Lft) → Keyless (shared_of R x b e �
 abbrev pub Sends : RattleType → Type 0
 Sends S = (y : S.Denot) (vs : List Val) → Keyless (S.own_val y vs)
 
--- If parties share the value, or some view reads it, then the value's type is `Sync` wherever the rule's own type is. The second word's
--- data is `Send`.
+-- If parties share the value, or some view reads it, then the value's type is `Sync` wherever the rule's own type is.
+-- The cell's `Second` is `Send`.
 abbrev pub Known : {X V S : Type 0} → Ways X V S → RattleType → RattleType → RattleType → Type 0
 Known {V = V} ways Y S R = (IsShared ways.0 → Common Y → Common R) × ((v : V) → ways.1 v ≡ reads → Common Y → Common R) × Sends S
 
--- the names and lifetimes of the cell: α, γ, ρ and ν
+-- the cell's lifetime α (`life`), and its ghost names γ (`round`), ρ (`views`) and ν (`value`)
 pub record Id : Type 0 where
   pub life : Lft
   pub round : GName
   pub views : GName
   pub value : GName
 
--- the entries from k on, which belong to no party yet
+-- the entries of ρ from k on, which belong to no party yet
 abbrev pub unused : GName → ℕ → Gv → Fml
 unused ρ k g = entries_from halved ρ k (λ _. (full_share, g))
 
@@ -78,7 +82,8 @@ share R γ s e = fsep (flft (s.0 ∷ []) e) (tag γ e (round_code R s))
 abbrev pub parts : (R : RattleType) → GName → Round R → ℕ → Fml
 parts R γ s k = fex Share (λ e. fex (Counts 63 e k) (λ _. share R γ s e))
 
--- What a reader knows of its share. In the way `lends` it is one of 2^63 parts. In the way `fixes` the value satisfies the fact.
+-- What a reader knows of its share of the round. In the way `lends` the share is one of 2^63 parts. In the way
+-- `fixes` the value satisfies the fact.
 abbrev pub Part : {X : Type 0} → Way X → X → Share → Type 0
 Part alone x e = ⊥
 Part lends x e = Counts 63 e 1
@@ -87,7 +92,7 @@ Part (fixes fact) x e = fact true x
 abbrev pub piece : (R : RattleType) → Way R.Denot → GName → Round R → Fml
 piece R way γ s = fex Share (λ e. fex (Part way s.1 e) (λ _. share R γ s e))
 
--- what is left of a round after r parties have taken a part to read for ever
+-- what the cell still has of a round of which r parties have each taken a part, to read for ever
 abbrev pub remains : (R : RattleType) → (Bool → R.Denot → Type 0) → GName → Round R → ℕ → Fml
 remains R fact γ s zero = fex (fact false s.1) (λ _. share R γ s full_share)
 remains R fact γ s (suc r) = piece R (fixes fact) γ s
@@ -100,7 +105,7 @@ module _ (R : RattleType) (b o : ℕ) where
   shown x = shared_of R x b (o + offset R)
 
   module _ (t : Id) where
-    -- the value, under its name
+    -- the value in memory, under the ghost name ν
     abbrev pub named : Fml
     named = Body (mem R) b (o + offset R) t.value
 
@@ -167,7 +172,7 @@ module _ (R : RattleType) (b o : ℕ) where
         kept = beside (ends t.life) (always (fbor t.life inner))
 
 module _ (Y R : RattleType) {V : Type 0} (c : V → Gv) (S : RattleType) (holds : ℕ → S.Denot → List V → Type 0) (ways : Ways R.Denot V S.Denot) where
-  -- the cell's own fields; with them the rule holds of some views
+  -- what the owner of the cell has: the cell's fields, such that the rule holds of them and of some views
   abbrev pub cell_owns : (ℕ → S.Denot → R.Denot → Fml) → Fml
   cell_owns fields = fex (Known ways Y S R) (λ _. fex (ℕ × S.Denot × R.Denot) (λ s. fsep (fields s.0 s.1 s.2) (fact (Starts holds ways s.0 s.1 s.2))))
 

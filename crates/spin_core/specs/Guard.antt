@@ -1,4 +1,4 @@
--- The value of a guard, the guard with another value in its place, and the value that a hold keeps.
+-- The value of a guard, the guard with another value, and the value that a hold keeps.
 use Rattle.std.specs.Prelude.{◌≡◌, Option}
 use Rattle.spin_core.specs.Cell.{Use, writes}
 use Rattle.spin_core.specs.Writer.{with_value}

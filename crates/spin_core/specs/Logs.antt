@@ -1,4 +1,5 @@
--- What a log and its tokens own. The entries are kept as their codes, in an algebra that names no type parameter.
+-- What a trace (`log_owns`) and a watch (`known_owns`) own. The algebra has the codes of the entries, so it names no
+-- type parameter.
 use Rattle.std.specs.Prelude.{ℕ, List, [], ◌∷◌, map}
 use base.Fraction.{full_share}
 use base.Stored.{Gv, Coded}
@@ -16,7 +17,7 @@ logs = prefixes itself
 abbrev pub log_part : {T : Type 0} → (T → Gv) → ℕ → List T → Share → Fml
 log_part c γ l q = latest logs q γ (map c l)
 
--- what a `&` to a log owns: each reader has some share
+-- what a `&` to a log owns: some share of the right to append
 abbrev pub log_shares : {T : Type 0} → (T → Gv) → ℕ → List T → Lft → Fml
 log_shares c γ l = one (log_part c γ l)
 

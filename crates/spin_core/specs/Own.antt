@@ -1,5 +1,5 @@
--- A trace whose parties know which entries are their own. A party's number is its place among all parties that ever joined. Its mark is an
--- earlier length of the trace: a present party has made no entry from there on.
+-- A trace whose parties know which entries are their own. A party's *number* is its place among all parties that ever
+-- joined. Its *mark* is the length of the trace after its last step. The party has made no entry from there on.
 use Rattle.std.specs.Prelude.{◌≡◌, ℕ, suc, ◌≤◌, Option, Some, None, List, [], ◌∷◌, ◌++◌, length, map, drop, ◌==◌, if◌then◌else◌}
 use Rattle.spin_model.specs.declared.place.Seat.{Seat}
 use Rattle.spin_model.specs.declared.schedule.Move.{Move}
@@ -37,7 +37,7 @@ abbrev pub entries_by : {C V : Type 0} → ℕ → List (Entry C V) → List (En
 entries_by p [] = []
 entries_by p (e ∷ es) = if e.0 == p then e ∷ entries_by p es else entries_by p es
 
--- No present party has made an entry since its mark. Parties with numbers beyond the list have made no entry.
+-- Each party that has not left has made no entry since its mark. Parties with numbers beyond the list have made none.
 abbrev pub Rested : {C V X : Type 0} → List (Entry C V) → ℕ → List (Option (X × ℕ)) → Type 0
 Rested schedule k [] = (q : ℕ) → k ≤ q → entries_by q schedule ≡ []
 Rested schedule k (None ∷ us) = Rested schedule (suc k) us
@@ -55,12 +55,13 @@ module _ {W V C L A X S : Type 0} (m : Machine W V C L A) (seat_of : X → Seat 
   MadeNone log p None = entries_by p log ≡ []
   MadeNone log p (Some u) = (p ≡ u.1) × (entries_by p (drop u.2 log) ≡ [])
 
-  -- what a step tells: the party's number and new mark, that it made no entry between its last step and this one, and its moves in this
-  -- step with their outcomes
+  -- What a step tells: the party's number and its new mark; that the party made no entry between its last step and
+  -- this one; its moves in this step, with their outcomes.
   abbrev pub Tells : (List (Move C V) → List (Outcome A V) → ℕ → X → Type 0) → Option (Numbered X) → List (Entry C V) → List (Entry C V) → ℕ → Numbered X → Type 0
   Tells says view log es n v =
       (own : List (Move C V)) × (outs : List (Outcome A V)) × (es ≡ by_party v.1 own) × (v.2 ≡ length (log ++ es)) × MadeNone log v.1 view × AreOwn m own outs log es × says own outs n v.0
 
-  -- The lock's own rule holds, and the trace has this name. The trace is a schedule of the model that leads to this word and these parties.
+  -- The lock's own rule holds, and the trace has this name. The trace is a schedule of the model that leads to these
+  -- words and these views.
   abbrev pub Runs : (ℕ → S → List X → Type 0) → ℕ → ℕ → Trace (Entry C V) S → List (Numbered X) → Type 0
   Runs holds name n t vs = (t.name ≡ name) × holds n t.word (map (λ v. v.0) vs) × IsRun t.entries (n, t.word) vs

@@ -24,7 +24,8 @@ abbrev pub is_played : {V A : Type 0} → Outcome A V → Bool
 is_played Skipped = false
 is_played _ = true
 
--- a step on the first word, by f (the lock may have a second word); and one on the second word
+-- The words after a step that applied f to the first word. `on_second`: after a step that applied f to the second
+-- word.
 abbrev pub on_first : {S : Type 0} → (ℕ → ℕ) → ℕ × S → ℕ × S
 on_first f s = (f s.0, s.1)
 

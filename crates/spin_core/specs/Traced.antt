@@ -1,4 +1,5 @@
--- A cell whose `Second` is a trace. What a step must show that changes a word and appends to the trace, and what the step tells.
+-- A cell whose `Second` is a trace. A step changes a word and appends to the trace: what it must show, and what it
+-- tells.
 use Rattle.std.specs.Prelude.{◌≡◌, ◌⊎◌, ℕ, ◌<◌, List, [], ◌++◌, Option}
 use mathlib.Core.List.{IsPrefix}
 use Rattle.spin_core.specs.declared.trace.Trace.{Trace}
@@ -15,8 +16,9 @@ module _ {E S : Type 0} where
   grown_at t word es = record { word = word; marker = t.marker; name = t.name; entries = t.entries ++ es }
 
 module _ {E : Type 0} where
-  -- A watch that knew `before` now knows `now`: the trace before the step (log), and the entries that the step appended (es). If `before`
-  -- was a watch of this trace, `now` has the same name.
+  -- A step got the watch `before`, and returned the watch `now`. `now` knows the trace before the step (log), which
+  -- begins with what `before` knew, and the entries that the step appended (es). `told` holds of log and es. If
+  -- `before` was a watch of this trace (`named`), `now` has the same name.
   abbrev pub Watches : {V : Type 0} → Type 0 → Watch E → Watch E → (List E → List E → ℕ → V → Type 0) → ℕ → V → Type 0
   Watches named before now told n v = (named → now.name ≡ before.name) × ((log es : List E) × IsPrefix before.entries log × (now.entries ≡ log ++ es) × told log es n v)
 
@@ -38,8 +40,8 @@ module _ {X V E S : Type 0} (holds : ℕ → Trace E S → List V → Type 0) (w
   abbrev pub MayKnow : Watch E → Type 0
   MayKnow seen = (seen.entries ≡ []) ⊎ Named seen.name
 
-  -- What a step must show that applies f to the first word. Whatever the words, the trace and the views are, there are a next view for the
-  -- party and entries to append that keep the rule.
+  -- What a step that applies f to the first word must show. Whatever the words, the trace and the views are, there
+  -- are a next view for the party and entries to append that keep the rule.
   abbrev pub Traces : Option V → Option X → (ℕ → ℕ) → (List E → List E → ℕ → V → Type 0) → Type 0
   Traces view shown f told = (id n : ℕ) (t : Trace E S) (vs : List V) → Meets holds ways n t vs → Stands id view vs → n < words
       → (w : V) × (es : List E) × Going ways.0 (use_of ways.1 view) (ways.1 w) shown (readers_of ways.1 vs)

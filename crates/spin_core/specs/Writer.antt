@@ -1,4 +1,4 @@
--- A write permit with another value in its place.
+-- A write permit with another value.
 use Rattle.spin_core.specs.declared.cell.WritePermit.{WritePermit}
 
 module _ {T V P K S : Type 0} where

@@ -26,7 +26,7 @@ pub use steps::Play;
 pub trait Rule<T, V> {
     // What is fixed when a cell is made. For a lazy value this includes the closure.
     type Key;
-    // What stands behind the value: a trace, or a trace with a second word. A trace alone has no bytes.
+    // What follows the value in memory: a trace, or a trace with a second word. A trace without a word has no bytes.
     type Second;
     // What holds of the first word, of the `Second`, and of the views of all parties.
     ghost holds: { Self.Key → ℕ → Self.Second → List V → Type 0 };
@@ -38,8 +38,8 @@ pub trait Rule<T, V> {
     ghost lent: { Self.Key → Self.Key };
 }
 
-/// A cell: a word, a value, and a trace, which may have a second word. Only a party with a permit touches the
-/// value.
+/// A cell: a word, a value, and a trace, which may have a second word. While the cell is shared, the value is
+/// reached only through permits.
 ///
 /// A clause refers to a cell by its key.
 pub struct Cell<T, V, P: Rule<T, V>> {
@@ -148,8 +148,8 @@ impl<T, V, E, S, P: Rule<T, V, Second = Trace<E, S>>> Cell<T, V, P> {
     /// Returns a watch of the cell's trace that knows no entries yet.
     ///
     /// # Contract
-    /// The caller chooses `name`. It has to be the name that the rule gives the trace of a cell with this
-    /// key.
+    /// The caller chooses `name`. If the rule gives the trace this name, each step that is passed the watch returns
+    /// one with the same name (`Watches`).
     pub fn watch(&self) -> Watch<E>
         ghost name: { ℕ }
         ensures { (result.name ≡ name) × (result.entries ≡ []) }
@@ -219,7 +219,7 @@ impl<'a, T, V, P: Rule<T, V>> Permit<'a, T, V, P> {
         )
     }
 
-    /// Turns the permit of a party that has the value alone into the right to write it.
+    /// Turns the permit of a party that writes the value into a write permit.
     pub fn into_writer(self) -> WritePermit<'a, T, V, P>
         requires { use_of (P.ways self.key).1 self.view ≡ writes }
         ensures same { (Some result.view ≡ self.entry.view) × (Some result.value ≡ self.entry.value) }
@@ -274,7 +274,7 @@ impl<'a, T, V, P: Rule<T, V>> WritePermit<'a, T, V, P> {
         unsafe { &mut *(&raw const (*cell).value as *mut T) }
     }
 
-    /// Turns the right to write back into a permit.
+    /// Turns the write permit into a permit again.
     pub fn into_permit(self) -> Permit<'a, T, V, P>
         ensures use_of_view { (P.ways self.entry.key).1 self.entry.view ≡ writes }
         ensures same { (result.view ≡ Some self.entry.view) × (result.value ≡ Some self.entry.value) }
@@ -305,7 +305,7 @@ impl<T, V, P: Rule<T, V>> WritePermit<'_, T, V, P> {
     }
 }
 
-// Forgets a `Second`, a type that need not be `Drop`.
+// Forgets a `Second`, whose type need not be `Drop`.
 pub(crate) fn let_go<S>(second: S) {
     let _gone = unsafe { ManuallyDrop::new_unchecked(second) };
 }
@@ -333,5 +333,5 @@ unsafe impl<T, V, P: Rule<T, V> + Sync> Sync for Permit<'_, T, V, P> {}
 // SAFETY: the new thread has the value alone, as the old one had.
 unsafe impl<T: Send, V, P: Rule<T, V> + Sync> Send for WritePermit<'_, T, V, P> {}
 
-// SAFETY: a `&` to it lends a `&T` and no more.
+// SAFETY: a `&` to a write permit lends a `&T` and no more.
 unsafe impl<T: Sync, V, P: Rule<T, V>> Sync for WritePermit<'_, T, V, P> {}

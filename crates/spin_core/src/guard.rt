@@ -1,4 +1,4 @@
-//! The guard of a party that writes, and a hold without a guard, for every lock over a `Cell`. A lock
+//! The guard of a party that writes, and a hold without a guard, for any lock over a `Cell`. A lock
 //! implements [`Release`], and names its [`Guard`] and [`Held`] by type aliases. Begin at [`Release`].
 ghost use Rattle.std.specs.Prelude.{◌≡◌, Option, Some};
 ghost use Rattle.spin_core.specs.Cell.{Use, writes, use_of};

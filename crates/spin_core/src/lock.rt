@@ -1,4 +1,4 @@
-//! Traits for code that takes any lock. Begin with [`Lock`], which each mutex of this library and its `RwLock`
+//! Traits for code that takes any lock. Begin with [`Lock`], which each mutex of the crate `spin` and its `RwLock`
 //! implement.
 ghost use Rattle.std.specs.Prelude.{◌≡◌, is_some, is_ok, MatchResult};
 ghost use Rattle.spin_core.specs.Calls.{AnswersOf, AnswersOfShared};

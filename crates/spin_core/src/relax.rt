@@ -73,8 +73,8 @@ pub trait RelaxStrategy {
         Self::retry_after(rt, state, |_| 1, attempt)
     }
 
-    /// Like [`retry`](RelaxStrategy::retry), but the closure `pause` gives the hints of the pause before each
-    /// attempt, by the state.
+    /// Like [`retry`](RelaxStrategy::retry), but the closure `pause` computes from the state how many hints the
+    /// pause before each attempt has.
     ///
     /// It is not inlined, since that would lengthen the path of each caller that does not wait.
     ///

@@ -1,4 +1,4 @@
-//! Steps that end the permit of a party whose request fails. Begin with [`Permit::attempt`].
+//! Steps that also end the permit: a load, and an exchange that fails. Begin with [`Permit::attempt`].
 ghost use Rattle.std.specs.Prelude.{◌≡◌, ◌≢◌, ◌==◌, ℕ, List, Some, IfOk, IfErr};
 ghost use prog.Atomic.{either};
 ghost use Rattle.spin_core.specs.Cell.{Rests, Moved, Keeps};

@@ -1,4 +1,4 @@
--- A `&` to a cell is made from a borrow of the cell, whatever the words are. Assumes `Logic`.
+-- A full borrow (`fbor`) of a cell becomes what a `&` to the cell owns, whatever the words are. Assumes `Logic`.
 use Rattle.std.proofs.Common.{◌≡◌, ℕ, zero, suc, ◌+◌, ◌<◌, List, [], ◌∷◌, ◌++◌, Option, Some, None, sym, subst, arith}
 use seplogic.Ra.Ura.{Ura}
 use mir.Syntax.{Ty}
@@ -83,7 +83,8 @@ module _ {M : Type 1} {𝓤 : Ura M} (𝓛 : Logic 𝓤) (m ms : Member) (V Y K 
   abbrev Starting : ℕ × S.Denot × R.Denot → Type 0
   Starting = Rule 𝓛 m ms V Y K g key b o
 
-  -- what the borrow of the words keeps of the value, under the value's name: the known fact, or that somebody writes
+  -- What the borrow of the words keeps of the value, whose ghost name is ν: that somebody writes it, or which value
+  -- it is, with the known fact.
   abbrev found : S.Denot → Way R.Denot → GName → ℕ → ℕ → Option R.Denot → Fml
   found k way' ν r w None = fact (0 < w)
   found k way' ν r w (Some x) = fsep (fobs ν (R.coded.code x)) (fact (Knowing ways.2 k w x (Fixed way' r w x)))
@@ -118,7 +119,7 @@ module _ {M : Type 1} {𝓤 : Ura M} (𝓛 : Logic 𝓤) (m ms : Member) (V Y K 
   abbrev Two : Fml
   Two = fex Sure (λ _. fex GName two)
 
-  -- ---- the borrow of the cell becomes one of the words and one of the value
+  -- ---- the borrow of the cell becomes two borrows: one of the words, and one of the value
   starts : (ν : GName) (s : ℕ × S.Denot) (vs : List V.Denot) (x : R.Denot) (v : Option R.Denot) → Met s vs
       → ‵ (found s.1 way ν (read vs) (wrote vs) v) ⊛ ‵ (fauth ν (R.coded.code x)) ⊩ ‵ (fact (Starting (s.0, s.1, x)))
   starts ν s vs x None meets = let w = wrote vs in script ∵ fpick ! (λ writes. drop ! $
@@ -133,7 +134,7 @@ module _ {M : Type 1} {𝓤 : Ura M} (𝓛 : Logic 𝓤) (m ms : Member) (V Y K 
   way_back ν = let J : ℕ × S.Denot × R.Denot → SProp 𝓤 = λ s. (⟦ Both (s.0, s.1) ⟧ ∗ ⟦ Lies s.2 ⟧ ∗ ⟦ fact (Starting s) ⟧) -∗ ⟦ P ⟧ in
       script ∵ assume ! (‵ (fsep (fdead κ) (fseps (Words ν ∷ Named ν ∷ [])))) $ settled ! ⟦ P ⟧ $
       fsplit ! $ drop ! $ fsplit3 ! $ fpick ! (λ s. move ! (1 ∷ []) $ fpick ! (λ x. fsplit ! $ keep ! (2 ∷ 0 ∷ 1 ∷ 4 ∷ []) $ fsplit3 ! $ move ! (2 ∷ []) $ fpick ! (λ vs. fsplit ! $ fpick ! (λ meets. drop ! $ fpick ! (λ v.
-      -- context: [what was found; the words; the value, under its name; the way back]
+      -- context: [what was found; the words; the value, and its name ν; the way back]
       let t : ℕ × S.Denot × R.Denot = (s.0, s.1, x) in move ! (0 ∷ 4 ∷ []) $ cite _ (starts ν s vs x v meets) $
       move ! (1 ∷ 2 ∷ []) $ fjoin ! $ move ! (2 ∷ 1 ∷ []) $ join ! $ move ! (1 ∷ 0 ∷ []) $ join ! $ move ! (1 ∷ []) $
       use1 𝓛 (raw (J t)) (all_e 𝓤 J t) $ move ! (1 ∷ 0 ∷ []) $ by ! (apply∗ 𝓤 (⟦ Both s ⟧ ∗ ⟦ Lies x ⟧ ∗ ⟦ fact (Starting t) ⟧) ⟦ P ⟧))))))
@@ -153,7 +154,7 @@ module _ {M : Type 1} {𝓤 : Ura M} (𝓛 : Logic 𝓤) (m ms : Member) (V Y K 
       move ! (2 ∷ 1 ∷ 0 ∷ []) $ obor_alter ! tt (Words ν ∷ Named ν ∷ []) $ use1 𝓛 (‵ (fbor κ (Words ν)) ⊛ ‵ (fbor κ (Named ν)) ⊛ ‵ ftrue) (id⊢ 𝓤 _) $ split3 ! $
       fjoin ! $ fpack ! GName two ν $ fpack ! Sure (λ _. fex GName two) z.0 $ now ! $ keep ! (0 ∷ 2 ∷ []) $ done !)))
 
-  -- ---- the state at any number of readers and writers
+  -- ---- the state of the value, with any number of readers and writers
   module _ (γ ρ ν : GName) where
     abbrev t : Id
     t = record { life = κ; round = γ; views = ρ; value = ν }
@@ -215,7 +216,7 @@ module _ {M : Type 1} {𝓤 : Ura M} (𝓛 : Logic 𝓤) (m ms : Member) (V Y K 
         cite _ (finds s.1 way r w) $ knows ! (Met s vs) meets $ fjoin ! $ fpack ! (List V.Denot) (views_at ν s) vs $ move ! (1 ∷ 2 ∷ 0 ∷ []) $ fjoin3 ! $
         fpack ! (ℕ × S.Denot) (standing_at ν) s $ done !)))
 
-    -- ---- the invariant is made, with a place for each of the views that satisfy the rule
+    -- ---- the invariant is made; its roster has the views vs, of which the rule holds
     module _ (l : Lft) (shares : Shares 𝓛 R l) (μ : Lft) (e f : Share) (i : Incl μ κ) (j : Incl μ l) where
       stands : (k : S.Denot) (vs : List V.Denot) (v : Option R.Denot) → Limits way (read vs) (wrote vs)
           → ‵ (found k way ν (read vs) (wrote vs) v) ⊛ ‵ (fbor κ (Named ν)) ⊛ ‵ (idle γ) ⊛ ‵ (flft μ e) ⊛ ‵ (flft μ f) ⊩ later (‵ (St way (φ k) (read vs) (wrote vs)) ⊛ ‵ (flft μ e) ⊛ ‵ (flft μ f))
@@ -234,7 +235,8 @@ module _ {M : Type 1} {𝓤 : Ura M} (𝓛 : Logic 𝓤) (m ms : Member) (V Y K 
       unfolding fseps
       guarded k u q = script ∵ updating ! $
           split ! $ move ! (1 ∷ []) $ split3 ! $ move ! (2 ∷ []) $ split3 ! $ move ! (5 ∷ 6 ∷ []) $ bor_open ! tt $ move ! (1 ∷ []) $ fpick ! (λ s. fsplit3 ! $ move ! (2 ∷ []) $ fpick ! (λ vs. fsplit ! $ fpick ! (λ meets. drop ! $ fpick ! (λ v.
-          -- context: [what was found; the words; the open borrow; the round's name; two tokens; the value; the keys]
+          -- context: [what was found; the words; the open borrow; the name γ; two tokens; the value's borrow; the
+          -- unused entries of ρ]
           let Q = St way (φ s.1) (read vs) (wrote vs) in move ! (0 ∷ 7 ∷ 4 ∷ 5 ∷ 6 ∷ []) $
           cite _ (stands s.1 vs v meets.1) $ await ! tt $ split3 ! $
           move ! (6 ∷ []) $ use1 𝓛 (later (‵ (roster c ρ 0 vs))) (via 𝓤 _ (enrols 𝓛 V.coded ρ vs 0 u).prf (basic 𝓛 ⟦ roster c ρ 0 vs ⟧)) $ await ! tt $
@@ -255,18 +257,19 @@ module _ {M : Type 1} {𝓤 : Ura M} (𝓛 : Logic 𝓤) (m ms : Member) (V Y K 
       split ! $ fpick ! (λ k. fpick ! (λ ν. fsplit ! $
       use0 𝓛 (later (some (λ (γ : GName). ‵ (tag γ full_share none)))) (via 𝓤 _ (own_new 𝓛 halved (full_share, none)) (basic 𝓛 (ex 𝓤 (λ (γ : GName). ⟦ tag γ full_share none ⟧)))) $ await ! tt $ pick ! (λ γ. fpack ! Gv (tag γ full_share) none $
       use0 𝓛 (later (some (λ (ρ : GName). ‵ (unused ρ 0 none)))) (via 𝓤 _ (entries_new halved 𝓛 0 (λ _. (full_share, none))) (basic 𝓛 (ex 𝓤 (λ (ρ : GName). ⟦ unused ρ 0 none ⟧)))) $ await ! tt $ pick ! (λ ρ.
-      -- context: [the keys; the name of the round; the words; the value; the tokens]
+      -- context: [the unused entries of ρ; the name γ; the words' borrow; the value's borrow; the tokens]
       move ! (4 ∷ []) $ use1 𝓛 (some (λ (q : Share). ‵ (flft μ q) ⊛ raw (A.lft μ q -∗ lfts 𝓛 ts))) (one_token 𝓛 ts) $ pick ! (λ q. let a = Share.left q in
       let d = Share.right q in let e = Share.left d in let f = Share.right d in
       split ! $ use1 𝓛 (‵ (flft μ a) ⊛ ‵ (flft μ d)) (𝓛.lfts.lft_split μ q) $ split ! $ move ! (1 ∷ []) $ use1 𝓛 (‵ (flft μ e) ⊛ ‵ (flft μ f)) (𝓛.lfts.lft_split μ d) $ split ! $
-      -- context: [two tokens; a third; the way back; the keys; the name of the round; the words; the value]
+      -- context: [two tokens; a third; the way back; the unused entries of ρ; the name γ; the words' borrow; the
+      -- value's]
       move ! (6 ∷ 7 ∷ 4 ∷ 5 ∷ 0 ∷ 1 ∷ []) $ group ! 6 $
       use2 𝓛 (later ((‵ Q ⊛ ‵ (flft μ e) ⊛ ‵ (flft μ f)) ⊛ ‵ (flft μ a))) (by_one 𝓛 κ ((μ, a) ∷ []) sp (mean 𝓛 (Given γ ρ ν l shares μ e f sp inc none)) (⟦ Q ⟧ ∗ A.lft μ e ∗ A.lft μ f) (λ z. (guarded γ ρ ν l shares μ e f sp inc k none z).prf)) $
       await ! tt $
       split ! $ split3 ! $ move ! (1 ∷ 2 ∷ []) $ use2 𝓛 (‵ (flft μ d)) (𝓛.lfts.lft_join μ d) $ move ! (2 ∷ 0 ∷ []) $ use2 𝓛 (‵ (flft μ q)) (𝓛.lfts.lft_join μ q) $
       move ! (0 ∷ 2 ∷ []) $ use2 𝓛 (raw (lfts 𝓛 ts)) (apply∗ 𝓤 (A.lft μ q) (lfts 𝓛 ts)) $ now ! $ keep ! (1 ∷ 0 ∷ []) $ done !)))))
 
--- a row with a single machine type is the row of a member
+-- a type that is stored as one machine value is what `row_of` makes of a member with this type and its layout
 alike : (T : RattleType) (L : Laws T) → T ≡ row_of (record { row = T; ty = layout T })
 alike T L = λ i. record { Denot = T.Denot; mir = L.one i; written = T.written; reaches = T.reaches; lives = T.lives; own_val = T.own_val; exit = T.exit; coded = T.coded; shr_at = T.shr_at }
 

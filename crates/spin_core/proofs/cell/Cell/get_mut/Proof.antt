@@ -1,4 +1,4 @@
--- `get_mut` lends the value under a new name, and gives the cell the key that the rule names.
+-- `get_mut` lends the value under a new ghost name, and gives the cell the key that the rule names (`lent`).
 use Rattle.spin_core.proofs.WalkNames.{◌+◌, [], ◌∷◌, refl, dcons, dnil, named, vptr, inst_fn, sep, Fml, flft, sem, ‵, raw, ◌⊛◌, some, later, ◌$◌, !, by, move, keep, split, split3, join, fsplit, fsplit3, fjoin, pick, fpick, drop, use1, await, stop, fld, addr, returns, alloc_all, pass_all, free_all, look_at, through, sets, param, layout, bounded, param_laws, fact, heard}
 use base.Fml.{GName}
 use types.Kit.{group}
@@ -37,7 +37,7 @@ get_mut_spec 𝓤 𝓛 𝓜 𝓡 wired X U P K S L _ _ _ LS g d _ =
     alloc_all ! (λ l. pass_all ! refl ((tt, tt), tt) $ open_ref ! tt (in_memory Ty) $ cite _ (rekeyed 𝓛 m ms V Y Kr g old key b o asked.1) $
     cite _ (fields_out 𝓛 m ms V Y Kr g key b o Lw Ls Cell takes_out back) $
     pick ! (λ z. let n = z.1.0 in let k = z.1.1 in let x = z.1.2 in split ! $ move ! (1 ∷ []) $ split3 ! $ move ! (1 ∷ []) $ fpick ! (λ rule. drop ! $
-    -- context: [the value; the way back; the words; the open borrow; its two names; the tokens]
+    -- context: [the value; the way back; the words; the open borrow; two entries for its ghost name; the tokens]
     move ! (2 ∷ 1 ∷ []) $ join ! $ move ! (2 ∷ 3 ∷ 4 ∷ 1 ∷ 0 ∷ []) $ group ! 5 $
     use1 𝓛 (later (some (λ (δ : GName). ‵ (Lent.own_val (record { ref_ptr = (b, e); ghost_name = δ; now = x }) (at ∷ [])) ⊛ ‵ (flft κ q) ⊛ ‵ (follows Ty R γ δ (λ _. key)))))
     (lends_Part 𝓛 Ty R (λ _. key) (named 0) κ q b o b e γ (sep 𝓤 (sem 𝓛 (words (n, k))) Joined) (λ v. (rejoined 𝓛 m ms V Y Kr g key b o Lw Ls Cell takes_out back (n, k, v) (restarts (g.holds key) (g.ways key) n k x v asked.0 rule)).prf) (K.coded.code old) (K.coded.code old) x) $

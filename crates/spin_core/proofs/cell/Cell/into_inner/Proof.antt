@@ -1,4 +1,4 @@
--- `into_inner` takes the value, whatever the words are.
+-- `into_inner` moves the value out of the cell, whatever the words are.
 use Rattle.spin_core.proofs.PermitFields.{both}
 use Rattle.spin_core.proofs.WalkNames.{◌≡◌, ◌&&◌, T, true, List, [], ◌∷◌, ◌++◌, sym, refl, ap, ◌∙◌, subst, w64, dcons, dnil, Val, vunit, vint, vstruct, vcons, vnil, of_list, has_ty, inst_fn, SProp, ent, id⊢, fsep, feq, ftrue, flft, tables, WpFn, ◌⊑◌, fact, param_laws, fm, ‵, raw, ◌⊛◌, ◌$◌, ◌∵◌, !, qed, by, move, keep, drop, split, split3, fsplit, fsplit3, fjoin, fpick, join, pick, await, later, some, use1, rewrite, feq_l, flt_l, suffices, stop, fld, of_opd, no_more, and_then, returns, enter, alloc_all, pass_all, free_all, look_at, get, get_in, sets, sub, whole, yes, nothing, only, peeks, Is, shows, param, layout, bounded, walk_of, El, lawful, Good, one, proved_at, leaves}
 use denote.Param.Laws.{arg_laws}
@@ -35,7 +35,7 @@ into_inner_spec 𝓤 𝓛 𝓜 𝓡 wired X U P K S L _ _ _ LS g d _ =
     qed 𝓛 (((‵ α ⊛ (‵ β ⊛ (‵ π ⊛ (‵ ι ⊛ (‵ (flft σ q) ⊛ ‵ ftrue))))) ⊛ ‵ (fsep (Row.own_val z.0.3.0 z.0.4.0) ftrue)) ∷ raw (fact 𝓤 _) ∷ raw (fact 𝓤 _) ∷ raw (fact 𝓤 _) ∷ raw (fact 𝓤 _) ∷ raw (fact 𝓤 (σ ⊑ S.lives)) ∷ ‵ ftrue ∷ []) ∵
     keep ! (0 ∷ 5 ∷ []) $ split ! $ move ! (1 ∷ []) $ fsplit ! $ fsplit ! $ drop ! $
     fpick ! (λ known. fpick ! (λ s. fsplit ! $ move ! (1 ∷ []) $ drop ! $ fpick ! (λ vss. fsplit ! $ feq_l ! (λ ev. fsplit3 ! $ fpick ! (λ uss. fsplit ! $ feq_l ! (λ em. drop ! $ fsplit ! $ feq_l ! (λ en. flt_l ! (λ fits. fsplit ! $
-    -- context: [the value; the second; nothing; the tokens; the second's lifetime]
+    -- context: [the value; the `Second`; nothing; the tokens; the fact on the lifetime of the `Second`]
     peeks ! R (Is R) (shows 𝓛 R) s.2 vss.1.1.0 (λ is_so. move ! (1 ∷ []) $ fsplit ! $ peeks ! Sr (Is Sr) (shows 𝓛 Sr) s.1 vss.1.1.1.0 (λ is_second.
     let got = one E vss.1.1.0 ((lawful E 𝓛).typed s.2 vss.1.1.0 is_so) in let vy = got.0 in let fy = got.2 in
     let got_second = one N vss.1.1.1.0 (((param_laws 4 S LS).lawful 𝓛).typed s.1 vss.1.1.1.0 is_second) in let vz = got_second.0 in
@@ -47,7 +47,7 @@ into_inner_spec 𝓤 𝓛 𝓜 𝓡 wired X U P K S L _ _ _ LS g d _ =
     pass_all ! refl
     ((both (has_ty (layout X) vy) (has_ty (layout S) vz && true) fy.0 (fine_second vz fz), (tt, (record { fits = fits }, (fy.1, (fz.1, tt))))), tt) $
     sets ! (of_opd ! (get_in ! (fld ! refl (stop !)) (sub ! 2 refl (whole !)))) refl fy $ sets ! (of_opd ! (get_in ! (fld ! refl (stop !)) (sub ! 3 refl (whole !)))) refl fz $ sets ! (of_opd ! (get ! refl)) refl fz $
-    -- the second word is dropped, which takes its lifetime's token
+    -- `let_go` forgets the `Second`; this call takes the token of the lifetime of the `Second`
     let yc : Lets.Ghost = (((σ, tt), (q, tt), tt, (s.1, tt), (vz ∷ [], tt)), tt) in
     move ! (2 ∷ []) $ split3 ! $ move ! (2 ∷ []) $ split3 ! $ move ! (2 ∷ []) $ split ! $ nothing ! $ move ! (9 ∷ 0 ∷ []) $ join ! $ nothing ! $ move ! (8 ∷ 0 ∷ []) $ fjoin ! $
     move ! (2 ∷ 3 ∷ 0 ∷ 1 ∷ []) $ join ! $ join ! $ join ! $ use1 𝓛 (raw (Lets.pre yc)) (id⊢ 𝓤 _) $

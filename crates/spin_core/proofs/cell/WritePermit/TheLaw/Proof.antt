@@ -1,4 +1,4 @@
--- A `&` to a write permit is made from one to its value. Assumes `Logic`.
+-- A `&` to a write permit owns a `&` to the value. Assumes `Logic`.
 use mathlib.Core.List.{[], ◌++◌}
 use base.Fml.{Incl-trans}
 use contract.BorrowLft.{meet_⊑_left, meet_⊑_right}

@@ -1,4 +1,4 @@
--- `leak` gives up the value's borrow for the rest of the cell's borrow.
+-- `leak` gives the borrow of the value away, for the rest of the cell's borrow.
 use Rattle.spin_core.proofs.WalkNames.{◌≡◌, ◌+◌, List, [], ◌∷◌, refl, ap, dcons, dnil, named, Val, vptr, inst_fn, Fml, at_ret, ◌$◌, !, by, move, keep, split, fsplit, fjoin, fjoin3, fpick, await, feq_i, stop, fld, addr, of_opd, first, blocks, exec, returns, alloc_all, pass_all, free_all, look_at, get, get_in, through, sets, sets_last, is, env, sub, whole, tables, named_lft, Ptr, ptr_val, block_of, count_of, at_block, param, bounded, tail, says}
 use denote.Ref.{MutRef}
 use Rattle.spin_core.proofs.WalkSteps.{unasked, takes_at}

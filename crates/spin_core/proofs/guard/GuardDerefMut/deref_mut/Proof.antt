@@ -72,7 +72,8 @@ deref_mut_spec 𝓤 𝓛 𝓜 𝓡 wired T V P S K N LT LV LP LS LK LN release r
     qed 𝓛 (((‵ (flft κ q) ⊛ (‵ β ⊛ (‵ τ ⊛ (‵ ν ⊛ (‵ π ⊛ (‵ u ⊛ (‵ ι ⊛ ‵ others))))))) ⊛ ‵ (owns (types_at En.signature.params κs) a y.0.4))
     ∷ raw (fact 𝓤 (Incl κs.1.1.0 T.lives)) ∷ raw (fact 𝓤 (Incl κs.1.1.1.0 V.lives)) ∷ raw (fact 𝓤 (Incl κs.1.1.1.1.0 P.lives)) ∷ raw (fact 𝓤 (Incl κs.1.1.1.1.1.0 S.lives)) ∷ raw (fact 𝓤 (Incl κs.1.1.1.1.1.1.0 K.lives)) ∷ raw (fact 𝓤 (Incl κs.1.1.1.1.1.1.1.0 N.lives)) ∷ ‵ ftrue ∷ []) ∵
     split ! $ split ! $ move ! (1 ∷ []) $ split3 ! $ move ! (2 ∷ []) $ split3 ! $ move ! (2 ∷ []) $ split3 ! $ move ! (8 ∷ []) $ fsplit ! $ fsplit3 ! $
-    -- context: [its place; its value; its borrow; nothing; u; ι; the last token; ν; π; β; τ; κ; T lives; V lives; P lives; S lives; K lives; N lives; ..]
+    -- context: [the guard's place; its value; its borrow; nothing; u; ι; the last token; ν; π; β; τ; κ; T lives; V
+    -- lives; P lives; S lives; K lives; N lives; ..]
     keep ! (1 ∷ 2 ∷ 11 ∷ 9 ∷ 10 ∷ 7 ∷ 8 ∷ 5 ∷ 4 ∷ 12 ∷ 13 ∷ 14 ∷ 16 ∷ 17 ∷ 6 ∷ []) $
     enter ! 𝓣.C 𝓣.Λ fn (vptr b o ∷ []) Post $ alloc_all ! (λ l. pass_all ! refl ((tt, tt), tt) $
     use3 𝓛 (later (some (λ (δ : GName). ‵ (fobs δ (P'.coded.code h.writer)) ⊛ ‵ (fbor κ (Body (in_memory P') b (o + 0) δ)) ⊛ ‵ (flft κ q) ⊛ ‵ (follows G P' γ δ (put ℓ T V P S K N LT LV LP LS LK LN g h))))) (hands ℓ T V P S K N LT LV LP LS LK LN g 𝓛 h κ q γ b o) $ await ! tt $ pick ! (λ δ. split ! $ move ! (1 ∷ []) $ split3 ! $
@@ -89,7 +90,7 @@ deref_mut_spec 𝓤 𝓛 𝓜 𝓡 wired T V P S K N LT LV LP LS LK LN release r
     some (λ (ws : Unit {0} × Unit {0}). ‵ (fsep ftrue ftrue) ⊛ (‵ (follows P' R δ r.ghost_name (with_value h.writer)) ⊛ raw (fact 𝓤 (r.now ≡ h.writer.value))))))) (id⊢ 𝓤 (C.post yc v)) $
     await ! tt $ pick ! (λ r. split ! $ split ! $ move ! (1 ∷ []) $ fsplit3 ! $ feq_l ! (λ e. move ! (3 ∷ []) $ pick ! (λ ws. split3 ! $ drop ! $ move ! (5 ∷ 0 ∷ []) $
     use2 𝓛 (‵ (follows G R γ r.ghost_name (guard_with h))) (follows_then 𝓛 G P' R (put ℓ T V P S K N LT LV LP LS LK LN g h) (with_value h.writer) γ δ r.ghost_name) $
-    -- context: [what follows; the value; its place; its borrow; the tokens; u; ..]
+    -- context: [what follows; the fact on the value; the value; its borrow; the tokens; u; ..]
     move ! (4 ∷ []) $ split3 ! $ move ! (2 ∷ []) $ split3 ! $ move ! (2 ∷ []) $ split3 ! $ move ! (1 ∷ 2 ∷ []) $ join ! $ move ! (10 ∷ 0 ∷ []) $ join ! $ move ! (1 ∷ 0 ∷ []) $ join ! $
     move ! (2 ∷ 0 ∷ []) $ join ! $ move ! (1 ∷ 0 ∷ []) $ join ! $ move ! (2 ∷ 0 ∷ []) $ join ! $ move ! (1 ∷ 0 ∷ []) $ join ! $
     move ! (3 ∷ 4 ∷ []) $ feq_i ! (List Val) (mut_vals r) (mut_vals r) refl $ fjoin3 ! $ move ! (2 ∷ 3 ∷ []) $ join ! $ nothing ! $ nothing ! $ fjoin ! $

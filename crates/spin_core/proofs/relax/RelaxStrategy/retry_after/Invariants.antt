@@ -1,7 +1,7 @@
 use Rattle.spin_core.specs.Retries.{Succeeds}
 use Rattle.spin_core.proofs.relax.RelaxStrategy.retry_after.Given as goal
 
--- an answer that the call may give from this state, it may give from the first state
+-- each answer that is possible from this state is possible from the first state too
 abbrev pub invariant-loop : goal.invariant-loop
 invariant-loop g l =
     (goal.iterator-loop g).can_next l.iterator' × (goal.iterator-loop g).is_finite l.iterator' × goal.F-IsAlwaysCallable g l.attempt

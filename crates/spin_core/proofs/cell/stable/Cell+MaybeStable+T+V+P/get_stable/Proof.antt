@@ -65,7 +65,8 @@ get_stable_spec 𝓤 𝓛 𝓜 𝓡 wired X U P K N L _ _ _ LN s d' g d _ _ =
     cite _ (fields_out 𝓛 m ms V Y Kr g key b o Lw Ls (Row 𝓛 m ms V Y Kr g key b o) (row_out 𝓛 m ms V Y Kr g key b o) (row_in 𝓛 m ms V Y Kr g key b o)) $
     pick ! (λ z. let n = z.1.0 in let k = z.1.1 in let x = z.1.2 in
     split ! $ fsplit ! $ move ! (2 ∷ []) $ split3 ! $ move ! (1 ∷ []) $ fpick ! (λ rule. drop ! $ move ! (2 ∷ []) $
-    -- context: [the first word; the value; the way back; the second word; the open borrow; its two names; the tokens]
+    -- context: [the first word; the value; the way back; the second word; the open borrow; two entries for its ghost
+    -- name; the tokens]
     well_typed ! (λ good. sets ! (of_opd ! (load ! (through ! refl (fld ! refl (stop !))) (look ! 0 refl))) refl (tt, record { fits = good.1.fits }) $ sets ! (of_opd ! (get ! refl)) refl (tt, record { fits = are.1.0.1 }) $
     sets ! (bin ! (get ! refl) (get ! refl) tt) refl (tt, tt) $ first ! $ branches ! (get ! refl)
     (λ same. let is = eqb→eq n wanted same in let may = asked.0 k x.value (subst (λ (j : ℕ). Starts (g.holds key) (g.ways key) j k x) is rule) in
