@@ -70,7 +70,7 @@ seat_of (Setting c) = seat.Calling c point.SetFlag (held_before c)
 seat_of (Awaiting c) = seat.Calling c point.Await (held_before c)
 seat_of (HoldingStarving c) = seat.Calling c point.Unregister (held_before c)
 
--- the patience of `lock`: it registers after one more look than this has found the flag set
+-- the patience of `lock`: it registers after `patience + 1` looks that found the flag set
 abbrev pub patience : ℕ
 patience = 1025
 
@@ -221,7 +221,8 @@ gives_up_by = steps_by false StarverDrop (λ n. answered answer.Done ∷ []) (λ
 abbrev pub frees_by : {T : Type 0} → Says T
 frees_by = leaves_by (λ x. Unit {0}) Release answer.Done Idle
 
--- how many looks of the party's `lock` have found the lock held so far
+-- The number of looks that the view of a `lock` keeps. It counts looks that found the lock held, up to `patience`. It is 0 if the view
+-- keeps no number.
 abbrev pub looks_of : Option View → ℕ
 looks_of (Some (Trying n)) = n
 looks_of (Some (Looking n)) = n
@@ -269,8 +270,8 @@ abbrev pub no_room_end : {T : Type 0} → FairCall → Ending T
 no_room_end Lock = GoingOn
 no_room_end _ = answered answer.Refused
 
--- The outcomes before that of an exchange that registers. The code's first exchange expects 0. If it succeeds, it stands for the model's
--- load and exchange. If it fails, it stands for the load alone. Before a later exchange there is no load.
+-- The outcomes that come before the outcome of an exchange that registers. The code's first exchange expects 0. If it succeeds, it stands
+-- for the model's load and exchange. If it fails, it stands for the load alone. Before a later exchange there is no load.
 abbrev pub loads : {T : Type 0} → Option View → List (Ending T)
 loads (Some (Registering c n)) = []
 loads _ = GoingOn ∷ []
