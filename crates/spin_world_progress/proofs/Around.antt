@@ -87,7 +87,7 @@ module _ {W V C L A : Type 0} (m : Machine W V C L A) where
       abbrev MovesFrom : State W V C L → (ℕ → ℕ × Move C V) → ℕ → ℕ → Type 0
       MovesFrom s schedule place p = let there = after m s (stretch schedule 0 place) in (n : ℕ) × MovesOn m there (stretch schedule place n) p (slice_get there.seats p)
 
-      -- if a party moves on from a place of the rest of the schedule, it does so from the next place of the whole schedule
+      -- a party that moves on from a place in the rest of the schedule moves on from the next place in the whole schedule
       place_later : (s : State W V C L) (schedule : ℕ → ℕ × Move C V) (place p : ℕ) → MovesFrom (happens m s (schedule 0).0 (schedule 0).1).next (λ i. schedule (suc i)) place p → MovesFrom s schedule (suc place) p
       place_later s schedule place p moves =
           let next = (happens m s (schedule 0).0 (schedule 0).1).next in (

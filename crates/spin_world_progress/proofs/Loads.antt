@@ -259,7 +259,7 @@ module _ {W V C L A B : Type 0} {t : Table W V C L B} {given : Machine W V C L A
           let before = his_load (seat_of seen q) in
           (omega (arith, low.0, now, before), λ is. omega (arith, low.1 is, now, before))
 
-      -- after q begins a call, its load is at most n, or is at most n + 1 while a step of this call is still to come
+      -- after q begins a call, its load is at most n, or at most n + 1 with a step of this call still to come
       begins_on : (d : C) (i : L) (j : Option Hold) → seat_of seen q ≡ Some (resting j) → m.begin d j ≡ Some i → Pays_by (begin_at d i j) q
           → (load_by seen.plain l q (Some (Calling d i j)) ≤ n) ⊎ ((load_by seen.plain l q (Some (Calling d i j)) ≤ suc n) × (occurs m (awaited q (Some (Calling d i j))) (begin_at d i j).after.state es ≡ true))
       begins_on d i j at may (inl low) = inl (omega (arith, low, (begins_low d i j at may).0))
