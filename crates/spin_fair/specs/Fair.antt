@@ -221,8 +221,8 @@ gives_up_by = steps_by false StarverDrop (λ n. answered answer.Done ∷ []) (λ
 abbrev pub frees_by : {T : Type 0} → Says T
 frees_by = leaves_by (λ x. Unit {0}) Release answer.Done Idle
 
--- The number of looks that the view of a `lock` keeps. It counts looks that found the lock held, up to `patience`. It is 0 if the view
--- keeps no number.
+-- The number of looks that the view of a `lock` keeps. It counts looks that found the lock held, up to `patience`. It
+-- is 0 if the view keeps no number.
 abbrev pub looks_of : Option View → ℕ
 looks_of (Some (Trying n)) = n
 looks_of (Some (Looking n)) = n
@@ -270,8 +270,9 @@ abbrev pub no_room_end : {T : Type 0} → FairCall → Ending T
 no_room_end Lock = GoingOn
 no_room_end _ = answered answer.Refused
 
--- The outcomes that come before the outcome of an exchange that registers. The code's first exchange expects 0. If it succeeds, it stands
--- for the model's load and exchange. If it fails, it stands for the load alone. Before a later exchange there is no load.
+-- The outcomes that come before the outcome of an exchange that registers. The code's first exchange expects 0. If it
+-- succeeds, it stands for the model's load and exchange. If it fails, it stands for the load alone. Before a later
+-- exchange there is no load.
 abbrev pub loads : {T : Type 0} → Option View → List (Ending T)
 loads (Some (Registering c n)) = []
 loads _ = GoingOn ∷ []

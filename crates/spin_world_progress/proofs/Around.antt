@@ -87,7 +87,8 @@ module _ {W V C L A : Type 0} (m : Machine W V C L A) where
       abbrev MovesFrom : State W V C L → (ℕ → ℕ × Move C V) → ℕ → ℕ → Type 0
       MovesFrom s schedule place p = let there = after m s (stretch schedule 0 place) in (n : ℕ) × MovesOn m there (stretch schedule place n) p (slice_get there.seats p)
 
-      -- a party that moves on from a place in the rest of the schedule moves on from the next place in the whole schedule
+      -- a party that moves on from a place in the rest of the schedule moves on from the next place in the whole
+      -- schedule
       place_later : (s : State W V C L) (schedule : ℕ → ℕ × Move C V) (place p : ℕ) → MovesFrom (happens m s (schedule 0).0 (schedule 0).1).next (λ i. schedule (suc i)) place p → MovesFrom s schedule (suc place) p
       place_later s schedule place p moves =
           let next = (happens m s (schedule 0).0 (schedule 0).1).next in (
@@ -113,7 +114,8 @@ module _ {W V C L A : Type 0} (m : Machine W V C L A) where
       pub never_around : (place : ℕ) → occurs m test start (stretch (around e es e es) 0 place) ≡ false
       never_around place = never place start e es first
 
-  -- after some entries a party is in such a call, and then no event of some fair schedule passes the test
+  -- after some entries a party is in a call with the promise `what`; then some fair schedule has no event that passes
+  -- the test
   abbrev pub Forever : (ℕ → Test V C L A) → ℕ → Asked → Type 0
   Forever test n what =
       (past : Turn) × (schedule : ℕ → ℕ × Move C V) × (p : ℕ) × (c : C) × (l : L) × (h : Option Hold)

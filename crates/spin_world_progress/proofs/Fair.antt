@@ -33,7 +33,8 @@ starves_own : (p : ℕ) (qs : List ℕ) → is_starver p qs ≡ true → not (is
 starves_own p [] found = found
 starves_own p (q ∷ qs) found = grind (arith, found, starves_own p qs)
 
--- the load of the waiting party (`clear`: nobody holds); `theirs_by`: the load of another party (`true`: this party holds)
+-- the load of the waiting party (`clear`: nobody holds); `theirs_by`: the load of another party (`true`: this party
+-- holds)
 abbrev mine_by : Bool → FairPoint → ℕ
 mine_by clear Unregister = if clear then 3 else 1
 mine_by clear SetFlag = if clear then 2 else 0

@@ -1,5 +1,5 @@
--- A read-write lock is free of deadlock. The readers leave in the same two rounds. A holder that does more than read is
--- then alone, and makes one of its moves in each round.
+-- A read-write lock is free of deadlock. All readers leave within the first two rounds. A holder that does more than
+-- read is then alone, and makes one of its moves in each round.
 use Rattle.spin_world_progress.proofs.Names.{seat_of, Knows, good, cases_eq, scene, eqb-true, empty_is, ◌<◌, one_of, eq-eqb, row_tells, in_call, StandsFor, ne_eqb, entries-other, Holding, Upgrade, Asking, max, suc, not, resting, ◌≡◌, ℕ, ◌+◌, ◌≤◌, ◌==◌, Bool, true, false, Option, Some, None, List, [], ◌∷◌, length, slice_get, refl, ap, sym, ◌∙◌, arith, Plain, Kind, reading, upgradable, asking, writing, Holder, Change, releases, turns, count_kind, weight, rw_word, apply_some, IsOpenStep, IsExclusive, ◌-◌, ◌⊎◌, ◌||◌, ◌&&◌, subst, inl, inr, ⊎_elim, nat_lt, min, if◌then◌else◌, lt-ltb, sum_by-cons, same_kind, upgrader, all_kinds, by_kinds, reader_limit, Answer, Hold, Seat, Idle, Calling, Next, Continue, Answers, Move, Step, Weak, Mark, Machine, after, at_first, goes_on, get-set_same, Seen, Scene, scene_at, opening, seen_after, eqb_self, Plays, Invariant, calls, RwCall, RwPoint, rw_machine, rw_notes, rw_facts, Test, grants_any, without_holder, with_kind, filter, list_any, list_all, entries, is_empty}
 use Rattle.spin_world_progress.specs.Rw.{GrantsSomebody, RwIsDeadlockFree, refuses_any, leading, rounds_by, rounds_beside}
 use Rattle.spin_world.proofs.RwNames.{Write, Exchange, Release, Entries, Read, UpgradeableRead, may_turn, read, read_upgradable}
@@ -74,7 +74,8 @@ same_answer : (b : Bool) → (if b then b else not b) ≡ true
 same_answer true = refl
 same_answer false = refl
 
--- if all holders of a party only read, they pass the test `reads_so` (below) of a reader, or of a party without holders
+-- if all holders of a party only read, they pass the test `reads_so` (below) of a reader, or of a party without
+-- holders
 reads_or_not : (hs : List Holder) → only_read hs ≡ true → (only_read hs && (if reads hs then reads hs else not (reads hs))) ≡ true
 reads_or_not hs all = rw all (same_answer (reads hs))
 
@@ -236,7 +237,7 @@ own_rank Write l = 1
 own_rank c (Exchange k) = if k == 0 then 1 else 2
 own_rank c l = 2
 
--- how many more steps it takes if one reader holds and leaves room for it
+-- the same if one reader holds and leaves room for the call, plus one
 abbrev reading_rank : RwPoint → ℕ
 reading_rank (Exchange k) = if k == weight reading then 2 else 3
 reading_rank l = 3
@@ -275,7 +276,7 @@ base_some k = grind arith
 reader_long : (w room : Bool) (k : Option Kind) (b out : Bool) (n : ℕ) → theirs_of w room k b false true out ≤ suc n → base k ≤ n
 reader_long w room k b out n few = grind (arith, few)
 
--- the load at the start
+-- at the start no load exceeds `rounds_by`
 theirs_start : (w room : Bool) (a : Kind) (k : Option Kind) (b own reader out some : Bool) → (same_kind reading a ≡ true → k ≡ None) → (same_kind reading a ≡ false → k ≡ Some a) → (reader ≡ true → some ≡ true) → theirs_of w room k b own reader out ≤ rounds_by a some
 theirs_start w room reading k b own reader out some none leads reads = let is = none refl in grind (arith, is, reads)
 theirs_start w room a k b own reader out some none leads reads = let is = leads refl in grind (arith, is, reads)
@@ -421,7 +422,8 @@ module _ {V : Type 0} (v : V) (cap : ℕ) (some : 1 ≤ cap) where
       word_is : b ≡ false → seen.state.words ≡ sum_by (λ (h : Holder). weight h.kind) (its u s.holders)
       word_is none = let word : seen.state.words ≡ rw_word s = cc (good.encodes) in word ∙ ap (λ hs. sum_by (λ (h : Holder). weight h.kind) hs) (sym (all_its u s.holders none))
 
-      -- The waiting party p holds nothing. `reader_beside`: if any party holds beside u, some reader is neither u nor p.
+      -- The waiting party p holds nothing. `reader_beside`: if any party holds beside u, some reader is neither u nor
+      -- p.
       nothing_mine : (l : RwPoint) → seat_of seen p ≡ Some (Calling c l None) → is_empty (its p s.holders) ≡ true
       nothing_mine l mine_at = row_tells (rw_notes v cap) c l None p s (seen.span p) (λ e. is_empty e.holders) _ (in_call f p good mine_at).knows (grind (arith, comes))
 
