@@ -1,5 +1,6 @@
--- The rule of a fair mutex. The word of the mutex is that of a plain lock whose holders and starvers are the parties of the mutex. The
--- trace is a schedule of the lock's model. The schedule leads to this word and to the views of these parties.
+-- The rule of a fair mutex. The word of the mutex is that of a plain lock whose holders and starvers are the parties
+-- that hold the mutex or starve. The trace is a schedule of the lock's model. The schedule leads to this word and to
+-- the views of all parties.
 use Rattle.std.specs.Prelude.{◌≡◌, ◌⊎◌, ℕ, ◌+◌, ◌++◌, Bool, true, false, List, [], ◌∷◌, map, Option, Some, None, if◌then◌else◌, ◌%◌, ◌==◌, nat_lt, is_some, ◌<◌, ◌≤◌, slice_get}
 use Rattle.spin_step.specs.Plain.{writing, fair_word}
 use Rattle.spin_step_more.specs.Starvers.{most_starvers, is_set, starve}

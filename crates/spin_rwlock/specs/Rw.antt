@@ -1,5 +1,5 @@
 -- The rule of a read-write lock. The word of the lock is that of a plain lock with the same holders. The trace is a schedule of the lock's
--- model. The schedule leads to this word and to the views of these parties.
+-- model. The schedule leads to this word and to the views of all parties.
 use Rattle.std.specs.Prelude.{◌≡◌, ◌⊎◌, ℕ, List, [], ◌∷◌, Bool, true, false, Option, Some, None, is_some, ◌==◌, if◌then◌else◌, map}
 use Rattle.spin_step.specs.Plain.{Plain, reading, upgradable, asking, writing, weight, Ask, to_read, to_read_upgradable, rw_word}
 use Rattle.spin_step.specs.Orders.{IsInOrder}
