@@ -166,7 +166,7 @@ in_call (Some (Awaiting c)) = true
 in_call (Some (HoldingStarving c)) = true
 in_call _ = false
 
--- the call that the party is in; a party in no call begins `starve`
+-- The call that the party is in. If the party is in no call, this is `starve`, which the party then begins.
 abbrev pub call_of : Option View → FairCall
 call_of (Some (Trying n)) = Lock
 call_of (Some (Looking n)) = Lock
