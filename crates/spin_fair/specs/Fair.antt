@@ -196,7 +196,7 @@ abbrev pub tries_by : {T : Type 0} → FairCall → Turn T
 tries_by c = steps_by false c (λ n. answered (if n == 0 then answer.Granted else refusal c n) ∷ []) (λ n. if n == 0 then Holding else Idle)
 
 -- The outcomes of an exchange that expects 2 (one starver, and no holder) and finds another word. `try_lock_fair` fails. The other calls of
--- a starver have only begun, so there is no outcome yet.
+-- a starver have only begun, so no step has an outcome yet.
 abbrev pub missed_alone : {T : Type 0} → FairCall → List (Ending T)
 missed_alone StarverTryLockFair = answered answer.Refused ∷ []
 missed_alone _ = []
