@@ -124,7 +124,8 @@ abbrev pub call_from : OnceCall (Unit {0}) → Option View → OnceCall (Unit {0
 call_from c (Some (InCall d l)) = d
 call_from c _ = c
 
--- The point at which the party's call continues. If the party is in no call, this is the look with which a call begins.
+-- The point at which the party's call continues. If the party is in no call, this is the look with which a call
+-- begins.
 abbrev pub point_of : Option View → OncePoint
 point_of (Some (InCall c l)) = l
 point_of _ = Look
