@@ -85,7 +85,8 @@ may_write None may = refl
 may_write (Some WaitingToWrite) may = refl
 may_write (Some _) may = absurd may
 
--- The moves of each step. It begins a call of the model and makes the first step, or it is a step of a call under way.
+-- The moves of each step. A step begins a call of the model and makes the call's first step, or it is a step of a call
+-- under way.
 
 abbrev Moves : Option View → (ℕ → ℕ) → (ℕ → View → Type 0) → (ℕ → View) → Type 0
 Moves view f says to = AreMoves latch_machine seat_of words_of view (on_first f) first says (leads_by to)

@@ -6,7 +6,8 @@ use Rattle.spin_step.specs.Steps.{Decides}
 use Rattle.spin_step.proofs.Sums.{against, upgrader, by_kinds, all_kinds, sum-more}
 use Rattle.spin_core_tests.specs.Latch.{latch_limit, latch_weight, latch_word, let_in, taken}
 
--- a word with k holders that admit no readers (at most one), and n others, has room for a reader exactly if k is 0 and the limit allows
+-- k holders admit no readers (k is at most 1), and n others do; the word has room for a reader exactly if k is 0 and
+-- the limit allows
 tells : (n k w : ℕ) → k ≤ 1 → w ≡ 2 * n + k → ((k == 0) && nat_lt (n + k) latch_limit) ≡ ((w % 2 == 0) && nat_lt (w / 2) latch_limit)
 tells n zero w one is = grind (arith, is)
 tells n (suc zero) w one is = grind (arith, is)

@@ -1,5 +1,5 @@
--- The rule of a latch. Its word is that of a plain lock whose holders are the latch's parties. Its trace is a schedule of the latch's model
--- that leads to that word and these parties.
+-- The rule of a latch. Its word is that of a plain lock whose holders are the parties that hold the latch. Its trace
+-- is a schedule of the latch's model that leads to that word and to the views of all parties.
 use Rattle.std.specs.Prelude.{◌≡◌, ℕ, ◌==◌, Bool, true, false, if◌then◌else◌, is_some, List, Option, Some, None}
 use Rattle.spin_step.specs.Plain.{reading, writing}
 use Rattle.spin_core.specs.Cell.{Use, lends, no_fact, Ways}

@@ -12,7 +12,7 @@ use_of_view Reading = reads
 abbrev pub pair_ways : {X S : Type 0} → Ways X View S
 pair_ways = (lends, use_of_view, no_fact)
 
--- the word counts the readers, and the trace has at least as many entries
+-- the word counts the readers, at most two; the trace has at least as many entries
 abbrev pub IsPair : {S : Type 0} → ℕ → Trace (Unit {0}) S → List View → Type 0
 IsPair n t vs = (n ≡ readers_of use_of_view vs) × (n ≤ 2) × (n ≤ length t.entries)
 

@@ -238,7 +238,7 @@ nobody_starves word second vs rule free j u at some =
     let least = starver_goes word second (views_of vs) j rule (ap (λ e. e.starvers) ((rule.3 j).0 ∙ ap (entries_of j) (part-there part j u.0 (views_of vs) (viewed vs j u at))) ∙ starves_in j u.0 some) in
     omega (arith, least.0, free)
 
--- a step after which the party is a newcomer that holds the lock has found the word 0
+-- if after the step the party is a newcomer that holds the lock, the step found the word 0
 abbrev Frees : {T : Type 0} → Says T → Type 0
 Frees {T} says = (own : List (Move FairCall T)) (outs : List (Ending T)) (n : ℕ) (v : View) → says own outs n v → v ≡ Holding → n ≡ 0
 

@@ -1,5 +1,6 @@
--- The rule of a fair mutex. The word of the mutex is that of a plain lock whose holders and starvers are the parties of the mutex. The
--- trace is a schedule of the lock's model. The schedule leads to this word and to the views of these parties.
+-- The rule of a fair mutex. The word of the mutex is that of a plain lock whose holders and starvers are the parties
+-- that hold the mutex or starve. The trace is a schedule of the lock's model. The schedule leads to this word and to
+-- the views of all parties.
 use Rattle.std.specs.Prelude.{◌≡◌, ◌⊎◌, ℕ, ◌+◌, ◌++◌, Bool, true, false, List, [], ◌∷◌, map, Option, Some, None, if◌then◌else◌, ◌%◌, ◌==◌, nat_lt, is_some, ◌<◌, ◌≤◌, slice_get}
 use Rattle.spin_step.specs.Plain.{writing, fair_word}
 use Rattle.spin_step_more.specs.Starvers.{most_starvers, is_set, starve}
@@ -70,7 +71,7 @@ seat_of (Setting c) = seat.Calling c point.SetFlag (held_before c)
 seat_of (Awaiting c) = seat.Calling c point.Await (held_before c)
 seat_of (HoldingStarving c) = seat.Calling c point.Unregister (held_before c)
 
--- the patience of `lock`: it registers after one more look than this has found the flag set
+-- the patience of `lock`: it registers after `patience + 1` looks that found the flag set
 abbrev pub patience : ℕ
 patience = 1025
 
@@ -165,7 +166,7 @@ in_call (Some (Awaiting c)) = true
 in_call (Some (HoldingStarving c)) = true
 in_call _ = false
 
--- the call that the party is in; a party in no call begins `starve`
+-- The call that the party is in. If the party is in no call, this is `starve`, which the party then begins.
 abbrev pub call_of : Option View → FairCall
 call_of (Some (Trying n)) = Lock
 call_of (Some (Looking n)) = Lock
@@ -195,7 +196,7 @@ abbrev pub tries_by : {T : Type 0} → FairCall → Turn T
 tries_by c = steps_by false c (λ n. answered (if n == 0 then answer.Granted else refusal c n) ∷ []) (λ n. if n == 0 then Holding else Idle)
 
 -- The outcomes of an exchange that expects 2 (one starver, and no holder) and finds another word. `try_lock_fair` fails. The other calls of
--- a starver have only begun, so there is no outcome yet.
+-- a starver have only begun, so no step has an outcome yet.
 abbrev pub missed_alone : {T : Type 0} → FairCall → List (Ending T)
 missed_alone StarverTryLockFair = answered answer.Refused ∷ []
 missed_alone _ = []
@@ -221,7 +222,8 @@ gives_up_by = steps_by false StarverDrop (λ n. answered answer.Done ∷ []) (λ
 abbrev pub frees_by : {T : Type 0} → Says T
 frees_by = leaves_by (λ x. Unit {0}) Release answer.Done Idle
 
--- how many looks of the party's `lock` have found the lock held so far
+-- The number of looks that the view of a `lock` keeps. It counts looks that found the lock held, up to `patience`. It
+-- is 0 if the view keeps no number.
 abbrev pub looks_of : Option View → ℕ
 looks_of (Some (Trying n)) = n
 looks_of (Some (Looking n)) = n
@@ -269,8 +271,9 @@ abbrev pub no_room_end : {T : Type 0} → FairCall → Ending T
 no_room_end Lock = GoingOn
 no_room_end _ = answered answer.Refused
 
--- The outcomes before that of an exchange that registers. The code's first exchange expects 0. If it succeeds, it stands for the model's
--- load and exchange. If it fails, it stands for the load alone. Before a later exchange there is no load.
+-- The outcomes that come before the outcome of an exchange that registers. The code's first exchange expects 0. If it
+-- succeeds, it stands for the model's load and exchange. If it fails, it stands for the load alone. Before a later
+-- exchange there is no load.
 abbrev pub loads : {T : Type 0} → Option View → List (Ending T)
 loads (Some (Registering c n)) = []
 loads _ = GoingOn ∷ []

@@ -72,7 +72,7 @@ Party T = Permit T (Numbered View) FlagRule (Opening T) (Trace (flags.Done T) (U
 abbrev pub mutex : {T : Type 0} → Opening T → Mutex Bool T FlagCall FlagPoint View (Unit {0})
 mutex opening = record { plain = flag; model = model opening.value; seat_of = seat_of; words_of = words_of; opening = opening; idle_sits = refl }
 
--- the word after an exchange that sets a clear flag
+-- the word after an exchange that sets the flag if the flag is clear
 abbrev swapped : ℕ → ℕ
 swapped n = either (n == 0) 1 n
 

@@ -1,5 +1,5 @@
 -- The rule of a lock of one flag. The word of the lock is that of a plain lock whose holders are the parties that hold. The trace is a
--- schedule of the lock's model. The schedule leads to this word and to the views of these parties.
+-- schedule of the lock's model. The schedule leads to this word and to the views of all parties.
 use Rattle.std.specs.Prelude.{◌≡◌, ℕ, List, Bool, true, false, Option, Some, None, ◌==◌, if◌then◌else◌, ◌⊎◌}
 use Rattle.spin_step.specs.Plain.{writing, flag_word}
 use Rattle.spin_step.specs.Steps.{bit}

@@ -42,7 +42,7 @@ module _ {T : Type 0} where
     goes_on (y ∷ []) v x h e up = (subst (λ (z : T). le z x) (sym (ap (from y) e)) up, tt)
     goes_on (y ∷ z ∷ l) v x h e up = (h.0, goes_on (z ∷ l) v x h.1 e up)
 
-    -- if v is at or after all that a caller has seen, and x may follow v, then x is too
+    -- if v may follow the last entry that a caller has seen, and x may follow v, then x may follow that entry
     pub at_or_after : (k : List T) (v x : T) → IsAtOrAfter le k v → le v x → IsAtOrAfter le k x
     at_or_after k v x = by_last (last k)
       where

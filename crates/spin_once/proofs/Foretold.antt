@@ -1,5 +1,5 @@
--- A run of a `Once` on threads is a schedule of its object. The schedule leads to the same words and value, and to the same seats. In the
--- seats of the object the name of each call says whether its closure will fail.
+-- A run of a `Once` on threads is a schedule of its object. The schedule leads to the words, the value and the seats
+-- of the run. In the seats of the object the name of each call says whether its closure will fail.
 use Rattle.std.proofs.Common.{◌≡◌, ℕ, zero, suc, ◌+◌, ◌≤◌, ◌==◌, if◌then◌else◌, Bool, true, false, ◌&&◌, Option, Some, None, List, [], ◌∷◌, ◌++◌, length, map, take, drop, replicate, slice_get, slice_set, refl, sym, ap, ◌∙◌, subst, arith, eq-eqb, ne_eqb, eqb-true}
 use Rattle.std.specs.Option.{option_map}
 use Rattle.std.specs.List.{list_all}
@@ -100,7 +100,8 @@ module _ (given : Option (Unit {0})) where
       → Alike f (happens (m given) s p move) (happens (t given) (object f s) p (renamed move (f p)))
   happens_alike f s p move still ne = rw (named_get f s.seats p) (at_alike f s p move (slice_get s.seats p) refl still ne)
 
-  -- a closure fails: the object's seats stay as they are, since its call has the name of a failing call all along
+  -- when a closure fails, the object's seats stay as they are, since its call there has the name of a failing call
+  -- from the beginning
   failed_seats : (f g : ℕ → Bool) (xs : List (Seat Call Point)) (p : ℕ) (v : Unit {0}) (h : Option Hold) → slice_get xs p ≡ Some (Calling (TryCallOnceOk v) (at Run) h) → f p ≡ true → ((q : ℕ) → (p ≡ q → ⊥) → f q ≡ g q)
       → seats_named f xs ≡ seats_named g (slice_set xs p (Calling (TryCallOnceOk v) failed h))
   failed_seats f g xs p v h there fails others =

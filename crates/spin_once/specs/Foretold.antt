@@ -30,7 +30,7 @@ abbrev pub named : OnceCall (Unit {0}) → Bool → OnceCall (Unit {0})
 named (TryCallOnceOk v) true = TryCallOnceErr
 named c fails = c
 
--- the object's entry for this move, if it has one, before the entries for the later moves
+-- the object's entry for this move, if it has one, followed by the entries for the later moves
 abbrev pub told_of : ℕ → OneMove → Bool → List Made → List Made
 told_of p (Begin c) fails later = (p, Begin (named c fails)) ∷ later
 told_of p Weak fails later = later
@@ -46,6 +46,6 @@ place_of Idle = seat.Idle
 place_of Reading = seat.Idle
 place_of (InCall c l) = seat.Calling c l None
 
--- the party with its mark as a length of the object's schedule
+-- the party, with its place in the trace turned into a place in the object's schedule
 abbrev pub counted : List Made → Numbered View → Numbered View
 counted log v = (v.0, v.1, length (foretold (take v.2 log)))

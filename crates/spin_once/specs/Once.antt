@@ -119,12 +119,13 @@ module _ {T S : Type 0} where
 abbrev pub Says : Type 1
 Says = List OneMove → List Ending → ℕ → View → Type 0
 
--- the call that the party is in; a party in no call begins the call `c`
+-- The call that the party is in. If the party is in no call, this is the call `c`, which the party then begins.
 abbrev pub call_from : OnceCall (Unit {0}) → Option View → OnceCall (Unit {0})
 call_from c (Some (InCall d l)) = d
 call_from c _ = c
 
--- the point at which the party's call continues; a call that begins is at a look
+-- The point at which the party's call continues. If the party is in no call, this is the look with which a call
+-- begins.
 abbrev pub point_of : Option View → OncePoint
 point_of (Some (InCall c l)) = l
 point_of _ = Look

@@ -1,5 +1,5 @@
 -- The rule of a read-write lock. The word of the lock is that of a plain lock with the same holders. The trace is a schedule of the lock's
--- model. The schedule leads to this word and to the views of these parties.
+-- model. The schedule leads to this word and to the views of all parties.
 use Rattle.std.specs.Prelude.{◌≡◌, ◌⊎◌, ℕ, List, [], ◌∷◌, Bool, true, false, Option, Some, None, is_some, ◌==◌, if◌then◌else◌, map}
 use Rattle.spin_step.specs.Plain.{Plain, reading, upgradable, asking, writing, weight, Ask, to_read, to_read_upgradable, rw_word}
 use Rattle.spin_step.specs.Orders.{IsInOrder}
@@ -165,7 +165,7 @@ pub record Turn (T : Type 0) : Type 0 where
   pub to : View
 
 -- An exchange by which a party may become the writer. If it finds the word `old`, the call is granted, and the next view is `won`. If not,
--- the answer is `answer`, and the next view is `lost`.
+-- `answer` is the answer (`None` while the call waits), and the next view is `lost`.
 pub record Attempt (T : Type 0) : Type 0 where
   pub goes_on : Bool
   pub call : RwCall
@@ -256,7 +256,7 @@ module _ {T : Type 0} where
   abbrev pub looks_by : RwCall → ℕ → Turn T
   looks_by call n = steps_by true call (None ∷ []) (Coming call n)
 
-  -- the answer of a call that wants to read after its exchange failed, and found the word `n`
+  -- the answer, if any, of a call that wants to read, when its exchange has failed and found the word `n`
   abbrev pub missed : RwCall → ℕ → Option (Answer T)
   missed call n = if still call n then None else Some Refused
 

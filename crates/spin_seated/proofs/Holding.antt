@@ -1,4 +1,4 @@
--- What a pass holds, as its own calls say it.
+-- What a pass holds, as its own calls tell.
 use Rattle.std.proofs.Common.{◌≡◌, ℕ, ◌==◌, ◌&&◌, ◌||◌, cond, Bool, true, false, if◌then◌else◌, filter, map, List, [], ◌∷◌, ◌++◌, Option, Some, None, refl, sym, ap, subst, ◌∙◌, append_assoc, append-nil, eqb-true, eq-eqb}
 use Rattle.std.proofs.lemmas.Bool.{true≢false}
 use Rattle.spin_step.specs.Plain.{Holder, writing, same_kind, is_holder}

@@ -80,7 +80,7 @@ range-first : (a n : ℕ) → a < n → range_with_len a (n - a) ≡ a ∷ range
 range-first a n below = let e : n - a ≡ suc (n - (a + 1)) = omega arith in ap (range_with_len a) e
 
 module _ {C : Type 0} where
-  -- A seat with the passes from a to n gives up the first of them.
+  -- A seat with the passes from a to n - 1 gives up the first of them.
   module _ (k : Opening) (a n : ℕ) (below : a < n) (before me own : Me ℕ (List (Knows C))) (was : before ≡ (map (newcomer k) (range_with_len a (n - a)), [])) where
     all_from_a : before ≡ (newcomer k a ∷ map (newcomer k) (range_with_len (a + 1) (n - (a + 1))), [])
     all_from_a = was ∙ ap (λ (l : List ℕ). (map (newcomer k) l, [])) (range-first a n below)

@@ -48,7 +48,7 @@ held-places p None = refl
 held-places p (Some hold.Read) = refl
 held-places p (Some hold.Write) = refl
 
--- after each legal history a writer holds alone, each pass is at most one holder, and the cap is respected
+-- after each legal history a writer holds alone, each pass is at most one holder, and the cap is `reader_limit`
 pub record Standing (s : Locked) : Type 0 where
   pub exclusive : IsExclusive s.lock
   pub cap : s.lock.cap ≡ reader_limit

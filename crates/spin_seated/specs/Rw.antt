@@ -1,4 +1,4 @@
--- The plain read-write lock. It also exports the types of its words.
+-- The plain read-write lock. This file also exports the types of its history: `Opening`, `Call`, `Answer` and others.
 use Rattle.std.specs.Prelude.{ℕ, ◌==◌, Bool, true, false, if◌then◌else◌, List, [], ◌∷◌, Option, Some, None, filter}
 use Rattle.std.specs.Option.{unwrap_or}
 use Rattle.spin_step.specs.Plain.{Plain, Kind, reading, writing, Holder, fresh, Change, gets, releases, turns, to_read, to_write, is_open, count_kind, reader_count, rw_word}

@@ -1,5 +1,5 @@
 -- The rule of a lock of seats. Its word is that of a plain lock whose holders are the parties that sit, at most as many as there are seats.
--- Its trace is a schedule of the lock's model that leads to this word and these parties.
+-- Its trace is a schedule of the lock's model that leads to this word and to the views of all parties.
 use Rattle.std.specs.Prelude.{◌≡◌, ℕ, ◌≤◌, ◌==◌, Bool, true, false, if◌then◌else◌, nat_lt, List, Option, Some, None, count_by}
 use Rattle.spin_step.specs.Plain.{reading}
 use Rattle.spin_core.specs.Cell.{Use, lends, no_fact, Ways}
@@ -114,7 +114,7 @@ met n false found = if nat_lt found (seats n) then GoingOn else Answered Refused
 abbrev pub looks_by : ℕ → Bool → Option View → Says
 looks_by n waits view = step_by (has_begun view) (call_of waits) (met n waits) (at_word n waits)
 
--- the call of this view waits for a seat: it is `enter`
+-- whether the call of this view is `enter`, which waits for a seat
 abbrev pub waits_in : Option View → Bool
 waits_in (Some (Coming waits word)) = waits
 waits_in _ = true

@@ -18,8 +18,8 @@ first_and_further (x ∷ more) = x ∷ further_lines more
 abbrev pub lines_of : List ℕ → List (List ℕ)
 lines_of bytes = first_and_further (slice_split (λ b. b == 10) bytes)
 
--- One space separates two words of a line. So between two spaces in a row there is an empty word, and also before a space at the beginning
--- and after one at the end.
+-- One space separates two words of a line. So there is an empty word between two spaces in a row, before a space at
+-- the beginning, and after a space at the end.
 abbrev pub words_of : List ℕ → List (List ℕ)
 words_of line = slice_split (λ b. b == 32) line
 

@@ -1,5 +1,5 @@
--- A call of a pass of a `Once` is a call of its object. The object's schedule has the same moves of the pass, with the
--- same outcomes.
+-- A call of a pass of a `Once`, unless its closure fails, is a call of its object. The object's schedule has the same
+-- moves of the pass, with the same outcomes.
 use Rattle.std.proofs.Common.{◌≡◌, ℕ, zero, suc, ◌+◌, ◌==◌, if◌then◌else◌, Bool, true, false, Option, Some, None, List, [], ◌∷◌, ◌++◌, replicate, slice_get, refl, sym, ap, ◌∙◌, subst, eqb-true, is_some, arith}
 use Rattle.std.specs.Option.{option_map}
 use Rattle.std.specs.List.{list_all}

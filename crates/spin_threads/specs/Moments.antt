@@ -39,9 +39,9 @@ pub record AtAMoment {W V C L A X : Type 0} (m : Machine W V C L A) (call : C) (
 abbrev pub Was : {X : Type 0} → (Plain → X) → X → Plain → Type 0
 Was look answer s = look s ≡ answer
 
--- If a pass with views of the type `View` has made exactly this call and got this answer, then the plain lock satisfied P
--- at a moment of the call. That moment comes after the history that the pass knew before the call, and before the end of
--- the history that it knows after the call.
+-- Suppose that a pass with views of the type `View` has made exactly this call and got this answer. Then the plain
+-- lock satisfied P at a moment of the call. This moment comes after the history that the pass knew before the call. It
+-- is within the history that the pass knows after the call.
 abbrev pub Found : {W V C L A : Type 0} → Machine W V C L A → Type 0 → C → A → (Plain → Type 0) → Type 0
 Found {V = V} {C = C} m View call answer P =
     (before now : Option (Numbered View)) (old new : List (Entry C V)) → Made m before old now new (IsCall call answer) → AtAMoment m call now old new P

@@ -32,7 +32,7 @@ FoundOnce call answer P =
 abbrev pub has_value : Plain → Bool
 has_value s = is_complete s.phase
 
--- if any call answered with the value, then the `Once` had a value when the call was answered
+-- if a call got the value as its answer, the `Once` had a value just after the step that answered the call
 abbrev pub GaveOnce : Type 0
 GaveOnce =
     (call : OnceCall (Unit {0})) (given : Option (Unit {0})) (before now : Option (Numbered View)) (old new : List Made) → Called given call (Value tt) before old now new

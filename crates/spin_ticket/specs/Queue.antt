@@ -116,7 +116,7 @@ abbrev pub going : ℕ → View
 going n = if is_left n then Going n else Coming
 
 -- The view after the exchange of `lock`, which expected the number `next`. If the exchange found this number, the party has its ticket and
--- waits. Else the party tries the number that it found.
+-- waits. Else the call continues with the number that it found (`going`).
 abbrev pub taken : ℕ → ℕ → View
 taken next n = if n == next then Waiting next else going n
 

@@ -27,7 +27,7 @@ module _ {W V C L A : Type 0} (m : Machine W V C L A) where
   abbrev Turn : Type 0
   Turn = List (ℕ × Move C V)
 
-  -- whether the entries are a round, as a test
+  -- `MovesOn` as a test; `all_move`: whether the entries are a round
   abbrev moves_on : State W V C L → Turn → ℕ → Seat C L → Bool
   moves_on s es p (Calling c l h) = occurs m (λ q move o x. (q == p) && is_awaited m (Some (Calling c l h)) move o) s es
   moves_on s es p (Holding h) = not (may_read h) || occurs m (λ q move o x. (q == p) && is_awaited m (Some (Holding h)) move o) s es
@@ -87,7 +87,8 @@ module _ {W V C L A : Type 0} (m : Machine W V C L A) where
       abbrev MovesFrom : State W V C L → (ℕ → ℕ × Move C V) → ℕ → ℕ → Type 0
       MovesFrom s schedule place p = let there = after m s (stretch schedule 0 place) in (n : ℕ) × MovesOn m there (stretch schedule place n) p (slice_get there.seats p)
 
-      -- what holds from the state after the first entry holds one place later
+      -- a party that moves on from a place in the rest of the schedule moves on from the next place in the whole
+      -- schedule
       place_later : (s : State W V C L) (schedule : ℕ → ℕ × Move C V) (place p : ℕ) → MovesFrom (happens m s (schedule 0).0 (schedule 0).1).next (λ i. schedule (suc i)) place p → MovesFrom s schedule (suc place) p
       place_later s schedule place p moves =
           let next = (happens m s (schedule 0).0 (schedule 0).1).next in (
@@ -113,7 +114,8 @@ module _ {W V C L A : Type 0} (m : Machine W V C L A) where
       pub never_around : (place : ℕ) → occurs m test start (stretch (around e es e es) 0 place) ≡ false
       never_around place = never place start e es first
 
-  -- from some reached state on, no event of a fair schedule passes the test
+  -- after some entries a party is in a call with the promise `what`; then some fair schedule has no event that passes
+  -- the test
   abbrev pub Forever : (ℕ → Test V C L A) → ℕ → Asked → Type 0
   Forever test n what =
       (past : Turn) × (schedule : ℕ → ℕ × Move C V) × (p : ℕ) × (c : C) × (l : L) × (h : Option Hold)

@@ -88,7 +88,7 @@ module _ {W V C L A : Type 0} (m : Machine W V C L A) where
           joined_is = ap (λ es. stretch schedule place one.0 ++ es) rest.joined_is ∙ sym (stretch-append schedule place one.0 rest.many);
         }
 
-  -- if any `bound` rounds have an event that passes the test, each endless fair schedule has one
+  -- if any `bound` rounds have an event that passes the test, each endless fair schedule has such an event
   pub at_last : (test : Test V C L A) (s : State W V C L) (bound : ℕ) → ((rounds : List (List (ℕ × Move C V))) → AreRounds m s rounds → length rounds ≡ bound → occurs m test s (joined rounds) ≡ true)
       → (schedule : ℕ → ℕ × Move C V) → IsFair m s schedule → (place : ℕ) × (occurs m test s (stretch schedule 0 place) ≡ true)
   at_last test s bound comes schedule fair =

@@ -1,6 +1,6 @@
 -- While a starver waits, a fair lock is granted within five rounds. The holder leaves within two rounds. The starver then
--- takes three: it finds the flag clear, sets the flag, and stops starving. If another party sets the flag earlier, this
--- party is granted the lock by its next step.
+-- takes three: it finds the flag clear, sets the flag, and stops starving. If another party sets the flag earlier, the
+-- other party is granted the lock by its next step.
 use Rattle.spin_world_progress.proofs.Names.{seat_of, cases_eq, Next, suc, Bool, entries, entries-other, empty_is, if◌then◌else◌, ◌-◌, resting, ◌≡◌, ℕ, ◌==◌, true, false, Option, Some, None, List, [], ◌∷◌, length, refl, ap, ◌∙◌, arith, not, ◌≤◌, ◌⊎◌, inl, inr, ⊎_elim, Plain, Kind, writing, Holder, is_empty, is_holder, is_starver, without_holder, holder, IsOpenStep, Hold, filter, subst, Answer, Seat, Calling, Holding, Move, Step, Machine, after, at_first, get-set_same, Seen, Scene, scene_at, opening, seen_after, eqb_self, Plays, Invariant, in_call, row_tells, calls_so, StandsSo, fair_machine}
 use Rattle.spin_world.proofs.FairNames.{fair, fair_is_locked-tells, Write, Starver, FairCall, Lock, StarverLock, Release, FairPoint, First, SetFlag, Await, Unregister, asks_of, is_set}
 use Rattle.spin_world.proofs.FairOwed.{fair_notes, fair_facts}
@@ -33,7 +33,8 @@ starves_own : (p : ℕ) (qs : List ℕ) → is_starver p qs ≡ true → not (is
 starves_own p [] found = found
 starves_own p (q ∷ qs) found = grind (arith, found, starves_own p qs)
 
--- how many moves the waiting party still makes if nobody holds; `theirs_by`: how many a holder with this seat makes
+-- the load of the waiting party (`clear`: nobody holds); `theirs_by`: the load of another party (`true`: this party
+-- holds)
 abbrev mine_by : Bool → FairPoint → ℕ
 mine_by clear Unregister = if clear then 3 else 1
 mine_by clear SetFlag = if clear then 2 else 0

@@ -1,4 +1,4 @@
--- A proof that several locks share. If the holders of one kind only release, all of them leave within the same two
+-- A proof that several locks share. If the holders of one kind only release, all of them leave within the first two
 -- rounds. Then the waiting party can continue.
 use Rattle.spin_world_progress.proofs.Names.{seat_of, apply_some, seen_after, opening, cases_eq, suc, ◌<◌, cases_lt, ◌≡◌, ℕ, ◌≤◌, ◌⊎◌, ◌+◌, Bool, true, false, Option, Some, None, List, length, slice_get, refl, ap, sym, ◌∙◌, subst, arith, inl, inr, ⊎_elim, IsOpenStep, entries, entries-other, entries-own, Hold, Seat, Idle, Calling, Next, Answers, Move, Step, Weak, Machine, goes_on, resting, may_read, after, at_first, Seen, Scene, scene_at, joined, entries_of, StandsFor, Table, machine_of, ◌-◌, no_entries, entries_after, get-set_same, Plays, Invariant, Notes, StandsSo, Test, occurs, AreRounds}
 use Rattle.spin_step.specs.Parties.{Entries}

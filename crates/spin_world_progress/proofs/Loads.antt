@@ -1,6 +1,6 @@
--- Progress in rounds. A party waits in a call. Meanwhile each party has a load: the number of rounds after which it lets
--- the others continue, at most. A round lowers the highest loads by one, or reaches the goal. The record `Walks` below
--- has what is to be shown of the steps of each object. All other moves are alike in every object.
+-- Progress in rounds. A party waits in a call. Meanwhile each party has a load: after at most this many rounds it lets
+-- the others continue. A round lowers the highest loads by one, or reaches the goal. The record `Walks` below has what
+-- is to be shown of the steps of each object. All other moves are alike in every object.
 use Rattle.spin_world_progress.proofs.Names.{suc, max, if◌then◌else◌, eqb_self, ne_eqb, eq-eqb, entries, Idle, Gone, may_read, entries_of, Table, machine_of, StandsFor, entries_held, Mark, Notes, StandsSo, row_passes, ◌≡◌, ℕ, ◌<◌, ◌≤◌, ◌⊎◌, ◌==◌, ◌||◌, Bool, true, false, Option, Some, None, List, [], ◌∷◌, length, slice_get, refl, ap, sym, ◌∙◌, subst, arith, inl, inr, ⊎_elim, cases_eq, cases_lt, false≢true, Plain, IsOpenStep, Hold, Seat, Calling, Holding, Leaked, Next, Move, Begin, Step, Weak, BelongsTo, Machine, goes_on, resting, is_owners, Seen, Scene, scene, scene_at, opening, joined, seen_after, after, at_first, ◌-◌, get-set_same, of_event, Plays, Invariant, kept, good_after, state-seen_after, seen_after-append, state_is, seat_is, Test, occurs, IsRound, AreRounds}
 use Rattle.spin_world_progress.specs.Rounds.{is_release}
 use Rattle.spin_world_progress.proofs.Progress.{or_left, or_right, or_rest, has_left, is_busy, is_idle, calls_not, holds_not, unawaited, awaited_of, same_beside, no_owner, left_never, moves_on, occurs-append, step_first}
@@ -228,7 +228,7 @@ module _ {W V C L A B : Type 0} {t : Table W V C L B} {given : Machine W V C L A
         waits_on q sc made (ap (λ xs. slice_get xs p) seats) (λ o. stays sc l o (ap (λ xs. slice_get xs o) seats) (omega (arith, ap (λ s. load_by s l o (seat_of seen o)) plain)) (λ e. idle) (pays o))
 
     module _ (q : ℕ) (ne : q ≡ p → ⊥) where
-      -- an event that changes only the seat of its party q, which then has this load
+      -- an event that changes only the seat of its party q, if `Pays` holds of q after it
       one_moves : (sc : Event) → sc.party ≡ q → After seen q sc → ((q : ℕ) → Pays_by sc q) → Pays sc.after l n es q → ((o : ℕ) → (q ≡ o → ⊥) → load_by sc.after.plain l o (seat_of seen o) ≤ max (load seen l o) n) → Reaches sc ⊎ On sc
       one_moves sc party after pays his others =
           waits_on q sc after (after.others p ne)
@@ -259,7 +259,7 @@ module _ {W V C L A B : Type 0} {t : Table W V C L B} {given : Machine W V C L A
           let before = his_load (seat_of seen q) in
           (omega (arith, low.0, now, before), λ is. omega (arith, low.1 is, now, before))
 
-      -- after a beginning that is no release, the awaited move is still to come
+      -- after q begins a call, its load is at most n, or at most n + 1 with a step of this call still to come
       begins_on : (d : C) (i : L) (j : Option Hold) → seat_of seen q ≡ Some (resting j) → m.begin d j ≡ Some i → Pays_by (begin_at d i j) q
           → (load_by seen.plain l q (Some (Calling d i j)) ≤ n) ⊎ ((load_by seen.plain l q (Some (Calling d i j)) ≤ suc n) × (occurs m (awaited q (Some (Calling d i j))) (begin_at d i j).after.state es ≡ true))
       begins_on d i j at may (inl low) = inl (omega (arith, low, (begins_low d i j at may).0))

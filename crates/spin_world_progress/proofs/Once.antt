@@ -10,8 +10,8 @@ use Rattle.spin_world_progress.proofs.Progress.{is_busy, calls_not, holds_not, s
 use Rattle.spin_world_progress.proofs.Loads.{Wait}
 use Rattle.spin_world_progress.proofs.Loads as walk
 
--- How many moves a call with a closure still makes, by the phase and the call's point. While another party's closure
--- runs, the call waits for this closure.
+-- The load of a call with a closure, by the phase and the call's point. While another party's closure runs, this load
+-- is 0, since the call waits for that closure.
 abbrev mine_by : Phase → ℕ → OncePoint → ℕ
 mine_by complete p l = 1
 mine_by (running q) p l = if q == p then 1 else 0

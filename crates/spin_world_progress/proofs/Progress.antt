@@ -71,7 +71,7 @@ module _ {W V C L A : Type 0} (m : Machine W V C L A) where
     went s c h (Continue l) ne = get-set_other s.seats q d (Calling c l h) ne
     went s c h (Answers a rest) ne = get-set_other s.seats q d (resting rest) ne
 
-    -- while some party is in a call, each other party keeps its seat
+    -- while some party is in a call, a move changes no other seat than that of the party that moves
     pub same_beside : (p : ℕ) (c : C) (l : L) (h : Option Hold) → slice_get seats p ≡ Some (Calling c l h) → (move : Move C V) → (q ≡ d → ⊥)
         → seat_of (scene m seen q move).after d ≡ slice_get seats d
     same_beside p c l h calls move ne =

@@ -1,5 +1,5 @@
--- A read-write lock is free of deadlock. The readers leave in the same two rounds. A holder that does more than read is
--- then alone, and makes one of its moves in each round.
+-- A read-write lock is free of deadlock. All readers leave within the first two rounds. A holder that does more than
+-- read is then alone, and makes one of its moves in each round.
 use Rattle.spin_world_progress.proofs.Names.{seat_of, Knows, good, cases_eq, scene, eqb-true, empty_is, ◌<◌, one_of, eq-eqb, row_tells, in_call, StandsFor, ne_eqb, entries-other, Holding, Upgrade, Asking, max, suc, not, resting, ◌≡◌, ℕ, ◌+◌, ◌≤◌, ◌==◌, Bool, true, false, Option, Some, None, List, [], ◌∷◌, length, slice_get, refl, ap, sym, ◌∙◌, arith, Plain, Kind, reading, upgradable, asking, writing, Holder, Change, releases, turns, count_kind, weight, rw_word, apply_some, IsOpenStep, IsExclusive, ◌-◌, ◌⊎◌, ◌||◌, ◌&&◌, subst, inl, inr, ⊎_elim, nat_lt, min, if◌then◌else◌, lt-ltb, sum_by-cons, same_kind, upgrader, all_kinds, by_kinds, reader_limit, Answer, Hold, Seat, Idle, Calling, Next, Continue, Answers, Move, Step, Weak, Mark, Machine, after, at_first, goes_on, get-set_same, Seen, Scene, scene_at, opening, seen_after, eqb_self, Plays, Invariant, calls, RwCall, RwPoint, rw_machine, rw_notes, rw_facts, Test, grants_any, without_holder, with_kind, filter, list_any, list_all, entries, is_empty}
 use Rattle.spin_world_progress.specs.Rw.{GrantsSomebody, RwIsDeadlockFree, refuses_any, leading, rounds_by, rounds_beside}
 use Rattle.spin_world.proofs.RwNames.{Write, Exchange, Release, Entries, Read, UpgradeableRead, may_turn, read, read_upgradable}
@@ -74,7 +74,8 @@ same_answer : (b : Bool) → (if b then b else not b) ≡ true
 same_answer true = refl
 same_answer false = refl
 
--- a party whose holders all read passes the test of a reader, or that of a party that holds nothing
+-- if all holders of a party only read, they pass the test `reads_so` (below) of a reader, or of a party without
+-- holders
 reads_or_not : (hs : List Holder) → only_read hs ≡ true → (only_read hs && (if reads hs then reads hs else not (reads hs))) ≡ true
 reads_or_not hs all = rw all (same_answer (reads hs))
 
@@ -130,7 +131,7 @@ one_word k [] few is = absurd (cc (is))
 one_word k (h ∷ []) few is = grind (arith, is, sum_by-cons (λ (g : Holder). weight g.kind) h [])
 one_word k (h ∷ i ∷ hs) few is = absurd (omega (arith, few))
 
--- the party u at the start: the one that does more than read, or else p, which holds nothing
+-- At the start the party u is the holder that does more than read. Without such a holder u is p, which holds nothing.
 
 abbrev lead : ℕ → List Holder → ℕ
 lead p [] = p
@@ -195,7 +196,7 @@ abbrev leaves : Option RwSeat → Bool
 leaves (Some (Calling Release l h)) = true
 leaves _ = false
 
--- how many rounds remain at most after the readers beside u have left, by the kind with which u holds
+-- after the readers beside u have left, at most this many rounds remain; the kind of u's hold decides
 abbrev base : Option Kind → ℕ
 base None = 2
 base (Some reading) = 3
@@ -230,12 +231,13 @@ abbrev is_write : RwCall → Bool
 is_write Write = true
 is_write c = false
 
--- how many steps the waiting call makes if nobody holds; the next function: if one reader leaves room for it
+-- how many more steps the waiting call takes if nobody holds
 abbrev own_rank : RwCall → RwPoint → ℕ
 own_rank Write l = 1
 own_rank c (Exchange k) = if k == 0 then 1 else 2
 own_rank c l = 2
 
+-- the same if one reader holds and leaves room for the call, plus one
 abbrev reading_rank : RwPoint → ℕ
 reading_rank (Exchange k) = if k == weight reading then 2 else 3
 reading_rank l = 3
@@ -270,11 +272,11 @@ alone_some c room l a reader out mine theirs = grind (arith, mine, theirs)
 base_some : (k : Option Kind) → 1 ≤ base k
 base_some k = grind arith
 
--- the load while another reader holds
+-- if a reader beside u has a load of at most n + 1, `base` is at most n
 reader_long : (w room : Bool) (k : Option Kind) (b out : Bool) (n : ℕ) → theirs_of w room k b false true out ≤ suc n → base k ≤ n
 reader_long w room k b out n few = grind (arith, few)
 
--- the load at the start
+-- at the start no load exceeds `rounds_by`
 theirs_start : (w room : Bool) (a : Kind) (k : Option Kind) (b own reader out some : Bool) → (same_kind reading a ≡ true → k ≡ None) → (same_kind reading a ≡ false → k ≡ Some a) → (reader ≡ true → some ≡ true) → theirs_of w room k b own reader out ≤ rounds_by a some
 theirs_start w room reading k b own reader out some none leads reads = let is = none refl in grind (arith, is, reads)
 theirs_start w room a k b own reader out some none leads reads = let is = leads refl in grind (arith, is, reads)
@@ -299,7 +301,7 @@ theirs_left w room k b reader out n asks = grind (arith, asks)
 mine_left : (c : RwCall) (room : Bool) (l : RwPoint) (k : Kind) (b reader : Bool) (n : ℕ) → theirs_of (is_write c) room (Some k) b true reader true ≤ suc n → at_come c → is_asking (Some k) ≡ false → mine_of c room l None b ≤ max (mine_of c room l (Some k) b) n
 mine_left c room l k b reader n few comes asks = grind (arith, few, comes, asks)
 
--- the loads when the party u gets a lesser hold
+-- the loads when the hold of u turns into another kind
 its_turned : (w room : Bool) (j k : Kind) (b reader : Bool) (n : ℕ) → may_turn j k ≡ true → theirs_of w room (Some j) b true reader false ≤ suc n → (b ≡ true → 1 ≤ n) → theirs_of w room (Some k) b true reader false ≤ n
 its_turned w room j k b reader n may few beside = grind (arith, may, few, beside)
 
@@ -309,7 +311,7 @@ theirs_turned w room j k b reader out n may = grind (arith, may)
 mine_turned : (c : RwCall) (room : Bool) (l : RwPoint) (j k : Kind) (b reader : Bool) (n : ℕ) → may_turn j k ≡ true → theirs_of (is_write c) room (Some j) b true reader false ≤ suc n → mine_of c room l (Some k) b ≤ max (mine_of c room l (Some j) b) n
 mine_turned c room l j k b reader n may few = grind (arith, may, few)
 
--- what the step function of the waiting call returns
+-- what the step function of `read` or `upgradeable_read` returns; `None` for the other calls
 abbrev lets : ℕ → RwCall → ℕ → Option ℕ
 lets cap Read w = read cap w
 lets cap UpgradeableRead w = read_upgradable cap w
@@ -321,11 +323,12 @@ from (Some (releases q k)) = Some k
 from (Some (turns q j k)) = Some j
 from _ = None
 
--- by this plain step a holder leaves; otherwise it gets a lesser hold
+-- whether a holder leaves by this plain step
 abbrev is_out : Option Change → Bool
 is_out (Some (releases q k)) = true
 is_out _ = false
 
+-- whether a holder turns to a kind to which it may turn
 abbrev is_turn : Option Change → Bool
 is_turn (Some (turns q j k)) = may_turn j k
 is_turn _ = false
@@ -419,7 +422,8 @@ module _ {V : Type 0} (v : V) (cap : ℕ) (some : 1 ≤ cap) where
       word_is : b ≡ false → seen.state.words ≡ sum_by (λ (h : Holder). weight h.kind) (its u s.holders)
       word_is none = let word : seen.state.words ≡ rw_word s = cc (good.encodes) in word ∙ ap (λ hs. sum_by (λ (h : Holder). weight h.kind) hs) (sym (all_its u s.holders none))
 
-      -- the waiting party p holds nothing; `reader_beside`: so some party that holds beside u is not p, and it reads
+      -- The waiting party p holds nothing. `reader_beside`: if any party holds beside u, some reader is neither u nor
+      -- p.
       nothing_mine : (l : RwPoint) → seat_of seen p ≡ Some (Calling c l None) → is_empty (its p s.holders) ≡ true
       nothing_mine l mine_at = row_tells (rw_notes v cap) c l None p s (seen.span p) (λ e. is_empty e.holders) _ (in_call f p good mine_at).knows (grind (arith, comes))
 
@@ -565,7 +569,7 @@ module _ {V : Type 0} (v : V) (cap : ℕ) (some : 1 ≤ cap) where
         goes : (o : Option ℕ) → lets cap c seen.state.words ≡ o → Grants seen p c l None ⊎ GoesTo (onward o)
         goes o is = grind (arith, comes, is, get-set_same seen.state.seats p (Calling c (onward o) None) _ there)
 
-        -- the step if nobody holds; the next lemma: if one reader leaves room for the call
+        -- the step if nobody holds; the next lemma: the step if one reader holds and leaves room for the call
         goes_free : seen.state.words ≡ 0 → Grants seen p c l None ⊎ (GoesTo (Exchange 0) × (own_rank c (Exchange 0) ≤ own_rank c l - 1))
         goes_free zero = grind (arith, comes, zero, lt-ltb 0 (min cap reader_limit) (omega (arith, some)), get-set_same seen.state.seats p (Calling c (Exchange 0) None) _ there)
 

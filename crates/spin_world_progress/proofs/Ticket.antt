@@ -27,7 +27,7 @@ in_queue : (p n k : ℕ) (ts : List Queued) → numbered_from k ts → own p ts 
 in_queue p n k [] numbers e = absurd (cc (e))
 in_queue p n k (t ∷ ts) numbers e = grind (arith, in_queue p n (suc k) ts)
 
--- if p has a ticket that is not the first, its number is later than that of the first
+-- if p has a ticket that is not the first, the number of p's ticket is above the first ticket's number
 later : (p n k : ℕ) (ts : List Queued) → numbered_from k ts → own p ts ≡ queued p n false ∷ [] → (first_party ts ≡ p → ⊥) → k < n
 later p n k [] numbers e ne = absurd (cc (e))
 later p n k (t ∷ ts) numbers e ne = grind (arith, in_queue p n (suc k) ts, ne)

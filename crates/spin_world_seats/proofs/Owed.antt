@@ -29,7 +29,7 @@ point_of n TryEnter (Exchange k) None = looked 1
 point_of n Enter (Exchange k) None = looked 1
 point_of n c l h = starts (begin_of (seats_table n) c h)
 
--- the shape of the lock: nobody queues, all holders read, and each has a seat
+-- the shape of the lock: nobody queues, the cap is the number of seats, all holders read, and at most so many hold
 pub record Seating (n : ℕ) (s : Plain) : Type 0 where
   pub no_queue : s.tickets ≡ []
   pub room : s.cap ≡ seats n

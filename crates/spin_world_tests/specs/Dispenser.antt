@@ -31,7 +31,7 @@ dispenser_plain_steps (gets p to_read) = true
 dispenser_plain_steps _ = false
 
 -- A call that no crate below knows: a try that draws the number k. It is granted at a moment at which exactly k numbers
--- have been drawn. It is refused at a moment at which more or fewer numbers, or all, have been drawn.
+-- have been drawn. It is refused at a moment at which all numbers, or more or fewer than k, have been drawn.
 abbrev pub tries_this : ℕ → Asked
 tries_this k =
     record (tries to_read) {

@@ -57,7 +57,7 @@ draws_another =
 abbrev pub the_second : Entries
 the_second = (0, Begin (call.DrawThis 1)) ∷ (0, Step) ∷ []
 
--- a kind of lock with a call that returns a number
+-- the plain steps of a kind of lock in which a party may also return a number
 abbrev with_return : Change → Bool
 with_return (releases p reading) = true
 with_return c = dispenser_plain_steps c

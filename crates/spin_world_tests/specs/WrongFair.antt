@@ -121,7 +121,7 @@ tells_the_other_reason {V} v =
 abbrev pub try_beside_a_holder : {V : Type 0} → Entries V
 try_beside_a_holder = (0, Begin TryLock) ∷ (0, Step) ∷ (1, Begin TryLockStarver) ∷ (1, Step) ∷ []
 
--- a starver's `lock` never sets the flag
+-- a starver's `lock` that finds the flag set looks for ever, and never tries again
 abbrev pub waits_for_ever : {V : Type 0} → V → FairMachine V
 waits_for_ever v = starver_lock_by v (λ l act. elim l [ Await ↦ load (λ w. Continue Await) | _ ↦ act ])
 

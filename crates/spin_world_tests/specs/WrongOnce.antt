@@ -1,4 +1,4 @@
--- Wrong cells, each wrong in one part of its machine, and schedules on which the laws refuse these cells.
+-- Wrong `Once` objects, each wrong in one part of its machine, and schedules on which the laws refuse these objects.
 use Rattle.std.specs.Prelude.{ℕ, Option, Some, None, [], ◌∷◌, ◌==◌}
 use Rattle.spin_step.specs.Plain.{Change}
 use Rattle.spin_model.specs.declared.place.Hold.{Hold}
@@ -18,12 +18,12 @@ use Rattle.spin_world.specs.Keeping.{Entries}
 abbrev OnceStep : Type 0 → Type 0
 OnceStep V = Stepped ℕ V OncePoint (Answer V)
 
--- the cell with these steps instead of its own
+-- the `Once` with these steps instead of its own
 abbrev with_steps : {V : Type 0} → Option V → (ℕ → Option V → OnceCall V → OncePoint → Option Hold → OnceStep V → OnceStep V) → OnceMachine V
 with_steps {V} opening steps =
     let m : OnceMachine V = once_machine opening in record m { step = λ w value c l h. steps w value c l h (m.step w value c l h) }
 
--- the cell m with these plain steps instead of its own
+-- the `Once` m with these plain steps instead of its own
 abbrev with_changes : {V : Type 0} → OnceMachine V → (OnceCall V → OncePoint → Option Change → Option Change) → OnceMachine V
 with_changes m changes = record m { change = λ p w c l h. changes c l (m.change p w c l h) }
 
@@ -53,7 +53,7 @@ sticks V = with_changes (sticks_silently V) (λ c l made. elim c [ TryCallOnceEr
 abbrev pub one_failure : {V : Type 0} → Entries V
 one_failure = (0, Begin TryCallOnceErr) ∷ (0, Step) ∷ (0, Step) ∷ (0, Step) ∷ []
 
--- `get` answers this value, even if the cell has no value
+-- `get` answers this value, even if the `Once` has no value
 abbrev pub gets_early : {V : Type 0} → V → OnceMachine V
 gets_early v = with_steps None (λ w value c l h step. elim c [ Get ↦ stays w (Answers (Value v) h) | _ ↦ step ])
 
@@ -138,7 +138,7 @@ loses_by_chance V =
 abbrev pub a_look_and_chance : {V : Type 0} → V → Entries V
 a_look_and_chance v = (0, Begin (CallOnce v)) ∷ (0, Step) ∷ (0, Weak) ∷ []
 
--- the cell has a value, but its word says that it has none
+-- the `Once` has a value, but its word says that there is none
 abbrev pub opens_at_nothing : {V : Type 0} → V → OnceMachine V
 opens_at_nothing {V} v = let m : OnceMachine V = once_machine (Some v) in record m { words = 0 }
 

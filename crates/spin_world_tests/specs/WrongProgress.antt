@@ -28,7 +28,7 @@ use Rattle.spin_step_more.specs.declared.rw_calls.RwCall.TheVariants as rw
 use Rattle.spin_step_more.specs.declared.rw_calls.RwPoint.TheVariants as rw_point
 use Rattle.spin_step_more.specs.RwCalls as rws
 
--- A flag whose waiting party never looks again after its exchange has failed
+-- A flag whose waiting party looks for ever after its exchange has failed, and never tries again
 
 abbrev never_looks_act : {V : Type 0} → FlagCall → FlagPoint → Option Hold → Act Bool FlagPoint (Answer V)
 never_looks_act flag.Lock flag_point.Second h = load (λ n. Continue flag_point.Second)

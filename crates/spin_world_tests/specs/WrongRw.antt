@@ -122,7 +122,7 @@ reads_by v f =
 abbrev pub reads_by_a_mask : {V : Type 0} → V → RwMachine V
 reads_by_a_mask v = reads_by v (λ w. if tells upgradable w then None else Some (w + weight reading))
 
--- `try_write` may fail spuriously, though it is no weak try
+-- `try_write` only loads the word, and always fails
 abbrev pub writes_by_chance : {V : Type 0} → V → RwMachine V
 writes_by_chance v = with_steps v (λ c l h act. elim c [ TryWrite ↦ load (λ w. Answers Refused h) | _ ↦ act ])
 

@@ -132,6 +132,6 @@ looks_on =
 abbrev pub enter_in_vain : Entries
 enter_in_vain = (0, Begin call.Enter) ∷ (0, Step) ∷ (0, Step) ∷ (0, Step) ∷ (0, Step) ∷ []
 
--- the kind of lock has no `leave` for a party with a seat
+-- by the promise of `leave`, no party may begin this call
 abbrev pub keeps_all : SeatsMachine
 keeps_all = let t : SeatsTable = seats_table 2 in machine_of (record t { asks = λ c h. elim c [ call.Leave ↦ gives_back (λ hold. false) h | other ↦ asks_of other h ] })

@@ -1,4 +1,4 @@
--- the book of this call: no gain has been added yet
+-- for the book of this call: the sum of all gains, and the book's name and parts
 use Rattle.std.proofs.Common.{◌*◌}
 use Rattle.spin_uses.proofs.phases.run_phases.Given as goal
 

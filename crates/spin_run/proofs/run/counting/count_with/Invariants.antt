@@ -1,4 +1,4 @@
--- the book of this call: no addition has been made yet
+-- for the book of this call: the number of all additions, and the book's name and parts
 use Rattle.std.proofs.Common.{◌*◌}
 use Rattle.spin_run.proofs.run.counting.count_with.Given as goal
 

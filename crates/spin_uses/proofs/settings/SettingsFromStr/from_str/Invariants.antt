@@ -1,4 +1,4 @@
--- the lines read so far made these settings, and the text has the remaining lines left
+-- the lines read so far made these settings, and the iterator has the remaining lines
 use Rattle.std.specs.Str.Lines.{lines}
 use Rattle.spin_uses.proofs.Lines.{Midway}
 use Rattle.spin_uses.proofs.settings.SettingsFromStr.from_str.Given as goal
