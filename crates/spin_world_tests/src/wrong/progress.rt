@@ -5,7 +5,8 @@ ghost use Rattle.spin_world_progress.specs.Rw.{UpgradesInThree};
 ghost use Rattle.spin_world_progress.specs.Ticket.{EntersInRounds};
 ghost use Rattle.spin_world_tests.specs.WrongProgress.{never_looks, set_before_it, four_looks, serves_twice, one_before_it, four_turns, gives_up, asked, three_steps};
 
-/// A flag whose waiting party never looks again after its exchange has failed. Nobody acquires the lock in four rounds.
+/// A flag whose waiting party looks for ever after its exchange has failed, and never tries again. Nobody acquires the
+/// lock in four rounds.
 pub fn a_waiting_party_looks_again<V: Copy>()
     ensures { (value : V) → LocksInFour (never_looks value) 2 set_before_it four_looks → ⊥ }
 {}

@@ -78,7 +78,7 @@ pub fn a_kind_of_lock_has_four_steps()
     ensures { CountsAll looks_on 1 enter_in_vain → ⊥ }
 {}
 
-/// A lock of another kind, which has no call to leave. The clause `named` says which kind a lock is.
+/// Seats whose promise of `leave` lets no party begin this call. The clause `named` says what each call promises.
 pub fn a_lock_is_of_its_kind()
     ensures { IsSeats 2 keeps_all → ⊥ }
 {}
