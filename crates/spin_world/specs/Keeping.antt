@@ -31,7 +31,7 @@ once_after m n past = after m (at_first m n) past
 abbrev pub seen_at : {V : Type 0} → OnceMachine V → ℕ → Entries V → Seen ℕ V (OnceCall V) OncePoint
 seen_at m n past = seen_after m (opening m n) past
 
--- by this move the owner does not replace the value; `is_shared`: by no move of these entries
+-- the owner does not replace the value by this move, or (`is_shared`) by any move of these entries
 abbrev pub keeps_value : {C V : Type 0} → Move C V → Bool
 keeps_value (OwnerSet v) = false
 keeps_value _ = true
