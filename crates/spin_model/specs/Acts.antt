@@ -201,8 +201,9 @@ pub record Table (W V C L A : Type 0) : Type 0 where
 abbrev pub begin_of : {W V C L A : Type 0} → Table W V C L A → C → Option Hold → Option L
 begin_of t c h = passing ((t.asks c h).begins h) (t.start c h)
 
--- The machine of a table, with its own outcomes of a spurious failure (`refuse`) and of a step. `says` tells what its answers say. `brings`
--- and `gives` tell the values of calls and of answers. The answers may be of another type than the table's.
+-- The machine of a table. `refuse` and `step` are its outcomes of a spurious failure and of a step. `says` tells what
+-- its answers say. `brings` and `gives` tell the values of calls and of answers. The answers may be of another type
+-- than the table's.
 abbrev pub machine_by : {W V C L A B : Type 0} → Table W V C L A → (C → L → Option Hold → Option (Next L B)) → (W → Option V → C → L → Option Hold → Stepped W V L B) → (B → Said) → (C → Option V) → (B → Option V) → Machine W V C L B
 machine_by t refuse step says brings gives =
     record {

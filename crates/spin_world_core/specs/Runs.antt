@@ -187,10 +187,10 @@ MayTouch seen p (outcome.Value r) (OwnerSet v) = IsOwners seen
 MayTouch seen p outcome.Written (OwnerSet v) = IsOwners seen
 MayTouch seen p _ _ = Unit {0}
 
--- Which moves may be skipped. A step of a call and a leak by a holder are never skipped. A call is skipped only if it
--- may not begin with what its party holds. A read or write by a holder, or after a leak, is skipped only if the party
--- has no right to it. An owner's move is skipped only if there is no owner or some party shares the value. Other moves
--- may be skipped.
+-- Which moves may be skipped. A step of a call and a leak by a holder are never skipped. A call by an idle party or a
+-- holder is skipped only if it may not begin with what the party holds. A read or write by a holder, or after a leak,
+-- is skipped only if the party has no right to it. An owner's move is skipped only if there is no owner or some party
+-- shares the value. Other moves may be skipped.
 
 abbrev pub MaySkip : {W V C L A : Type 0} → Machine W V C L A → Seen W V C L → ℕ → Move C V → Option (Seat C L) → Type 0
 MaySkip m seen p (Begin c) (Some Idle) = (m.asks c None).begins None ≡ false

@@ -1,5 +1,4 @@
--- Waiting calls that nobody disturbs. Once its request is open, such a call is answered within as many own steps as it
--- promises.
+-- Waiting calls that nobody disturbs. Once its request is open, such a call is answered within the steps it promises.
 use Rattle.std.specs.Prelude.{◌≡◌, ℕ, ◌≤◌, ◌<◌, ◌==◌, ◌&&◌, Bool, true, false, Option, Some, is_some, min, List, [], ◌∷◌, ◌++◌, if◌then◌else◌}
 use Rattle.spin_step.specs.Plain.{Plain, is_empty}
 use Rattle.spin_model.specs.declared.schedule.Outcome.{Outcome}
