@@ -1,4 +1,4 @@
--- The values in a trace that is a schedule of a model: which was written last, and how it tells the cell's value.
+-- The values in a trace that is a schedule of a model: which was written last, and when this is the cell's value.
 use Rattle.std.specs.Prelude.{◌≡◌, true, false, Option, Some, None, List, [], ◌∷◌}
 use Rattle.spin_model.specs.declared.schedule.Move.{Move}
 use Rattle.spin_model.specs.declared.schedule.Move.TheVariants.{Write}

@@ -139,8 +139,8 @@ a_call =
 
 -- Calls that wait.
 
--- The call looks first. It takes steps until it is granted, without a limit. Once its request is open, it takes at
--- most two steps undisturbed. After its plain step the request counts as open.
+-- The call looks first. It takes steps until it is granted, without a limit. Once its request is open, the call takes
+-- at most two steps if undisturbed. After its plain step the request counts as open.
 abbrev pub waits : Ask → Asked
 waits ask =
     record a_call {

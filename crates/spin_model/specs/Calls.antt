@@ -162,7 +162,7 @@ pub record Asked : Type 0 where
   -- Whether what a waiting call asks next is open. The arguments: whether it has made no plain step yet, the number of arrivals up to its
   -- own, its party, and the plain lock.
   pub is_open_next : Bool → ℕ → ℕ → Plain → Bool
-  pub undisturbed_steps : ℕ  -- once what it asks next is open, it takes at most so many own steps undisturbed
+  pub undisturbed_steps : ℕ  -- once what it asks next is open, it takes at most so many own steps if undisturbed
   -- what a waiting call tries to get without a look first, after these plain steps
   pub goes_for : List Change → Option Ask
   pub may_register : List Change → Bool  -- after these plain steps it may register as a starver in place of a look
