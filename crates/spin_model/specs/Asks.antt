@@ -197,7 +197,7 @@ waits_to_upgrade =
       gets_weakly = is_for to_upgrade_asked;
     }
 
--- The call takes steps until it is granted. It asks for the lock as a newcomer, and after it has registered as a
+-- The call takes steps until it is granted. It asks for the lock as a newcomer; once it is registered, it asks as a
 -- starver. Suppose that more than n looks found the lock held. Then the call registers, or finds the cap reached,
 -- within two steps and one more for each change by others.
 abbrev pub waits_or_starves : ℕ → Asked

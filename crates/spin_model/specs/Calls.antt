@@ -87,7 +87,7 @@ pub data Limit : Type 0 where
   registers_after : ℕ → ℕ → Limit
 
 -- The plain steps by which a party gets what it asks. A party takes a ticket before it enters. A call that waits to
--- upgrade first asks to upgrade. A starver that gets the lock then stops starving.
+-- upgrade first asks to upgrade. After a starver gets the lock, it stops starving.
 abbrev pub grant : ℕ → Ask → List Change
 grant p to_upgrade_asked = turns p upgradable asking ∷ gets p to_upgrade_asked ∷ []
 grant p to_enter = gets p to_take_ticket ∷ gets p to_enter ∷ []

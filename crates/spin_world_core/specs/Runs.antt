@@ -257,8 +257,8 @@ abbrev pub asked : {W V C L A : Type 0} → Machine W V C L A → Option (Seat C
 asked m (Some (Calling c l h)) = Some (m.asks c h)
 asked m _ = None
 
--- A call that is answered has made the plain steps that its answer implies. A call that continues has made a beginning
--- of the plain steps that some answer implies.
+-- A call that is answered has made the plain steps that its answer implies. The plain steps of a call that continues are
+-- the first ones of those that some answer implies.
 abbrev pub OwnSteps : {W V C L A : Type 0} → Machine W V C L A → ℕ → List Mark → Outcome A V → Option Asked → Type 0
 OwnSteps m p span (outcome.Answered a b) (Some what) = AnyOf (λ steps. own p span ≡ steps) (own_steps (what.answers (m.says a)) p)
 OwnSteps m p span (outcome.Answered a b) None = ⊥
