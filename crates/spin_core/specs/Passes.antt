@@ -42,7 +42,7 @@ Ending V = Outcome (Answer V) V
 abbrev pub Says : (V C A X : Type 0) → Type 1
 Says V C A X = List (Move C V) → List (Outcome A V) → ℕ → X → Type 0
 
--- a relation of a party's view and known entries before to its view and known entries now
+-- a relation between what a party had before and what it has now: its view, and the entries that it knows
 abbrev pub Between : (V C X : Type 0) → Type 1
 Between V C X = Option (Numbered X) → List (Entry C V) → Option (Numbered X) → List (Entry C V) → Type 0
 

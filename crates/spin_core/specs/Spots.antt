@@ -37,6 +37,7 @@ module _ {K W V C L A X : Type 0} (model : K → Machine W V C L A) where
 
 -- For locks whose opening is given by the key as well:
 module _ {K W V C L A X : Type 0} (model : K → Machine W V C L A) (opening : K → Opening V) where
-  -- from p to q the holder has written the value x and made this call; at q the trace says that x was written last
+  -- From p to q the holder has written a value and made this call. If the opening's `told` is true, this value is x,
+  -- and at q the trace says that x was written last.
   abbrev pub Releases : C → A → V → Spot K X (Entry C V) → Spot K X (Entry C V) → Type 0
   Releases call answer x p q = Since model (WritesSome (λ y. (opening p.0).told ≡ true → y ≡ x) (IsCall call answer)) p q × IsLast (opening p.0) q.2.entries x

@@ -1,4 +1,4 @@
--- The values in a trace that is a schedule of a model: which one was written last, and how it tells the value in the cell.
+-- The values in a trace that is a schedule of a model: which was written last, and when this is the cell's value.
 use Rattle.std.specs.Prelude.{◌≡◌, true, false, Option, Some, None, List, [], ◌∷◌}
 use Rattle.spin_model.specs.declared.schedule.Move.{Move}
 use Rattle.spin_model.specs.declared.schedule.Move.TheVariants.{Write}
@@ -32,8 +32,9 @@ module _ {C V : Type 0} where
   abbrev pub last : {S : Type 0} → Opening V → Knowledge (Trace (Entry C V) S) V
   last opening = knows (λ t x. IsLast opening t.entries x)
 
-  -- What a step's moves write, given the party's use before the step, its use after the step, and the value shown to it. A party that
-  -- stops writing writes the value that it leaves. Any other party writes nothing.
+  -- What a step's moves write, given the party's use before the step, its use after the step, and the value shown to
+  -- it. A party that stops writing writes the value shown, if there is one. Nothing is said of a party that goes on
+  -- writing. Any other party writes nothing.
   abbrev pub Leaves : Use → Use → Option V → List (Move C V) → Type 0
   Leaves writes writes shown own = Unit {0}
   Leaves writes _ None own = Unit {0}

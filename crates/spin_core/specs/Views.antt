@@ -10,7 +10,7 @@ pub data Part : Type 0 where
   idle : Part
   holds : Kind → Part
   queues : ℕ → Bool → Part  -- its ticket has this number, and has or has not entered
-  knows_served : ℕ → Part  -- it has nothing, and knows that this number was served once
+  knows_served : ℕ → Part  -- it has nothing, and has found this number served
   starves : Part
   holds_starving : Part  -- it writes, and is still a starver
 

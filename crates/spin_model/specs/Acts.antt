@@ -15,7 +15,7 @@ use Rattle.spin_model.specs.Machines.{Machine}
 use Rattle.spin_model.specs.Operations.{Operation, loads, exchanges, sets_lowest_bit, performed}
 use Rattle.spin_model.specs.Schedules.{placed}
 
--- An object's words as a list of numbers, and the words after the i-th of these numbers is replaced.
+-- An object's words as a list of numbers (`numbers`). `put i k` replaces the i-th of these numbers by k.
 pub record Memory (W : Type 0) : Type 0 where
   pub numbers : W → List ℕ
   pub put : ℕ → ℕ → W → W
@@ -171,7 +171,7 @@ abbrev pub is_section : {W L A : Type 0} → Act W L A → Bool
 is_section (section can f step won lost) = true
 is_section _ = false
 
--- a load by a call that waits for another party is a look
+-- the kind of a `load_if` or an `enter`: a look if the call may wait for another party
 abbrev pub look_kind : Asked → StepKind
 look_kind what = either what.waits look plain
 
@@ -201,8 +201,9 @@ pub record Table (W V C L A : Type 0) : Type 0 where
 abbrev pub begin_of : {W V C L A : Type 0} → Table W V C L A → C → Option Hold → Option L
 begin_of t c h = passing ((t.asks c h).begins h) (t.start c h)
 
--- The machine of a table, with its own outcomes of a spurious failure (`refuse`) and of a step. `says` tells what its answers say. `brings`
--- and `gives` tell the values of calls and of answers. The answers may be of another type than the table's.
+-- The machine of a table. `refuse` and `step` are its outcomes of a spurious failure and of a step. `says` tells what
+-- its answers say. `brings` and `gives` tell the values of calls and of answers. The answers may be of another type
+-- than the table's.
 abbrev pub machine_by : {W V C L A B : Type 0} → Table W V C L A → (C → L → Option Hold → Option (Next L B)) → (W → Option V → C → L → Option Hold → Stepped W V L B) → (B → Said) → (C → Option V) → (B → Option V) → Machine W V C L B
 machine_by t refuse step says brings gives =
     record {
@@ -229,8 +230,8 @@ machine_by t refuse step says brings gives =
 abbrev pub machine_of : {W V C L A : Type 0} → Table W V C L A → Machine W V C L A
 machine_of t = machine_by t (λ c l h. refusal_by (t.act c l h)) (λ w v c l h. step_by t.memory (t.word l) (t.act c l h) w) t.says (λ c. None) (λ a. None)
 
--- An object whose closures make its value. Its table has no values. A call whose answer is a value gets the value that is there after its
--- last step.
+-- An object whose closures make its value. The answers in its table have no values. A call whose answer is a value
+-- gets the value that is there after its last step.
 
 -- only a store completes a closure; it stores the value that the call's closure gave
 abbrev pub completes_by : {W L A : Type 0} → Act W L A → Bool

@@ -139,8 +139,8 @@ a_call =
 
 -- Calls that wait.
 
--- The call looks first, and steps until it is granted, without a limit. Undisturbed it looks at most once before its exchange. After its
--- plain step only the answer is left.
+-- The call looks first. It takes steps until it is granted, without a limit. Once its request is open, the call takes
+-- at most two steps if undisturbed. After its plain step the request counts as open.
 abbrev pub waits : Ask → Asked
 waits ask =
     record a_call {
@@ -174,8 +174,9 @@ waits_starving =
       undisturbed_steps = 4;
     }
 
--- The call waits in a queue. It has a ticket by its second step; each change by others allows one step more. Without a ticket it asks for
--- one that enters at once; with its ticket it asks to enter.
+-- The call waits in a queue. After two steps, and one more for each change by others, it has a ticket, or has found
+-- that none is left. Without a ticket its request is open if it could take one and enter at once; with its ticket, if
+-- it may enter.
 abbrev pub waits_to_enter : Asked
 waits_to_enter =
     record (waits to_enter) {
@@ -196,8 +197,9 @@ waits_to_upgrade =
       gets_weakly = is_for to_upgrade_asked;
     }
 
--- The call steps until it is granted. It locks unregistered; once it has registered, it locks as a starver. After n looks that found the
--- lock held, a further such look makes it register by its second step from there.
+-- The call takes steps until it is granted. It asks for the lock as a newcomer; once it is registered, it asks as a
+-- starver. Suppose that more than n looks found the lock held. Then the call registers, or finds the cap reached,
+-- within two steps and one more for each change by others.
 abbrev pub waits_or_starves : ℕ → Asked
 waits_or_starves n =
     record a_call {
@@ -295,7 +297,7 @@ gives_back may held = does may (λ p. let_go_of p held)
 
 -- Values.
 
--- the call gives a value; if there is none, its own closure makes it
+-- the call gives a value, which its own closure may have made
 abbrev pub initializes : Asked
 initializes =
     record a_call {

@@ -82,12 +82,12 @@ pub data Limit : Type 0 where
   -- After this many steps, and one more for each change by others, a call that waits has got what it asks here, or has found it closed.
   gets_within : Ask → ℕ → Limit
   changes_within : ℕ → Limit  -- after this many steps a call that waits has made a plain step
-  -- `registers_after n m`: a call that waits has looked n times and found the lock held. If it then looks again and finds the lock held, it
-  -- registers as a starver, or finds the cap, within m steps from there and one more for each change by others.
+  -- `registers_after n m`: suppose that n looks of a waiting call have found the lock held. After one more such look
+  -- the call registers as a starver, or finds the cap reached, within m steps and one more for each change by others.
   registers_after : ℕ → ℕ → Limit
 
--- The plain steps by which a party gets what it asks. To enter it first takes a ticket. A call that waits to upgrade first asks to. A
--- starver that gets the lock then stops starving.
+-- The plain steps by which a party gets what it asks. A party takes a ticket before it enters. A call that waits to
+-- upgrade first asks to upgrade. After a starver gets the lock, it stops starving.
 abbrev pub grant : ℕ → Ask → List Change
 grant p to_upgrade_asked = turns p upgradable asking ∷ gets p to_upgrade_asked ∷ []
 grant p to_enter = gets p to_take_ticket ∷ gets p to_enter ∷ []
@@ -143,7 +143,7 @@ own_steps (got_or_starved a b) p = grant p a ∷ (gets p to_starve ∷ grant p b
 own_steps (found test) p = [] ∷ []
 own_steps (means steps right) p = steps p
 
--- The answer is right at a moment of the call: in a state in which a step of its span was made, perhaps the last one.
+-- The answer is right at a moment of the call: in a state in which some step of its span, perhaps the last, was made.
 abbrev pub moment : Meaning → ℕ → List Mark → Bool
 moment never p span = false
 moment (got ask) p span = list_any (grants p ask) span
@@ -162,14 +162,14 @@ pub record Asked : Type 0 where
   -- Whether what a waiting call asks next is open. The arguments: whether it has made no plain step yet, the number of arrivals up to its
   -- own, its party, and the plain lock.
   pub is_open_next : Bool → ℕ → ℕ → Plain → Bool
-  pub undisturbed_steps : ℕ  -- once this is open, it takes at most so many own steps if no other party disturbs it
-  -- what a call that waits for its turn without a look asks next, by the plain steps that it has made
+  pub undisturbed_steps : ℕ  -- once what it asks next is open, it takes at most so many own steps if undisturbed
+  -- what a waiting call tries to get without a look first, after these plain steps
   pub goes_for : List Change → Option Ask
-  pub may_register : List Change → Bool  -- after these plain steps, while its turn has not come, it may register as a starver in place of a look
+  pub may_register : List Change → Bool  -- after these plain steps it may register as a starver in place of a look
   pub is_weak : Bool  -- it makes weak exchanges, which may fail spuriously
   pub before_weakly : ℕ → List Change  -- the plain steps that it makes before its weak exchange
   pub gets_weakly : Change → Bool  -- the plain steps that it makes by a weak exchange, and only so
-  pub needs_no_cause : Said → Bool  -- the answers to which a spurious failure may lead, which need no moment
+  pub needs_no_cause : Said → Bool  -- the answers to which a spurious failure may lead; they need no moment
 
 abbrev pub HasMoment : Asked → Said → ℕ → List Mark → Type 0
 HasMoment what said p span = moment (what.answers said) p span ≡ true
@@ -182,7 +182,7 @@ HasWeakMoment what said p span = (what.needs_no_cause said || moment (what.answe
 pub record LockKind : Type 0 where
   pub word : Plain → ℕ  -- its first word, as a sum over the plain lock
   pub further_words : List (Plain → ℕ)  -- its other words, as sums over the plain lock
-  pub plain_steps : Change → Bool  -- the plain steps that it makes, except that a closure completes; that is `makes_value`
+  pub plain_steps : Change → Bool  -- the plain steps that it makes; for `completes`, `makes_value` decides
   -- the calls of a party that holds this; the number is an argument that a call may have
   pub calls : ℕ → Option Hold → List Asked
   pub spins_on_exchange : Bool  -- a waiting call that does not look first repeats its exchange without looks

@@ -5,7 +5,7 @@ use Rattle.spin_model.specs.declared.place.Hold.{Hold}
 use Rattle.spin_model.specs.Calls.{Asked, LockKind, usual}
 use Rattle.spin_model.specs.Asks.{gives_back, is_write, looks, tries, tries_weakly, waits_to_write}
 
--- of a flag, whose holders all write
+-- the plain steps of a flag; each of its holders writes
 abbrev pub flag_plain_steps : Change → Bool
 flag_plain_steps (gets p to_write) = true
 flag_plain_steps (releases p writing) = true

@@ -37,7 +37,7 @@ runs end TryBegin h = exchange (swap 0 begun) (λ p. gets p to_begin) (Continue 
 runs end Await h = load_if is_there (λ w. tells h) (λ w. either (w == 0) (Continue TryBegin) (Continue Await))
 runs end Run h = end
 
--- the step that ends the call's own closure: it stores the value, or it fails
+-- the step that ends the call's own closure, which gives a value or fails
 abbrev pub ends : {V : Type 0} → Option V → Option Hold → OnceAct
 ends (Some v) h = store (λ w. w == 1) (stores (completed 1)) (λ p. completes p) (tells h)
 ends None h = store (λ w. w == 1) (stores (failed 1)) (λ p. fails p) (Answers Failed h)

@@ -25,8 +25,8 @@ performed (subtracts k) n = n - k
 performed sets_lowest_bit n = if n % 2 == 0 then n + 1 else n
 performed (stores k) n = k
 
--- Whenever the step is possible, it makes this operation on the i-th word, and leaves the other words. Its outcome depends only on the
--- number that it finds.
+-- Whenever the step is possible, it makes this operation on the i-th word, and leaves the other words as they are. Its
+-- outcome depends only on the number that it finds.
 pub record Performs {W V C L A : Type 0} (m : Machine W V C L A) (c : C) (l : L) (h : Option Hold) (i : ℕ) (operation : Operation) : Type 0 where
   pub words : (w : W) (v : Option V) → m.can w c l h ≡ true → m.numbers (m.step w v c l h).words ≡ slice_set (m.numbers w) i (performed operation (get_or (m.numbers w) i 0))
   pub next : (w u : W) (v : Option V) → m.can w c l h ≡ true → m.can u c l h ≡ true → get_or (m.numbers w) i 0 ≡ get_or (m.numbers u) i 0 → (m.step w v c l h).next ≡ (m.step u v c l h).next
@@ -48,7 +48,7 @@ pub record Stepwise {W V C L A : Type 0} (m : Machine W V C L A) : Type 0 where
   -- each call is one of its kind of lock, and begins exactly if its party holds what the call needs
   pub calls : (c : C) (h : Option Hold) → (n : ℕ) × AnyOf (λ what. m.asks c h ≡ what) (m.lock_kind.calls n h)
   pub begins : (c : C) (h : Option Hold) → is_some (m.begin c h) ≡ (m.asks c h).begins h
-  -- a call that begins makes the plain steps of its kind of lock
+  -- a call that begins makes only plain steps of its kind of lock
   pub fits : (c : C) (h : Option Hold) (said : Said) (p : ℕ) → (m.asks c h).begins h ≡ true
       → list_all (list_all (is_step_of m.lock_kind)) (own_steps ((m.asks c h).answers said) p) ≡ true
   -- what a call gets by a weak exchange, no other step gets

@@ -17,7 +17,7 @@ use Rattle.spin_model.specs.declared.schedule.Outcome.TheVariants as outcome
 use Rattle.spin_model.specs.declared.schedule.Event.{Event}
 use Rattle.spin_model.specs.Machines.{Machine}
 
--- the words, the value, and the place of each party
+-- the words, the value, and the seat of each party
 pub record State (W V C L : Type 0) : Type 0 where
   pub words : W
   pub value : Option V
@@ -180,7 +180,7 @@ abbrev pub after : {W V C L A : Type 0} → Machine W V C L A → State W V C L 
 after m s [] = s
 after m s (e ∷ es) = after m (happens m s e.0 e.1).next es
 
--- the events of the schedule; answers do not have the places yet where their calls began
+-- the events of the schedule; the answers do not yet have the places where their calls began
 abbrev pub events_of : {W V C L A : Type 0} → Machine W V C L A → State W V C L → List (ℕ × Move C V) → List (Event W V A)
 events_of m s [] = []
 events_of m s (e ∷ es) =

@@ -2,7 +2,7 @@
 use Rattle.std.specs.Prelude.{Bool, true, false}
 
 pub data StepKind : Type 0 where
-  plain : StepKind  -- a step that the call makes once
+  plain : StepKind  -- a step of no other kind
   again : StepKind  -- an exchange that the call repeats if it fails
   look : StepKind  -- a load of a call that waits
   weak : StepKind  -- a weak exchange that fails, whatever the word is; only the move `Weak` makes it

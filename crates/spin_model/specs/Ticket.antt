@@ -51,7 +51,7 @@ is_free n serving = (serving == n) && is_left n
 abbrev pub granted : {V : Type 0} → ℕ → Next TicketPoint (Answer V)
 granted t = Answers Granted (Some (hold.Ticket t))
 
--- `lock` goes on to take the number that it found next
+-- `lock` has found n as the next number, and goes on to take it
 abbrev pub goes_for : {V : Type 0} → ℕ → Next TicketPoint (Answer V)
 goes_for n = Continue (Take n)
 

@@ -17,7 +17,7 @@ within p n k (t ∷ ts) numbers e = grind (arith, within p n (suc k) ts)
 turn : (p n k : ℕ) (ts : List Ticket) → numbered_from k ts → own p ts ≡ ticket p n false ∷ [] → is_first p false ts ≡ (k == n)
 turn p n k ts numbers e = grind (arith, within)
 
--- the plain lock lets a party enter exactly if its number is served
+-- a party whose ticket has not entered may enter exactly if its number is served
 pub enters_in_turn : (s : Plain) (p k n : ℕ) → Numbered s → serving_word s ≡ k → own p s.tickets ≡ ticket p n false ∷ [] → is_first p false s.tickets ≡ (k == n)
 enters_in_turn s p k n numbers served e = grind (arith, turn)
 
@@ -53,7 +53,7 @@ numbered-entered k ts numbers = grind arith
 length-entered : (ts : List Ticket) → length (with_first_entered ts) ≡ length ts
 length-entered ts = grind arith
 
--- a party that takes the next number stands at the end of the queue
+-- after a party takes the next ticket the numbers are still consecutive
 numbered-taken : (s : Plain) (p : ℕ) (b : Bool) → Numbered s → Numbered (record s { tickets = s.tickets ++ ticket p s.next b ∷ []; next = s.next + 1 })
 numbered-taken s p b numbered =
     let more = length-append s.tickets (ticket p s.next b ∷ []) in
@@ -99,7 +99,7 @@ serving-moves s (gets p ask) numbered may = omega (arith, serving-given s p (eff
 serving-moves s (serves p) numbered may = serving-gone s.next s.tickets numbered.0 (first_stands p true s.tickets may)
 serving-moves s _ numbered may = omega arith
 
--- the served number stays the same; or the first ticket leaves, and it grows by one
+-- the served number stays the same; or it grows by one, and somebody has a ticket before the step
 abbrev pub Advances : Plain → Change → Type 0
 Advances s c = (serving_word (apply s c) ≡ serving_word s) ⊎ ((is_empty s.tickets ≡ false) × (serving_word (apply s c) ≡ serving_word s + 1))
 

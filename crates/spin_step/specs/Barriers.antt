@@ -21,7 +21,7 @@ is_leading s k = (k % max s.group 1) == 0
 abbrev pub filled_by : Plain → ℕ → ℕ
 filled_by s k = ((k - 1) / max s.group 1 + 1) * max s.group 1
 
--- the generation that the party of the k-th arrival finds when it arrives
+-- the generation just after the k-th arrival
 abbrev pub generation_at : Plain → ℕ → ℕ
 generation_at s k = (k / max s.group 1) % 2 ^ 64
 

@@ -6,7 +6,7 @@ abbrev pub numbered_from : ℕ → List Ticket → Type 0
 numbered_from k [] = Unit {0}
 numbered_from k (t ∷ ts) = (t.number ≡ k) × numbered_from (suc k) ts
 
--- the tickets have the numbers from the served one up to the next one, in order and without gaps
+-- the tickets have the numbers from the served one to the last one taken, in order and without gaps
 abbrev pub Numbered : Plain → Type 0
 Numbered s = (length s.tickets ≤ s.next) × numbered_from (serving_word s) s.tickets
 

@@ -48,7 +48,7 @@ abbrev pub KnowsAt : BarrierPoint → ℕ → Plain → List Mark → Type 0
 KnowsAt Arrive p s span = Unit {0}
 KnowsAt (Leave g) p s span = Waits g p s span
 
--- the shape of a barrier with groups of n: no party holds or queues
+-- the shape of a barrier with groups of n: no party holds
 pub record IsOf (n : ℕ) (s : Plain) : Type 0 where
   pub no_holders : s.holders ≡ []
   pub group : s.group ≡ n

@@ -35,6 +35,6 @@ set_by_holder cap p w s shape is found =
 pub flag_clear : (w : ℕ) (s : Plain) → fair_word s ≡ w → is_empty s.holders ≡ true → w % 2 ≡ 0
 flag_clear w s is free = grind arith
 
--- what the word says of the reason for which a newcomer is refused
+-- if the lock is not open to a newcomer and its word is not 1, somebody starves
 pub word_starved : (w : ℕ) (s : Plain) → OneHolds s → fair_word s ≡ w → (w == 1) ≡ false → (is_empty s.holders && is_empty s.starvers) ≡ false → not (is_empty s.starvers) ≡ true
 word_starved w s one is other closed = grind (arith, eq-eqb w 1, is_empty-none s.holders, empty_is s.starvers)

@@ -38,8 +38,8 @@ point_of StarverDrop First (Some Starver) = looked 0
 point_of Release First (Some Write) = looked 0
 point_of _ _ _ = nowhere
 
--- What else a party knows: how many looks its `lock` has made, compared with its patience. If its next step is blind,
--- the party also knows that this step may be.
+-- What else a party knows of its `lock`: it registers in time, and how many looks have found the lock held, compared
+-- with its patience. Before a blind step the party also knows that this step may be blind.
 abbrev pub KnowsAt : ℕ → FairCall → FairPoint → ℕ → Plain → List Mark → Type 0
 KnowsAt patience Lock (Attempt n) p s span = Looking patience n p span × MayBeBlind patience p span
 KnowsAt patience Lock (Look n) p s span = Looking patience n p span

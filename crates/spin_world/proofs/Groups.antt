@@ -32,7 +32,7 @@ module _ (n : ℕ) where
       let here = kept f seen e.0 e.1 good in
       omega (arith, one_more seen.plain (scene m seen e.0 e.1).change here.keeps.belongs, counted (scene m seen e.0 e.1).after es here.good)
 
-  -- by the party's seat; `last` is the place of the next arrival in its group, or 0 if this arrival fills the group
+  -- for any seat o of the party; `last` is the place of the next arrival in its group, or 0 if it fills the group
   leads_at : (s : BarrierState) (p last : ℕ) (o : Option (Seat BarrierCall BarrierPoint)) → leads n s.words ≡ (last == 0)
       → ((moves_at m s p Step o).outcome ≡ Answered Leader None) ↔ ((passes is_arrival (step_at m s p Step o) ≡ true) × (last ≡ 0))
   leads_at s p last o leading = grind arith

@@ -34,7 +34,8 @@ few_to_load p recent = own_count p recent ≤ changes fair p recent
 abbrev pub few_to_register : ℕ → Plain → ℕ → List Mark → Type 0
 few_to_register p s w recent = own_count p recent + bit (not (first_word fair s == w)) ≤ 1 + changes fair p recent
 
--- `lock` is at a look, and has found the lock held k times; once k is its patience, it counts no further
+-- `lock` has not begun to register. Its looks have found the lock held k times; once k is its patience, it counts no
+-- further.
 pub record Looking (patience k p : ℕ) (span : List Mark) : Type 0 where
   pub counted : k < patience → held_looks p span ≤ k
   pub many : k ≤ held_looks p span

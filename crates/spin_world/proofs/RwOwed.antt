@@ -15,7 +15,7 @@ use Rattle.spin_world_core.proofs.Filled.{plays_of}
 abbrev pub asking_row : Row
 asking_row = record { stand = holds asking; made = λ p. turns p upgradable asking ∷ []; rest = λ p. gets p to_upgrade_asked ∷ []; said = calls.granted; spent = 0 }
 
--- the points of each call; a call that has looked has made one step
+-- the points of each call; a call that has looked has spent one step of its limit
 abbrev pub point_of : RwCall → RwPoint → Option Hold → Point
 point_of TryRead First None = looked 0
 point_of TryRead (Exchange n) None = looked 1

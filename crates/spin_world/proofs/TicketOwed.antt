@@ -71,7 +71,8 @@ module _ {V : Type 0} (v : V) (first : ℕ) where
   owes p IsLocked (LookNext k) None s w span = grind (arith, look_right (w.next == k) p k s span)
   owes p c l h s w span = grind (arith, take_means p s w, enter_means p s w, serve_means p s w, own_count-mine p None plain s span)
 
-  -- If nobody disturbs the call, the party takes the next ticket, at once or after a look, and enters if this is served.
+  -- If nobody disturbs the call, the party takes the next ticket, at once or after a look. It enters if its number is
+  -- served.
 
   soon : SoonAll (ticket_notes v first)
   soon p c l h s w span = grind (arith, enters_in_turn s p w.serving, λ (t : ℕ). not_entered p t s.tickets)

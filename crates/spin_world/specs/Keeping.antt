@@ -31,7 +31,7 @@ once_after m n past = after m (at_first m n) past
 abbrev pub seen_at : {V : Type 0} → OnceMachine V → ℕ → Entries V → Seen ℕ V (OnceCall V) OncePoint
 seen_at m n past = seen_after m (opening m n) past
 
--- by this move the owner does not replace the value; `is_shared`: by no move of these entries
+-- the owner does not replace the value by this move, or (`is_shared`) by any move of these entries
 abbrev pub keeps_value : {C V : Type 0} → Move C V → Bool
 keeps_value (OwnerSet v) = false
 keeps_value _ = true
@@ -83,7 +83,7 @@ pub record AnswersAtOnce {V : Type 0} (m : OnceMachine V) (n : ℕ) (past : Entr
   pub none : (p : ℕ) (l : OncePoint) (h : Option Hold) → (once_after m n past).words ≡ 0 → slice_get (once_after m n past).seats p ≡ Some (Calling Poll l h)
       → outcome_after m n past p Step ≡ Answered NoValue None
 
--- after a call has answered with a value, the next step of a later `get` answers with this value, unless the owner has replaced it
+-- after a call has answered with a value, the next step of each `get` answers with it, unless the owner replaced it
 abbrev pub GetAgrees : {V : Type 0} → OnceMachine V → ℕ → Entries V → Entries V → Type 0
 GetAgrees {V} m n past further =
     (p q : ℕ) (v : V) (l : OncePoint) (h : Option Hold) → outcome_after m n past p Step ≡ Answered (Value v) None → is_shared further ≡ true

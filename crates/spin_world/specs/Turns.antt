@@ -30,8 +30,8 @@ serves_one _ = false
 abbrev pub tickets_gone : {W V C L A : Type 0} → Machine W V C L A → Seen W V C L → List (ℕ × Move C V) → ℕ
 tickets_gone m seen es = steps_made serves_one m seen es
 
--- The words w and the plain lock s of a ticket lock agree. The tickets have all numbers from the served one up to the
--- next one, without it, and only the first ticket may have entered.
+-- The words w and the plain lock s of a ticket lock agree. The tickets have all numbers from the served one to the
+-- last one taken, and only the first ticket may have entered.
 pub record InOrder (w : TicketWords) (s : Plain) : Type 0 where
   pub next : w.next ≡ next_word s
   pub serving : w.serving ≡ serving_word s

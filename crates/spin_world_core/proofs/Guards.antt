@@ -47,7 +47,7 @@ ReaderOrGone s p (Some (Gone h)) = Unit {0}
 ReaderOrGone s p _ = is_reader (entries p s) ≡ true
 
 module _ {V C L : Type 0} (r : GuardedRead C V) (w v : Option V) where
-  -- a party with a guard that is no reader in the plain lock is gone
+  -- if a party with a guard is no reader in the plain lock, the party is gone
   no_reader : (s : Plain) (p : ℕ) (o : Option (Seat C L)) → ReaderOrGone s p o → (is_reader (entries p s) ≡ true → ⊥) → Guard r w o → Guard r v o
   no_reader s p o reads none guard = grind (arith, none)
 

@@ -38,7 +38,7 @@ none_from start p k found (x ∷ xs) le none =
     let b = (x.party == p) && is_begun x.outcome in
     grind (arith, none_from start p (k + 1) (if b then Some k else found) xs)
 
--- of a call that began after its start, the run tells the place as counted from this start
+-- a run tells the place where a call began as counted from the run's own start
 last_from : {W V A : Type 0} (start p k : ℕ) (found here : Option ℕ) (xs : List (Event W V A)) → began_from start found ≡ here
     → began_from start (last_begin p (start + k) found xs) ≡ last_begin p k here xs
 last_from start p k found here [] is = is
@@ -55,7 +55,7 @@ length-with_begins : {W V A : Type 0} (before xs : List (Event W V A)) → lengt
 length-with_begins before [] = refl
 length-with_begins before (x ∷ xs) = ap suc (length-with_begins (before ++ x ∷ []) xs)
 
--- the events of a run that starts after other events and tells places from its own start
+-- a run that starts after the events xs has the events of the longer run, with places counted from its own start
 with_begins_from : {W V A : Type 0} (xs before ys : List (Event W V A)) → with_begins before ys ≡ map (event_from (length xs)) (with_begins (xs ++ before) ys)
 with_begins_from xs before [] = refl
 with_begins_from xs before (y ∷ ys) =

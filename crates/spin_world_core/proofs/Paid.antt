@@ -21,7 +21,7 @@ gets_by kind what act p s span step made is needs aims got = λ ask aim.
     subst (λ cs. let way = way_of kind what cs in (is_due_by way p span ≡ true → is_open_to s p ask ≡ true → step ≡ Some (gets p ask)) × LooksElse way p span (by_step (step_kind_by what act)))
     (sym is) (grind (arith, got (gets p ask), subst (λ cs. goes_of what cs ≡ Some ask) is aim))
 
--- `ContinuesCounted` holds if a step that continues its call is a retry whenever its plain step is open but is not made
+-- `ContinuesCounted` holds if a step is a retry whenever its call continues and its plain step is open but not made
 counted_of : {W L A : Type 0} (change : W → Option Change) (s : Plain) (says : A → Said) (next : Next L A) (o : Option Change) (r : StepKind)
     → ((w : W) (d : Change) → change w ≡ Some d → is_open s d ≡ true → o ≡ None → is_answer next ≡ false → is_again r ≡ true)
     → ContinuesCounted change s (told says next) o r

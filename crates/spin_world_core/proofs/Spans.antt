@@ -36,7 +36,7 @@ pub nil_left : {X : Type 0} (xs ys : List X) → xs ++ ys ≡ [] → xs ≡ []
 nil_left [] ys e = refl
 nil_left (x ∷ xs) ys e = absurd (cc (e))
 
--- a step keeps at most as many failures as changes by others, if it fails only while there are fewer failures
+-- failures never exceed changes by others, if an exchange fails only while failures are fewer than these changes
 pub retries-mine : (kind : LockKind) (p : ℕ) (step : Option Change) (r : StepKind) (s : Plain) (span : List Mark) → failures p span ≤ changes kind p span
     → (is_again r ≡ true → step ≡ None → failures p span < changes kind p span)
     → failures p (mark_of p step r s ∷ span) ≤ changes kind p (mark_of p step r s ∷ span)

@@ -36,7 +36,8 @@ pub held_at : (p : ℕ) (h : Option Hold) → entries_held p h ≡ entries_at p 
 held_at p (Some Read) = refl
 held_at p _ = refl
 
--- What a party that has this `Stand` has after it gets this `Effect`; n is the next ticket's number. `None`: no call does so there.
+-- What a party has after it gets this `Effect`, if it had this `Stand` before; n is the next ticket's number. `None`:
+-- no call gets this effect there.
 abbrev pub after_getting : ℕ → Effect → Stand → Option Stand
 after_getting n (comes k) absent = Some (holds k)
 after_getting n (comes k) starves = Some (holds_and_starves k)

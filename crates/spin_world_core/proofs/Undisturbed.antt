@@ -3,7 +3,8 @@ use Rattle.spin_world_core.proofs.Names.{◌≡◌, ℕ, zero, suc, ◌+◌, ◌
 use Rattle.spin_world_core.proofs.Steps.{AnswersWithin}
 use Rattle.spin_world_core.proofs.Lists.{eqb_self}
 
--- How one more mark of a span changes the number of steps taken since each earlier mark, and which stretch begins with it
+-- The span gets one more mark, m. If m is the party's own, it adds a step to each stretch since an earlier mark. A new
+-- stretch begins with m.
 module _ (kind : LockKind) (p : ℕ) (what : Asked) (m : Mark) (span : List Mark) (P Q : ℕ → Type 0) (begins : is_open_now p what span m.before ≡ true → P 0)
     (step : (n : ℕ) → Leaves kind p m → P n → Q (n + (if m.party == p then 1 else 0))) where
   takes_on : UndisturbedTakes P kind p what span → UndisturbedTakes Q kind p what (m ∷ span)

@@ -30,8 +30,8 @@ outcome_from start o = o
 abbrev pub event_from : {W V A : Type 0} → ℕ → Event W V A → Event W V A
 event_from start e = record e { outcome = outcome_from start e.outcome }
 
--- The events of one run are cut in two at this place. The second part counts the places where calls began from its own
--- start.
+-- The events `one` of a run are cut in two at this place. In the second part, the place where a call began is counted
+-- from the start of this part.
 pub record IsCut {W V A : Type 0} (place : ℕ) (one first second : List (Event W V A)) : Type 0 where
   pub front : first ≡ take place one
   pub back : second ≡ map (event_from place) (drop place one)

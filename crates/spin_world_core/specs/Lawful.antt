@@ -14,7 +14,7 @@ pub record Lawful {W V C L A : Type 0} (m : Machine W V C L A) : Type 0 where
   pub keeps : Always m (KeepsAll m)
   -- each answer but a spurious failure is right at a moment of its call
   pub moments : Always m (MomentsAll m)
-  -- a call with a limit is answered within the limit
+  -- each call keeps the limits of its steps
   pub counts : Always m (CountsAll m)
   -- two reads under one guard find the same value, if the party writes nothing between them
   pub agree : Always m (ReadsAgree m)

@@ -187,10 +187,10 @@ MayTouch seen p (outcome.Value r) (OwnerSet v) = IsOwners seen
 MayTouch seen p outcome.Written (OwnerSet v) = IsOwners seen
 MayTouch seen p _ _ = Unit {0}
 
--- Which moves may be skipped. A step of a call and a leak by a holder are never skipped. A call is skipped only if it
--- may not begin with what its party holds. A read or write by a holder, or after a leak, is skipped only if the party
--- has no right to it. An owner's move is skipped only if there is no owner or some party shares the value. Other moves
--- may be skipped.
+-- Which moves may be skipped. A step of a call and a leak by a holder are never skipped. A call by an idle party or a
+-- holder is skipped only if it may not begin with what the party holds. A read or write by a holder, or after a leak,
+-- is skipped only if the party has no right to it. An owner's move is skipped only if there is no owner or some party
+-- shares the value. Other moves may be skipped.
 
 abbrev pub MaySkip : {W V C L A : Type 0} → Machine W V C L A → Seen W V C L → ℕ → Move C V → Option (Seat C L) → Type 0
 MaySkip m seen p (Begin c) (Some Idle) = (m.asks c None).begins None ≡ false
@@ -257,8 +257,8 @@ abbrev pub asked : {W V C L A : Type 0} → Machine W V C L A → Option (Seat C
 asked m (Some (Calling c l h)) = Some (m.asks c h)
 asked m _ = None
 
--- A call that is answered has made the plain steps that its answer implies. A call that continues has made the first of
--- the plain steps that some answer implies.
+-- A call that is answered has made the plain steps that its answer implies. The plain steps of a call that continues are
+-- the first ones of those that some answer implies.
 abbrev pub OwnSteps : {W V C L A : Type 0} → Machine W V C L A → ℕ → List Mark → Outcome A V → Option Asked → Type 0
 OwnSteps m p span (outcome.Answered a b) (Some what) = AnyOf (λ steps. own p span ≡ steps) (own_steps (what.answers (m.says a)) p)
 OwnSteps m p span (outcome.Answered a b) None = ⊥
@@ -295,7 +295,7 @@ pub record Keeps {W V C L A : Type 0} (m : Machine W V C L A) (s : Scene W V C L
   pub encodes : m.numbers s.after.state.words ≡ encoded m.lock_kind s.after.plain
   -- after the event every party holds and waits in the plain lock as its seat says
   pub places : (q : ℕ) → StandsFor s.after.plain q (s.after.span q) (seat_of s.after q)
-  -- a writer is the only holder, and at most one ticket has entered
+  -- a writer is the only holder, at most one holder may upgrade, and at most one ticket has entered
   pub exclusive : IsExclusive s.after.plain
   -- the plain lock has no holders, or has no tickets
   pub one_list : (is_empty s.after.plain.holders || is_empty s.after.plain.tickets) ≡ true
@@ -379,8 +379,8 @@ InTime kind p span (outcome.Answered a b) (Some what) = EndsWithin (limit kind w
 InTime kind p span outcome.GoingOn (Some what) = ContinuesWithin (limit kind what) kind p span
 InTime kind p span _ _ = Unit {0}
 
--- Suppose that a step makes no plain step and its call continues. If this step makes a plain step at some other words,
--- and that plain step is open now, then the step is an exchange that the call repeats. It counts as a failed exchange.
+-- Suppose that a step makes no plain step, and its call continues. Suppose also that at some words the same step would
+-- make a plain step, and that this plain step is open now. Then the step is an exchange that the call repeats.
 abbrev pub IsCounted : {W V C L A : Type 0} → Machine W V C L A → ℕ → Outcome A V → Move C V → Option (Seat C L) → Option Change → StepKind → Plain → Type 0
 IsCounted {W} m p outcome.GoingOn Step (Some (Calling c l h)) None step_kind s = (w : W) (d : Change) → m.change p w c l h ≡ Some d → is_open s d ≡ true → is_again step_kind ≡ true
 IsCounted m p _ _ _ _ _ _ = Unit {0}

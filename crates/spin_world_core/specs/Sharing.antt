@@ -1,4 +1,5 @@
--- Which parties share the value, so that the owner may not use it, and which have leaked and are gone once it has.
+-- Which parties share the value: meanwhile the owner may not use it. Which have leaked: after the owner's use they
+-- are gone.
 use Rattle.std.specs.Prelude.{Bool, true, false, not}
 use Rattle.spin_model.specs.declared.place.Seat.{Seat}
 use Rattle.spin_model.specs.declared.place.Seat.TheVariants.{Leaked}

@@ -27,7 +27,7 @@ abbrev pub without_begin : {V A : Type 0} → Outcome A V → Outcome A V
 without_begin (outcome.Answered a b) = outcome.Answered a None
 without_begin o = o
 
--- the event has the scene's party, the scene's outcome (without the place of a begin), and the words after the scene
+-- the event has the scene's party, its outcome (apart from where the call began), and the words after the scene
 pub record TellsScene {W V C L A : Type 0} (s : Scene W V C L A) (e : Event W V A) : Type 0 where
   pub party : e.party ≡ s.party
   pub outcome : without_begin e.outcome ≡ s.outcome
@@ -83,7 +83,7 @@ StandsAt has_leaked s p span (place.Leaked h) = entries p s ≡ entries_of p h
 StandsAt is_gone s p span place.Gone = (h : Hold) × (entries p s ≡ entries_of p h)
 StandsAt _ s p span _ = ⊥
 
--- A world of n parties tells a place exactly for each of these parties. The place agrees with the party's stage.
+-- A world of n parties tells a place for each of them, and for no other. The place agrees with the party's stage.
 abbrev pub PlaceSays : Stage → ℕ → Plain → ℕ → List Mark → Option Place → Type 0
 PlaceSays stage n s p span None = (n ≤ p) × (entries p s ≡ no_entries)
 PlaceSays stage n s p span (Some place) = (p < n) × StandsAt stage s p span place

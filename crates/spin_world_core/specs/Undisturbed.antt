@@ -1,4 +1,4 @@
--- Waiting calls that nobody disturbs. Once what such a call asks is open, it is answered within as many own steps as it promises.
+-- Waiting calls that nobody disturbs. Once its request is open, such a call is answered within the steps it promises.
 use Rattle.std.specs.Prelude.{◌≡◌, ℕ, ◌≤◌, ◌<◌, ◌==◌, ◌&&◌, Bool, true, false, Option, Some, is_some, min, List, [], ◌∷◌, ◌++◌, if◌then◌else◌}
 use Rattle.spin_step.specs.Plain.{Plain, is_empty}
 use Rattle.spin_model.specs.declared.schedule.Outcome.{Outcome}
@@ -7,7 +7,8 @@ use Rattle.spin_model.specs.StepKinds.{is_weak}
 use Rattle.spin_model.specs.Calls.{Asked, LockKind, Mark, encoded}
 use Rattle.spin_world_core.specs.Spans.{own, own_count}
 
--- how many parties had arrived after the party's latest plain step (at a barrier: its own arrival); 0 if it made none
+-- The number of arrivals just after the party's latest plain step, or 0 if it made none. At a barrier this step is the
+-- party's own arrival.
 abbrev pub arrived : ℕ → List Mark → ℕ
 arrived p [] = 0
 arrived p (m ∷ ms) = if (m.party == p) && is_some m.change then m.after.arrivals else arrived p ms
@@ -25,8 +26,8 @@ abbrev pub AllOf : {X : Type 0} → (X → Type 0) → List X → Type 0
 AllOf P [] = Unit {0}
 AllOf P (x ∷ xs) = P x × AllOf P xs
 
--- Take any step `first` of the span before which what the call asks was open. If no step from `first` on disturbs the
--- party, then the party has made few steps from `first` on.
+-- Suppose that the call's request was open just before a step `first` of the span. If neither `first` nor a later step
+-- disturbs the party, then few of these steps are the party's own.
 abbrev pub UndisturbedTakes : (ℕ → Type 0) → LockKind → ℕ → Asked → List Mark → Type 0
 UndisturbedTakes IsFew kind p what span =
     (recent : List Mark) (first : Mark) (older : List Mark) → span ≡ recent ++ first ∷ older → is_open_now p what older first.before ≡ true → AllOf (Leaves kind p) (recent ++ first ∷ [])
