@@ -3,7 +3,6 @@
 use Rattle.std.proofs.Common.{◌≡◌, ℕ, ◌+◌, List, [], ◌∷◌, ◌++◌, refl}
 use seplogic.Ra.Ura.{Ura}
 use mir.Syntax.{Lifetime}
-use mir.Val.{Val}
 use base.Logic.{SProp, all, all_e, via, apply∗}
 use base.Fml.{Lft, GName, Share, Incl, Incl-refl, Fml, fex, fobs, fbor, flft}
 use base.Stored.{Coded}
@@ -92,5 +91,5 @@ module _ {M : Type 1} {𝓤 : Ura M} (𝓛 : Logic 𝓤) where
       through x cut = script ∵ updating ! $
           use3 𝓛 (later (some (λ (γ : GName). ‵ (fobs γ (R.coded.code x)) ⊛ ‵ (fbor κ (Body (mem R) c (e + offset R) γ)) ⊛ ‵ (flft κ q) ⊛ ‵ (follows G R m.ghost_name γ F))))
           (hands_before 𝓛 (mem G) (mem R) F inj m.ref_ptr.0 m.ref_ptr.1 c (e + offset R) m.ghost_name κ β inc Id (λ t. t.life) (λ t. t.value) (λ t. all 𝓤 (Again t)) (λ t z. (Parts-in t z).prf) q m.now x (via 𝓤 _ cut.prf (Parts-out x).prf)) $
-          await ! tt $ pick ! (λ γ. split3 ! $ feq_i ! (List Val) (mut_vals (inside x)) (mut_vals (inside x)) refl $
+          await ! tt $ pick ! (λ γ. split3 ! $ feq_i ! _ (mut_vals (inside x)) _ refl $
           fjoin3 ! $ now ! $ having ! (Lending x) γ $ done !)

@@ -209,8 +209,8 @@ module _ {M : Type 1} {𝓤 : Ura M} (𝓛 : Logic 𝓤) (𝓜 : Model 𝓤 𝓛
     closes_found : (k : Entry) → Closes (left k) (back k)
     closes_found k = record {
       found = λ t z n fits os go. closes t z k n os (λ v l. nothing t $ move t (1 ∷ 0 ∷ []) $ fjoin t $ move t (2 ∷ 0 ∷ []) $ fjoin t $
-          flt_i t n (2 ^ 64) fits $ feq_i t (List Val) (vint w64 n ∷ []) (vint w64 n ∷ []) refl $ fjoin t $ fjoin t $
-          feq_i t (List Val) (triple_of n ∷ []) (triple_of n ∷ []) refl $ fjoin t $
+          flt_i t n (2 ^ 64) fits $ feq_i t _ (vint w64 n ∷ []) _ refl $ fjoin t $ fjoin t $
+          feq_i t _ (triple_of n ∷ []) _ refl $ fjoin t $
           fpack t (Valss (u64 ∷ Hr ∷ Wr ∷ [])) (all n v l) (vint w64 n ∷ [], (hand_of here ∷ [], (token ∷ [], tt))) $ move t (1 ∷ []) $ go v l);
     }
 
@@ -223,7 +223,7 @@ module _ {M : Type 1} {𝓤 : Ura M} (𝓛 : Logic 𝓤) (𝓜 : Model 𝓤 𝓛
     closes_stored : (k : Entry) → Stores (left k 0) (back k)
     closes_stored k = record {
       stored = λ t z os go. closes t z k 0 os (λ v l. nothing t $ move t (1 ∷ 0 ∷ []) $ fjoin t $ move t (2 ∷ 0 ∷ []) $ fjoin t $
-          feq_i t (List Val) (pair_of ∷ []) (pair_of ∷ []) refl $ fjoin t $
+          feq_i t _ (pair_of ∷ []) _ refl $ fjoin t $
           fpack t (Valss (Hr ∷ Wr ∷ [])) (both v l) (hand_of here ∷ [], (token ∷ [], tt)) $ move t (1 ∷ []) $ go v l);
     }
 

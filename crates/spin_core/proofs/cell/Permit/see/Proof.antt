@@ -1,5 +1,5 @@
 -- `see` gives up a reader's part of the value, and lends the value for the rest of the cell's borrow.
-use Rattle.spin_core.proofs.WalkNames.{Some, pick, param_laws, ◌≡◌, sym, ◌+◌, List, [], ◌∷◌, refl, ap, dcons, dnil, Val, vptr, inst_fn, Fml, at_ret, ◌$◌, !, by, keep, join, fjoin, learn, await, feq_i, stop, fld, addr, of_opd, first, blocks, exec, returns, alloc_all, pass_all, free_all, look_at, get, get_in, through, sets, sets_last, is, env, sub, whole, tables, fact, named_lft, Ptr, ptr_val, block_of, count_of, at_block, param, bounded, tail, says}
+use Rattle.spin_core.proofs.WalkNames.{Some, pick, param_laws, ◌≡◌, sym, ◌+◌, [], ◌∷◌, refl, ap, dcons, dnil, vptr, inst_fn, Fml, at_ret, ◌$◌, !, by, keep, join, fjoin, learn, await, feq_i, stop, fld, addr, of_opd, first, blocks, exec, returns, alloc_all, pass_all, free_all, look_at, get, get_in, through, sets, sets_last, is, env, sub, whole, tables, fact, named_lft, Ptr, ptr_val, block_of, count_of, at_block, param, bounded, tail, says}
 use Rattle.spin_core.proofs.WalkSteps.{last_fact, takes_at}
 use Rattle.spin_core.proofs.Walking.{walks}
 use Rattle.spin_core.specs.CellMemory.{offset, permit_owns}
@@ -27,5 +27,5 @@ see_spec 𝓤 𝓛 𝓜 𝓡 wired T V P K S L _ _ _ LS g d _ =
     cite _ (shown_on 𝓛 Y R cw.code Sr (g.holds h.key) ways β LR.shr_laws b o h.view h.value asked) $ await ! tt $ pick ! (λ x. learn ! (λ so.
     sets ! (is ! (of_opd ! (get_in ! (fld ! refl (stop !)) (sub ! 0 refl (whole !)))) (ap ptr_val at)) refl (tt, tt) $ first ! $ blocks ! $
     sets_last ! (addr ! (through ! refl (fld ! refl (stop !)))) refl (tt, tt) $ exec ! 𝓣.C 𝓣.Λ Ev (tail (tail fn.body)) (at_ret Ev Post) $ sets ! (of_opd ! (get ! refl)) refl (tt, tt) $
-    feq_i ! (List Val) (vptr b e ∷ []) (vptr b e ∷ []) refl $ fjoin ! $ says ! (Seen ways.0 x) so.1 $ says ! (Some x ≡ h.value) (sym so.0) $ join ! $
+    feq_i ! _ (vptr b e ∷ []) _ refl $ fjoin ! $ says ! (Seen ways.0 x) so.1 $ says ! (Some x ≡ h.value) (sym so.0) $ join ! $
     returns ! (look_at ! 0 refl) $ free_all ! refl $ keep ! (2 ∷ 1 ∷ 0 ∷ []) $ by ! (out (vptr b e) (record { ref_ptr = (b, e); now = x })))))))

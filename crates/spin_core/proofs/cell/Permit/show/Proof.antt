@@ -39,7 +39,7 @@ show_spec 𝓤 𝓛 𝓜 𝓡 wired T V P K S L _ _ _ LS g d _ =
     let Lent = ShrRef (named 0) β R in let r : Lent.Denot = record { ref_ptr = (b, e); now = x } in let pair : Val = vstruct (vcons (vptr b e) (vcons (hand_of here) vnil)) in
     let Both : Valss (Lent ∷ Hr ∷ []) → Fml = λ uss. fsep (feq (List Val) (pair ∷ []) (vstruct (of_list (uss.0 ++ (uss.1.0 ++ []))) ∷ [])) (owns (Lent ∷ Hr ∷ []) (r, (h', tt)) uss) in
     move ! (1 ∷ []) $ use0 𝓛 (‵ ((Words ℓ R W Y Kr Sr g).own_val (here, (tt, tt)) (hand_of here ∷ []))) (made ℓ R W Y Kr Sr g 𝓛 here) $ fjoin ! $ nothing ! $ move ! (1 ∷ 0 ∷ []) $ fjoin ! $
-    move ! (1 ∷ []) $ feq_i ! (List Val) (vptr b e ∷ []) (vptr b e ∷ []) refl $ fjoin ! $ fjoin ! $ feq_i ! (List Val) (pair ∷ []) (pair ∷ []) refl $ fjoin ! $
+    move ! (1 ∷ []) $ feq_i ! _ (vptr b e ∷ []) _ refl $ fjoin ! $ fjoin ! $ feq_i ! _ (pair ∷ []) _ refl $ fjoin ! $
     fpack ! (Valss (Lent ∷ Hr ∷ [])) Both (vptr b e ∷ [], (hand_of here ∷ [], tt)) $
     let Same : Type 0 = (h'.view ≡ h.view) × (h'.value ≡ h.value) in says ! (h.key ≡ h.key) refl $ says ! Same (refl, refl) $ join ! $
     says ! (Seen ways.0 x) so.1 $ join ! $ says ! (Some x ≡ h.value) (sym so.0) $ join ! $

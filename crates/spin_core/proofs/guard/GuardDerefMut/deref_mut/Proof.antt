@@ -79,7 +79,7 @@ deref_mut_spec 𝓤 𝓛 𝓜 𝓡 wired T V P S K N LT LV LP LS LK LN release r
     use3 𝓛 (later (some (λ (δ : GName). ‵ (fobs δ (P'.coded.code h.writer)) ⊛ ‵ (fbor κ (Body (in_memory P') b (o + 0) δ)) ⊛ ‵ (flft κ q) ⊛ ‵ (follows G P' γ δ (put ℓ T V P S K N LT LV LP LS LK LN g h))))) (hands ℓ T V P S K N LT LV LP LS LK LN g 𝓛 h κ q γ b o) $ await ! tt $ pick ! (λ δ. split ! $ move ! (1 ∷ []) $ split3 ! $
     let m' : MutBor P'.Denot = record { ref_ptr = (b, o + 0); ghost_name = δ; now = h.writer } in
     let yc : C.Ghost = ((κs', qs', (bounds.0, (bounds.1.0, (bounds.1.1.0, (bounds.1.1.1.0, (bounds.1.1.1.1.1.0, tt))))), (m', tt), (vptr b (o + 0) ∷ [], tt)), tt) in
-    move ! (3 ∷ 0 ∷ []) $ feq_i ! (List Val) (mut_vals m') (mut_vals m') refl $ fjoin3 ! $ nothing ! $ move ! (1 ∷ 0 ∷ []) $ fjoin ! $
+    move ! (3 ∷ 0 ∷ []) $ feq_i ! _ (mut_vals m') _ refl $ fjoin3 ! $ nothing ! $ move ! (1 ∷ 0 ∷ []) $ fjoin ! $
     -- context: [the argument; κ; what follows; β; τ; ν; π; ι; u; T lives; V lives; P lives; K lives; N lives; the last token]
     move ! (14 ∷ []) $ move ! (8 ∷ 0 ∷ []) $ fjoin ! $ move ! (7 ∷ 0 ∷ []) $ fjoin ! $ move ! (6 ∷ 0 ∷ []) $ fjoin ! $ move ! (5 ∷ 0 ∷ []) $ fjoin ! $ move ! (4 ∷ 0 ∷ []) $ fjoin ! $ move ! (2 ∷ 0 ∷ []) $ fjoin ! $ join ! $
     -- context: [tokens and argument; what follows; u; T lives; V lives; P lives; K lives; N lives]
@@ -93,7 +93,7 @@ deref_mut_spec 𝓤 𝓛 𝓜 𝓡 wired T V P S K N LT LV LP LS LK LN release r
     -- context: [what follows; the fact on the value; the value; its borrow; the tokens; u; ..]
     move ! (4 ∷ []) $ split3 ! $ move ! (2 ∷ []) $ split3 ! $ move ! (2 ∷ []) $ split3 ! $ move ! (1 ∷ 2 ∷ []) $ join ! $ move ! (10 ∷ 0 ∷ []) $ join ! $ move ! (1 ∷ 0 ∷ []) $ join ! $
     move ! (2 ∷ 0 ∷ []) $ join ! $ move ! (1 ∷ 0 ∷ []) $ join ! $ move ! (2 ∷ 0 ∷ []) $ join ! $ move ! (1 ∷ 0 ∷ []) $ join ! $
-    move ! (3 ∷ 4 ∷ []) $ feq_i ! (List Val) (mut_vals r) (mut_vals r) refl $ fjoin3 ! $ move ! (2 ∷ 3 ∷ []) $ join ! $ nothing ! $ nothing ! $ fjoin ! $
+    move ! (3 ∷ 4 ∷ []) $ feq_i ! _ (mut_vals r) _ refl $ fjoin3 ! $ move ! (2 ∷ 3 ∷ []) $ join ! $ nothing ! $ nothing ! $ fjoin ! $
     lands_as ! (ap (λ (us : List Val). get_or us 0 vunit) e) refl (tt, tt) $ returns ! (look_at ! 0 refl) $ free_all ! refl $ keep ! (3 ∷ 0 ∷ 2 ∷ 1 ∷ []) $
     by ! (leaves 𝓛 En hs c y (vptr r.ref_ptr.0 r.ref_ptr.1) r (tt, tt) (tt, tt))))))))
     )

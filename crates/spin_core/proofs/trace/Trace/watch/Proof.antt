@@ -1,6 +1,4 @@
-use Rattle.spin_core.proofs.TraceWalk.{◌≡◌, [], ◌∷◌, refl, a_type, named, inst_fn, fhide, ‵, ◌⊛◌, ◌$◌, !, by, move, keep, drop, split, fsplit, fjoin, use0, use1, no_more, and_then, returns, alloc_all, pass_all, free_all, look_at, get, sets, obor_close, shr_bor-open, agg, tables, RattleType, hidden_shr, unhide, param, layouts, lent_out, token, Token, Beside, token_made}
-use Rattle.core.specs.contracts.marker.PhantomData as marker
-use Rattle.spin_core.specs.Logs.{log_shares}
+use Rattle.spin_core.proofs.TraceWalk.{◌≡◌, [], ◌∷◌, refl, named, ‵, ◌$◌, !, by, move, keep, drop, fsplit, fjoin, use0, no_more, and_then, returns, alloc_all, pass_all, free_all, look_at, get, sets, obor_close, shr_bor-open, agg, RattleType, unhide, param, token, Token, token_made}
 use Rattle.spin_core.proofs.TraceSteps as steps
 use Rattle.spin_core.specs.contracts.trace.Trace as Trace
 use Rattle.spin_core.specs.contracts.trace.Trace.watch.{ended, clauses}
@@ -12,18 +10,17 @@ use Rattle.spin_core.proofs.Lemmas.{cite}
 
 pub watch_spec : {M : Type 1} → statement M
 watch_spec 𝓤 𝓛 𝓜 𝓡 wired T S L N =
-    let H = 𝓛.H in let 𝓣 = tables 𝓤 H 𝓜 𝓡 𝓡.env in let T' : RattleType = param 0 T in let S' : RattleType = param 1 S in
-    let fn = inst_fn (layouts (a_type ∷ a_type ∷ []) (T, (S, tt))) code.function in
-    let cv = T'.coded in let All : RattleType = T' in let Lr : RattleType = Trace.the_row T' S' in
-    walks 𝓛 (ended T S) (clauses T S 𝓛 𝓜.mem 𝓡.returns) 𝓜 𝓡 (λ κs x f. refl, tt) _ fn (code.unfolded 𝓤 H 𝓜 𝓡 wired (T, (S, tt)))
+    let T' : RattleType = param 0 T in let S' : RattleType = param 1 S in
+    let cv = T'.coded in let Lr : RattleType = Trace.the_row T' S' in
+    walks 𝓛 (ended T S) (clauses T S 𝓛 𝓜.mem 𝓡.returns) 𝓜 𝓡 (λ κs x f. refl, tt) _ _ (code.unfolded 𝓤 𝓛.H 𝓜 𝓡 wired (T, (S, tt)))
     (λ κs. (as_shr (named 0) κs.0 Lr, tt)) (λ κs qs bounds a gh are Post out.
     let me = a.0.now in
     fsplit ! $ move ! (2 ∷ []) $ fsplit ! $ fsplit ! $ keep ! (1 ∷ 3 ∷ 4 ∷ []) $
     alloc_all ! (λ l. pass_all ! refl ((tt, tt), tt) $
-    use1 𝓛 (‵ (hidden_shr (Beside All S') κs.0 (me.word, (record {}, tt)) a.0.ref_ptr.0 a.0.ref_ptr.1) ⊛ ‵ (fhide (log_shares cv.code me.name me.entries κs.0))) (lent_out 𝓛 (Trace.struct T' S') (Trace.the_codes T.Denot S.Denot T'.coded S'.coded (marker.the_row All).coded) (Trace.the_heap T' S') (Trace.the_lent T' S') κs.0 me a.0.ref_ptr.0 a.0.ref_ptr.1) $ split ! $ drop ! $ unhide ! $
+    unhide ! $ fsplit ! $ drop ! $
     shr_bor-open ! tt (steps.part_halves 𝓛 cv me.name me.entries) (λ q. move ! (1 ∷ []) $
     cite _ (steps.shows 𝓛 cv me.name q me.entries) $ move ! (2 ∷ 0 ∷ []) $ obor_close ! tt $ drop ! $ move ! (1 ∷ []) $
-    use0 𝓛 (‵ ((Token (All)).own_val (record {}, tt) (token ∷ []))) (token_made (All) 𝓛) $ fjoin ! $
+    use0 𝓛 (‵ ((Token T').own_val (record {}, tt) (token ∷ []))) (token_made T' 𝓛) $ fjoin ! $
     sets ! (agg ! (no_more !)) refl (tt, tt) $ sets ! (agg ! (and_then ! (get ! refl) (no_more !))) refl (tt, (tt, tt)) $
     move ! (1 ∷ 2 ∷ []) $ fjoin ! $ move ! (1 ∷ []) $
     says ! ((me.name ≡ me.name) × (me.entries ≡ me.entries)) (refl, refl) $

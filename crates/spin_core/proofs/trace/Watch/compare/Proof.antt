@@ -1,6 +1,5 @@
-use Rattle.spin_core.proofs.TraceWalk.{◌≡◌, ℕ, sym, List, [], ◌∷◌, refl, ◌⊎◌, IsPrefix, a_type, named, Val, vunit, inst_fn, fhide, ‵, raw, ◌⊛◌, ◌$◌, !, by, move, keep, drop, split, fsplit, learn, use1, feq_i, unit_lit, of_opd, returns, alloc_all, pass_all, free_all, look_at, sets, fact, rewrite, tables, RattleType, hidden_shr, unhide, param, layouts, lent_out, Token}
+use Rattle.spin_core.proofs.TraceWalk.{◌≡◌, ℕ, sym, [], ◌∷◌, refl, ◌⊎◌, IsPrefix, named, vunit, ‵, raw, ◌$◌, !, by, move, keep, drop, fsplit, learn, use1, feq_i, unit_lit, of_opd, returns, alloc_all, pass_all, free_all, look_at, sets, fact, rewrite, RattleType, unhide, param}
 use denote.Steps.{heard}
-use Rattle.core.specs.contracts.marker.PhantomData as marker
 use Rattle.spin_core.specs.Logs.{known_owns}
 use Rattle.spin_core.proofs.TraceSteps as steps
 use Rattle.spin_core.specs.contracts.trace.Watch as Watch
@@ -13,20 +12,19 @@ use Rattle.spin_core.proofs.Lemmas.{cite}
 
 pub compare_spec : {M : Type 1} → statement M
 compare_spec 𝓤 𝓛 𝓜 𝓡 wired T L =
-    let H = 𝓛.H in let 𝓣 = tables 𝓤 H 𝓜 𝓡 𝓡.env in let T' : RattleType = param 0 T in
-    let fn = inst_fn (layouts (a_type ∷ []) (T, tt)) code.function in
-    let cv = T'.coded in let All : RattleType = T' in let Sr : RattleType = Watch.the_row T' in
-    walks 𝓛 (ended T) (clauses T 𝓛 𝓜.mem 𝓡.returns) 𝓜 𝓡 (λ κs x f. refl, (λ κs x f. refl, tt)) _ fn (code.unfolded 𝓤 H 𝓜 𝓡 wired (T, tt))
+    let T' : RattleType = param 0 T in
+    let cv = T'.coded in let Sr : RattleType = Watch.the_row T' in
+    walks 𝓛 (ended T) (clauses T 𝓛 𝓜.mem 𝓡.returns) 𝓜 𝓡 (λ κs x f. refl, (λ κs x f. refl, tt)) _ _ (code.unfolded 𝓤 𝓛.H 𝓜 𝓡 wired (T, tt))
     (λ κs. (as_shr (named 0) κs.0 Sr, (as_shr (named 1) κs.1.0 Sr, tt))) (λ κs qs bounds a gh are Post out.
     let r = a.0 in let s = a.1.0 in let me = r.now in let other = s.now in
     let Alike : Type 0 = me.name ≡ other.name in
     move ! (2 ∷ []) $ use1 𝓛 (raw (fact 𝓤 Alike)) (last_fact 𝓤 (fact 𝓤 Alike) 1 (_, tt)) $ heard ! Alike (λ asked. move ! (1 ∷ []) $
     fsplit ! $ fsplit ! $ move ! (2 ∷ []) $ fsplit ! $ fsplit ! $ keep ! (1 ∷ 4 ∷ 5 ∷ []) $
     alloc_all ! (λ l. pass_all ! refl ((tt, tt), ((tt, tt), tt)) $
-    use1 𝓛 (‵ (hidden_shr (Token All) κs.1.0 (record {}, tt) s.ref_ptr.0 s.ref_ptr.1) ⊛ ‵ (fhide (known_owns cv.code other.name other.entries))) (lent_out 𝓛 (Watch.struct T') (Watch.the_codes T.Denot T'.coded (marker.the_row All).coded) (Watch.the_heap T') (Watch.the_lent T') κs.1.0 other s.ref_ptr.0 s.ref_ptr.1) $ split ! $ drop ! $ unhide ! $
+    unhide ! $ fsplit ! $ drop ! $
     rewrite ! 0 (λ (z : ℕ). ‵ (known_owns cv.code z other.entries)) (sym asked) refl $ move ! (1 ∷ []) $
-    use1 𝓛 (‵ (hidden_shr (Token All) κs.0 (record {}, tt) r.ref_ptr.0 r.ref_ptr.1) ⊛ ‵ (fhide (known_owns cv.code me.name me.entries))) (lent_out 𝓛 (Watch.struct T') (Watch.the_codes T.Denot T'.coded (marker.the_row All).coded) (Watch.the_heap T') (Watch.the_lent T') κs.0 me r.ref_ptr.0 r.ref_ptr.1) $ split ! $ drop ! $ unhide ! $
+    unhide ! $ fsplit ! $ drop ! $
     cite _ (steps.compares 𝓛 cv me.name me.entries other.entries) $ learn ! (λ so. drop ! $
-    sets ! (of_opd ! (unit_lit !)) refl (tt, tt) $ feq_i ! (List Val) (vunit ∷ []) (vunit ∷ []) refl $
+    sets ! (of_opd ! (unit_lit !)) refl (tt, tt) $ feq_i ! _ (vunit ∷ []) _ refl $
     says ! (IsPrefix me.entries other.entries ⊎ IsPrefix other.entries me.entries) so $
     returns ! (look_at ! 0 refl) $ free_all ! refl $ keep ! (2 ∷ 1 ∷ 0 ∷ []) $ by ! (out vunit tt)))))
