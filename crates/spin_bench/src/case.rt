@@ -15,8 +15,8 @@ pub use rounds::Rounds;
 pub use seated::Seated;
 pub use world::{EVENTS, Plays};
 
-/// Calls that are repeated, perhaps by several threads at once. A call either adds 1 to the value, or reads a
-/// 1.
+/// Calls that are repeated, perhaps by several threads at once. A call either adds 1 to what `added` returns, or
+/// reads a 1.
 pub trait Case: Drop {
     /// Makes this many calls in the worker with this number, and returns the sum of what they read. This
     /// function is measured, so it has only a loop with the calls and their sum.
@@ -60,7 +60,7 @@ impl<C: Call> Case for Calls<C> {
     }
 }
 
-/// The two steps that every lock makes at least: an exchange of 0 for 1, and a store of 0.
+/// A lock with the fewest steps: an exchange that puts 1 in place of 0, and a store of 0.
 #[derive(Drop)]
 pub struct Floor {
     word: AtomicU64,

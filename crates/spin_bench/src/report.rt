@@ -22,9 +22,9 @@ const ROUNDS: usize = 7;
 /// How long one round is, in milliseconds.
 const ROUND_MILLIS: u64 = 100;
 
-/// The size of the block of memory for a case, as a number of cases. The allocator begins a block of this
-/// size at a page, after the 16 bytes that it uses itself. So no lock crosses a cache line. The Rust driver
-/// does the same.
+/// For how many cases a block of memory has room, though it contains one. The allocator begins so large a block
+/// 16 bytes after the beginning of a page. So no lock crosses a cache line. The Rust driver aligns each case to a
+/// cache line.
 const BLOCK: usize = 32_768;
 
 /// The cases of one thread.
@@ -130,7 +130,7 @@ fn on_case<C: Case + Sync, R: Threads + Wait + Clock + Print + AllocGlobal + Syn
     Ok(block.remove(0).added().wrapping_add(seen))
 }
 
-/// Does the task on the case of one thread that has this name.
+/// Does the task on the case of `ALONE` that has this name.
 fn on_alone<R: Threads + Wait + Clock + Print + AllocGlobal + Sync>(
     rt: &R,
     task: Task,
@@ -187,10 +187,10 @@ fn report<R: Threads + Wait + Clock + Print + AllocGlobal + Sync>(
     println!(rt; "{name}.{threads} {sum}")
 }
 
-/// Returns how many calls of this case a thread makes before it checks again whether to stop. For one thread
-/// there are so many that the checks cost nothing, and each play uses the whole schedule. For several threads
-/// there are few, since each call takes longer. So a round ends soon after its time, even if a thread that
-/// others wait for is not running.
+/// Returns how many calls of this case a thread makes before it checks again whether to stop. In the case `world`
+/// they are the events of one whole schedule. In each other case of one thread they are so many that the checks
+/// cost nothing. For several threads they are few, since each call takes longer. So a round ends soon after its
+/// time, even if a thread that others wait for is not running.
 fn chunk(name: &str, threads: u8) -> u64 {
     if name == "world" {
         EVENTS

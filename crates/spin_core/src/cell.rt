@@ -30,8 +30,8 @@ pub trait Rule<T, V> {
     type Second;
     // What holds of the first word, of the `Second`, and of the views of all parties.
     ghost holds: { Self.Key → ℕ → Self.Second → List V → Type 0 };
-    // Three things: whether several parties may read the value at once, how a party with a given view uses
-    // it, and what is known of a value that nobody writes.
+    // Three things: whether several parties may read the value at once, how a party with a given view uses the
+    // value, and what is known of a value that nobody writes.
     ghost ways: { Self.Key → Ways T V Self.Second };
     // The cell's key after its owner has borrowed the value to write it. Under this key less may be known of
     // the value.

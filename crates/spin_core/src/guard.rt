@@ -9,7 +9,7 @@ use std::ops::{Deref, DerefMut};
 
 mod texts;
 
-/// How the parties of a lock use the value. It does not depend on the value's type.
+/// How the parties of a lock use the value, whatever the value's type is.
 ///
 /// # Contract
 /// `use_at` is the use of a party with a given view.
@@ -30,7 +30,7 @@ pub trait Release<T, V>: Rule<T, V> + Uses<V> {
     /// `leave`, or by `leak`.
     fn release(writer: WritePermit<'_, T, V, Self>);
 
-    // `use_at` agrees with the rule. It is stated apart, since a ghost field cannot use names of the rule.
+    // `use_at` agrees with the rule. This is stated apart, since a ghost field cannot use names of the rule.
     ghost same: { (key : Self.Key) (view : Option V) → Self.use_at view ≡ use_of (Self.ways key).1 view };
 }
 

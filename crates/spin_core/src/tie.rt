@@ -48,7 +48,8 @@ impl<T> Drop for Opening<T> {
     }
 }
 
-/// A party's view, its number, and how long the trace was after its last step. No such value exists at run time.
+/// A party's view, its number, and how long the trace was after the party's last step. No such value exists at run
+/// time.
 ///
 /// The number is the party's place among all parties that ever took a step. Entries with this number are the
 /// party's own.

@@ -49,7 +49,7 @@ fn run<I: Source, O: Sink>(
 /// Runs the program on these words and streams, and returns the status of the process.
 ///
 /// It reads a text from `input`. The text is a schedule as [`world_text`](spin_text::world_text) reads it. The
-/// search leaves out its moves `step` and `weak`, and the moves of parties that do not exist. The other lines of one
+/// search leaves out the moves `step` and `weak`, and the moves of parties that do not exist. The other lines of one
 /// party, in their order, are its program. In place of the header the text may begin with lines `lock NAME HEADER`,
 /// each with a header that lacks the number of parties. Then each move names its lock: `PARTY NAME MOVE`.
 ///

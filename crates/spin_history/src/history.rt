@@ -256,7 +256,7 @@ impl<T, H: History> Snapshot<T, H> {
     /// Adds what another snapshot knows to this one.
     ///
     /// # Contract
-    /// The former entries of both snapshots are prefixes of the entries that this one has afterwards.
+    /// The former entries of each snapshot are a prefix of the entries that this one has afterwards.
     pub fn merge(&mut self, other: &Snapshot<T, H>)
         ensures { IsPrefix self.old.entries self.new.entries × IsPrefix other.now.entries self.new.entries }
     {}

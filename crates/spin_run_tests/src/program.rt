@@ -317,7 +317,7 @@ fn reads_of_std(rt: HostRuntime) {
         calls: 0,
     });
     let mut to = [0u8; 4];
-    // A failure is permanent, even if the reader would continue.
+    // After a failure `has_failed` stays `true`, even if the reader continues.
     for (room, answer, failed) in [
         (4, Ok(2), false),
         (4, Ok(0), false),

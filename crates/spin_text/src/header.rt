@@ -54,7 +54,7 @@ const MAX_STARVERS: u64 = fair::MAX_STARVERS as u64;
 /// The largest number of spins of a `Fair`.
 const MAX_SPINS: u64 = 1024;
 
-/// Returns the first number of a line, if it is at least `least` and at most `most`, and the words after it.
+/// Returns the first number of a line and the words after it, if the number is at least `least` and at most `most`.
 #[tactic(auto, unfolding(crate::specs::Reading::number_within))]
 fn within(line: Rest, least: u64, most: u64) -> Option<(usize, Rest)>
     ensures { option_map (λ x. (x.0, words_left x.1)) result ≡ number_within least most (words_left line.entry) }

@@ -13,7 +13,7 @@ use std::{env, io};
 
 /// Returns the arguments of the process after the program's name, or `None` if one of them is not text.
 ///
-/// It reserves the room first, since `collect` would not report a failed allocation, but try a smaller one.
+/// It reserves the room first: `collect` would not report a failed allocation, but would try a smaller one.
 pub fn arguments<R: Env + Alloc>(rt: &R) -> Result<Option<Vec<String<R::A>, R::A>>, AllocError> {
     match env::args(rt) {
         Ok(mut all) => {

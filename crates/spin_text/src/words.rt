@@ -17,7 +17,7 @@ pub type Rest<'a> = Option<&'a [u8]>;
 /// For this many bytes or more [`memchr`] is faster than a loop, since it compares several bytes at once.
 const WIDE: usize = 32;
 
-/// Returns the place of the first separator. It searches few bytes, such as those of a line, by a loop.
+/// Returns the place of the first separator. For few bytes, such as those of a line, it uses a loop.
 #[inline(always)]
 fn first_place(separator: u8, bytes: &[u8]) -> Option<usize>
     ensures { IsFirstByte (is_byte separator) bytes.now result }

@@ -11,8 +11,8 @@ use std::sync::Wait;
 ///
 /// # Contract
 /// Each pass has acquired the lock and released it, once, and is returned (`wrote`, `read`). `value` is the
-/// last one in the history that the first pass knows (`left`). The returned value is the last one in the
-/// history that the second pass knows (`found`).
+/// value written last in the history that the first pass knows (`left`). The returned value is the one written
+/// last in the history that the second pass knows (`found`).
 pub fn relay<'a, T: Copy, R: RelaxStrategy, W: Wait>(
     rt: &W,
     writer: Pass<'a, T, R>,

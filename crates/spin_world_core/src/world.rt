@@ -98,7 +98,7 @@ impl<O: Object, A: Allocator + Copy> World<O, A> {
     ///
     /// # Contract
     /// The place is the one of the party's seat (`place_of`). The party's own moves and the owner's moves led to this
-    /// place (`SaysAfterAnyPast`). The place implies the party's entries in the plain lock.
+    /// place (`SaysAfterAnyPast`). The place implies what the lists of the plain lock have of the party.
     ///
     /// # Examples
     /// ```
@@ -114,8 +114,8 @@ impl<O: Object, A: Allocator + Copy> World<O, A> {
     pub fn place(&self, party: usize) -> Option<Place>
         ensures place { result ≡ option_map place_of (slice_get self.now.state.seats party) }
 
-        // The party's moves have led to this place. The party's entries in the plain lock are those that the place
-        // implies.
+        // The party's moves and the owner's moves have led to this place. The lists of the plain lock have of the
+        // party what the place implies.
         ensures says { SaysAfterAnyPast (O.machine self.now.object) self.now.state party result }
     {
         O::laws();

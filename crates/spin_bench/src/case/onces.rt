@@ -48,7 +48,7 @@ impl Case for LateCalls {
     }
 }
 
-/// Calls that make a `Once`, ask for its value for the first time, and drop it.
+/// Calls that make a `Once`, give it a value by `call_once`, and drop it.
 #[derive(Drop)]
 pub struct FirstCalls;
 

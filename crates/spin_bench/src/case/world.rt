@@ -7,7 +7,8 @@ use std::sync::Wait;
 /// How many parties take turns at the flag.
 const PARTIES: usize = 4;
 
-/// The moves of one party's turn, in which no other party moves: it acquires the lock, writes, and releases.
+/// The moves of one party's turn, in which no other party moves: it acquires the lock, reads, writes
+/// and releases.
 const TURN: [Move<FlagCall, u64>; 6] = [
     Move::Begin(FlagCall::Lock),
     Move::Step,
@@ -59,7 +60,8 @@ impl Case for Plays {
         }
     }
 
-    /// Plays the schedule once more. Returns 0 minus the number of moves that were skipped.
+    /// Plays the schedule once more. Returns 0 minus the number of moves that were skipped, or 1 if an allocation
+    /// fails.
     fn added(self) -> u64 {
         let Ok(transcript) = self.play(self.schedule.len()) else {
             return 1;

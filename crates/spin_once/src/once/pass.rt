@@ -24,9 +24,9 @@ use std::sync::Wait;
 /// calls of others. A pass is as large as a reference. It can be sent, and a `Once` can have any number of passes.
 ///
 /// # Contract
-/// Each call takes the pass and returns it. The call ensures `Called`: since its last move the pass has made the moves
-/// of exactly one call in the history, and this call has the returned answer. A model of a `Once` that threads share
-/// plays the moves of all threads in the order of the history. It skips no move, and gives this call the same answer.
+/// Each call takes the pass and returns it. The call ensures `Called`: in the history the pass's new moves are
+/// those of exactly one call, and this call has the returned answer. A model of a `Once` that threads share plays
+/// the moves of all threads in the order of the history. It skips no move, and gives this call the same answer.
 ///
 /// # Examples
 /// ```

@@ -138,7 +138,7 @@ fn streams_that_fail(rt: HostRuntime) {
     for room in 0..told.len().saturating_add(1) {
         let mut input = Tape::new(b"flag 5 1\n");
         let mut output = Paper::new(rt.alloc(), usize::MAX, room);
-        // If the line does not fit either, the status is the same.
+        // Where the output does not fit, the line may not fit either. Then the status is the same.
         let mut errors = Paper::new(rt.alloc(), usize::MAX, room);
         let ended = run(rt.alloc(), &[], &mut input, &mut output, &mut errors);
         let (status, line) = if room == told.len() {

@@ -110,8 +110,8 @@ fn written_by<C: Copy>(
     }
 }
 
-/// Returns whether each look of a schedule found the value last written before it, and the world has the value that was
-/// written last.
+/// Returns whether each read in a schedule found the value last written before it, and the world has the value written
+/// last.
 fn keeps_value<C: Copy>(schedule: &[(usize, Move<C, u64>)], run: &Run) -> bool {
     let mut written = run.start.value;
     for ((_, action), event) in schedule.iter().zip(&run.events) {

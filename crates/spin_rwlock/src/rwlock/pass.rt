@@ -33,9 +33,9 @@ use std::sync::Wait;
 ///
 /// # Contract
 /// A call takes the pass, or a guard with what the pass knew when it acquired the guard. It returns the pass or a
-/// guard. The call ensures `Called`: since its last move the pass has made the moves of exactly one call in the
-/// history, and this call has the returned answer. The lock's model plays the moves of all threads in the order of the
-/// history. It skips no move, and gives this call the same answer.
+/// guard. The call ensures `Called`: in the history the pass's new moves are those of exactly one call, and this
+/// call has the returned answer. The lock's model plays the moves of all threads in the order of the history. It
+/// skips no move, and gives this call the same answer.
 ///
 /// Before a writer releases or downgrades, it records its value in the history (`Wrote`). So the value of a guard is
 /// the one written last in the history (`found`), until the owner borrows the value by `get_mut`.

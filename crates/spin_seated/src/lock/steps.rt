@@ -135,9 +135,8 @@ impl<C: Calls, A: Allocator> SeatedLock<C, A> {
     /// results.
     ///
     /// # Contract
-    /// Both have to be passes of this lock. Afterwards both know the same history (`Met`). This
-    /// history extends what each pass knew, without a further call of either. What the passes hold does not
-    /// change.
+    /// Both have to be passes of this lock. Afterwards both know the same history (`Met`). It extends what each
+    /// pass knew, and neither pass has a new call in it. What the passes hold does not change.
     pub fn meet(&self, a: &mut Pass<C>, b: &mut Pass<C>)
         requires first { IsPassOf self.now a.old }
         requires second { IsPassOf self.now b.old }

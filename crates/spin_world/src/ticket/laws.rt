@@ -22,8 +22,8 @@ pub fn tickets_stand_in_order<V: Copy>()
 /// earlier. So no party with a later ticket enters before it.
 ///
 /// Let `s` be the number served after `past`. After `further`, the next step of a party that waits with ticket `t`
-/// succeeds exactly if `t - s` tickets have left since. If a party holds with ticket `t`, then `t - s` tickets have
-/// left.
+/// succeeds exactly if `t - s` tickets have left during `further`. If a party holds with ticket `t` then, `t - s`
+/// tickets have left.
 pub fn tickets_enter_by_releases<V: Copy>()
     ensures { (object : Ticket V) (n : ℕ) (past further : List (ℕ × Move TicketCall V)) → InTurn (⟦<Ticket<V> as Object>⟧.machine object) n past further }
 {}

@@ -76,7 +76,7 @@ pub fn a_call_that_waits_is_answered<V: Copy>()
     ensures write { (value : V) → CountsAll (looks_first value) 1 one_look → ⊥ }
 {}
 
-/// A `try_read` that looks for ever. This call has a limit, whatever other parties do.
+/// A `try_read` that looks for ever. It may take two steps, and one more for each change of the word by another party.
 pub fn a_try_read_is_answered<V: Copy>()
     ensures { (value : V) → CountsAll (tries_for_ever value) 1 read_alone → ⊥ }
 {}

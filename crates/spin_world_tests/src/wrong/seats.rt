@@ -17,7 +17,7 @@ pub fn a_leave_frees_one_seat()
     ensures { KeepsAll leaves_for_two 2 one_of_two_leaves → ⊥ }
 {}
 
-/// A try that looks for ever. This call has a limit, whatever other parties do.
+/// A try that looks for ever. It may take two steps, and one more for each change of the word by another party.
 pub fn a_try_is_answered()
     ensures { CountsAll tries_for_ever 1 two_looks → ⊥ }
 {}
@@ -62,7 +62,7 @@ pub fn a_lock_has_its_seats()
     ensures { IsSeats 2 (seats_machine 1) → ⊥ }
 {}
 
-/// A lock without seats on which one party can sit.
+/// A lock that has no seats, but lets one party sit.
 pub fn nobody_sits_where_there_are_no_seats()
     ensures { KeepsAll seats_one_on_none 1 one_sits → ⊥ }
 {}
@@ -78,7 +78,7 @@ pub fn a_kind_of_lock_has_four_steps()
     ensures { CountsAll looks_on 1 enter_in_vain → ⊥ }
 {}
 
-/// Seats whose promise of `leave` lets no party begin this call. The clause `named` says what each call promises.
+/// Seats whose promise of `leave` lets no party begin this call. `IsSeats` says what each call promises.
 pub fn a_lock_is_of_its_kind()
     ensures { IsSeats 2 keeps_all → ⊥ }
 {}
