@@ -255,10 +255,11 @@ module _ (T : Type 0) where
   flag_was_set StarverTryLock = (0, refl)
   flag_was_set _ = (1, refl)
 
-  -- what comes of a starver's operation that sets the flag: the flag was clear, or (`set_at`) was set already
+  -- if a starver's operation that sets the flag finds the flag clear, the call continues
   pub clear_at : (c : FairCall) (n : ℕ) → (n % 2 == 0) ≡ true → Comes_to {T = T} ((if n % 2 == 0 then GoingOn else flag_set_end c) ∷ []) None
   clear_at c n even = (1, ap (λ b. (if b then GoingOn else flag_set_end c) ∷ []) even)
 
+  -- if it finds the flag set, the call has the answer, if any, that `flag_set_so` gives
   pub set_at : (c : FairCall) (n : ℕ) → (n % 2 == 0) ≡ false → Comes_to {T = T} ((if n % 2 == 0 then GoingOn else flag_set_end c) ∷ []) (flag_set_so c)
   set_at c n odd = subst (λ b. Comes_to {T = T} ((if b then GoingOn else flag_set_end c) ∷ []) (flag_set_so c)) (sym odd) (flag_was_set c)
 
@@ -273,7 +274,7 @@ module _ {T : Type 0} (first : Account T) where
       (view_of now ≡ Some (if is_some room then Registering call word else finds_no_room call))
       × Goes (Comes (in_call (view_of first)) call (if is_some room then None else no_room_so call)) first now
 
-  -- the party has made no step since `first` (the word is 0), or has found this word
+  -- the party has made no step after `first` (the word is 0), or has found this word
   abbrev pub HasReached : ℕ → Account T → Type 0
   HasReached word now = ((word ≡ 0) × (here now ≡ here first)) ⊎ Has_found word (starve most_starvers word) now
 
@@ -291,7 +292,7 @@ module _ {T : Type 0} (first : Account T) where
       stays_in (inl at) = ap (λ z. call_of (what z.1)) at.1
       stays_in (inr at) = ap call_of (subst (λ o. Has_found word o now) (sym room) at).0
 
-      -- a further step of the party's call, after those that it has made since `first`
+      -- a further step of the party's call, after those that it has made from `first` on
       pub goes_further : (o : FairCall → Option (Answer T)) (next : Account T) → HasReached word now
           → GoesOn (call_of (view_of now)) (o (call_of (view_of now))) now next → GoesOn call (o call) first next
       goes_further o next (inl at) so =

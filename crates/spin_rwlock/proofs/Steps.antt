@@ -334,12 +334,13 @@ module _ {T : Type 0} where
   calls_leave true c answers own outs are v = ap (λ o. left o v) are.0 ∙ steps_leave answers v
   calls_leave false c answers own outs are v = ap (λ o. left o v) are.0 ∙ steps_leave answers v
 
-  -- so moves that write nothing leave the value as it was; below, moves that write `x` last leave `x`
+  -- so moves that write nothing leave the value as it was
   writes_none : (u u' : Use) (shown : Option T) (own : List (OneMove T)) → u ≢ writes → ((v : T) → left own v ≡ v) → Leaves u u' shown own
   writes_none off u' shown own not same = same
   writes_none reads u' shown own not same = same
   writes_none writes u' shown own not same = absurd (not refl)
 
+  -- moves that write `x` last leave `x`
   writes_last : (u u' : Use) (x : T) (own : List (OneMove T)) → u ≡ writes → ((v : T) → left own v ≡ x) → Leaves u u' (Some x) own
   writes_last writes writes x own is all = tt
   writes_last writes off x own is all = all

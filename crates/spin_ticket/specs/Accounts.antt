@@ -63,8 +63,8 @@ module _ {T : Type 0} where
   Releases = spots.Releases model (λ (key : Key T). key.0) Release Done
 
 module _ {T P R S : Type 0} where
-  -- Since the spot `p` the party has made exactly this call, which was granted. It holds the lock by this guard, whose value is the one
-  -- written last.
+  -- From the spot `p` on the party has made exactly this call, which was granted. It holds the lock by this guard,
+  -- whose value is the one written last.
   abbrev pub Gets : TicketCall → Spot T → Guard T (Numbered View) P R (Key T) S × Watch (Made T) → Type 0
   Gets call p (guard, seen) =
       IsHolder use_of_party guard × Holds guard seen × (seen.name ≡ p.2.name) × (guard_key guard ≡ p.0)

@@ -64,7 +64,7 @@ pub record OneRuns {V : Type 0} (m : OnceMachine V) (n : ℕ) (past : Entries V)
   pub before : (p : ℕ) → RunsClosure m n past p → (once_after m n past).value ≡ None
   pub ends : (p : ℕ) → (runs : RunsClosure m n past p) → outcome_after m n past p Step ≡ Answered (answer_of (m.brings runs.call)) None
 
--- the call may answer with the value; `has_closure`: the call may run a closure
+-- the call may answer with the value
 abbrev pub wants_value : Asked → Bool
 wants_value what = not (is_empty (own_steps (what.answers gives_value) 0))
 
@@ -72,6 +72,7 @@ abbrev pub is_begun : List Change → Bool
 is_begun [] = false
 is_begun (c ∷ cs) = is_for to_begin c
 
+-- the call may run a closure
 abbrev pub has_closure : Asked → Bool
 has_closure what = list_any is_begun (own_steps (what.answers gives_value) 0) || list_any is_begun (own_steps (what.answers failed) 0)
 

@@ -33,13 +33,13 @@ starves_own : (p : ℕ) (qs : List ℕ) → is_starver p qs ≡ true → not (is
 starves_own p [] found = found
 starves_own p (q ∷ qs) found = grind (arith, found, starves_own p qs)
 
--- the load of the waiting party (`clear`: nobody holds); `theirs_by`: the load of another party (`true`: this party
--- holds)
+-- The load of the waiting party, a number of rounds (see Loads.antt). `clear` says whether nobody holds.
 abbrev mine_by : Bool → FairPoint → ℕ
 mine_by clear Unregister = if clear then 3 else 1
 mine_by clear SetFlag = if clear then 2 else 0
 mine_by clear l = if clear then 3 else 0
 
+-- the load of another party; with `true` this party holds
 abbrev theirs_by : Bool → Option FairSeat → ℕ
 theirs_by true (Some (Calling c Unregister h)) = 1
 theirs_by true (Some (Calling c l h)) = 4
