@@ -153,7 +153,7 @@ waits ask =
       undisturbed_steps = 2;
     }
 
--- the same, but the call begins with a weak exchange, not with a look
+-- like `waits to_write`, but the call begins with a weak exchange, not with a look
 abbrev pub waits_to_write : Asked
 waits_to_write =
     record (waits to_write) {
@@ -162,7 +162,7 @@ waits_to_write =
       gets_weakly = λ c. true;
     }
 
--- the same, but the call repeats its exchange without a look in between
+-- like `waits_to_write`, but the call repeats its exchange without a look in between
 abbrev pub spins_to_write : Asked
 spins_to_write = record waits_to_write { undisturbed_steps = 1 }
 
@@ -308,7 +308,7 @@ initializes =
       is_open_next = λ first k p s. not first || (is_nothing s.phase || is_complete s.phase);
     }
 
--- the same, for a call whose own closure fails
+-- like `initializes`, for a call whose own closure fails
 abbrev pub fails_to_initialize : Asked
 fails_to_initialize =
     record initializes {

@@ -23,7 +23,7 @@ event_lines_more numbers line (x ∷ es) e =
     ap (λ l. first ++ l) (event_lines_more numbers (line + 1) es e ∙ ap (λ n. event_lines numbers (line + 1) es ++ event_line n e.party e.outcome (numbers e.words)) place)
     ∙ sym (append_assoc first (event_lines numbers (line + 1) es) (event_line (line + suc (length es)) e.party e.outcome (numbers e.words)))
 
--- the call began, if it has a beginning here, at one of the first n events
+-- if the event that began the call is in this transcript, it is one of the first n events
 abbrev IsBelow : ℕ → Option ℕ → Type 0
 IsBelow n None = Unit {0}
 IsBelow n (Some k) = k < n

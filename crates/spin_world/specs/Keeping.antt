@@ -31,11 +31,12 @@ once_after m n past = after m (at_first m n) past
 abbrev pub seen_at : {V : Type 0} → OnceMachine V → ℕ → Entries V → Seen ℕ V (OnceCall V) OncePoint
 seen_at m n past = seen_after m (opening m n) past
 
--- the owner does not replace the value by this move, or (`is_shared`) by any move of these entries
+-- by this move the owner does not replace the value
 abbrev pub keeps_value : {C V : Type 0} → Move C V → Bool
 keeps_value (OwnerSet v) = false
 keeps_value _ = true
 
+-- by no move of these entries does the owner replace the value
 abbrev pub is_shared : {C V : Type 0} → List (ℕ × Move C V) → Bool
 is_shared [] = true
 is_shared (e ∷ es) = keeps_value e.1 && is_shared es

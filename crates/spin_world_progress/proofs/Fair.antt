@@ -13,12 +13,13 @@ use Rattle.spin_world_progress.proofs.Loads as walk
 abbrev FairSeat : Type 0
 FairSeat = Seat FairCall FairPoint
 
--- the calls in which a starver waits, and their points
+-- the calls in which a starver waits
 abbrev its_call : FairCall → Option Hold → Type 0
 its_call Lock None = Unit {0}
 its_call StarverLock (Some Starver) = Unit {0}
 its_call _ h = ⊥
 
+-- the points of these calls
 abbrev its_point : FairPoint → Type 0
 its_point SetFlag = Unit {0}
 its_point Await = Unit {0}
