@@ -102,7 +102,7 @@ module _ {T : Type 0} (me : Account T) (it : Party T) (now : Watch (Done T)) (n 
             (finds (mutex me.permit.key) me.permit.view (Some v) me.permit.value it.value now x known unused is);
       }
 
-  -- the moves that the step made in the party's call, and the view to which it led
+  -- the step made the moves that `turn` names in the party's call, and led to the view that `turn` names
   pub turned : (what it.view ≡ Some (turn.to n)) × Since model_at (AreSteps turn.goes_on turn.call (turn.ends n)) (here me) (spot it now)
   unfolding Told
   turned =
@@ -144,7 +144,7 @@ module _ {T : Type 0} (p q : Spot T) where
       → (Some (guard_view held.0) ≡ q.1) × (guard_key held.0 ≡ q.0) × (held.1 ≡ q.2) → Since model_at course p q → Since model_at course p (held_at held)
   as_held course held (at, lock, is) so = subst (λ (z : Spot T). Since model_at course p z) (λ i. (sym lock i, sym at i, sym is i)) so
 
--- what a call promises of a guard that it returns
+-- if a call gets a guard by this course, it keeps its promises of the guard
 pub got : {T P R S : Type 0} (course : Course T FairCall (Answer T)) (was : Account T) (held : Held T P R S) → Gets course was held
     → (IsHolder use_of_party held.0 × Holds held.0 held.1) × ((held.1.name ≡ was.seen.name) × (guard_key held.0 ≡ was.permit.key))
     × IsLast was.permit.key held.1.entries (guard_value held.0)
@@ -152,10 +152,11 @@ pub got : {T P R S : Type 0} (course : Course T FairCall (Answer T)) (was : Acco
 got course was held ((holder, holds, last), (made, named, same)) =
     ((holder, holds), (named, same), subst (λ k. IsLast k held.1.entries (guard_value held.0)) same last, made)
 
--- the outcome of a step, by the number that the code found
+-- a try that finds the number that it expects has the answer `won`
 pub granted_at : {T : Type 0} (n expected : ℕ) (won lost : Answer T) → n ≡ expected → Comes_to (answered (if n == expected then won else lost) ∷ []) (Some won)
 granted_at n expected won lost e = (0, ap (λ b. answered (if b then won else lost) ∷ []) (eq-eqb n expected e))
 
+-- a try that finds another number has the answer `lost`
 pub refused_at : {T : Type 0} (n expected : ℕ) (won lost : Answer T) → n ≢ expected → Comes_to (answered (if n == expected then won else lost) ∷ []) (Some lost)
 refused_at n expected won lost ne = (0, ap (λ b. answered (if b then won else lost) ∷ []) (ne_eqb n expected ne))
 

@@ -219,7 +219,7 @@ module _ (b : Bool) where
       by false true is is' = rw (is, is') refl
       by false false is is' = rw (is, is') tt
 
-  -- the store after a closure that gave a value
+  -- the store after a closure that gave a value leaves the word 2
   pub end_words : (n : ℕ) → (table c Run n).words ≡ 2
   end_words n = ap (λ st. st.words) (as_sure Run n)
 

@@ -120,17 +120,18 @@ module _ {W V C L A B : Type 0} {t : Table W V C L B} {given : Machine W V C L A
     pub fine : (seen : World) (q : ℕ) (move : Move C V) → Invariant f seen → x.Fine (scene m seen q move).after → x.Fine seen
     -- what is known stays true at each event that does not reach the goal
     pub keeps : (seen : World) (q : ℕ) (move : Move C V) (l : L) → Waits seen l → let sc = scene m seen q move in Reaches sc ⊎ x.Known sc.after
-    -- the waiting party's own step
+    -- if no load is above n + 1, the waiting party's own step does what `Own` says
     pub own : (seen : World) (l : L) (n : ℕ) → Waits seen l → Within seen l (suc n) → let sc = scene_at m seen p Step (Some (Calling x.call l x.hold)) in After seen p sc → Own seen l n sc
-    -- a step of another party
+    -- if no load is above n + 1, a step of another party reaches the goal, or does what `Falls` says
     pub steps : (seen : World) (l : L) (n : ℕ) → Waits seen l → Within seen l (suc n) → (q : ℕ) (d : C) (i : L) (j : Option Hold) → (q ≡ p → ⊥) → seat_of seen q ≡ Some (Calling d i j)
         → let sc = scene_at m seen q Step (Some (Calling d i j)) in After seen q sc → Reaches sc ⊎ Falls seen l q sc n
-    -- a spurious failure of the waiting party
+    -- a spurious failure of the waiting party reaches the goal
     pub weak : (seen : World) (l : L) (next : Next L A) → x.At l → m.refuse x.call l x.hold ≡ Some next → Refuses seen p x.call x.hold next
-    -- a spurious failure of another party
+    -- a spurious failure of another party reaches the goal, or its load falls by one, unless it was 0
     pub refuses : (seen : World) (l : L) → Waits seen l → (q : ℕ) (d : C) (i : L) (j : Option Hold) (next : Next L A) → (q ≡ p → ⊥) → seat_of seen q ≡ Some (Calling d i j) → m.refuse d i j ≡ Some next
         → Refuses seen q d j next ⊎ ((o : Option (Seat C L)) → x.theirs seen.plain l q o ≤ theirs seen l q - 1)
-    -- a call that another party begins, in particular a release
+    -- the load of another party does not rise when it begins a call, and falls by one, unless it was 0, when it
+    -- begins a release
     pub begins : (seen : World) (l : L) → Waits seen l → (q : ℕ) (d : C) (i : L) (j : Option Hold) → (q ≡ p → ⊥) → seat_of seen q ≡ Some (resting j) → m.begin d j ≡ Some i
         → (x.theirs seen.plain l q (Some (Calling d i j)) ≤ theirs seen l q) × (is_release (m.asks d j) ≡ true → x.theirs seen.plain l q (Some (Calling d i j)) ≤ theirs seen l q - 1)
     pub leaks : (s : Plain) (l : L) (q : ℕ) (h : Hold) → x.theirs s l q (Some (Leaked h)) ≤ x.theirs s l q (Some (Holding h))

@@ -34,7 +34,7 @@ loads_fit s p q l = grind arith
 theirs_run : (s : Phase) (q : ℕ) → 1 ≤ theirs_by s q → s ≡ running q
 theirs_run s q some = grind (arith, some, eqb-true)
 
--- the loads when a closure of another party begins
+-- another party's closure begins; if the load of the waiting call was at most n + 1, all loads are then at most n
 begins_running : (q r p n : ℕ) (l : OncePoint) → (r ≡ p → ⊥) → mine_by nothing p l ≤ suc n → (theirs_by (running r) r ≤ n) × (mine_by (running r) p l ≤ n) × ((r ≡ q → ⊥) → theirs_by (running r) q ≤ n)
 begins_running q r p n l ne few = grind (arith, ne, few)
 
@@ -182,7 +182,7 @@ module _ {V : Type 0} (value : Option V) where
       own : (n : ℕ) → walk.Within f x seen l (suc n) → walk.Own f x seen l n sc
       own n within = ⊎_elim (λ (is : l ≡ Run). inl (ended is)) (own_at n within s.phase refl) (point_cases l)
 
-      -- the last step of another party's closure
+      -- the step that ends another party's closure reaches the goal, or there is a value after it
       run_ends : (q : ℕ) (d : OnceCall V) (i : OncePoint) (j : Option Hold) → seat_of seen q ≡ Some (Calling d i j) → i ≡ Run
           → let y = scene_at m seen q Step (Some (Calling d i j)) in walk.Reaches f x y ⊎ (y.after.plain.phase ≡ complete)
       run_ends q (CallOnce u) Run j at e = inr refl

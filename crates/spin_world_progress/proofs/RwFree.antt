@@ -287,7 +287,7 @@ mine_start : (c : RwCall) (room : Bool) (l : RwPoint) (a : Kind) (k : Option Kin
 mine_start c room l reading k b some none leads = let is = none refl in grind (arith, is)
 mine_start c room l a k b some none leads = let is = leads refl in grind (arith, is)
 
--- the loads when a reader leaves
+-- when a reader leaves, no load rises above n
 theirs_gone : (w room : Bool) (k : Option Kind) (b later own reader out : Bool) (n : ℕ) → base k ≤ n → ((j : Kind) → k ≡ Some j → (room ≡ true) × (same_kind writing j ≡ false)) → (b ≡ false → later ≡ false)
     → theirs_of w room k later own reader out ≤ max (theirs_of w room k b own reader out) n
 theirs_gone w room None b later own reader out n few two less = grind (arith, few, less)
@@ -296,17 +296,18 @@ theirs_gone w room (Some j) b later own reader out n few two less = let is = two
 mine_gone : (c : RwCall) (room : Bool) (l : RwPoint) (k : Option Kind) (b later : Bool) (n : ℕ) → base k ≤ n → (b ≡ false → later ≡ false) → mine_of c room l k later ≤ max (mine_of c room l k b) n
 mine_gone c room l k b later n few less = grind (arith, few, less)
 
--- the loads when the party u leaves
+-- when the party u leaves, no load of another party rises above n
 theirs_left : (w room : Bool) (k : Option Kind) (b reader out : Bool) (n : ℕ) → is_asking k ≡ false → theirs_of w room None b false reader out ≤ max (theirs_of w room k b false reader out) n
 theirs_left w room k b reader out n asks = grind (arith, asks)
 
 mine_left : (c : RwCall) (room : Bool) (l : RwPoint) (k : Kind) (b reader : Bool) (n : ℕ) → theirs_of (is_write c) room (Some k) b true reader true ≤ suc n → at_come c → is_asking (Some k) ≡ false → mine_of c room l None b ≤ max (mine_of c room l (Some k) b) n
 mine_left c room l k b reader n few comes asks = grind (arith, few, comes, asks)
 
--- the loads when the hold of u turns into another kind
+-- when the hold of u turns into another kind, the load of u is at most n afterwards
 its_turned : (w room : Bool) (j k : Kind) (b reader : Bool) (n : ℕ) → may_turn j k ≡ true → theirs_of w room (Some j) b true reader false ≤ suc n → (b ≡ true → 1 ≤ n) → theirs_of w room (Some k) b true reader false ≤ n
 its_turned w room j k b reader n may few beside = grind (arith, may, few, beside)
 
+-- no other load then rises above n
 theirs_turned : (w room : Bool) (j k : Kind) (b reader out : Bool) (n : ℕ) → may_turn j k ≡ true → theirs_of w room (Some k) b false reader out ≤ max (theirs_of w room (Some j) b false reader out) n
 theirs_turned w room j k b reader out n may = grind (arith, may)
 
