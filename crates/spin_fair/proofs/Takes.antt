@@ -144,7 +144,7 @@ module _ {T : Type 0} (p q : Spot T) where
       → (Some (guard_view held.0) ≡ q.1) × (guard_key held.0 ≡ q.0) × (held.1 ≡ q.2) → Since model_at course p q → Since model_at course p (held_at held)
   as_held course held (at, lock, is) so = subst (λ (z : Spot T). Since model_at course p z) (λ i. (sym lock i, sym at i, sym is i)) so
 
--- if a call gets a guard by this course, it keeps its promises of the guard
+-- a guard that a call gets by this course is as the call promises
 pub got : {T P R S : Type 0} (course : Course T FairCall (Answer T)) (was : Account T) (held : Held T P R S) → Gets course was held
     → (IsHolder use_of_party held.0 × Holds held.0 held.1) × ((held.1.name ≡ was.seen.name) × (guard_key held.0 ≡ was.permit.key))
     × IsLast was.permit.key held.1.entries (guard_value held.0)

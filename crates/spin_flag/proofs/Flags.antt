@@ -230,7 +230,7 @@ module _ {T P R S : Type 0} (q : Spot T) (begun : has_begun (what q.1) ≡ true)
   looks_again (Ok held) so = tt
   looks_again (Err next) so = so.1
 
--- if a call is granted this guard, it keeps its promises of the guard
+-- a guard that a call is granted is as the call promises
 pub got : {T P R S : Type 0} (c : FlagCall) (p : Spot T) (held : Grant T P R S) → IsGranted held.0 held.1 → HasCalled model_at c Granted p (held_at held)
     → (IsHolder use_of_party held.0 × guards.Holds held.0 held.1) × ((held.1.name ≡ p.2.name) × (guard_key held.0 ≡ p.0)) × IsLast p.0 held.1.entries (guard_value held.0)
     × Called p.0.value c Granted p.1 p.2.entries (Some (guard_view held.0)) held.1.entries

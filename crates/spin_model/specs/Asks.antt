@@ -175,8 +175,8 @@ waits_starving =
     }
 
 -- The call waits in a queue. After two steps, and one more for each change by others, it has a ticket, or has found
--- that none is left. Without a ticket its request is open if it could take one and enter at once; with its ticket, if
--- it may enter.
+-- that none is left. While it has no ticket, its request is open if it could take a ticket and enter at once. Once it
+-- has a ticket, its request is open if it may enter with this ticket.
 abbrev pub waits_to_enter : Asked
 waits_to_enter =
     record (waits to_enter) {

@@ -50,10 +50,11 @@ use_of_view (InCall c l) = used_at l
 abbrev pub use_of_party : Numbered View → Use
 use_of_party v = use_of_view v.0
 
--- how many parties read the value, and how many run a closure
+-- how many parties read the value
 abbrev pub readers : List View → ℕ
 readers = readers_of use_of_view
 
+-- how many parties run a closure
 abbrev pub runs : List View → ℕ
 runs = writers_of use_of_view
 

@@ -23,8 +23,8 @@ Spot T = spots.Spot (Opening T) View (rws.Done T)
 abbrev pub Sight : Type 0 → Type 0
 Sight T = Spot T × Option T
 
--- How a party uses the value before and after a step. A step that writes the value (`true`) ends the writing: its
--- party may write before it, and not after it. Before any other step (`false`) its party may not write.
+-- How a party uses the value before and after a step. A step that writes the value (`true`) ends the writing: the
+-- party may write before the step, and not after it. Before any other step (`false`) the party may not write.
 abbrev pub FitsUse : Bool → Use → Use → Type 0
 FitsUse true before after = (before ≡ writes) × (after ≢ writes)
 FitsUse false before after = before ≢ writes

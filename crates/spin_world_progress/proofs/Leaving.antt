@@ -45,7 +45,7 @@ module _ {W V C L A : Type 0} {t : Table W V C L A} {n : Notes t} (f : Plays (ma
   Nobody seen = (q : ℕ) → test (entries q seen.plain) ≡ false
 
   pub record Leaves : Type 0 where
-    -- a party without entries does not pass the test
+    -- a party without entries in the plain lock does not pass the test
     pub none : test no_entries ≡ false
     -- the waiting party does not pass the test
     pub not_its : (l : L) → At l → StandsSo n test p c l h → ⊥

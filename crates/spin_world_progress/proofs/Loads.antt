@@ -13,7 +13,7 @@ use Rattle.spin_world_core.specs.Runs.{seat_of, scene_of}
 use Rattle.spin_world_core.proofs.Steps.{played, KnowsAt}
 use Rattle.spin_world_core.proofs.Reached as reached
 
--- the party's seat implies entries that pass this test
+-- the party's seat implies that the party has entries in the plain lock that pass this test
 
 module _ {W V C L A : Type 0} {t : Table W V C L A} (n : Notes t) (test : Entries → Bool) where
   abbrev pub SitsSo : ℕ → Option (Seat C L) → Type 0
@@ -127,11 +127,10 @@ module _ {W V C L A B : Type 0} {t : Table W V C L B} {given : Machine W V C L A
         → let sc = scene_at m seen q Step (Some (Calling d i j)) in After seen q sc → Reaches sc ⊎ Falls seen l q sc n
     -- a spurious failure of the waiting party reaches the goal
     pub weak : (seen : World) (l : L) (next : Next L A) → x.At l → m.refuse x.call l x.hold ≡ Some next → Refuses seen p x.call x.hold next
-    -- a spurious failure of another party reaches the goal, or its load falls by one, unless it was 0
+    -- when another party's exchange fails spuriously, the goal is reached, or this party's load falls (or was 0)
     pub refuses : (seen : World) (l : L) → Waits seen l → (q : ℕ) (d : C) (i : L) (j : Option Hold) (next : Next L A) → (q ≡ p → ⊥) → seat_of seen q ≡ Some (Calling d i j) → m.refuse d i j ≡ Some next
         → Refuses seen q d j next ⊎ ((o : Option (Seat C L)) → x.theirs seen.plain l q o ≤ theirs seen l q - 1)
-    -- the load of another party does not rise when it begins a call, and falls by one, unless it was 0, when it
-    -- begins a release
+    -- When another party begins a call, its load does not rise. If the call is a release, the load falls (or was 0).
     pub begins : (seen : World) (l : L) → Waits seen l → (q : ℕ) (d : C) (i : L) (j : Option Hold) → (q ≡ p → ⊥) → seat_of seen q ≡ Some (resting j) → m.begin d j ≡ Some i
         → (x.theirs seen.plain l q (Some (Calling d i j)) ≤ theirs seen l q) × (is_release (m.asks d j) ≡ true → x.theirs seen.plain l q (Some (Calling d i j)) ≤ theirs seen l q - 1)
     pub leaks : (s : Plain) (l : L) (q : ℕ) (h : Hold) → x.theirs s l q (Some (Leaked h)) ≤ x.theirs s l q (Some (Holding h))

@@ -29,7 +29,7 @@ is_busy (Some (Leaked h)) = may_read h
 is_busy (Some (Gone h)) = may_read h
 is_busy _ = false
 
--- with these entries a party holds the lock
+-- a party with these entries in the plain lock holds the lock
 abbrev pub holds_lock : Entries → Bool
 holds_lock e = not (is_empty e.holders)
 

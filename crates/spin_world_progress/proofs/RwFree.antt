@@ -258,7 +258,7 @@ mine_by c room u hs l = mine_of c room l (kind_of u hs) (beside u hs)
 theirs_begun : (w room : Bool) (k : Option Kind) (b own reader out : Bool) → theirs_of w room k b own reader out ≤ theirs_of w room k b own reader false
 theirs_begun w room k b own reader out = grind arith
 
--- the load of a party that begins its release falls by one, unless it was 0
+-- when a party begins its release, its load falls (or was 0)
 theirs_leaving : (w room : Bool) (k : Option Kind) (b own reader : Bool) → (own ≡ true → is_asking k ≡ false) → theirs_of w room k b own reader true ≤ theirs_of w room k b own reader false - 1
 theirs_leaving w room k b own reader asks = grind (arith, asks)
 
