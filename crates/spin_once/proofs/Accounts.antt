@@ -221,8 +221,8 @@ pub looks_first : (view : Option View) → is_out view ≡ true → is_load (poi
 looks_first (Some (InCall c l)) out = absurd (cc out)
 looks_first _ out = refl
 
--- From the point `p` on, the party has made no step yet, and its next step begins the call `c`. Or it is in this
--- call, and looks next.
+-- After the point `p` the party has made no step yet, and its next step begins the call `c`. Or it is in this call,
+-- and looks next.
 abbrev pub IsLooking : {T S : Type 0} → OnceCall (Unit {0}) → Place T S → Place T S → Type 0
 IsLooking c p q = ((q ≡ p) × (is_out (what p.1) ≡ true)) ⊎ (Since p (Begins c Waits) q × (what q.1 ≡ Some (InCall c Look)))
 

@@ -274,7 +274,7 @@ refuses_late {V} v =
 abbrev pub try_beside_a_writer : {V : Type 0} → Entries V
 try_beside_a_writer = (0, Begin TryWrite) ∷ (0, Step) ∷ (1, Begin TryRead) ∷ (1, Step) ∷ []
 
--- an `upgrade` whose exchange fails looks before it tries again
+-- after its exchange has failed, `upgrade` looks before it tries again
 abbrev pub upgrades_by_looks : {V : Type 0} → V → RwMachine V
 upgrades_by_looks {V} v =
     let again : RwAct V = weak_exchange (weight asking) upgrade_asked (λ p. gets p to_upgrade_asked) (granted hold.Write) (Continue (Exchange 0)) in
