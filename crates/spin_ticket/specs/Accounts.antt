@@ -58,7 +58,8 @@ module _ {T : Type 0} where
   abbrev pub HasTicket : {P S : Type 0} → ℕ → T → Permit T (Numbered View) P (Key T) S → Type 0
   HasTicket number x permit = (number < ticket_limit) × (what permit.view ≡ Some (Entered number)) × (permit.value ≡ Some x)
 
-  -- the party has written this value, and then released the lock; the value is the one written last
+  -- The party has written a value, and then released the lock. Until the owner borrows the value, the value written is
+  -- this one, and it is the one written last.
   abbrev pub Releases : T → Spot T → Spot T → Type 0
   Releases = spots.Releases model (λ (key : Key T). key.0) Release Done
 

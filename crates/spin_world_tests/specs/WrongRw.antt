@@ -219,7 +219,7 @@ writes_strongly {V} v =
     let strong : RwAct V = exchange (swap 0 write) (λ p. gets p to_write) (granted hold.Write) (λ w. Answers Refused None) in
     with_steps v (λ c l h act. elim c [ TryWriteWeak ↦ strong | _ ↦ act ])
 
--- the exchange of `write` is strong too
+-- the exchange of `write` is strong
 abbrev pub waits_strongly : {V : Type 0} → V → RwMachine V
 waits_strongly v = write_by v (exchange (swap 0 write) (λ p. gets p to_write) (granted hold.Write) (λ w. Continue First))
 
