@@ -54,7 +54,7 @@ module _ {M : Type 1} {𝓤 : Ura M} (𝓛 : Logic 𝓤) (R : RattleType) (γ : 
   parts_glue s i j some fits = let r = counts_some 63 (i + j) some fits in
       script ∵ cite _ (glued s i j r.0 r.1) $ by ! (parts_in s (i + j) r.0 r.1).prf
 
-  -- all parts except r
+  -- from all parts r parts can be left out
   pub parts_but : (s : Round R) (r : ℕ) → r < 2 ^ 63 → ‵ (parts R γ s (2 ^ 63)) ⊩ ‵ (parts R γ s (2 ^ 63 - r))
   parts_but s zero small = lemma (id⊢ 𝓤 _)
   parts_but s (suc r) small =

@@ -99,7 +99,7 @@ module _ {M : Type 1} {𝓤 : Ura M} (𝓛 : Logic 𝓤) {V : Type 0} (cv : Code
   abbrev pub Placed : (view : Option V) (vs : List V) → ((id : ℕ) → Stands id view vs → V) → (id : ℕ) × Stands id view vs → Kit.Item 𝓤
   Placed view vs next z = ‵ (roster c γ 0 (after z.0 view vs (next z.0 z.1))) ⊛ ‵ (Stand (Some (next z.0 z.1)))
 
-  -- a party has its place among the views, or takes the next one; at that place it gets any view
+  -- a party has a place among the views, or takes the place after the last one; at its place it gets any view
   pub places : (view : Option V) (vs : List V) (next : (id : ℕ) → Stands id view vs → V)
       → ‵ (roster c γ 0 vs) ⊛ ‵ (Stand view) ⊫ Kit.some (Placed view vs next)
   places None vs next = updates ∵ renew (Kit.some (Placed None vs next)) _ (joins vs 0 (next 0 tt)) $ settled ! _ $

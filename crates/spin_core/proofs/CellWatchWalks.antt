@@ -73,8 +73,8 @@ module _ {M : Type 1} {𝓤 : Ura M} (𝓛 : Logic 𝓤) (𝓜 : Model 𝓤 𝓛
   abbrev pub Known : Watch Er.Denot → Fml
   Known s = steps.Known 𝓛 Er Ur s.name s.entries
 
-  -- A step of the party with this permit and this watch. Its two tokens are of the cell's borrow β, and of a lifetime
-  -- τ of the value's type.
+  -- A step of the party with this permit and this watch. The step has two tokens: one of the cell's borrow β, and one
+  -- of a lifetime τ of the value's type.
   module _ (b o : ℕ) (h : Hr.Denot) (q : Share) (τ : Lft) (r : Share) (seen : Watch Er.Denot)
       (told : List Er.Denot → List Er.Denot → ℕ → W.Denot → Type 0) where
     abbrev ways : Ways R.Denot W.Denot Sr.Denot

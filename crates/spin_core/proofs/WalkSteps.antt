@@ -33,12 +33,13 @@ module _ {M : Type 1} {𝓤 : Ura M} {𝓛 : Logic 𝓤} {K : Type 0} {Γ : List
   lies_at t F never (block_ptr b o) go = go tt
   lies_at t F never null_ptr go = lies t F never null_ptr (λ no. absurd no)
 
--- n facts that a walk does not use; in `after_facts` they stand before P, which the walk uses
+-- n facts that a walk does not use
 abbrev pub Facts : ℕ → Type 1
 Facts zero = Unit {1}
 Facts (suc n) = Type 0 × Facts n
 
 module _ {M : Type 1} (𝓤 : Ura M) (P : SProp 𝓤) where
+  -- these n facts, and then P, which the walk uses
   abbrev pub after_facts : (n : ℕ) → Facts n → SProp 𝓤
   after_facts zero φs = P
   after_facts (suc n) φs = sep 𝓤 (fact 𝓤 φs.0) (after_facts n φs.1)

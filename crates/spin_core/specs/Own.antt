@@ -28,7 +28,7 @@ abbrev pub kind : {X : Type 0} → Option (X × ℕ) → Option X
 kind None = None
 kind (Some u) = Some u.0
 
--- moves of this party
+-- these moves, as entries of the party p
 abbrev pub by_party : {C V : Type 0} → ℕ → List (Move C V) → List (Entry C V)
 by_party p own = map (λ move. (p, move)) own
 
@@ -37,7 +37,8 @@ abbrev pub entries_by : {C V : Type 0} → ℕ → List (Entry C V) → List (En
 entries_by p [] = []
 entries_by p (e ∷ es) = if e.0 == p then e ∷ entries_by p es else entries_by p es
 
--- Each party that has not left has made no entry since its mark. Parties with numbers beyond the list have made none.
+-- Each party that has not left has made no entry from its mark on. Parties with numbers beyond the list have made
+-- none.
 abbrev pub Rested : {C V X : Type 0} → List (Entry C V) → ℕ → List (Option (X × ℕ)) → Type 0
 Rested schedule k [] = (q : ℕ) → k ≤ q → entries_by q schedule ≡ []
 Rested schedule k (None ∷ us) = Rested schedule (suc k) us
@@ -50,7 +51,7 @@ module _ {W V C L A X S : Type 0} (m : Machine W V C L A) (seat_of : X → Seat 
   IsRun schedule s vs =
       (came : List (Option (X × ℕ))) × (w : W) × (value : Option V) × (vs ≡ present_from 0 came) × (s ≡ words_of w) × LeadsTo m seat_of words_of schedule w value (map kind came) × IsPlayed m (length (map kind came)) schedule × Rested schedule 0 came
 
-  -- the party has made no entry since its last step; a new party has made none at all
+  -- the party has made no entry after its last step; a new party has made none at all
   abbrev pub MadeNone : List (Entry C V) → ℕ → Option (Numbered X) → Type 0
   MadeNone log p None = entries_by p log ≡ []
   MadeNone log p (Some u) = (p ≡ u.1) × (entries_by p (drop u.2 log) ≡ [])

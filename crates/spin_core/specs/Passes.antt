@@ -99,7 +99,8 @@ module _ {W V C L A : Type 0} (m : Machine W V C L A) where
   outcomes_by p s [] = []
   outcomes_by p s (e ∷ es) = let h = happens m s e.0 e.1 in if e.0 == p then h.outcome ∷ outcomes_by p h.next es else outcomes_by p h.next es
 
-  -- Since the trace was `old`, the party has made exactly these moves, with these outcomes. No entry of `new` is skipped.
+  -- The trace was `old`, and now is `new`. In between the party has made exactly these moves, with these outcomes. No
+  -- entry of `new` is skipped.
   abbrev pub Did : ℕ → List (Entry C V) → List (Entry C V) → List (Move C V) → List (Outcome A V) → Type 0
   Did p old new own outs =
       (more : List (Entry C V)) × (least : ℕ) × (new ≡ old ++ more) × (entries_by p more ≡ by_party p own) × IsPlayed m least new

@@ -24,11 +24,11 @@ abbrev pub is_played : {V A : Type 0} → Outcome A V → Bool
 is_played Skipped = false
 is_played _ = true
 
--- The words after a step that applied f to the first word. `on_second`: after a step that applied f to the second
--- word.
+-- the words after a step that applied f to the first word
 abbrev pub on_first : {S : Type 0} → (ℕ → ℕ) → ℕ × S → ℕ × S
 on_first f s = (f s.0, s.1)
 
+-- the words after a step that applied f to the second word
 abbrev pub on_second : (ℕ → ℕ) → ℕ × ℕ → ℕ × ℕ
 on_second f s = (s.0, f s.1)
 

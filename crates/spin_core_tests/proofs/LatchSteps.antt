@@ -195,7 +195,7 @@ module _ (name : ℕ) where
 pub looks_again : (word : ℕ) (view : Option (Numbered View)) → None ≡ let_in word → what view ≡ Some (at_word true word) → MayLook (what view)
 looks_again word view closed is = let at : at_word true word ≡ WaitingToRead = grind (arith, closed) in rw (is ∙ ap Some at) tt
 
--- the view to which a step led
+-- a step leads to the view that `to` gives for the number found
 pub led : (to : ℕ → View) (named : Type 0) (before view : Option (Numbered View)) (known now : Watch rule.Done) (found : ℕ) → Moved (Watches named known now (Leads to before) found) view → what view ≡ Some (to found)
 led to named before None known now found moved = absurd moved
 led to named before (Some v) known now found moved = ap Some moved.1.4.6

@@ -12,11 +12,12 @@ use Rattle.spin_core_tests.specs.declared.once.Stage.TheVariants.{Seed, Done}
 abbrev f : View → Use
 f = use_of_view
 
--- the numbers of readers and of writers, when a party gets another view
+-- when a party gets another view, the number of readers changes only by this party
 read_after : (id : ℕ) (view : Option View) (vs : List View) (w : View) → At id view vs → readers_of f (after id view vs w) + reading (use_of f view) ≡ readers_of f vs + reading (f w)
 read_after id None vs w at = moves (λ v. reading (f v)) id None vs w at
 read_after id (Some v) vs w at = moves (λ v. reading (f v)) id (Some v) vs w at
 
+-- when a party gets another view, the number of writers changes only by this party
 write_after : (id : ℕ) (view : Option View) (vs : List View) (w : View) → At id view vs → writers_of f (after id view vs w) + writing (use_of f view) ≡ writers_of f vs + writing (f w)
 write_after id None vs w at = moves (λ v. writing (f v)) id None vs w at
 write_after id (Some v) vs w at = moves (λ v. writing (f v)) id (Some v) vs w at

@@ -101,7 +101,7 @@ attempts_plain : (view : Option View) (lost : View) → part_before part view �
 attempts_plain view lost nothing none taken plain =
     gets_at view to_lock_unregistered Holding (λ n. lost) 0 taken (λ s p. rw nothing refl) (λ s. tt) (λ n. nothing ∙ sym none) (λ s n. knows_none s lost) (λ s p room order one has small e. plain s p e)
 
--- the party that failed to register is still idle in the plain lock; below, one that has registered starves there
+-- a party that has failed to register is still idle in the plain lock
 part_of_next : (c : FairCall) (n : ℕ) → part (goes_for c n) ≡ idle
 part_of_next c n = at c (is_some (starve most_starvers n))
   where
@@ -110,6 +110,7 @@ part_of_next c n = at c (is_some (starve most_starvers n))
     at Lock false = refl
     at _ false = refl
 
+-- a party that has registered starves in the plain lock
 part_registered : (c : FairCall) → part (registered c) ≡ starves
 part_registered Lock = refl
 part_registered _ = refl

@@ -102,7 +102,7 @@ module _ {T : Type 0} (me : Account T) (it : Party T) (now : Watch (Done T)) (n 
             (finds (mutex me.permit.key) me.permit.view (Some v) me.permit.value it.value now x known unused is);
       }
 
-  -- the moves that the step made in the party's call, and the view to which it led
+  -- the step made the moves that `turn` names in the party's call, and led to the view that `turn` names
   pub turned : (what it.view ≡ Some (turn.to n)) × Since model_at (AreSteps turn.goes_on turn.call (turn.ends n)) (here me) (spot it now)
   unfolding Told
   turned =
@@ -144,7 +144,7 @@ module _ {T : Type 0} (p q : Spot T) where
       → (Some (guard_view held.0) ≡ q.1) × (guard_key held.0 ≡ q.0) × (held.1 ≡ q.2) → Since model_at course p q → Since model_at course p (held_at held)
   as_held course held (at, lock, is) so = subst (λ (z : Spot T). Since model_at course p z) (λ i. (sym lock i, sym at i, sym is i)) so
 
--- what a call promises of a guard that it returns
+-- a guard that a call gets by this course is as the call promises
 pub got : {T P R S : Type 0} (course : Course T FairCall (Answer T)) (was : Account T) (held : Held T P R S) → Gets course was held
     → (IsHolder use_of_party held.0 × Holds held.0 held.1) × ((held.1.name ≡ was.seen.name) × (guard_key held.0 ≡ was.permit.key))
     × IsLast was.permit.key held.1.entries (guard_value held.0)
@@ -152,10 +152,11 @@ pub got : {T P R S : Type 0} (course : Course T FairCall (Answer T)) (was : Acco
 got course was held ((holder, holds, last), (made, named, same)) =
     ((holder, holds), (named, same), subst (λ k. IsLast k held.1.entries (guard_value held.0)) same last, made)
 
--- the outcome of a step, by the number that the code found
+-- a try that finds the number that it expects has the answer `won`
 pub granted_at : {T : Type 0} (n expected : ℕ) (won lost : Answer T) → n ≡ expected → Comes_to (answered (if n == expected then won else lost) ∷ []) (Some won)
 granted_at n expected won lost e = (0, ap (λ b. answered (if b then won else lost) ∷ []) (eq-eqb n expected e))
 
+-- a try that finds another number has the answer `lost`
 pub refused_at : {T : Type 0} (n expected : ℕ) (won lost : Answer T) → n ≢ expected → Comes_to (answered (if n == expected then won else lost) ∷ []) (Some lost)
 refused_at n expected won lost ne = (0, ap (λ b. answered (if b then won else lost) ∷ []) (ne_eqb n expected ne))
 
@@ -255,10 +256,11 @@ module _ (T : Type 0) where
   flag_was_set StarverTryLock = (0, refl)
   flag_was_set _ = (1, refl)
 
-  -- what comes of a starver's operation that sets the flag: the flag was clear, or (`set_at`) was set already
+  -- if a starver's operation that sets the flag finds the flag clear, the call continues
   pub clear_at : (c : FairCall) (n : ℕ) → (n % 2 == 0) ≡ true → Comes_to {T = T} ((if n % 2 == 0 then GoingOn else flag_set_end c) ∷ []) None
   clear_at c n even = (1, ap (λ b. (if b then GoingOn else flag_set_end c) ∷ []) even)
 
+  -- if it finds the flag set, the call has the answer, if any, that `flag_set_so` gives
   pub set_at : (c : FairCall) (n : ℕ) → (n % 2 == 0) ≡ false → Comes_to {T = T} ((if n % 2 == 0 then GoingOn else flag_set_end c) ∷ []) (flag_set_so c)
   set_at c n odd = subst (λ b. Comes_to {T = T} ((if b then GoingOn else flag_set_end c) ∷ []) (flag_set_so c)) (sym odd) (flag_was_set c)
 
@@ -273,7 +275,7 @@ module _ {T : Type 0} (first : Account T) where
       (view_of now ≡ Some (if is_some room then Registering call word else finds_no_room call))
       × Goes (Comes (in_call (view_of first)) call (if is_some room then None else no_room_so call)) first now
 
-  -- the party has made no step since `first` (the word is 0), or has found this word
+  -- the party has made no step after `first` (the word is 0), or has found this word
   abbrev pub HasReached : ℕ → Account T → Type 0
   HasReached word now = ((word ≡ 0) × (here now ≡ here first)) ⊎ Has_found word (starve most_starvers word) now
 
@@ -291,7 +293,7 @@ module _ {T : Type 0} (first : Account T) where
       stays_in (inl at) = ap (λ z. call_of (what z.1)) at.1
       stays_in (inr at) = ap call_of (subst (λ o. Has_found word o now) (sym room) at).0
 
-      -- a further step of the party's call, after those that it has made since `first`
+      -- a further step of the party's call, after those that it has made from `first` on
       pub goes_further : (o : FairCall → Option (Answer T)) (next : Account T) → HasReached word now
           → GoesOn (call_of (view_of now)) (o (call_of (view_of now))) now next → GoesOn call (o call) first next
       goes_further o next (inl at) so =

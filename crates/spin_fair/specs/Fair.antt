@@ -293,7 +293,8 @@ abbrev pub MayRegister : Option View → Type 0
 MayRegister (Some Loading) = Unit {0}
 MayRegister view = IsOut Idle view
 
--- The party may make the exchange of `lock` after `n` looks: it is in no call and `n` is 0, or this exchange is the next step of its call.
+-- The party may make the exchange of `lock`. Either it is in no call and `n` is 0. Or this exchange is the next step
+-- of its call, and `n` is the number of looks that its view keeps.
 abbrev pub MayTry : ℕ → Option View → Type 0
 MayTry n None = n ≡ 0
 MayTry n (Some Idle) = n ≡ 0
@@ -323,7 +324,7 @@ waits Lock = true
 waits StarverLock = true
 waits _ = false
 
--- whether a starver sets the flag in this call
+-- whether this call has a step that only sets the flag (`sets_by`); the exchange of `alone_by` is another step
 abbrev pub sets : FairCall → Bool
 sets StarverTryLock = true
 sets c = waits c
@@ -370,23 +371,23 @@ StarvesAt vs p = (part_at part vs p ≡ starves) ⊎ (part_at part vs p ≡ hold
 
 -- The moves of a party that stays the same party (keeps its number) from call to call
 
--- The moves of the call `c`: the rest of it if it is under way (`true`), else all of it. With `None` the call still waits. With `Some a` it
--- has the answer `a`.
+-- Moves of the call `c` only. With `true` the call was under way before them. With `false` they begin it. At the end
+-- the call still waits (`None`), or has the answer `a` (`Some a`).
 abbrev pub Comes : {T : Type 0} → Bool → FairCall → Option (Answer T) → Course T FairCall (Answer T)
 Comes true c None = Waits
 Comes true c (Some a) = Ends a
 Comes false c None = Begins c Waits
 Comes false c (Some a) = IsCall c a
 
--- The lock opened with the value `v`. Since the party knew `old`, it has made the moves of this course and no others.
+-- The lock opened with the value `v`. From `old` to `new` the party has made exactly the moves of this course.
 abbrev pub Moves : {T : Type 0} → T → Course T FairCall (Answer T) → Between T FairCall View
 Moves v course view old view' new = Made (model v) view old view' new course
 
--- since then the party has made exactly the call `c`, which had the answer `a`
+-- in between (see `Moves`) the party has made exactly the call `c`, which had the answer `a`
 abbrev pub Called : {T : Type 0} → T → FairCall → Answer T → Between T FairCall View
 Called v c a = Moves v (IsCall c a)
 
--- since then the party has written a value that satisfies `Q`, and then released the lock
+-- in between the party has written a value that satisfies `Q`, and then released the lock
 abbrev pub Left : {T : Type 0} → T → (T → Type 0) → Between T FairCall View
 Left v Q = Moves v (WritesSome Q (IsCall Release answer.Done))
 

@@ -1,4 +1,4 @@
--- What a party that knows the lock's history has done between two of its steps.
+-- What a party that knows the lock's history has done from one of its steps to a later one.
 use Rattle.std.specs.Prelude.{◌≡◌, ℕ, Bool, true, Option, Some, None, Result, IfOk, IfErr}
 use Rattle.spin_core.specs.Cell.{off, use_of}
 use Rattle.spin_core.specs.Guard.{guard_key, guard_view}
@@ -45,20 +45,20 @@ module _ {T : Type 0} where
   abbrev pub Turned : Turn T → ℕ → Account T → Account T → Type 0
   Turned turn n was now = (view_of now ≡ Some (turn.to n)) × Goes (AreSteps turn.goes_on turn.call (turn.ends n)) was now
 
-  -- Since `was` the party has made moves of the call `c`: the rest of it if it was under way, else all of it. The call now waits (`None`),
-  -- or has this answer.
+  -- From `was` to now the party has made only moves of the call `c`. If `c` was not under way at `was`, these moves
+  -- begin it. At the end the call still waits (`None`), or has this answer.
   abbrev pub GoesOn : FairCall → Option (Answer T) → Account T → Account T → Type 0
   GoesOn c answer was = Goes (Comes (in_call (view_of was)) c answer) was
 
-  -- since `was` the party has registered
+  -- from `was` to `now` the party has registered
   abbrev pub IsRegistered : Account T → Account T → Type 0
   IsRegistered was now = let c = call_of (view_of was) in (view_of now ≡ Some (registered c)) × GoesOn c (registered_so c) was now
 
-  -- since `was` the party has found too many parties registered
+  -- from `was` to `now` the party has found too many parties registered
   abbrev pub FindsNoRoom : Account T → Account T → Type 0
   FindsNoRoom was now = let c = call_of (view_of was) in (view_of now ≡ Some (finds_no_room c)) × GoesOn c (no_room_so c) was now
 
-  -- since `was` a starver has found the flag set
+  -- from `was` to `now` a starver has found the flag set
   abbrev pub FindsFlagSet : Account T → Account T → Type 0
   FindsFlagSet was now = let c = call_of (view_of was) in (view_of now ≡ Some (finds_flag_set c)) × Goes (Comes true c (flag_set_so c)) was now
 
@@ -70,7 +70,7 @@ module _ {T P R S : Type 0} where
   abbrev pub held_at : Held T P R S → Spot T
   held_at (guard, seen) = (guard_key guard, Some (guard_view guard), seen)
 
-  -- since `was` the party has made exactly the moves of this course, and it now holds the lock by this guard
+  -- from `was` on the party has made exactly the moves of this course, and it now holds the lock by this guard
   abbrev pub Gets : Course T FairCall (Answer T) → Account T → Held T P R S → Type 0
   Gets course was held = IsGranted held.0 held.1 × Since model_at course (here was) (held_at held)
 

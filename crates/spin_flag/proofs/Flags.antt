@@ -187,7 +187,7 @@ module _ {T : Type 0} (me : Account T) (it : Party T) (now : Watch (flags.Done T
     pub knows_again : record { named : it.key.name ≡ now.name; knows : mark_of it.view ≡ length now.entries }
     knows_again = record { named = ap (λ k. k.name) same ∙ me.named ∙ sym all.named; knows = all.knows }
 
-  -- the step of an exchange; `b` says whether the exchange found the flag clear
+  -- an exchange makes this one step of the call; `b` says whether it found the flag clear
   pub tried : (waits : Bool) → Steps (tries_by waits (what me.permit.view)) it.view → (b : Bool) → (found == 0) ≡ b
       → Stepped model_at (has_begun (what me.permit.view)) (call_of waits) (if b then Answered Granted None else missed_end waits) (if b then Holding else missed waits) (here me) (spot it now)
   tried waits moved b is =
@@ -195,7 +195,7 @@ module _ {T : Type 0} (me : Account T) (it : Party T) (now : Watch (flags.Done T
       subst (λ x. Stepped model_at on c (if x then Answered Granted None else missed_end waits) (if x then Holding else missed waits) (here me) (spot it now)) is
       (stepped on c (if_clear (Answered Granted None) (missed_end waits)) (if_clear Holding (missed waits)) moved)
 
-  -- the same for the look of `lock`
+  -- a look of `lock` makes this one step of the call; `b` says whether it found the flag clear
   pub looked : Steps looked_by it.view → (b : Bool) → (found == 0) ≡ b → Stepped model_at true Lock GoingOn (if b then Trying else Looking) (here me) (spot it now)
   looked moved b is =
       subst (λ x. Stepped model_at true Lock GoingOn (if x then Trying else Looking) (here me) (spot it now)) is
@@ -230,7 +230,7 @@ module _ {T P R S : Type 0} (q : Spot T) (begun : has_begun (what q.1) ≡ true)
   looks_again (Ok held) so = tt
   looks_again (Err next) so = so.1
 
--- what a call promises of a guard that it returns
+-- a guard that a call is granted is as the call promises
 pub got : {T P R S : Type 0} (c : FlagCall) (p : Spot T) (held : Grant T P R S) → IsGranted held.0 held.1 → HasCalled model_at c Granted p (held_at held)
     → (IsHolder use_of_party held.0 × guards.Holds held.0 held.1) × ((held.1.name ≡ p.2.name) × (guard_key held.0 ≡ p.0)) × IsLast p.0 held.1.entries (guard_value held.0)
     × Called p.0.value c Granted p.1 p.2.entries (Some (guard_view held.0)) held.1.entries

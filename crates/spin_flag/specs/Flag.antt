@@ -128,14 +128,15 @@ module _ {T : Type 0} where
   abbrev pub frees_by : Says T
   frees_by = leaves_by (λ x. Unit {0}) Release answer.Done Idle
 
-  -- For a pass of a lock that opened with the value `v`. Since the pass knew `old`, it has made the moves of this course and no others.
+  -- For a pass of a lock that opened with the value `v`. From `old` to `new` the pass has made exactly the moves of
+  -- this course.
   abbrev pub Moves : T → Course T FlagCall (Answer T) → Between T FlagCall View
   Moves v course view old view' new = Made (model v) view old view' new course
 
-  -- since then the pass has made exactly the call `c`, which had the answer `a`
+  -- in between (see `Moves`) the pass has made exactly the call `c`, which had the answer `a`
   abbrev pub Called : T → FlagCall → Answer T → Between T FlagCall View
   Called v c a = Moves v (IsCall c a)
 
-  -- since then the pass has written a value that satisfies `Q`, and then released the lock
+  -- in between the pass has written a value that satisfies `Q`, and then released the lock
   abbrev pub Left : T → (T → Type 0) → Between T FlagCall View
   Left v Q = Moves v (WritesSome Q (IsCall Release answer.Done))

@@ -31,7 +31,7 @@ module _ {T P R S : Type 0} where
   abbrev pub held_at : Grant T P R S → Spot T
   held_at (guard, seen) = (guard_key guard, Some (guard_view guard), seen)
 
-  -- since `p` the party has made the call `lock`, which granted it this guard
+  -- from `p` on the party has made exactly the call `lock`, which granted it this guard
   abbrev pub Gets : Spot T → Grant T P R S → Type 0
   Gets p held = IsGranted held.0 held.1 × HasCalled model_at Lock Granted p (held_at held)
 

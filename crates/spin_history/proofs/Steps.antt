@@ -39,10 +39,11 @@ module _ {M : Type 1} {𝓤 : Ura M} (𝓛 : Logic 𝓤) where
   begins = via 𝓤 _ (latest_new logs 𝓛 []) (basic 𝓛 _)
 
   module _ {T : Type 0} (cv : Coded T) (γ : ℕ) where
-    -- what the log owns, and what a watch of it knows
+    -- what the log owns
     abbrev Log : List T → Fml
     Log = log_owns cv.code γ
 
+    -- what a watch of the log knows
     abbrev Known : List T → Fml
     Known = known_owns cv.code γ
 

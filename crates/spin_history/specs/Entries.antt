@@ -35,11 +35,13 @@ InOrder-prop le p (x ∷ y ∷ l) = ×_prop (p x y) (InOrder-prop le p (y ∷ l)
 abbrev pub IsAtOrAfter : {T : Type 0} → (T → T → Type 0) → List T → T → Type 0
 IsAtOrAfter le seen x = IfSome (last seen) (λ before. le before x)
 
--- The same for values in an order. The value may follow the last one that the caller saw, and all entries that the caller then knows are in
--- order.
+-- `Reads` for values in an order. The value may follow the last one that the caller saw, and all entries that the
+-- caller then knows are in order.
 abbrev pub ReadsIn : {T : Type 0} → (T → T → Type 0) → List T → T → List T → Type 0
 ReadsIn le old x new = IsAtOrAfter le old x × (InOrder le new × Reads old x new)
 
+-- `Writes` for values in an order. The value may follow the last one that the caller saw. It is the last entry that
+-- the caller then knows, and all these entries are in order.
 abbrev pub WritesIn : {T : Type 0} → (T → T → Type 0) → List T → T → List T → Type 0
 WritesIn le old x new = IsAtOrAfter le old x × (InOrder le new × ((last new ≡ Some x) × Writes old x new))
 

@@ -153,7 +153,7 @@ waits ask =
       undisturbed_steps = 2;
     }
 
--- the same, but the call begins with a weak exchange, not with a look
+-- like `waits to_write`, but the call begins with a weak exchange, not with a look
 abbrev pub waits_to_write : Asked
 waits_to_write =
     record (waits to_write) {
@@ -162,7 +162,7 @@ waits_to_write =
       gets_weakly = λ c. true;
     }
 
--- the same, but the call repeats its exchange without a look in between
+-- like `waits_to_write`, but the call repeats its exchange without a look in between
 abbrev pub spins_to_write : Asked
 spins_to_write = record waits_to_write { undisturbed_steps = 1 }
 
@@ -175,8 +175,8 @@ waits_starving =
     }
 
 -- The call waits in a queue. After two steps, and one more for each change by others, it has a ticket, or has found
--- that none is left. Without a ticket its request is open if it could take one and enter at once; with its ticket, if
--- it may enter.
+-- that none is left. While it has no ticket, its request is open if it could take a ticket and enter at once. Once it
+-- has a ticket, its request is open if it may enter with this ticket.
 abbrev pub waits_to_enter : Asked
 waits_to_enter =
     record (waits to_enter) {
@@ -308,7 +308,7 @@ initializes =
       is_open_next = λ first k p s. not first || (is_nothing s.phase || is_complete s.phase);
     }
 
--- the same, for a call whose own closure fails
+-- like `initializes`, for a call whose own closure fails
 abbrev pub fails_to_initialize : Asked
 fails_to_initialize =
     record initializes {

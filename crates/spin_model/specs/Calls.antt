@@ -174,7 +174,7 @@ pub record Asked : Type 0 where
 abbrev pub HasMoment : Asked → Said → ℕ → List Mark → Type 0
 HasMoment what said p span = moment (what.answers said) p span ≡ true
 
--- the same for an answer that a spurious failure may have led to
+-- like `HasMoment`, but an answer to which a spurious failure may lead needs no moment
 abbrev pub HasWeakMoment : Asked → Said → ℕ → List Mark → Type 0
 HasWeakMoment what said p span = (what.needs_no_cause said || moment (what.answers said) p span) ≡ true
 

@@ -32,7 +32,7 @@ pub record Performs {W V C L A : Type 0} (m : Machine W V C L A) (c : C) (l : L)
   pub next : (w u : W) (v : Option V) → m.can w c l h ≡ true → m.can u c l h ≡ true → get_or (m.numbers w) i 0 ≡ get_or (m.numbers u) i 0 → (m.step w v c l h).next ≡ (m.step u v c l h).next
   pub placed : (w u : W) (v : Option V) → (m.step w v c l h).placed ≡ (m.step u v c l h).placed
 
--- a step is one operation, unless this kind of lock makes steps that are whole sections
+-- a step is one operation, unless each step of this kind of lock is a whole section under a lock of its own
 abbrev pub IsOneOperation : {W V C L A : Type 0} → Bool → Machine W V C L A → C → L → Option Hold → Type 0
 IsOneOperation true m c l h = Unit {0}
 IsOneOperation false m c l h = (i : ℕ) × (operation : Operation) × Performs m c l h i operation
@@ -45,13 +45,14 @@ RefusesAsLost {W} {V} m c l h next =
 
 -- what holds of an object's calls and steps in every schedule
 pub record Stepwise {W V C L A : Type 0} (m : Machine W V C L A) : Type 0 where
-  -- each call is one of its kind of lock, and begins exactly if its party holds what the call needs
+  -- what the call asks is in the list `calls` of its kind of lock
   pub calls : (c : C) (h : Option Hold) → (n : ℕ) × AnyOf (λ what. m.asks c h ≡ what) (m.lock_kind.calls n h)
+  -- the call begins exactly if its party holds what the call needs
   pub begins : (c : C) (h : Option Hold) → is_some (m.begin c h) ≡ (m.asks c h).begins h
   -- a call that begins makes only plain steps of its kind of lock
   pub fits : (c : C) (h : Option Hold) (said : Said) (p : ℕ) → (m.asks c h).begins h ≡ true
       → list_all (list_all (is_step_of m.lock_kind)) (own_steps ((m.asks c h).answers said) p) ≡ true
-  -- what a call gets by a weak exchange, no other step gets
+  -- if a call gets something by weak exchanges only (`gets_weakly`), each step that gets it may fail spuriously
   pub weak : (p : ℕ) (c : C) (l : L) (h : Option Hold) (w : W) (d : Change) → m.change p w c l h ≡ Some d → (m.asks c h).gets_weakly d ≡ true → is_some (m.refuse c l h) ≡ true
   pub operates : (c : C) (l : L) (h : Option Hold) → IsOneOperation m.lock_kind.steps_in_sections m c l h
   pub refuses : (c : C) (l : L) (h : Option Hold) (next : Next L A) → m.refuse c l h ≡ Some next → RefusesAsLost m c l h next

@@ -124,11 +124,11 @@ module _ {T S : Type 0} (makes : S → T → Type 0) where
           (bared makes p.0 says (Of p.0 p.2.name) p.1 p.2 q.2 found q.1 moved) in
           ((same, it.named, it.made), it.is)
 
-    -- the store after a closure that failed
+    -- a step that follows the play `fails_by` makes the moves of the failure, and its party is then idle
     pub failed : Took fails_by q.1 → Since p IsFailure q × (what q.1 ≡ Some Idle)
     failed moved = made fails_by moved (λ n. Idle) (λ n. IsFailure) (λ own outs n v said. said)
 
-    -- the next step of the party's call
+    -- a step that follows the play `turn_by` is the next step of the party's call (`Turned`)
     pub turned : (c : OnceCall (Unit {0})) → Took (turn_by c (what p.1)) q.1 → Turned c found p q
     turned c moved =
         let view = what p.1 in let d = call_from c view in let l = point_of view in
@@ -161,7 +161,7 @@ module _ {T S : Type 0} (p q r : Place T S) where
   call_on c (Continue l) = both (Begins c Waits) Waits (Begins c Waits) (passes.begun c Waits Waits Waits passes.waits_on)
   call_on c (Answers a h) = both (Begins c Waits) (Ends a) (IsCall c a) (passes.begun c Waits (Ends a) (Ends a) (passes.waits_out a))
 
-  -- a call that waited, and whose closure then fails
+  -- if a call waited, and its closure then fails, all these moves are the course `Fails`
   waits_fail : (own own' : List OneMove) (outs outs' : List Ending) → Waits own outs → Fails own' outs' → Fails (own ++ own') (outs ++ outs')
   waits_fail own own' outs outs' (i, is, are) (j, is', are') =
       (i + j, after_steps Step own own' (Weak ∷ Step ∷ []) is is', after_steps GoingOn outs outs' (GoingOn ∷ Answered Failed None ∷ []) are are')
@@ -203,7 +203,7 @@ module _ {T S : Type 0} (p q : Place T S) (c : OnceCall (Unit {0})) (n : ℕ) (s
   abbrev At : Option View → Onward → Type 0
   At view next = let d = call_from c view in Since p (Comes (has_begun view) d next) q × (what q.1 ≡ Some (view_of d next))
 
-  -- the first step of a call
+  -- the first step of a call does what the table says at the call's first look
   pub first_by : is_out (what p.1) ≡ true → next_at c Look n ≡ next → At None next
   first_by out is = subst (At None) is (by (what p.1) out step)
     where
@@ -211,7 +211,7 @@ module _ {T S : Type 0} (p q : Place T S) (c : OnceCall (Unit {0})) (n : ℕ) (s
       by (Some (InCall d l)) is at = absurd (cc is)
       by _ is at = at
 
-  -- a later step of a call
+  -- a later step of a call does what the table says at the call's point
   pub next_by : (d : OnceCall (Unit {0})) (l : OncePoint) → what p.1 ≡ Some (InCall d l) → next_at d l n ≡ next → At (Some (InCall d l)) next
   next_by d l at is = subst (At (Some (InCall d l))) is (subst (λ view. At view (next_at (call_from c view) (point_of view) n)) at step)
 
@@ -221,7 +221,8 @@ pub looks_first : (view : Option View) → is_out view ≡ true → is_load (poi
 looks_first (Some (InCall c l)) out = absurd (cc out)
 looks_first _ out = refl
 
--- from the point `p` on, the party has made no step yet, and begins the call `c` by the next one; or it is in this call, and looks next
+-- After the point `p` the party has made no step yet, and its next step begins the call `c`. Or it is in this call,
+-- and looks next.
 abbrev pub IsLooking : {T S : Type 0} → OnceCall (Unit {0}) → Place T S → Place T S → Type 0
 IsLooking c p q = ((q ≡ p) × (is_out (what p.1) ≡ true)) ⊎ (Since p (Begins c Waits) q × (what q.1 ≡ Some (InCall c Look)))
 

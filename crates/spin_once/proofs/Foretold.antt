@@ -100,8 +100,8 @@ module _ (given : Option (Unit {0})) where
       → Alike f (happens (m given) s p move) (happens (t given) (object f s) p (renamed move (f p)))
   happens_alike f s p move still ne = rw (named_get f s.seats p) (at_alike f s p move (slice_get s.seats p) refl still ne)
 
-  -- when a closure fails, the object's seats stay as they are, since its call there has the name of a failing call
-  -- from the beginning
+  -- When a closure fails, the object's seats stay as they are. In the object the call with this closure has the name
+  -- of a failing call from the beginning.
   failed_seats : (f g : ℕ → Bool) (xs : List (Seat Call Point)) (p : ℕ) (v : Unit {0}) (h : Option Hold) → slice_get xs p ≡ Some (Calling (TryCallOnceOk v) (at Run) h) → f p ≡ true → ((q : ℕ) → (p ≡ q → ⊥) → f q ≡ g q)
       → seats_named f xs ≡ seats_named g (slice_set xs p (Calling (TryCallOnceOk v) failed h))
   failed_seats f g xs p v h there fails others =

@@ -202,7 +202,7 @@ module _ (b : Bool) where
   pub as_sure : (l : OncePoint) (n : ℕ) → table c l n ≡ table (CallOnce tt) l n
   as_sure l n = elim b as (λ t. table (closure_call t) l n ≡ table (CallOnce tt) l n) [ true ↦ refl | false ↦ refl ]
 
-  -- the exchange by which a call begins to run its closure: the next word, and below the next view
+  -- the word after the exchange by which a call begins to run its closure
   pub begin_words : (n : ℕ) → (table c TryBegin n).words ≡ either (n == 0) 1 n
   begin_words n = ap (λ st. st.words) (as_sure TryBegin n) ∙ by (n == 0) refl
     where
@@ -210,6 +210,7 @@ module _ (b : Bool) where
       by true is = rw is refl
       by false is = rw is refl
 
+  -- a party whose call is answered by this exchange holds nothing
   pub begin_free : (n : ℕ) → IsFree (next_at c TryBegin n)
   begin_free n = subst (λ st. IsFree st.next) (sym (as_sure TryBegin n)) (by (n == 0) (n == 2) refl refl)
     where
@@ -218,7 +219,7 @@ module _ (b : Bool) where
       by false true is is' = rw (is, is') refl
       by false false is is' = rw (is, is') tt
 
-  -- the store after a closure that gave a value
+  -- the store after a closure that gave a value leaves the word 2
   pub end_words : (n : ℕ) → (table c Run n).words ≡ 2
   end_words n = ap (λ st. st.words) (as_sure Run n)
 

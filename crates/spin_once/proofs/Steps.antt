@@ -19,11 +19,12 @@ use Rattle.spin_once.specs.declared.once_core.rule.View.TheVariants.{Idle, Readi
 use Rattle.spin_once.specs.declared.once_core.rule.Stage.{Stage}
 use Rattle.spin_once.specs.declared.once_core.rule.Stage.TheVariants.{Seed, Done}
 
--- how many parties read the value, after a party has got another view; below, how many run a closure
+-- how many parties read the value, after a party has got another view
 see_after : (id : ℕ) (view : Option View) (vs : List View) (w : View) → Stands id view vs → readers (after id view vs w) + reading (use_of use_of_view view) ≡ readers vs + reading (use_of_view w)
 see_after id None vs w at = moves (λ v. reading (use_of_view v)) id None vs w at
 see_after id (Some v) vs w at = moves (λ v. reading (use_of_view v)) id (Some v) vs w at
 
+-- how many parties run a closure, after a party has got another view
 run_after : (id : ℕ) (view : Option View) (vs : List View) (w : View) → Stands id view vs → runs (after id view vs w) + writing (use_of use_of_view view) ≡ runs vs + writing (use_of_view w)
 run_after id None vs w at = moves (λ v. writing (use_of_view v)) id None vs w at
 run_after id (Some v) vs w at = moves (λ v. writing (use_of_view v)) id (Some v) vs w at

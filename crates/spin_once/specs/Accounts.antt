@@ -56,7 +56,7 @@ module _ {T S : Type 0} where
   Claims may_fail p (claim.Init permit) =
       Since p Waits (here permit.account) × HasSeed permit.account × (what permit.account.party.view ≡ Some (in_closure may_fail Run))
 
-  -- the result of a try to begin: like `Claims`, or the call waits since another closure runs
+  -- the result of a try to begin: like `Claims`, or the call waits because another closure runs
   abbrev pub Attempts : Bool → Place T S → Result (Claim T S) (Account T S) → Type 0
   Attempts may_fail p (Ok claim) = Claims may_fail p claim
   Attempts may_fail p (Err account) = Since p Waits (here account) × (what account.party.view ≡ Some (in_closure may_fail Await))

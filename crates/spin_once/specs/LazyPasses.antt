@@ -32,10 +32,11 @@ module _ {T F R M : Type 0} where
   abbrev pub opening_of : Pass T F R M → Opening (Stage T (Initialiser F M))
   opening_of it = it.account.party.key.opening
 
-  -- the initialiser of the `LazyLock`, as a pass keeps it; below, what is promised of the value
+  -- the initialiser of the `LazyLock`, as a pass keeps it
   abbrev pub initialiser_of : Pass T F R M → F
   initialiser_of it = (seed_of it.account).f.inner
 
+  -- what is promised of the value, as a pass keeps it
   abbrev pub promise_of : Pass T F R M → M
   promise_of it = (seed_of it.account).promise
 

@@ -50,10 +50,11 @@ use_of_view (InCall c l) = used_at l
 abbrev pub use_of_party : Numbered View → Use
 use_of_party v = use_of_view v.0
 
--- how many parties read the value, and how many run a closure
+-- how many parties read the value
 abbrev pub readers : List View → ℕ
 readers = readers_of use_of_view
 
+-- how many parties run a closure
 abbrev pub runs : List View → ℕ
 runs = writers_of use_of_view
 
@@ -203,7 +204,8 @@ Comes true c (Answers a h) = Ends a
 Comes false c (Continue l) = Begins c Waits
 Comes false c (Answers a h) = IsCall c a
 
--- Since the party knew `old`, it has made the moves of this course and no others. `given` says whether the cell opened with a value.
+-- From `old` to `new` the party has made exactly the moves of this course. `given` says whether the cell opened with
+-- a value.
 unfoldable pub Moves : Option (Unit {0}) → Moving → Option (Numbered View) → List Made → Option (Numbered View) → List Made → Type 0
 Moves given course view old view' new = passes.Made (model given) view old view' new course
 

@@ -16,10 +16,11 @@ use Rattle.spin_once.specs.declared.once_core.rule.Key.{Key}
 use Rattle.spin_once.specs.declared.once_core.rule.Stage.{Stage}
 use Rattle.spin_once.specs.declared.once_core.rule.Stage.TheVariants.{Done}
 
--- an entry of the history; below, an entry of the model's schedule
+-- an entry of the history
 abbrev pub Valued : Type 0 → Type 0
 Valued T = Entry (OnceCall (Unit {0})) T
 
+-- an entry of the model's schedule
 abbrev pub Made : Type 0
 Made = Entry (OnceCall (Unit {0})) (Unit {0})
 

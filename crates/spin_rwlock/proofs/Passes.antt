@@ -197,7 +197,7 @@ module _ {T : Type 0} {was now : Sight T} where
       → Becomes turn.to (course_of (λ y. was.0.0.told ≡ true → IfSome was.1 (λ x. y ≡ x)) turn) was now
   becomes turn t uses some = let sees = t.sees uses in record { lent = (t.view, sees.0); same = sees.1 some; does = t.does }
 
-  -- a call of one step
+  -- the moves of a call of one step are the whole call
   pub becomes_by : (c : RwCall) (a : Answer T) (v : View) → Becomes v (AreSteps false c (Some a ∷ [])) was now → Becomes v (IsCall c a) was now
   becomes_by c a v b = record { lent = b.lent; same = b.same; does = does_weaker (in_one c a) b.does }
 
@@ -222,7 +222,7 @@ is_same e = cc
 pub reads_uses : (v : View) → use_of_view v ≡ reads → use_of_view v ≢ off
 reads_uses v lends e = absurd (let no : reads ≡ off = sym lends ∙ e in cc)
 
--- a call by which a writer stops writing
+-- a call by which a writer stops writing does what `Ends` says
 pub ended : {T : Type 0} {was now : Sight T} (c : RwCall) (to : View) → use_of use_of_view (view_at was) ≡ writes → Turned (leaves_by c to) was now
     → Ends c was now
 ended c to held t = record {
@@ -278,7 +278,7 @@ module _ {T : Type 0} (c : RwCall) {p q : Sight T} where
       then_missed m =
           and_then (passes.begun c Waits (AreSteps true c (missed c m ∷ [])) (Left (still c m)) (λ own own' outs outs' w s. waits_left (still c m) own own' outs outs' w (left_by (still c m) own' outs' s.0 s.1))) (begun goes)
 
--- a look of a call that waits
+-- after a look a call that waits still waits, whatever word m the look found
 pub then_looked : {T : Type 0} {p q r : Sight T} (won : View) → Comes won → (n m : ℕ) → Has (Seeks (call_of won true) n) p q
     → Has (AreSteps true (call_of won true) (None ∷ [])) q r → Has (Seeks (call_of won true) m) p r
 then_looked {p = p} {q = q} {r = r} won cm n m so_far step =

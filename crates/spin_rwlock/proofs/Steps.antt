@@ -280,7 +280,7 @@ module _ {T : Type 0} (v₀ : T) where
   comes_first Upgradable true cm new grant w value = (grind (arith, grant), grind (arith, grant))
   comes_first _ waits cm new grant w value = absurd cm
 
-  -- a further exchange, which expects the word found
+  -- a further exchange expects the word found; the model has a move for it
   comes_again : (won : View) (waits : Bool) → Comes won → (old new : ℕ) → grants (call_of won waits) old ≡ Some new
       → Arrives (Some (Coming (call_of won waits) old)) true won (call_of won waits) old new
   comes_again Reading false cm old new grant w value = (grind (arith, grant), grind (arith, grant))
@@ -296,7 +296,7 @@ module _ {T : Type 0} (v₀ : T) where
       rw (not_in_call view out, free, sits_out view out) (comes_first won waits cm new (rw free at grant) w value)
   come_plays won waits cm view old new (inr is) grant w value = rw (is, lets_in won waits cm old new grant) (comes_again won waits cm old new grant w value)
 
-  -- the load of a call that waits, after a word that did not admit the reader
+  -- after a word that did not admit the reader, a call that waits loads the word; the model has a move for the load
   look_plays : (won : View) → Comes won → (old : ℕ) → grants (call_of won true) old ≡ None → (w : ℕ) (value : Option T)
       → PlaysTurn (Some (Coming (call_of won true) old)) (λ n. n) (looks_by (call_of won true)) w value
   look_plays Reading cm old none w value = (grind (arith, none), grind (arith, none))
@@ -334,12 +334,13 @@ module _ {T : Type 0} where
   calls_leave true c answers own outs are v = ap (λ o. left o v) are.0 ∙ steps_leave answers v
   calls_leave false c answers own outs are v = ap (λ o. left o v) are.0 ∙ steps_leave answers v
 
-  -- so moves that write nothing leave the value as it was; below, moves that write `x` last leave `x`
+  -- so moves that write nothing leave the value as it was
   writes_none : (u u' : Use) (shown : Option T) (own : List (OneMove T)) → u ≢ writes → ((v : T) → left own v ≡ v) → Leaves u u' shown own
   writes_none off u' shown own not same = same
   writes_none reads u' shown own not same = same
   writes_none writes u' shown own not same = absurd (not refl)
 
+  -- moves that write `x` last leave `x`
   writes_last : (u u' : Use) (x : T) (own : List (OneMove T)) → u ≡ writes → ((v : T) → left own v ≡ x) → Leaves u u' (Some x) own
   writes_last writes writes x own is all = tt
   writes_last writes off x own is all = all
@@ -392,13 +393,13 @@ module _ {T : Type 0} (opening : Opening T) where
           rw (to w u is) (own, outs, (refl, said), of_a_call t.goes_on t.call t.answers, all_played t.goes_on t.answers, f w, value, p.0, p.1, refl)) allows,
     )
 
-    -- a load or an exchange: the number found decides the next view
+    -- the party may make a load or an exchange; the number found decides the next view
     finds : use_of use_of_view (what view) ≢ writes → (f : ℕ → ℕ) (turn : ℕ → Turn T) → ((n : ℕ) → (turn n).writes ≡ false)
         → ((w : ℕ) (value : Option T) → PlaysTurn opening.value (what view) f turn w value)
         → Allows Word (ways rw-lock) (what view) f (λ n v. v ≡ (turn n).to) → May opening view shown f turn
     finds not f turn none plays = may not f (λ n v. v ≡ (turn n).to) turn none (λ n u is. is) (λ w value u is. plays w value)
 
-    -- an addition or a subtraction by a reader
+    -- a reader may make this addition or subtraction
     changes : (u : View) → use_of_view u ≢ writes → what view ≡ Some u → (f : ℕ → ℕ) (so : ℕ → Type 0) (turn : Turn T) → turn.writes ≡ false
         → ((w : ℕ) (value : Option T) → so w → PlaysTurn opening.value (Some u) f (λ n. turn) w value)
         → Allows Word (ways rw-lock) (Some u) f (To so (λ n. turn.to)) → May opening view shown f (λ n. turn)
@@ -472,7 +473,7 @@ module _ {T : Type 0} (opening : Opening T) where
         raises upgrade asking to_upgrade_asked (λ e. absurd cc) refl (λ s p. rw (eq-eqb p p refl) refl) (λ s. tt) (λ s. tt)
         (λ w value. (grind arith, grind arith))
 
-    -- an addition by the upgradable reader
+    -- the upgradable reader may make this addition, by which it turns to the kind l
     turns_on : (by : ℕ) (l : Kind) (turn : Turn T) → turn.writes ≡ false → may_turn upgradable l ≡ true → weight upgradable + by ≡ weight l
         → ((p : ℕ) → entries_of p (part turn.to) ≡ entries_of p (holds l)) → ((s : Plain) → Knows s (part turn.to))
         → ((w : ℕ) (value : Option T) → PlaysTurn opening.value (Some Upgradable) (λ n. n + by) (λ n. turn) w value) → by < 2 ^ 63
@@ -494,7 +495,7 @@ module _ {T : Type 0} (opening : Opening T) where
         changes won not is (λ n. (n + (2 ^ 64 - weight k)) % 2 ^ 64) (Weighs (weight k)) (ends_by call.Release Done Idle) refl
         (rw (sym e) (release_plays opening.value won cm)) (goes won k was)
 
-    -- a reader leaves, and subtracts its weight
+    -- a reader may leave by subtracting its weight
     pub reader_leaves : (won : View) → Comes won → (k : ℕ) → k ≡ weight_of won → what view ≡ Some won
         → May opening view shown (λ n. (n + (2 ^ 64 - k)) % 2 ^ 64) (λ n. ends_by call.Release Done Idle)
     reader_leaves Reading cm k e is = rw e (leaves_as reading Reading cm refl is (λ e. absurd cc) (λ p. refl))
@@ -554,12 +555,12 @@ module _ {T : Type 0} (opening : Opening T) where
   pub idle_rests : (v : Numbered View) → v.0 ≡ Idle → Rests (IsRw opening) use_of_party (Some v)
   idle_rests v is = rw is (rests_at Idle refl refl v.1 v.2)
 
-  -- a party that is in no call, and holds nothing
+  -- a party that is in no call, and holds nothing, may leave
   pub out_rests : (view : Option (Numbered View)) → IsOut (what view) → Rests (IsRw opening) use_of_party view
   out_rests None out = tt
   out_rests (Some v) out = rests_at v.0 (seat_idle (seat_of v.0) out) (out_holds_none (Some v.0) out) v.1 v.2
 
-  -- a party whose only exchange found another word
+  -- a party whose only exchange found another word may leave
   pub missed_rests : (won : View) (old found : ℕ) → found ≢ old → (v : Numbered View) → v.0 ≡ either_at old won Idle found
       → Rests (IsRw opening) use_of_party (Some v)
   missed_rests won old found other v is = idle_rests v (is ∙ ap (λ b. if b then won else Idle) (ne_eqb found old other))

@@ -226,10 +226,11 @@ module _ {T : Type 0} where
   abbrev pub counts_by : RwCall → (ℕ → ℕ) → ℕ → Turn T
   counts_by call count n = ends_by call (Count (count n)) Idle
 
-  -- an attempt that found the word expected; below, one that found another word
+  -- an attempt that found the word expected
   abbrev pub wins : Attempt T → Turn T
   wins a = steps_by a.goes_on a.call (Some Granted ∷ []) a.won
 
+  -- an attempt that found another word
   abbrev pub loses : Attempt T → Turn T
   loses a = steps_by a.goes_on a.call (a.answer ∷ []) a.lost
 
@@ -323,15 +324,16 @@ MayCome call n view = (IsOut view × (n ≡ 0)) ⊎ (view ≡ Some (Coming call 
 abbrev pub MayWrite : Option View → Type 0
 MayWrite view = IsOut view ⊎ (view ≡ Some WaitingToWrite)
 
--- For a pass of a lock that opened with the value `v`. Since the pass knew `old`, it has made the moves of this course and no others.
+-- For a pass of a lock that opened with the value `v`. From `old` to `new` the pass has made exactly the moves of
+-- this course.
 module _ {T : Type 0} (v : T) where
   abbrev pub Moves : OneCourse T → Option (Numbered View) → List (Done T) → Option (Numbered View) → List (Done T) → Type 0
   Moves course view old view' new = Made (model v) view old view' new course
 
-  -- since then the pass has made exactly this call, which had this answer
+  -- in between (see `Moves`) the pass has made exactly this call, which had this answer
   abbrev pub Called : RwCall → Answer T → Option (Numbered View) → List (Done T) → Option (Numbered View) → List (Done T) → Type 0
   Called call answer = Moves (IsCall call answer)
 
-  -- since then the pass has written a value that satisfies `Q`, and then made this call
+  -- in between the pass has written a value that satisfies `Q`, and then made this call
   abbrev pub Wrote : (T → Type 0) → RwCall → Option (Numbered View) → List (Done T) → Option (Numbered View) → List (Done T) → Type 0
   Wrote Q call = Moves (WritesSome Q (IsCall call answer.Done))

@@ -23,8 +23,8 @@ Spot T = spots.Spot (Opening T) View (rws.Done T)
 abbrev pub Sight : Type 0 → Type 0
 Sight T = Spot T × Option T
 
--- How a party uses the value before and after a step. A step that writes the value (`true`) ends the writing: its
--- party may write before it, and not after it. Before any other step (`false`) its party may not write.
+-- How a party uses the value before and after a step. A step that writes the value (`true`) ends the writing: the
+-- party may write before the step, and not after it. Before any other step (`false`) the party may not write.
 abbrev pub FitsUse : Bool → Use → Use → Type 0
 FitsUse true before after = (before ≡ writes) × (after ≢ writes)
 FitsUse false before after = before ≢ writes
@@ -95,12 +95,14 @@ module _ {T : Type 0} where
     pub same : now.1 ≡ was.1
     pub does : Does course was now
 
-  -- The writer has written the value that it saw, and has then made this call. That value is the one written last.
+  -- The writer has written a value, and has then made this call. Until the owner borrows the value (afterwards `told`
+  -- is false), the writer wrote the value that it saw, and this is the one written last.
   pub record Ends (call : RwCall) (was now : Sight T) : Type 0 where
     pub does : Does (WritesSome (λ y. was.0.0.told ≡ true → IfSome was.1 (λ x. y ≡ x)) (IsCall call Done)) was now
     pub left : IfSome was.1 (λ x. IsLast was.0.0 now.0.2.entries x)
 
-  -- if the moves up to `was` are of the course `P`, those up to `now` are of the course `Q`
+  -- If the moves from some start up to `was` are of the course `P`, the moves from that start up to `now` are of the
+  -- course `Q`.
   abbrev pub Leads : OneCourse T → OneCourse T → Sight T → Sight T → Type 0
   Leads P Q was now = (start : Sight T) → Has P start was → Has Q start now
 

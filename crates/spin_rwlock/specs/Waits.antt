@@ -15,16 +15,17 @@ use Rattle.spin_rwlock.specs.declared.rwlock.reader.SharedGuard.{SharedGuard}
 use Rattle.spin_rwlock.specs.declared.rwlock.rule.Kind as kind
 use Rattle.spin_rwlock.specs.declared.rwlock.writer.RwLockWriteGuard.{RwLockWriteGuard}
 
--- a reader's guard, and what its party knows; below, a writer's guard
+-- a reader's guard, and what its party knows
 abbrev pub reads_at : {T K R : Type 0} {k : kind.Ghosts K} → SharedGuard T K R k × Watch (Done T) → Sight T
 reads_at lent = (spot lent.0.permit lent.1, lent.0.permit.value)
 
+-- a writer's guard, and what its party knows
 abbrev pub writes_at : {T R : Type 0} → RwLockWriteGuard T R × Watch (Done T) → Sight T
 writes_at held = let writer = held.0.writer in ((writer.key, Some writer.view, held.1), Some writer.value)
 
 -- For a call that wants to read
 module _ {T K M R : Type 0} {k : kind.Ghosts K} {m : mode.Ghosts M} (call : RwCall) (was : Coming T K M R k m) where
-  -- since `was` the call has found the word of `now`, by which it waits, tries again or has failed
+  -- from `was` to `now` the call has found the word of `now`, by which it waits, tries again or has failed
   abbrev pub SeeksOn : Coming T K M R k m → Type 0
   SeeksOn now = Leads (Seeks call was.word) (Seeks call now.word) (sight was.account) (sight now.account)
 

@@ -70,10 +70,11 @@ other_goes : (p q : ℕ) (hs : List Holder) → q ≢ p → is_holder p writing 
 other_goes p q [] apart = refl
 other_goes p q (h ∷ hs) apart = goes_by p q h hs (h.party == q) apart refl (other_goes p q hs apart)
 
--- whether a pass holds; below, calls of others do not change that
+-- whether a pass holds
 abbrev pub is_held_by : ℕ → Locked → Bool
 is_held_by p s = is_holder p writing s.lock.holders
 
+-- calls of other passes do not change whether a pass holds
 pub steady : (p q : ℕ) (c : Call) (s : Locked) → q ≢ p → is_held_by p (after_call q c s) ≡ is_held_by p s
 steady p q TryLock s apart = other_tries p q s s.lock.holders apart
 steady p q IsLocked s apart = refl

@@ -80,11 +80,12 @@ one_at_most n (h ∷ g ∷ hs) alone = absurd alone
 pub one_holder : (k : Opening) (log : History) → IsLegal mutex k log → length (holders k log) ≤ 1
 one_holder k log legal = one_at_most k.passes (state mutex k log).lock.holders (alone_state k log legal)
 
--- what a try that succeeds says of the holders; below, what a try that fails says of them
+-- before a try that succeeds nobody holds, and after it the try's pass holds
 won : (p : ℕ) (s : Locked) (hs : List Holder) → Truth true ≡ Truth (is_empty hs) → (map (λ h. h.party) hs ≡ []) × (map (λ h. h.party) (after_call p TryLock (held_by s hs)).lock.holders ≡ p ∷ [])
 won p s [] is = (refl, refl)
 won p s (h ∷ hs) is = absurd (cc (truth_is true false is))
 
+-- at a try that fails, one pass holds
 lost : (n : ℕ) (hs : List Holder) → Alone n hs → Truth false ≡ Truth (is_empty hs) → (q : ℕ) × (map (λ h. h.party) hs ≡ q ∷ [])
 lost n [] alone is = absurd (cc (truth_is false true is))
 lost n (h ∷ []) alone is = (h.party, refl)

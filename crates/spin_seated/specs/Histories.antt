@@ -30,12 +30,13 @@ abbrev pub total : {X : Type 0} → (X → ℕ) → List X → ℕ
 total f [] = 0
 total f (x ∷ xs) = f x + total f xs
 
--- the list has exactly one element, or exactly two, and P holds of them
+-- the list has exactly one element, and P holds of it
 abbrev pub One : {X : Type 0} → (X → Type 0) → List X → Type 0
 One P [] = ⊥
 One P (x ∷ []) = P x
 One P (x ∷ y ∷ xs) = ⊥
 
+-- the list has exactly two elements, and P holds of them
 abbrev pub Two : {X : Type 0} → (X → X → Type 0) → List X → Type 0
 Two P [] = ⊥
 Two P (x ∷ []) = ⊥

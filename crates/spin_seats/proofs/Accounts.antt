@@ -63,7 +63,7 @@ module _ (n name : ℕ) (seen : Watch rule.Done) (same : name ≡ seen.name) whe
     pub tried : IsOut (what view) → Tells (looks_by n false (what view)) → Steps false call.TryEnter (met n false found) (at_word n false found)
     tried out moved = subst (λ b. Steps b call.TryEnter (met n false found) (at_word n false found)) (out_begins (what view) out) (stepped (has_begun (what view)) call.TryEnter (met n false) (at_word n false) moved)
 
-    -- an exchange, which found the word that it expected or another
+    -- an exchange makes this one step of the call; `b` says whether it found the word that it expected
     pub took : (old new : ℕ) (waits b : Bool) → Some new ≡ entered n old → what view ≡ Some (at_word n waits old) → (found == old) ≡ b → Tells (sits_by n old (what view))
         → Steps true (call_of waits) (if b then Answered Granted None else met n waits found) (if b then Seated else at_word n waits found)
     took old new waits b free is same moved =

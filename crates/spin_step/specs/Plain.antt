@@ -270,10 +270,11 @@ weight writing = 1
 abbrev pub rw_word : Plain → ℕ
 rw_word s = sum_by (λ h. weight h.kind) s.holders
 
--- what the holder adds to a fair lock's word; and what each starver adds
+-- what the holder adds to a fair lock's word
 abbrev pub holder_weight : ℕ
 holder_weight = 1
 
+-- what each starver adds to a fair lock's word
 abbrev pub starver_weight : ℕ
 starver_weight = 2
 

@@ -64,7 +64,7 @@ module _ {C : Type 0} (calls : Calls C) where
   pub told : (ws : List (List ℕ)) (this c : C) → IsCall ws this → Some this ≡ Some c → IsCall ws c
   told ws this c call is = let P : C → Type 0 = IsCall ws in subst P (some_is is) call
 
-  -- the words that spell a call with a number as its last word
+  -- if a call is read from words of which the last is a number, the words spell this call
   pub numbered : (ws all : List (List ℕ)) (this : ℕ → C) (c : C) → ((n : ℕ) → n < 2 ^ 64 → ws ≡ decimal n ∷ [] → IsCall all (this n)) → (last_number ws >>= λ n. Some (this n)) ≡ Some c → IsCall all c
   numbered ws all this c call =
       bound (last_number ws) _ c (IsCall all c) (λ n found.

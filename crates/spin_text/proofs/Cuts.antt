@@ -55,7 +55,7 @@ around bs at l = grind (arith, common_steps)
 all_of_rest : (bs : List ℕ) (n : ℕ) → take (length bs - n) (drop n bs) ≡ drop n bs
 all_of_rest bs n = grind (arith, common_steps, length-drop)
 
--- bytes with a first separator at place `at`: the part before it, and the parts of the bytes after it
+-- if the first separator is at place `at`, the parts are the bytes before it, and the parts of the bytes after it
 pub cut_some : (a : ℕ) (bs : List ℕ) (at : ℕ) → NoneBefore (Passes (is_byte a) bs) 0 (length bs) at → Passes (is_byte a) bs at → slice_split (is_byte a) bs ≡ take at bs ∷ slice_split (is_byte a) (take (length bs - (at + 1)) (drop (at + 1) bs))
 cut_some a bs at first here =
     ap (slice_split (is_byte a)) (around bs at first.high)
@@ -81,7 +81,7 @@ some_word : (ws : List (List ℕ)) → 0 < length ws → false ≡ is_end ws
 some_word [] some = absurd (omega (arith, some))
 some_word (w ∷ ws) some = refl
 
--- the first line, and the lines after it
+-- the words by line are the words of the first line, and then those of each line after it
 pub lines_behind : (bs line : List ℕ) (parts : List (List ℕ)) (further : List (List ℕ)) → slice_split (is_byte 10) bs ≡ line ∷ parts → further_lines parts ≡ further → words_by_line bs ≡ words_of line ∷ map words_of further
 lines_behind bs line parts further is then =
     ap (λ all. map words_of (first_and_further all)) is ∙ ap (λ ls. words_of line ∷ map words_of ls) then

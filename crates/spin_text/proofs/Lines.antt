@@ -13,7 +13,7 @@ use Rattle.spin_world_core.proofs.Playing.{Played, played_next}
 use Rattle.spin_text.specs.Pieces.{HasLine, TellsLine}
 use Rattle.spin_text.specs.Transcripts.{event_line, event_lines, end_line, schedule_lines, transcript_from}
 
--- the lines of some events and of one more
+-- one more event adds its line to the lines of the events before it
 event_lines_more : {W : Type 0} (numbers : W → List ℕ) (line : ℕ) (es : List (Event W ℕ (Answer ℕ))) (e : Event W ℕ (Answer ℕ))
     → event_lines numbers line (es ++ e ∷ []) ≡ event_lines numbers line es ++ event_line (line + length es) e.party e.outcome (numbers e.words)
 event_lines_more numbers line [] e = ap (λ n. event_line n e.party e.outcome (numbers e.words) ++ []) (omega arith) ∙ append-nil (event_line (line + 0) e.party e.outcome (numbers e.words))
@@ -23,7 +23,7 @@ event_lines_more numbers line (x ∷ es) e =
     ap (λ l. first ++ l) (event_lines_more numbers (line + 1) es e ∙ ap (λ n. event_lines numbers (line + 1) es ++ event_line n e.party e.outcome (numbers e.words)) place)
     ∙ sym (append_assoc first (event_lines numbers (line + 1) es) (event_line (line + suc (length es)) e.party e.outcome (numbers e.words)))
 
--- the call began, if it has a beginning here, at one of the first n events
+-- if the event that began the call is in this transcript, it is one of the first n events
 abbrev IsBelow : ℕ → Option ℕ → Type 0
 IsBelow n None = Unit {0}
 IsBelow n (Some k) = k < n

@@ -22,7 +22,7 @@ pub ends : (w : List ℕ) (ws : List (List ℕ)) (name : List ℕ) → w ≡ nam
 ends w [] name is end = ap (λ x. x ∷ []) is
 ends w (x ∷ ws) name is end = absurd (cc)
 
--- a line with one word
+-- a line from which `last_word` reads a word has only this word
 pub last_word_takes : (ws : List (List ℕ)) (w : List ℕ) → last_word ws ≡ Some w → ws ≡ w ∷ []
 unfolding last_word
 last_word_takes [] w is = absurd (cc)

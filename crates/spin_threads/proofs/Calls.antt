@@ -217,7 +217,7 @@ module _ {W V C L A B : Type 0} {t : Table W V C L B} {by : Machine W V C L A} {
     starts [] = λ xs seen at c i a made came. absurd (cc (made))
     starts (x ∷ es) = first_event x es (starts es)
 
-  -- What a party knows of the one call that it has made since it knew `old`, and that got this answer
+  -- what a party knows of a call that got this answer, the only call that the party has made after `old`
   pub record Call {X : Type 0} (c : C) (a : A) (view : Option (Numbered X)) (old new : Schedule) : Type 0 where
     pub party : ℕ
     pub is_number : IsNumber party view

@@ -11,11 +11,11 @@ use Rattle.spin_model.specs.Schedules.{Entry}
 use Rattle.spin_world_core.specs.Runs.{opening, own_count, failures, changes, EndsWithin}
 use Rattle.spin_world_core.specs.Users.{seen_after}
 
--- the steps of all parties since the last call of `party` began, in a world of `parties` parties
+-- the steps of all parties from the beginning of the last call of `party` on, in a world of `parties` parties
 abbrev pub steps_since : {W V C L A : Type 0} → Machine W V C L A → ℕ → ℕ → List (Entry C V) → List Mark
 steps_since m parties party history = (seen_after m (opening m parties) history).span party
 
--- A party knew the history `old`, and has made exactly this call since, within the call's limit. Now it knows the
+-- A party knew the history `old`. After that it has made exactly this call, within the call's limit. Now it knows the
 -- history `new` and has this view.
 pub record IsWithinLimit {W V C L A X : Type 0} (m : Machine W V C L A) (call : C) (view : Option (Numbered X)) (old new : List (Entry C V)) : Type 0 where
   pub party : ℕ
@@ -27,7 +27,7 @@ pub record IsWithinLimit {W V C L A X : Type 0} (m : Machine W V C L A) (call : 
   pub answered : List (Entry C V)
   pub behind : IsPrefix old answered
   pub before : IsPrefix answered new
-  -- the party's moves since `old` are one that began the call, and the steps of the call
+  -- after `old` the party has made one move that began the call, and the steps of the call
   pub more : List (Entry C V)
   pub grown : new ≡ old ++ more
   pub moves : length (entries_by party more) ≡ suc (own_count party (steps_since m parties party answered))

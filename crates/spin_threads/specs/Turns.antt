@@ -12,9 +12,9 @@ use Rattle.spin_world_core.specs.Runs.{opening}
 use Rattle.spin_world_core.specs.Users.{seen_after}
 use Rattle.spin_world.specs.Turns.{tickets_gone}
 
--- A party knew the history `old`, and has entered with a ticket since. Now it knows the history `new` and has this view.
--- Take any moment before it entered. From that moment until it entered, t - s tickets left the queue. Here t is the
--- number of its ticket, and s is the number served at that moment.
+-- A party knew the history `old`. After that it has entered with a ticket. Now it knows the history `new` and has
+-- this view. Take any moment before it entered. From that moment until it entered, t - s tickets left the queue. Here
+-- t is the number of its ticket, and s is the number served at that moment.
 pub record EntersInTurn {X T : Type 0} (key : Key T) (view : Option (Numbered X)) (old new : List (Made T)) : Type 0 where
   pub party : ℕ
   pub is_number : IsNumber party view

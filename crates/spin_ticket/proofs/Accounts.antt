@@ -63,7 +63,8 @@ module _ {T : Type 0} (me : Account T) where
         → Tells (step_by goes_on c end to) → Steps goes_on c (end found) (to found)
     stepped = spots.stepped model seat_of words_of (here me) (spot it now) same me.knows is_named found
 
-    -- a look of a party that waits with this ticket; `b` says whether the look found the ticket's number served
+    -- a look of a party with this ticket makes this one step of `lock`; `b` says whether the look found the ticket's
+    -- number served
     pub found_turn : (number : ℕ) (b : Bool) → what me.permit.view ≡ Some (Waiting number) → b ≡ (found == number)
         → Tells (awaits_by (what me.permit.view))
         → Steps true Lock (if b then Answered Granted None else GoingOn) (if b then Entered number else Waiting number)
@@ -71,7 +72,8 @@ module _ {T : Type 0} (me : Account T) where
         let step = stepped true Lock (answers_turn number) (entered number) (subst (λ o. Tells (awaits_by o)) at moved) in
         subst (λ x. Steps true Lock (if x then Answered Granted None else GoingOn) (if x then Entered number else Waiting number)) (sym is) step
 
-    -- the exchange of a `try_lock`; `b` says whether the exchange found the number that it expected
+    -- the exchange of a `try_lock` makes this one step of it; `b` says whether the exchange found the number that it
+    -- expected
     pub found_next : (next : ℕ) (b : Bool) → (found == next) ≡ b
         → Tells (step_by true TryLock (answers_attempt next) (attempted next))
         → Steps true TryLock (if b then Answered Granted None else Answered Refused None) (if b then Entered next else Idle)

@@ -58,13 +58,14 @@ module _ {T : Type 0} where
   abbrev pub HasTicket : {P S : Type 0} → ℕ → T → Permit T (Numbered View) P (Key T) S → Type 0
   HasTicket number x permit = (number < ticket_limit) × (what permit.view ≡ Some (Entered number)) × (permit.value ≡ Some x)
 
-  -- the party has written this value, and then released the lock; the value is the one written last
+  -- The party has written a value, and then released the lock. Until the owner borrows the value, the value written is
+  -- this one, and it is the one written last.
   abbrev pub Releases : T → Spot T → Spot T → Type 0
   Releases = spots.Releases model (λ (key : Key T). key.0) Release Done
 
 module _ {T P R S : Type 0} where
-  -- Since the spot `p` the party has made exactly this call, which was granted. It holds the lock by this guard, whose value is the one
-  -- written last.
+  -- From the spot `p` on the party has made exactly this call, which was granted. It holds the lock by this guard,
+  -- whose value is the one written last.
   abbrev pub Gets : TicketCall → Spot T → Guard T (Numbered View) P R (Key T) S × Watch (Made T) → Type 0
   Gets call p (guard, seen) =
       IsHolder use_of_party guard × Holds guard seen × (seen.name ≡ p.2.name) × (guard_key guard ≡ p.0)

@@ -175,14 +175,14 @@ abbrev pub serves_by : {T : Type 0} → Says T
 serves_by = leaves_by (λ x. Unit {0}) Release Done Idle
 
 module _ {T : Type 0} where
-  -- For a pass that knew `old`. Since then it has made the moves of this course and no others.
+  -- from `old` to `new` the pass has made exactly the moves of this course
   abbrev pub Moves : Key T → Course T TicketCall (Answer T) → Between T TicketCall View
   Moves key course view old view' new = passes.Made (model key) view old view' new course
 
-  -- since then the pass has made exactly the call `c`, which had the answer `a`
+  -- in between (see `Moves`) the pass has made exactly the call `c`, which had the answer `a`
   abbrev pub Called : Key T → TicketCall → Answer T → Between T TicketCall View
   Called key c a = Moves key (IsCall c a)
 
-  -- since then the pass has written a value that satisfies `Q`, and then released the lock
+  -- in between the pass has written a value that satisfies `Q`, and then released the lock
   abbrev pub Left : Key T → (T → Type 0) → Between T TicketCall View
   Left key Q = Moves key (WritesSome Q (IsCall Release Done))

@@ -39,7 +39,7 @@ keeps_total t xs h =
     let s = sum_by-set (λ x. x) ys t.to (slice_index ys t.to + t.amount) 0 there in
     omega (arith, takes_sum t xs h)
 
--- the replay of a journal with one more transfer
+-- if one more transfer can be made, the journal with it is replayed to the balances after it
 pub replays_more : (t : Transfer) (ts : List Transfer) (xs ys : List ℕ) → replayed xs ts ≡ Some ys → can_make t ys ≡ true → replayed xs (ts ++ t ∷ []) ≡ Some (after t ys)
 replays_more t [] xs ys e h = grind (arith, common_steps)
 replays_more t (u ∷ ts) xs ys e h =

@@ -30,10 +30,11 @@ abbrev pub replayed : List ℕ → List Transfer → Option (List ℕ)
 replayed xs [] = Some xs
 replayed xs (t ∷ ts) = if can_make t xs then replayed (after t xs) ts else None
 
--- how much a journal's transfers take from an account; in `paid_in`, how much they bring to it
+-- how much a journal's transfers take from an account
 abbrev pub paid_out : ℕ → List Transfer → ℕ
 paid_out account ts = sum_by (λ t. if t.from == account then t.amount else 0) ts
 
+-- how much a journal's transfers bring to an account
 abbrev pub paid_in : ℕ → List Transfer → ℕ
 paid_in account ts = sum_by (λ t. if t.to == account then t.amount else 0) ts
 

@@ -15,8 +15,8 @@ use Rattle.spin_step_more.specs.FairKind.{fair}
 use Rattle.spin_model.specs.Machines.{Machine}
 use Rattle.spin_world_core.specs.Kinds.{BeginAt}
 
--- `m` is the machine of a fair lock with this cap of starvers. When more than `patience` of its looks have found the
--- flag set, its `lock` goes on to register.
+-- `m` is the machine of a fair lock with this cap of starvers. A `lock` goes on to register when more than `patience`
+-- of its looks have found the flag set.
 pub record IsFairLock {V : Type 0} (given : V) (cap patience : ℕ) (m : Machine ℕ V FairCall FairPoint (Answer V)) : Type 0 where
   pub lock_kind : m.lock_kind ≡ fair
   pub most_starve : m.cap ≡ min cap most_starvers

@@ -27,7 +27,8 @@ ComesAfterStarvers m n past p move =
     let before = seen_after m (opening m n) past in
     is_holder p writing before.plain.holders ≡ false → is_starver p before.plain.starvers ≡ false → is_holder p writing (scene m before p move).after.plain.holders ≡ true → before.plain.starvers ≡ []
 
--- the entries of a party that has acquired the lock as a starver and is still registered
+-- the entries, in the lists of the plain lock, of a party that has acquired the lock as a starver and is still
+-- registered
 abbrev pub holds_registered : ℕ → Entries
 holds_registered p = record no_entries { holders = holder p writing ∷ []; starvers = p ∷ [] }
 
@@ -37,7 +38,7 @@ IsGrantedNext m n past =
     (p : ℕ) (c : FairCall) (l : FairPoint) (h : Option Hold) → slice_get (after m (at_first m n) past).seats p ≡ Some (Calling c l h)
     → entries p (seen_after m (opening m n) past).plain ≡ holds_registered p → outcome_after m n past p Step ≡ Answered Granted None
 
--- the entries of a party that is a starver and does not hold the lock
+-- the entries, in the lists of the plain lock, of a party that is a starver and does not hold the lock
 abbrev pub only_starves : ℕ → Entries
 only_starves p = record no_entries { starvers = p ∷ [] }
 

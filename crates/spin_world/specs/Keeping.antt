@@ -31,11 +31,12 @@ once_after m n past = after m (at_first m n) past
 abbrev pub seen_at : {V : Type 0} → OnceMachine V → ℕ → Entries V → Seen ℕ V (OnceCall V) OncePoint
 seen_at m n past = seen_after m (opening m n) past
 
--- the owner does not replace the value by this move, or (`is_shared`) by any move of these entries
+-- by this move the owner does not replace the value
 abbrev pub keeps_value : {C V : Type 0} → Move C V → Bool
 keeps_value (OwnerSet v) = false
 keeps_value _ = true
 
+-- by no move of these entries does the owner replace the value
 abbrev pub is_shared : {C V : Type 0} → List (ℕ × Move C V) → Bool
 is_shared [] = true
 is_shared (e ∷ es) = keeps_value e.1 && is_shared es
@@ -64,7 +65,7 @@ pub record OneRuns {V : Type 0} (m : OnceMachine V) (n : ℕ) (past : Entries V)
   pub before : (p : ℕ) → RunsClosure m n past p → (once_after m n past).value ≡ None
   pub ends : (p : ℕ) → (runs : RunsClosure m n past p) → outcome_after m n past p Step ≡ Answered (answer_of (m.brings runs.call)) None
 
--- the call may answer with the value; `has_closure`: the call may run a closure
+-- the call may answer with the value
 abbrev pub wants_value : Asked → Bool
 wants_value what = not (is_empty (own_steps (what.answers gives_value) 0))
 
@@ -72,6 +73,7 @@ abbrev pub is_begun : List Change → Bool
 is_begun [] = false
 is_begun (c ∷ cs) = is_for to_begin c
 
+-- the call may run a closure
 abbrev pub has_closure : Asked → Bool
 has_closure what = list_any is_begun (own_steps (what.answers gives_value) 0) || list_any is_begun (own_steps (what.answers failed) 0)
 

@@ -65,7 +65,7 @@ pub record OpensByReleases {V : Type 0} (m : Machine ℕ V RwCall RwPoint (Answe
       count_kind reading (seen_after m (opening m n) (past ++ further)).plain.holders + readers_gone m (seen_after m (opening m n) past) further ≡ count_kind reading (seen_after m (opening m n) past).plain.holders
   pub opens :
       (is_open_to (seen_after m (opening m n) (past ++ further)).plain p to_upgrade_asked ≡ true) ↔ (readers_gone m (seen_after m (opening m n) past) further ≡ count_kind reading (seen_after m (opening m n) past).plain.holders)
-  -- exactly then the next step of the party's upgrade answers `Granted`
+  -- exactly if all those readers have released, the next step of the party's upgrade answers `Granted`
   pub granted : (c : RwCall) (l : RwPoint) (h : Option Hold)
       → slice_get (after m (at_first m n) (past ++ further)).seats p ≡ Some (Calling c l h)
       → (outcome_after m n (past ++ further) p Step ≡ Answered Granted None) ↔ (readers_gone m (seen_after m (opening m n) past) further ≡ count_kind reading (seen_after m (opening m n) past).plain.holders)

@@ -38,7 +38,8 @@ pub record InOrder (w : TicketWords) (s : Plain) : Type 0 where
   pub numbered : Numbered s
   pub one_entered : first_alone_entered s.tickets ≡ true
 
--- the entries of a party that waits with the ticket t: the ticket has not entered, and the party has nothing else
+-- the entries, in the lists of the plain lock, of a party that waits with the ticket t: the ticket has not entered,
+-- and the party has nothing else
 abbrev pub waits_with : ℕ → ℕ → Entries
 waits_with p t = record no_entries { tickets = ticket p t false ∷ [] }
 

@@ -149,8 +149,8 @@ entries_so_far p [] e = e
 entries_so_far p (m ∷ ms) e =
     if m.party == p then entries_after m.before m.change (entries_so_far p ms e) else entries_so_far p ms e
 
--- The party's entries in the plain lock are those that its seat implies. In a call they are the entries with which the
--- party began the call, changed by its own steps since.
+-- The party's entries in the plain lock are those that its seat implies. In a call they are the entries with which
+-- the party began the call, changed by its own steps in the call.
 abbrev pub StandsFor : {C L : Type 0} → Plain → ℕ → List Mark → Option (Seat C L) → Type 0
 StandsFor s p span None = entries p s ≡ no_entries
 StandsFor s p span (Some Idle) = entries p s ≡ no_entries
@@ -349,9 +349,9 @@ pub record IsLateLook (p n : ℕ) (m : Mark) (older : List Mark) : Type 0 where
   pub unregistered : own p older ≡ []
   pub late : n ≤ held_looks p older
 
--- A call that may starve registers in time. Since each late look (`IsLateLook`) the party has registered, or has found
--- the cap reached, or has made few steps. It registers only after more than n looks that found the lock held. Its
--- other steps are as `keeps_looking` says.
+-- A call that may starve registers in time. After each late look (`IsLateLook`) the party has registered, or has
+-- found the cap reached, or has made few steps. It registers only after more than n looks that found the lock held.
+-- Its other steps are as `keeps_looking` says.
 pub record RegistersInTime (IsFew : List Mark → Type 0) (p n : ℕ) (span : List Mark) : Type 0 where
   pub looking : keeps_looking p n span ≡ true
   pub soon : (recent : List Mark) (m : Mark) (older : List Mark) → span ≡ recent ++ m ∷ older → IsLateLook p n m older → AnyOf (TriesToStarve p) recent ⊎ IsFew recent

@@ -1,5 +1,5 @@
--- Which parties share the value: meanwhile the owner may not use it. Which have leaked: after the owner's use they
--- are gone.
+-- Which parties share the value, and which have leaked. While a party shares the value, the owner may not use it.
+-- After the owner's use, the parties that have leaked are gone.
 use Rattle.std.specs.Prelude.{Bool, true, false, not}
 use Rattle.spin_model.specs.declared.place.Seat.{Seat}
 use Rattle.spin_model.specs.declared.place.Seat.TheVariants.{Leaked}

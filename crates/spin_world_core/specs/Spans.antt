@@ -25,7 +25,7 @@ abbrev pub changes : LockKind → ℕ → List Mark → ℕ
 changes kind p [] = 0
 changes kind p (m ∷ ms) = changes kind p ms + bit (not (m.party == p) && not (first_word kind m.after == first_word kind m.before))
 
--- how many looks of the party have found the lock held; only a call that waits looks
+-- How many looks of the party have found the lock held. Only a call that waits makes looks.
 abbrev pub held_looks : ℕ → List Mark → ℕ
 held_looks p [] = 0
 held_looks p (m ∷ ms) = held_looks p ms + bit ((m.party == p) && (is_look m.step_kind && is_held m.before))
@@ -35,14 +35,15 @@ abbrev pub is_blind : Mark → Bool
 is_blind m = not (is_some m.change) && not (is_look m.step_kind || is_again m.step_kind)
 
 -- Whether the party's next step may be blind. It may if it is the first of the call, or follows a plain step of the
--- party, or follows a look that found the lock free. It may also follow a look if n earlier looks found the lock held.
+-- party, or follows a look that found the lock free. It may also follow a look that found the lock held, if n or more
+-- earlier looks found it held.
 abbrev pub may_be_blind : ℕ → ℕ → List Mark → Bool
 may_be_blind p n [] = true
 may_be_blind p n (m ∷ ms) =
     if m.party == p then is_some m.change || (is_look m.step_kind && (not (is_held m.before) || not (nat_lt (held_looks p ms) n))) else may_be_blind p n ms
 
 -- The party makes a blind step only when `may_be_blind` allows it. So after a look that found the lock held, the
--- party's next step is not blind, unless n earlier looks found the lock held.
+-- party's next step is not blind, unless n or more earlier looks found it held.
 abbrev pub keeps_looking : ℕ → ℕ → List Mark → Bool
 keeps_looking p n [] = true
 keeps_looking p n (m ∷ ms) = keeps_looking p n ms && (not ((m.party == p) && is_blind m) || may_be_blind p n ms)

@@ -53,7 +53,8 @@ module _ {W V C L A : Type 0} (m : Machine W V C L A) (p : ℕ) (c : C) (h : Opt
     abbrev most : ℕ
     most = steps_alone (m.asks c h)
 
-    -- the marks of the span since the state `start`: the first was made in that state, and none of them disturbs the call
+    -- the marks of the span from the state `start` on: the first was made in that state, and none of them disturbs
+    -- the call
     abbrev Since : List Mark → ℕ → Type 0
     Since span taken = (recent : List Mark) × (first : Mark) × (span ≡ recent ++ first ∷ older) × (first.before ≡ start) × AllOf (Leaves m.lock_kind p) (recent ++ first ∷ []) × (own_count p (recent ++ first ∷ []) ≡ taken)
 
@@ -64,7 +65,7 @@ module _ {W V C L A : Type 0} (m : Machine W V C L A) (p : ℕ) (c : C) (h : Opt
     one_more now span taken mark before leaves (inl none) = ([], mark, ap (λ xs. mark ∷ xs) none.0, before ∙ none.1, (leaves, tt), omega (arith, none.2))
     one_more now span taken mark before leaves (inr y) = (mark ∷ y.0, y.1, ap (λ xs. mark ∷ xs) y.2, y.3, (leaves, y.4), ap (λ n. n + (if mark.party == p then 1 else 0)) y.5)
 
-    -- the call still continues, and nobody has disturbed it since the state `start`
+    -- the call still continues, and nobody has disturbed it from the state `start` on
     record Quiet (seen : Seen W V C L) (taken : ℕ) : Type 0 where
       point : L
       at : seat_of seen p ≡ Some (Calling c point h)
@@ -80,7 +81,7 @@ module _ {W V C L A : Type 0} (m : Machine W V C L A) (p : ℕ) (c : C) (h : Opt
       Comes sc = (stop sc.party sc.move sc.outcome (seat_of sc.after sc.party) ≡ true) ⊎ ((disturbs_at sc.party seen.state sc.after.state ≡ true) ⊎ Quiet sc.after (now sc.party sc.outcome))
 
       module _ (r : ℕ) (ne : r ≡ p → ⊥) where
-        -- another party's event leaves the plain lock and p's span unchanged, or adds its mark to the span
+        -- another party's event leaves the plain lock and p's span unchanged, or adds the event's mark to this span
         abbrev Noted : Scene W V C L A → Type 0
         Noted sc = ((sc.after.plain ≡ seen.plain) × (sc.after.span p ≡ seen.span p)) ⊎ ((mark : Mark) × (mark.party ≡ r) × (mark.before ≡ seen.plain) × (mark.after ≡ sc.after.plain) × (sc.after.span p ≡ mark ∷ seen.span p))
 

@@ -27,7 +27,7 @@ module _ {W V C L A : Type 0} (m : Machine W V C L A) where
   abbrev Turn : Type 0
   Turn = List (ℕ × Move C V)
 
-  -- `MovesOn` as a test; `all_move`: whether the entries are a round
+  -- `MovesOn` as a test
   abbrev moves_on : State W V C L → Turn → ℕ → Seat C L → Bool
   moves_on s es p (Calling c l h) = occurs m (λ q move o x. (q == p) && is_awaited m (Some (Calling c l h)) move o) s es
   moves_on s es p (Holding h) = not (may_read h) || occurs m (λ q move o x. (q == p) && is_awaited m (Some (Holding h)) move o) s es
@@ -35,6 +35,7 @@ module _ {W V C L A : Type 0} (m : Machine W V C L A) where
   moves_on s es p (Leaked h) = not (may_read h)
   moves_on s es p (Gone h) = not (may_read h)
 
+  -- whether the entries are a round for these seats; the first seat is that of the party p
   abbrev all_move : State W V C L → Turn → ℕ → List (Seat C L) → Bool
   all_move s es p [] = true
   all_move s es p (x ∷ xs) = moves_on s es p x && all_move s es (suc p) xs

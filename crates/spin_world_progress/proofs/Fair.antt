@@ -13,12 +13,13 @@ use Rattle.spin_world_progress.proofs.Loads as walk
 abbrev FairSeat : Type 0
 FairSeat = Seat FairCall FairPoint
 
--- the calls in which a starver waits, and their points
+-- the calls in which a starver waits
 abbrev its_call : FairCall → Option Hold → Type 0
 its_call Lock None = Unit {0}
 its_call StarverLock (Some Starver) = Unit {0}
 its_call _ h = ⊥
 
+-- the points of these calls
 abbrev its_point : FairPoint → Type 0
 its_point SetFlag = Unit {0}
 its_point Await = Unit {0}
@@ -33,13 +34,13 @@ starves_own : (p : ℕ) (qs : List ℕ) → is_starver p qs ≡ true → not (is
 starves_own p [] found = found
 starves_own p (q ∷ qs) found = grind (arith, found, starves_own p qs)
 
--- the load of the waiting party (`clear`: nobody holds); `theirs_by`: the load of another party (`true`: this party
--- holds)
+-- The load of the waiting party, a number of rounds (see Loads.antt). `clear` says whether nobody holds.
 abbrev mine_by : Bool → FairPoint → ℕ
 mine_by clear Unregister = if clear then 3 else 1
 mine_by clear SetFlag = if clear then 2 else 0
 mine_by clear l = if clear then 3 else 0
 
+-- the load of another party; with `true` this party holds
 abbrev theirs_by : Bool → Option FairSeat → ℕ
 theirs_by true (Some (Calling c Unregister h)) = 1
 theirs_by true (Some (Calling c l h)) = 4

@@ -34,7 +34,7 @@ module _ {V : Type 0} (v : V) where
     abbrev Nobody : World → Type 0
     Nobody seen = (q : ℕ) → holds_lock (entries q seen.plain) ≡ false
 
-    -- a step of the waiting party's own
+    -- the waiting party's own step reaches the goal, or leads to a point of its call; if nobody holds, the rank falls
     own : (seen : World) (l : FlagPoint) → Invariant (flag_facts v) seen → seat_of seen p ≡ Some (Calling Lock l h) → (b : Bool) → seen.state.words ≡ b → let x = scene_at m seen p Step (Some (Calling Lock l h)) in
         (goal p Step x.outcome (seat_of x.after p) ≡ true) ⊎ ((i : FlagPoint) × (seat_of x.after p ≡ Some (Calling Lock i h)) × Unit {0} × (Nobody seen → rank_by i ≤ rank_by l - 1))
     own seen First good there false is = inl (rw is refl)

@@ -6,7 +6,8 @@ use Rattle.spin_world_progress.proofs.Progress.{is_busy}
 use Rattle.spin_world_progress.proofs.Loads.{Wait}
 use Rattle.spin_world_progress.proofs.Loads as walk
 
--- the load of a holder: a round for the beginning of its release and one for its step, and then the bound of the waiting party
+-- The load of a holder, a number of rounds (see Loads.antt). It is one for the beginning of its release, one for the
+-- step of the release, and then the bound of the waiting party.
 abbrev load_by : {C L : Type 0} → ℕ → Bool → Option (Seat C L) → ℕ
 load_by bound true (Some (Calling c l h)) = bound + 1
 load_by bound true o = bound + 2
@@ -44,14 +45,16 @@ module _ {W V C L A : Type 0} {t : Table W V C L A} {n : Notes t} (f : Plays (ma
   Nobody seen = (q : ℕ) → test (entries q seen.plain) ≡ false
 
   pub record Leaves : Type 0 where
-    -- A party without entries does not pass the test, and neither does the waiting party. A party whose hold passes the test
-    -- may read.
+    -- a party without entries in the plain lock does not pass the test
     pub none : test no_entries ≡ false
+    -- the waiting party does not pass the test
     pub not_its : (l : L) → At l → StandsSo n test p c l h → ⊥
+    -- a party whose hold passes the test may read
     pub reads : (q : ℕ) (h : Hold) → test (entries_of q h) ≡ true → may_read h ≡ true
-    -- the waiting party's own step, which lowers its rank if nobody holds; `weak`: its spurious failure
+    -- the waiting party's own step lowers its rank if nobody holds, unless the step reaches the goal
     pub own : (seen : World) (l : L) → Invariant f seen → seat_of seen p ≡ Some (Calling c l h) → At l
         → let sc = scene_at m seen p Step (Some (Calling c l h)) in Reaches sc ⊎ ((i : L) × (seat_of sc.after p ≡ Some (Calling c i h)) × At i × (Nobody seen → rank i ≤ rank l - 1))
+    -- a spurious failure of the waiting party reaches the goal
     pub weak : (seen : World) (l : L) (next : Next L A) → At l → m.refuse c l h ≡ Some next → let x = goes_on seen.state p c h next in goal p Weak x.outcome (slice_get x.next.seats p) ≡ true
     -- a step makes no party a holder, unless the step reaches the goal
     pub comes : (seen : World) (l : L) (q : ℕ) (d : C) (i : L) (j : Option Hold) → Waits seen l → seat_of seen q ≡ Some (Calling d i j) → holds q seen ≡ false

@@ -1,6 +1,7 @@
--- Progress in rounds. A party waits in a call. Meanwhile each party has a load: after at most this many rounds it lets
--- the others continue. A round lowers the highest loads by one, or reaches the goal. The record `Walks` below has what
--- is to be shown of the steps of each object. All other moves are alike in every object.
+-- Progress in rounds. A party waits in a call. Meanwhile each party has a *load*, which is a number of rounds and no
+-- atomic load. After at most this many rounds the party lets the others continue. A round lowers the highest loads by
+-- one, or reaches the goal. The record `Walks` below has what is to be shown of the steps of each object. All other
+-- moves are alike in every object.
 use Rattle.spin_world_progress.proofs.Names.{suc, max, if◌then◌else◌, eqb_self, ne_eqb, eq-eqb, entries, Idle, Gone, may_read, entries_of, Table, machine_of, StandsFor, entries_held, Mark, Notes, StandsSo, row_passes, ◌≡◌, ℕ, ◌<◌, ◌≤◌, ◌⊎◌, ◌==◌, ◌||◌, Bool, true, false, Option, Some, None, List, [], ◌∷◌, length, slice_get, refl, ap, sym, ◌∙◌, subst, arith, inl, inr, ⊎_elim, cases_eq, cases_lt, false≢true, Plain, IsOpenStep, Hold, Seat, Calling, Holding, Leaked, Next, Move, Begin, Step, Weak, BelongsTo, Machine, goes_on, resting, is_owners, Seen, Scene, scene, scene_at, opening, joined, seen_after, after, at_first, ◌-◌, get-set_same, of_event, Plays, Invariant, kept, good_after, state-seen_after, seen_after-append, state_is, seat_is, Test, occurs, IsRound, AreRounds}
 use Rattle.spin_world_progress.specs.Rounds.{is_release}
 use Rattle.spin_world_progress.proofs.Progress.{or_left, or_right, or_rest, has_left, is_busy, is_idle, calls_not, holds_not, unawaited, awaited_of, same_beside, no_owner, left_never, moves_on, occurs-append, step_first}
@@ -12,7 +13,7 @@ use Rattle.spin_world_core.specs.Runs.{seat_of, scene_of}
 use Rattle.spin_world_core.proofs.Steps.{played, KnowsAt}
 use Rattle.spin_world_core.proofs.Reached as reached
 
--- the party's seat implies entries that pass this test
+-- the party's seat implies that the party has entries in the plain lock that pass this test
 
 module _ {W V C L A : Type 0} {t : Table W V C L A} (n : Notes t) (test : Entries → Bool) where
   abbrev pub SitsSo : ℕ → Option (Seat C L) → Type 0
@@ -119,20 +120,23 @@ module _ {W V C L A B : Type 0} {t : Table W V C L B} {given : Machine W V C L A
     pub fine : (seen : World) (q : ℕ) (move : Move C V) → Invariant f seen → x.Fine (scene m seen q move).after → x.Fine seen
     -- what is known stays true at each event that does not reach the goal
     pub keeps : (seen : World) (q : ℕ) (move : Move C V) (l : L) → Waits seen l → let sc = scene m seen q move in Reaches sc ⊎ x.Known sc.after
-    -- the waiting party's own step; `steps`: a step of another party
+    -- if no load is above n + 1, the waiting party's own step does what `Own` says
     pub own : (seen : World) (l : L) (n : ℕ) → Waits seen l → Within seen l (suc n) → let sc = scene_at m seen p Step (Some (Calling x.call l x.hold)) in After seen p sc → Own seen l n sc
+    -- if no load is above n + 1, a step of another party reaches the goal, or does what `Falls` says
     pub steps : (seen : World) (l : L) (n : ℕ) → Waits seen l → Within seen l (suc n) → (q : ℕ) (d : C) (i : L) (j : Option Hold) → (q ≡ p → ⊥) → seat_of seen q ≡ Some (Calling d i j)
         → let sc = scene_at m seen q Step (Some (Calling d i j)) in After seen q sc → Reaches sc ⊎ Falls seen l q sc n
-    -- a spurious failure of the waiting party; `refuses`: of another party
+    -- a spurious failure of the waiting party reaches the goal
     pub weak : (seen : World) (l : L) (next : Next L A) → x.At l → m.refuse x.call l x.hold ≡ Some next → Refuses seen p x.call x.hold next
+    -- when another party's exchange fails spuriously, the goal is reached, or this party's load falls (or was 0)
     pub refuses : (seen : World) (l : L) → Waits seen l → (q : ℕ) (d : C) (i : L) (j : Option Hold) (next : Next L A) → (q ≡ p → ⊥) → seat_of seen q ≡ Some (Calling d i j) → m.refuse d i j ≡ Some next
         → Refuses seen q d j next ⊎ ((o : Option (Seat C L)) → x.theirs seen.plain l q o ≤ theirs seen l q - 1)
-    -- a call that another party begins, in particular a release
+    -- When another party begins a call, its load does not rise. If the call is a release, the load falls (or was 0).
     pub begins : (seen : World) (l : L) → Waits seen l → (q : ℕ) (d : C) (i : L) (j : Option Hold) → (q ≡ p → ⊥) → seat_of seen q ≡ Some (resting j) → m.begin d j ≡ Some i
         → (x.theirs seen.plain l q (Some (Calling d i j)) ≤ theirs seen l q) × (is_release (m.asks d j) ≡ true → x.theirs seen.plain l q (Some (Calling d i j)) ≤ theirs seen l q - 1)
     pub leaks : (s : Plain) (l : L) (q : ℕ) (h : Hold) → x.theirs s l q (Some (Leaked h)) ≤ x.theirs s l q (Some (Holding h))
-    -- others may wait for each party with a load; `some`: some party has a load
+    -- others may wait for each party whose load is not 0
     pub busy : (seen : World) (l : L) (q : ℕ) → Waits seen l → (q ≡ p → ⊥) → 1 ≤ theirs seen l q → is_busy (seat_of seen q) ≡ true
+    -- some party's load is not 0
     pub some : (seen : World) (l : L) → Waits seen l → Within seen l 0 → ⊥
 
   -- if steps keep a property of the plain lock, every event keeps it, since no other event changes the plain lock

@@ -10,8 +10,8 @@ use Rattle.spin_world_progress.proofs.Progress.{is_busy, calls_not, holds_not, s
 use Rattle.spin_world_progress.proofs.Loads.{Wait}
 use Rattle.spin_world_progress.proofs.Loads as walk
 
--- The load of a call with a closure, by the phase and the call's point. While another party's closure runs, this load
--- is 0, since the call waits for that closure.
+-- The load of a call with a closure, a number of rounds (see Loads.antt), by the phase and the call's point. While
+-- another party's closure runs, this load is 0, since the call waits for that closure.
 abbrev mine_by : Phase → ℕ → OncePoint → ℕ
 mine_by complete p l = 1
 mine_by (running q) p l = if q == p then 1 else 0
@@ -34,7 +34,7 @@ loads_fit s p q l = grind arith
 theirs_run : (s : Phase) (q : ℕ) → 1 ≤ theirs_by s q → s ≡ running q
 theirs_run s q some = grind (arith, some, eqb-true)
 
--- the loads when a closure of another party begins; the next lemma: when a running closure ends
+-- another party's closure begins; if the load of the waiting call was at most n + 1, all loads are then at most n
 begins_running : (q r p n : ℕ) (l : OncePoint) → (r ≡ p → ⊥) → mine_by nothing p l ≤ suc n → (theirs_by (running r) r ≤ n) × (mine_by (running r) p l ≤ n) × ((r ≡ q → ⊥) → theirs_by (running r) q ≤ n)
 begins_running q r p n l ne few = grind (arith, ne, few)
 
@@ -161,7 +161,7 @@ module _ {V : Type 0} (value : Option V) where
       abbrev sc : Event
       sc = scene_at m seen p Step (Some (Calling c l h))
 
-      -- the call's own step: `ended` if its closure runs; then the cases with a value, and without one
+      -- if the call's own closure runs, the call's step reaches the goal
       ended : l ≡ Run → walk.Reaches f x sc
       ended is = grind (arith, is, closure, eqb_self p)
 
@@ -182,7 +182,7 @@ module _ {V : Type 0} (value : Option V) where
       own : (n : ℕ) → walk.Within f x seen l (suc n) → walk.Own f x seen l n sc
       own n within = ⊎_elim (λ (is : l ≡ Run). inl (ended is)) (own_at n within s.phase refl) (point_cases l)
 
-      -- the last step of another party's closure
+      -- the step that ends another party's closure reaches the goal, or there is a value after it
       run_ends : (q : ℕ) (d : OnceCall V) (i : OncePoint) (j : Option Hold) → seat_of seen q ≡ Some (Calling d i j) → i ≡ Run
           → let y = scene_at m seen q Step (Some (Calling d i j)) in walk.Reaches f x y ⊎ (y.after.plain.phase ≡ complete)
       run_ends q (CallOnce u) Run j at e = inr refl

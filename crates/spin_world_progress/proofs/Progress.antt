@@ -14,13 +14,14 @@ or_right a b is = grind (arith, is)
 pub or_rest : (a b : Bool) → (a || b) ≡ true → a ≡ false → b ≡ true
 or_rest a b is none = grind (arith, is, none)
 
--- the party has leaked or is gone; `is_busy`: others may wait for the party
+-- the party has leaked or is gone
 
 abbrev pub has_left : {C L : Type 0} → Option (Seat C L) → Bool
 has_left (Some (Leaked h)) = true
 has_left (Some (Gone h)) = true
 has_left _ = false
 
+-- others may wait for the party
 abbrev pub is_busy : {C L : Type 0} → Option (Seat C L) → Bool
 is_busy (Some (Calling c l h)) = true
 is_busy (Some (Holding h)) = may_read h
@@ -28,7 +29,7 @@ is_busy (Some (Leaked h)) = may_read h
 is_busy (Some (Gone h)) = may_read h
 is_busy _ = false
 
--- with these entries a party holds the lock
+-- a party with these entries in the plain lock holds the lock
 abbrev pub holds_lock : Entries → Bool
 holds_lock e = not (is_empty e.holders)
 

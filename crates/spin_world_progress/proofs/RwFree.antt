@@ -179,7 +179,7 @@ reads_in : (q : ℕ) (hs : List Holder) → reads (its q hs) ≡ true → reads 
 reads_in q [] is = is
 reads_in q (h ∷ hs) is = grind (arith, is, reads_in q hs)
 
--- The loads
+-- The loads: numbers of rounds (see Loads.antt)
 
 abbrev same_kinds : Option Kind → Option Kind → Bool
 same_kinds None None = true
@@ -219,7 +219,8 @@ abbrev is_asking : Option Kind → Bool
 is_asking (Some asking) = true
 is_asking _ = false
 
--- the load of a party. `b`: somebody holds beside u. `own`: the party is u. `reader`: it reads. `out`: it is releasing.
+-- The load of a party. `b`: somebody holds beside u. `own`: the party is u. `reader`: the party reads. `out`: the
+-- party is releasing.
 abbrev theirs_of : Bool → Bool → Option Kind → Bool → Bool → Bool → Bool → ℕ
 theirs_of w room k b own reader out =
     if own then (if b then (if is_asking k then 1 else 0) else its_load w room k out) else if reader then base k + (if out then 1 else 2) else 0
@@ -237,7 +238,7 @@ own_rank Write l = 1
 own_rank c (Exchange k) = if k == 0 then 1 else 2
 own_rank c l = 2
 
--- the same if one reader holds and leaves room for the call, plus one
+-- how many more steps the waiting call takes if one reader holds and leaves room for the call, plus one
 abbrev reading_rank : RwPoint → ℕ
 reading_rank (Exchange k) = if k == weight reading then 2 else 3
 reading_rank l = 3
@@ -253,10 +254,11 @@ mine_of c room l k b = if b then 0 else mine_alone c room l k
 abbrev mine_by : RwCall → Bool → ℕ → List Holder → RwPoint → ℕ
 mine_by c room u hs l = mine_of c room l (kind_of u hs) (beside u hs)
 
--- the load when a party begins a call, or begins its release
+-- a party that begins a call gets no higher load
 theirs_begun : (w room : Bool) (k : Option Kind) (b own reader out : Bool) → theirs_of w room k b own reader out ≤ theirs_of w room k b own reader false
 theirs_begun w room k b own reader out = grind arith
 
+-- when a party begins its release, its load falls (or was 0)
 theirs_leaving : (w room : Bool) (k : Option Kind) (b own reader : Bool) → (own ≡ true → is_asking k ≡ false) → theirs_of w room k b own reader true ≤ theirs_of w room k b own reader false - 1
 theirs_leaving w room k b own reader asks = grind (arith, asks)
 
@@ -285,7 +287,7 @@ mine_start : (c : RwCall) (room : Bool) (l : RwPoint) (a : Kind) (k : Option Kin
 mine_start c room l reading k b some none leads = let is = none refl in grind (arith, is)
 mine_start c room l a k b some none leads = let is = leads refl in grind (arith, is)
 
--- the loads when a reader leaves
+-- when a reader leaves, no load rises above n
 theirs_gone : (w room : Bool) (k : Option Kind) (b later own reader out : Bool) (n : ℕ) → base k ≤ n → ((j : Kind) → k ≡ Some j → (room ≡ true) × (same_kind writing j ≡ false)) → (b ≡ false → later ≡ false)
     → theirs_of w room k later own reader out ≤ max (theirs_of w room k b own reader out) n
 theirs_gone w room None b later own reader out n few two less = grind (arith, few, less)
@@ -294,17 +296,18 @@ theirs_gone w room (Some j) b later own reader out n few two less = let is = two
 mine_gone : (c : RwCall) (room : Bool) (l : RwPoint) (k : Option Kind) (b later : Bool) (n : ℕ) → base k ≤ n → (b ≡ false → later ≡ false) → mine_of c room l k later ≤ max (mine_of c room l k b) n
 mine_gone c room l k b later n few less = grind (arith, few, less)
 
--- the loads when the party u leaves
+-- when the party u leaves, no load of another party rises above n
 theirs_left : (w room : Bool) (k : Option Kind) (b reader out : Bool) (n : ℕ) → is_asking k ≡ false → theirs_of w room None b false reader out ≤ max (theirs_of w room k b false reader out) n
 theirs_left w room k b reader out n asks = grind (arith, asks)
 
 mine_left : (c : RwCall) (room : Bool) (l : RwPoint) (k : Kind) (b reader : Bool) (n : ℕ) → theirs_of (is_write c) room (Some k) b true reader true ≤ suc n → at_come c → is_asking (Some k) ≡ false → mine_of c room l None b ≤ max (mine_of c room l (Some k) b) n
 mine_left c room l k b reader n few comes asks = grind (arith, few, comes, asks)
 
--- the loads when the hold of u turns into another kind
+-- when the hold of u turns into another kind, the load of u is at most n afterwards
 its_turned : (w room : Bool) (j k : Kind) (b reader : Bool) (n : ℕ) → may_turn j k ≡ true → theirs_of w room (Some j) b true reader false ≤ suc n → (b ≡ true → 1 ≤ n) → theirs_of w room (Some k) b true reader false ≤ n
 its_turned w room j k b reader n may few beside = grind (arith, may, few, beside)
 
+-- no other load then rises above n
 theirs_turned : (w room : Bool) (j k : Kind) (b reader out : Bool) (n : ℕ) → may_turn j k ≡ true → theirs_of w room (Some k) b false reader out ≤ max (theirs_of w room (Some j) b false reader out) n
 theirs_turned w room j k b reader out n may = grind (arith, may)
 
@@ -569,10 +572,11 @@ module _ {V : Type 0} (v : V) (cap : ℕ) (some : 1 ≤ cap) where
         goes : (o : Option ℕ) → lets cap c seen.state.words ≡ o → Grants seen p c l None ⊎ GoesTo (onward o)
         goes o is = grind (arith, comes, is, get-set_same seen.state.seats p (Calling c (onward o) None) _ there)
 
-        -- the step if nobody holds; the next lemma: the step if one reader holds and leaves room for the call
+        -- the step if nobody holds
         goes_free : seen.state.words ≡ 0 → Grants seen p c l None ⊎ (GoesTo (Exchange 0) × (own_rank c (Exchange 0) ≤ own_rank c l - 1))
         goes_free zero = grind (arith, comes, zero, lt-ltb 0 (min cap reader_limit) (omega (arith, some)), get-set_same seen.state.seats p (Calling c (Exchange 0) None) _ there)
 
+        -- the step if one reader holds and leaves room for the call
         goes_beside : seen.state.words ≡ weight reading → is_write c ≡ false → room ≡ true → Grants seen p c l None ⊎ (GoesTo (Exchange (weight reading)) × (reading_rank (Exchange (weight reading)) ≤ reading_rank l - 1))
         goes_beside alone not_write more = let big : nat_lt 1 (min cap reader_limit) ≡ true = grind (arith, more) in grind (arith, comes, alone, not_write, big, get-set_same seen.state.seats p (Calling c (Exchange (weight reading)) None) _ there)
 

@@ -42,12 +42,12 @@ module _ (n : ℕ) (some : 1 ≤ n) where
         (goal p Step x.outcome (seat_of x.after p) ≡ true) ⊎ (seat_of x.after p ≡ Some (Calling Enter (onward seen b) h))
     goes seen l there b is = grind (arith, is, get-set_same seen.state.seats p (Calling Enter (onward seen b) h) _ there)
 
-    -- the waiting party's own step if nobody has a seat
+    -- if nobody has a seat, the waiting party's own step reaches the goal or lowers its rank
     step : (seen : World) (l : SeatsPoint) → seat_of seen p ≡ Some (Calling Enter l h) → seen.state.words ≡ 0 → let x = scene_at m seen p Step (Some (Calling Enter l h)) in
         (goal p Step x.outcome (seat_of x.after p) ≡ true) ⊎ ((seat_of x.after p ≡ Some (Calling Enter (Exchange 0) h)) × (rank_by (Exchange 0) ≤ rank_by l - 1))
     step seen l there is = grind (arith, is, room, get-set_same seen.state.seats p (Calling Enter (Exchange 0) h) _ there)
 
-    -- the waiting party's own step
+    -- the waiting party's own step reaches the goal, or leads to a point of its call; if nobody holds, the rank falls
     own : (seen : World) (l : SeatsPoint) → Invariant (seats_facts n) seen → seat_of seen p ≡ Some (Calling Enter l h) → let x = scene_at m seen p Step (Some (Calling Enter l h)) in
         (goal p Step x.outcome (seat_of x.after p) ≡ true) ⊎ ((i : SeatsPoint) × (seat_of x.after p ≡ Some (Calling Enter i h)) × Unit {0} × (Nobody seen → rank_by i ≤ rank_by l - 1))
     own seen l good there =

@@ -92,14 +92,14 @@ barrier_starves n two =
     (0, Step) [] 0 barrier.Wait (barrier_point.Leave 0) None refl (record { fair = refl; back = refl; none = refl })
 
 module _ {V : Type 0} where
-  -- a closure runs whenever party 0 makes its exchange, and has failed when party 0 looks; in `poll_starves` a closure
-  -- runs whenever party 0 looks
+  -- a closure runs whenever party 0 makes its exchange, and has failed when party 0 looks
   pub once_starves : (v : V) (value : Option V) → value ≡ None → MayStarve (once_machine value) 2 initializes
   once_starves v None none =
       starves (once_machine None) 2 ((0, Begin (once.CallOnce v)) ∷ (0, Step) ∷ []) _ refl (1, Begin once.TryCallOnceErr) ((1, Step) ∷ (1, Step) ∷ (0, Step) ∷ (1, Step) ∷ (0, Step) ∷ []) 0 (once.CallOnce v)
       once_point.TryBegin None refl (record { fair = refl; back = refl; none = refl })
   once_starves v (Some u) none = absurd (grind (arith, none))
 
+  -- a closure runs whenever party 0 looks
   pub poll_starves : (value : Option V) → value ≡ None → MayStarve (once_machine value) 2 polls
   poll_starves None none =
       starves (once_machine None) 2 ((0, Begin once.Poll) ∷ []) _ refl (1, Begin once.TryCallOnceErr) ((1, Step) ∷ (1, Step) ∷ (0, Step) ∷ (1, Step) ∷ []) 0 once.Poll once_point.Look None refl

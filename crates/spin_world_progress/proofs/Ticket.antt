@@ -74,11 +74,12 @@ ahead_most t s ts q his = grind arith
 left_few : (his : Option (Seat TicketCall TicketPoint)) → left_to his ≤ 3
 left_few his = grind arith
 
--- `ahead` of the party of the first ticket; the next lemma: of any other party
+-- `ahead` of the party of the first ticket
 ahead_own : (t s : ℕ) (ts : List Queued) (his : Option (Seat TicketCall TicketPoint)) → is_empty ts ≡ false → ahead t s ts (first_party ts) his ≡ 3 * (t - s) + left_to his - 2
 ahead_own t s [] his some = absurd (true≢false some)
 ahead_own t s (x ∷ xs) his some = rw (eqb_self x.party) refl
 
+-- `ahead` of any other party is 0
 ahead_other : (t s : ℕ) (ts : List Queued) (q : ℕ) (his : Option (Seat TicketCall TicketPoint)) → (q ≡ first_party ts → ⊥) → ahead t s ts q his ≡ 0
 ahead_other t s [] q his ne = refl
 ahead_other t s (x ∷ xs) q his ne = grind (arith, ne)
@@ -179,11 +180,12 @@ abbrev is_fresh : TicketPoint → ℕ → Bool
 is_fresh (Take j) next = j == next
 is_fresh l next = false
 
--- the load of p, which waits at this point; `theirs_by`: the load of another party q
+-- the load of p, a number of rounds (see Loads.antt), while p waits at this point
 abbrev mine_by : ℕ → ℕ → ℕ → Plain → TicketPoint → ℕ
 mine_by p n N s (Await t) = if first_party s.tickets == p then 1 else 0
 mine_by p n N s l = doorway n (N - s.next) (is_fresh l s.next)
 
+-- the load of another party q, while p waits at this point
 abbrev theirs_by : ℕ → Plain → TicketPoint → ℕ → Option (Seat TicketCall TicketPoint) → ℕ
 theirs_by N s (Await t) q his = ahead t (serving_word s) s.tickets q his
 theirs_by N s l q his = if N - s.next == 1 then ahead s.next (serving_word s) s.tickets q his else 0

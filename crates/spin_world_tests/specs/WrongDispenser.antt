@@ -47,7 +47,7 @@ wraps = draws_by 1 (λ k. Some (if nat_lt k 1 then k + 1 else 0)) drawn (λ k. g
 abbrev pub says_zero : DispenserMachine
 says_zero = draws_by 2 (next_after 2) (λ k. drawn 0) (λ k. goes_for)
 
--- the call that should draw a certain number draws another number
+-- the call that should draw the number k draws the next number, whichever it is, and answers k
 abbrev pub draws_another : DispenserMachine
 draws_another =
     let t : DispenserTable = dispenser_table 2 in

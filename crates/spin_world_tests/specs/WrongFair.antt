@@ -32,10 +32,11 @@ FairMachine V = Machine ℕ V FairCall FairPoint (Answer V)
 abbrev with_steps : {V : Type 0} → V → ℕ → (FairCall → FairPoint → Option Hold → FairAct V → FairAct V) → FairMachine V
 with_steps v cap steps = machine_of (record (fair_table v cap 1) { act = λ c l h. steps c l h (act_of cap 1 c l h) })
 
--- only the steps of `lock` are changed; `starver_lock_by` changes only those of a starver's `lock`
+-- only the steps of `lock` are changed
 abbrev lock_by : {V : Type 0} → V → (FairPoint → FairAct V → FairAct V) → FairMachine V
 lock_by v steps = with_steps v 2 (λ c l h act. elim c [ Lock ↦ steps l act | _ ↦ act ])
 
+-- only the steps of a starver's `lock` are changed
 abbrev starver_lock_by : {V : Type 0} → V → (FairPoint → FairAct V → FairAct V) → FairMachine V
 starver_lock_by v steps = with_steps v 2 (λ c l h act. elim c [ StarverLock ↦ steps l act | _ ↦ act ])
 
@@ -131,7 +132,7 @@ let_go_beside_a_starver =
     (0, Begin TryLock) ∷ (0, Step) ∷ (1, Begin Starve) ∷ (1, Step) ∷ (1, Step) ∷ (1, Begin StarverLock) ∷ (1, Step)
     ∷ (0, Begin Release) ∷ (0, Step) ∷ []
 
--- the same schedule, and then four looks of the starver
+-- `let_go_beside_a_starver`, and then four looks of the starver
 abbrev pub four_looks_of_a_starver : {V : Type 0} → Entries V
 four_looks_of_a_starver = let_go_beside_a_starver ++ (1, Step) ∷ (1, Step) ∷ (1, Step) ∷ (1, Step) ∷ []
 

@@ -219,7 +219,7 @@ writes_strongly {V} v =
     let strong : RwAct V = exchange (swap 0 write) (λ p. gets p to_write) (granted hold.Write) (λ w. Answers Refused None) in
     with_steps v (λ c l h act. elim c [ TryWriteWeak ↦ strong | _ ↦ act ])
 
--- the exchange of `write` is strong too
+-- the exchange of `write` is strong
 abbrev pub waits_strongly : {V : Type 0} → V → RwMachine V
 waits_strongly v = write_by v (exchange (swap 0 write) (λ p. gets p to_write) (granted hold.Write) (λ w. Continue First))
 
@@ -234,7 +234,7 @@ upgrade_by_chance = (0, Begin TryUpgradeableRead) ∷ (0, Step) ∷ (0, Step) �
 abbrev pub never_releases : {V : Type 0} → V → RwMachine V
 never_releases {V} v = let m : RwMachine V = rw_machine v 9 in record m { begin = λ c h. elim c [ Release ↦ None | other ↦ m.begin other h ] }
 
--- any reader can begin `upgrade`, which then never ends
+-- any reader can begin `upgrade`; the call of a reader that is not upgradable never ends
 abbrev pub upgrades_any_reader : {V : Type 0} → V → RwMachine V
 upgrades_any_reader {V} v =
     let m : RwMachine V = rw_machine v 9 in
@@ -257,10 +257,11 @@ never_writes {V} v =
 abbrev pub opens_written : {V : Type 0} → V → RwMachine V
 opens_written {V} v = let t : RwTable V = rw_table v 9 in machine_of (record t { words = 1 })
 
--- the lock does not have the value given to it; `has_no_owner`: nobody owns the lock
+-- the lock does not have the value given to it
 abbrev pub forgets_its_value : {V : Type 0} → V → RwMachine V
 forgets_its_value {V} v = let t : RwTable V = rw_table v 9 in machine_of (record t { value = None })
 
+-- nobody owns the lock
 abbrev pub has_no_owner : {V : Type 0} → V → RwMachine V
 has_no_owner {V} v = let t : RwTable V = rw_table v 9 in machine_of (record t { owned = false })
 
@@ -273,7 +274,7 @@ refuses_late {V} v =
 abbrev pub try_beside_a_writer : {V : Type 0} → Entries V
 try_beside_a_writer = (0, Begin TryWrite) ∷ (0, Step) ∷ (1, Begin TryRead) ∷ (1, Step) ∷ []
 
--- an `upgrade` that fails looks before it tries again
+-- after its exchange has failed, `upgrade` looks before it tries again
 abbrev pub upgrades_by_looks : {V : Type 0} → V → RwMachine V
 upgrades_by_looks {V} v =
     let again : RwAct V = weak_exchange (weight asking) upgrade_asked (λ p. gets p to_upgrade_asked) (granted hold.Write) (Continue (Exchange 0)) in

@@ -30,11 +30,11 @@ Entries = List (ℕ × Move SeatsCall (Unit {0}))
 abbrev with_steps : ℕ → (SeatsCall → SeatsPoint → Option Hold → SeatsAct → SeatsAct) → SeatsMachine
 with_steps n steps = let t : SeatsTable = seats_table n in machine_of (record t { act = λ c l h. steps c l h (act_of n c l h) })
 
--- the party tries to take a seat; it succeeds if no other party acts in between
+-- the party begins a `try_enter`, and makes two steps
 abbrev takes_a_seat : ℕ → Entries
 takes_a_seat p = (p, Begin call.TryEnter) ∷ (p, Step) ∷ (p, Step) ∷ []
 
--- the lock admits one party more than it has seats
+-- `try_enter` admits one party more than the lock has seats
 abbrev pub seats_one_too_many : SeatsMachine
 seats_one_too_many = with_steps 1 (λ c l h act. elim c [ call.TryEnter ↦ comes_by 2 (Answers Refused h) l | _ ↦ act ])
 

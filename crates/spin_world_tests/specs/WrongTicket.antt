@@ -147,7 +147,7 @@ swaps_its_loads v = with_steps v 0 (λ w c l h step. elim l [
   | _ ↦ step
 ])
 
--- a holder releases between the two loads
+-- a holder releases after the first load of a `try_lock`
 abbrev pub let_go_between : {V : Type 0} → Entries V
 let_go_between =
     (0, Begin TryLock) ∷ (0, Step) ∷ (0, Step) ∷ (0, Step) ∷ (1, Begin TryLock) ∷ (1, Step) ∷ (0, Begin Release) ∷ (0, Step) ∷ []

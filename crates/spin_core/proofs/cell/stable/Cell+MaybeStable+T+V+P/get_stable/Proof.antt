@@ -1,4 +1,4 @@
--- `get_stable` loads the first word, and lends the value if that is the number asked for. Assumes `Logic`.
+-- `get_stable` loads the first word, and lends the value if the load finds the number asked for. Assumes `Logic`.
 use Rattle.spin_core.proofs.WalkNames.{◌≡◌, ℕ, ◌+◌, [], ◌∷◌, sym, refl, subst, lit<, dcons, dnil, named, vptr, vcons, vnil, inst_fn, full_share, SProp, ent, sep, Fml, flft, sem, ‵, raw, ◌⊛◌, some, later, at_ret, ◌$◌, !, by, move, keep, drop, use0, use1, use2, split, split3, join, pick, await, rewrite, fsplit, fsplit3, fjoin, fpick, stop, fld, addr, load, lit, of_opd, and_then, no_more, first, blocks, exec, returns, agg, alloc_all, pass_all, free_all, look_at, get, through, sets, sets_last, env, tables, fact, RattleType, part_at, param, layout, bounded, param_laws, nothing, heard}
 use Rattle.std.proofs.Common.{eqb→eq, w8}
 use mir.Syntax.{Body, seq, assign, place, rv_opd, copy, aggregate, int}
