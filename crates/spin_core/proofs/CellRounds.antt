@@ -39,14 +39,14 @@ module _ {M : Type 1} {𝓤 : Ura M} (𝓛 : Logic 𝓤) (R : RattleType) (b o :
   next None = ffalse
   next (Some x) = fex ℕ (begun x)
 
-  -- What a party has of the value during a step. In the ways `lends` and `fixes` others may read after a writer, so a
-  -- writer has already begun the next round.
+  -- What a party has of the value during a step. In the ways `lends` and `fixes` others may read after a writer's step.
+  -- So a writer begins the next round before its step, and has begun it during the step.
   abbrev pub held : Use → Way R.Denot → Option R.Denot → Fml
   held writes lends v = next v
   held writes (fixes fact) v = next v
   held u way v = right R b o t way u v
 
-  -- from a borrow of the value a new lifetime begins, for which the value is shared
+  -- a borrow of the value can be turned into a new lifetime for which the value is shared
   pub begins : (l : Lft) → Shares 𝓛 R l → (x : R.Denot) (μ : Lft) (s : Share) (τ : Lft) (r : Share) → Incl μ α → Incl τ l
       → ‵ (tracked R b o t x) ⊛ ‵ (flft μ s) ⊛ ‵ (flft τ r) ⊩ later (‵ (fex ℕ (begun x)) ⊛ ‵ (flft μ s) ⊛ ‵ (flft τ r))
   begins l shares x μ s τ r i j = let e : ℕ = o + offset R in
@@ -75,7 +75,7 @@ module _ {M : Type 1} {𝓤 : Ura M} (𝓛 : Logic 𝓤) (R : RattleType) (b o :
   pub renewed : (x : R.Denot) (F : Fml) → ‵ (whole x) ⊩ ‵ F → ‵ (idle t.round) ⊛ ‵ (fex ℕ (begun x)) ⊫ ‵ F
   renewed x F to = update (via 𝓤 (upd 𝓤 ⟦ whole x ⟧) (renews x).prf (upd_mono 𝓤 {P = ⟦ whole x ⟧} {Q = ⟦ F ⟧} to.prf))
 
-  -- a whole round, without the parts of r readers, is the state of the value with r readers
+  -- take from a whole round the r parts that r readers have: what is left is the state of the value while they read
   pub rests_lent : (r : ℕ) (x : R.Denot) → r < 2 ^ 63 → ‵ (whole x) ⊩ ‵ (resting R b o t lends r x)
   rests_lent r x small = script ∵ fpick ! (λ a. fsplit ! $
       cite _ (parts_in 𝓛 R t.round (a, x) (2 ^ 63) full_share (Counts-all 63)) $

@@ -1,5 +1,5 @@
 -- A party with nothing in the plain lock may leave. Those behind it move up by one place, and nothing else changes.
-use Rattle.std.proofs.Common.{◌≡◌, ℕ, zero, suc, pred, ◌-◌, ◌==◌, not, ◌&&◌, List, [], ◌∷◌, ◌++◌, map, length, filter, Some, refl, sym, ap, ◌∙◌, arith}
+use Rattle.std.proofs.Common.{◌≡◌, ℕ, suc, pred, cond, nat_lt, ◌-◌, ◌==◌, not, ◌&&◌, List, [], ◌∷◌, ◌++◌, map, length, filter, Some, refl, sym, ap, ◌∙◌, arith}
 use Rattle.std.proofs.lemmas.List.{length-map}
 use Rattle.std.proofs.lemmas.List.Sums.{sum_by-cons}
 use Rattle.spin_step.specs.Plain.{Plain, Kind, Holder, holder, Ticket, ticket, weight, flag_word, rw_word, fair_word, next_word, serving_word}
@@ -8,30 +8,23 @@ use Rattle.spin_step.specs.Tickets.{numbered_from}
 use Rattle.spin_step.proofs.Exclusive.{exclusive-like}
 use Rattle.spin_step.proofs.Sums.{sum_kinds}
 use Rattle.spin_core.specs.Cell.{Use, off, Rests}
-use Rattle.spin_core.specs.Views.{Part, entries_of, Knows, part_at, Encodes, no_word}
+use Rattle.spin_core.specs.Views.{Part, entries_of, Knows, part_at, IsLockOf, Encodes, no_word}
+use Rattle.spin_core.proofs.Runs.{get_seam}
+use Rattle.spin_core.proofs.Views.{part-there}
 use Rattle.spin_step.specs.Orders.{IsInOrder}
 
 -- the new place of a party behind place k; `back`: the place that it had
 abbrev up : ℕ → ℕ → ℕ
-up zero p = pred p
-up (suc k) zero = zero
-up (suc k) (suc p) = suc (up k p)
+up k p = cond (nat_lt k p) (pred p) p
 
 abbrev back : ℕ → ℕ → ℕ
-back zero q = suc q
-back (suc k) zero = zero
-back (suc k) (suc q) = suc (back k q)
+back k q = cond (nat_lt q k) q (suc q)
 
 up-back : (k q : ℕ) → up k (back k q) ≡ q
-up-back zero q = refl
-up-back (suc k) q = grind (arith, up-back k)
-
-back-up : (k p : ℕ) → (p ≡ k → ⊥) → back k (up k p) ≡ p
-back-up zero p ne = grind arith
-back-up (suc k) p ne = grind (arith, back-up k)
+up-back k q = grind arith
 
 same_place : (k p q : ℕ) → (p ≡ k → ⊥) → (up k p == q) ≡ (p == back k q)
-same_place k p q ne = grind (arith, back-up k p ne, up-back k q)
+same_place k p q ne = grind arith
 
 module _ {X : Type 0} (owner : X → ℕ) (rename : X → X) (k q : ℕ) (same : (x : X) → owner (rename x) ≡ up k (owner x)) where
   abbrev of : ℕ → List X → List X
@@ -120,31 +113,19 @@ knows-up : (k : ℕ) (s : Plain) (x : Part) → Knows s x → Knows (moved_up k 
 knows-up k s x known = grind (arith, serving_word-up k s)
 
 module _ {V : Type 0} (part : V → Part) (v : V) where
-  gone_at : (before behind : List V) → part_at part (before ++ v ∷ behind) (length before) ≡ part v
-  gone_at [] behind = refl
-  gone_at (x ∷ xs) behind = gone_at xs behind
-
   others_at : (before behind : List V) (q : ℕ) → part_at part (before ++ v ∷ behind) (back (length before) q) ≡ part_at part (before ++ behind) q
-  others_at [] behind q = refl
-  others_at (x ∷ xs) behind zero = refl
-  others_at (x ∷ xs) behind (suc q) = others_at xs behind q
+  others_at [] behind q = grind arith
+  others_at (x ∷ xs) behind q = grind (arith, others_at xs behind (pred q))
 
   module _ {S : Type 0} (uses : V → Use) (cap : ℕ) (first : Plain → ℕ) (second : Plain → S) (same_first : NamesNobody first) (same_second : NamesNobody second) where
     -- a party that has nothing, and does not use the value, may leave
     pub leaves : uses v ≡ off → ((p : ℕ) → entries_of p (part v) ≡ no_entries) → Rests (Encodes part cap first second) uses (Some v)
     leaves unused nothing = (
       unused,
-      λ n m before behind is.
-          let k : ℕ = length before in let s = is.0 in
-          let none : entries k s ≡ no_entries = rw ((is.3 k).0, gone_at before behind) (nothing k) in (
-            moved_up k s,
-            is.1,
-            in_order-up k s is.2,
-            λ q. rw (← others_at before behind q) (
-              cc (entries-up k q s none, (is.3 (back k q)).0, part-up k (back k q) (part_at part (before ++ v ∷ behind) (back k q)), up-back k q),
-              knows-up k s (part_at part (before ++ v ∷ behind) (back k q)) (is.3 (back k q)).1,
-            ),
-            is.4 ∙ sym (same_first k s),
-            is.5 ∙ sym (same_second k s),
-          ),
+      λ n m before behind (s, room, order, is, n_is, m_is).
+          let k : ℕ = length before in let here = part-there part k v (before ++ v ∷ behind) (get_seam before v behind) in
+          let none : entries k s ≡ no_entries = rw ((is k).0, here) (nothing k) in
+          let lock : IsLockOf part (before ++ behind) (moved_up k s) = λ q. let p : ℕ = back k q in let x = part_at part (before ++ v ∷ behind) p in
+          rw (← others_at before behind q) (cc (entries-up k q s none, (is p).0, part-up k p x, up-back k q), knows-up k s x (is p).1) in
+          (moved_up k s, room, in_order-up k s order, lock, n_is ∙ sym (same_first k s), m_is ∙ sym (same_second k s)),
     )

@@ -3,7 +3,6 @@ pub mod Lemmas
 pub mod Leaving
 pub mod Owners
 pub mod Plays
-pub mod Knowing
 pub mod Views
 pub mod CellCounts
 pub mod CellFields
@@ -38,5 +37,4 @@ pub mod Values
 pub mod Passes
 pub mod Spots
 pub mod Mutexes
-pub mod Retries
 pub mod TieLaws

@@ -1,20 +1,22 @@
 -- A mutex whose trace is a schedule of its model: how the steps of its parties keep the rule, and what they tell.
 use Rattle.std.proofs.Common.{arith, ◌≡◌, ℕ, Bool, true, false, List, [], Option, Some, None, length, sym, ap, ◌∙◌}
 use mathlib.Core.Logic.{inr}
-use Rattle.spin_core.specs.Cell.{Use, off, writes, alone, Ways, no_fact, use_of, AllowsAt, AllowsSecondAt, Meets, Moved, Rests}
+use Rattle.spin_core.specs.Cell.{Use, off, writes, alone, Ways, no_fact, use_of, Meets, Moved, Rests}
 use Rattle.spin_core.specs.Own.{Numbered, Runs, Tells, what}
-use Rattle.spin_core.specs.Passes.{IsOut, Ending, Says, IsStep, WritesSome, step_by, leaves_by, mark_of}
+use Rattle.spin_core.specs.Passes.{IsOut, Ending, Says, IsCall, WritesSome, step_by, leaves_by, mark_of}
 use Rattle.spin_core.specs.Spots.{Spot, Releases}
-use Rattle.spin_core.specs.Run.{AreMoves, sits, on_first, on_second, first, second}
-use Rattle.spin_core.specs.Traced.{Traces, TracesSecond, Watches, Named, MayKnow, Found}
+use Rattle.spin_core.specs.Run.{OnWord, AreMoves, sits}
+use Rattle.spin_core.specs.Traced.{Watches, Named, MayKnow, Found}
 use Rattle.spin_core.specs.Values.{Leaves, IsLast, last}
 use Rattle.spin_core.specs.declared.tie.Opening.{Opening}
 use Rattle.spin_core.specs.declared.trace.Trace.{Trace}
 use Rattle.spin_core.specs.declared.trace.Watch.{Watch}
 use Rattle.spin_core.proofs.Passes as passes
+use Rattle.spin_core.proofs.Spots as spots
 use Rattle.spin_core.proofs.Passes.{Learnt}
 use Rattle.spin_core.proofs.Plays.{Lock, Holds, idle_rests}
 use Rattle.spin_core.proofs.Ties as tie
+use Rattle.spin_core.proofs.Ties.{AllowsTo, TracesTo}
 use Rattle.spin_core.proofs.Values.{steps_leave, write_leaves, owed, found, gave, wrote}
 use Rattle.spin_model.specs.declared.answer.Answer.{Answer}
 use Rattle.spin_model.specs.declared.place.Seat.{Seat}
@@ -54,15 +56,18 @@ module _ {W V C L X S : Type 0} (lock : Mutex W V C L X S) where
   abbrev pub Told : Says V C (Answer V) X → Option (Numbered X) → List (Entry C V) → List (Entry C V) → ℕ → Numbered X → Type 0
   Told = Tells model seat_of words_of
 
-  abbrev pub Keeps : Option (Numbered X) → Option V → (ℕ → ℕ) → Says V C (Answer V) X → Type 0
-  Keeps view shown g says = Traces Rule own_ways view shown g (Told says view)
+  abbrev pub Keeps : Option (Numbered X) → Option V → OnWord S → Says V C (Answer V) X → Type 0
+  Keeps view shown g says = TracesTo view shown g Rule own_ways (Told says view)
 
   -- these moves write nothing, or what a writer leaves
   abbrev pub Leaving : Option X → Option V → Says V C (Answer V) X → Type 0
   Leaving view shown says = (own : List (Move C V)) (outs : List (Ending V)) (n : ℕ) (u : X) → says own outs n u → Leaves (use_of uses view) (uses u) shown own
 
-  abbrev pub Moves : Option X → (ℕ → ℕ) → (ℕ → X → Type 0) → Says V C (Answer V) X → Type 0
-  Moves view g = AreMoves model seat_of words_of view (on_first g) first
+  abbrev pub Moves : Option X → OnWord S → (ℕ → X → Type 0) → Says V C (Answer V) X → Type 0
+  Moves view g = AreMoves model seat_of words_of view g
+
+  abbrev Allowed : Option X → OnWord S → (ℕ → X → Type 0) → Type 0
+  Allowed view g then = AllowsTo view None g (Holds plain) plain_ways then
 
   -- For a party that is out:
 
@@ -70,7 +75,7 @@ module _ {W V C L X S : Type 0} (lock : Mutex W V C L X S) where
   out_off = as_new idle (use_of uses) plain.is_idle.1
 
   -- it makes the moves that a new party makes
-  pub out_moves : (view : Option X) → IsOut idle view → (g : ℕ → ℕ) (to : ℕ → X → Type 0) (says : Says V C (Answer V) X) → Moves None g to says
+  pub out_moves : (view : Option X) → IsOut idle view → (g : OnWord S) (to : ℕ → X → Type 0) (says : Says V C (Answer V) X) → Moves None g to says
       → Moves view g to says
   out_moves view out g to says moves w value u so = let is = as_new idle (sits model seat_of words_of) lock.idle_sits view out in rw is (moves w value u so)
 
@@ -102,35 +107,30 @@ module _ {W V C L X S : Type 0} (lock : Mutex W V C L X S) where
       rw (held, ap uses stays ∙ plain.is_idle.1, here) (λ v. write_leaves y false c (Answered a None) own outs by v ∙ is)
 
   -- A step keeps the rule if the plain lock allows it and the model has moves for it.
-  module _ (view : Option (Numbered X)) (shown : Option V) where
-    pub keeps : (g : ℕ → ℕ) (then : ℕ → X → Type 0) (says : Says V C (Answer V) X)
-        → Leaving (what view) shown says → Moves (what view) g then says
-        → AllowsAt (Holds plain) plain_ways (what view) None g then → Keeps view shown g says
-    keeps g then says leaves moves allowed =
+  module _ (view : Option (Numbered X)) (shown : Option V) (g : OnWord S) where
+    pub keeps : (then : ℕ → X → Type 0) (says : Says V C (Answer V) X) → Leaving (what view) shown says
+        → Moves (what view) g then says → Allowed (what view) g then
+        → Keeps view shown g says
+    keeps then says leaves moves =
         tie.traces model seat_of words_of (Holds plain) opening.name V alone uses (last opening) view shown g then says moves
-        (λ own outs n u said t word p. owed opening own t word p (use_of uses (what view)) (uses u) shown (leaves own outs n u said)) allowed
+        (λ own outs n u said t word p. owed opening own t word p (use_of uses (what view)) (uses u) shown (leaves own outs n u said))
 
-    pub in_call : use_of uses (what view) ≡ off
-        → (g : ℕ → ℕ) (goes_on : Bool) (c : C) (end : ℕ → Ending V) (to : ℕ → X)
-        → Moves (what view) g (λ n v. v ≡ to n) (step_by goes_on c end to) → AllowsAt (Holds plain) plain_ways (what view) None g (λ n v. v ≡ to n)
+    pub in_call : use_of uses (what view) ≡ off → (goes_on : Bool) (c : C) (end : ℕ → Ending V) (to : ℕ → X)
+        → Moves (what view) g (λ n v. v ≡ to n) (step_by goes_on c end to) → Allowed (what view) g (λ n v. v ≡ to n)
         → Keeps view shown g (step_by goes_on c end to)
-    in_call unused g goes_on c end to =
-        keeps g (λ n v. v ≡ to n) (step_by goes_on c end to) (steps (what view) shown unused goes_on c end to)
+    in_call unused goes_on c end to = keeps (λ n v. v ≡ to n) (step_by goes_on c end to) (steps (what view) shown unused goes_on c end to)
 
-    pub begins : IsOut idle (what view) → (g : ℕ → ℕ) (c : C) (end : ℕ → Ending V) (to : ℕ → X)
-        → Moves None g (λ n v. v ≡ to n) (step_by false c end to) → AllowsAt (Holds plain) plain_ways (what view) None g (λ n v. v ≡ to n)
-        → Keeps view shown g (step_by false c end to)
-    begins out g c end to moves =
-        in_call (out_off (what view) out) g false c end to (out_moves (what view) out g (λ n v. v ≡ to n) (step_by false c end to) moves)
+    pub begins : IsOut idle (what view) → (c : C) (end : ℕ → Ending V) (to : ℕ → X)
+        → Moves None g (λ n v. v ≡ to n) (step_by false c end to) → Allowed (what view) g (λ n v. v ≡ to n) → Keeps view shown g (step_by false c end to)
+    begins out c end to moves = in_call (out_off (what view) out) false c end to (out_moves (what view) out g (λ n v. v ≡ to n) (step_by false c end to) moves)
 
-    pub releases : (x : V) (c : C) (a : Answer V) → use_of uses (what view) ≡ writes → shown ≡ Some x
-        → (g : ℕ → ℕ) (then : ℕ → X → Type 0)
-        → Moves (what view) g then (leaves_by (λ y. y ≡ x) c a idle) → AllowsAt (Holds plain) plain_ways (what view) None g then
-        → Keeps view shown g (leaves_by (λ y. Unit {0}) c a idle)
-    releases x c a held here g then moves allowed =
-        tie.tells_less model seat_of words_of view (leaves_by (λ y. y ≡ x) c a idle) (leaves_by (λ y. Unit {0}) c a idle)
+    pub releases : (x : V) (c : C) (a : Answer V) → use_of uses (what view) ≡ writes → shown ≡ Some x → (then : ℕ → X → Type 0)
+        → Moves (what view) g then (leaves_by (λ y. y ≡ x) c a idle) → Allowed (what view) g then → Keeps view shown g (leaves_by (λ y. Unit {0}) c a idle)
+    releases x c a held here then moves allowed =
+        let exact = leaves_by (λ y. y ≡ x) c a idle in
+        tie.tells_less model seat_of words_of view exact (leaves_by (λ y. Unit {0}) c a idle)
         (λ own outs n u (stays, (y, is, by)). (stays, (y, tt, by))) Rule own_ways shown g
-        (keeps g then (leaves_by (λ y. y ≡ x) c a idle) (leaving (what view) shown x c a held here) moves allowed)
+        (keeps then exact (leaving (what view) shown x c a held here) moves allowed)
 
 -- What a party learns of the value by a step.
 module _ {W V C L X S : Type 0} (lock : Mutex W V C L X S) (view view' : Option (Numbered X)) (before after : Option V) (seen : Watch (Entry C V)) (x : V)
@@ -170,61 +170,15 @@ module _ {K W V C L X S : Type 0} (lock : K → Mutex W V C L X S) (c : C) (a : 
       → shown ≡ Some x → Found (own_ways (lock p.0)) p.1 q.1 shown shown' q.2 → Step (λ y. Unit {0}) q.1
       → Releases (λ k. (lock k).model) (λ k. (lock k).opening) c a x p q
   released is_named same knew shown shown' x held here known moved =
-      let left = as_new idle (use_of uses) plain.is_idle.1 (what q.1) (ends_out q.1 moved) in
-      let is = leaves (lock p.0) p.1 q.1 shown shown' q.2 x known held left here in
-      let told = passes.learnt model seat_of words_of (leaves_by (IsIt x) c a idle) (λ n. idle) (λ n. WritesSome (IsIt x) (IsStep false c (Answered a None)))
-      (λ own outs n u said. said) named is_named p.1 q.1 p.2 q.2 n knew (exactly is q.1 moved) in
-      ((passes.whole_behind model p.1 q.1 p.2.entries q.2.entries (IsIt x) c a told.made, told.named, same), is)
+      let is = leaves (lock p.0) p.1 q.1 shown shown' q.2 x known held (out_off (lock p.0) (what q.1) (ends_out q.1 moved)) here in
+      let means : (own : List (Move C V)) (outs : List (Ending V)) (n : ℕ) (u : X) → leaves_by (IsIt x) c a idle own outs n u
+      → (u ≡ idle) × WritesSome (IsIt x) (IsCall c a) own outs =
+      λ own outs n u (stays, (y, so, (rest, comes, is, are, s))). (stays, (y, so, (rest, comes, is, are, passes.whole c a rest comes s))) in
+      let course = λ (n : ℕ). WritesSome (IsIt x) (IsCall c a) in
+      ((spots.took (λ k. (lock k).model) seat_of words_of p q same knew is_named n _ (λ n. idle) course means (exactly is q.1 moved)).0, is)
     where
       exactly : IsLast opening q.2.entries x → (w : Option (Numbered X)) → Step (λ y. Unit {0}) w → Step (IsIt x) w
       exactly is None made = absurd made
       exactly is (Some w) (named, (log, es, known, grew, (own, outs, mine, mark, none, alike, (stays, (y, any, by))))) =
           let so = wrote opening log es q.2.entries w.1 own x y grew mine (write_leaves y false c (Answered a None) own outs by) is in
           (named, (log, es, known, grew, (own, outs, mine, mark, none, alike, (stays, (y, so, by)))))
-
--- The same for steps on a second word.
-module _ {W V C L X : Type 0} (lock : Mutex W V C L X ℕ) where
-  open lock use {plain, model, seat_of, words_of, opening}
-  open plain use {uses, idle}
-
-  abbrev pub KeepsSecond : Option (Numbered X) → Option V → (ℕ → ℕ) → Says V C (Answer V) X → Type 0
-  KeepsSecond view shown g says = TracesSecond (Rule lock) (own_ways lock) view shown g (Told lock says view)
-
-  abbrev pub MovesSecond : Option X → (ℕ → ℕ) → (ℕ → X → Type 0) → Says V C (Answer V) X → Type 0
-  MovesSecond view g = AreMoves model seat_of words_of view (on_second g) second
-
-  out_moves_second : (view : Option X) → IsOut idle view → (g : ℕ → ℕ) (to : ℕ → X → Type 0) (says : Says V C (Answer V) X) → MovesSecond None g to says
-      → MovesSecond view g to says
-  out_moves_second view out g to says moves w value u so =
-      let is = as_new idle (sits model seat_of words_of) lock.idle_sits view out in rw is (moves w value u so)
-
-  module _ (view : Option (Numbered X)) (shown : Option V) where
-    pub keeps_second : (g : ℕ → ℕ) (then : ℕ → X → Type 0) (says : Says V C (Answer V) X)
-        → Leaving lock (what view) shown says → MovesSecond (what view) g then says
-        → AllowsSecondAt (Holds plain) (plain_ways lock) (what view) None g then → KeepsSecond view shown g says
-    keeps_second g then says leaves moves allowed =
-        tie.traces_second model seat_of words_of (Holds plain) opening.name V alone uses (last opening) view shown g then says moves
-        (λ own outs n u said t word p. owed opening own t word p (use_of uses (what view)) (uses u) shown (leaves own outs n u said)) allowed
-
-    pub in_call_second : use_of uses (what view) ≡ off
-        → (g : ℕ → ℕ) (goes_on : Bool) (c : C) (end : ℕ → Ending V) (to : ℕ → X)
-        → MovesSecond (what view) g (λ n v. v ≡ to n) (step_by goes_on c end to)
-        → AllowsSecondAt (Holds plain) (plain_ways lock) (what view) None g (λ n v. v ≡ to n) → KeepsSecond view shown g (step_by goes_on c end to)
-    in_call_second unused g goes_on c end to =
-        keeps_second g (λ n v. v ≡ to n) (step_by goes_on c end to) (steps lock (what view) shown unused goes_on c end to)
-
-    pub begins_second : IsOut idle (what view) → (g : ℕ → ℕ) (c : C) (end : ℕ → Ending V) (to : ℕ → X)
-        → MovesSecond None g (λ n v. v ≡ to n) (step_by false c end to) → AllowsSecondAt (Holds plain) (plain_ways lock) (what view) None g (λ n v. v ≡ to n)
-        → KeepsSecond view shown g (step_by false c end to)
-    begins_second out g c end to moves =
-        in_call_second (out_off lock (what view) out) g false c end to
-        (out_moves_second (what view) out g (λ n v. v ≡ to n) (step_by false c end to) moves)
-
-    pub releases_second : (x : V) (c : C) (a : Answer V) → use_of uses (what view) ≡ writes → shown ≡ Some x
-        → (g : ℕ → ℕ) (then : ℕ → X → Type 0)
-        → MovesSecond (what view) g then (leaves_by (λ y. y ≡ x) c a idle) → AllowsSecondAt (Holds plain) (plain_ways lock) (what view) None g then
-        → KeepsSecond view shown g (leaves_by (λ y. Unit {0}) c a idle)
-    releases_second x c a held here g then moves allowed =
-        tie.tells_less_second model seat_of words_of view (leaves_by (λ y. y ≡ x) c a idle) (leaves_by (λ y. Unit {0}) c a idle)
-        (λ own outs n u (stays, (y, is, by)). (stays, (y, tt, by))) (Rule lock) (own_ways lock) shown g
-        (keeps_second g then (leaves_by (λ y. y ≡ x) c a idle) (leaving lock (what view) shown x c a held here) moves allowed)

@@ -1,8 +1,9 @@
 -- What a party with a number learns by a step, and by one step after another.
-use Rattle.std.proofs.Common.{◌≡◌, ℕ, zero, suc, ◌+◌, ◌==◌, if◌then◌else◌, Bool, true, false, Option, Some, None, List, [], ◌∷◌, ◌++◌, length, replicate, refl, sym, ap, ◌∙◌, subst, arith, eq-eqb, zero-add}
+use Rattle.std.proofs.Common.{◌≡◌, ℕ, zero, suc, ◌+◌, ◌==◌, if◌then◌else◌, Bool, false, Option, Some, None, List, [], ◌∷◌, ◌++◌, length, replicate, refl, sym, ap, ◌∙◌, arith, eq-eqb, zero-add}
 use mathlib.Core.List.{IsPrefix}
 use Rattle.std.proofs.Math.Seq.{drop-append_seam}
 use Rattle.std.proofs.lemmas.List.{append_assoc, map-append}
+use Rattle.std.proofs.Math.Nat.{add_assoc}
 use Rattle.spin_model.specs.declared.schedule.Move.{Move}
 use Rattle.spin_model.specs.declared.schedule.Move.TheVariants.{Step}
 use Rattle.spin_model.specs.declared.schedule.Outcome.{Outcome}
@@ -11,9 +12,9 @@ use Rattle.spin_model.specs.Machines.{Machine}
 use Rattle.spin_model.specs.Schedules.{State, Entry, after, at_first, happens}
 use Rattle.spin_core.specs.declared.trace.Watch.{Watch}
 use Rattle.spin_model.specs.declared.place.Seat.{Seat}
-use Rattle.spin_core.specs.Run.{IsPlayed, outcomes}
+use Rattle.spin_core.specs.Run.{outcomes}
 use Rattle.spin_core.specs.Own.{Numbered, what, by_party, entries_by, MadeNone, Tells}
-use Rattle.spin_core.specs.Passes.{mark_of, MayBe, IsNumber, Course, Nothing, Waits, Ends, Begins, WritesSome, IsCall, Says, IsStep, outcomes_by, Did, Made}
+use Rattle.spin_core.specs.Passes.{mark_of, MayBe, IsNumber, Course, Nothing, Waits, Ends, Begins, IsCall, Says, IsStep, outcomes_by, Did, Made}
 use Rattle.spin_core.specs.Cell.{Ways, Moved}
 use Rattle.spin_core.specs.Traced.{Watches, Named}
 use Rattle.spin_core.specs.declared.trace.Trace.{Trace}
@@ -21,10 +22,6 @@ use Rattle.spin_model.proofs.Schedules.{after-append}
 use Rattle.spin_core.proofs.Owns.{picked, by-append}
 
 module _ {C V : Type 0} where
-  nothing_known : (old : List (Entry C V)) → 0 ≡ length old → old ≡ []
-  nothing_known [] e = refl
-  nothing_known (x ∷ xs) e = absurd (omega (arith, e))
-
   own_of : (p : ℕ) (own : List (Move C V)) → entries_by p (by_party p own) ≡ by_party p own
   own_of p [] = refl
   own_of p (move ∷ own) = rw (eq-eqb p p refl, own_of p own)
@@ -59,20 +56,22 @@ module _ {W V C L A : Type 0} (m : Machine W V C L A) where
       let h = happens m s p move in
       rw (eq-eqb p p refl, by-own p h.next own)
 
+  -- the party's outcomes over both parts of what follows the trace a
+  came_both : (p : ℕ) (s : State W V C L) (a more more' : Schedule) (outs outs' : List (Outcome A V)) → outcomes_by m p (after m s a) more ≡ outs
+      → outcomes_by m p (after m s (a ++ more)) more' ≡ outs' → outcomes_by m p (after m s a) (more ++ more') ≡ outs ++ outs'
+  came_both p s a more more' outs outs' first second = rw (by-both p (after m s a) more more', first, ← after-append m s a more, second)
+
   -- moves of a party up to a later trace, followed by its moves up to a still later one, are its moves over both
-  pub did_both : (p : ℕ) (a b c : Schedule) (own own' : List (Move C V)) (outs outs' : List (Outcome A V)) → Did m p a b own outs → Did m p b c own' outs' → Did m p a c (own ++ own') (outs ++ outs')
-  did_both p a b c own own' outs outs' (more, least, is, mine, played, came) (more', least', is', mine', played', came') = (
-    more ++ more',
-    least + least',
-    cc (append_assoc a more more'),
-    rw (by-append p more more', mine, mine') (sym (map-append (λ move. (p, move)) own own')),
-    (λ k. let e : least + least' + k ≡ least' + (least + k) = omega arith in rw e (played' (least + k))),
-    λ k. let start : State W V C L = at_first m (least + least' + k) in
-        let one : least + (least' + k) ≡ least + least' + k = omega arith in let two : least' + (least + k) ≡ least + least' + k = omega arith in
-        let there : after m (after m start a) more ≡ after m start b = sym (after-append m start a more) ∙ ap (after m start) (sym is) in
-        let first = rw one at (came (least' + k)) in let second = rw two at (came' (least + k)) in
-        rw (by-both p (after m start a) more more', first, there, second),
-  )
+  did_both : (p : ℕ) (a b c : Schedule) (own own' : List (Move C V)) (outs outs' : List (Outcome A V)) → Did m p a b own outs
+      → Did m p b c own' outs' → Did m p a c (own ++ own') (outs ++ outs')
+  did_both p a b c own own' outs outs' (more, least, is, mine, played, came) (more', least', is', mine', played', came') =
+      let swap : (k : ℕ) → least + least' + k ≡ least' + (least + k) = λ k. omega arith in let whole = append_assoc a more more' in
+      let both : entries_by p (more ++ more') ≡ by_party p (own ++ own') =
+      rw (by-append p more more', mine, mine') (sym (map-append (λ move. (p, move)) own own')) in
+      let comes : (k : ℕ) → outcomes_by m p (after m (at_first m (least + least' + k)) a) (more ++ more') ≡ outs ++ outs' =
+      λ k. came_both p (at_first m (least + least' + k)) a more more' outs outs'
+      (rw (← add_assoc least least' k) at (came (least' + k))) (rw (← swap k, is) at (came' (least + k))) in
+      (more ++ more', least + least', cc (whole), both, (λ k. rw (swap k) (played' (least + k))), comes)
 
   module _ {X : Type 0} where
     same_number : (p q : ℕ) (view : Option (Numbered X)) → IsNumber p view → MayBe q view → q ≡ p
@@ -83,14 +82,13 @@ module _ {W V C L A : Type 0} (m : Machine W V C L A) where
         → Made m u a v b P → Made m v b w c Q → Made m u a w c R
     made_both u v w a b c P Q R joins (p, may, is, own, outs, did, so) (q, may', is', own', outs', did', so') =
         let same : q ≡ p = same_number p q v is may' in
-        (p, may, subst (λ i. IsNumber i w) same is', own ++ own', outs ++ outs', did_both p a b c own own' outs outs' did (subst (λ i. Did m i b c own' outs') same did'), joins own own' outs outs' so so')
+        (p, may, rw same at is', own ++ own', outs ++ outs', did_both p a b c own own' outs outs' did (rw same at did'), joins own own' outs outs' so so')
 
   module _ {X S : Type 0} (seat_of : X → Seat C L) (words_of : W → ℕ × S) where
     -- the party has made no entry since it knew `old`
     none_between : (view : Option (Numbered X)) (p : ℕ) (old log : Schedule) (known : IsPrefix old log) → mark_of view ≡ length old → MadeNone m seat_of words_of log p view → MayBe p view × (entries_by p known.0 ≡ [])
-    none_between None p old log known knew none = (tt, (let e = nothing_known old knew in let is : known.0 ≡ log = rw e at known.1 in rw is none))
-    none_between (Some u) p old log known knew none =
-        (none.0, rw (← drop-append_seam old known.0, ← knew, known.1) none.1)
+    none_between None p old log known knew none = (tt, rw (← drop-append_seam old known.0, ← knew, known.1) none)
+    none_between (Some u) p old log known knew none = (none.0, rw (← drop-append_seam old known.0, ← knew, known.1) none.1)
 
     -- what a step tells a party that knew all entries up to its last step: its moves, and that it knows all entries up to this step
     pub learns : (says : Says V C A X) (named : Type 0) (view : Option (Numbered X)) (before now : Watch (Entry C V)) (n : ℕ) (v : Numbered X)
@@ -98,27 +96,14 @@ module _ {W V C L A : Type 0} (m : Machine W V C L A) where
         → Made m view before.entries (Some v) now.entries (λ own outs. says own outs n v.0) × (mark_of (Some v) ≡ length now.entries)
     learns says named view before now n v knew (same, (log, es, known, is, (own, outs, es_is, mark, none, mine, said))) =
         let p : ℕ = v.1 in let apart = none_between view p before.entries log known knew none in let between : Schedule = known.0 in
-        let here : before.entries ++ between ≡ log = known.1 in let least : ℕ = mine.1 in (
-          (
-            p,
-            apart.0,
-            refl,
-            own,
-            outs,
-            (
-              between ++ by_party p own,
-              least,
-              cc (append_assoc before.entries between (by_party p own)),
-              rw (by-append p between (by_party p own), apart.1, own_of p own),
-              subst (IsPlayed m least) (sym is) mine.3,
-              λ k. let start : State W V C L = at_first m (least + k) in let s : State W V C L = after m start before.entries in
-                  let there : after m s between ≡ after m start log = sym (after-append m start before.entries between) ∙ ap (after m start) here in
-                  rw (by-both p s between (by_party p own), by-others p between apart.1 s, by-own p (after m s between) own, there, ← es_is) (mine.4 k),
-            ),
-            said,
-          ),
-          mark ∙ ap length (sym is),
-        )
+        let here : before.entries ++ between ≡ log = known.1 in
+        let came : (k : ℕ) → outcomes_by m p (after m (at_first m (mine.1 + k)) before.entries) (between ++ by_party p own) ≡ outs = λ k.
+        let start : State W V C L = at_first m (mine.1 + k) in
+        came_both p start before.entries between (by_party p own) [] outs (by-others p between apart.1 (after m start before.entries))
+        (rw (here, by-own p (after m start log) own, ← es_is) (mine.4 k)) in
+        let whole = append_assoc before.entries between (by_party p own) in let did : Did m p before.entries now.entries own outs =
+        (between ++ by_party p own, mine.1, cc (whole), rw (by-append p between (by_party p own), apart.1) (own_of p own), rw is mine.3, came) in
+        ((p, apart.0, refl, own, outs, did, said), mark ∙ ap length (sym is))
 
 -- the rule says that the trace has this name
 pub may_know : {E S V R : Type 0} (holds : ℕ → Trace E S → List V → Type 0) (ways : Ways R V (Trace E S)) (name : ℕ) → ((n : ℕ) (t : Trace E S) (vs : List V) → holds n t vs → t.name ≡ name) → (known : ℕ) → name ≡ known → Named holds ways known
@@ -143,69 +128,34 @@ module _ {W V C L A X S : Type 0} (m : Machine W V C L A) (seat_of : X → Seat 
 
 -- How one course of a call follows another.
 
-pub replicate-sum : {X : Type 0} (i j : ℕ) (x : X) → replicate (i + j) x ≡ replicate i x ++ replicate j x
+replicate-sum : {X : Type 0} (i j : ℕ) (x : X) → replicate (i + j) x ≡ replicate i x ++ replicate j x
 replicate-sum zero j x = ap (λ n. replicate n x) (zero-add j)
 replicate-sum (suc i) j x = let e : suc i + j ≡ suc (i + j) = omega arith in rw (e, replicate-sum i j x)
 
-module _ {X : Type 0} (x : X) (i j : ℕ) (xs ys : List X) where
-  on_and_on : xs ≡ replicate i x → ys ≡ replicate j x → xs ++ ys ≡ replicate (i + j) x
-  on_and_on is are = cc (replicate-sum i j x)
-
-  on_and_out : (z : X) → xs ≡ replicate i x → ys ≡ replicate j x ++ z ∷ [] → xs ++ ys ≡ replicate (i + j) x ++ z ∷ []
-  on_and_out z is are = cc (append_assoc (replicate i x) (replicate j x) (z ∷ []), replicate-sum i j x)
+-- steps, and then as many steps as there are before this end
+pub after_steps : {X : Type 0} (x : X) (i j : ℕ) (xs ys end : List X) → xs ≡ replicate i x → ys ≡ replicate j x ++ end → xs ++ ys ≡ replicate (i + j) x ++ end
+after_steps x i j xs ys end is are = cc (append_assoc (replicate i x) (replicate j x) end, replicate-sum i j x)
 
 module _ {V C A : Type 0} where
+  pub nothing_then : (P : Course V C A) → Joins V C A Nothing P P
+  nothing_then P own own' outs outs' none so = rw (none.0, none.1) so
+
   pub waits_on : Joins V C A Waits Waits Waits
-  waits_on own own' outs outs' (i, is, comes) (j, is', comes') = (i + j, on_and_on Step i j own own' is is', on_and_on GoingOn i j outs outs' comes comes')
+  waits_on own own' outs outs' (i, is, comes) (j, is', comes') =
+      (i + j, cc (replicate-sum {X = Move C V} i j Step), cc (replicate-sum {X = Outcome A V} i j GoingOn))
 
   pub waits_out : (a : A) → Joins V C A Waits (Ends a) (Ends a)
-  waits_out a own own' outs outs' (i, is, comes) (j, is', comes') = (i + j, on_and_out Step i j own own' Step is is', on_and_out GoingOn i j outs outs' (Answered a None) comes comes')
+  waits_out a own own' outs outs' (i, is, comes) (j, is', comes') =
+      (i + j, after_steps Step i j own own' (Step ∷ []) is is', after_steps GoingOn i j outs outs' (Answered a None ∷ []) comes comes')
 
   pub begun : (c : C) (P Q R : Course V C A) → Joins V C A P Q R → Joins V C A (Begins c P) Q (Begins c R)
   begun c P Q R joins own own' outs outs' (rest, comes, is, are, so) so' = (rest ++ own', comes ++ outs', ap (λ l. l ++ own') is, ap (λ l. l ++ outs') are, joins rest own' comes outs' so so')
 
--- What a party has done by one step, and by several courses one after another.
-module _ {W V C L A X : Type 0} (m : Machine W V C L A) where
-  module _ (view view' : Option (Numbered X)) (old new : List (Entry C V)) where
-    abbrev Makes : Course V C A → Type 0
-    Makes P = Made m view old view' new P
+  -- a step that begins a call and answers it is the whole call
+  pub whole : (c : C) (a : A) (own : List (Move C V)) (outs : List (Outcome A V)) → IsStep false c (Answered a None) own outs → IsCall c a own outs
+  whole c a own outs s = (Step ∷ [], Answered a None ∷ [], s.0, s.1, (0, refl, refl))
 
-    pub weaker : (P Q : Course V C A) → ((own : List (Move C V)) (outs : List (Outcome A V)) → P own outs → Q own outs) → Makes P → Makes Q
-    weaker P Q so (p, may, is, own, outs, did, said) = (p, may, is, own, outs, did, so own outs said)
-
-    -- a step that begins a call and answers it
-    pub whole : (c : C) (a : A) → Makes (IsStep false c (Answered a None)) → Makes (IsCall c a)
-    whole c a = weaker (IsStep false c (Answered a None)) (IsCall c a) (λ own outs s. (Step ∷ [], Answered a None ∷ [], s.0, s.1, (0, refl, refl)))
-
-    -- the same for a step after a write
-    pub whole_behind : (Q : V → Type 0) (c : C) (a : A) → Makes (WritesSome Q (IsStep false c (Answered a None))) → Makes (WritesSome Q (IsCall c a))
-    whole_behind Q c a =
-        weaker (WritesSome Q (IsStep false c (Answered a None))) (WritesSome Q (IsCall c a))
-        (λ own outs (x, so, (rest, comes, is, are, s)). (x, so, (rest, comes, is, are, (Step ∷ [], Answered a None ∷ [], s.0, s.1, (0, refl, refl)))))
-
-    -- a step that begins a call, which then waits
-    pub begins : (c : C) → Makes (IsStep false c GoingOn) → Makes (Begins c Waits)
-    begins c = weaker (IsStep false c GoingOn) (Begins c Waits) (λ own outs s. (Step ∷ [], GoingOn ∷ [], s.0, s.1, (1, refl, refl)))
-
-    -- a step in a call, which then waits or is answered
-    pub goes : (c : C) → Makes (IsStep true c GoingOn) → Makes Waits
-    goes c = weaker (IsStep true c GoingOn) Waits (λ own outs s. (1, s.0, s.1))
-
-    pub ends : (c : C) (a : A) → Makes (IsStep true c (Answered a None)) → Makes (Ends a)
-    ends c a = weaker (IsStep true c (Answered a None)) (Ends a) (λ own outs s. (0, s.0, s.1))
-
-  module _ (u v w : Option (Numbered X)) (a b c : List (Entry C V)) where
-    pub after_nothing : (P : Course V C A) → Made m u a v b Nothing → Made m v b w c P → Made m u a w c P
-    after_nothing P = made_both m u v w a b c Nothing P P (λ own own' outs outs' none so. rw (none.0, none.1) so)
-
-    pub and_waits : Made m u a v b Waits → Made m v b w c Waits → Made m u a w c Waits
-    and_waits = made_both m u v w a b c Waits Waits Waits waits_on
-
-    pub and_ends : (answer : A) → Made m u a v b Waits → Made m v b w c (Ends answer) → Made m u a w c (Ends answer)
-    and_ends answer = made_both m u v w a b c Waits (Ends answer) (Ends answer) (waits_out answer)
-
-    pub call_waits : (call : C) → Made m u a v b (Begins call Waits) → Made m v b w c Waits → Made m u a w c (Begins call Waits)
-    call_waits call = made_both m u v w a b c (Begins call Waits) Waits (Begins call Waits) (begun call Waits Waits Waits waits_on)
-
-    pub call_ends : (call : C) (answer : A) → Made m u a v b (Begins call Waits) → Made m v b w c (Ends answer) → Made m u a w c (IsCall call answer)
-    call_ends call answer = made_both m u v w a b c (Begins call Waits) (Ends answer) (IsCall call answer) (begun call Waits (Ends answer) (Ends answer) (waits_out answer))
+-- a course that implies another
+pub weaker : {W V C L A X : Type 0} (m : Machine W V C L A) (view view' : Option (Numbered X)) (old new : List (Entry C V)) (P Q : Course V C A)
+    → ((own : List (Move C V)) (outs : List (Outcome A V)) → P own outs → Q own outs) → Made m view old view' new P → Made m view old view' new Q
+weaker m view view' old new P Q so (p, may, is, own, outs, did, said) = (p, may, is, own, outs, did, so own outs said)

@@ -10,7 +10,6 @@ use Rattle.spin_step.specs.Parties.{party_of, apply_some, IsOpenStep, entries_af
 use Rattle.spin_core.specs.Cell.{Use, Way, Ways, no_fact, Limits, Going, Meets, Allows, AllowsSecond, Rests, Stands, after, readers_of, writers_of, use_of, off, words}
 use Rattle.spin_core.specs.Views.{Part, idle as nothing, holds, entries_of, Knows, HasPart, IsLockOf, Encodes}
 use Rattle.spin_step.specs.Orders.{IsInOrder}
-use Rattle.spin_core.specs.Plays.{exchanges}
 use Rattle.spin_core.proofs.Leaving.{NamesNobody, leaves}
 use Rattle.spin_step.proofs.Holders.{is_holder-from_entries}
 use Rattle.spin_step.proofs.Sums.{sum_kinds, sum-less}
@@ -62,21 +61,30 @@ module _ {V S : Type 0} (lock : Lock V S) where
   abbrev pub Each : Option V → (Plain → ℕ → Type 0) → Type 0
   Each view P = (s : Plain) (p : ℕ) → s.cap ≡ cap → IsInOrder s → HasPart s p (part_before part view) → P s p
 
-  -- a step, or none, by which the party gets the view w
-  abbrev pub Reaches : Option V → V → Plain → ℕ → ℕ → S → Type 0
-  Reaches view w s p n m = Makes first second (part_before part view) (part w) s p n m
+  -- the same, where the views of all parties are known and the first word is below 2^64
+  abbrev pub EachOf : Option V → (Plain → ℕ → Type 0) → Type 0
+  EachOf view P = (s : Plain) (p : ℕ) (vs : List V) → s.cap ≡ cap → IsInOrder s → IsLockOf part vs s
+      → HasPart s p (part_before part view) → first s < words → P s p
 
-  pub by_step : (view : Option V) (w : V) (s : Plain) (c : Change) (n : ℕ) (m : S) → is_open s c ≡ true → entries_after s (Some c) (entries_of (party_of c) (part_before part view)) ≡ entries_of (party_of c) (part w)
-      → Knows (apply s c) (part w) → n ≡ first (apply s c) → m ≡ second (apply s c) → Reaches view w s (party_of c) n m
-  by_step view w s c n m may becomes known e f = record { step = Some c; is_open = (refl, may); entries = becomes; knows = known; first_is = e; second_is = f }
+  module _ (view : Option V) (w : V) (s : Plain) where
+    -- a step, or none, by which the party gets the view w
+    abbrev pub Reaches : ℕ → ℕ → S → Type 0
+    Reaches = Makes first second (part_before part view) (part w) s
 
-  pub by_none : (view : Option V) (w : V) (s : Plain) (p : ℕ) → entries_of p (part_before part view) ≡ entries_of p (part w) → Knows s (part w) → Reaches view w s p (first s) (second s)
-  by_none view w s p same known = record { step = None; is_open = tt; entries = same; knows = known; first_is = refl; second_is = refl }
+    abbrev Becomes : ℕ → Change → Type 0
+    Becomes p c = entries_after s (Some c) (entries_of p (part_before part view)) ≡ entries_of p (part w)
 
-  -- if the lemma of the step function grants what the party asks, the party reaches the view w
-  pub by_grant : (view : Option V) (w : V) (s : Plain) (p : ℕ) (ask : Ask) (n : ℕ) (m : S) → Decides s (gets p ask) first (Some n) → entries_after s (Some (gets p ask)) (entries_of p (part_before part view)) ≡ entries_of p (part w)
-      → Knows (apply s (gets p ask)) (part w) → m ≡ second (apply s (gets p ask)) → Reaches view w s p n m
-  by_grant view w s p ask n m granted becomes known same = by_step view w s (gets p ask) n m granted.0 becomes known granted.1 same
+    pub by_step : (c : Change) (n : ℕ) (m : S) → is_open s c ≡ true → Becomes (party_of c) c → Knows (apply s c) (part w)
+        → n ≡ first (apply s c) → m ≡ second (apply s c) → Reaches (party_of c) n m
+    by_step c n m may becomes known e f = record { step = Some c; is_open = (refl, may); entries = becomes; knows = known; first_is = e; second_is = f }
+
+    pub by_none : (p : ℕ) → entries_of p (part_before part view) ≡ entries_of p (part w) → Knows s (part w) → Reaches p (first s) (second s)
+    by_none p same known = record { step = None; is_open = tt; entries = same; knows = known; first_is = refl; second_is = refl }
+
+    -- if the lemma of the step function grants what the party asks, the party reaches the view w
+    pub by_grant : (p : ℕ) (ask : Ask) (n : ℕ) (m : S) → let c = gets p ask in Decides s c first (Some n) → Becomes p c
+        → Knows (apply s c) (part w) → m ≡ second (apply s c) → Reaches p n m
+    by_grant p ask n m granted becomes known same = by_step (gets p ask) n m granted.0 becomes known granted.1 same
 
   -- an exchange reaches the view `won` if it finds the number that it expected, otherwise the view `lost`
   pub by_exchange : (view : Option V) (won lost : V) (s : Plain) (p n : ℕ) (m : S) (expected new : ℕ) → (n ≡ expected → Reaches view won s p new m) → Reaches view lost s p n m
@@ -84,27 +92,15 @@ module _ {V S : Type 0} (lock : Lock V S) where
   by_exchange view won lost s p n m expected new hit miss =
       dite (ℕ_discrete n expected) (λ e. rw (eq-eqb n expected e) (won, hit e, refl)) (λ ne. rw (ne_eqb n expected ne) (lost, miss, refl))
 
-  after_step : (id : ℕ) (view : Option V) (vs : List V) (w : V) (s : Plain) (n : ℕ) (m : S) → Stands id view vs → s.cap ≡ cap → IsInOrder s → IsLockOf part vs s
-      → Reaches view w s (number part id view vs) n m → Meets Holds ways n m (after id view vs w)
-  after_step id view vs w s n m at room order is made =
-      let new = lock_after part id view vs w s made.step at order is made.is_open made.entries made.knows in
-      let kept = in_order-kept s (number part id view vs) made.step order made.is_open in
-      let cap_is = cap-kept s made.step ∙ room in
-      ((apply_some s made.step, cap_is, kept, new, made.first_is, made.second_is), lock.fits (after id view vs w) (apply_some s made.step) cap_is kept new)
-
-  -- the same, where the views of all parties are known and the first word is below 2^64
-  abbrev pub EachOf : Option V → (Plain → ℕ → Type 0) → Type 0
-  EachOf view P = (s : Plain) (p : ℕ) (vs : List V) → s.cap ≡ cap → IsInOrder s → IsLockOf part vs s → HasPart s p (part_before part view) → first s < words → P s p
-
   -- a step to these words, if in this lock the party gets a view that satisfies P
   arrives : (view : Option V) (id : ℕ) (vs : List V) (s : Plain) (n : ℕ) (m : S) (P : V → Type 0) → Stands id view vs → s.cap ≡ cap → IsInOrder s → IsLockOf part vs s
       → (w : V) × Reaches view w s (number part id view vs) n m × P w
       → (w : V) × Going way (use_of uses view) (uses w) None (readers_of uses vs) (Meets Holds ways n m (after id view vs w)) × P w
-  arrives view id vs s n m P at room order is made = let w : V = made.0 in (
-    w,
-    lock.goes (use_of uses view) (uses w) (readers_of uses vs) (Meets Holds ways n m (after id view vs w)) (after_step id view vs w s n m at room order is made.1),
-    made.2,
-  )
+  arrives view id vs s n m P at room order is (w, made, so) =
+      let next = apply_some s made.step in let room' = cap-kept s made.step ∙ room in
+      let order' = in_order-kept s (number part id view vs) made.step order made.is_open in
+      let is' = lock_after part id view vs w s made.step at order is made.is_open made.entries made.knows in
+      (w, lock.goes _ (uses w) _ _ ((next, room', order', is', made.first_is, made.second_is), lock.fits (after id view vs w) next room' order' is'), so)
 
   -- a step on the first word: in each lock the party gets a view that satisfies `says`
   pub allows_among : (view : Option V) (f : ℕ → ℕ) (says : ℕ → V → Type 0) → EachOf view (λ s p. (w : V) × Reaches view w s p (f (first s)) (second s) × says (first s) w) → Allows Holds ways view f says
@@ -122,16 +118,21 @@ module _ {V S : Type 0} (lock : Lock V S) where
       let s = fresh cap group ticket in let order = in_order-fresh cap group ticket within in let nobody : IsLockOf part [] s = λ p. (refl, tt) in
       ((s, refl, order, nobody, e, f), lock.fits [] s refl order nobody)
 
-  -- an exchange makes the step of its step function if it finds the old number; otherwise the party keeps its part
-  pub exchanged : (view : Option V) (won : ℕ → V) (lost : V) (old new : ℕ) → ((s : Plain) (p : ℕ) → (entries_of p (part_before part view) ≡ entries_of p (part lost)) × Knows s (part lost))
-      → EachOf view (λ s p. first s ≡ old → Reaches view (won old) s p new (second s)) → Allows Holds ways view (λ n. either (n == old) new n) (exchanges won lost old new view)
+  -- an exchange by which the party gets the view `won` if it finds the number `old`, and otherwise the view `lost`
+  abbrev Exchanges : Option V → V → (ℕ → V) → ℕ → ℕ → Type 0
+  Exchanges view won lost old new = Allows Holds ways view (λ n. either (n == old) new n) (λ n v. v ≡ (if n == old then won else lost n))
+
+  -- if it finds the old number it makes the step of its step function; otherwise the party keeps its part
+  pub exchanged : (view : Option V) (won : V) (lost : ℕ → V) (old new : ℕ)
+      → ((s : Plain) (p n : ℕ) → (entries_of p (part_before part view) ≡ entries_of p (part (lost n))) × Knows s (part (lost n)))
+      → EachOf view (λ s p. first s ≡ old → Reaches view won s p new (second s)) → Exchanges view won lost old new
   exchanged view won lost old new still comes =
-      allows_among view (λ n. either (n == old) new n) (exchanges won lost old new view) (λ s p vs room order is has small.
-      by_exchange view (won old) lost s p (first s) (second s) old new (comes s p vs room order is has small) (by_none view lost s p (still s p).0 (still s p).1))
+      allows_among view _ _ (λ s p vs room order is has small. let n : ℕ = first s in
+      by_exchange view won (lost n) s p n (second s) old new (comes s p vs room order is has small) (by_none view (lost n) s p (still s p n).0 (still s p n).1))
 
   -- a party that has nothing may leave
   pub rests : (v : V) → uses v ≡ off → ((p : ℕ) → entries_of p (part v) ≡ no_entries) → Rests Holds uses (Some v)
-  rests v unused has_none = leaves part v uses cap first second lock.names_nobody.0 lock.names_nobody.1 unused has_none
+  rests v = leaves part v uses cap first second lock.names_nobody.0 lock.names_nobody.1
 
   pub idle_rests : (v : V) → v ≡ idle → Rests Holds uses (Some v)
   idle_rests v is = rw is (rests idle lock.is_idle.1 (λ p. ap (entries_of p) lock.is_idle.0))
@@ -140,44 +141,56 @@ module _ {V S : Type 0} (lock : Lock V S) where
 module _ {V : Type 0} (lock : Lock V (Unit {0})) where
   open lock use {part, idle, cap, first}
 
-  -- a load, after which the party has the same part
-  pub stays_at : (view : Option V) (to : ℕ → V) → ((n : ℕ) → part_before part view ≡ part (to n)) → ((s : Plain) (n : ℕ) → Knows s (part (to n))) → Allows (Holds lock) (ways lock) view (λ n. n) (λ n v. v ≡ to n)
-  stays_at view to same knows = allows lock view (λ n. n) (λ n v. v ≡ to n) (λ s p room order has. (to (first s), by_none lock view (to (first s)) s p (ap (entries_of p) (same (first s))) (knows s (first s)), refl))
-
-  -- a load by a party that has nothing
-  pub looks_at : (view : Option V) (to : ℕ → V) → part_before part view ≡ nothing → ((n : ℕ) → part (to n) ≡ nothing) → Allows (Holds lock) (ways lock) view (λ n. n) (λ n v. v ≡ to n)
-  looks_at view to had none = stays_at view to (λ n. had ∙ sym (none n)) (λ s n. rw (none n) tt)
-
-  -- If an exchange finds the number given to the step function, the party gets what it asks. Otherwise its part is
-  -- unchanged.
-  pub gets_at : (view : Option V) (ask : Ask) (won : V) (lost : ℕ → V) (old new : ℕ) → ((s : Plain) (p : ℕ) → entries_after s (Some (gets p ask)) (entries_of p (part_before part view)) ≡ entries_of p (part won)) → ((s : Plain) → Knows s (part won))
-      → ((n : ℕ) → part_before part view ≡ part (lost n)) → ((s : Plain) (n : ℕ) → Knows s (part (lost n))) → EachOf lock view (λ s p. first s ≡ old → Decides s (gets p ask) first (Some new))
-      → Allows (Holds lock) (ways lock) view (λ n. either (n == old) new n) (λ n v. v ≡ (if n == old then won else lost n))
-  gets_at view ask won lost old new comes knows same still grants = allows_among lock view (λ n. either (n == old) new n) (λ n v. v ≡ (if n == old then won else lost n)) (λ s p vs room order is has small.
-      by_exchange lock view won (lost (first s)) s p (first s) tt old new (λ e. by_grant lock view won s p ask new tt (grants s p vs room order is has small e) (comes s p) (knows (apply s (gets p ask))) refl)
-      (by_none lock view (lost (first s)) s p (ap (entries_of p) (same (first s))) (still s (first s))))
-
   -- the lemma of the step function: it takes the word from old to new and grants the ask
   abbrev pub Grants : Ask → ℕ → ℕ → Type 0
   Grants ask old new = (s : Plain) (p : ℕ) → IsInOrder s → s.cap ≡ cap → first s ≡ old → Decides s (gets p ask) first (Some new)
 
-  -- the same for a party that has nothing
-  pub exchanges_at : (view : Option V) (ask : Ask) (won : V) (lost : ℕ → V) (old new : ℕ) → part_before part view ≡ nothing → ((n : ℕ) → part (lost n) ≡ nothing)
-      → ((s : Plain) (p : ℕ) → entries_after s (Some (gets p ask)) (entries_of p nothing) ≡ entries_of p (part won)) → ((s : Plain) → Knows s (part won))
-      → Grants ask old new → Allows (Holds lock) (ways lock) view (λ n. either (n == old) new n) (λ n v. v ≡ (if n == old then won else lost n))
-  exchanges_at view ask won lost old new had none comes knows grants =
-      gets_at view ask won lost old new (λ s p. rw had (comes s p)) knows (λ n. had ∙ sym (none n)) (λ s n. rw (none n) tt)
-      (λ s p vs room order is has small e. grants s p order room e)
+  module _ (view : Option V) where
+    -- each of these views has the part that the party has
+    abbrev Keeps : (ℕ → V) → Type 0
+    Keeps to = (n : ℕ) → part_before part view ≡ part (to n)
 
-  module _ (weight : Kind → ℕ) (sums : (s : Plain) → first s ≡ sum_kinds weight s.holders) (bounded : (s : Plain) → s.cap ≡ cap → IsInOrder s → first s < 2 ^ 63) where
+    abbrev Looks : (ℕ → V) → Type 0
+    Looks to = Allows (Holds lock) (ways lock) view (λ n. n) (λ n v. v ≡ to n)
+
+    -- a load, after which the party has the same part
+    pub stays_at : (to : ℕ → V) → Keeps to → ((s : Plain) (n : ℕ) → Knows s (part (to n))) → Looks to
+    stays_at to same knows = allows lock view _ _ (λ s p room order has. let n : ℕ = first s in
+        (to n, by_none lock view (to n) s p (ap (entries_of p) (same n)) (knows s n), refl))
+
+    -- a load by a party that has nothing
+    pub looks_at : (to : ℕ → V) → part_before part view ≡ nothing → ((n : ℕ) → part (to n) ≡ nothing) → Looks to
+    looks_at to had none = stays_at to (λ n. had ∙ sym (none n)) (λ s n. rw (none n) tt)
+
+    module _ (ask : Ask) (won : V) (lost : ℕ → V) (old new : ℕ) where
+      -- If an exchange finds the number given to the step function, the party gets what it asks. Otherwise its part is
+      -- unchanged.
+      pub gets_at : ((s : Plain) (p : ℕ) → Becomes lock view won s p (gets p ask)) → ((s : Plain) → Knows s (part won))
+          → Keeps lost → ((s : Plain) (n : ℕ) → Knows s (part (lost n)))
+          → EachOf lock view (λ s p. first s ≡ old → Decides s (gets p ask) first (Some new)) → Exchanges lock view won lost old new
+      gets_at comes knows same still grants = exchanged lock view won lost old new (λ s p n. (ap (entries_of p) (same n), still s n))
+          (λ s p vs room order is has small e. by_grant lock view won s p ask new tt
+          (grants s p vs room order is has small e) (comes s p) (knows (apply s (gets p ask))) refl)
+
+      -- the same for a party that has nothing
+      pub exchanges_at : part_before part view ≡ nothing → ((n : ℕ) → part (lost n) ≡ nothing)
+          → ((s : Plain) (p : ℕ) → entries_after s (Some (gets p ask)) (entries_of p nothing) ≡ entries_of p (part won)) → ((s : Plain) → Knows s (part won))
+          → Grants ask old new → Exchanges lock view won lost old new
+      exchanges_at had none comes knows grants =
+          gets_at (λ s p. rw had (comes s p)) knows (λ n. had ∙ sym (none n)) (λ s n. rw (none n) tt) (λ s p vs room order is has small. grants s p order room)
+
+  module _ (weight : Kind → ℕ) (sums : (s : Plain) → first s ≡ sum_kinds weight s.holders)
+      (bounded : (s : Plain) → s.cap ≡ cap → IsInOrder s → first s < 2 ^ 63) (v : V) (k : Kind) where
     -- a holder subtracts its weight from a word that is the sum over the holders
-    pub leaves_at : (v : V) (k : Kind) → ((p : ℕ) → entries_of p (part v) ≡ entries_of p (holds k)) → Allows (Holds lock) (ways lock) (Some v) (λ n. (n + (2 ^ 64 - weight k)) % 2 ^ 64) (λ n w. Weighs (weight k) n × (w ≡ idle))
-    leaves_at v k was = allows lock (Some v) (λ n. (n + (2 ^ 64 - weight k)) % 2 ^ 64) (λ n w. Weighs (weight k) n × (w ≡ idle)) (λ s p room order has.
-        let stands = is_holder-from_entries p k s.holders (ap (λ e. e.holders) (has.0 ∙ was p)) in
-        let small = bounded s room order in let less = sum-less weight p k s.holders stands in let gone = release-own s p k ∙ sym (ap (entries_of p) lock.is_idle.0) in (
+    pub leaves_at : ((p : ℕ) → entries_of p (part v) ≡ entries_of p (holds k))
+        → Allows (Holds lock) (ways lock) (Some v) (λ n. (n + (2 ^ 64 - weight k)) % 2 ^ 64) (λ n w. Weighs (weight k) n × (w ≡ idle))
+    leaves_at was = allows lock (Some v) _ _ (λ s p room order has.
+        let stands = is_holder-from_entries p k s.holders (ap (λ e. e.holders) (has.0 ∙ was p)) in let c = releases p k in
+        let small = bounded s room order in let less = sum-less weight p k s.holders stands in (
           idle,
-          by_step lock (Some v) idle s (releases p k) ((first s + (2 ^ 64 - weight k)) % 2 ^ 64) tt stands (ap (entries_after s (Some (releases p k))) (was p) ∙ gone) (rw lock.is_idle.0 tt)
-              (omega (arith, less, small, sums s, sums (apply s (releases p k)))) refl,
+          by_step lock (Some v) idle s c _ tt stands
+              (ap (entries_after s (Some c)) (was p) ∙ (release-own s p k ∙ sym (ap (entries_of p) lock.is_idle.0))) (rw lock.is_idle.0 tt)
+              (omega (arith, less, small, sums s, sums (apply s c))) refl,
           ((omega (arith, less, small, sums s), small), refl),
         ))
 

@@ -1,13 +1,15 @@
 -- What a step tells a party that knows the lock's history, and what follows from all steps of a call.
-use Rattle.std.proofs.Common.{◌≡◌, ℕ, Bool, true, false, Some, None, List, length, ◌∙◌}
+use Rattle.std.proofs.Common.{◌≡◌, ℕ, Bool, true, false, Some, None, List, [], ◌∷◌, length, refl, ◌∙◌}
 use Rattle.spin_core.specs.Cell.{Moved}
 use Rattle.spin_core.specs.Own.{Tells, what}
-use Rattle.spin_core.specs.Passes.{Course, Says, IsStep, IsCall, WritesSome, Made, step_by, mark_of}
+use Rattle.spin_core.specs.Passes.{Course, Says, IsStep, IsCall, WritesSome, Begins, Waits, Ends, step_by, mark_of}
 use Rattle.spin_core.specs.Spots.{Spot, Since, Stepped, IsIn, HasCalled}
 use Rattle.spin_core.specs.Traced.{Watches}
 use Rattle.spin_core.proofs.Passes as passes
+use Rattle.spin_core.proofs.Passes.{Joins}
 use Rattle.spin_model.specs.declared.place.Seat.{Seat}
 use Rattle.spin_model.specs.declared.schedule.Move.{Move}
+use Rattle.spin_model.specs.declared.schedule.Move.TheVariants.{Step}
 use Rattle.spin_model.specs.declared.schedule.Outcome.{Outcome}
 use Rattle.spin_model.specs.declared.schedule.Outcome.TheVariants.{Answered, GoingOn}
 use Rattle.spin_model.specs.Machines.{Machine}
@@ -28,41 +30,40 @@ module _ {K W V C L A X S : Type 0} (model : K → Machine W V C L A) (seat_of :
       → Stepped model goes_on c (end found) (to found) p q
   stepped is_named found goes_on c end to = took is_named found (step_by goes_on c end to) to (λ n. IsStep goes_on c (end n)) (λ own outs n v said. said)
 
+module _ {K W V C L A X : Type 0} (model : K → Machine W V C L A) (p q : Spot K X (Entry C V)) where
+  pub weaker : (P Q : Course V C A) → ((own : List (Move C V)) (outs : List (Outcome A V)) → P own outs → Q own outs) → Since model P p q → Since model Q p q
+  weaker P Q so (made, named, same) = (passes.weaker (model p.0) p.1 q.1 p.2.entries q.2.entries P Q so made, named, same)
+
+  -- a course, and then another; the later one is in the same lock, and so runs the same model
+  pub both : (r : Spot K X (Entry C V)) (P Q R : Course V C A) → Joins V C A P Q R → Since model P p q → Since model Q q r → Since model R p r
+  both r P Q R joins first next = (
+    passes.made_both (model p.0) p.1 q.1 r.1 p.2.entries q.2.entries r.2.entries P Q R joins first.0
+        (rw first.2 at next.0),
+    next.1 ∙ first.1,
+    next.2 ∙ first.2,
+  )
+
 -- The steps of a call, one after another.
 module _ {K W V C L A X : Type 0} (model : K → Machine W V C L A) (c : C) (p q : Spot K X (Entry C V)) where
   -- a step that begins the call and answers it at once
   pub in_one : (a : A) → Since model (IsStep false c (Answered a None)) p q → HasCalled model c a p q
-  in_one a (made, named, same) = (passes.whole (model p.0) p.1 q.1 p.2.entries q.2.entries c a made, named, same)
+  in_one a = weaker model p q (IsStep false c (Answered a None)) (IsCall c a) (passes.whole c a)
 
   pub comes_in : Since model (IsStep false c GoingOn) p q → IsIn model c p q
-  comes_in (made, named, same) = (passes.begins (model p.0) p.1 q.1 p.2.entries q.2.entries c made, named, same)
+  comes_in = weaker model p q (IsStep false c GoingOn) (Begins c Waits) (λ own outs s. (Step ∷ [], GoingOn ∷ [], s.0, s.1, (1, refl, refl)))
 
   -- a release of a value that satisfies Q is a release of some value
   pub wrote_any : (Q : V → Type 0) (a : A) → Since model (WritesSome Q (IsCall c a)) p q → Since model (WritesSome (λ y. Unit {0}) (IsCall c a)) p q
-  wrote_any Q a (made, named, same) = (
-    passes.weaker (model p.0) p.1 q.1 p.2.entries q.2.entries (WritesSome Q (IsCall c a)) (WritesSome (λ y. Unit {0}) (IsCall c a))
-        (λ own outs (y, so, by). (y, tt, by)) made,
-    named,
-    same,
-  )
+  wrote_any Q a = weaker model p q (WritesSome Q (IsCall c a)) (WritesSome (λ y. Unit {0}) (IsCall c a)) (λ own outs (y, so, by). (y, tt, by))
 
   module _ (r : Spot K X (Entry C V)) (first : IsIn model c p q) where
-    -- a later step is in the same lock, and so runs the same model
-    in_lock : (course : Course V C A) → Since model course q r → Made (model p.0) q.1 q.2.entries r.1 r.2.entries course
-    in_lock course step = rw first.2 at step.0
-
     pub stays_in : Since model (IsStep true c GoingOn) q r → IsIn model c p r
-    stays_in step = (
-      passes.call_waits (model p.0) p.1 q.1 r.1 p.2.entries q.2.entries r.2.entries c first.0
-          (passes.goes (model p.0) q.1 r.1 q.2.entries r.2.entries c (in_lock (IsStep true c GoingOn) step)),
-      step.1 ∙ first.1,
-      step.2 ∙ first.2,
-    )
+    stays_in =
+        both model p q r (Begins c Waits) (IsStep true c GoingOn) (Begins c Waits)
+        (passes.begun c Waits (IsStep true c GoingOn) Waits (λ own own' outs outs' w s. passes.waits_on own own' outs outs' w (1, s.0, s.1))) first
 
     pub is_answered : (a : A) → Since model (IsStep true c (Answered a None)) q r → HasCalled model c a p r
-    is_answered a step = (
-      passes.call_ends (model p.0) p.1 q.1 r.1 p.2.entries q.2.entries r.2.entries c a first.0
-          (passes.ends (model p.0) q.1 r.1 q.2.entries r.2.entries c a (in_lock (IsStep true c (Answered a None)) step)),
-      step.1 ∙ first.1,
-      step.2 ∙ first.2,
-    )
+    is_answered a =
+        both model p q r (Begins c Waits) (IsStep true c (Answered a None)) (IsCall c a)
+        (passes.begun c Waits (IsStep true c (Answered a None)) (Ends a)
+        (λ own own' outs outs' w s. passes.waits_out a own own' outs outs' w (0, s.0, s.1))) first

@@ -46,40 +46,45 @@ module _ {C V : Type 0} where
 
   module _ (opening : Opening V) where
     module _ {S : Type 0} (own : List (Move C V)) (t : Trace (Entry C V) S) (word : S) (p : ℕ) where
-      keeps : ((v : V) → left own v ≡ v) → (x : V) → IsLast opening t.entries x → IsLast opening (t.entries ++ by_party p own) x
-      keeps same x is told = latest_left opening.value t.entries p own ∙ same (latest opening.value t.entries) ∙ is told
-
-      leaves : (x : V) → ((v : V) → left own v ≡ x) → IsLast opening (t.entries ++ by_party p own) x
-      leaves x all told = latest_left opening.value t.entries p own ∙ all (latest opening.value t.entries)
+      now : latest opening.value (t.entries ++ by_party p own) ≡ left own (latest opening.value t.entries)
+      now = latest_left opening.value t.entries p own
 
       -- what moves must show that write as `Leaves` says
       pub owed : (u u' : Use) (shown : Option V) → Leaves u u' shown own → Owed (last opening) t (grown_at t word (by_party p own)) u u' shown
       owed writes writes shown l = tt
       owed writes _ None l = tt
-      owed writes _ (Some x) l = leaves x l
-      owed _ u' shown l = keeps l
+      owed writes _ (Some x) l = λ told. now ∙ l (latest opening.value t.entries)
+      owed _ u' shown l = λ x is told. now ∙ l (latest opening.value t.entries) ∙ is told
 
     -- a lock opens with the value that is in it
     pub opens_last : (es : List (Entry C V)) (x : V) → es ≡ [] → opening.value ≡ x → IsLast opening es x
     opens_last es x none is told = ap (latest opening.value) none ∙ is
 
-    -- a party that begins to use the value, or reads on, is shown the value written last
-    pub shows_last : {S : Type 0} (u u' : Use) (before after : Option V) (es : List (Entry C V)) → Learnt {S = S} (last opening) u u' before after es → (u ≡ writes → u' ≡ reads) → Shows u' before after → IfSome after (λ y. IsLast opening es y)
-    shows_last u u' before after es learnt so shows = rw (← learnt.1) (tells (λ y. IsLast opening learnt.0.entries y) u u' before after so shows learnt.2)
+    -- What a step tells its party of the value written last.
+    module _ (u u' : Use) (before after : Option V) (es : List (Entry C V)) where
+      abbrev Tells : Type 0 → Type 0
+      Tells S = Learnt {S = S} (last opening) u u' before after es
 
-    -- a party that stops reading has read the value written last
-    pub read_last : {S : Type 0} (u u' : Use) (before after : Option V) (es : List (Entry C V)) → Learnt {S = S} (last opening) u u' before after es → u ≡ reads → u' ≡ off → IfSome before (λ y. IsLast opening es y)
-    read_last u u' before after es learnt is is' =
-        let told = rw (is, is') at learnt.2 in
-        rw (← learnt.1) (leaves_told (λ y. IsLast opening learnt.0.entries y) before after told)
+      abbrev Last : V → Type 0
+      Last = IsLast opening es
 
-    -- What a party finds when it begins to use the value, and what it leaves when it stops writing: the value written last.
-    module _ {S : Type 0} (u u' : Use) (before after : Option V) (es : List (Entry C V)) (x : V) (learnt : Learnt {S = S} (last opening) u u' before after es) where
-      pub found : u ≡ off → after ≡ Some x → IsLast opening es x
-      found is some = rw (← learnt.1) (rw (is, some) at learnt.2)
+      learns : {S : Type 0} → Tells S → Learns Last u u' before after
+      learns learnt = rw (← learnt.1) learnt.2
 
-      pub gave : u ≡ writes → u' ≡ off → before ≡ Some x → IsLast opening es x
-      gave is is' some = rw (← learnt.1) (rw (is, is', some) at learnt.2)
+      -- a party that begins to use the value, or reads on, is shown it
+      pub shows_last : {S : Type 0} → Tells S → (u ≡ writes → u' ≡ reads) → Shows u' before after → IfSome after Last
+      shows_last learnt so shows = tells Last u u' before after so shows (learns learnt)
+
+      -- a party that stops reading has read it
+      pub read_last : {S : Type 0} → Tells S → u ≡ reads → u' ≡ off → IfSome before Last
+      read_last learnt is is' = leaves_told Last before after (rw (is, is') at (learns learnt))
+
+      -- it is what a party finds when it begins to use the value, and what it leaves when it stops writing
+      pub found : {S : Type 0} (x : V) → Tells S → u ≡ off → after ≡ Some x → Last x
+      found x learnt is some = rw (is, some) at (learns learnt)
+
+      pub gave : {S : Type 0} (x : V) → Tells S → u ≡ writes → u' ≡ off → before ≡ Some x → Last x
+      gave x learnt is is' some = rw (is, is', some) at (learns learnt)
 
     -- the value that a party wrote last is the one that it left
     pub wrote : (log es now : List (Entry C V)) (p : ℕ) (own : List (Move C V)) (x y : V) → now ≡ log ++ es → es ≡ by_party p own → ((v : V) → left own v ≡ y) → IsLast opening now x → opening.told ≡ true → y ≡ x

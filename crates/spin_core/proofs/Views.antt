@@ -1,6 +1,6 @@
 -- A party's open step in the plain lock gives it a new view in the list of views.
 use Rattle.std.proofs.Common.{◌≡◌, ℕ, zero, suc, pred, ◌≤◌, List, [], ◌∷◌, ◌++◌, length, set, Option, Some, None, refl, sym, ap, ◌∙◌, subst, arith}
-use mathlib.Core.Option.{some, some-injective, some-ne-none}
+use mathlib.Core.Option.{some}
 use mathlib.Core.Logic.{dite}
 use native.Mathlib.Decide.{ℕ_discrete}
 use lib.ListN.{get_elem?}
@@ -8,6 +8,8 @@ use Rattle.std.specs.Prelude.{slice_get}
 use Rattle.spin_step.specs.Plain.{Plain, Kind, writing, Change, releases, stops_starving, turns}
 use Rattle.spin_step.specs.Parties.{entries_after, apply_some, IsOpenStep}
 use Rattle.spin_core.specs.Cell.{Stands, after}
+use Rattle.spin_core.proofs.CellCounts.{around}
+use Rattle.spin_core.proofs.Runs.{get_seam}
 use Rattle.spin_core.specs.Views.{Part, idle, holds, starves, holds_starving, entries_of, Knows, HasPart, part_at, IsLockOf}
 use Rattle.spin_step.specs.Orders.{IsInOrder}
 use Rattle.spin_step.proofs.Entries.{entries-own, entries-other}
@@ -51,14 +53,9 @@ module _ {V : Type 0} (part : V → Part) where
   part-beyond p [] far = refl
   part-beyond p (v ∷ vs) far = grind (arith, part-beyond (pred p) vs)
 
-  at_place : (id : ℕ) (v : V) (vs : List V) → get_elem? vs id ≡ some v → part_at part vs id ≡ part v
-  at_place id v [] at = absurd (some-ne-none v (sym at))
-  at_place zero v (x ∷ vs) at = ap part (some-injective x v at)
-  at_place (suc id) v (x ∷ vs) at = at_place id v vs at
-
   was : (id : ℕ) (view : Option V) (vs : List V) → Stands id view vs → part_at part vs (number id view vs) ≡ part_before view
   was id None vs at = part-beyond (length vs) vs (omega arith)
-  was id (Some v) vs at = at_place id v vs at
+  was id (Some v) vs at = let (us, ws, is, here) = around vs id v at in cc (part-there (length us) v (us ++ v ∷ ws) (get_seam us v ws))
 
   -- party p gets the part of its new view, and the others keep theirs
   abbrev Moves : ℕ → List V → List V → V → ℕ → Type 0

@@ -1,5 +1,6 @@
 -- The raw cell as plain data: its parties, how each may use the value, and what a step must show of the rule.
 use Rattle.std.specs.Prelude.{◌≡◌, ℕ, zero, suc, ◌+◌, ◌*◌, ◌<◌, ◌≤◌, Bool, true, false, List, [], ◌∷◌, ◌++◌, Option, Some, None, slice_set, sum_by}
+use Rattle.std.specs.Option.{IfSome}
 use mathlib.Core.Option.{some}
 use lib.ListN.{get_elem?}
 
@@ -113,20 +114,16 @@ module _ {X : Type 0} where
   -- value that it leaves. A party that writes on shows nothing. Any other party shows that φ implies ψ.
   abbrev pub Carries : (X → Type 0) → (X → Type 0) → Use → Use → Option X → Type 0
   Carries φ ψ writes writes shown = Unit {0}
-  Carries φ ψ writes _ None = Unit {0}
-  Carries φ ψ writes _ (Some x) = ψ x
+  Carries φ ψ writes _ shown = IfSome shown ψ
   Carries φ ψ _ _ shown = (x : X) → φ x → ψ x
 
   -- What a step tells its party of the value shown before it and after it. A party that writes on learns nothing. A party that stops using
   -- the value learns ψ of the value before the step. Any other party learns ψ of the value after the step, if it is shown one.
   abbrev pub Learns : (X → Type 0) → Use → Use → Option X → Option X → Type 0
   Learns ψ writes writes before after = Unit {0}
-  Learns ψ off v before (Some x) = ψ x
-  Learns ψ off v before None = Unit {0}
-  Learns ψ _ off (Some x) after = ψ x
-  Learns ψ _ off None after = Unit {0}
-  Learns ψ _ _ before (Some x) = ψ x
-  Learns ψ _ _ before None = Unit {0}
+  Learns ψ off v before after = IfSome after ψ
+  Learns ψ _ off before after = IfSome before ψ
+  Learns ψ _ _ before after = IfSome after ψ
 
   -- what a step must show of the known fact, if the step changes the `Second` from m to m'
   abbrev pub Owed : {S : Type 0} → Knowledge S X → S → S → Use → Use → Option X → Type 0

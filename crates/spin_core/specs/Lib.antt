@@ -1,5 +1,4 @@
 pub mod Views
-pub mod Plays
 pub mod Cell
 pub mod CellMemory
 pub mod Writer

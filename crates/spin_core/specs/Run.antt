@@ -24,19 +24,17 @@ abbrev pub is_played : {V A : Type 0} → Outcome A V → Bool
 is_played Skipped = false
 is_played _ = true
 
--- the words after a step that applied f to the first word
-abbrev pub on_first : {S : Type 0} → (ℕ → ℕ) → ℕ × S → ℕ × S
-on_first f s = (f s.0, s.1)
+-- a step on one of the words of a lock: the words after it, and the number that it finds
+abbrev pub OnWord : Type 0 → Type 0
+OnWord S = (ℕ × S → ℕ × S) × (ℕ × S → ℕ)
 
--- the words after a step that applied f to the second word
-abbrev pub on_second : (ℕ → ℕ) → ℕ × ℕ → ℕ × ℕ
-on_second f s = (s.0, f s.1)
+-- a step that applies f to the first word
+abbrev pub by_first : {S : Type 0} → (ℕ → ℕ) → OnWord S
+by_first f = (λ s. (f s.0, s.1), λ s. s.0)
 
-abbrev pub first : {S : Type 0} → ℕ × S → ℕ
-first s = s.0
-
-abbrev pub second : ℕ × ℕ → ℕ
-second s = s.1
+-- a step that applies f to the second word
+abbrev pub by_second : (ℕ → ℕ) → OnWord ℕ
+by_second f = (λ s. (s.0, f s.1), λ s. s.1)
 
 module _ {W V C L A : Type 0} (m : Machine W V C L A) where
   -- the outcomes of a schedule's entries
@@ -79,6 +77,6 @@ module _ {W V C L A : Type 0} (m : Machine W V C L A) where
 
     -- Take any words, and any view that a step satisfying `then` gives the party. The party has moves that lead to this view and to the
     -- step's words. What `says` states holds of them.
-    abbrev pub AreMoves : Option X → (ℕ × S → ℕ × S) → (ℕ × S → ℕ) → (ℕ → X → Type 0) → (List (Move C V) → List (Outcome A V) → ℕ → X → Type 0) → Type 0
-    AreMoves view to found then says =
-        (w : W) (value : Option V) (u : X) → then (found (words_of w)) u → Goes view u w value (to (words_of w)) (λ own outs. says own outs (found (words_of w)) u)
+    abbrev pub AreMoves : Option X → OnWord S → (ℕ → X → Type 0) → (List (Move C V) → List (Outcome A V) → ℕ → X → Type 0) → Type 0
+    AreMoves view step then says = (w : W) (value : Option V) (u : X) → let s = words_of w in then (step.1 s) u
+        → Goes view u w value (step.0 s) (λ own outs. says own outs (step.1 s) u)

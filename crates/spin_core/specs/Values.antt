@@ -1,5 +1,6 @@
 -- The values in a trace that is a schedule of a model: which was written last, and when this is the cell's value.
-use Rattle.std.specs.Prelude.{◌≡◌, true, false, Option, Some, None, List, [], ◌∷◌}
+use Rattle.std.specs.Prelude.{◌≡◌, true, false, Option, List, [], ◌∷◌}
+use Rattle.std.specs.Option.{IfSome}
 use Rattle.spin_model.specs.declared.schedule.Move.{Move}
 use Rattle.spin_model.specs.declared.schedule.Move.TheVariants.{Write}
 use Rattle.spin_model.specs.Schedules.{Entry}
@@ -37,8 +38,7 @@ module _ {C V : Type 0} where
   -- writing. Any other party writes nothing.
   abbrev pub Leaves : Use → Use → Option V → List (Move C V) → Type 0
   Leaves writes writes shown own = Unit {0}
-  Leaves writes _ None own = Unit {0}
-  Leaves writes _ (Some x) own = (v : V) → left own v ≡ x
+  Leaves writes _ shown own = IfSome shown (λ x. (v : V) → left own v ≡ x)
   Leaves _ _ shown own = (v : V) → left own v ≡ v
 
 -- the opening after the owner has borrowed the value: the trace no longer tells the value

@@ -11,7 +11,6 @@ use Rattle.spin_world_core.proofs.Steps.{Plays}
 use Rattle.spin_world_core.proofs.Stands.{holds, entries_at}
 use Rattle.spin_world_core.proofs.Rows.{Point, starts, looked}
 use Rattle.spin_world_core.proofs.Shapes.{Notes, Means, OwesAll, SoonAll, Pays}
-use Rattle.spin_world_core.proofs.Operating.{one_place, operates_by}
 use Rattle.spin_world_core.proofs.Usual.{no_queue}
 use Rattle.spin_world_core.proofs.Filled.{plays_of}
 use Rattle.spin_core_tests.specs.Latch.{latch_limit, latch_weight, latch_word, let_in, taken}
@@ -62,16 +61,11 @@ soon p c l h s w span = grind (arith, open_is s w, nobody_is s w, eq-eqb w w)
 latch_pays : Pays latch_notes
 latch_pays =
     record {
-      fits = λ p c l h. grind arith;
-      operates = operates_by latch_table one_place;
-      first = refl;
+      computes = grind arith;
+      operates = grind arith;
       shape_first = record { no_queue = refl; room = refl };
-      numbers_tell = λ v w e. cc (e);
       one_list = λ s shape. no_queue s shape.no_queue;
       calls = λ c h. (0, grind arith);
-      own = λ c h said p. grind arith;
-      sound = λ p c l h. grind arith;
-      aims = λ p c l h. grind arith;
       begins = λ p c h s. grind arith;
       others = λ p q c l h s step r span ne shape may belongs knows. tt;
       owes = owes;

@@ -8,7 +8,7 @@ use Rattle.spin_step.proofs.Holders.{is_holder-from_entries}
 use Rattle.spin_step.proofs.Sums.{one_of, by_kinds, all_kinds, sum-less}
 use Rattle.spin_core.specs.Cell.{Ways, lends, no_fact, writes, Meets, Allows, Rests, Moved}
 use Rattle.spin_core.specs.Own.{Numbered, what}
-use Rattle.spin_core.specs.Run.{AreMoves, on_first, first, outcomes, alone, of_one, sits as seat_at}
+use Rattle.spin_core.specs.Run.{AreMoves, by_first, outcomes, alone, of_one, sits as seat_at}
 use Rattle.spin_core.specs.Traced.{Traces, Watches}
 use Rattle.spin_core.specs.Views.{holds, entries_of, part_at, idle, no_word}
 use Rattle.spin_core.specs.declared.trace.Trace.{Trace}
@@ -89,7 +89,7 @@ may_write (Some _) may = absurd may
 -- under way.
 
 abbrev Moves : Option View → (ℕ → ℕ) → (ℕ → View → Type 0) → (ℕ → View) → Type 0
-Moves view f says to = AreMoves latch_machine seat_of words_of view (on_first f) first says (leads_by to)
+Moves view f says to = AreMoves latch_machine seat_of words_of view (by_first f) says (leads_by to)
 
 -- the outcomes of these moves, for a party with this view in a world of its own
 abbrev ends : Option View → ℕ → Option (Unit {0}) → List OneMove → List Ending
@@ -142,7 +142,7 @@ module _ (name : ℕ) where
   Keeps view f to = Traces (IsLatch name) own_ways view None f (Leads to view)
 
   keeps : (view : Option (Numbered View)) (f : ℕ → ℕ) (says : ℕ → View → Type 0) (to : ℕ → View) → Moves (what view) f says to → Allows IsWord (ways latch) (what view) f says → Keeps view f to
-  keeps view f says to moves step = tie.traces latch_machine seat_of words_of IsWord name (Unit {0}) lends use_of_view no_fact view None f says (leads_by to) moves (λ own outs n u said t word p. tt) step
+  keeps view f says to moves step = tie.traces latch_machine seat_of words_of IsWord name (Unit {0}) lends use_of_view no_fact view None (by_first f) says (leads_by to) moves (λ own outs n u said t word p. tt) step
 
   pub opens : (t : Trace rule.Done (Unit {0})) → t.name ≡ name → t.entries ≡ [] → Meets (IsLatch name) own_ways 0 t []
   opens t named empty = tie.opens latch_machine seat_of words_of IsWord name (Unit {0}) lends use_of_view no_fact 0 t named empty refl (begins latch 0 0 0 tt (omega arith) refl refl)

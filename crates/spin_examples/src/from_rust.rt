@@ -73,7 +73,7 @@ pub fn raise<W: Wait>(rt: &W, limit: &RwLock<u64>, least: u64) -> u64
     *guard.downgrade()
 }
 
-/// Returns the port that the text names. If the text names none, the `Once` stays empty, and another caller may try.
+/// Returns the port of the `Once`. If there is none yet, the text names it, or the `Once` stays empty after an error.
 pub fn port_of<'a, W: Wait>(
     rt: &W,
     port: &'a Once<u16>,

@@ -9,7 +9,7 @@ use spin::mutex::fair::{Pass, StarvingPass};
 use std::sync::Wait;
 use std::thread::{Threads, join};
 
-/// Adds 1. The pass acquires the lock and releases it, once.
+/// Adds 1, unless the value is the largest number. The pass acquires the lock and releases it, once.
 fn count<'a, W: Wait>(rt: &W, pass: Pass<'a, u64, Spin>) -> Pass<'a, u64, Spin>
     ensures made { HeldOnce pass.entry result }
     ensures lock { lock_of result ≡ lock_of pass.entry }
@@ -28,7 +28,7 @@ fn look(pass: Pass<'_, u64, Spin>) -> (bool, Pass<'_, u64, Spin>)
     (held, pass)
 }
 
-/// Adds 1 as a starver. The pass acquires the lock and releases it, once.
+/// Adds 1 as a starver, unless the value is the largest number. The pass acquires the lock and releases it, once.
 fn count_served<'a, W: Wait>(rt: &W, starving: StarvingPass<'a, u64, Spin>) -> Pass<'a, u64, Spin>
     ensures made { ServedOnce starving.entry result }
     ensures lock { lock_of result ≡ starving_lock_of starving.entry }
@@ -38,7 +38,7 @@ fn count_served<'a, W: Wait>(rt: &W, starving: StarvingPass<'a, u64, Spin>) -> P
     FairMutex::unlock(guard, seen)
 }
 
-/// Adds 1 as a starver. Does nothing if too many threads starve.
+/// Adds 1 as a starver, unless the value is the largest number. Does nothing if too many threads starve.
 fn count_starving<'a, W: Wait>(rt: &W, lock: &'a FairMutex<u64>) -> Pass<'a, u64, Spin>
     ensures { lock_of result ≡ name_of lock.now }
 {
@@ -80,7 +80,7 @@ fn try_starving(starving: StarvingPass<'_, u64, Spin>) -> Pass<'_, u64, Spin> {
     }
 }
 
-/// Adds 1 in each of three threads: two newcomers and a starver.
+/// Counts in each of three threads: two newcomers and a starver.
 ///
 /// # Contract
 /// Of any two of the passes, one knows a prefix of the history that the other knows.

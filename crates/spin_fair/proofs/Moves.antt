@@ -7,7 +7,7 @@ use native.Mathlib.Decide.{ℕ_discrete}
 use prog.Atomic.{either}
 use Rattle.spin_step_more.specs.Starvers.{most_starvers, is_set, starve}
 use Rattle.spin_core.specs.Passes.{Ending, leaves_by}
-use Rattle.spin_core.specs.Run.{AreMoves, on_first, first}
+use Rattle.spin_core.specs.Run.{AreMoves, by_first}
 use Rattle.spin_model.specs.declared.answer.Answer.TheVariants.{Granted, Refused, Is, Done}
 use Rattle.spin_model.specs.declared.place.Hold.TheVariants.{Write}
 use Rattle.spin_model.specs.declared.place.Seat.TheVariants as seat
@@ -44,7 +44,7 @@ Takes by n = (n + (2 ^ 64 - by)) % 2 ^ 64 ≡ n - by
 -- For a lock that opened with the value `v₀`
 module _ {T : Type 0} (v₀ : T) where
   abbrev pub Moves : Option View → (ℕ → ℕ) → (ℕ → View → Type 0) → Says T → Type 0
-  Moves view f = AreMoves (model v₀) seat_of words_of view (on_first f) first
+  Moves view f = AreMoves (model v₀) seat_of words_of view (by_first f)
 
   -- `Moves` for a step of a call
   abbrev pub MovesBy : Option View → (ℕ → ℕ) → Turn T → Type 0

@@ -23,7 +23,7 @@ use Rattle.spin_core.specs.Views.{Knows, HasPart, idle, holds, starves, holds_st
 use Rattle.spin_core.specs.declared.trace.Trace.{Trace}
 use Rattle.spin_core.proofs.CellCounts.{none}
 use Rattle.spin_core.proofs.CellViews.{stands_after}
-use Rattle.spin_core.proofs.Knowing.{Writes, one_holds}
+use Rattle.spin_core.proofs.Owners.{Writes, one_holds}
 use Rattle.spin_core.proofs.Leaving.{fair_word-up, no_word-up}
 use Rattle.spin_core.proofs.Mutexes as mutexes
 use Rattle.spin_core.proofs.Mutexes.{Mutex, as_new, out_moves, leaving}
@@ -31,6 +31,7 @@ use Rattle.spin_core.proofs.Owners.{OfHolders, one_holder}
 use Rattle.spin_core.proofs.Plays.{Lock as CellLock, ways, EachOf, Reaches, allows_among, by_step, stays_at}
 use Rattle.spin_core.proofs.Plays as plays
 use Rattle.spin_core.proofs.Ties as tie
+use Rattle.spin_core.specs.Run.{by_first}
 use Rattle.spin_core.proofs.Views.{part_before, part-there, release-own, stop-own, stop_holding-own}
 use Rattle.spin_model.specs.declared.answer.Answer.TheVariants.{Done}
 use Rattle.spin_model.specs.declared.schedule.Move.{Move}
@@ -396,7 +397,7 @@ module _ {T : Type 0} (opening : Opening T) where
       → Keeps view shown f says
   unfolding IsFair Told known_of
   keeps view shown f leads says frees leaves moves allows id n t vs meets at small =
-      let made = mutexes.keeps (mutex opening) view shown f leads says leaves moves allows id n t vs ((meets.0.0, meets.0.1.0, meets.0.2), meets.1) at small in
+      let made = mutexes.keeps (mutex opening) view shown (by_first f) leads says leaves moves allows id n t vs ((meets.0.0, meets.0.1.0, meets.0.2), meets.1) at small in
       let w : Numbered View = made.0 in let told : Told v₀ says view t.entries made.1 n w = made.3 in let kept = made.2.1 in
       let order = first_after id view vs w (length t.entries) (marks_within v₀ t.entries (n, t.word) vs meets.0.2) (omega (arith, told.3, length-append t.entries made.1))
       (λ got. nobody_starves n t.word vs meets.0.1.0 (frees told.0 told.1 n w.0 told.6 got)) meets.0.1.1 in
@@ -424,7 +425,7 @@ module _ {T : Type 0} (opening : Opening T) where
   pub looks : (view : Option (Numbered View)) (shown : Option T) → IsOut Idle (what view) → MayTurn view shown (λ n. n) looks_by
   looks view shown out = let now = what view in let to : ℕ → View → Type 0 = λ n v. v ≡ Idle in
       turns view shown (λ n. n) to looks_by (out_off now out) (frees_none looks_by (λ n. refl))
-      (out_moves (mutex opening) now out (λ n. n) to (says_of looks_by) (load_moves v₀))
+      (out_moves (mutex opening) now out (by_first (λ n. n)) to (says_of looks_by) (load_moves v₀))
       (stays_at fair now (λ n. Idle) (λ n. nothing now out) (λ s n. tt))
 
   -- The exchange of a newcomer's try. The premise about `Decides` is the lemma of the step function.
@@ -437,7 +438,7 @@ module _ {T : Type 0} (opening : Opening T) where
   attempts_by : (c : FairCall) → moves.Attempts v₀ c → Attempts c
   attempts_by c new view shown out taken one plain = let now = what view in let to : ℕ → View → Type 0 = λ n v. v ≡ (if n == 0 then Holding else Idle) in
       turns view shown (λ n. either (n == 0) taken n) to (tries_by c) (out_off now out) (frees_by_try false c _ Idle refl)
-      (rw one (out_moves (mutex opening) now out (λ n. either (n == 0) 1 n) to (says_of (tries_by c)) new))
+      (rw one (out_moves (mutex opening) now out (by_first (λ n. either (n == 0) 1 n)) to (says_of (tries_by c)) new))
       (attempts_plain now Idle (nothing now out) refl taken plain)
 
   pub attempts : Attempts TryLock
@@ -553,7 +554,7 @@ module _ {T : Type 0} (opening : Opening T) where
   unfolding Told
   frees v x held =
       let ready = ready_of v.0 held in let exact : Says T = leaves_by (λ y. y ≡ x) Release Done Idle in let to : ℕ → ℕ = λ n. (n + (2 ^ 64 - 1)) % 2 ^ 64 in
-      tie.tells_less (model v₀) seat_of words_of (Some v) exact frees_by (λ own outs n u (stays, (y, is, by)). (stays, (y, tt, by))) (IsFair opening) (fair_ways opening) (Some x) to
+      tie.tells_less (model v₀) seat_of words_of (Some v) exact frees_by (λ own outs n u (stays, (y, is, by)). (stays, (y, tt, by))) (IsFair opening) (fair_ways opening) (Some x) (by_first to)
       (keeps (Some v) (Some x) to (λ n v. (v ≡ Idle) × Takes 1 n) exact (λ own outs n u said got. never n u Idle said.0 refl got)
       (leaving (mutex opening) (Some v.0) (Some x) x Release Done held refl) ready.0 ready.1)
     where

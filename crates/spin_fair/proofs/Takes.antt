@@ -5,7 +5,7 @@ use mathlib.Core.Logic.{dite}
 use native.Mathlib.Decide.{ℕ_discrete}
 use Rattle.spin_step_more.specs.Starvers.{most_starvers, is_set, starve}
 use Rattle.spin_core.specs.Guard.{IsHolder, guard_key, guard_view, guard_value}
-use Rattle.spin_core.specs.Passes.{Course, Ending, IsCall, IsOut}
+use Rattle.spin_core.specs.Passes.{Course, Ending, Waits, Ends, IsCall, IsOut}
 use Rattle.spin_core.specs.Cell.{Moved, off, use_of}
 use Rattle.spin_core.specs.Own.{Numbered, what}
 use Rattle.spin_core.specs.Passes.{mark_of}
@@ -19,7 +19,7 @@ use Rattle.spin_core.specs.declared.trace.Watch.{Watch}
 use Rattle.spin_core.proofs.Passes as passes
 use Rattle.spin_core.proofs.Mutexes.{finds}
 use Rattle.spin_core.proofs.Spots as spots
-use Rattle.spin_core.proofs.Passes.{and_waits, and_ends, call_waits, call_ends}
+use Rattle.spin_core.proofs.Passes.{Joins, waits_on, waits_out, begun}
 use Rattle.spin_model.specs.declared.answer.Answer.{Answer}
 use Rattle.spin_model.specs.declared.schedule.Move.{Move}
 use Rattle.spin_model.specs.declared.schedule.Move.TheVariants.{Step}
@@ -28,7 +28,7 @@ use Rattle.spin_model.specs.declared.answer.Answer.TheVariants.{Granted}
 use Rattle.spin_step_more.specs.declared.fair.LockRejectReason.TheVariants.{Locked, Starved}
 use Rattle.spin_step_more.specs.declared.fair_calls.FairCall.{FairCall}
 use Rattle.spin_step_more.specs.declared.fair_calls.FairCall.TheVariants.{Lock, TryLockStarver, Starve, StarverTryLock, StarverLock}
-use Rattle.spin_fair.specs.Fair.{model, model_at, seat_of, words_of, use_of_view, use_of_party, Done, IsFair, fair_ways, known_of, Told, Turn, says_of, AreSteps, answered, in_call, call_of, Comes, Moves, refusal, answer_of, tries_by, alone_by, not_alone, missed_alone, looked, looks_of, patience, registered_end, no_room_end, loads, register_ends, registered_so, no_room_so, flag_set_end, flag_set_so, finds_no_room, finds_flag_set, Registers, awaits, awaited_by, MaySet, MayAwait}
+use Rattle.spin_fair.specs.Fair.{model_at, seat_of, words_of, use_of_view, use_of_party, Done, IsFair, fair_ways, known_of, Told, Turn, says_of, AreSteps, answered, in_call, call_of, Comes, Moves, refusal, answer_of, tries_by, alone_by, not_alone, missed_alone, looked, looks_of, patience, registered_end, no_room_end, loads, register_ends, registered_so, no_room_so, flag_set_end, flag_set_so, finds_no_room, finds_flag_set, Registers, awaits, awaited_by, MaySet, MayAwait}
 use Rattle.spin_fair.specs.Guards.{Holds}
 use Rattle.spin_fair.specs.Waits.{Spot, view_of, here, Turned, Goes, GoesOn, FindsNoRoom, Held, held_at, Gets}
 use Rattle.spin_fair.specs.declared.fair.account.Account.{Account}
@@ -122,22 +122,17 @@ made turn n was now o step end = (
 )
 
 -- moves of a call, followed by further moves of the same call, are moves of that call
-pub and_then : {T : Type 0} (v₀ : T) (goes_on : Bool) (c : FairCall) (o : Option (Answer T)) (u v w : Option (Numbered View)) (old seen new : List (Done T))
-    → Moves v₀ (Comes goes_on c None) u old v seen → Moves v₀ (Comes true c o) v seen w new → Moves v₀ (Comes goes_on c o) u old w new
-and_then v₀ true c None u v w old seen new = and_waits (model v₀) u v w old seen new
-and_then v₀ true c (Some a) u v w old seen new = and_ends (model v₀) u v w old seen new a
-and_then v₀ false c None u v w old seen new = call_waits (model v₀) u v w old seen new c
-and_then v₀ false c (Some a) u v w old seen new = call_ends (model v₀) u v w old seen new c a
+and_then : {T : Type 0} (goes_on : Bool) (c : FairCall) (o : Option (Answer T))
+    → Joins T FairCall (Answer T) (Comes goes_on c None) (Comes true c o) (Comes goes_on c o)
+and_then true c None = waits_on
+and_then true c (Some a) = waits_out a
+and_then false c None = begun c Waits Waits Waits waits_on
+and_then false c (Some a) = begun c Waits (Ends a) (Ends a) (waits_out a)
 
 module _ {T : Type 0} (p q : Spot T) where
   pub and_on : (goes_on : Bool) (c : FairCall) (o : Option (Answer T)) (r : Spot T) → Since model_at (Comes goes_on c None) p q
       → Since model_at (Comes true c o) q r → Since model_at (Comes goes_on c o) p r
-  and_on goes_on c o r one two = (
-    and_then p.0.value goes_on c o p.1 q.1 r.1 p.2.entries q.2.entries r.2.entries one.0
-        (subst (λ k. Moves k.value (Comes true c o) q.1 q.2.entries r.1 r.2.entries) one.2 two.0),
-    two.1 ∙ one.1,
-    two.2 ∙ one.2,
-  )
+  and_on goes_on c o r = spots.both model_at p q r (Comes goes_on c None) (Comes true c o) (Comes goes_on c o) (and_then goes_on c o)
 
   -- a course up to the spot `q` is a course up to the guard whose party is at `q`
   pub as_held : {P R S : Type 0} (course : Course T FairCall (Answer T)) (held : Held T P R S)

@@ -8,7 +8,6 @@ use Rattle.spin_step.proofs.Holders.{is_holder-from_entries}
 use Rattle.spin_core.specs.Cell.{off, alone, reads, writes, use_of, AllowsAt, Meets, Moved}
 use Rattle.spin_core.specs.Own.{Numbered, what}
 use Rattle.spin_core.specs.Passes.{Course, IsOut, IsStep, Ending, step_by, leaves_by, mark_of}
-use Rattle.spin_core.specs.Plays.{exchanges}
 use Rattle.spin_core.specs.Spots.{spot, Since, Stepped, IsIn, HasCalled}
 use Rattle.spin_core.specs.Traced.{Watches, Named, Found}
 use Rattle.spin_core.specs.Views.{idle, no_word}
@@ -16,6 +15,7 @@ use Rattle.spin_core.specs.declared.tie.Opening.{Opening}
 use Rattle.spin_core.specs.declared.trace.Trace.{Trace}
 use Rattle.spin_core.proofs.Leaving.{flag_word-up, no_word-up}
 use Rattle.spin_core.proofs.Mutexes as mutexes
+use Rattle.spin_core.specs.Run.{by_first}
 use Rattle.spin_core.proofs.Mutexes.{Mutex, as_new, is_named, finds}
 use Rattle.spin_core.proofs.Owners.{OfHolders, one_holder}
 use Rattle.spin_core.proofs.Plays.{Lock as CellLock, Holds, ways, allows, by_step, looks_at, exchanges_at}
@@ -77,18 +77,18 @@ abbrev swapped : ℕ → ℕ
 swapped n = either (n == 0) 1 n
 
 exchanges_flag : (view : Option View) (lost : View) → part_before part view ≡ idle → part lost ≡ idle
-    → AllowsAt (Holds flag) (ways flag) view None swapped (exchanges (λ _. Holding) lost 0 1 view)
+    → AllowsAt (Holds flag) (ways flag) view None swapped (λ n v. v ≡ (if n == 0 then Holding else lost))
 exchanges_flag view lost nothing still =
     exchanges_at flag view to_write Holding (λ n. lost) 0 1 nothing (λ n. still) (λ s p. refl) (λ s. tt) (λ s p order room e. flag_lock-grants s p false e)
 
 module _ {T : Type 0} (opening : Opening T) where
   abbrev Keeps : Option (Numbered View) → Option T → (ℕ → ℕ) → Says T → Type 0
-  Keeps = mutexes.Keeps (mutex opening)
+  Keeps view shown f = mutexes.Keeps (mutex opening) view shown (by_first f)
 
   -- The moves of each step: one step of the model, after the beginning of the call if the step begins one. The release also writes a value.
 
   abbrev MovesTo : Option View → (ℕ → ℕ) → (ℕ → View) → Says T → Type 0
-  MovesTo view f to = mutexes.Moves (mutex opening) view f (λ n v. v ≡ to n)
+  MovesTo view f to = mutexes.Moves (mutex opening) view (by_first f) (λ n v. v ≡ to n)
 
   load_moves : MovesTo None (λ n. n) (λ n. Idle) looks_by
   load_moves false value v is =
@@ -131,16 +131,16 @@ module _ {T : Type 0} (opening : Opening T) where
 
     pub looks : IsOut Idle (what view) → Keeps view shown (λ n. n) looks_by
     looks out =
-        mutexes.begins (mutex opening) view shown out (λ n. n) IsLocked _ _ load_moves (looks_at flag (what view) _ (nothing out) (λ n. refl))
+        mutexes.begins (mutex opening) view shown (by_first (λ n. n)) out IsLocked _ _ load_moves (looks_at flag (what view) _ (nothing out) (λ n. refl))
 
     pub tries : (waits : Bool) → MayTry waits (what view) → Keeps view shown swapped (tries_by waits (what view))
     tries false (inl out) = rw (as_new Idle has_begun refl (what view) out)
-        (mutexes.begins (mutex opening) view shown out swapped TryLock _ _ attempt_moves (exchanges_flag (what view) Idle (nothing out) refl))
+        (mutexes.begins (mutex opening) view shown (by_first swapped) out TryLock _ _ attempt_moves (exchanges_flag (what view) Idle (nothing out) refl))
     tries true (inl out) = rw (as_new Idle has_begun refl (what view) out)
-        (mutexes.begins (mutex opening) view shown out swapped Lock _ _ first_moves
+        (mutexes.begins (mutex opening) view shown (by_first swapped) out Lock _ _ first_moves
         (exchanges_flag (what view) Looking (nothing out) refl))
     tries true (inr is) = rw (ap has_begun is.1)
-        (mutexes.in_call (mutex opening) view shown (ap (use_of use_of_view) is.1) swapped true Lock _ _ (rw is.1 try_moves)
+        (mutexes.in_call (mutex opening) view shown (by_first swapped) (ap (use_of use_of_view) is.1) true Lock _ _ (rw is.1 try_moves)
         (exchanges_flag (what view) Looking (ap (part_before part) is.1) refl))
     tries false (inr is) = absurd (cc (is.0))
 
@@ -150,7 +150,7 @@ module _ {T : Type 0} (opening : Opening T) where
 
     pub looks_on : what view ≡ Some Looking → Keeps view shown (λ n. n) looked_by
     looks_on is =
-        mutexes.in_call (mutex opening) view shown (ap (use_of use_of_view) is) (λ n. n) true Lock _ _ (rw is look_moves)
+        mutexes.in_call (mutex opening) view shown (by_first (λ n. n)) (ap (use_of use_of_view) is) true Lock _ _ (rw is look_moves)
         (rw is (looks_at flag (Some Looking) (if_clear Trying Looking) refl (λ n. none_looked (n == 0)))) where
           none_looked : (free : Bool) → part (if free then Trying else Looking) ≡ idle
           none_looked true = refl
@@ -158,7 +158,7 @@ module _ {T : Type 0} (opening : Opening T) where
 
   pub releases_flag : (v : Numbered View) (x : T) → v.0 ≡ Holding → Keeps (Some v) (Some x) (λ _. 0) frees_by
   releases_flag v x held =
-      mutexes.releases (mutex opening) (Some v) (Some x) x Release Done (ap use_of_view held) refl (λ _. 0) (λ n u. u ≡ Idle)
+      mutexes.releases (mutex opening) (Some v) (Some x) (by_first (λ _. 0)) x Release Done (ap use_of_view held) refl (λ n u. u ≡ Idle)
       (rw held (release_moves x))
       (rw held (allows flag (Some Holding) (λ _. 0) (λ n u. u ≡ Idle) (λ s p room order has.
       let holds = is_holder-from_entries p writing s.holders (ap (λ e. e.holders) has.0) in (

@@ -1,5 +1,6 @@
--- The rule of a lock of one flag. The word of the lock is that of a plain lock whose holders are the parties that hold. The trace is a
--- schedule of the lock's model. The schedule leads to this word and to the views of all parties.
+-- The rule of a lock of one flag. The word of the lock is that of a plain lock whose holders are the parties with the
+-- view `Holding`. The trace is a schedule of the lock's model. The schedule leads to this word and to the views of all
+-- parties.
 use Rattle.std.specs.Prelude.{◌≡◌, ℕ, List, Bool, true, false, Option, Some, None, ◌==◌, if◌then◌else◌, ◌⊎◌}
 use Rattle.spin_step.specs.Plain.{writing, flag_word}
 use Rattle.spin_step.specs.Steps.{bit}
@@ -116,7 +117,7 @@ module _ {T : Type 0} where
   abbrev pub missed_end : Bool → Ending T
   missed_end waits = if waits then GoingOn else Answered Refused None
 
-  -- the exchange of a call of a party with this view, which is in the call or begins it
+  -- The exchange of a call. Its party has this view: it is in the call, or begins the call by this step.
   abbrev pub tries_by : Bool → Option View → Says T
   tries_by waits view = step_by (has_begun view) (call_of waits) (if_clear (Answered Granted None) (missed_end waits)) (if_clear Holding (missed waits))
 

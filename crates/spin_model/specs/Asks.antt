@@ -36,10 +36,6 @@ abbrev pub is_read : Hold → Bool
 is_read Read = true
 is_read _ = false
 
-abbrev pub is_upgradable : Hold → Bool
-is_upgradable Upgradable = true
-is_upgradable _ = false
-
 abbrev pub is_write : Hold → Bool
 is_write Write = true
 is_write _ = false

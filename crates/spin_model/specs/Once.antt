@@ -50,14 +50,11 @@ brings_of (InitFromRef v) = Some v
 brings_of _ = None
 
 abbrev pub act_of : {V : Type 0} → OnceCall V → OncePoint → Option Hold → OnceAct
-act_of (CallOnce v) l h = runs (ends (Some v) h) l h
-act_of (TryCallOnceOk v) l h = runs (ends (Some v) h) l h
-act_of {V = V} TryCallOnceErr l h = runs (ends {V = V} None h) l h
-act_of (InitFromRef v) l h = runs (ends (Some v) h) l h
 act_of Wait l h = load_if is_there (λ w. tells h) (λ w. Continue Look)
 act_of Poll l h = load_if is_there (λ w. tells h) (λ w. either (w == 0) (Answers NoValue h) (Continue Look))
 act_of Get l h = load_if is_there (λ w. tells h) (λ w. Answers NoValue h)
 act_of IsCompleted l h = load (λ w. Answers (Is (is_there w)) h)
+act_of c l h = runs (ends (brings_of c) h) l h
 
 abbrev pub asks_of : {V : Type 0} → OnceCall V → Asked
 asks_of (CallOnce v) = initializes

@@ -50,19 +50,14 @@ may_write _ = false
 
 -- a party with this seat leaves the value to the owner
 abbrev pub yields_to_owner : {C L : Type 0} → Seat C L → Bool
-yields_to_owner Idle = true
 yields_to_owner (Calling c l h) = false
 yields_to_owner (Holding h) = false
-yields_to_owner (Leaked h) = true
-yields_to_owner (Gone h) = true
+yields_to_owner _ = true
 
 -- the seat after the owner has used the value
 abbrev pub seen_by_owner : {C L : Type 0} → Seat C L → Seat C L
-seen_by_owner Idle = Idle
-seen_by_owner (Calling c l h) = Calling c l h
-seen_by_owner (Holding h) = Holding h
 seen_by_owner (Leaked h) = Gone h
-seen_by_owner (Gone h) = Gone h
+seen_by_owner seat = seat
 
 -- the seat of a party that is in no call
 abbrev pub resting : {C L : Type 0} → Option Hold → Seat C L

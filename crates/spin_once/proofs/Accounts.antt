@@ -1,6 +1,5 @@
 -- What a step tells a party that keeps a record of its calls, and how the party's steps add up to its calls.
-use Rattle.std.proofs.Common.{◌≡◌, ℕ, ◌+◌, Bool, true, false, Option, Some, None, List, [], ◌∷◌, ◌++◌, replicate, length, ◌≢◌, refl, sym, ap, ◌∙◌, subst}
-use Rattle.std.proofs.lemmas.List.{append_assoc}
+use Rattle.std.proofs.Common.{◌≡◌, ℕ, ◌+◌, Bool, true, false, Option, Some, None, List, [], ◌∷◌, ◌++◌, length, ◌≢◌, refl, sym, ap, ◌∙◌, subst}
 use Rattle.std.specs.Prelude.{Result, Ok, Err, IfErr}
 use mathlib.Core.Logic.{◌⊎◌, inl, inr}
 use Rattle.spin_core.specs.Cell.{Use, Moved, Keeps, Preserves, Rests, use_of, off, reads, writes}
@@ -164,12 +163,7 @@ module _ {T S : Type 0} (p q r : Place T S) where
   -- if a call waited, and its closure then fails, all these moves are the course `Fails`
   waits_fail : (own own' : List OneMove) (outs outs' : List Ending) → Waits own outs → Fails own' outs' → Fails (own ++ own') (outs ++ outs')
   waits_fail own own' outs outs' (i, is, are) (j, is', are') =
-      (i + j, after_steps Step own own' (Weak ∷ Step ∷ []) is is', after_steps GoingOn outs outs' (GoingOn ∷ Answered Failed None ∷ []) are are')
-    where
-      after_steps : {X : Type 0} (x : X) (xs ys end : List X) → xs ≡ replicate i x → ys ≡ replicate j x ++ end → xs ++ ys ≡ replicate (i + j) x ++ end
-      after_steps x xs ys end is is' =
-          ap (λ l. l ++ ys) is ∙ ap (λ l. replicate i x ++ l) is' ∙ sym (append_assoc (replicate i x) (replicate j x) end)
-          ∙ ap (λ l. l ++ end) (sym (passes.replicate-sum i j x))
+      (i + j, passes.after_steps Step i j own own' (Weak ∷ Step ∷ []) is is', passes.after_steps GoingOn i j outs outs' (GoingOn ∷ Answered Failed None ∷ []) are are')
 
   pub and_fails : Since p Waits q → Since q IsFailure r → Since p Fails r
   and_fails = both Waits IsFailure Fails (λ own own' outs outs' so end. waits_fail own own' outs outs' so (0, end.0, end.1))

@@ -11,6 +11,7 @@ use Rattle.spin_core.specs.declared.tie.Opening.{Opening}
 use Rattle.spin_core.specs.declared.trace.Trace.{Trace}
 use Rattle.spin_core.proofs.CellWays.{knowing_rest}
 use Rattle.spin_core.proofs.Ties as tie
+use Rattle.spin_core.specs.Run.{by_first}
 use Rattle.spin_model.specs.declared.once.OnceCall.{OnceCall}
 use Rattle.spin_model.specs.declared.once.OnceCall.TheVariants.{CallOnce, TryCallOnceOk}
 use Rattle.spin_model.specs.declared.once.OncePoint.TheVariants.{Look, TryBegin, Await, Run}
@@ -78,7 +79,7 @@ module _ {T S : Type 0} (makes : S → T → Type 0) (key : Key T S) where
       → Moves given (what view) f leads says → steps.Allowed makes key (what view) shown f leads
       → Traces (Runs (model given) seat_of words_of Word name) (steps.way makes key, use_of_party, no_fact) view shown f (Tells (model given) seat_of words_of says view)
   traces view shown f leads says moves allows =
-      tie.traces (model given) seat_of words_of Word name Content (steps.way makes key) use_of_view no_fact view shown f leads says moves (λ own outs n u said t word p. tt) allows
+      tie.traces (model given) seat_of words_of Word name Content (steps.way makes key) use_of_view no_fact view shown (by_first f) leads says moves (λ own outs n u said t word p. tt) allows
 
   -- the next step of the party's call, if this step writes nothing
   module _ (c : OnceCall (Unit {0})) (view : Option (Numbered View)) (shown : Option Content) where

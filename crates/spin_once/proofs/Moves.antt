@@ -2,7 +2,7 @@
 -- next step of a call under way. The model's table has each of these steps.
 use Rattle.std.proofs.Common.{◌≡◌, ◌≢◌, Bool, true, false, ℕ, ◌==◌, [], ◌∷◌, Option, Some, None, refl, sym, ap, subst, ◌∙◌, ne_eqb, eqb-true}
 use Rattle.std.specs.List.{list_all}
-use Rattle.spin_core.specs.Run.{AreMoves, is_played, on_first, first}
+use Rattle.spin_core.specs.Run.{AreMoves, is_played, by_first}
 use Rattle.spin_model.specs.declared.answer.Answer.{Answer}
 use Rattle.spin_model.specs.declared.answer.Answer.TheVariants.{Value, NoValue, Is, Failed}
 use Rattle.spin_model.specs.declared.once.OnceCall.{OnceCall}
@@ -83,7 +83,7 @@ leads c l n value (Answers a (Some h)) free = absurd free
 
 module _ (given : Option (Unit {0})) where
   abbrev pub Moves : Option View → (ℕ → ℕ) → (ℕ → View → Type 0) → Says → Type 0
-  Moves view f = AreMoves (model given) seat_of words_of view (on_first f) first
+  Moves view f = AreMoves (model given) seat_of words_of view (by_first f)
 
   module _ (c : Call) (f : ℕ → ℕ) (Q : ℕ → Type 0) where
     first_moves : ((n : ℕ) → (table c Look n).words ≡ f n) → ((n : ℕ) → IsFree (next_at c Look n)) → Moves None f (Turns c None Q) (finding Q (turn_by c None))

@@ -21,7 +21,7 @@ use Rattle.spin_model.specs.declared.schedule.Move.TheVariants.{Begin, Step, Wri
 use Rattle.spin_model.specs.declared.schedule.Outcome.TheVariants.{Begun, Answered, Written}
 use Rattle.spin_core.specs.Cell.{Use, off, reads, lends, writes, use_of, Meets, Allows, Rests}
 use Rattle.spin_core.specs.Own.{Numbered, what}
-use Rattle.spin_core.specs.Run.{AreMoves, on_first, first, is_of_call, is_played, outcomes, of_one, sits}
+use Rattle.spin_core.specs.Run.{AreMoves, by_first, is_of_call, is_played, outcomes, of_one, sits}
 use Rattle.spin_core.specs.Passes.{Writes}
 use Rattle.spin_core.specs.Traced.{Traces}
 use Rattle.spin_core.specs.Values.{left, Leaves, last}
@@ -359,13 +359,13 @@ module _ {T : Type 0} (opening : Opening T) where
   -- A step keeps the rule if the plain lock allows it and the model has moves for it. It tells the number found and these moves.
   keeps : (Q : T → Type 0) (view : Option (Numbered View)) (shown : Option T) (f : ℕ → ℕ) (so : ℕ → View → Type 0) (turn : ℕ → Turn T)
       → ((own : List (OneMove T)) (outs : List (Ending T)) (n : ℕ) (u : View) → says_with Q turn own outs n u → Leaves (use_of use_of_view (what view)) (use_of_view u) shown own × says_with (λ x. Unit {0}) turn own outs n u)
-      → AreMoves (model opening.value) seat_of words_of (what view) (on_first f) first so (says_with Q turn) → Allows Word (ways rw-lock)
+      → AreMoves (model opening.value) seat_of words_of (what view) (by_first f) so (says_with Q turn) → Allows Word (ways rw-lock)
       (what view) f so → Traces (IsRw opening) (rw_ways opening) view shown f (Told opening.value turn view)
   unfolding Told
   keeps Q view shown f so turn leaves moves allows id n t vs meets at small =
       let (w, es, going, told) = tie.tells_less (model opening.value) seat_of words_of view (says_with Q turn) (says_with (λ x. Unit {0}) turn)
-      (λ own outs n u said. (leaves own outs n u said).1) (IsRw opening) (rw_ways opening) shown f
-      (tie.traces (model opening.value) seat_of words_of Word opening.name T lends use_of_view (last opening) view shown f so (says_with Q turn) moves
+      (λ own outs n u said. (leaves own outs n u said).1) (IsRw opening) (rw_ways opening) shown (by_first f)
+      (tie.traces (model opening.value) seat_of words_of Word opening.name T lends use_of_view (last opening) view shown (by_first f) so (says_with Q turn) moves
       (λ own outs n u said t word p. owed opening own t word p (use_of use_of_view (what view)) (use_of_view u) shown (leaves own outs n u said).0) allows) id n t vs meets at small in
       (w, es, going, (is_word n t vs meets, told))
 
@@ -523,7 +523,7 @@ module _ {T : Type 0} (opening : Opening T) where
           (rw is moves) (rw is allows),
     )
       where
-        moves : AreMoves (model opening.value) seat_of words_of (Some v) (on_first f) first (To so (λ n. to)) (says_with (λ y. y ≡ x) (λ n. leaves_by c to))
+        moves : AreMoves (model opening.value) seat_of words_of (Some v) (by_first f) (To so (λ n. to)) (says_with (λ y. y ≡ x) (λ n. leaves_by c to))
         moves w value u at = let p = plays w value at.0 in
             rw (at.1, writes_sits v writes_then) (Write x ∷ Begin c ∷ Step ∷ [], Written ∷ Begun ∷ Answered Done None ∷ [], (refl, (x, refl, (Begin c ∷ Step ∷ [], Begun ∷ Answered Done None ∷ [], refl, refl, (refl, refl)))), refl, refl, f w, Some x, p.0, p.1, refl)
 

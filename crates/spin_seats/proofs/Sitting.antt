@@ -10,8 +10,7 @@ use Rattle.spin_step.specs.Orders.{IsInOrder}
 use Rattle.spin_step.proofs.Holders.{is_holder-from_entries, length-held}
 use Rattle.spin_core.specs.Cell.{Ways, Limits, lends, no_fact, reading as reads_of, writing as writes_of, readers_of, writers_of, Meets, Allows, Rests}
 use Rattle.spin_core.specs.Own.{Numbered, what}
-use Rattle.spin_core.specs.Plays.{becomes, becomes_by}
-use Rattle.spin_core.specs.Run.{AreMoves, on_first, first}
+use Rattle.spin_core.specs.Run.{AreMoves, by_first}
 use Rattle.spin_core.specs.Traced.{Traces}
 use Rattle.spin_core.specs.Views.{IsLockOf, idle, holds, entries_of, part_at, no_word}
 use Rattle.spin_core.specs.declared.trace.Trace.{Trace}
@@ -92,8 +91,12 @@ lock n = record {
 
 -- The moves of each step.
 
+-- the party gets a view that depends on the number found
+abbrev becomes_by : (ℕ → View) → ℕ → View → Type 0
+becomes_by to found v = v ≡ to found
+
 abbrev Moves : ℕ → Option View → (ℕ → ℕ) → (ℕ → View → Type 0) → Says → Type 0
-Moves n view f = AreMoves (model n) seat_of words_of view (on_first f) first
+Moves n view f = AreMoves (model n) seat_of words_of view (by_first f)
 
 count_moves : (n : ℕ) (view : Option View) → IsOut view → Moves n view (λ w. w) (λ w v. (v ≡ Idle) × (w ≤ seats n)) (counts_by n)
 count_moves n None out w value v is = rw is.0 (Begin call.Count ∷ Step ∷ [], Begun ∷ Answered (Count w) None ∷ [], ((refl, (refl, refl)), is.1), refl, refl, w, value, refl, refl, refl)
@@ -101,18 +104,19 @@ count_moves n (Some Idle) out w value v is = rw is.0 (Begin call.Count ∷ Step 
 count_moves n (Some _) out w value v is = absurd out
 
 -- a look goes on if it finds a free seat; if it finds none, `try_enter` fails and `enter` waits
-try_moves : (n : ℕ) (view : Option View) → IsOut view → Moves n view (λ w. w) (becomes_by (at_word n false) 0 0 view) (looks_by n false view)
+try_moves : (n : ℕ) (view : Option View) → IsOut view → Moves n view (λ w. w) (becomes_by (at_word n false)) (looks_by n false view)
 try_moves n None out w value v is = (Begin call.TryEnter ∷ Step ∷ [], Begun ∷ met n false w ∷ [], (is, (refl, refl)), refl, grind arith, w, value, grind (arith, is), grind arith, refl)
 try_moves n (Some Idle) out w value v is = (Begin call.TryEnter ∷ Step ∷ [], Begun ∷ met n false w ∷ [], (is, (refl, refl)), refl, grind arith, w, value, grind (arith, is), grind arith, refl)
 try_moves n (Some _) out w value v is = absurd out
 
-look_moves : (n : ℕ) (view : Option View) → MayLook view → Moves n view (λ w. w) (becomes_by (at_word n true) 0 0 view) (looks_by n true view)
+look_moves : (n : ℕ) (view : Option View) → MayLook view → Moves n view (λ w. w) (becomes_by (at_word n true)) (looks_by n true view)
 look_moves n None may w value v is = (Begin call.Enter ∷ Step ∷ [], Begun ∷ GoingOn ∷ [], (is, (refl, refl)), refl, refl, w, value, grind (arith, is), grind arith, refl)
 look_moves n (Some Idle) may w value v is = (Begin call.Enter ∷ Step ∷ [], Begun ∷ GoingOn ∷ [], (is, (refl, refl)), refl, refl, w, value, grind (arith, is), grind arith, refl)
 look_moves n (Some Waiting) may w value v is = (Step ∷ [], GoingOn ∷ [], (is, (refl, refl)), refl, refl, w, value, grind (arith, is), grind arith, refl)
 look_moves n (Some _) may w value v is = absurd may
 
-sit_moves : (n old new : ℕ) (waits : Bool) → Some new ≡ entered n old → Moves n (Some (Coming waits old)) (λ w. either (w == old) new w) (becomes_by (led_to n old waits) old new (Some (Coming waits old))) (takes_by n old waits)
+sit_moves : (n old new : ℕ) (waits : Bool) → Some new ≡ entered n old
+    → Moves n (Some (Coming waits old)) (λ w. either (w == old) new w) (becomes_by (led_to n old waits)) (takes_by n old waits)
 sit_moves n old new true free w value v is =
     let ends = (if w == old then Answered Granted None else met n true w) ∷ [] in (Step ∷ [], ends, (is, (refl, refl)), refl, grind (arith, free), either (w == old) new w, value, grind (arith, free, is), grind (arith, free), refl)
 sit_moves n old new false free w value v is =
@@ -157,19 +161,19 @@ may_look (Some Idle) may = refl
 may_look (Some Waiting) may = refl
 may_look (Some _) may = absurd may
 
-looks_at : (n : ℕ) (waits : Bool) (view : Option View) → part_before part view ≡ idle → Allows (IsWord n) ways view (λ w. w) (becomes_by (at_word n waits) 0 0 view)
-looks_at n waits view nothing = let says = becomes_by (at_word n waits) 0 0 view in
+looks_at : (n : ℕ) (waits : Bool) (view : Option View) → part_before part view ≡ idle → Allows (IsWord n) ways view (λ w. w) (becomes_by (at_word n waits))
+looks_at n waits view nothing = let says = becomes_by (at_word n waits) in
     within n view (λ w. w) says says (λ w few most. few) (λ w v few is. is)
     (plays.looks_at (lock n) view (at_word n waits) nothing (has_none n waits))
 
 counts_at : (n : ℕ) (view : Option View) → IsOut view → Allows (IsWord n) ways view (λ w. w) (λ w v. (v ≡ Idle) × (w ≤ seats n))
-counts_at n view out = within n view (λ w. w) (becomes Idle 0 0 view) (λ w v. (v ≡ Idle) × (w ≤ seats n)) (λ w few most. few) (λ w v few is. (is, few))
+counts_at n view out = within n view (λ w. w) (becomes_by (λ w. Idle)) (λ w v. (v ≡ Idle) × (w ≤ seats n)) (λ w few most. few) (λ w v few is. (is, few))
     (plays.looks_at (lock n) view (λ w. Idle) (out_has_none view out) (λ w. refl))
 
 -- if the step function grants a seat, its lemma says that the plain lock has one free
 sits_at : (n old new : ℕ) (waits : Bool) → ((s : Plain) (p : ℕ) → AllRead s → s.cap ≡ seats n → seats_word s ≡ old → Decides s (gets p to_read) seats_word (Some new)) → new ≤ seats n
-    → Allows (IsWord n) ways (Some (Coming waits old)) (λ w. either (w == old) new w) (becomes_by (led_to n old waits) old new (Some (Coming waits old)))
-sits_at n old new waits plain room = let view = Some (Coming waits old) in let says = becomes_by (led_to n old waits) old new view in
+    → Allows (IsWord n) ways (Some (Coming waits old)) (λ w. either (w == old) new w) (becomes_by (led_to n old waits))
+sits_at n old new waits plain room = let view = Some (Coming waits old) in let says = becomes_by (led_to n old waits) in
     within n view (λ w. either (w == old) new w) says says (λ w few most. either_fits (w == old) new w (seats n) room few) (λ w v few said. said)
     (gets_at (lock n) view to_read Seated (at_word n waits) old new (λ s p. refl) (λ s. tt) (λ w. sym (has_none n waits w)) (λ s w. rw (has_none n waits w) tt)
     (λ s p vs cap order is has small e. plain s p (all_read vs s is) cap e))
@@ -195,7 +199,7 @@ module _ (n name : ℕ) where
   Keeps view f says = Traces (IsSeats n name) own_ways view None f (Told n says view)
 
   abbrev traces : (view : Option (Numbered View)) (f : ℕ → ℕ) (th : ℕ → View → Type 0) (says : Says) → Moves n (what view) f th says → Allows (IsWord n) ways (what view) f th → Keeps view f says
-  traces view f th says moves step = tie.traces (model n) seat_of words_of (IsWord n) name (Unit {0}) lends use_of_view no_fact view None f th says moves (λ own outs n u said t word p. tt) step
+  traces view f th says moves step = tie.traces (model n) seat_of words_of (IsWord n) name (Unit {0}) lends use_of_view no_fact view None (by_first f) th says moves (λ own outs n u said t word p. tt) step
 
   pub opens : (t : Trace rule.Done (Unit {0})) → t.name ≡ name → t.entries ≡ [] → Meets (IsSeats n name) own_ways 0 t []
   opens t named empty = tie.opens (model n) seat_of words_of (IsWord n) name (Unit {0}) lends use_of_view no_fact 0 t named empty refl (starts n)
@@ -205,10 +209,12 @@ module _ (n name : ℕ) where
       traces view (λ w. w) th (counts_by n) (count_moves n (what view) out) (counts_at n (what view) out)
 
   pub tries : (view : Option (Numbered View)) → IsOut (what view) → Keeps view (λ w. w) (looks_by n false (what view))
-  tries view out = let th = becomes_by (at_word n false) 0 0 (what view) in traces view (λ w. w) th (looks_by n false (what view)) (try_moves n (what view) out) (looks_at n false (what view) (out_has_none (what view) out))
+  tries view out = let th = becomes_by (at_word n false) in
+      traces view (λ w. w) th (looks_by n false (what view)) (try_moves n (what view) out) (looks_at n false (what view) (out_has_none (what view) out))
 
   pub looks : (view : Option (Numbered View)) → MayLook (what view) → Keeps view (λ w. w) (looks_by n true (what view))
-  looks view may = let th = becomes_by (at_word n true) 0 0 (what view) in traces view (λ w. w) th (looks_by n true (what view)) (look_moves n (what view) may) (looks_at n true (what view) (may_look (what view) may))
+  looks view may = let th = becomes_by (at_word n true) in
+      traces view (λ w. w) th (looks_by n true (what view)) (look_moves n (what view) may) (looks_at n true (what view) (may_look (what view) may))
 
   -- if the step function gives a next word, the call has found a word with a free seat
   pub is_coming : (old new : ℕ) (waits : Bool) (view : Option View) → Some new ≡ entered n old → view ≡ Some (at_word n waits old) → view ≡ Some (Coming waits old)
@@ -217,7 +223,7 @@ module _ (n name : ℕ) where
   sits_from : (old new : ℕ) (waits : Bool) → ((s : Plain) (p : ℕ) → AllRead s → s.cap ≡ seats n → seats_word s ≡ old → Decides s (gets p to_read) seats_word (Some new)) → Some new ≡ entered n old → new ≤ seats n
       → (view : Option (Numbered View)) → what view ≡ Some (Coming waits old) → Keeps view (λ w. either (w == old) new w) (sits_by n old (what view))
   sits_from old new waits plain free room view is =
-      traces view (λ w. either (w == old) new w) (becomes_by (led_to n old waits) old new (Some (Coming waits old))) (sits_by n old (what view)) (rw is (sit_moves n old new waits free)) (rw is (sits_at n old new waits plain room))
+      traces view (λ w. either (w == old) new w) (becomes_by (led_to n old waits)) (sits_by n old (what view)) (rw is (sit_moves n old new waits free)) (rw is (sits_at n old new waits plain room))
 
   pub sits_down : (old new : ℕ) (waits : Bool) → ((s : Plain) (p : ℕ) → AllRead s → s.cap ≡ seats n → seats_word s ≡ old → Decides s (gets p to_read) seats_word (Some new)) → Some new ≡ entered n old → new ≤ seats n
       → (view : Option (Numbered View)) → what view ≡ Some (at_word n waits old) → Keeps view (λ w. either (w == old) new w) (sits_by n old (what view))

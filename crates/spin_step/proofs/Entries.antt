@@ -1,5 +1,5 @@
 -- A party's step changes the party's entries as if it were alone, and changes nobody else's.
-use Rattle.std.proofs.Common.{◌≡◌, ℕ, ◌==◌, Bool, true, false, cond, Option, Some, None, List, [], ◌∷◌, ◌++◌, filter, arith, refl, sym, ◌∙◌, subst}
+use Rattle.std.proofs.Common.{◌≡◌, ℕ, ◌==◌, Bool, true, false, cond, Option, Some, None, List, [], ◌∷◌, ◌++◌, filter, arith, refl, sym, ◌∙◌, subst, eq-eqb, ne_eqb}
 use Rattle.std.specs.Prelude.{◌&&◌, if◌then◌else◌}
 use Rattle.std.proofs.lemmas.List.{append-nil}
 use Rattle.std.proofs.lemmas.List.Elements.{filter-append}
@@ -13,20 +13,22 @@ filter-more test xs x = grind (arith, filter-append test xs (x ∷ []), append-n
 
 -- Nobody else's entries change.
 
+abbrev of : ℕ → List Holder → List Holder
+of q hs = filter (λ h. h.party == q) hs
+
 -- q has the same holders in two lists that differ by one holder of p
-others-less : (p q : ℕ) (b : Bool) (h : Holder) (hs rest : List Holder) → (p ≡ q → ⊥) → filter (λ i. i.party == q) rest ≡ filter (λ i. i.party == q) hs → filter (λ i. i.party == q) (if (h.party == p) && b then hs else h ∷ rest) ≡ filter (λ i. i.party == q) (h ∷ hs)
-others-less p q b h hs rest ne e = grind arith
+others-less : (p q : ℕ) (b : Bool) (h : Holder) (hs less rest : List Holder) → (p ≡ q → ⊥) → of q less ≡ of q hs
+    → of q rest ≡ of q hs → of q (if (h.party == p) && b then less else h ∷ rest) ≡ of q (h ∷ hs)
+others-less p q b h hs less rest ne e f = grind arith
 
-others-turned : (p q : ℕ) (b : Bool) (l : Kind) (h : Holder) (hs rest : List Holder) → (p ≡ q → ⊥) → filter (λ i. i.party == q) rest ≡ filter (λ i. i.party == q) hs → filter (λ i. i.party == q) (if (h.party == p) && b then holder p l ∷ hs else h ∷ rest) ≡ filter (λ i. i.party == q) (h ∷ hs)
-others-turned p q b l h hs rest ne e = grind arith
-
-others-without_holder : (p q : ℕ) (k : Kind) (hs : List Holder) → (p ≡ q → ⊥) → filter (λ h. h.party == q) (without_holder p k hs) ≡ filter (λ h. h.party == q) hs
+others-without_holder : (p q : ℕ) (k : Kind) (hs : List Holder) → (p ≡ q → ⊥) → of q (without_holder p k hs) ≡ of q hs
 others-without_holder p q k [] ne = refl
-others-without_holder p q k (h ∷ hs) ne = others-less p q (same_kind k h.kind) h hs (without_holder p k hs) ne (others-without_holder p q k hs ne)
+others-without_holder p q k (h ∷ hs) ne = others-less p q (same_kind k h.kind) h hs hs (without_holder p k hs) ne refl (others-without_holder p q k hs ne)
 
-others-with_kind : (p q : ℕ) (k l : Kind) (hs : List Holder) → (p ≡ q → ⊥) → filter (λ h. h.party == q) (with_kind p k l hs) ≡ filter (λ h. h.party == q) hs
+others-with_kind : (p q : ℕ) (k l : Kind) (hs : List Holder) → (p ≡ q → ⊥) → of q (with_kind p k l hs) ≡ of q hs
 others-with_kind p q k l [] ne = refl
-others-with_kind p q k l (h ∷ hs) ne = others-turned p q (same_kind k h.kind) l h hs (with_kind p k l hs) ne (others-with_kind p q k l hs ne)
+others-with_kind p q k l (h ∷ hs) ne =
+    others-less p q (same_kind k h.kind) h hs (holder p l ∷ hs) (with_kind p k l hs) ne (rw (ne_eqb p q ne)) (others-with_kind p q k l hs ne)
 
 others-without_starver : (p q : ℕ) (rs : List ℕ) → (p ≡ q → ⊥) → filter (λ r. r == q) (without_starver p rs) ≡ filter (λ r. r == q) rs
 others-without_starver p q [] ne = refl
@@ -50,24 +52,23 @@ cond-ap : (f : List Holder → List Holder) (a : Bool) (xs ys : List Holder) →
 cond-ap f true xs ys = refl
 cond-ap f false xs ys = refl
 
-own-less : (p : ℕ) (b : Bool) (h : Holder) (hs rest own : List Holder) → filter (λ i. i.party == p) rest ≡ own → filter (λ i. i.party == p) (if (h.party == p) && b then hs else h ∷ rest) ≡ cond (h.party == p) (if (h.party == p) && b then filter (λ i. i.party == p) hs else h ∷ own) own
-own-less p b h hs rest own e = grind arith
+own-less : (p : ℕ) (b : Bool) (h : Holder) (less rest new own : List Holder) → of p less ≡ new → of p rest ≡ own
+    → of p (if (h.party == p) && b then less else h ∷ rest) ≡ cond (h.party == p) (if (h.party == p) && b then new else h ∷ own) own
+own-less p b h less rest new own e f = grind arith
 
-own-turned : (p : ℕ) (b : Bool) (l : Kind) (h : Holder) (hs rest own : List Holder) → filter (λ i. i.party == p) rest ≡ own → filter (λ i. i.party == p) (if (h.party == p) && b then holder p l ∷ hs else h ∷ rest) ≡ cond (h.party == p) (if (h.party == p) && b then holder p l ∷ filter (λ i. i.party == p) hs else h ∷ own) own
-own-turned p b l h hs rest own e = grind arith
-
-own-without_holder : (p : ℕ) (k : Kind) (hs : List Holder) → filter (λ h. h.party == p) (without_holder p k hs) ≡ without_holder p k (filter (λ h. h.party == p) hs)
+own-without_holder : (p : ℕ) (k : Kind) (hs : List Holder) → of p (without_holder p k hs) ≡ without_holder p k (of p hs)
 own-without_holder p k [] = refl
 own-without_holder p k (h ∷ hs) =
-    let own = filter (λ i. i.party == p) hs in
-    own-less p (same_kind k h.kind) h hs (without_holder p k hs) (without_holder p k own) (own-without_holder p k hs)
+    let own = of p hs in
+    own-less p (same_kind k h.kind) h hs (without_holder p k hs) own (without_holder p k own) refl (own-without_holder p k hs)
     ∙ cond-ap (without_holder p k) (h.party == p) (h ∷ own) own
 
-own-with_kind : (p : ℕ) (k l : Kind) (hs : List Holder) → filter (λ h. h.party == p) (with_kind p k l hs) ≡ with_kind p k l (filter (λ h. h.party == p) hs)
+own-with_kind : (p : ℕ) (k l : Kind) (hs : List Holder) → of p (with_kind p k l hs) ≡ with_kind p k l (of p hs)
 own-with_kind p k l [] = refl
 own-with_kind p k l (h ∷ hs) =
-    let own = filter (λ i. i.party == p) hs in
-    own-turned p (same_kind k h.kind) l h hs (with_kind p k l hs) (with_kind p k l own) (own-with_kind p k l hs)
+    let own = of p hs in
+    own-less p (same_kind k h.kind) h (holder p l ∷ hs) (with_kind p k l hs) (holder p l ∷ own) (with_kind p k l own)
+    (rw (eq-eqb p p refl)) (own-with_kind p k l hs)
     ∙ cond-ap (with_kind p k l) (h.party == p) (h ∷ own) own
 
 own-without_starver : (p : ℕ) (rs : List ℕ) → filter (λ r. r == p) (without_starver p rs) ≡ without_starver p (filter (λ r. r == p) rs)

@@ -4,7 +4,7 @@ use Rattle.std.specs.Option.{option_map}
 use Rattle.spin_step.specs.Plain.{Plain, Kind, gets, releases, to_write, flag_word}
 use Rattle.spin_step.specs.Flags.{lock}
 use Rattle.spin_step.specs.Steps.{bit, Decides, Gives}
-use Rattle.spin_step.proofs.Holders.{length-without_holder, is_empty-none, is_empty-some}
+use Rattle.spin_step.proofs.Holders.{length-without_holder, is_empty-none}
 
 pub flag_lock-grants : (s : Plain) (p : ℕ) (w : Bool) → flag_word s ≡ bit w → Decides s (gets p to_write) flag_word (option_map bit (lock w))
 flag_lock-grants s p w e = grind (arith, length-append)

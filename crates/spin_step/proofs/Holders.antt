@@ -1,6 +1,6 @@
 -- Lists of holders, where a holder is added, changed or removed.
 use Rattle.std.proofs.lemmas.List.Sums.{length-filter, count_by-le-length}
-use Rattle.std.proofs.Common.{ap, filter, ◌≤◌, ◌≡◌, ℕ, ◌+◌, true, false, List, [], ◌∷◌, length, ◌==◌, arith, refl}
+use Rattle.std.proofs.Common.{ap, filter, ◌≤◌, ◌≡◌, ℕ, ◌+◌, true, List, [], ◌∷◌, length, ◌==◌, arith, refl}
 use Rattle.spin_step.specs.Plain.{Kind, Holder, holder, same_kind, is_holder, is_empty, without_holder}
 
 pub length-without_holder : (p : ℕ) (k : Kind) (hs : List Holder) → is_holder p k hs ≡ true → length hs ≡ length (without_holder p k hs) + 1
@@ -21,9 +21,6 @@ length-held p k hs e = omega (arith, ap length e, length-filter (λ (h : Holder)
 -- a list of length 0 is empty
 pub is_empty-none : {X : Type 0} (xs : List X) → 0 ≡ length xs → is_empty xs ≡ true
 is_empty-none xs e = grind arith
-
-pub is_empty-some : {X : Type 0} (xs : List X) → 1 ≤ length xs → is_empty xs ≡ false
-is_empty-some xs e = grind arith
 
 -- whether a party holds in this way depends only on its own holds
 pub is_holder-own : (p : ℕ) (k : Kind) (hs : List Holder) → is_holder p k hs ≡ is_holder p k (filter (λ h. h.party == p) hs)

@@ -53,18 +53,16 @@ numbered-entered k ts numbers = grind arith
 length-entered : (ts : List Ticket) → length (with_first_entered ts) ≡ length ts
 length-entered ts = grind arith
 
--- after a party takes the next ticket the numbers are still consecutive
-numbered-taken : (s : Plain) (p : ℕ) (b : Bool) → Numbered s → Numbered (record s { tickets = s.tickets ++ ticket p s.next b ∷ []; next = s.next + 1 })
-numbered-taken s p b numbered =
-    let more = length-append s.tickets (ticket p s.next b ∷ []) in
-    let same : serving_word s ≡ (s.next + 1) - length (s.tickets ++ ticket p s.next b ∷ []) = omega (arith, more, numbered.0) in (
-      omega (arith, more, numbered.0),
-      subst (λ k. numbered_from k (s.tickets ++ ticket p s.next b ∷ [])) same (numbered-more (serving_word s) s.tickets p s.next b numbered.1 (omega (arith, numbered.0))),
-    )
-
 -- taking a ticket does not change the served number
 pub serving-taken : (s : Plain) (p : ℕ) (b : Bool) → Numbered s → (s.next + 1) - length (s.tickets ++ ticket p s.next b ∷ []) ≡ serving_word s
 serving-taken s p b numbered = omega (arith, length-append s.tickets (ticket p s.next b ∷ []), numbered.0)
+
+-- a party that takes the next number stands at the end of the queue
+numbered-taken : (s : Plain) (p : ℕ) (b : Bool) → Numbered s → Numbered (record s { tickets = s.tickets ++ ticket p s.next b ∷ []; next = s.next + 1 })
+numbered-taken s p b numbered = (
+  omega (arith, length-append s.tickets (ticket p s.next b ∷ []), numbered.0),
+  rw (serving-taken s p b numbered) (numbered-more (serving_word s) s.tickets p s.next b numbered.1 (omega (arith, numbered.0))),
+)
 
 pub serving-entered : (s : Plain) → s.next - length (with_first_entered s.tickets) ≡ serving_word s
 serving-entered s = ap (λ n. s.next - n) (length-entered s.tickets)

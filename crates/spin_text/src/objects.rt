@@ -185,7 +185,7 @@ impl Spelled for BarrierObject {
     }
 }
 
-/// Returns the call `try_call_once` that the words after its name spell.
+/// Reads the words that follow the name `try_call_once` in a line, and returns the call that they spell.
 #[tactic(auto, unfolding(crate::specs::Reading::read_try_call_once))]
 fn try_call_once(line: Rest) -> Option<OnceCall<u64>>
     ensures { result ≡ read_try_call_once (words_left line.entry) }

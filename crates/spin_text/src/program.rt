@@ -43,8 +43,8 @@ pub fn texts<'a, A: Allocator>(
     Ok(texts)
 }
 
-/// Writes a line so that it ends with the buffer. The line has the words, and the number after them if there
-/// is one.
+/// Writes a line into the last bytes of the buffer, and returns where it begins. The line has the words, and the
+/// number after them if there is one.
 fn put_line(words: &[u8], number: Option<u64>, buffer: &mut [u8]) -> usize
     requires short { length words.now + 21 ≤ LONGEST_LINE }
     requires room { length buffer.old ≡ LONGEST_LINE }
@@ -64,8 +64,8 @@ fn put_line(words: &[u8], number: Option<u64>, buffer: &mut [u8]) -> usize
 /// If this write fails too, the program's status is the same.
 ///
 /// # Contract
-/// The caller gives words of at most 139 bytes, and a sink that has not failed. If no write fails, the line
-/// follows the bytes written before, if these are known. Otherwise only a beginning of the line does
+/// The caller gives words of at most 139 bytes, and a sink that has not failed. Suppose that the bytes written
+/// before are known. Then the line follows them. If a write fails, only a beginning of the line does
 /// (`Told`).
 ///
 /// # Examples

@@ -119,5 +119,5 @@ pub released_behind : {T : Type 0} (x : T) (p q r : Spot T) → Since model Noth
 released_behind {T} x p q r none so =
     let at : Releases x (p.0, q.1, q.2) r = subst (λ (k : Key T). Releases x (k, q.1, q.2) r) none.2 so in
     let course : Course T TicketCall (Answer T) = WritesSome (λ y. p.0.0.told ≡ true → y ≡ x) (IsCall Release Done) in
-    let made = passes.after_nothing (model p.0) p.1 q.1 r.1 p.2.entries q.2.entries r.2.entries course none.0 at.0.0 in
+    let made = passes.made_both (model p.0) p.1 q.1 r.1 p.2.entries q.2.entries r.2.entries Nothing course course (passes.nothing_then course) none.0 at.0.0 in
     ((made, at.0.1 ∙ none.1, at.0.2), at.1)

@@ -22,6 +22,7 @@ use Rattle.spin_core.proofs.Owners.{OfTickets, one_ticket}
 use Rattle.spin_core.proofs.Plays as plays
 use Rattle.spin_core.proofs.Plays.{Lock as CellLock, ways, Reaches, allows, allows_second, by_step, by_grant, by_none, by_exchange, allows_among}
 use Rattle.spin_core.proofs.Ties as tie
+use Rattle.spin_core.specs.Run.{by_first, by_second}
 use Rattle.spin_core.specs.Values.{Leaves}
 use Rattle.spin_model.specs.declared.answer.Answer.TheVariants.{Done}
 use Rattle.spin_model.specs.declared.schedule.Move.TheVariants.{Begin, Step, Write}
@@ -94,10 +95,10 @@ mutex key = record { plain = queue; model = model key; seat_of = seat_of; words_
 
 module _ {T : Type 0} (key : Key T) where
   abbrev Moves : Option View → (ℕ → ℕ) → (ℕ → View → Type 0) → Says T → Type 0
-  Moves = mutexes.Moves (mutex key)
+  Moves view f = mutexes.Moves (mutex key) view (by_first f)
 
   abbrev MovesSecond : Option View → (ℕ → ℕ) → (ℕ → View → Type 0) → Says T → Type 0
-  MovesSecond = mutexes.MovesSecond (mutex key)
+  MovesSecond view f = mutexes.Moves (mutex key) view (by_second f)
 
   load_moves : Moves None (λ n. n) (Comes going) (step_by false Lock goes_on going)
   load_moves w value v is = rw is (Begin Lock ∷ Step ∷ [], Begun ∷ GoingOn ∷ [], (refl, (refl, refl)), refl, refl, w, value, grind arith, grind arith, refl)
@@ -150,10 +151,10 @@ frees_if n s p false is = by_none queue (Some (LoadedNext n)) Idle s p refl tt
 
 module _ {T : Type 0} (key : Key T) where
   abbrev Keeps : Option (Numbered View) → Option T → (ℕ → ℕ) → Says T → Type 0
-  Keeps = mutexes.Keeps (mutex key)
+  Keeps view shown f = mutexes.Keeps (mutex key) view shown (by_first f)
 
   abbrev KeepsSecond : Option (Numbered View) → Option T → (ℕ → ℕ) → Says T → Type 0
-  KeepsSecond = mutexes.KeepsSecond (mutex key)
+  KeepsSecond view shown f = mutexes.Keeps (mutex key) view shown (by_second f)
 
   nothing : (view : Option View) → IsOut Idle view → (p : ℕ) → entries_of p (part_before part view) ≡ entries_of p idle
   nothing view out p = ap (entries_of p) (as_new Idle (part_before part) refl view out)
@@ -169,7 +170,7 @@ module _ {T : Type 0} (key : Key T) where
   loads view shown out =
       let v : Option View = what view in
       let none : (p : ℕ) → entries_of p (part_before part v) ≡ entries_of p idle = nothing v out in
-      mutexes.begins (mutex key) view shown out (λ n. n) Lock goes_on going (load_moves key)
+      mutexes.begins (mutex key) view shown (by_first (λ n. n)) out Lock goes_on going (load_moves key)
       (allows queue v (λ n. n) (Comes going) (λ s p room order has.
       (going s.next, goes_if v s p (by_none queue v (Going s.next) s p (none p) tt) (by_none queue v Coming s p (none p) tt) (is_left s.next), refl)))
 
@@ -178,7 +179,7 @@ module _ {T : Type 0} (key : Key T) where
   takes view shown next after at exact =
       let from : Option View = Some (Going next) in let (left, more) = left_of next after exact in
       let is : what view ≡ from = at ∙ ap Some (goes_for next left) in let f : ℕ → ℕ = λ n. either (n == next) after n in
-      mutexes.in_call (mutex key) view shown (ap (use_of use_of_view) is) f true Lock goes_on (taken next) (rw (is, more) (take_moves key next left))
+      mutexes.in_call (mutex key) view shown (by_first f) (ap (use_of use_of_view) is) true Lock goes_on (taken next) (rw (is, more) (take_moves key next left))
       (rw is (allows_among queue from f (Comes (taken next)) (λ s p vs room order among has small.
       by_exchange queue from (Waiting next) (going s.next) s p s.next (serving_word s) next after
       (λ e. let grants = subst (λ o. Decides s (gets p to_take_ticket) next_word o) (sym exact) (ticket_take-grants s p next e) in
@@ -191,7 +192,7 @@ module _ {T : Type 0} (key : Key T) where
       → KeepsSecond view shown (λ k. k) (awaits_by (what view))
   awaits view shown number is =
       subst (λ k. KeepsSecond view shown (λ m. m) (step_by true Lock (answers_turn k) (entered k))) (sym (ap number_of is))
-      (mutexes.in_call_second (mutex key) view shown (ap (use_of use_of_view) is) (λ k. k) true Lock (answers_turn number) (entered number)
+      (mutexes.in_call (mutex key) view shown (by_second (λ k. k)) (ap (use_of use_of_view) is) true Lock (answers_turn number) (entered number)
       (rw is (await_moves key number))
       (rw is (allows_second queue (Some (Waiting number)) (λ k. k) (Comes (entered number)) (λ s p room order has.
       let turn = enters_in_turn s p (serving_word s) number order.numbered refl (ap (λ e. e.tickets) has.0) in
@@ -203,7 +204,7 @@ module _ {T : Type 0} (key : Key T) where
       → Keeps view shown (λ n. n) (step_by false TryLock goes_on LoadedNext)
   tries view shown out =
       let v : Option View = what view in
-      mutexes.begins (mutex key) view shown out (λ n. n) TryLock goes_on LoadedNext (try_moves key)
+      mutexes.begins (mutex key) view shown (by_first (λ n. n)) out TryLock goes_on LoadedNext (try_moves key)
       (allows queue v (λ n. n) (Comes LoadedNext) (λ s p room order has.
       (LoadedNext s.next, by_none queue v (LoadedNext s.next) s p (nothing v out p) tt, refl)))
 
@@ -211,7 +212,7 @@ module _ {T : Type 0} (key : Key T) where
       → KeepsSecond view shown (λ k. k) (tries_by (what view))
   tries_on view shown next is =
       subst (λ k. KeepsSecond view shown (λ m. m) (step_by true TryLock (answers_free k) (freed k))) (sym (ap number_of is))
-      (mutexes.in_call_second (mutex key) view shown (ap (use_of use_of_view) is) (λ k. k) true TryLock (answers_free next) (freed next)
+      (mutexes.in_call (mutex key) view shown (by_second (λ k. k)) (ap (use_of use_of_view) is) true TryLock (answers_free next) (freed next)
       (rw is (try_look_moves key next))
       (rw is (allows_second queue (Some (LoadedNext next)) (λ k. k) (Comes (freed next)) (λ s p room order has.
       (freed next (serving_word s), frees_if next s p (is_free next (serving_word s)) refl, refl)))))
@@ -221,9 +222,9 @@ module _ {T : Type 0} (key : Key T) where
       → Keeps view shown (λ n. either (n == next) after n) (step_by true TryLock (answers_attempt next) (attempted next))
   attempts view shown next after is exact =
       let from : Option View = Some (Trying next) in let (left, more) = left_of next after exact in let f : ℕ → ℕ = λ n. either (n == next) after n in
-      mutexes.in_call (mutex key) view shown (ap (use_of use_of_view) is) f true TryLock (answers_attempt next) (attempted next)
+      mutexes.in_call (mutex key) view shown (by_first f) (ap (use_of use_of_view) is) true TryLock (answers_attempt next) (attempted next)
       (rw (is, more) (try_take_moves key next left))
-      (rw is (plays.exchanged queue from Entered Idle next after (λ s p. (refl, tt)) (λ s p vs room order among has small e.
+      (rw is (plays.exchanged queue from (Entered next) (λ n. Idle) next after (λ s p n. (refl, tt)) (λ s p vs room order among has small e.
       let alone = ticket_take-grants_alone s p next order.numbered.0 e (omega (arith, has.1, e, order.numbered.0)) in
       let grants = subst (λ o. Decides s (gets p to_take_and_enter) next_word o) (sym exact) alone in
       by_grant queue from (Entered next) s p to_take_and_enter after (serving_word s) grants (ap (λ n. entries_of p (queues n true)) e) tt
@@ -235,7 +236,7 @@ module _ {T : Type 0} (key : Key T) where
       → KeepsSecond view shown (λ k. k) (step_by false IsLocked goes_on LoadedServing)
   looks view shown out =
       let v : Option View = what view in
-      mutexes.begins_second (mutex key) view shown out (λ k. k) IsLocked goes_on LoadedServing (look_moves key)
+      mutexes.begins (mutex key) view shown (by_second (λ k. k)) out IsLocked goes_on LoadedServing (look_moves key)
       (allows_second queue v (λ k. k) (Comes LoadedServing) (λ s p room order has.
       let k = serving_word s in (LoadedServing k, by_none queue v (LoadedServing k) s p (nothing v out p) (omega arith), refl)))
 
@@ -244,7 +245,7 @@ module _ {T : Type 0} (key : Key T) where
   compares view shown served is =
       let unused = ap (use_of use_of_view) is in
       subst (λ k. Keeps view shown (λ m. m) (compares_with k)) (sym (ap number_of is))
-      (mutexes.keeps (mutex key) view shown (λ n. n) (Compares served) (compares_with served)
+      (mutexes.keeps (mutex key) view shown (by_first (λ n. n)) (Compares served) (compares_with served)
       (λ own outs n u said. steps (mutex key) (what view) shown unused true IsLocked (answers_look served) gone own outs n u said.1)
       (rw is (look_next_moves key served))
       (rw is (allows queue (Some (LoadedServing served)) (λ n. n) (Compares served) (λ s p room order has.
@@ -255,7 +256,7 @@ module _ {T : Type 0} (key : Key T) where
   pub finds_own : (view : Option (Numbered View)) (shown : Option T) (number : ℕ) → what view ≡ Some (Entered number) → KeepsSecond view shown (λ k. k) (finds_by (what view))
   finds_own view shown number is =
       subst (λ k. KeepsSecond view shown (λ m. m) (finds k)) (sym (ap number_of is))
-      (mutexes.keeps_second (mutex key) view shown (λ k. k) (Finds number) (finds number)
+      (mutexes.keeps (mutex key) view shown (by_second (λ k. k)) (Finds number) (finds number)
       (λ own outs n u said. subst (λ (z : Use × Use). Leaves z.0 z.1 shown own)
       (λ i. (sym (ap (use_of use_of_view) is) i, sym (ap use_of_view said.0.2) i)) tt) (rw is (find_moves key number))
       (rw is (allows_second queue (Some (Entered number)) (λ k. k) (Finds number) (λ s p room order has.
@@ -267,7 +268,7 @@ module _ {T : Type 0} (key : Key T) where
       → shown ≡ Some x → next ≡ served number → KeepsSecond view shown (λ _. next) serves_by
   serves_next view shown x number next is here more =
       let from : Option View = Some (Entered number) in
-      mutexes.releases_second (mutex key) view shown x Release Done (ap (use_of use_of_view) is) here (λ _. next) (Comes gone)
+      mutexes.releases (mutex key) view shown (by_second (λ _. next)) x Release Done (ap (use_of use_of_view) is) here (Comes gone)
       (rw (is, more) (serve_moves key x number))
       (rw is (allows_second queue from (λ _. next) (Comes gone) (λ s p room order has.
       let first = entered_is_served s p number order.numbered order.exclusive.one_entered (ap (λ e. e.tickets) has.0) in

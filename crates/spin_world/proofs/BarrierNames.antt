@@ -12,6 +12,6 @@ pub use Rattle.spin_world.specs.declared.barrier.BarrierPoint.{BarrierPoint}
 pub use Rattle.spin_world.specs.declared.barrier.BarrierPoint.TheVariants.{Arrive, Leave}
 pub use Rattle.spin_world_core.specs.Runs.{Seen, scene, step_at, opening, own, mark_of}
 pub use Rattle.spin_world_core.specs.Undisturbed.{arrived}
-pub use Rattle.spin_world_core.specs.Users.{seen_after, passes, steps_made}
+pub use Rattle.spin_world_core.specs.Users.{seen_at, seen_after, passes, steps_made}
 pub use Rattle.spin_world.specs.BarrierTable.{BarrierMachine, leads, barrier_machine, barrier_table}
-pub use Rattle.spin_world.specs.Groups.{is_arrival, Entries, seen_at, arrivals, InGroups, FollowersLeave}
+pub use Rattle.spin_world.specs.Groups.{is_arrival, Entries, arrivals, InGroups, FollowersLeave}

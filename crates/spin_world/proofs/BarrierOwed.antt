@@ -1,5 +1,5 @@
 -- What has to be shown of the barrier's table.
-use Rattle.spin_world.proofs.BarrierNames.{◌≡◌, ℕ, ◌+◌, ◌≤◌, ◌==◌, false, ◌&&◌, is_some, Option, Some, None, List, ◌∷◌, refl, sym, subst, arith, inr, Plain, Change, arrives, count_word, generation_word, IsBarrier, is_leading, generation_at, barrier_arrive-words, barrier_count-below, barrier_may_leave-full, Hold, BarrierWords, BarrierPoint, Arrive, Leave, arrived, mark_of, passes, is_arrival, barrier_table, barrier_machine, []}
+use Rattle.spin_world.proofs.BarrierNames.{◌≡◌, ℕ, ◌+◌, ◌≤◌, ◌==◌, false, ◌&&◌, is_some, Option, Some, None, List, ◌∷◌, refl, arith, Plain, Change, arrives, count_word, generation_word, IsBarrier, is_leading, generation_at, barrier_arrive-words, barrier_count-below, barrier_may_leave-full, Hold, BarrierWords, BarrierPoint, Arrive, Leave, arrived, mark_of, passes, is_arrival, barrier_table, barrier_machine, []}
 use Rattle.std.proofs.Math.Bool.{and-false}
 use Rattle.spin_step.specs.Parties.{apply_some}
 use Rattle.spin_model.specs.StepKinds.{StepKind, look}
@@ -64,12 +64,7 @@ one_more s step belongs = grind arith
 waits-on : (g p q : ℕ) (s : Plain) (step : Option Change) (r : StepKind) (span : List Mark) → ((q == p) && is_some step) ≡ false → BelongsTo barrier step → Waits g p s span → Waits g p (apply_some s step) (mark_of q step r s ∷ span)
 waits-on g p q s step r span none belongs waits =
     let same : arrived p (mark_of q step r s ∷ span) ≡ arrived p span = grind arith in
-    record {
-      come = grind (arith, waits);
-      found = grind (arith, waits);
-      follows = grind (arith, waits);
-      made = inr (subst (λ k. AnyOf (λ m. Arrives p k m × (is_leading m.before k ≡ false)) span) (sym same) waits.made);
-    }
+    grind (arith, waits, same, (rw (← same) at waits.made))
 
 module _ (n : ℕ) where
   pub is_barrier : (s : Plain) (w : BarrierWords) → w.count ∷ w.generation ∷ [] ≡ count_word s ∷ generation_word s ∷ [] → IsOf n s → IsBarrier s n w.count w.generation
@@ -77,14 +72,11 @@ module _ (n : ℕ) where
 
   owes : OwesAll (barrier_notes n)
   owes p c Arrive h s w span =
-      let below = barrier_count-below s n w.count w.generation in
-      let after = barrier_arrive-words s n w.count w.generation in
-      grind (arith, is_barrier s w, below, after, eqb_self p)
+      grind (arith, is_barrier s w, barrier_count-below s n w.count w.generation, barrier_arrive-words s n w.count w.generation, eqb_self p)
   owes p c (Leave g) None s w span = λ at.
       let full = barrier_may_leave-full s (arrived p span) n w.count w.generation g (is_barrier s w at.encodes at.shape) in
       let waits = waits-on g p p s None look span (and-false (p == p)) tt at.knows.1 in
-      let right = follows_right p (arrived p span) (mark_of p None look s ∷ span) span at.knows.1.made in
-      grind (arith, full, at.knows.1, waits, right)
+      grind (arith, full, at.knows.1, waits, follows_right p (arrived p span) (mark_of p None look s ∷ span) span at.knows.1.made)
   owes p c (Leave g) (Some h) s w span = tt
 
   soon : SoonAll (barrier_notes n)
@@ -93,17 +85,12 @@ module _ (n : ℕ) where
   pub barrier_pays : Pays (barrier_notes n)
   barrier_pays =
       record {
-        fits = λ p c l h. grind arith;
+        computes = grind arith;
         operates = grind arith;
-        first = grind arith;
         shape_first = record { no_holders = refl; group = refl };
-        numbers_tell = λ u w e. grind arith;
         one_list = λ s of. no_holders s of.no_holders;
         calls = λ c h. (0, grind arith);
-        own = λ c h said p. grind arith;
-        sound = λ p c l h. grind arith;
-        aims = λ p c l h. grind arith;
-        begins = λ p c h s. grind arith;
+        begins = grind arith;
         others = λ p q c l h s step r span ne of may belongs knows.
             let on = λ (g : ℕ). waits-on g p q s step r span (grind arith) belongs in grind (arith, on);
         owes = owes;

@@ -1,4 +1,5 @@
 -- Proofs of what users of a `Once` may rely on when a closure begins, also after another closure has failed.
+use Rattle.spin_world_core.specs.Users.{IsCalling}
 use Rattle.spin_world.proofs.OnceNames.{◌≡◌, ℕ, true, Option, Some, ◌∷◌, ◌++◌, slice_get, refl, arith, ap, ◌∙◌, ◌⊎◌, Hold, Calling, Step, to_begin, gets, Seen, step_at, happens, at_first, OnceCall, OncePoint, Look, TryBegin, Await, Run, asks_of, OnceMachine, once_machine, Entries, once_after, RunsClosure, seen_at, has_just_looked, has_closure, MayRunAgain, LooksFirst, after-append, Invariant, in_call, []}
 use Rattle.spin_model.specs.declared.place.Seat.{Seat}
 use Rattle.spin_model.proofs.Lists.{get-set_same}
@@ -24,22 +25,22 @@ module _ {V : Type 0} (value : Option V) where
       grind (arith, zero, at, not, get-set_same s.seats p (Calling c (next_point l) h) (Calling c l h) at)
 
   module _ (n : ℕ) (past : Entries V) (p : ℕ) (c : OnceCall V) (h : Option Hold) (zero : (once_after m n past).words ≡ 0) (closure : has_closure (asks_of c) ≡ true) where
-    by_exchange : slice_get (once_after m n past).seats p ≡ Some (Calling c TryBegin h) → RunsClosure m n (past ++ (p, Step) ∷ []) p
+    by_exchange : IsCalling m n past p c TryBegin h → RunsClosure m n (past ++ (p, Step) ∷ []) p
     by_exchange at =
-        let goes = goes_next (once_after m n past) p c TryBegin h zero at closure (λ e. cc (e)) in
         run_here value n (past ++ (p, Step) ∷ []) p c Run h
-        (ap (λ (s : OnceState V). slice_get s.seats p) (after-append m (at_first m n) past ((p, Step) ∷ [])) ∙ goes.0) refl
+        (rw (after-append m (at_first m n) past ((p, Step) ∷ [])) (goes_next (once_after m n past) p c TryBegin h zero at closure (λ e. cc (e))).0) refl
 
-    by_look : (l : OncePoint) → slice_get (once_after m n past).seats p ≡ Some (Calling c l h) → next_point l ≡ TryBegin → (l ≡ Run → ⊥) → RunsClosure m n (past ++ (p, Step) ∷ (p, Step) ∷ []) p
+    by_look : (l : OncePoint) → IsCalling m n past p c l h → next_point l ≡ TryBegin → (l ≡ Run → ⊥) → RunsClosure m n (past ++ (p, Step) ∷ (p, Step) ∷ []) p
     by_look l at leads not =
         let now = once_after m n past in
         let one = goes_next now p c l h zero at closure not in
         let there = one.0 ∙ ap (λ l. Some (Calling c l h)) leads in
         let two = goes_next (happens m now p Step).next p c TryBegin h (one.1 leads) there closure (λ e. cc (e)) in
         run_here value n (past ++ (p, Step) ∷ (p, Step) ∷ []) p c Run h
-        (ap (λ (s : OnceState V). slice_get s.seats p) (after-append m (at_first m n) past ((p, Step) ∷ (p, Step) ∷ [])) ∙ two.0) refl
+        (rw (after-append m (at_first m n) past ((p, Step) ∷ (p, Step) ∷ [])) two.0) refl
 
-    runs_soon : (l : OncePoint) → slice_get (once_after m n past).seats p ≡ Some (Calling c l h) → RunsClosure m n (past ++ (p, Step) ∷ []) p ⊎ RunsClosure m n (past ++ (p, Step) ∷ (p, Step) ∷ []) p
+    runs_soon : (l : OncePoint) → IsCalling m n past p c l h
+        → RunsClosure m n (past ++ (p, Step) ∷ []) p ⊎ RunsClosure m n (past ++ (p, Step) ∷ (p, Step) ∷ []) p
     runs_soon l at = grind (arith, by_exchange, by_look l at, not_at_run value n past p c l h at 0 refl)
 
   pub a_later_closure_may_run : (n : ℕ) (past : Entries V) → MayRunAgain m n past

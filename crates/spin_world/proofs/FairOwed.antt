@@ -1,9 +1,10 @@
 -- What has to be shown of the fair lock's table.
-use Rattle.spin_world.proofs.FairNames.{◌≡◌, ℕ, ◌<◌, ◌+◌, ◌-◌, ◌%◌, ◌==◌, true, false, ◌&&◌, nat_lt, Option, Some, None, List, ◌∷◌, refl, ap, arith, and_parts, eqb-true, Plain, writing, to_lock_unregistered, to_lock_starving, to_lock_starving_alone, to_starve, Change, gets, releases, stops_starving, is_empty, is_starver, fair_word, apply_some, Entries, entries, is_held, empty_is, is_holder-from_entries, length-without_starver, is_set, lock, starve, lock_fair, fair_lock-grants, fair_starve-grants, fair_lock_fair-grants, fair_lock_starved-grants, fair_unstarve-gives, fair_unlock-gives, Hold, Write, Starver, FairCall, Lock, TryLock, TryLockStarver, IsLocked, Starve, StarverTryLockFair, StarverTryLock, StarverLock, StarverDrop, Release, FairPoint, First, Attempt, Look, Load, Register, SetFlag, Await, Unregister, StepKind, plain, again, weak, Mark, granted, fair, mark_of, own_count, changes, RegistersInTime, tried, fair_table, fair_machine, holds, starves, holds_and_starves, entries_at, Row, Point, nowhere, looked, onward, Notes, Means, OwesAll, SoonAll, Pays, no_queue, []}
+use Rattle.spin_world.proofs.FairNames.{◌≡◌, ℕ, ◌<◌, ◌+◌, ◌-◌, ◌%◌, true, ◌&&◌, nat_lt, Option, Some, None, List, ◌∷◌, refl, ap, arith, and_parts, eqb-true, Plain, writing, to_lock_unregistered, to_lock_starving, to_lock_starving_alone, to_starve, Change, gets, releases, stops_starving, is_empty, is_starver, fair_word, apply_some, Entries, entries, is_held, empty_is, is_holder-from_entries, length-without_starver, is_set, lock, starve, lock_fair, fair_lock-grants, fair_starve-grants, fair_lock_fair-grants, fair_lock_starved-grants, fair_unstarve-gives, fair_unlock-gives, Hold, Write, Starver, FairCall, Lock, TryLock, TryLockStarver, IsLocked, Starve, StarverTryLockFair, StarverTryLock, StarverLock, StarverDrop, Release, FairPoint, First, Attempt, Look, Load, Register, SetFlag, Await, Unregister, StepKind, plain, again, weak, Mark, granted, fair, mark_of, own_count, changes, RegistersInTime, tried, fair_table, fair_machine, holds, starves, holds_and_starves, entries_at, Row, Point, nowhere, looked, onward, Notes, Means, OwesAll, SoonAll, Pays, no_queue, []}
 use Rattle.spin_model.specs.Operations.{sets_lowest_bit}
+use Rattle.spin_world_core.proofs.Lists.{eqb_self}
 use Rattle.spin_world_core.proofs.Steps.{Plays}
 use Rattle.spin_world_core.proofs.Filled.{plays_of}
-use Rattle.spin_world.proofs.Registering.{MayBeBlind, blind-other, blind_after_step, blind_after_free, blind_after_late, allowed, none_left, few_to_load, few_to_register, Looking, Loading, Registering, none_yet, starving-other, looking-other, loading-other, registering-other, goes_on, missed, looked_free, looked_held, looked_late, loaded, retried, full, registered, looked_starving}
+use Rattle.spin_world.proofs.Registering.{MayBeBlind, blind-other, allowed, none_left, few_to_load, few_to_register, Looking, Loading, Registering, none_yet, starving-other, looking-other, loading-other, registering-other, goes_on, missed, looked_free, looked_held, looked_late, loaded, retried, full, registered, looked_starving}
 use Rattle.spin_world.proofs.FairKnowledge.{IsFair, comes, goes_away, is_starving, is_starving_still, set_by_holder, flag_clear, word_starved, not_there}
 
 -- the row of a starver that waits for the lock, after these plain steps
@@ -15,13 +16,11 @@ abbrev pub leaving_row : ℕ → (ℕ → List Change) → Row
 leaving_row spent made = record { stand = holds_and_starves writing; made = made; rest = λ p. stops_starving p ∷ []; said = granted; spent = spent }
 
 abbrev pub point_of : FairCall → FairPoint → Option Hold → Point
-point_of Lock (Attempt n) None = looked 0
-point_of Lock (Look n) None = looked 0
-point_of Lock Load None = looked 0
-point_of Lock (Register n) None = looked 0
+point_of Lock First h = nowhere
 point_of Lock SetFlag None = onward (starving_row (λ p. gets p to_starve ∷ []))
 point_of Lock Await None = onward (starving_row (λ p. gets p to_starve ∷ []))
 point_of Lock Unregister None = onward (leaving_row 0 (λ p. gets p to_starve ∷ gets p to_lock_starving ∷ []))
+point_of Lock l None = looked 0
 point_of TryLock First None = looked 0
 point_of TryLockStarver First None = looked 0
 point_of IsLocked First None = looked 0
@@ -95,61 +94,50 @@ module _ {V : Type 0} (v : V) (cap patience : ℕ) where
   abbrev InTime : ℕ → List Mark → Type 0
   InTime p span = RegistersInTime (λ recent. own_count p recent < 2 + changes fair p recent) p patience span
 
-  nothing_left : (p : ℕ) (span : List Mark) → RegistersInTime none_left p patience span → InTime p span
-  nothing_left p span old = grind arith
+  module _ (p : ℕ) (span : List Mark) where
+    nothing_left : RegistersInTime none_left p patience span → InTime p span
+    nothing_left old = grind arith
 
-  loads_in_time : (p : ℕ) (span : List Mark) → Loading patience p span → InTime p span
-  loads_in_time p span old = grind arith
+    loads_in_time : Loading patience p span → InTime p span
+    loads_in_time old = grind arith
 
-  registers_in_time : (w p : ℕ) (s : Plain) (span : List Mark) → Registering patience w p s span → InTime p span
-  registers_in_time w p s span old = grind arith
+    registers_in_time : (w : ℕ) (s : Plain) → Registering patience w p s span → InTime p span
+    registers_in_time w s old = grind arith
 
   owes : OwesAll (fair_notes v cap patience)
-  owes p Lock (Attempt n) None s w span = λ at.
-      let won = goes_on patience p s span (Some (gets p to_lock_unregistered)) plain refl (λ is. cc (is)) refl at.knows.1.0.in_time in
-      let lost = missed patience p s span n plain refl at.knows.1.1 at.knows.1.0 in
-      let refused = missed patience p s span n weak refl at.knows.1.1 at.knows.1.0 in
-      grind (arith, lock_means p s w, won, lost, refused, nothing_left p)
-  owes p Lock (Look n) None s w span = λ at.
-      let held_on = looked_held patience p s span n in
-      let late = looked_late patience p s span n in
-      let free = looked_free patience p s span n in (
-        (λ set. grind (arith, held p s w, set, at.knows.1, held_on, late, nothing_left p, loads_in_time p, blind_after_late patience p s span)),
-        (λ clear. grind (arith, held p s w, clear, at.knows.1, free, nothing_left p, blind_after_free patience p s span)),
-      )
-  owes p Lock Load None s w span = λ at.
-      let next = loaded patience p s span w (cc (at.encodes)) at.knows.1.1 at.knows.1.0 in
-      let looks = full patience p s span (few_to_load p) plain refl (allowed patience p s span None plain at.knows.1.1) in
-      grind (arith, starve_means p s w, at.knows.1, next, registers_in_time w p s, looks, nothing_left p)
+  owes p Lock (Attempt n) None s w span =
+      let won = goes_on patience p s span (Some (gets p to_lock_unregistered)) plain refl refl in
+      grind (arith, lock_means p s w, won, missed patience p s span n plain refl, missed patience p s span n weak refl, nothing_left p)
+  owes p Lock (Look n) None s w span = λ at. (
+    grind (arith, held p s w, looked_held patience p s span n, looked_late patience p s span n, nothing_left p, loads_in_time p, eqb_self p),
+    grind (arith, held p s w, looked_free patience p s span n, nothing_left p, eqb_self p),
+  )
+  owes p Lock Load None s w span =
+      let looks = full patience p s span (few_to_load p) plain refl in
+      let goes = allowed patience p s span None plain in
+      grind (arith, starve_means p s w, loaded patience p s span w, λ (ms : List Mark). registers_in_time p ms w s, looks, goes, nothing_left p)
   owes p Lock (Register n) None s w span = λ at.
-      let won = registered patience p s span n at.knows.1 in
-      let next = λ (other : (w == n) ≡ false). retried patience p s span n w (cc (at.encodes)) other at.knows.1 in
       let looks = full patience p s span (few_to_register p s n) again refl refl in (
         starve_means p s w (cc (at.encodes)) at.shape,
-        (λ is. grind (arith, won, nothing_left p, blind_after_step patience p (gets p to_starve) again s span)),
-        (λ found. grind (arith, found, next, registers_in_time w p s)),
-        (λ closed. grind (arith, closed, at.knows.1, looks, nothing_left p)),
+        grind (arith, registered patience p s span n, nothing_left p, eqb_self p),
+        grind (arith, retried patience p s span n w (cc (at.encodes)), λ (ms : List Mark). registers_in_time p ms w s),
+        grind (arith, looks, nothing_left p),
       )
-  owes p Lock SetFlag None s w span = λ at.
-      let won = goes_on patience p s span (Some (gets p to_lock_starving)) plain refl (λ is. cc (is)) refl at.knows.1.0 in
-      let lost = goes_on patience p s span None plain refl (λ is. cc (is)) (allowed patience p s span None plain at.knows.1.1) at.knows.1.0 in
-      grind (arith, lock_starved_means p s w, won, lost, nothing_left p)
-  owes p Lock Await None s w span = λ at.
-      let next = looked_starving patience p s span at.knows.0.made at.knows.1 in
-      grind (arith, held p s w, next, nothing_left p, blind_after_free patience p s span)
-  owes p Lock Unregister None s w span = λ at.
-      let next = goes_on patience p s span (Some (stops_starving p)) plain refl (λ is. cc (is)) refl at.knows.1 in
-      grind (arith, unstarve_means p s w, is_starving_still p s, next)
+  owes p Lock SetFlag None s w span =
+      let won = goes_on patience p s span (Some (gets p to_lock_starving)) plain refl refl in
+      grind (arith, lock_starved_means p s w, won, goes_on patience p s span None plain refl, nothing_left p)
+  owes p Lock Await None s w span =
+      grind (arith, held p s w, looked_starving patience p s span, nothing_left p, eqb_self p)
+  owes p Lock Unregister None s w span =
+      grind (arith, unstarve_means p s w, is_starving_still p s, goes_on patience p s span (Some (stops_starving p)) plain refl refl)
   owes p Lock _ _ s w span = tt
   owes p TryLock l h s w span = grind (arith, lock_means p s w)
   owes p TryLockStarver l h s w span = grind (arith, lock_means p s w, eqb-true w 1, word_starved w s)
   owes p IsLocked l h s w span = grind (arith, held p s w)
   owes p Starve l h s w span = grind (arith, starve_means p s w)
-  owes p StarverTryLockFair l h s w span = grind (arith, lock_fair_means p s w, unstarve_means p s w, is_starving_still p s)
-  owes p StarverTryLock l h s w span = grind (arith, lock_starved_means p s w, unstarve_means p s w, is_starving_still p s)
-  owes p StarverLock l h s w span = grind (arith, lock_starved_means p s w, held p s w, unstarve_means p s w, is_starving_still p s)
-  owes p StarverDrop l h s w span = grind (arith, unstarve_means p s w, is_starving p s)
   owes p Release l h s w span = grind (arith, unlock_means p s w)
+  owes p _ l h s w span =
+      grind (arith, lock_fair_means p s w, lock_starved_means p s w, held p s w, unstarve_means p s w, is_starving p s, is_starving_still p s)
 
   -- If nobody disturbs the call, its exchange acquires a free lock, at once or after a look. A party that has begun to
   -- register then registers, gets the lock, and stops starving.
@@ -169,16 +157,11 @@ module _ {V : Type 0} (v : V) (cap patience : ℕ) where
   pub fair_pays : Pays (fair_notes v cap patience)
   fair_pays =
       record {
-        fits = λ p c l h. grind arith;
+        computes = grind arith;
         operates = grind arith;
-        first = refl;
         shape_first = record { one = omega arith; queue = refl; room = refl };
-        numbers_tell = λ u w e. cc (e);
         one_list = λ s shape. no_queue s shape.queue;
         calls = λ c h. (patience, grind arith);
-        own = λ c h said p. grind arith;
-        sound = λ p c l h. grind arith;
-        aims = λ p c l h. grind arith;
         begins = λ p c h s. grind (arith, none_yet {p = p} {n = patience});
         others = λ p q c l h s step r span ne shape may belongs knows. others p q c l s step r span ne knows;
         owes = owes;

@@ -1,5 +1,5 @@
 -- Proofs of what users of a fair lock may rely on, from what each event keeps.
-use Rattle.spin_world.proofs.FairNames.{◌≡◌, ℕ, true, false, Option, List, ◌∷◌, arith, Plain, Kind, writing, Holder, Change, is_holder, is_starver, is_only_starver, without_holder, fair_word, apply_some, IsOpenStep, empty_is, is_empty-none, BelongsTo, fair, IsFree, []}
+use Rattle.spin_world.proofs.FairNames.{◌≡◌, ℕ, true, false, Option, List, ◌∷◌, arith, Plain, Kind, writing, Holder, Change, is_holder, is_starver, without_holder, fair_word, apply_some, IsOpenStep, empty_is, is_empty-none, BelongsTo, fair, IsFree, []}
 
 pub free_when_zero : (w : ℕ) (s : Plain) → w ∷ [] ≡ fair_word s ∷ [] → w ≡ 0 → IsFree s
 free_when_zero w s encodes zero =
@@ -8,9 +8,6 @@ free_when_zero w s encodes zero =
 pub zero_when_free : (w : ℕ) (s : Plain) → w ∷ [] ≡ fair_word s ∷ [] → IsFree s → w ≡ 0
 zero_when_free w s encodes free = grind (arith, encodes, free)
 
-is_one_of : (p : ℕ) (qs : List ℕ) → is_only_starver p qs ≡ true → is_starver p qs ≡ true
-is_one_of p qs only = grind arith
-
 -- a party that holds after another party's release held before this release
 held_before : (p q : ℕ) (k : Kind) (hs : List Holder) → is_holder p writing (without_holder q k hs) ≡ true → is_holder p writing hs ≡ true
 held_before p q k [] held = held
@@ -18,4 +15,4 @@ held_before p q k (h ∷ hs) held = grind (arith, held_before p q k hs)
 
 pub comes_after_starvers : (s : Plain) (p : ℕ) (step : Option Change) → IsOpenStep s p step → BelongsTo fair step → is_holder p writing s.holders ≡ false → is_starver p s.starvers ≡ false → is_holder p writing (apply_some s step).holders ≡ true → s.starvers ≡ []
 comes_after_starvers s p step may belongs idle newcomer holds =
-    grind (arith, empty_is s.starvers, is_one_of, λ (q : ℕ) (k : Kind). held_before p q k s.holders)
+    grind (arith, empty_is s.starvers, λ (q : ℕ) (k : Kind). held_before p q k s.holders)

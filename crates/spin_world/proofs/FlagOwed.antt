@@ -28,18 +28,13 @@ module _ {V : Type 0} (v : V) where
   pub flag_pays : Pays (flag_notes v)
   flag_pays =
       record {
-        fits = λ p c l h. grind arith;
+        computes = grind arith;
+        operates = grind arith;
         -- an exchange that fails finds the flag set, and leaves it set
-        operates = λ c l h w one. grind arith;
-        first = refl;
         shape_first = refl;
-        numbers_tell = λ v w e. grind arith;
         one_list = no_queue;
         calls = λ c h. (0, grind arith);
-        own = λ c h said p. grind arith;
-        sound = λ p c l h. grind arith;
-        aims = λ p c l h. grind arith;
-        begins = λ p c h s. grind arith;
+        begins = grind arith;
         others = λ p q c l h s step r span ne shape may belongs knows. tt;
         owes = owes;
         soon = soon;

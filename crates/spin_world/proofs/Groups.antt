@@ -1,17 +1,18 @@
 -- Proofs of what users of a barrier may rely on.
-use Rattle.spin_world.proofs.BarrierNames.{◌≡◌, ℕ, ◌+◌, ◌%◌, ◌==◌, ◌↔◌, true, Option, Some, None, ◌∷◌, slice_get, ap, sym, ◌∙◌, arith, max, arrives, may_leave, barrier_arrive-words, barrier_may_leave-tells, Leader, Follower, Hold, BarrierWords, BarrierCall, BarrierPoint, Seen, scene, step_at, opening, own, arrived, seen_after, passes, steps_made, BarrierMachine, leads, barrier_machine, is_arrival, Entries, seen_at, arrivals, InGroups, FollowersLeave, []}
+use Rattle.spin_world_core.proofs.Every.{outcome-seen_at}
+use Rattle.spin_world_core.specs.Runs.{state_at}
+use Rattle.spin_world_core.proofs.Every.{state-seen_at}
+use Rattle.spin_world.proofs.BarrierNames.{◌≡◌, ℕ, ◌+◌, ◌%◌, ◌==◌, ◌↔◌, true, Option, Some, None, ◌∷◌, slice_get, ap, arith, max, arrives, may_leave, barrier_arrive-words, barrier_may_leave-tells, Leader, Follower, Hold, BarrierWords, BarrierCall, BarrierPoint, Seen, scene, step_at, opening, own, arrived, seen_after, passes, steps_made, BarrierMachine, leads, barrier_machine, is_arrival, Entries, seen_at, arrivals, InGroups, FollowersLeave, []}
 use Rattle.spin_model.specs.declared.place.Seat.{Seat}
 use Rattle.spin_model.specs.declared.place.Seat.TheVariants.{Calling}
 use Rattle.spin_model.specs.declared.schedule.Move.TheVariants.{Step}
 use Rattle.spin_model.specs.declared.schedule.Outcome.TheVariants.{Answered}
-use Rattle.spin_model.specs.Schedules.{State, happens, moves_at, after, at_first}
+use Rattle.spin_model.specs.Schedules.{State, happens, moves_at}
 use Rattle.spin_world_core.proofs.Steps.{Plays}
+use Rattle.spin_world_core.proofs.Reached.{good}
 use Rattle.spin_world_core.proofs.Preserved.{Invariant, in_call}
-use Rattle.spin_world_core.proofs.Every.{kept, good_first, good_after, state-seen_after}
+use Rattle.spin_world_core.proofs.Every.{kept, good_first}
 use Rattle.spin_world.proofs.BarrierOwed.{barrier_notes, barrier_facts, is_barrier, one_more}
-
-abbrev BarrierState : Type 0
-BarrierState = State BarrierWords ℕ BarrierCall BarrierPoint
 
 module _ (n : ℕ) where
   abbrev m : BarrierMachine
@@ -20,44 +21,38 @@ module _ (n : ℕ) where
   abbrev f : Plays m (barrier_notes n)
   f = barrier_facts n
 
-  abbrev Good : Seen BarrierWords ℕ BarrierCall BarrierPoint → Type 0
-  Good seen = Invariant f seen
-
-  good_at : (parties : ℕ) (past : Entries) → Good (seen_at m parties past)
-  good_at parties past = good_after f (opening m parties) past (good_first f parties)
-
-  counted : (seen : Seen BarrierWords ℕ BarrierCall BarrierPoint) (es : Entries) → Good seen → (seen_after m seen es).plain.arrivals ≡ seen.plain.arrivals + steps_made is_arrival m seen es
+  counted : (seen : Seen BarrierWords ℕ BarrierCall BarrierPoint) (es : Entries) → Invariant f seen
+      → (seen_after m seen es).plain.arrivals ≡ seen.plain.arrivals + steps_made is_arrival m seen es
   counted seen [] good = omega arith
   counted seen (e ∷ es) good =
       let here = kept f seen e.0 e.1 good in
       omega (arith, one_more seen.plain (scene m seen e.0 e.1).change here.keeps.belongs, counted (scene m seen e.0 e.1).after es here.good)
 
   -- for any seat o of the party; `last` is the place of the next arrival in its group, or 0 if it fills the group
-  leads_at : (s : BarrierState) (p last : ℕ) (o : Option (Seat BarrierCall BarrierPoint)) → leads n s.words ≡ (last == 0)
+  leads_at : (s : State BarrierWords ℕ BarrierCall BarrierPoint) (p last : ℕ) (o : Option (Seat BarrierCall BarrierPoint)) → leads n s.words ≡ (last == 0)
       → ((moves_at m s p Step o).outcome ≡ Answered Leader None) ↔ ((passes is_arrival (step_at m s p Step o) ≡ true) × (last ≡ 0))
   leads_at s p last o leading = grind arith
 
   pub in_groups : (parties : ℕ) (past : Entries) → InGroups m n parties past
   in_groups parties past =
-      let good = good_at parties past in
+      let here = good f parties past in
       let seen = seen_at m parties past in
-      let state = state-seen_after m (opening m parties) past in
-      let is = is_barrier n seen.plain seen.state.words good.encodes good.shape in
+      let state = state-seen_at m parties past in
+      let is = is_barrier n seen.plain seen.state.words here.encodes here.shape in
       let many : seen.plain.arrivals ≡ arrivals m parties past = omega (arith, counted (opening m parties) past (good_first f parties)) in
       let group : max seen.plain.group 1 ≡ max n 1 = ap (λ k. max k 1) is.group in
-      let words : (after m (at_first m parties) past).words ≡ seen.state.words = grind arith in
+      let words : (state_at m parties past).words ≡ seen.state.words = grind arith in
       let leading : leads n seen.state.words ≡ (((arrivals m parties past + 1) % max n 1) == 0) =
       grind (arith, (barrier_arrive-words seen.plain n seen.state.words.count seen.state.words.generation is).leads, group, many) in
       record {
         count = grind (arith, words, is.counts, group, many);
         generation = grind (arith, words, is.generations, group, many);
-        leads = λ p.
-            let so = leads_at seen.state p ((arrivals m parties past + 1) % max n 1) (slice_get seen.state.seats p) leading in
-            let same = ap (λ s. (happens m s p Step).outcome) state in (λ e. so.0 (same ∙ e), λ both. sym same ∙ so.1 both);
+        leads = λ p. rw (← outcome-seen_at m parties past p Step) (leads_at seen.state p ((arrivals m parties past + 1) % max n 1) _ leading);
       }
 
   -- a party that has arrived sees by the generation whether its group is full
-  leaves_at : (seen : Seen BarrierWords ℕ BarrierCall BarrierPoint) (p : ℕ) (c : BarrierCall) (l : BarrierPoint) (h : Option Hold) → Good seen → slice_get seen.state.seats p ≡ Some (Calling c l h) → own p (seen.span p) ≡ arrives p ∷ []
+  leaves_at : (seen : Seen BarrierWords ℕ BarrierCall BarrierPoint) (p : ℕ) (c : BarrierCall) (l : BarrierPoint) (h : Option Hold)
+      → Invariant f seen → slice_get seen.state.seats p ≡ Some (Calling c l h) → own p (seen.span p) ≡ arrives p ∷ []
       → ((happens m seen.state p Step).outcome ≡ Answered Follower None) ↔ (may_leave seen.plain (arrived p (seen.span p)) ≡ true)
   leaves_at seen p c l h good there has =
       let is = is_barrier n seen.plain seen.state.words good.encodes good.shape in
@@ -67,8 +62,5 @@ module _ (n : ℕ) where
 
   pub followers_leave : (parties : ℕ) (past : Entries) → FollowersLeave m parties past
   followers_leave parties past = λ p c l h there has.
-      let seen = seen_at m parties past in
-      let state = state-seen_after m (opening m parties) past in
-      let same = ap (λ s. (happens m s p Step).outcome) state in
-      let so = leaves_at seen p c l h (good_at parties past) (ap (λ (s : BarrierState). slice_get s.seats p) state ∙ there) has in
-      (λ e. so.0 (same ∙ e), λ full. sym same ∙ so.1 full)
+      let state = state-seen_at m parties past in
+      rw (← outcome-seen_at m parties past p Step) (leaves_at (seen_at m parties past) p c l h (good f parties past) (rw (← state) at there) has)

@@ -1,9 +1,11 @@
 -- Proofs of what users of a `Once` may rely on: one closure runs at a time, and there is one value.
-use Rattle.spin_world.proofs.OnceNames.{Plays, ◌≡◌, ℕ, ◌==◌, true, false, is_some, Option, Some, None, ◌∷◌, ◌++◌, slice_get, refl, arith, ap, sym, ◌∙◌, subst, and_parts, running, once_word, Value, Hold, Calling, Step, State, happens, after, at_first, Seen, scene, opening, OnceCall, Get, OncePoint, Run, runs, asks_of, OnceMachine, once_machine, Entries, once_after, seen_at, keeps_value, is_shared, ValueStays, RunsClosure, OneRuns, wants_value, AnswersAtOnce, GetAgrees, after-append, InCall, Invariant, []}
-use Rattle.spin_model.specs.declared.schedule.Move.{Move}
+use Rattle.spin_world_core.proofs.Every.{outcome-seen_at}
+use Rattle.spin_world_core.specs.Users.{IsCalling}
+use Rattle.spin_world_core.proofs.Every.{state-seen_at}
+use Rattle.spin_world.proofs.OnceNames.{Plays, ◌≡◌, ℕ, ◌==◌, true, false, is_some, Option, Some, None, ◌∷◌, ◌++◌, refl, arith, ap, ◌∙◌, and_parts, running, once_word, Value, Hold, Step, State, after, at_first, Seen, scene, OnceCall, Get, OncePoint, Run, runs, asks_of, OnceMachine, once_machine, Entries, once_after, seen_at, keeps_value, is_shared, ValueStays, RunsClosure, OneRuns, wants_value, AnswersAtOnce, GetAgrees, after-append, InCall, Invariant, []}
 use Rattle.spin_model.specs.declared.schedule.Outcome.TheVariants as outcome
 use Rattle.spin_world_core.specs.Users.{outcome_after}
-use Rattle.spin_world_core.proofs.Every.{kept, state-seen_after}
+use Rattle.spin_world_core.proofs.Every.{kept}
 use Rattle.spin_world_core.proofs.Reached as reached
 use Rattle.spin_world_core.proofs.Reached.{numbers_are, calls}
 use Rattle.spin_world.proofs.OnceOwed.{once_notes, once_facts}
@@ -21,30 +23,24 @@ module _ {V : Type 0} (value : Option V) where
   abbrev f : Plays m (once_notes value)
   f = once_facts value
 
-  abbrev Good : OnceSeen V → Type 0
-  Good seen = Invariant f seen
-
-  pub good : (n : ℕ) (past : Entries V) → Good (seen_at m n past)
+  pub good : (n : ℕ) (past : Entries V) → Invariant f (seen_at m n past)
   good n past = reached.good f n past
 
-  stays_one : (seen : OnceSeen V) (p : ℕ) (move : Move (OnceCall V) V) (v : V) → Good seen → keeps_value move ≡ true → seen.state.value ≡ Some v → (scene m seen p move).after.state.value ≡ Some v
-  stays_one seen p move v good keeps is = grind arith
-
-  stays_on : (seen : OnceSeen V) (es : Entries V) (v : V) → Good seen → is_shared es ≡ true → seen.state.value ≡ Some v → (after m seen.state es).value ≡ Some v
+  stays_on : (seen : OnceSeen V) (es : Entries V) (v : V) → Invariant f seen → is_shared es ≡ true → seen.state.value ≡ Some v
+      → (after m seen.state es).value ≡ Some v
   stays_on seen [] v good shared is = is
   stays_on seen (e ∷ es) v good shared is =
       let parts = and_parts (keeps_value e.1) (is_shared es) shared in
-      stays_on (scene m seen e.0 e.1).after es v (kept f seen e.0 e.1 good).good parts.1 (stays_one seen e.0 e.1 v good parts.0 is)
+      stays_on (scene m seen e.0 e.1).after es v (kept f seen e.0 e.1 good).good parts.1 (grind (arith, parts.0, is))
 
   pub a_value_stays : (n : ℕ) (past further : Entries V) → ValueStays m n past further
   a_value_stays n past further =
       let seen = seen_at m n past in
-      let state = state-seen_after m (opening m n) past in
+      let state = state-seen_at m n past in
       record {
         complete = (good n past).phase ∙ ap (λ (s : OnceState V). is_some s.value) state;
         stays = λ v is shared.
-            ap (λ (s : OnceState V). s.value) (after-append m (at_first m n) past further)
-            ∙ subst (λ (s : OnceState V). (after m s further).value ≡ Some v) state (stays_on seen further v (good n past) shared (ap (λ (s : OnceState V). s.value) state ∙ is));
+            rw (after-append m (at_first m n) past further, ← state) (stays_on seen further v (good n past) shared (rw (← state) at is));
       }
 
   word_at : (n : ℕ) (past : Entries V) → (once_after m n past).words ≡ once_word (seen_at m n past).plain
@@ -52,7 +48,7 @@ module _ {V : Type 0} (value : Option V) where
 
   -- a party at the point `Run` runs its closure, and no other party runs one
 
-  module _ (n : ℕ) (past : Entries V) (p : ℕ) (c : OnceCall V) (l : OncePoint) (h : Option Hold) (there : slice_get (once_after m n past).seats p ≡ Some (Calling c l h)) where
+  module _ (n : ℕ) (past : Entries V) (p : ℕ) (c : OnceCall V) (l : OncePoint) (h : Option Hold) (there : IsCalling m n past p c l h) where
     in_call_at : InCall (once_notes value) p c l h (seen_at m n past).plain (seen_at m n past).state.words ((seen_at m n past).span p)
     in_call_at = calls f n past p there
 
@@ -61,14 +57,7 @@ module _ {V : Type 0} (value : Option V) where
     not_at_run w other is e = grind (arith, in_call_at.knows, word_at n past)
 
     pub run_here : l ≡ Run → RunsClosure m n past p
-    run_here e =
-        record {
-          call = c;
-          point = l;
-          held = h;
-          calls = there;
-          begun = grind (arith, in_call_at.knows);
-        }
+    run_here e = record { call = c; point = l; held = h; calls = there; begun = grind (arith, in_call_at.knows) }
 
   phase_of : (n : ℕ) (past : Entries V) (p : ℕ) → RunsClosure m n past p → (seen_at m n past).plain.phase ≡ running p
   phase_of n past p runs = grind (arith, runs.begun, (in_call_at n past p runs.call runs.point runs.held runs.calls).knows)
@@ -87,30 +76,23 @@ module _ {V : Type 0} (value : Option V) where
   made_at : (n : ℕ) (past : Entries V) (v : V) → (once_after m n past).value ≡ Some v → (once_after m n past).words ≡ 2
   made_at n past v is = grind (arith, word_at n past, (a_value_stays n past []).complete)
 
-  value_told : (n : ℕ) (past : Entries V) (p : ℕ) (v : V) (c : OnceCall V) (l : OncePoint) (h : Option Hold) → (once_after m n past).value ≡ Some v → slice_get (once_after m n past).seats p ≡ Some (Calling c l h)
+  value_told : (n : ℕ) (past : Entries V) (p : ℕ) (v : V) (c : OnceCall V) (l : OncePoint) (h : Option Hold)
+      → (once_after m n past).value ≡ Some v → IsCalling m n past p c l h
       → wants_value (asks_of c) ≡ true → outcome_after m n past p Step ≡ outcome.Answered (Value v) None
   value_told n past p v c l h is there wants =
       grind (arith, there, is, made_at n past v is, not_at_run n past p c l h there 2 refl)
 
   pub a_value_is_answered_at_once : (n : ℕ) (past : Entries V) → AnswersAtOnce m n past
-  a_value_is_answered_at_once n past =
-      record {
-        value = λ p v c l h is there wants. value_told n past p v c l h is there wants;
-        none = λ p l h zero there. grind (arith, zero, there);
-      }
-
-  answered_value : (seen : OnceSeen V) (p : ℕ) (v : V) → Good seen → (happens m seen.state p Step).outcome ≡ outcome.Answered (Value v) None → (scene m seen p Step).after.state.value ≡ Some v
-  answered_value seen p v good is = grind arith
+  a_value_is_answered_at_once n past = record { value = value_told n past; none = grind arith }
 
   pub a_later_get_agrees : (n : ℕ) (past further : Entries V) → GetAgrees m n past further
   a_later_get_agrees n past further = λ p q v l h is shared at.
       let seen = seen_at m n past in
-      let state = state-seen_after m (opening m n) past in
+      let state = state-seen_at m n past in
       let all = past ++ (p, Step) ∷ further in
       let good = good n past in
-      let told = answered_value seen p v good (subst (λ (s : OnceState V). (happens m s p Step).outcome ≡ outcome.Answered (Value v) None) (sym state) is) in
+      let told : (scene m seen p Step).after.state.value ≡ Some v = grind (arith, outcome-seen_at m n past p Step ∙ is) in
       let now : (once_after m n all).value ≡ Some v =
-      ap (λ (s : OnceState V). s.value) (after-append m (at_first m n) past ((p, Step) ∷ further))
-      ∙ subst (λ (s : OnceState V). (after m (happens m s p Step).next further).value ≡ Some v) state
+      rw (after-append m (at_first m n) past ((p, Step) ∷ further), ← state)
       (stays_on (scene m seen p Step).after further v (kept f seen p Step good).good shared told) in
       value_told n all q v Get l h now at refl

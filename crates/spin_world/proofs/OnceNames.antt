@@ -15,7 +15,8 @@ pub use Rattle.spin_model.specs.declared.once.OnceCall.TheVariants.{CallOnce, Tr
 pub use Rattle.spin_model.specs.declared.once.OncePoint.{OncePoint}
 pub use Rattle.spin_model.specs.declared.once.OncePoint.TheVariants.{Look, TryBegin, Await, Run}
 pub use Rattle.spin_model.specs.Once.{runs, asks_of, brings_of, OnceMachine, once_machine, once_table}
-pub use Rattle.spin_world.specs.Keeping.{Entries, once_after, RunsClosure, seen_at, has_just_looked, has_closure, MayRunAgain, LooksFirst, keeps_value, is_shared, ValueStays, OneRuns, wants_value, AnswersAtOnce, GetAgrees, LooksWhereComplete}
+pub use Rattle.spin_world_core.specs.Users.{seen_at}
+pub use Rattle.spin_world.specs.Keeping.{Entries, once_after, RunsClosure, has_just_looked, has_closure, MayRunAgain, LooksFirst, keeps_value, is_shared, ValueStays, OneRuns, wants_value, AnswersAtOnce, GetAgrees, LooksWhereComplete}
 pub use Rattle.spin_model.proofs.Schedules.{after-append}
 pub use Rattle.spin_world_core.proofs.Preserved.{Invariant, in_call}
 pub use Rattle.spin_step.specs.Parties.{IsOpenStep}

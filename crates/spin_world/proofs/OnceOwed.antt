@@ -38,28 +38,23 @@ module _ {V : Type 0} (value : Option V) where
   once_pays =
       record {
         pays = record {
-          fits = λ p c l h. grind arith;
+          computes = grind arith;
           operates = grind arith;
-          first = grind arith;
           shape_first = (refl, refl);
-          numbers_tell = λ u w e. cc (e);
           one_list = λ s free. no_holders s free.0;
           calls = λ c h. (0, grind arith);
-          own = λ c h said p. grind arith;
-          sound = λ p c l h. grind arith;
-          aims = λ p c l h. grind arith;
-          begins = λ p c h s. grind arith;
+          begins = grind arith;
           others = λ p q c l h s step r span ne free may belongs knows. grind (arith, runs-others s p q step ne may);
-          owes = λ p c l h s w span. grind arith;
-          soon = λ p c l h s w span. grind arith;
+          owes = grind arith;
+          soon = grind arith;
         };
         makes = refl;
-        strong = λ c h d. grind arith;
+        strong = grind arith;
         says = λ a. refl;
-        none_writes = λ s p free. grind arith;
-        none_holds = λ s free. grind arith;
-        completes_right = λ p c l h. grind arith;
-        tells = λ p c l h s w e. grind arith;
+        none_writes = grind arith;
+        none_holds = grind arith;
+        completes_right = grind arith;
+        tells = grind arith;
       }
 
 pub once_facts : {V : Type 0} (value : Option V) → Plays (once_machine value) (once_notes value)

@@ -1,7 +1,10 @@
 -- Proofs of what users of a ticket lock may rely on.
-use Rattle.spin_world.proofs.TicketNames.{◌≡◌, ℕ, ◌+◌, Option, Some, List, ◌∷◌, ◌++◌, slice_get, ap, arith, Plain, Change, serving_word, apply_some, IsOpenStep, Entries, bit, Numbered, serving-moves, entered_is_served, Answer, Holding, Move, TicketCall, TicketPoint, TicketWords, after, at_first, Seen, scene, opening, ticket_machine, seen_after, Plays, passes, serves_one, tickets_gone, InOrder, InTurn, []}
+use Rattle.spin_world.specs.Ticket.{TicketMachine}
+use Rattle.spin_world_core.specs.Runs.{state_at}
+use Rattle.spin_world_core.specs.Users.{seen_at}
+use Rattle.spin_world_core.specs.Runs.{Schedule}
+use Rattle.spin_world.proofs.TicketNames.{◌≡◌, ℕ, ◌+◌, Option, Some, ◌∷◌, ◌++◌, slice_get, ap, arith, Plain, Change, serving_word, apply_some, IsOpenStep, Entries, bit, Numbered, serving-moves, entered_is_served, Holding, TicketCall, TicketPoint, TicketWords, Seen, scene, opening, ticket_machine, seen_after, Plays, passes, serves_one, tickets_gone, InOrder, InTurn, []}
 use Rattle.spin_model.specs.declared.place.Hold.TheVariants as hold
-use Rattle.spin_model.specs.Machines.{Machine}
 use Rattle.spin_world.proofs.TicketOwed.{ticket_notes, ticket_facts}
 use Rattle.spin_world_core.proofs.Preserved.{Invariant}
 use Rattle.spin_world_core.proofs.Every.{kept}
@@ -12,42 +15,40 @@ moves_some : (s : Plain) (p : ℕ) (step : Option Change) → Numbered s → IsO
 moves_some s p step numbered may = grind (arith, λ (c : Change). serving-moves s c numbered)
 
 module _ {V : Type 0} (v : V) (first : ℕ) where
-  abbrev m : Machine TicketWords V TicketCall TicketPoint (Answer V)
+  abbrev m : TicketMachine V
   m = ticket_machine v first
 
   abbrev f : Plays m (ticket_notes v first)
   f = ticket_facts v first
 
-  served : (seen : Seen TicketWords V TicketCall TicketPoint) (es : List (ℕ × Move TicketCall V)) → Invariant f seen
+  served : (seen : Seen TicketWords V TicketCall TicketPoint) (es : Schedule TicketCall V) → Invariant f seen
       → serving_word (seen_after m seen es).plain ≡ serving_word seen.plain + tickets_gone m seen es
   served seen [] good = omega arith
   served seen (e ∷ es) good =
       let here = kept f seen e.0 e.1 good in
       omega (arith, moves_some seen.plain e.0 (scene m seen e.0 e.1).change good.shape.numbered here.keeps.opens, served (scene m seen e.0 e.1).after es here.good)
 
-  pub in_order : (n : ℕ) (past : List (ℕ × Move TicketCall V)) → InOrder (after m (at_first m n) past).words (seen_after m (opening m n) past).plain
+  pub in_order : (n : ℕ) (past : Schedule TicketCall V) → InOrder (state_at m n past).words (seen_at m n past).plain
   in_order n past =
       let numbers = numbers_are f n past in
       let g = good f n past in
       record { next = cc (numbers); serving = cc (numbers); numbered = g.shape.numbered; one_entered = g.exclusive.one_entered }
 
   -- a party that holds has the served ticket
-  holds_served : (n p t : ℕ) (past : List (ℕ × Move TicketCall V)) → slice_get (after m (at_first m n) past).seats p ≡ Some (Holding (hold.Ticket t))
-      → serving_word (seen_after m (opening m n) past).plain ≡ t
+  holds_served : (n p t : ℕ) (past : Schedule TicketCall V) → slice_get (state_at m n past).seats p ≡ Some (Holding (hold.Ticket t))
+      → serving_word (seen_at m n past).plain ≡ t
   holds_served n p t past there =
       let order = in_order n past in
       let has = ap (λ (e : Entries). e.tickets) (stands f n past p there) in
-      (entered_is_served (seen_after m (opening m n) past).plain p t order.numbered order.one_entered has).1
+      (entered_is_served (seen_at m n past).plain p t order.numbered order.one_entered has).1
 
   -- the served number after `further` is the one before, plus the number of tickets that have left
-  served_later : (n : ℕ) (past further : List (ℕ × Move TicketCall V))
-      → serving_word (seen_after m (opening m n) (past ++ further)).plain
-      ≡ (after m (at_first m n) past).words.serving + tickets_gone m (seen_after m (opening m n) past) further
+  served_later : (n : ℕ) (past further : Schedule TicketCall V) → serving_word (seen_at m n (past ++ further)).plain
+      ≡ (state_at m n past).words.serving + tickets_gone m (seen_at m n past) further
   served_later n past further =
-      let at_end = ap (λ (s : Seen TicketWords V TicketCall TicketPoint). serving_word s.plain) (seen_after-append m (opening m n) past further) in
-      omega (arith, (in_order n past).serving, served (seen_after m (opening m n) past) further (good f n past), at_end)
+      rw (seen_after-append m (opening m n) past further) (omega (arith, (in_order n past).serving, served (seen_at m n past) further (good f n past)))
 
-  pub in_turn : (n : ℕ) (past further : List (ℕ × Move TicketCall V)) → InTurn m n past further
+  pub in_turn : (n : ℕ) (past further : Schedule TicketCall V) → InTurn m n past further
   in_turn n past further =
       let all = past ++ further in
       record {

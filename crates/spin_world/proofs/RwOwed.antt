@@ -1,15 +1,17 @@
 -- What has to be shown of the table of the read-write lock.
-use Rattle.spin_world.proofs.RwNames.{◌≡◌, ℕ, ◌+◌, ◌/◌, ◌≤◌, true, false, Option, Some, None, ◌∷◌, ◌++◌, length, nat_lt, refl, ap, sym, ◌∙◌, arith, eq-eqb, length-append, Plain, Kind, reading, upgradable, asking, writing, weight, Holder, holder, to_read, to_read_upgradable, to_write, to_upgrade, to_upgrade_asked, Change, gets, releases, turns, may_come, is_empty, is_holder, may_turn, with_kind, rw_word, entries, IsExclusive, reader_limit, tells, read, read_upgradable, write, upgrade, upgrade_asked, released, is_holder-from_entries, is_holder-own, length-without_holder, empty_is, room_to_come, one_of_each, read-word, upgradable_read-word, upgradable-word, tells-holder, readers-word, writers-word, only_upgradable-word, only_asking-word, empty-word, Hold, RwCall, TryRead, Read, TryUpgradeableRead, UpgradeableRead, TryWrite, TryWriteWeak, Write, ReaderCount, WriterCount, TryUpgrade, TryUpgradeWeak, Upgrade, Downgrade, DowngradeToUpgradeable, Release, RwPoint, First, Exchange, Asking, holds, entries_at, Notes, Means, OwesAll, SoonAll, Pays, no_queue, [], turned_to}
+use Rattle.spin_world.proofs.RwNames.{◌≡◌, ℕ, ◌+◌, ◌/◌, ◌≤◌, true, false, Option, Some, None, ◌∷◌, ◌++◌, length, nat_lt, refl, ap, sym, ◌∙◌, arith, eq-eqb, length-append, Plain, Kind, reading, upgradable, asking, writing, weight, Holder, holder, to_read, to_read_upgradable, to_write, to_upgrade, to_upgrade_asked, Change, gets, releases, turns, may_come, is_empty, is_holder, may_turn, with_kind, rw_word, entries, IsExclusive, reader_limit, tells, read, read_upgradable, write, upgrade, upgrade_asked, released, is_holder-from_entries, is_holder-own, length-without_holder, empty_is, room_to_come, one_of_each, read-word, upgradable_read-word, upgradable-word, tells-holder, readers-word, writers-word, only_upgradable-word, only_asking-word, empty-word, Hold, RwCall, TryRead, Read, TryUpgradeableRead, UpgradeableRead, Write, ReaderCount, WriterCount, Upgrade, Downgrade, DowngradeToUpgradeable, Release, RwPoint, First, Exchange, Asking, holds, entries_at, Notes, Means, OwesAll, SoonAll, Pays, no_queue, [], turned_to}
 use Rattle.std.specs.Prelude.{min, max}
 use Rattle.spin_step.proofs.Sums.{length-with_kind}
 use Rattle.spin_step_more.proofs.ReaderSteps.{rw_read-grants, rw_upgradable-grants, rw_write-grants, rw_upgrade-grants, rw_upgrade_asked-grants, rw_release-gives, rw_turn-gives}
 use Rattle.spin_model.specs.declared.place.Hold.TheVariants as hold
 use Rattle.spin_model.specs.Calls as calls
-use Rattle.spin_step_more.specs.RwCalls.{rw_table, rw_machine}
+use Rattle.spin_step_more.specs.RwCalls.{asks_of, rw_table, rw_machine}
+use Rattle.spin_world_core.proofs.Rows.{starts}
+use Rattle.spin_model.specs.Acts.{passing}
 use Rattle.spin_world_core.proofs.Steps.{Plays}
 use Rattle.spin_world_core.proofs.Rows.{Row, Point, nowhere, looked, onward}
-use Rattle.spin_world_core.proofs.Operating.{one_place, operates_by}
 use Rattle.spin_world_core.proofs.Filled.{plays_of}
+use Rattle.spin_world_core.proofs.Operating.{operates_one}
 
 -- the row of a reader that has asked to upgrade, and waits to become the writer
 abbrev pub asking_row : Row
@@ -17,29 +19,12 @@ asking_row = record { stand = holds asking; made = λ p. turns p upgradable aski
 
 -- the points of each call; a call that has looked has spent one step of its limit
 abbrev pub point_of : RwCall → RwPoint → Option Hold → Point
-point_of TryRead First None = looked 0
+point_of c First h = starts (passing ((asks_of c h).begins h) First)
 point_of TryRead (Exchange n) None = looked 1
-point_of Read First None = looked 0
 point_of Read (Exchange n) None = looked 1
-point_of TryUpgradeableRead First None = looked 0
 point_of TryUpgradeableRead (Exchange n) None = looked 1
-point_of UpgradeableRead First None = looked 0
 point_of UpgradeableRead (Exchange n) None = looked 1
-point_of TryWrite First None = looked 0
-point_of TryWriteWeak First None = looked 0
-point_of Write First None = looked 0
-point_of ReaderCount First None = looked 0
-point_of WriterCount First None = looked 0
-point_of TryUpgrade First (Some hold.Upgradable) = looked 0
-point_of TryUpgradeWeak First (Some hold.Upgradable) = looked 0
-point_of Upgrade First (Some hold.Upgradable) = looked 0
 point_of Upgrade Asking (Some hold.Upgradable) = onward asking_row
-point_of Downgrade First (Some hold.Upgradable) = looked 0
-point_of Downgrade First (Some hold.Write) = looked 0
-point_of DowngradeToUpgradeable First (Some hold.Write) = looked 0
-point_of Release First (Some hold.Read) = looked 0
-point_of Release First (Some hold.Upgradable) = looked 0
-point_of Release First (Some hold.Write) = looked 0
 point_of _ _ _ = nowhere
 
 -- the shape of the lock: nobody queues, and at most as many hold as a word can count
@@ -89,13 +74,11 @@ module _ {V : Type 0} (v : V) (cap : ℕ) where
 
     upgrade_means : entries p s ≡ entries_at p (holds upgradable) → IsMeant p s (gets p to_upgrade) (upgrade w)
     upgrade_means mine =
-        let found = holder_by p upgradable s mine in
-        grind (arith, rw_upgrade-grants s p w (one_of_each s exclusive) found word, turned s p upgradable writing shape)
+        grind (arith, rw_upgrade-grants s p w (one_of_each s exclusive) (holder_by p upgradable s mine) word, turned s p upgradable writing shape)
 
     upgrade_asked_means : entries p s ≡ entries_at p (holds asking) → IsMeant p s (gets p to_upgrade_asked) (upgrade_asked w)
     upgrade_asked_means mine =
-        let found = holder_by p asking s mine in
-        grind (arith, rw_upgrade_asked-grants s p w (one_of_each s exclusive) found word, turned s p asking writing shape)
+        grind (arith, rw_upgrade_asked-grants s p w (one_of_each s exclusive) (holder_by p asking s mine) word, turned s p asking writing shape)
 
     -- What a holder finds in the word
 
@@ -128,22 +111,14 @@ module _ {V : Type 0} (v : V) (cap : ℕ) where
         grind (arith, finds p s w word exclusive shape k found, rw_release-gives s p k w word found, shape, length-without_holder p k s.holders found)
 
   owes : OwesAll (rw_notes v cap)
-  owes p TryRead l h s w span = grind (arith, read_means p s w)
-  owes p Read l h s w span = grind (arith, read_means p s w)
-  owes p TryUpgradeableRead l h s w span = grind (arith, upgradable_means p s w)
-  owes p UpgradeableRead l h s w span = grind (arith, upgradable_means p s w)
-  owes p TryWrite l h s w span = grind (arith, write_means p s w)
-  owes p TryWriteWeak l h s w span = grind (arith, write_means p s w)
-  owes p Write l h s w span = grind (arith, write_means p s w)
   owes p ReaderCount l h s w span = grind (arith, readers-word s w, one_of_each s)
   owes p WriterCount l h s w span = grind (arith, writers-word s w, one_of_each s)
-  owes p TryUpgrade l h s w span = grind (arith, upgrade_means p s w)
-  owes p TryUpgradeWeak l h s w span = grind (arith, upgrade_means p s w)
   owes p Upgrade l h s w span = grind (arith, turn_means p s w upgradable asking, upgrade_asked_means p s w)
   owes p Downgrade First (Some hold.Upgradable) s w span = grind (arith, turn_means p s w upgradable reading, finds_room p s w, holder_by p upgradable s)
   owes p Downgrade l h s w span = grind (arith, turn_means p s w writing reading)
   owes p DowngradeToUpgradeable l h s w span = grind (arith, turn_means p s w writing upgradable)
   owes p Release l h s w span = grind (arith, release_means p s w reading, release_means p s w upgradable, release_means p s w writing)
+  owes p _ l h s w span = grind (arith, read_means p s w, upgradable_means p s w, write_means p s w, upgrade_means p s w)
 
   -- if nobody disturbs the call, its exchange succeeds on a word that admits the party, at once or after a look
 
@@ -158,17 +133,12 @@ module _ {V : Type 0} (v : V) (cap : ℕ) where
   pub rw_pays : Pays (rw_notes v cap)
   rw_pays =
       record {
-        fits = λ p c l h. grind arith;
-        operates = operates_by (rw_table v cap) one_place;
-        first = refl;
+        computes = grind arith;
+        operates = operates_one (rw_table v cap) refl;
         shape_first = record { no_queue = refl; room = refl; few = omega arith };
-        numbers_tell = λ v w e. cc (e);
         one_list = λ s shape. no_queue s shape.no_queue;
         calls = λ c h. (0, grind arith);
-        own = λ c h said p. grind arith;
-        sound = λ p c l h. grind arith;
-        aims = λ p c l h. grind arith;
-        begins = λ p c h s. grind arith;
+        begins = grind arith;
         others = λ p q c l h s step r span ne shape may belongs knows. tt;
         owes = owes;
         soon = soon;

@@ -1,12 +1,15 @@
 -- Proofs of what users of a read-write lock may rely on.
-use Rattle.spin_world.proofs.RwNames.{◌≡◌, ℕ, ◌+◌, ◌==◌, ◌↔◌, Bool, true, false, Option, Some, None, List, ◌∷◌, ◌++◌, slice_get, ap, sym, ◌∙◌, arith, Plain, Kind, reading, upgradable, asking, writing, Change, is_holder, is_only, count_kind, rw_word, weight, apply_some, IsOpenStep, entries, IsExclusive, bit, empty_is, is_holder-own, reader_goes, one_of_each, only_asking-word, empty-word, word_of, Answer, Hold, RwCall, RwPoint, Mark, Stand, holds, holds_and_starves, entries_at, row_of, []}
+use Rattle.spin_world.specs.Rw.{RwMachine}
+use Rattle.spin_world_core.specs.Runs.{state_at}
+use Rattle.spin_world_core.specs.Users.{seen_at}
+use Rattle.spin_world_core.specs.Runs.{Schedule}
+use Rattle.spin_world.proofs.RwNames.{◌≡◌, ℕ, ◌+◌, ◌==◌, ◌↔◌, Bool, true, false, Option, Some, None, List, ◌∷◌, ◌++◌, slice_get, ap, sym, ◌∙◌, arith, Plain, Kind, reading, asking, Change, is_holder, is_only, count_kind, rw_word, weight, apply_some, IsOpenStep, entries, IsExclusive, bit, empty_is, is_holder-own, reader_goes, one_of_each, only_asking-word, empty-word, word_of, Hold, RwCall, RwPoint, Mark, Stand, holds, holds_and_starves, entries_at, row_of, []}
 use Rattle.spin_step_more.proofs.Upgrading.{readers_only_go, alone_when_gone}
 use Rattle.spin_model.specs.declared.answer.Answer.TheVariants.{Granted, Done}
 use Rattle.spin_model.specs.declared.place.Seat.TheVariants.{Calling, Holding}
-use Rattle.spin_model.specs.declared.schedule.Move.{Move}
 use Rattle.spin_model.specs.declared.schedule.Move.TheVariants.{Step}
 use Rattle.spin_model.specs.declared.schedule.Outcome.TheVariants.{Answered}
-use Rattle.spin_model.specs.Schedules.{State, moves_at, after, at_first}
+use Rattle.spin_model.specs.Schedules.{State, moves_at, at_first}
 use Rattle.spin_world_core.proofs.Shapes.{Knows}
 use Rattle.spin_world_core.proofs.Steps.{Plays}
 use Rattle.spin_world_core.specs.Runs.{Seen, scene, opening, entries_of, is_reader}
@@ -14,7 +17,6 @@ use Rattle.spin_world_core.specs.Users.{seen_after, passes, ReadsAgreeAcross}
 use Rattle.spin_step_more.specs.RwCalls.{rw_machine}
 use Rattle.spin_world.specs.Standing.{StandTogether, KeepsWritersOut, less, Downgrades, readers_gone, StaysAsking, Opens, converts}
 use Rattle.spin_world.proofs.RwOwed.{holder_by, rw_notes, rw_facts}
-use Rattle.spin_model.specs.Machines.{Machine}
 use Rattle.spin_world_core.proofs.Reached.{good, numbers_are, stands, calls, passes_some, passes_all, row_passes}
 use Rattle.spin_model.proofs.Lists.{get-set_same}
 use Rattle.spin_world_core.proofs.Preserved.{Invariant}
@@ -54,32 +56,32 @@ module _ {V : Type 0} (v : V) (cap : ℕ) where
 
   -- Over a whole schedule
 
-  abbrev m : Machine ℕ V RwCall RwPoint (Answer V)
+  abbrev m : RwMachine V
   m = rw_machine v cap
 
   abbrev f : Plays m (rw_notes v cap)
   f = rw_facts v cap
 
-  words_are : (n : ℕ) (past : List (ℕ × Move RwCall V)) → (after m (at_first m n) past).words ≡ rw_word (seen_after m (opening m n) past).plain
+  words_are : (n : ℕ) (past : Schedule RwCall V) → (state_at m n past).words ≡ rw_word (seen_at m n past).plain
   words_are n past = cc (numbers_are f n past)
 
-  pub stand_together : (n : ℕ) (past : List (ℕ × Move RwCall V))
-      → StandTogether cap (after m (at_first m n) past).words (seen_after m (opening m n) past).plain
+  pub stand_together : (n : ℕ) (past : Schedule RwCall V)
+      → StandTogether cap (state_at m n past).words (seen_at m n past).plain
   stand_together n past =
       let here = good f n past in
       record { word = words_are n past; writer = here.exclusive.writer; one_upgradable = here.exclusive.one_upgradable; within = omega (arith, here.shape.few, here.shape.room) }
 
-  pub zero_when_free : (n : ℕ) (past : List (ℕ × Move RwCall V))
-      → ((after m (at_first m n) past).words ≡ 0) ↔ ((seen_after m (opening m n) past).plain.holders ≡ [])
+  pub zero_when_free : (n : ℕ) (past : Schedule RwCall V)
+      → ((state_at m n past).words ≡ 0) ↔ ((seen_at m n past).plain.holders ≡ [])
   zero_when_free n past = (λ zero. empty_is _ (empty-word _ 0 (sym (words_are n past) ∙ zero)), λ none. words_are n past ∙ ap word_of none)
 
   -- An upgrade is opened by releases
 
-  stays_now : (p : ℕ) (seen : Seen ℕ V RwCall RwPoint) (es : List (ℕ × Move RwCall V)) → StaysAsking p m seen es → is_holder p asking seen.plain.holders ≡ true
+  stays_now : (p : ℕ) (seen : Seen ℕ V RwCall RwPoint) (es : Schedule RwCall V) → StaysAsking p m seen es → is_holder p asking seen.plain.holders ≡ true
   stays_now p seen [] stays = stays
   stays_now p seen (e ∷ es) stays = stays.0
 
-  gone_through : (p : ℕ) (seen : Seen ℕ V RwCall RwPoint) (es : List (ℕ × Move RwCall V)) → Invariant f seen → StaysAsking p m seen es
+  gone_through : (p : ℕ) (seen : Seen ℕ V RwCall RwPoint) (es : Schedule RwCall V) → Invariant f seen → StaysAsking p m seen es
       → (count_kind reading (seen_after m seen es).plain.holders + readers_gone m seen es ≡ count_kind reading seen.plain.holders)
       × (is_holder p asking (seen_after m seen es).plain.holders ≡ true)
   gone_through p seen [] here stays = (omega arith, stays)
@@ -90,21 +92,20 @@ module _ {V : Type 0} (v : V) (cap : ℕ) where
       let one = goes_some seen.plain p e.0 sc.change here.exclusive stays.0 is.keeps.opens (stays_now p sc.after es stays.1) in
       (omega (arith, rest.0, one), rest.1)
 
-  pub opens_by_releases : (n : ℕ) (past further : List (ℕ × Move RwCall V)) → Opens m n past further
+  pub opens_by_releases : (n : ℕ) (past further : Schedule RwCall V) → Opens m n past further
   opens_by_releases n past further p stays =
       let all = past ++ further in
-      let before = seen_after m (opening m n) past in
-      let later = seen_after m (opening m n) all in
+      let before = seen_at m n past in
+      let later = seen_at m n all in
       let gone = gone_through p before further (good f n past) stays in
       let joined = seen_after-append m (opening m n) past further in
-      let readers : count_kind reading later.plain.holders + readers_gone m before further ≡ count_kind reading before.plain.holders =
-      ap (λ (s : Seen ℕ V RwCall RwPoint). count_kind reading s.plain.holders + readers_gone m before further) joined ∙ gone.0 in
-      let found : is_holder p asking later.plain.holders ≡ true = grind arith in
+      let readers : count_kind reading later.plain.holders + readers_gone m before further ≡ count_kind reading before.plain.holders = rw joined gone.0 in
+      let found : is_holder p asking later.plain.holders ≡ true = rw joined gone.1 in
       let here = good f n all in
       let alone = alone_when_gone later.plain p here.exclusive found in
       let left : (is_only p asking later.plain.holders ≡ true) ↔ (readers_gone m before further ≡ count_kind reading before.plain.holders) =
       (λ only. let none = alone.0 only in omega (arith, readers, none), λ all_gone. alone.1 (omega (arith, readers, all_gone))) in
-      let now = after m (at_first m n) all in
+      let now = state_at m n all in
       let told : is_only p asking later.plain.holders ≡ (now.words == weight asking) = only_asking-word later.plain p now.words (one_of_each later.plain here.exclusive) found (sym (words_are n all)) in
       record {
         readers = readers;
@@ -127,42 +128,33 @@ module _ {V : Type 0} (v : V) (cap : ℕ) where
 
   -- a party in a call that downgrades is a holder
   holds_there : (p : ℕ) (c : RwCall) (l : RwPoint) (h : Option Hold) (held : Hold) (s : Plain) (span : List Mark) → less c ≡ Some held → Knows (rw_notes v cap) c l h p s span → KeepsWritersOut p s
-  holds_there p c l h held s span is knows =
-      grind (arith, knows, holder_by p writing s, holder_by p upgradable s, keeps_writers_out p writing s, keeps_writers_out p upgradable s)
+  holds_there p c l h held s span is knows = grind (arith, knows, λ (k : Kind). holder_by p k s, λ (k : Kind). keeps_writers_out p k s)
 
   -- after the downgrade the party is still a holder
   holds_after : (p : ℕ) (held : Hold) (c : RwCall) (s : Plain) → less c ≡ Some held → entries p s ≡ entries_of p held → KeepsWritersOut p s
-  holds_after p held c s is mine =
-      grind (arith, holder_by p reading s, holder_by p upgradable s, keeps_writers_out p reading s, keeps_writers_out p upgradable s)
+  holds_after p held c s is mine = grind (arith, λ (k : Kind). holder_by p k s, λ (k : Kind). keeps_writers_out p k s)
 
-  pub downgrades : (n : ℕ) (past : List (ℕ × Move RwCall V)) → Downgrades m n past
+  pub downgrades : (n : ℕ) (past : Schedule RwCall V) → Downgrades m n past
   downgrades n past p c l h held is there =
       let all = past ++ (p, Step) ∷ [] in
-      let before = seen_after m (opening m n) past in
-      let later = seen_after m (opening m n) all in
-      let now = after m (at_first m n) past in
+      let before = seen_at m n past in
+      let later = seen_at m n all in
+      let now = state_at m n past in
       let step = downgraded now p c l h held is there in
       let at = ap (λ o. (moves_at m now p Step o).outcome) there in
-      let seat : slice_get (after m (at_first m n) all).seats p ≡ Some (Holding held) =
-      ap (λ (s : State ℕ V RwCall RwPoint). slice_get s.seats p) (after-append m (at_first m n) past ((p, Step) ∷ [])) ∙ (ap (λ o. slice_get (moves_at m now p Step o).next.seats p) there ∙ step.1) in
-      record {
-        before = holds_there p c l h held before.plain (before.span p) is (calls f n past p there).knows;
-        done = at ∙ step.0;
-        holds = seat;
-        later = holds_after p held c later.plain is (stands f n all p seat);
-      }
+      let seat : slice_get (state_at m n all).seats p ≡ Some (Holding held) =
+      rw (after-append m (at_first m n) past ((p, Step) ∷ [])) (ap (λ o. slice_get (moves_at m now p Step o).next.seats p) there ∙ step.1) in
+      search (
+        holds_there p c l h held before.plain (before.span p) is (calls f n past p there).knows,
+        at ∙ step.0,
+        seat,
+        holds_after p held c later.plain is (stands f n all p seat),
+      )
 
   -- Reads across conversions
 
   abbrev reads_at : ℕ → RwCall → RwPoint → Hold → Bool
   reads_at p c l h = passes_all (λ row. is_reader (entries_at p row.stand)) (row_of (rw_notes v cap) c l (Some h))
 
-  pub looks_agree : (n : ℕ) (past : List (ℕ × Move RwCall V)) → ReadsAgreeAcross converts m n past
-  looks_agree n past =
-      reads_agree_across f converts
-      (record {
-        reads = λ p c l h s span is may knows. grind arith;
-        steps = λ c l h w value is may. grind (arith, is, may);
-        refuses = λ c l h next is may weak. grind (arith, is, may, weak);
-      })
-      n past
+  pub looks_agree : (n : ℕ) (past : Schedule RwCall V) → ReadsAgreeAcross converts m n past
+  looks_agree n past = reads_agree_across f converts (grind arith) n past

@@ -1,11 +1,11 @@
 -- What has to be shown of the ticket lock's table.
-use Rattle.spin_world.proofs.TicketNames.{serving-advances, ◌≡◌, ℕ, ◌+◌, ◌==◌, true, false, filter, Option, Some, None, List, ◌∷◌, refl, ap, sym, ◌∙◌, arith, Plain, is_first, effect, to_take_ticket, to_enter, to_take_and_enter, Change, gets, serves, next_word, serving_word, Entries, entries, take, enters_in_turn, numbered-given, numbered-serves, serving-taken, serving-entered, entered_is_served, stands, Hold, TicketWords, TicketCall, Lock, TryLock, IsLocked, Release, TicketPoint, LoadNext, Take, Await, TryLoadNext, TryLoadServing, TryTake, LookServing, LookNext, Serve, own_count, plain, passing, is_left, ticket_table, ticket_machine, Plays, queues, entries_at, any_map, Point, nowhere, looked, onward, Notes, Means, OwesAll, SoonAll, Pays, no_holders, [], Queued, queued}
+use Rattle.spin_world.proofs.TicketNames.{serving-advances, ◌≡◌, ℕ, ◌+◌, ◌==◌, true, false, filter, Option, Some, None, List, ◌∷◌, refl, ap, sym, ◌∙◌, arith, Plain, is_first, effect, to_take_ticket, to_enter, to_take_and_enter, Change, gets, serves, next_word, serving_word, Entries, entries, take, enters_in_turn, numbered-given, numbered-serves, serving-taken, serving-entered, entered_is_served, stands, Hold, TicketWords, TicketCall, Lock, TryLock, IsLocked, Release, TicketPoint, LoadNext, Take, Await, TryLoadNext, TryLoadServing, TryTake, LookServing, LookNext, Serve, own_count, passing, is_left, ticket_table, ticket_machine, Plays, queues, entries_at, any_map, Point, nowhere, looked, onward, Notes, Means, OwesAll, SoonAll, Pays, no_holders, [], Queued, queued}
 use Rattle.spin_step.specs.Parties.{first_alone_entered}
 use Rattle.spin_step.proofs.TicketSteps.{ticket_take-grants_alone, ticket_serve-gives}
 use Rattle.spin_model.specs.declared.place.Hold.TheVariants as hold
 use Rattle.spin_model.specs.Calls.{AnyOf, Mark, granted}
 use Rattle.spin_world_core.proofs.Lists.{eqb_self}
-use Rattle.spin_world_core.proofs.Spans.{own_count-mine, own_count-other}
+use Rattle.spin_world_core.proofs.Names.{ne_eqb}
 use Rattle.spin_world_core.proofs.Filled.{plays_of}
 use Rattle.spin_world.proofs.TicketKnowledge.{Queue, Stays, Rises, try_refused, look_right}
 
@@ -45,15 +45,12 @@ module _ {V : Type 0} (v : V) (first : ℕ) where
   -- what the step functions mean in such a queue
   module _ (p : ℕ) (s : Plain) (w : TicketWords) (queue : Queue s) (next_is : s.next ≡ w.next) (serving_is : serving_word s ≡ w.serving) where
     take_means : IsMeant p s (gets p to_take_ticket) (λ n. record w { next = n }) (take w.next)
-    take_means =
-        let numbered = numbered-given s p (effect to_take_ticket) queue.numbered in
-        grind (arith, queue, serving-taken s p false queue.numbered, numbered)
+    take_means = grind (arith, queue, serving-taken s p false queue.numbered, numbered-given s p (effect to_take_ticket) queue.numbered)
 
     enter_means : (t : ℕ) → entries p s ≡ entries_at p (queues t false) → IsMeant p s (gets p to_enter) (λ k. w) (passing (w.serving == t) w.serving)
     enter_means t mine =
-        let numbered = numbered-given s p (effect to_enter) queue.numbered in
         let turn = enters_in_turn s p w.serving t queue.numbered serving_is in
-        grind (arith, turn, serving-entered s, numbered, queue, stands p t false s.tickets)
+        grind (arith, turn, serving-entered s, numbered-given s p (effect to_enter) queue.numbered, queue, stands p t false s.tickets)
 
     serve_means : (t u : ℕ) → t ≡ u → first_alone_entered s.tickets ≡ true → entries p s ≡ entries_at p (queues u true)
         → (is_left t ≡ true) × IsMeant p s (serves p) (λ k. record w { serving = k }) (Some (t + 1))
@@ -66,10 +63,10 @@ module _ {V : Type 0} (v : V) (first : ℕ) where
   owes : OwesAll (ticket_notes v first)
   owes p TryLock (TryLoadServing n) None s w span =
       let found = any_map (λ m. (m.party ≡ p) × (next_word m.before ≡ n)) (λ m. (m.party ≡ p) × (next_word m.before ≡ serving_word s)) span in
-      grind (arith, found, try_refused p n s span, own_count-mine p None plain s span)
+      grind (arith, found, try_refused p n s span, eqb_self p)
   owes p TryLock (TryTake n) None s w span = grind (arith, numbered-given s p (effect to_take_and_enter), ticket_take-grants_alone s p w.next, serving-taken s p true, try_refused p n s span)
   owes p IsLocked (LookNext k) None s w span = grind (arith, look_right (w.next == k) p k s span)
-  owes p c l h s w span = grind (arith, take_means p s w, enter_means p s w, serve_means p s w, own_count-mine p None plain s span)
+  owes p c l h s w span = grind (arith, take_means p s w, enter_means p s w, serve_means p s w, eqb_self p)
 
   -- If nobody disturbs the call, the party takes the next ticket, at once or after a look. It enters if its number is
   -- served.
@@ -80,19 +77,14 @@ module _ {V : Type 0} (v : V) (first : ℕ) where
   pub ticket_pays : Pays (ticket_notes v first)
   ticket_pays =
       record {
-        fits = λ p c l h. grind arith;
+        computes = grind arith;
         operates = grind arith;
-        first = grind arith;
         shape_first = record { no_holders = refl; numbered = (omega arith, tt); in_range = λ some. absurd (cc (some)) };
-        numbers_tell = λ u w e. grind arith;
         one_list = λ s queue. no_holders s queue.no_holders;
         calls = λ c h. (0, grind arith);
-        own = λ c h said p. grind arith;
-        sound = λ p c l h. grind arith;
-        aims = λ p c l h. grind arith;
         begins = λ p c h s. grind (arith, eqb_self);
         others = λ p q c l h s step r span ne queue may belongs knows.
-            grind (arith, λ (c : Change). serving-advances s c queue.numbered, own_count-other p q step r s span ne);
+            grind (arith, λ (c : Change). serving-advances s c queue.numbered, ne_eqb q p ne);
         owes = owes;
         soon = soon;
       }

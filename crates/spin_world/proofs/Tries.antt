@@ -1,5 +1,8 @@
 -- A try does not end by its first load, nor by its second if the number that it found is served then.
-use Rattle.spin_world.proofs.TicketNames.{◌≡◌, ℕ, ◌<◌, ◌≤◌, Option, Some, List, ◌∷◌, arith, Plain, ticket_limit, to_take_and_enter, serving_word, Hold, Calling, Move, Step, GoingOn, TicketCall, TicketPoint, TicketWords, State, moves_at, after, at_first, opening, own_count, seen_after, asks_of, ticket_machine, FoundNext, TriesByTwoLoads, []}
+use Rattle.spin_world_core.specs.Runs.{state_at}
+use Rattle.spin_world_core.specs.Users.{seen_at}
+use Rattle.spin_world_core.specs.Runs.{Schedule}
+use Rattle.spin_world.proofs.TicketNames.{◌≡◌, ℕ, ◌<◌, ◌≤◌, Option, Some, List, ◌∷◌, arith, Plain, ticket_limit, to_take_and_enter, serving_word, Hold, Calling, Step, GoingOn, TicketCall, TicketPoint, TicketWords, State, moves_at, own_count, asks_of, ticket_machine, FoundNext, TriesByTwoLoads, []}
 use Rattle.spin_model.specs.Calls.{Mark}
 use Rattle.spin_world_core.proofs.Shapes.{Knows}
 use Rattle.spin_world_core.proofs.Reached.{numbers_are, calls}
@@ -26,10 +29,10 @@ module _ {V : Type 0} (v : V) (first : ℕ) where
       → (own_count p span ≡ 0 → Continues s p c l h) × (own_count p span ≡ 1 → FoundNext p (serving_word plain) span → serving_word plain < ticket_limit → Continues s p c l h)
   comes s p c l h plain span knows is asks = grind (arith, λ (n : ℕ). only_one p (serving_word plain) n span)
 
-  pub by_two_loads : (n : ℕ) (past : List (ℕ × Move TicketCall V)) → TriesByTwoLoads (ticket_machine v first) n past
+  pub by_two_loads : (n : ℕ) (past : Schedule TicketCall V) → TriesByTwoLoads (ticket_machine v first) n past
   by_two_loads n past p c l h there asks =
       let m = ticket_machine v first in
-      let seen = seen_after m (opening m n) past in
+      let seen = seen_at m n past in
       let knows = (calls (ticket_facts v first) n past p there).knows in
       let numbers = numbers_are (ticket_facts v first) n past in
-      let goes = comes (after m (at_first m n) past) p c l h seen.plain (seen.span p) knows (cc (numbers)) asks in grind (arith, there, goes)
+      let goes = comes (state_at m n past) p c l h seen.plain (seen.span p) knows (cc (numbers)) asks in grind (arith, there, goes)

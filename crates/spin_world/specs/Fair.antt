@@ -1,9 +1,9 @@
 -- What a fair lock is: its first state, how many parties may starve, and what each of its calls promises. The promise of
 -- a call also says what its party holds when the call begins.
-use Rattle.std.specs.Prelude.{◌≡◌, ℕ, true, min, Option, Some, None, [], ◌∷◌}
+use Rattle.spin_world_core.specs.Kinds.{Asks}
+use Rattle.std.specs.Prelude.{◌≡◌, ℕ, true, min, Some, None, [], ◌∷◌}
 use Rattle.spin_step.specs.Plain.{to_lock_unregistered, to_lock_starving, to_lock_starving_alone, to_starve}
 use Rattle.spin_step_more.specs.Starvers.{most_starvers}
-use Rattle.spin_model.specs.declared.place.Hold.{Hold}
 use Rattle.spin_model.specs.declared.place.Hold.TheVariants.{Write, Starver}
 use Rattle.spin_model.specs.declared.answer.Answer.{Answer}
 use Rattle.spin_step_more.specs.declared.fair_calls.FairCall.{FairCall}
@@ -15,25 +15,28 @@ use Rattle.spin_step_more.specs.FairKind.{fair}
 use Rattle.spin_model.specs.Machines.{Machine}
 use Rattle.spin_world_core.specs.Kinds.{BeginAt}
 
+abbrev pub FairMachine : Type 0 → Type 0
+FairMachine V = Machine ℕ V FairCall FairPoint (Answer V)
+
 -- `m` is the machine of a fair lock with this cap of starvers. A `lock` goes on to register when more than `patience`
 -- of its looks have found the flag set.
-pub record IsFairLock {V : Type 0} (given : V) (cap patience : ℕ) (m : Machine ℕ V FairCall FairPoint (Answer V)) : Type 0 where
+pub record IsFairLock {V : Type 0} (given : V) (cap patience : ℕ) (m : FairMachine V) : Type 0 where
   pub lock_kind : m.lock_kind ≡ fair
   pub most_starve : m.cap ≡ min cap most_starvers
   pub opens_empty : m.words ≡ 0
   pub number : (w : ℕ) → m.numbers w ≡ w ∷ []
   pub value : m.value ≡ Some given
   pub owned : m.owned ≡ true
-  pub lock : (h : Option Hold) → m.asks Lock h ≡ waits_or_starves patience
-  pub try_lock : (h : Option Hold) → m.asks TryLock h ≡ tries to_lock_unregistered
-  pub try_lock_starver : (h : Option Hold) → m.asks TryLockStarver h ≡ tries_to_know to_lock_unregistered
-  pub is_locked : (h : Option Hold) → m.asks IsLocked h ≡ looks
-  pub starve : (h : Option Hold) → m.asks Starve h ≡ looks_and_tries to_starve
-  pub starver_try_lock_fair : (h : Option Hold) → m.asks StarverTryLockFair h ≡ tries_in 2 to_lock_starving_alone
-  pub starver_try_lock : (h : Option Hold) → m.asks StarverTryLock h ≡ tries_in 2 to_lock_starving
-  pub starver_lock : (h : Option Hold) → m.asks StarverLock h ≡ waits_starving
-  pub starver_drop : (h : Option Hold) → m.asks StarverDrop h ≡ gives_back is_registered (Some Starver)
-  pub release : (h : Option Hold) → m.asks Release h ≡ gives_back is_write (Some Write)
+  pub lock : Asks m Lock (waits_or_starves patience)
+  pub try_lock : Asks m TryLock (tries to_lock_unregistered)
+  pub try_lock_starver : Asks m TryLockStarver (tries_to_know to_lock_unregistered)
+  pub is_locked : Asks m IsLocked looks
+  pub starve : Asks m Starve (looks_and_tries to_starve)
+  pub starver_try_lock_fair : Asks m StarverTryLockFair (tries_in 2 to_lock_starving_alone)
+  pub starver_try_lock : Asks m StarverTryLock (tries_in 2 to_lock_starving)
+  pub starver_lock : Asks m StarverLock waits_starving
+  pub starver_drop : Asks m StarverDrop (gives_back is_registered (Some Starver))
+  pub release : Asks m Release (gives_back is_write (Some Write))
   pub says : (a : Answer V) → m.says a ≡ says_of a
   pub calls : BeginAt m ((Lock, None) ∷ (TryLock, None) ∷ (TryLockStarver, None) ∷ (IsLocked, None) ∷ (Starve, None) ∷ (Release, Some Write) ∷ [])
   pub starving : BeginAt m ((StarverTryLockFair, Some Starver) ∷ (StarverTryLock, Some Starver) ∷ [])

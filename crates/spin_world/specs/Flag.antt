@@ -1,4 +1,5 @@
 -- What a flag is: its first state, and what each of its calls promises. The promise also says what the party holds when the call begins.
+use Rattle.spin_world_core.specs.Kinds.{Asks}
 use Rattle.std.specs.Prelude.{◌≡◌, Bool, true, false, Option, Some, None, [], ◌∷◌}
 use Rattle.spin_step.specs.Plain.{to_write}
 use Rattle.spin_step.specs.Steps.{bit}
@@ -20,10 +21,10 @@ pub record IsFlag {V : Type 0} (given : V) (m : Machine Bool V FlagCall FlagPoin
   pub number : (w : Bool) → m.numbers w ≡ bit w ∷ []
   pub value : m.value ≡ Some given
   pub owned : m.owned ≡ true
-  pub lock : (h : Option Hold) → m.asks Lock h ≡ waits_to_write
-  pub try_lock : (h : Option Hold) → m.asks TryLock h ≡ tries to_write
-  pub try_lock_weak : (h : Option Hold) → m.asks TryLockWeak h ≡ tries_weakly to_write
-  pub is_locked : (h : Option Hold) → m.asks IsLocked h ≡ looks
+  pub lock : Asks m Lock waits_to_write
+  pub try_lock : Asks m TryLock (tries to_write)
+  pub try_lock_weak : Asks m TryLockWeak (tries_weakly to_write)
+  pub is_locked : Asks m IsLocked looks
   pub release : (h : Option Hold) → m.asks Release h ≡ gives_back is_write h
   pub says : (a : Answer V) → m.says a ≡ says_of a
   pub calls : BeginAt m ((Lock, None) ∷ (TryLock, None) ∷ (TryLockWeak, None) ∷ (IsLocked, None) ∷ (Release, Some Write) ∷ [])

@@ -1,21 +1,21 @@
 -- What users of a barrier may rely on: exactly the last arrival of each group leads, and a follower leaves once its
 -- group is full.
-use Rattle.std.specs.Prelude.{◌≡◌, ℕ, ◌+◌, ◌/◌, ◌%◌, ◌^◌, ◌↔◌, Bool, true, false, Option, Some, None, List, [], ◌∷◌, max, slice_get}
+use Rattle.spin_world_core.specs.Users.{IsCalling}
+use Rattle.spin_world_core.specs.Runs.{state_at}
+use Rattle.spin_world_core.specs.Users.{seen_at}
+use Rattle.std.specs.Prelude.{◌≡◌, ℕ, ◌+◌, ◌/◌, ◌%◌, ◌^◌, ◌↔◌, Bool, true, false, Option, None, List, [], ◌∷◌, max}
 use Rattle.spin_step.specs.Plain.{Change, arrives}
 use Rattle.spin_step.specs.Barriers.{may_leave}
 use Rattle.spin_model.specs.declared.answer.Answer.TheVariants.{Leader, Follower}
 use Rattle.spin_model.specs.declared.place.Hold.{Hold}
-use Rattle.spin_model.specs.declared.place.Seat.TheVariants.{Calling}
 use Rattle.spin_model.specs.declared.schedule.Move.{Move}
 use Rattle.spin_model.specs.declared.schedule.Move.TheVariants.{Step}
 use Rattle.spin_model.specs.declared.schedule.Outcome.TheVariants.{Answered}
-use Rattle.spin_world.specs.declared.barrier.BarrierWords.{BarrierWords}
 use Rattle.spin_world.specs.declared.barrier.BarrierCall.{BarrierCall}
 use Rattle.spin_world.specs.declared.barrier.BarrierPoint.{BarrierPoint}
-use Rattle.spin_model.specs.Schedules.{after, at_first}
-use Rattle.spin_world_core.specs.Runs.{Seen, scene, opening, own}
+use Rattle.spin_world_core.specs.Runs.{scene, opening, own}
 use Rattle.spin_world_core.specs.Undisturbed.{arrived}
-use Rattle.spin_world_core.specs.Users.{seen_after, outcome_after, passes, steps_made}
+use Rattle.spin_world_core.specs.Users.{outcome_after, passes, steps_made}
 use Rattle.spin_world.specs.BarrierTable.{BarrierMachine}
 
 abbrev pub is_arrival : Change → Bool
@@ -24,10 +24,6 @@ is_arrival _ = false
 
 abbrev pub Entries : Type 0
 Entries = List (ℕ × Move BarrierCall ℕ)
-
--- the barrier with its plain lock, after a schedule
-abbrev pub seen_at : BarrierMachine → ℕ → Entries → Seen BarrierWords ℕ BarrierCall BarrierPoint
-seen_at m parties past = seen_after m (opening m parties) past
 
 -- how many arrivals a schedule makes
 abbrev pub arrivals : BarrierMachine → ℕ → Entries → ℕ
@@ -41,13 +37,13 @@ arrives_next m parties past p = passes is_arrival (scene m (seen_at m parties pa
 -- the generation is the number of full groups, modulo 2^64. A step answers `Leader` exactly if it is the last arrival of
 -- a group.
 pub record InGroups (m : BarrierMachine) (n parties : ℕ) (past : Entries) : Type 0 where
-  pub count : (after m (at_first m parties) past).words.count ≡ arrivals m parties past % max n 1
-  pub generation : (after m (at_first m parties) past).words.generation ≡ (arrivals m parties past / max n 1) % 2 ^ 64
+  pub count : (state_at m parties past).words.count ≡ arrivals m parties past % max n 1
+  pub generation : (state_at m parties past).words.generation ≡ (arrivals m parties past / max n 1) % 2 ^ 64
   pub leads : (p : ℕ) → (outcome_after m parties past p Step ≡ Answered Leader None) ↔ ((arrives_next m parties past p ≡ true) × ((arrivals m parties past + 1) % max n 1 ≡ 0))
 
 -- The next step of a party that has arrived answers `Follower` exactly if the party's group is full, as far as its generation tells.
 abbrev pub FollowersLeave : BarrierMachine → ℕ → Entries → Type 0
 FollowersLeave m parties past =
     let seen = seen_at m parties past in
-    (p : ℕ) (c : BarrierCall) (l : BarrierPoint) (h : Option Hold) → slice_get (after m (at_first m parties) past).seats p ≡ Some (Calling c l h) → own p (seen.span p) ≡ arrives p ∷ []
+    (p : ℕ) (c : BarrierCall) (l : BarrierPoint) (h : Option Hold) → IsCalling m parties past p c l h → own p (seen.span p) ≡ arrives p ∷ []
     → (outcome_after m parties past p Step ≡ Answered Follower None) ↔ (may_leave seen.plain (arrived p (seen.span p)) ≡ true)

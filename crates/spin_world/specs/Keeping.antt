@@ -1,4 +1,8 @@
 -- What users of a `Once` may rely on.
+use Rattle.spin_world_core.specs.Runs.{Schedule}
+use Rattle.spin_world_core.specs.Runs.{state_at}
+use Rattle.spin_world_core.specs.Users.{IsCalling}
+use Rattle.spin_world_core.specs.Users.{seen_at}
 use Rattle.std.specs.Prelude.{◌≡◌, ℕ, ◌⊎◌, Bool, true, false, ◌&&◌, Option, Some, None, is_some, List, [], ◌∷◌, ◌++◌, ◌==◌, if◌then◌else◌, slice_get, not, ◌||◌}
 use Rattle.spin_step.specs.Plain.{to_begin, gets, is_complete, Change, is_empty}
 use Rattle.spin_model.specs.declared.answer.Answer.{Answer}
@@ -13,23 +17,19 @@ use Rattle.spin_model.specs.declared.once.OnceCall.TheVariants.{Get}
 use Rattle.spin_model.specs.declared.once.OncePoint.{OncePoint}
 use Rattle.spin_model.specs.Calls.{Asked, Mark, failed, gives_value, is_for, own_steps}
 use Rattle.spin_model.specs.StepKinds.{is_look}
-use Rattle.spin_model.specs.Schedules.{State, after, at_first}
-use Rattle.spin_world_core.specs.Runs.{Seen, scene, opening, own}
-use Rattle.spin_world_core.specs.Users.{seen_after, outcome_after}
+use Rattle.spin_model.specs.Schedules.{State}
+use Rattle.spin_world_core.specs.Runs.{scene, own}
+use Rattle.spin_world_core.specs.Users.{outcome_after}
 use Rattle.spin_model.specs.Once.{OnceMachine}
 use Rattle.spin_model.specs.declared.once.OnceCall.TheVariants.{Poll}
 use Rattle.std.specs.List.{list_any}
 
 abbrev pub Entries : Type 0 → Type 0
-Entries V = List (ℕ × Move (OnceCall V) V)
+Entries V = Schedule (OnceCall V) V
 
 -- the `Once` after a schedule
 abbrev pub once_after : {V : Type 0} → OnceMachine V → ℕ → Entries V → State ℕ V (OnceCall V) OncePoint
-once_after m n past = after m (at_first m n) past
-
--- the `Once` with its plain lock, after a schedule
-abbrev pub seen_at : {V : Type 0} → OnceMachine V → ℕ → Entries V → Seen ℕ V (OnceCall V) OncePoint
-seen_at m n past = seen_after m (opening m n) past
+once_after m n past = state_at m n past
 
 -- by this move the owner does not replace the value
 abbrev pub keeps_value : {C V : Type 0} → Move C V → Bool
@@ -37,7 +37,7 @@ keeps_value (OwnerSet v) = false
 keeps_value _ = true
 
 -- by no move of these entries does the owner replace the value
-abbrev pub is_shared : {C V : Type 0} → List (ℕ × Move C V) → Bool
+abbrev pub is_shared : {C V : Type 0} → Schedule C V → Bool
 is_shared [] = true
 is_shared (e ∷ es) = keeps_value e.1 && is_shared es
 
@@ -51,7 +51,7 @@ pub record RunsClosure {V : Type 0} (m : OnceMachine V) (n : ℕ) (past : Entrie
   pub call : OnceCall V
   pub point : OncePoint
   pub held : Option Hold
-  pub calls : slice_get (once_after m n past).seats p ≡ Some (Calling call point held)
+  pub calls : IsCalling m n past p call point held
   pub begun : own p ((seen_at m n past).span p) ≡ gets p to_begin ∷ []
 
 -- the answer of a call whose closure ends; the closure made this value, or failed
@@ -80,9 +80,10 @@ has_closure what = list_any is_begun (own_steps (what.answers gives_value) 0) ||
 -- If there is a value, the next step of each call that wants the value answers with it. If the word is 0 (there is no
 -- value, and no closure runs), the next step of a `poll` answers `NoValue`.
 pub record AnswersAtOnce {V : Type 0} (m : OnceMachine V) (n : ℕ) (past : Entries V) : Type 0 where
-  pub value : (p : ℕ) (v : V) (c : OnceCall V) (l : OncePoint) (h : Option Hold) → (once_after m n past).value ≡ Some v → slice_get (once_after m n past).seats p ≡ Some (Calling c l h) → wants_value (m.asks c h) ≡ true
+  pub value : (p : ℕ) (v : V) (c : OnceCall V) (l : OncePoint) (h : Option Hold) → (once_after m n past).value ≡ Some v
+      → IsCalling m n past p c l h → wants_value (m.asks c h) ≡ true
       → outcome_after m n past p Step ≡ Answered (Value v) None
-  pub none : (p : ℕ) (l : OncePoint) (h : Option Hold) → (once_after m n past).words ≡ 0 → slice_get (once_after m n past).seats p ≡ Some (Calling Poll l h)
+  pub none : (p : ℕ) (l : OncePoint) (h : Option Hold) → (once_after m n past).words ≡ 0 → IsCalling m n past p Poll l h
       → outcome_after m n past p Step ≡ Answered NoValue None
 
 -- after a call has answered with a value, the next step of each `get` answers with it, unless the owner replaced it
@@ -96,7 +97,8 @@ GetAgrees {V} m n past further =
 -- or the one after that, if nobody else steps in between.
 pub record MayRunAgain {V : Type 0} (m : OnceMachine V) (n : ℕ) (past : Entries V) : Type 0 where
   pub clears : (p : ℕ) → outcome_after m n past p Step ≡ Answered Failed None → (once_after m n (past ++ (p, Step) ∷ [])).words ≡ 0
-  pub begins : (p : ℕ) (c : OnceCall V) (l : OncePoint) (h : Option Hold) → (once_after m n past).words ≡ 0 → slice_get (once_after m n past).seats p ≡ Some (Calling c l h) → has_closure (m.asks c h) ≡ true
+  pub begins : (p : ℕ) (c : OnceCall V) (l : OncePoint) (h : Option Hold) → (once_after m n past).words ≡ 0
+      → IsCalling m n past p c l h → has_closure (m.asks c h) ≡ true
       → RunsClosure m n (past ++ (p, Step) ∷ []) p ⊎ RunsClosure m n (past ++ (p, Step) ∷ (p, Step) ∷ []) p
 
 -- the party's call has made a step, and its latest step was a look

@@ -1,17 +1,22 @@
 -- What a `Once` is: its first state, what each of its calls promises, and which value the closure of a call makes. The
 -- promise of a call also says what its party holds when the call begins.
+use Rattle.spin_model.specs.declared.place.Hold.{Hold}
 use Rattle.std.specs.Prelude.{◌≡◌, ℕ, true, Option, Some, None, [], ◌∷◌}
 use Rattle.spin_step.specs.Plain.{nothing, complete}
-use Rattle.spin_model.specs.declared.place.Hold.{Hold}
 use Rattle.spin_model.specs.declared.answer.Answer.{Answer}
+use Rattle.spin_model.specs.declared.once.OnceCall.{OnceCall}
 use Rattle.spin_model.specs.declared.once.OnceCall.TheVariants.{CallOnce, TryCallOnceOk, TryCallOnceErr, InitFromRef, Wait, Poll, Get, IsCompleted}
-use Rattle.spin_model.specs.Calls.{says_of}
+use Rattle.spin_model.specs.Calls.{Asked, says_of}
 use Rattle.spin_model.specs.Asks.{fails_to_initialize, initializes, looks_complete, looks_for_value, polls, waits_for_value}
 use Rattle.spin_model.specs.OnceKind.{once}
 use Rattle.spin_model.specs.Machines.{opening_plain}
 use Rattle.spin_model.specs.Acts.{gives_of}
 use Rattle.spin_world_core.specs.Kinds.{BeginAt}
 use Rattle.spin_model.specs.Once.{OnceMachine}
+
+-- the call promises this, and its closure makes this value, if any
+abbrev pub Takes : {V : Type 0} → OnceMachine V → OnceCall V → Asked → Option V → Type 0
+Takes m c what value = (h : Option Hold) → (m.asks c h ≡ what) × (m.brings c ≡ value)
 
 -- `m` is the machine of a `Once` that opens with the value `given`, or opens empty
 pub record IsOnceOf {V : Type 0} (given : Option V) (m : OnceMachine V) : Type 0 where
@@ -23,14 +28,14 @@ pub record IsOnceOf {V : Type 0} (given : Option V) (m : OnceMachine V) : Type 0
   -- no party may hold a `Once`
   pub cap : m.cap ≡ 0
   pub owned : m.owned ≡ true
-  pub call_once : (v : V) (h : Option Hold) → (m.asks (CallOnce v) h ≡ initializes) × (m.brings (CallOnce v) ≡ Some v)
-  pub try_call_once_ok : (v : V) (h : Option Hold) → (m.asks (TryCallOnceOk v) h ≡ initializes) × (m.brings (TryCallOnceOk v) ≡ Some v)
-  pub try_call_once_err : (h : Option Hold) → (m.asks TryCallOnceErr h ≡ fails_to_initialize) × (m.brings TryCallOnceErr ≡ None)
-  pub init_from_ref : (v : V) (h : Option Hold) → (m.asks (InitFromRef v) h ≡ initializes) × (m.brings (InitFromRef v) ≡ Some v)
-  pub wait : (h : Option Hold) → (m.asks Wait h ≡ waits_for_value) × (m.brings Wait ≡ None)
-  pub poll : (h : Option Hold) → (m.asks Poll h ≡ polls) × (m.brings Poll ≡ None)
-  pub get : (h : Option Hold) → (m.asks Get h ≡ looks_for_value) × (m.brings Get ≡ None)
-  pub is_completed : (h : Option Hold) → (m.asks IsCompleted h ≡ looks_complete) × (m.brings IsCompleted ≡ None)
+  pub call_once : (v : V) → Takes m (CallOnce v) initializes (Some v)
+  pub try_call_once_ok : (v : V) → Takes m (TryCallOnceOk v) initializes (Some v)
+  pub try_call_once_err : Takes m TryCallOnceErr fails_to_initialize None
+  pub init_from_ref : (v : V) → Takes m (InitFromRef v) initializes (Some v)
+  pub wait : Takes m Wait waits_for_value None
+  pub poll : Takes m Poll polls None
+  pub get : Takes m Get looks_for_value None
+  pub is_completed : Takes m IsCompleted looks_complete None
   pub says : (a : Answer V) → m.says a ≡ says_of a
   -- only the answer `Value` gives a value
   pub gives : (a : Answer V) → m.gives a ≡ gives_of a

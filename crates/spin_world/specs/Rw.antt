@@ -1,5 +1,6 @@
 -- What a read-write lock is: its first state, how many parties it admits, and what each of its calls promises. The
 -- promise of a call also says what its party holds when the call begins.
+use Rattle.spin_world_core.specs.Kinds.{Asks}
 use Rattle.std.specs.Prelude.{◌≡◌, ℕ, true, Option, Some, None, [], ◌∷◌, min}
 use Rattle.spin_step.specs.Plain.{reading, upgradable, to_read, to_read_upgradable, to_write, to_upgrade, fresh}
 use Rattle.spin_step_more.specs.Readers.{reader_limit}
@@ -15,7 +16,10 @@ use Rattle.spin_step_more.specs.RwKind.{rw}
 use Rattle.spin_model.specs.Machines.{Machine, opening_plain}
 use Rattle.spin_world_core.specs.Kinds.{BeginAt, AnswersIn}
 
-pub record IsRw {V : Type 0} (given : V) (cap : ℕ) (m : Machine ℕ V RwCall RwPoint (Answer V)) : Type 0 where
+abbrev pub RwMachine : Type 0 → Type 0
+RwMachine V = Machine ℕ V RwCall RwPoint (Answer V)
+
+pub record IsRw {V : Type 0} (given : V) (cap : ℕ) (m : RwMachine V) : Type 0 where
   pub lock_kind : m.lock_kind ≡ rw
   pub opens_free : m.words ≡ 0
   pub number : (w : ℕ) → m.numbers w ≡ w ∷ []
@@ -23,18 +27,18 @@ pub record IsRw {V : Type 0} (given : V) (cap : ℕ) (m : Machine ℕ V RwCall R
   pub owned : m.owned ≡ true
   -- at first nobody holds; as many parties may hold as the cap says, but no more than the reader limit
   pub plain : opening_plain m ≡ fresh (min cap reader_limit) 0 0
-  pub try_read : (h : Option Hold) → m.asks TryRead h ≡ looks_and_tries to_read
-  pub read : (h : Option Hold) → m.asks Read h ≡ waits to_read
-  pub try_upgradeable_read : (h : Option Hold) → m.asks TryUpgradeableRead h ≡ looks_and_tries to_read_upgradable
-  pub upgradeable_read : (h : Option Hold) → m.asks UpgradeableRead h ≡ waits to_read_upgradable
-  pub try_write : (h : Option Hold) → m.asks TryWrite h ≡ tries to_write
-  pub try_write_weak : (h : Option Hold) → m.asks TryWriteWeak h ≡ tries_weakly to_write
-  pub write : (h : Option Hold) → m.asks Write h ≡ spins_to_write
-  pub reader_count : (h : Option Hold) → m.asks ReaderCount h ≡ counts_readers
-  pub writer_count : (h : Option Hold) → m.asks WriterCount h ≡ counts_writers
-  pub try_upgrade : (h : Option Hold) → m.asks TryUpgrade h ≡ tries to_upgrade
-  pub try_upgrade_weak : (h : Option Hold) → m.asks TryUpgradeWeak h ≡ tries_weakly to_upgrade
-  pub upgrade : (h : Option Hold) → m.asks Upgrade h ≡ waits_to_upgrade
+  pub try_read : Asks m TryRead (looks_and_tries to_read)
+  pub read : Asks m Read (waits to_read)
+  pub try_upgradeable_read : Asks m TryUpgradeableRead (looks_and_tries to_read_upgradable)
+  pub upgradeable_read : Asks m UpgradeableRead (waits to_read_upgradable)
+  pub try_write : Asks m TryWrite (tries to_write)
+  pub try_write_weak : Asks m TryWriteWeak (tries_weakly to_write)
+  pub write : Asks m Write spins_to_write
+  pub reader_count : Asks m ReaderCount counts_readers
+  pub writer_count : Asks m WriterCount counts_writers
+  pub try_upgrade : Asks m TryUpgrade (tries to_upgrade)
+  pub try_upgrade_weak : Asks m TryUpgradeWeak (tries_weakly to_upgrade)
+  pub upgrade : Asks m Upgrade waits_to_upgrade
   pub downgrade : (h : Option Hold) → m.asks Downgrade h ≡ turns_to is_above_read h reading
   pub downgrade_to_upgradeable : (h : Option Hold) → m.asks DowngradeToUpgradeable h ≡ turns_to is_write h upgradable
   pub release : (h : Option Hold) → m.asks Release h ≡ gives_back is_held_some h

@@ -1,5 +1,5 @@
 -- Each answer tells where its call began.
-use Rattle.std.proofs.Common.{◌≡◌, ℕ, suc, ◌+◌, ◌⊎◌, Bool, true, false, Option, Some, None, List, [], ◌∷◌, ◌++◌, length, if◌then◌else◌, refl, ap, sym, ◌∙◌, subst, arith, append_assoc, inl, inr}
+use Rattle.std.proofs.Common.{◌≡◌, ℕ, suc, ◌+◌, ◌⊎◌, Bool, true, false, Option, Some, None, List, [], ◌∷◌, ◌++◌, length, if◌then◌else◌, refl, ap, sym, ◌∙◌, arith, append_assoc, inl, inr}
 use Rattle.std.specs.List.{list_any}
 use Rattle.std.proofs.lemmas.List.{append-nil, length-append}
 use Rattle.spin_model.specs.declared.schedule.Outcome.TheVariants as outcome
@@ -16,7 +16,8 @@ module _ {W V A : Type 0} where
 
   later : (p k : ℕ) (found : Option ℕ) (e : Event W V A) (es : List (Event W V A)) (r : Option ℕ) (b : Bool) → begins_of p e ≡ b
       → Finds p (k + 1) (if b then Some k else found) es r → Finds p k found (e ∷ es) r
-  later p k found e es r true is (inl t) = inr (0, t.1 ∙ ap Some (omega arith), record { front = []; event = e; back = es; is = refl; place_is = refl; begins = is; none_later = t.0 })
+  later p k found e es r true is (inl t) =
+      inr (0, grind arith, record { front = []; event = e; back = es; is = refl; place_is = refl; begins = is; none_later = t.0 })
   later p k found e es r false is (inl t) = grind arith
   later p k found e es r b is (inr t) =
       inr (suc t.0, t.1 ∙ ap Some (omega arith), record { front = e ∷ t.2.front; event = t.2.event; back = t.2.back; is = ap (λ xs. e ∷ xs) t.2.is; place_is = ap suc t.2.place_is; begins = t.2.begins; none_later = t.2.none_later })
@@ -26,16 +27,14 @@ module _ {W V A : Type 0} where
   finds p k found (e ∷ es) = later p k found e es (last_begin p k found (e ∷ es)) (begins_of p e) refl (finds p (k + 1) (if begins_of p e then Some k else found) es)
 
   found_last : (p : ℕ) (xs : List (Event W V A)) (r : Option ℕ) → Finds p 0 None xs r → IsLastBegin p xs r
-  found_last p xs r (inl t) = grind arith
-  found_last p xs r (inr t) = grind arith
+  found_last p xs r found = grind arith
 
   tells : (before told es front : List (Event W V A)) (e : Event W V A) (back : List (Event W V A)) (a : A) (b : Option ℕ)
       → ((p : ℕ) → last_begin p 0 None told ≡ last_begin p 0 None before) → length told ≡ length before
       → with_begins before es ≡ front ++ e ∷ back → e.outcome ≡ outcome.Answered a b → b ≡ last_begin e.party 0 None (told ++ front)
   tells before told [] [] e back a b same long is answers = absurd (cc (is))
   tells before told [] (f ∷ fs) e back a b same long is answers = absurd (cc (is))
-  tells before told (y ∷ ys) [] e back a b same long is answers =
-      grind (arith, same y.party, append-nil told)
+  tells before told (y ∷ ys) [] e back a b same long is answers = grind (arith, same y.party, append-nil told)
   tells before told (y ∷ ys) (f ∷ fs) e back a b same long is answers =
       let r = last_begin y.party 0 None before in
       let here : record y { outcome = with_begin r y.outcome } ≡ f = cc (is) in
@@ -48,4 +47,4 @@ module _ {W V A : Type 0} where
   pub begins_told : (es told : List (Event W V A)) → told ≡ with_begins [] es → TellsBegins told
   begins_told es told is = λ front e back a b split answers.
       let found = tells [] [] es front e back a b (λ p. refl) refl (sym is ∙ split) answers in
-      subst (IsLastBegin e.party front) (sym found) (found_last e.party front _ (finds e.party 0 None front))
+      rw found (found_last e.party front _ (finds e.party 0 None front))

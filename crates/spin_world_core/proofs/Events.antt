@@ -54,10 +54,6 @@ module _ {W V C L A : Type 0} (m : Machine W V C L A) (seen : Seen W V C L) (p :
     OfBegin = (c : C) (l : L) (h : Option Hold) → SitsAt (Some (resting h)) → m.begin c h ≡ Some l
         → P (scene_of seen p (Begin c) (Some (resting h)) (begun seen.state p c h (Some l)) None plain None)
 
-    abbrev pub OfRead : Type 0
-    OfRead = (b : Bool) (h : Hold) → SitsAt (Some (seat_with b h)) → may_read h ≡ true
-        → P (scene_of seen p Read (Some (seat_with b h)) (read_by seen.state true) None plain None)
-
     abbrev pub OfWrite : Type 0
     OfWrite = (v : V) (b : Bool) (h : Hold) → SitsAt (Some (seat_with b h)) → may_write h ≡ true
         → P (scene_of seen p (Write v) (Some (seat_with b h)) (written_by seen.state v true) None plain None)
@@ -77,7 +73,8 @@ module _ {W V C L A : Type 0} (m : Machine W V C L A) (seen : Seen W V C L) (p :
       pub steps : (c : C) (l : L) (h : Option Hold) → SitsAt (Some (Calling c l h)) → P (scene_at m seen p Step (Some (Calling c l h)))
       pub refuses : (c : C) (l : L) (h : Option Hold) (next : Next L A) → SitsAt (Some (Calling c l h)) → m.refuse c l h ≡ Some next
           → P (scene_of seen p Weak (Some (Calling c l h)) (goes_on seen.state p c h next) None weak None)
-      pub reads : OfRead
+      pub reads : (b : Bool) (h : Hold) → SitsAt (Some (seat_with b h)) → may_read h ≡ true
+          → P (scene_of seen p Read (Some (seat_with b h)) (read_by seen.state true) None plain None)
       pub writes : OfWrite
       pub leaks : (h : Hold) → SitsAt (Some (Holding h)) → P (scene_at m seen p Leak (Some (Holding h)))
       pub gets : OfGet

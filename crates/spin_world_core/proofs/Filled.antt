@@ -1,5 +1,5 @@
 -- Two machines that play a table. In one no closure makes the value; in the other the object's closures make it.
-use Rattle.spin_world_core.proofs.Names.{◌≡◌, ℕ, Bool, true, false, is_some, Option, Some, None, refl, ap, sym, ◌∙◌, subst, arith, true≢false, Plain, Phase, Change, completes, is_complete, apply_some, IsOpenStep, entries, is_held, Answer, Hold, Next, Continue, Answers, encoded, says_of, placed, HasPhase, if_completed, is_writer, Memory, Act, store, step_by, change_at, change_by, makes_by, Table, machine_of, completes_by, brought, filled, machine_with}
+use Rattle.spin_world_core.proofs.Names.{◌≡◌, ℕ, Bool, true, false, is_some, Option, Some, None, refl, sym, ◌∙◌, subst, arith, true≢false, Plain, Phase, Change, completes, is_complete, apply_some, IsOpenStep, entries, is_held, Answer, Hold, Next, Answers, encoded, says_of, placed, HasPhase, if_completed, is_writer, Memory, Act, store, step_by, change_at, change_by, makes_by, Table, machine_of, completes_by, brought, filled, machine_with}
 use Rattle.spin_model.specs.Asks.{is_completion}
 use Rattle.spin_model.specs.declared.answer.Answer.TheVariants.{Value}
 use Rattle.spin_world_core.proofs.Operating.{change_is, fits_change, stepwise_of, stepwise_with}
@@ -19,9 +19,6 @@ module _ {W V C L A : Type 0} {t : Table W V C L A} {n : Notes t} (pays : Pays n
   no_completion : (p : ℕ) (c : C) (l : L) (h : Option Hold) (w : W) (q : ℕ) → change_by t.memory (t.word l) (t.act c l h) p w ≡ Some (completes q) → ⊥
   no_completion p c l h w q is = true≢false (sym (fits_change t pays.fits pays.operates p c l h _ w (completes q) is).0 ∙ no_value)
 
-  no_phase : (phase : Phase) (v : Option V) → HasPhase t.lock_kind.makes_value phase v
-  no_phase phase v = grind arith
-
   silent : (v : Option V) (next : Next L A) → NextGives (machine_of t) v next
   silent v next = grind (arith, no_value)
 
@@ -30,21 +27,13 @@ module _ {W V C L A : Type 0} {t : Table W V C L A} {n : Notes t} (pays : Pays n
       record {
         pays = pays;
         stepwise = stepwise_of t pays.fits pays.operates pays.calls pays.own;
-        words = λ w v c l h. refl;
-        continues = λ w v c l h k is. is;
+        words = grind arith;
+        continues = grind arith;
         refuses = λ c l h next is. (next, is, refl);
-        refusal_gives = λ c l h v next is. silent v next;
-        values = λ p c l h s v w encodes shape phase opens. record {
-          tells = refl;
-          phase = no_phase _ _;
-          places =
-              ap (λ o. placed o v) (stores_none t.memory (t.word l) (t.act c l h) w)
-              ∙ uncompleted v _ _ (λ q is. no_completion p c l h w q is);
-          completes_alone = λ q is. absurd (no_completion p c l h w q is);
-          brings = λ q is. absurd (no_completion p c l h w q is);
-          gives = silent _ _;
-        };
-        written = λ s p v shape writes. no_phase _ _;
+        refusal_gives = grind (arith, silent);
+        values = λ p c l h s v w encodes shape phase opens.
+            grind (arith, no_value, silent, stores_none {V = V} t.memory (t.word l) (t.act c l h) w, uncompleted v, no_completion p c l h w);
+        written = grind (arith, no_value);
       }
 
 -- The machine in which closures make the value
@@ -59,16 +48,9 @@ CompletesRight (store can operation step next) p value = (is_completion (step p)
 CompletesRight act p value = is_end (makes_by act p) ≡ false
 
 -- a call answers with a value only if there is one
-abbrev pub TellsSo : Phase → Answer (Unit {0}) → Type 0
-TellsSo phase (Value u) = is_complete phase ≡ true
-TellsSo phase _ = Unit {0}
-
 abbrev pub TellsOf : {L : Type 0} → Phase → Next L (Answer (Unit {0})) → Type 0
-TellsOf phase (Continue l) = Unit {0}
-TellsOf phase (Answers a after) = TellsSo phase a
-
-abbrev pub TellsBy : {W L : Type 0} (V : Type 0) → Memory W → ℕ → Act W L (Answer (Unit {0})) → ℕ → Plain → W → Type 0
-TellsBy V m i act p s w = TellsOf (apply_some s (change_by m i act p w)).phase (step_by {V = V} m i act w).next
+TellsOf phase (Answers (Value u) after) = is_complete phase ≡ true
+TellsOf phase _ = Unit {0}
 
 -- what an object whose closures make its value shows of its table
 pub record PaysWith {W V C L : Type 0} {t : Table W V C L (Answer (Unit {0}))} (n : Notes t) (brings : C → Option V) : Type 0 where
@@ -80,7 +62,8 @@ pub record PaysWith {W V C L : Type 0} {t : Table W V C L (Answer (Unit {0}))} (
   pub none_writes : (s : Plain) (p : ℕ) → n.Shape s → is_writer (entries p s) ≡ false
   pub none_holds : (s : Plain) → n.Shape s → is_held s ≡ false
   pub completes_right : (p : ℕ) (c : C) (l : L) (h : Option Hold) → CompletesRight (t.act c l h) p (brings c)
-  pub tells : (p : ℕ) (c : C) (l : L) (h : Option Hold) (s : Plain) (w : W) → t.memory.numbers w ≡ encoded t.lock_kind s → TellsBy V t.memory (t.word l) (t.act c l h) p s w
+  pub tells : (p : ℕ) (c : C) (l : L) (h : Option Hold) (s : Plain) (w : W) → t.memory.numbers w ≡ encoded t.lock_kind s
+      → TellsOf (apply_some s (change_by t.memory (t.word l) (t.act c l h) p w)).phase (step_by {V = V} t.memory (t.word l) (t.act c l h) w).next
 
 -- whether the phase is complete changes only by a step that completes a closure
 phase-kept : (s : Plain) (p : ℕ) (step : Option Change) (b : Bool) → ((q : ℕ) → step ≡ Some (completes q) → ⊥) → IsOpenStep s p step → is_complete s.phase ≡ b → is_complete (apply_some s step).phase ≡ b
@@ -104,16 +87,13 @@ module _ {W V C L : Type 0} {t : Table W V C L (Answer (Unit {0}))} {n : Notes t
   gives_at : (v : Option V) (next : Next L (Answer (Unit {0}))) → NextGives (machine_with t brings) v (filled v next)
   gives_at v next = grind (arith, pays.makes)
 
-  continues_with : (v : Option V) (k : L) (next : Next L (Answer (Unit {0}))) → filled v next ≡ Continue k → next ≡ Continue k
-  continues_with v k next is = grind (arith, is)
-
   pub plays_with : Plays (machine_with t brings) n
   plays_with =
       record {
         pays = pays.pays;
         stepwise = stepwise_with t brings pays.pays.fits pays.pays.operates pays.pays.calls pays.pays.own pays.strong;
         words = λ w v c l h. refl;
-        continues = λ w v c l h k is. continues_with _ k _ is;
+        continues = grind arith;
         refuses = λ c l h next is. absurd (cc (is));
         refusal_gives = λ c l h v next is. absurd (cc (is));
         values = λ p c l h s v w encodes shape phase opens.
@@ -127,5 +107,5 @@ module _ {W V C L : Type 0} {t : Table W V C L (Answer (Unit {0}))} {n : Notes t
               brings = puts.brings;
               gives = gives_at _ _;
             };
-        written = λ s p v shape writes. grind arith;
+        written = grind arith;
       }

@@ -1,5 +1,7 @@
 -- What a party finds under one guard does not change.
-use Rattle.spin_world_core.proofs.Names.{seat_of, slice_get_within, ◌≡◌, ℕ, ◌==◌, ◌||◌, Bool, true, false, not, Option, Some, None, List, [], ◌∷◌, ◌++◌, map, slice_get, slice_set, refl, arith, ap, sym, ◌∙◌, subst, list_all, option_map, and_parts, true≢false, false≢true, slice_get-map, Plain, Change, completes, entries, is_held, Hold, Seat, Calling, Holding, Leaked, Gone, Next, Continue, Answers, Move, Step, Weak, Read, OwnerSet, StepKind, plain, weak, by_step, Mark, Machine, State, happens, moves_at, goes_on, placed, resting, may_read, may_write, yields_to_owner, seen_by_owner, owner_writes, Seen, Scene, scene, scene_at, scene_of, if_completed, StandsFor, is_reader, is_writer, opening, seen_after, Table}
+use Rattle.spin_world_core.proofs.Every.{outcome-seen_at}
+use Rattle.spin_world_core.specs.Runs.{Schedule}
+use Rattle.spin_world_core.proofs.Names.{seat_of, slice_get_within, ◌≡◌, ℕ, ◌==◌, ◌||◌, Bool, true, false, not, Option, Some, None, List, [], ◌∷◌, ◌++◌, map, slice_get, slice_set, refl, arith, ap, sym, ◌∙◌, list_all, option_map, and_parts, true≢false, slice_get-map, Plain, Change, completes, entries, is_held, Hold, Seat, Calling, Holding, Leaked, Gone, Next, Continue, Answers, Move, Step, Weak, Read, OwnerSet, StepKind, plain, weak, by_step, Mark, Machine, State, moves_at, goes_on, placed, resting, may_read, may_write, yields_to_owner, seen_by_owner, owner_writes, Seen, Scene, scene, scene_at, scene_of, if_completed, StandsFor, is_reader, is_writer, opening, seen_after, Table}
 use Rattle.spin_world_core.specs.Users.{ReadsAgree, ReadsAgreeAcross, is_quiet, is_quiet_move}
 use Rattle.spin_model.specs.declared.schedule.Outcome.TheVariants as outcome
 use Rattle.spin_world_core.proofs.Lists.{eqb_self, get-set}
@@ -68,11 +70,7 @@ module _ {W V C L A B : Type 0} {t : Table W V C L A} {by : Machine W V C L B} {
   module _ (r : GuardedRead C V) (g : KeepsGuard f r.keeps) where
     reads_at : (w : Option V) (s : Plain) (p : ℕ) (span : List Mark) (o : Option (Seat C L)) → StandsFor s p span o → KnowsAt n s p span o → Guard r w o
         → ReaderOrGone s p o
-    reads_at w s p span (Some (Calling c l (Some h))) stands knows guard = g.reads p c l h s span guard.0 guard.1 knows
-    reads_at w s p span (Some (Holding h)) stands knows guard = grind arith
-    reads_at w s p span (Some (Leaked h)) stands knows guard = grind arith
-    reads_at w s p span (Some (Gone h)) stands knows guard = tt
-    reads_at w s p span _ stands knows guard = absurd guard
+    reads_at w s p span o stands knows guard = grind (arith, λ (c : C) (l : L) (h : Hold). g.reads p c l h s span)
 
     -- the party p has a guard, and q moves
     module _ (seen : Seen W V C L) (p q : ℕ) (good : Invariant f seen) (guard : Guard r seen.written (seat_of seen p)) where
@@ -84,17 +82,12 @@ module _ {W V C L A B : Type 0} {t : Table W V C L A} {by : Machine W V C L B} {
           → Guard r w (seat_of seen p) → Guard r w (slice_get (slice_set seen.state.seats q x) p)
       sits w x y there own held =
           get-set (Guard r w) seen.state.seats q p x (slice_get_within seen.state.seats q y there)
-          (λ e. own e (subst (Guard r w) (ap (seat_of seen) (sym e) ∙ there) held)) (λ ne. held)
-
-      begun : (c : C) (l : L) (h : Option Hold) → r.keeps c ≡ true → Guard {L = L} r seen.written (Some (resting h))
-          → Guard r seen.written (Some (Calling c l h))
-      begun c l h keeps guard = grind arith
+          (λ e. own e (rw (← e, there) at held)) (λ ne. held)
 
       answered : (w : Option V) (c : C) (l : L) (a : B) (h rest : Option Hold)
           → ((j : Hold) → h ≡ Some j → r.keeps c ≡ true → may_read j ≡ true → ReadsOn {L = L} (Answers a rest))
           → Guard r w (Some (Calling c l h)) → Guard r w (Some (resting {C = C} {L = L} rest))
-      answered w c l a None rest on guard = absurd guard
-      answered w c l a (Some j) rest on guard = grind (arith, on j refl)
+      answered w c l a h rest on guard = grind (arith, on)
 
       -- `Guard` of the party p after an event
       abbrev After : Scene W V C L B → Type 0
@@ -125,8 +118,7 @@ module _ {W V C L A B : Type 0} {t : Table W V C L A} {by : Machine W V C L B} {
           let st = m.step seen.state.words seen.state.value c l h in
           let step = m.change q seen.state.words c l h in
           went Step step (by_step (m.step_kind c l h)) st.placed (placed st.placed seen.state.value) st.words c l h st.next there
-          (λ j e keeps may. subst (λ o. ReadsOn (m.step seen.state.words seen.state.value c l o).next) (sym e)
-          (g.steps c l j seen.state.words seen.state.value keeps may))
+          (λ j e keeps may. rw e (g.steps c l j seen.state.words seen.state.value keeps may))
           (completed r seen.written st.placed seen.plain p (seat_of seen p) step reads
           (at_step f _ (in_call f q good there) good.phase).values.completes_alone guard)
 
@@ -143,7 +135,7 @@ module _ {W V C L A B : Type 0} {t : Table W V C L A} {by : Machine W V C L B} {
           of_event m seen q (λ sc. (q ≡ p → is_quiet_move r.keeps sc.move ≡ true) → After sc)
           (record {
             passes = λ move o r there closed quiet. guard;
-            begins = λ c l h there is quiet. sits seen.written (Calling c l h) (resting h) there (λ e. begun c l h (quiet e)) guard;
+            begins = λ c l h there is quiet. sits seen.written (Calling c l h) (resting h) there (λ e. grind (arith, quiet e)) guard;
             steps = λ c l h there quiet. stepped c l h there;
             refuses =
                 λ c l h next there is quiet. went Weak None weak None seen.state.value seen.state.words c l h next there
@@ -156,7 +148,7 @@ module _ {W V C L A B : Type 0} {t : Table W V C L A} {by : Machine W V C L B} {
           })
           move quiet
 
-    guard_through : (seen : Seen W V C L) (p : ℕ) (es : List (ℕ × Move C V)) → Invariant f seen → is_quiet r.keeps p es ≡ true
+    guard_through : (seen : Seen W V C L) (p : ℕ) (es : Schedule C V) → Invariant f seen → is_quiet r.keeps p es ≡ true
         → Guard r seen.written (seat_of seen p)
         → Guard r (seen_after m seen es).written (seat_of (seen_after m seen es) p)
     guard_through seen p [] good quiet guard = guard
@@ -165,37 +157,24 @@ module _ {W V C L A B : Type 0} {t : Table W V C L A} {by : Machine W V C L B} {
         (and_parts (not (e.0 == p) || is_quiet_move r.keeps e.1) (is_quiet r.keeps p es) quiet).1
         (guard_kept seen p e.0 good guard e.1 (λ is. grind arith))
 
-  -- a party whose read finds a value has a guard
-  module _ (s : State W V C L) (p : ℕ) where
-    guarded : (r : GuardedRead C V) (w : Option V) (o : Option (Seat C L)) → s.value ≡ w → (moves_at m s p Read o).outcome ≡ outcome.Value r.value → Guard r w o
-    guarded r w o same e = grind arith
+  -- a party whose read finds this value has a guard, and a party with a guard finds its value
+  guarded : (s : State W V C L) (p : ℕ) (r : GuardedRead C V) (w t : Option V) (o : Option (Seat C L)) → s.value ≡ w
+      → (moves_at m s p Read o).outcome ≡ outcome.Value t
+      → (t ≡ r.value → Guard r w o) × (Guard r w o → t ≡ r.value)
+  guarded s p r w t o same e = grind arith
 
-    found_again : (r : GuardedRead C V) (w t : Option V) (o : Option (Seat C L)) → s.value ≡ w → Guard r w o → (moves_at m s p Read o).outcome ≡ outcome.Value t
-        → t ≡ r.value
-    found_again r w t o same guard e = grind arith
-
-  pub reads_agree_across : (keeps : C → Bool) → KeepsGuard f keeps → (parties : ℕ) (past : List (ℕ × Move C V)) → ReadsAgreeAcross keeps m parties past
+  pub reads_agree_across : (keeps : C → Bool) → KeepsGuard f keeps → (parties : ℕ) (past : Schedule C V) → ReadsAgreeAcross keeps m parties past
   reads_agree_across keeps g parties past p between found t quiet first second =
       let r : GuardedRead C V = record { keeps = keeps; value = found } in
       let es = (p, Read) ∷ between in
       let before = reached.seen f parties past in
       let later = reached.seen f parties (past ++ es) in
       let good = reached.good f parties past in
-      let Finds : Option V → State W V C L → Type 0 = λ x s. (happens m s p Read).outcome ≡ outcome.Value x in
-      let first_there = subst (Finds found) (sym (reached.state_is f parties past)) first in
-      let second_there = subst (Finds t) (sym (reached.state_is f parties (past ++ es))) second in
-      let guard = guarded before.state p r before.written (seat_of before p) good.written first_there in
+      let guard = (guarded before.state p r before.written found (seat_of before p) good.written (outcome-seen_at m parties past p Read ∙ first)).0 refl in
       let guard_later = guard_through r g before p es good (rw (eqb_self p) quiet) guard in
-      let guard_there = subst (λ (seen : Seen W V C L). Guard r seen.written (seat_of seen p))
-      (sym (seen_after-append m (opening m parties) past es)) guard_later in
-      found_again later.state p r later.written t (seat_of later p) (reached.good f parties (past ++ es)).written guard_there second_there
+      (guarded later.state p r later.written t (seat_of later p) (reached.good f parties (past ++ es)).written
+      (outcome-seen_at m parties (past ++ es) p Read ∙ second)).1 (rw (seen_after-append m (opening m parties) past es) guard_later)
 
   -- here no call counts as one that keeps the guard
-  pub reads_agree : (parties : ℕ) (past : List (ℕ × Move C V)) → ReadsAgree m parties past
-  reads_agree parties past =
-      reads_agree_across (λ c. false)
-      (record {
-        reads = λ p c l h s span no. absurd (false≢true no);
-        steps = λ c l h w v no. absurd (false≢true no);
-        refuses = λ c l h next no. absurd (false≢true no);
-      }) parties past
+  pub reads_agree : (parties : ℕ) (past : Schedule C V) → ReadsAgree m parties past
+  reads_agree parties past = reads_agree_across (λ c. false) (grind arith) parties past

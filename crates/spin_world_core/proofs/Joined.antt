@@ -1,5 +1,7 @@
 -- Several runs, one after another, are one run of their joined schedules.
-use Rattle.spin_world_core.proofs.Names.{◌≡◌, ℕ, suc, ◌+◌, ◌≤◌, ◌==◌, ◌&&◌, Option, Some, None, List, [], ◌∷◌, ◌++◌, length, map, take, drop, if◌then◌else◌, refl, ap, sym, ◌∙◌, subst, arith, append_assoc, append-nil, take-append-drop, Move, Event, Machine, State, after, at_first, events_of, with_begins, last_begin, is_begun, Seen, Scene, scene, opening, AfterAnyPast, seen_after, Lawful, scenes, EachTells, TellsAfterAnyPast, joined}
+use Rattle.spin_world_core.specs.Users.{seen_at}
+use Rattle.spin_world_core.specs.Runs.{Schedule}
+use Rattle.spin_world_core.proofs.Names.{◌≡◌, ℕ, suc, ◌+◌, ◌≤◌, ◌==◌, ◌&&◌, Option, Some, None, List, [], ◌∷◌, ◌++◌, length, map, take, drop, if◌then◌else◌, refl, ap, sym, ◌∙◌, arith, append_assoc, append-nil, take-append-drop, Event, Machine, State, after, at_first, events_of, with_begins, last_begin, is_begun, Seen, Scene, scene, opening, AfterAnyPast, seen_after, Lawful, scenes, EachTells, TellsAfterAnyPast, joined}
 use Rattle.std.proofs.Math.Seq.{drop-append_seam, take-append_seam}
 use Rattle.spin_world_core.specs.Joined.{IsCut, Promised, RunsAreOne, after_runs, began_from, event_from, transcripts_of}
 use Rattle.spin_model.proofs.Schedules.{after-append}
@@ -15,18 +17,17 @@ tells-append (s ∷ ss) ts (e ∷ es) fs front back = (front.0, tells-append ss 
 tells-append _ ts _ fs front back = absurd front
 
 module _ {W V C L A : Type 0} (m : Machine W V C L A) where
-  scenes-append : (seen : Seen W V C L) (xs ys : List (ℕ × Move C V)) → scenes m seen (xs ++ ys) ≡ scenes m seen xs ++ scenes m (seen_after m seen xs) ys
+  scenes-append : (seen : Seen W V C L) (xs ys : Schedule C V) → scenes m seen (xs ++ ys) ≡ scenes m seen xs ++ scenes m (seen_after m seen xs) ys
   scenes-append seen [] ys = refl
   scenes-append seen (x ∷ xs) ys = ap (λ ss. scene m seen x.0 x.1 ∷ ss) (scenes-append (scene m seen x.0 x.1).after xs ys)
 
   -- the events of two runs together tell the scenes of one
-  tells_both : (s : State W V C L) (first second : List (ℕ × Move C V)) (es fs : List (Event W V A)) → TellsAfterAnyPast m s first es
+  tells_both : (s : State W V C L) (first second : Schedule C V) (es fs : List (Event W V A)) → TellsAfterAnyPast m s first es
       → TellsAfterAnyPast m (after m s first) second fs → TellsAfterAnyPast m s (first ++ second) (es ++ fs)
   tells_both s first second es fs front back = λ n past reached.
       let there = after-append m (at_first m n) past first ∙ ap (λ t. after m t first) reached in
-      rw (scenes-append (seen_after m (opening m n) past) first second)
-      (tells-append _ _ es fs (front n past reached)
-      (subst (λ seen. EachTells (scenes m seen second) fs) (seen_after-append m (opening m n) past first) (back n (past ++ first) there)))
+      rw (scenes-append (seen_at m n past) first second)
+      (tells-append _ _ es fs (front n past reached) (rw (seen_after-append m (opening m n) past first) at (back n (past ++ first) there)))
 
 -- Where calls began
 
@@ -35,8 +36,7 @@ none_from : {W V A : Type 0} (start p k : ℕ) (found : Option ℕ) (xs : List (
     → began_from start (last_begin p k found xs) ≡ None
 none_from start p k found [] le none = none
 none_from start p k found (x ∷ xs) le none =
-    let b = (x.party == p) && is_begun x.outcome in
-    grind (arith, none_from start p (k + 1) (if b then Some k else found) xs)
+    grind (arith, none_from start p (k + 1) (if (x.party == p) && is_begun x.outcome then Some k else found) xs)
 
 -- a run tells the place where a call began as counted from the run's own start
 last_from : {W V A : Type 0} (start p k : ℕ) (found here : Option ℕ) (xs : List (Event W V A)) → began_from start found ≡ here
@@ -62,23 +62,21 @@ with_begins_from xs before (y ∷ ys) =
     grind (arith, begin_from y.party xs before, with_begins_from xs (before ++ y ∷ []) ys, append_assoc xs before (y ∷ []))
 
 -- the transcripts of two runs are that of one run, cut in two
-cut_in_two : {W V C L A : Type 0} (m : Machine W V C L A) (s : State W V C L) (first second : List (ℕ × Move C V)) (place : ℕ) (es fs : List (Event W V A))
+cut_in_two : {W V C L A : Type 0} (m : Machine W V C L A) (s : State W V C L) (first second : Schedule C V) (place : ℕ) (es fs : List (Event W V A))
     → length first ≡ place → es ≡ with_begins [] (events_of m s first) → fs ≡ with_begins [] (events_of m (after m s first) second)
     → IsCut place (with_begins [] (events_of m s (first ++ second))) es fs
 cut_in_two m s first second place es fs at front back =
     let xs = events_of m s first in
     let ys = events_of m (after m s first) second in
     let heads = with_begins [] xs in
-    let here : length xs ≡ place = length-events_of m s first ∙ at in
-    let so_long : length heads ≡ place = length-with_begins [] xs ∙ here in
+    let here = length-events_of m s first ∙ at in
+    let so_long = length-with_begins [] xs ∙ here in
     let whole = ap (with_begins []) (events_of-append m s first second) ∙ with_begins-append [] xs ys in
-    record {
-      front = grind (arith, front, take-append_seam heads (with_begins xs ys), so_long, whole);
-      back = grind (arith, back, with_begins_from xs [] ys, here, append-nil xs, drop-append_seam heads (with_begins xs ys), so_long, whole);
-    }
+    let tails = with_begins xs ys in
+    grind (arith, front, back, take-append_seam heads tails, drop-append_seam heads tails, with_begins_from xs [] ys, here, append-nil xs, so_long, whole)
 
 -- Two runs of one world: the second run starts in the state in which the first has stopped, on the same object
-module _ {O W V C L A : Type 0} (machine : O → Machine W V C L A) (old now : O) (s between : State W V C L) (first second schedule : List (ℕ × Move C V)) where
+module _ {O W V C L A : Type 0} (machine : O → Machine W V C L A) (old now : O) (s between : State W V C L) (first second schedule : Schedule C V) where
   pub record PlaysOn : Type 0 where
     pub object : now ≡ old
     pub whole : first ++ second ≡ schedule
@@ -88,38 +86,31 @@ module _ {O W V C L A : Type 0} (machine : O → Machine W V C L A) (old now : O
   plays_on place same front back is = record { object = same; whole = rw (front, back) (take-append-drop place schedule); between_is = is }
 
   pub state_on : (end : State W V C L) → PlaysOn → end ≡ after (machine now) between second → end ≡ after (machine old) s schedule
-  state_on end on is =
-      grind (arith, is, on.object, on.between_is, on.whole, after-append (machine old) s first second)
+  state_on end on is = grind (arith, is, on.object, on.between_is, on.whole, after-append (machine old) s first second)
 
   pub events_on : (place : ℕ) (es fs : List (Event W V A)) → PlaysOn → length first ≡ place → es ≡ with_begins [] (events_of (machine old) s first)
       → fs ≡ with_begins [] (events_of (machine now) between second) → IsCut place (with_begins [] (events_of (machine old) s schedule)) es fs
   events_on place es fs on at front back =
-      let there = ap (λ o. with_begins [] (events_of (machine o) between second)) on.object ∙ ap
-      (λ t. with_begins [] (events_of (machine old) t second)) on.between_is in
-      subst (λ xs. IsCut place (with_begins [] (events_of (machine old) s xs)) es fs) on.whole
-      (cut_in_two (machine old) s first second place es fs at front (back ∙ there))
+      rw (← on.whole) (cut_in_two (machine old) s first second place es fs at front (rw (on.object, on.between_is) at back))
 
   pub tells_on : (es fs : List (Event W V A)) → PlaysOn → TellsAfterAnyPast (machine old) s first es → TellsAfterAnyPast (machine now) between second fs
       → TellsAfterAnyPast (machine old) s schedule (es ++ fs)
   tells_on es fs on front back =
-      subst (λ xs. TellsAfterAnyPast (machine old) s xs (es ++ fs)) on.whole
-      (tells_both (machine old) s first second es fs front
-      (subst (λ t. TellsAfterAnyPast (machine old) t second fs) on.between_is (subst (λ o. TellsAfterAnyPast (machine o) between second fs) on.object back)))
+      rw (← on.whole) (tells_both (machine old) s first second es fs front (rw (on.object, on.between_is) at back))
 
 -- Any number of runs
 module _ {W V C L A : Type 0} (m : Machine W V C L A) where
-  pub promised_after : (s : State W V C L) (schedule : List (ℕ × Move C V)) → Lawful m → AfterAnyPast m s schedule (Promised m)
+  pub promised_after : (s : State W V C L) (schedule : Schedule C V) → Lawful m → AfterAnyPast m s schedule (Promised m)
   promised_after s schedule lawful = λ n past reached.
-      let all = past ++ schedule in
-      record { keeps = lawful.keeps n all; moments = lawful.moments n all; counts = lawful.counts n all; values = lawful.values n all }
+      search (lawful.keeps n, lawful.moments n, lawful.counts n, lawful.values n)
 
-  after-joined : (s : State W V C L) (runs : List (List (ℕ × Move C V))) → after_runs m s runs ≡ after m s (joined runs)
+  after-joined : (s : State W V C L) (runs : List (Schedule C V)) → after_runs m s runs ≡ after m s (joined runs)
   after-joined s [] = refl
   after-joined s (run ∷ runs) = after-joined (after m s run) runs ∙ sym (after-append m s run (joined runs))
 
-  tells-joined : (s : State W V C L) (runs : List (List (ℕ × Move C V))) → TellsAfterAnyPast m s (joined runs) (joined (transcripts_of m s runs))
+  tells-joined : (s : State W V C L) (runs : List (Schedule C V)) → TellsAfterAnyPast m s (joined runs) (joined (transcripts_of m s runs))
   tells-joined s [] = λ n past reached. tt
   tells-joined s (run ∷ runs) = grind (arith, tells_both, tells_after, tells-joined (after m s run) runs)
 
-  pub runs_are_one : (s : State W V C L) (runs : List (List (ℕ × Move C V))) → Lawful m → RunsAreOne m s runs
+  pub runs_are_one : (s : State W V C L) (runs : List (Schedule C V)) → Lawful m → RunsAreOne m s runs
   runs_are_one s runs lawful = record { state = after-joined s runs; tells = tells-joined s runs; promised = promised_after s (joined runs) lawful }

@@ -9,13 +9,4 @@ use Rattle.spin_world_core.proofs.Guards.{reads_agree}
 use Rattle.spin_world_core.proofs.Values.{values_of}
 
 pub laws_of : {W V C L A B : Type 0} {t : Table W V C L A} {by : Machine W V C L B} {n : Notes t} → Plays by n → Lawful (played t by)
-laws_of f =
-    record {
-      stepwise = f.stepwise;
-      can = λ parties entries. can_of f parties entries;
-      keeps = λ parties entries. keeps_of f parties entries;
-      moments = λ parties entries. moments_of f parties entries;
-      counts = λ parties entries. counts_of f parties entries;
-      agree = λ parties entries. reads_agree f parties entries;
-      values = λ parties entries. values_of f parties entries;
-    }
+laws_of f = search (f.stepwise, can_of f, keeps_of f, moments_of f, counts_of f, reads_agree f, values_of f)

@@ -1,7 +1,6 @@
 pub mod Names
 pub mod Lists
 pub mod Events
-pub mod Spans
 pub mod Stands
 pub mod Rows
 pub mod Operating

@@ -1,6 +1,5 @@
 -- The steps of a table as operations on one word, and what the form of a step shows by itself.
-use Rattle.std.proofs.lemmas.Bool.{not-true}
-use Rattle.spin_world_core.proofs.Names.{AnyOf, own_steps, list_all, Said, ◌≡◌, ℕ, Bool, true, false, not, ◌&&◌, ◌||◌, Option, Some, None, is_some, slice_set, unwrap_or, refl, ap, subst, arith, and_parts, Change, Hold, Answer, Next, LockKind, is_step_of, Asked, performed, Performs, IsOneOperation, RefusesAsLost, Stepwise, Memory, one_number, number_at, Act, weak_exchange, place_of, change_at, refusal_by, makes_by, operation_by, is_section, step_by, Table, machine_of, machine_with}
+use Rattle.spin_world_core.proofs.Names.{AnyOf, own_steps, list_all, Said, ◌≡◌, ℕ, Bool, true, false, not, ◌&&◌, ◌||◌, Option, Some, None, is_some, slice_set, unwrap_or, refl, ap, subst, arith, and_parts, Change, Hold, Answer, Next, LockKind, is_step_of, Asked, performed, Performs, IsOneOperation, RefusesAsLost, Stepwise, one_number, number_at, Act, weak_exchange, place_of, change_at, refusal_by, makes_by, operation_by, is_section, step_by, Table, machine_of, machine_with}
 
 -- What has to be shown
 
@@ -32,13 +31,9 @@ Operates {W} {V} {C} {L} t =
     (c : C) (l : L) (h : Option Hold) (w : W) → is_section (t.act c l h) ≡ false
     → (let i = place_of (t.word l) (t.act c l h) in t.memory.numbers (step_by {V = V} t.memory (t.word l) (t.act c l h) w).words ≡ slice_set (t.memory.numbers w) i (performed (operation_by (t.act c l h)) (number_at t.memory i w)))
 
--- a number that is put at the place i changes only the number at this place
-pub record IsPlace {W : Type 0} (m : Memory W) (i : ℕ) : Type 0 where
-  pub stays : (w : W) → slice_set (m.numbers w) i (number_at m i w) ≡ m.numbers w
-  pub put : (k : ℕ) (w : W) → m.numbers (m.put i k w) ≡ slice_set (m.numbers w) i k
-
-pub one_place : (i : ℕ) → IsPlace one_number i
-one_place i = grind arith
+-- a table with one number makes its operations
+pub operates_one : {V C L A : Type 0} (t : Table ℕ V C L A) → t.memory ≡ one_number → Operates t
+operates_one t is c l h w one = grind (arith, is, one)
 
 -- The plain step that a step makes is the one that the table names for it
 
@@ -51,10 +46,6 @@ fits_made kind what weakly o d fit is = grind arith
 
 -- The operations
 
--- a table makes its operations if each place of its memory is as `IsPlace` says
-pub operates_by : {W V C L A : Type 0} (t : Table W V C L A) → ((i : ℕ) → IsPlace t.memory i) → Operates t
-operates_by t places c l h w one = let place = places (place_of (t.word l) (t.act c l h)) in grind (arith, one, place.stays w, place.put)
-
 module _ {W V C L A : Type 0} (t : Table W V C L A) (fit : (p : ℕ) (c : C) (l : L) (h : Option Hold) → fits_act t.lock_kind (t.asks c h) (t.act c l h) p ≡ true) (operates : Operates t) where
   pub fits_change : (p : ℕ) (c : C) (l : L) (h : Option Hold) (n : ℕ) (w : W) (d : Change) → change_at n (t.act c l h) p w ≡ Some d → (is_step_of t.lock_kind d ≡ true) × ((t.asks c h).gets_weakly d ≡ true → is_some (refusal_by (t.act c l h)) ≡ true)
   fits_change p c l h n w d is = fits_made t.lock_kind (t.asks c h) _ (makes_by (t.act c l h) p) d (and_parts _ _ (fit p c l h)).0 (change_is n (t.act c l h) p w d is)
@@ -63,8 +54,7 @@ module _ {W V C L A : Type 0} (t : Table W V C L A) (fit : (p : ℕ) (c : C) (l 
   performs_of c l h one = grind arith
 
   operation_of : (sections : Bool) (c : C) (l : L) (h : Option Hold) → may_be_section sections (is_section (t.act c l h)) ≡ true → IsOneOperation sections (machine_of t) c l h
-  operation_of true c l h one = tt
-  operation_of false c l h one = (_, _, performs_of c l h (not-true _ one))
+  operation_of sections c l h one = grind (arith, performs_of c l h)
 
   lost_of : (c : C) (l : L) (h : Option Hold) (act : Act W L A) (next : Next L A) → t.act c l h ≡ act → refusal_by act ≡ Some next → RefusesAsLost (machine_of t) c l h next
   lost_of c l h (weak_exchange k f step won lost) next same is =
@@ -77,12 +67,12 @@ module _ {W V C L A : Type 0} (t : Table W V C L A) (fit : (p : ℕ) (c : C) (l 
   stepwise_of calls own =
       record {
         calls = calls;
-        begins = λ c h. grind arith;
+        begins = grind arith;
         fits = own;
         refuses = λ c l h next is. lost_of c l h (t.act c l h) next refl is;
         weak = λ p c l h w d is. (fits_change p c l h (number_at t.memory (place_of (t.word l) (t.act c l h)) w) w d is).1;
         operates = λ c l h. operation_of t.lock_kind.steps_in_sections c l h (and_parts _ _ (fit 0 c l h)).1;
-        looks = λ c l h is w v. grind arith;
+        looks = grind arith;
       }
 
 module _ {W V C L : Type 0} (t : Table W V C L (Answer (Unit {0}))) (brings : C → Option V) (fit : (p : ℕ) (c : C) (l : L) (h : Option Hold) → fits_act t.lock_kind (t.asks c h) (t.act c l h) p ≡ true) (operates : Operates t) where

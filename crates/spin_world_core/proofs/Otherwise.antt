@@ -16,12 +16,9 @@ pub record IsOwn (p : ℕ) (m : Mark) : Type 0 where
   pub party : m.party ≡ p
   pub strong : is_weak m.step_kind ≡ false
 
-leaves : (kind : LockKind) (p : ℕ) (m : Mark) → IsOwn p m → Leaves kind p m
-leaves kind p m is = grind arith
-
 owns : (kind : LockKind) (p : ℕ) (ms : List Mark) → AllOf (IsOwn p) ms → AllOf (Leaves kind p) ms
 owns kind p [] are = tt
-owns kind p (m ∷ ms) are = (leaves kind p m are.0, owns kind p ms are.1)
+owns kind p (m ∷ ms) are = grind (arith, owns kind p ms are.1)
 
 -- a call that continues after k such steps breaks the law that allows fewer
 pub too_many : (kind : LockKind) (p : ℕ) (what : Asked) (k : ℕ) (recent : List Mark) (first : Mark) (older : List Mark) → UndisturbedTakes (λ n. n < k) kind p what (recent ++ first ∷ older)

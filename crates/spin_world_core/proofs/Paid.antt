@@ -1,11 +1,10 @@
 -- What holds at a step of a party, by what the object shows of its table (`Pays`).
-use Rattle.spin_world_core.proofs.Names.{LockKind, ◌≡◌, ℕ, zero, suc, ◌<◌, Bool, true, false, is_some, Option, Some, None, List, [], ◌∷◌, ◌++◌, option_to_list, get_or, ap, sym, ◌∙◌, subst, arith, and_parts, false≢true, Plain, Ask, Change, gets, is_open, is_open_to, apply_some, IsOpenStep, entries, Hold, Next, Continue, Answers, Stepped, Move, Step, Weak, StepKind, weak, is_again, by_step, Asked, place_of, encoded, is_step_of, BelongsTo, Said, own_steps, AnyOf, Mark, first_word, Limit, is_open_now, steps_alone, way_of, is_due_by, LooksElse, Gets, mark_of, Machine, entries_held, own, failures, changes, IsBeginning, RightBy, ContinuesWithin, number_at, Act, load_for, retry, either, stays, step_by, change_by, can_by, refusal_by, makes_by, step_kind_by, Table, begin_of, HasPhase, tries_of, goes_of, limit}
-use Rattle.spin_world_core.proofs.Steps.{told, played, GoesOnOpen, ContinuesCounted, Moves, NextIs, AnswersWithin, AtStep, Plays}
+use Rattle.spin_world_core.proofs.Names.{◌≤◌, LockKind, ◌≡◌, ℕ, zero, suc, Bool, true, false, is_some, Option, Some, None, List, [], ◌∷◌, ◌++◌, option_to_list, ap, sym, ◌∙◌, subst, arith, and_parts, false≢true, Plain, Ask, Change, gets, is_open, is_open_to, apply_some, IsOpenStep, entries, Hold, Next, Continue, Answers, Stepped, Move, Step, Weak, StepKind, weak, is_again, by_step, Asked, place_of, encoded, is_step_of, BelongsTo, Said, own_steps, AnyOf, Mark, first_word, Limit, is_open_now, steps_alone, way_of, is_due_by, LooksElse, Gets, mark_of, Machine, entries_held, own, failures, changes, IsBeginning, RightBy, ContinuesWithin, number_at, Act, load_for, retry, either, stays, step_by, change_by, can_by, refusal_by, makes_by, step_kind_by, Table, begin_of, HasPhase, tries_of, goes_of, limit}
+use Rattle.spin_world_core.proofs.Steps.{Makes, told, played, GoesOnOpen, ContinuesCounted, Moves, NextIs, AnswersWithin, AtStep, Plays}
 use Rattle.spin_world_core.proofs.Operating.{change_is, fits_made}
-use Rattle.spin_world_core.proofs.Spans.{retries-mine}
 use Rattle.spin_world_core.proofs.Stands.{stand_of, held_at, stand-mine}
-use Rattle.spin_world_core.proofs.Rows.{Known, Opened, OwesRight, Branch, goes, finds_open, loses, misses, Branched, may_spend, need_of, Needs, needs-mine, spent-mine, goes_within, ends_within, any_map, moment_of, weakly_right, Row, IsSound, Expects, known-other}
-use Rattle.spin_world_core.proofs.Shapes.{Notes, OwesBy, is_answer, row_of, KnowsRow, Knows, AtPoint, InCall, FollowsRow, Follows, Owes, OwesRow, goes_by, answers_by, AnswersRow, BeginsRow, BeginsAt, sure_by, aim_by, aim_of, aimed, aimed_at, Pays}
+use Rattle.spin_world_core.proofs.Rows.{Known, Opened, OwesRight, Branch, goes, finds_open, loses, misses, Branched, need_of, Needs, needs-mine, spent-mine, goes_within, ends_within, any_map, moment_of, Row, IsSound, Expects, known-other}
+use Rattle.spin_world_core.proofs.Shapes.{AimsRow, SoonRow, Notes, OwesBy, is_answer, row_of, KnowsRow, Knows, AtPoint, InCall, FollowsRow, Follows, Owes, OwesRow, answers_by, BeginsRow, sure_by, aim_by, aim_of, aimed, Pays}
 
 abbrev Aimed : {W L A : Type 0} → Option Ask → Option Ask → Act W L A → List Change → ℕ → Type 0
 Aimed tries due act made p = aim_by tries act p ≡ aimed p (aim_of tries due made) (aim_by tries act p)
@@ -57,12 +56,9 @@ module _ {W V C L A : Type 0} {t : Table W V C L A} (n : Notes t) (p : ℕ) (wha
     (Comes : Bool → Option Change → StepKind → Branch → Next L A → Type 0) where
   -- what is shown of a step or of a spurious failure
   record Shown (weakly : Bool) (step : Option Change) (r : StepKind) (branch : Branch) (u : W) (next : Next L A) : Type 0 where
-    opens : IsOpenStep s p step
-    belongs : BelongsTo t.lock_kind step
-    encodes : t.memory.numbers u ≡ encoded t.lock_kind (apply_some s step)
-    shape : n.Shape (apply_some s step)
+    makes : Makes n p s span step r u
+    open makes use *
     branched : Branched branch s step r
-    fails : is_again r ≡ true → step ≡ None → failures p span < changes t.lock_kind p span
     comes : Comes weakly step r branch next
 
   module _ (i : ℕ) (act : Act W L A) where
@@ -96,19 +92,11 @@ module _ {W V C L A : Type 0} {t : Table W V C L A} (n : Notes t) (p : ℕ) (wha
         let first : number_at t.memory 0 w ≡ first_word t.lock_kind s = grind arith in
         record {
           can = grind arith;
-          step = record {
-            opens = grind arith;
-            belongs = grind (arith, own);
-            encodes = grind arith;
-            shape = grind arith;
-            branched = grind arith;
-            fails = λ e none. grind (arith, expects, first);
-            comes = grind arith;
-          };
-          gets = λ e is may. grind arith;
-          counts = λ d is may none goes_on. grind arith;
-          aims = λ ask aims none. grind arith;
-          refuses = λ next is. grind arith;
+          step = record { makes = grind (arith, own, expects, first); branched = grind arith; comes = grind arith };
+          gets = grind arith;
+          counts = grind arith;
+          aims = grind arith;
+          refuses = grind arith;
         }
 
 module _ {W V C L A B : Type 0} {t : Table W V C L A} {m : Machine W V C L B} {n : Notes t} (f : Plays m n) where
@@ -118,21 +106,16 @@ module _ {W V C L A B : Type 0} {t : Table W V C L A} {m : Machine W V C L B} {n
   abbrev kind : LockKind
   kind = t.lock_kind
 
-  first_is : (w : W) (s : Plain) → t.memory.numbers w ≡ encoded kind s → number_at t.memory 0 w ≡ first_word kind s
-  first_is w s encodes = ap (λ numbers. get_or numbers 0 0) encodes
-
   right_by : (weakly : Bool) (what : Asked) (said : Said) (p : ℕ) (span : List Mark) → Opened span
       → AnyOf (λ steps. own p span ≡ steps) (own_steps (what.answers said) p) → OwesRight weakly what said p span
       → RightBy (move_of {C = C} {V = V} weakly) what said p span
-  right_by true what said p span opened is owed = weakly_right (what.needs_no_cause said) _ _ (moment_of (what.answers said) p span opened is) owed
-  right_by false what said p span opened is owed = moment_of (what.answers said) p span opened is owed
+  right_by weakly what said p span opened is owed = grind (arith, moment_of (what.answers said) p span opened is)
 
   answers_within : (k : ℕ) (w : W) (c : C) (l : L) (h : Option Hold) → answers_by t k w c l h ≡ true → AnswersWithin (played t m) k w c l h
   answers_within zero w c l h soon = absurd (false≢true soon)
   answers_within (suc k) w c l h soon = λ v j is.
       let now = (step_by {V = V} t.memory (t.word l) (t.act c l h) w).words in
-      let left = subst (λ next. goes_by next true (λ l. answers_by t k now c l h) ≡ true) (f.continues w v c l h j is) soon in
-      subst (λ u. AnswersWithin (played t m) k u c j h) (sym (f.words w v c l h)) (answers_within k now c j h left)
+      rw (f.words w v c l h) (answers_within k now c j h (rw (f.continues w v c l h j is) at soon))
 
   -- a step of the call, at the row of its point
   module _ (p : ℕ) (c : C) (l : L) (h : Option Hold) (s : Plain) (w : W) (span : List Mark) (row : Row)
@@ -158,93 +141,66 @@ module _ {W V C L A B : Type 0} {t : Table W V C L A} {m : Machine W V C L B} {n
     abbrev limited : Limit
     limited = limit kind what
 
-    abbrev number : ℕ → ℕ
-    number i = number_at t.memory i w
-
     made_now : (step : Option Change) (r : StepKind) (cs : List Change) → row.made p ++ option_to_list step ≡ cs → own p (spanned step r) ≡ cs
     made_now step r cs is = grind arith
 
+    abbrev ShownHere : Bool → Option Change → StepKind → Branch → W → Next L A → Type 0
+    ShownHere = Shown n p what s w span (row.made p) Comes
+
     -- a step with this result, and how the call continues
-    module _ (step : Option Change) (r : StepKind) (branch : Branch) (may : IsOpenStep s p step) (branched : Branched branch s step r)
-        (lost : is_again r ≡ true → step ≡ None → failures p span < changes kind p span) where
+    module _ {weakly : Bool} {step : Option Change} {r : StepKind} {branch : Branch} {u : W} {next : Next L A}
+        (is : ShownHere weakly step r branch u next) where
       goes_to : (j : L) (o : Option Row) → IsSound kind what p o → ComesRow step r branch j o
           → KnowsRow n c j h p (apply_some s step) (spanned step r) o
           × ((said : Said) × AnyOf (λ steps. IsBeginning (own p (spanned step r)) steps) (own_steps (what.answers said) p))
           × ContinuesWithin limited kind p (spanned step r)
       goes_to j None sound follows = absurd follows
       goes_to j (Some to) sound follows =
-          let retries = retries-mine kind p step r s span at.retries lost in
-          let spends = may_spend (tries_of what) branch step p s span _ follows.spends in
+          let retries : failures p (spanned step r) ≤ changes kind p (spanned step r) = grind (arith, at.retries, is.fails) in
           let found = needs-mine p s step r span (need_of kind what (to.made p) (t.act c j h)) _ follows.finds in
           let made = made_now step r (to.made p) follows.made in
-          let spent = spent-mine p s step r span limited kind branch (to.made p) row.spent to.spent branched made spends known.spent in (
-            (
-              record {
-                stand = stand-mine s p step row.stand to.stand may known.stand follows.stands;
-                made = made;
-                spent = spent;
-                expects = grind arith;
-                needs = found.0;
-                opened = (may, known.opened);
-              },
-              follows.knows,
-            ),
+          let expects : Expects kind (t.act c j h) p (apply_some s step) (spanned step r) = grind arith in
+          let spent = spent-mine p s step r span limited kind branch (to.made p) row.spent to.spent made follows.spends is.branched known.spent in (
+            (search (stand-mine s p step row.stand to.stand is.opens known.stand follows.stands, made, spent, expects, found, is, known.opened), follows.knows),
             (
               to.said,
               any_map (λ steps. to.made p ++ to.rest p ≡ steps) (λ steps. IsBeginning (own p (spanned step r)) steps) (own_steps (what.answers to.said) p)
                   (λ steps e. (to.rest p, ap (λ cs. cs ++ to.rest p) made ∙ e)) sound.1,
             ),
-            goes_within limited kind branch (to.made p) row.spent to.spent p (spanned step r) made sound.0 retries spends spent,
+            goes_within p s step r span limited kind branch (to.made p) row.spent to.spent made follows.spends sound.0 retries spent,
           )
 
-      followed : (weakly : Bool) (next : Next L A) → Comes weakly step r branch next → NextIs n (move_of weakly) p c h (apply_some s step) (spanned step r) (told t.says next)
-      followed weakly (Continue j) follows =
+      followed : (next : Next L A) → Comes weakly step r branch next → NextIs n (move_of weakly) p c h (apply_some s step) (spanned step r) (told t.says next)
+      followed (Continue j) follows =
           let there = goes_to j (row_of n c j h) (pays.sound p c j h) follows in
           record { knows = there.0; own_so_far = there.1; in_time = there.2 }
-      followed weakly (Answers a after) follows =
+      followed (Answers a after) follows =
           let made = any_map (λ steps. row.made p ++ option_to_list step ≡ steps) (λ steps. own p (spanned step r) ≡ steps)
           (own_steps (what.answers (t.says a)) p) (λ steps e. made_now step r steps e) follows.made in
-          record {
-            stands = stand-mine s p step row.stand (stand_of after) may known.stand follows.stands ∙ sym (held_at p after);
-            own_steps_are = made;
-            right = right_by weakly what (t.says a) p (spanned step r) (may, known.opened) made follows.right;
-            in_time =
-                ends_within limited kind (row.made p) row.spent p s step r span sound.0 at.retries known.spent
-                follows.in_time;
-          }
+          search (
+            stand-mine s p step row.stand (stand_of after) is.opens known.stand follows.stands ∙ sym (held_at p after),
+            made,
+            right_by weakly what (t.says a) p (spanned step r) (is.opens, known.opened) made follows.right,
+            ends_within limited kind (row.made p) row.spent p s step r span sound.0 at.retries known.spent follows.in_time,
+          )
 
       -- a try continues only as `MayTryOn` allows
-      tried_on : (ask : Ask) (next : Next L A) → tries_of what ≡ Some ask → (step ≡ None → Aims branch (is_open_to s p ask ≡ true))
-          → Comes false step r branch next → GoesOnOpen ask p span s (told t.says next) step
-      tried_on ask next is shows follows = grind (arith, is, shows)
+      tried_on : (ask : Ask) → tries_of what ≡ Some ask → (step ≡ None → Aims branch (is_open_to s p ask ≡ true))
+          → GoesOnOpen ask p span s (told t.says next) step
+      tried_on ask asks shows = grind (arith, is.comes, asks, shows)
 
-    abbrev ShownHere : Bool → Option Change → StepKind → Branch → W → Next L A → Type 0
-    ShownHere = Shown n p what s w span (row.made p) Comes
-
-    moves_by : {weakly : Bool} {step : Option Change} {r : StepKind} {branch : Branch} {u : W} {next : Next L A} → ShownHere weakly step r branch u next
-        → Moves n (move_of weakly) p c h s span step r u (told t.says next)
-    moves_by {weakly} {step} {r} {branch} {next = next} is =
-        record {
-          opens = is.opens;
-          belongs = is.belongs;
-          encodes = is.encodes;
-          shape = is.shape;
-          goes_on = followed step r branch is.opens is.branched is.fails weakly next is.comes;
-          fails = is.fails;
-        }
+      moves_by : Moves n (move_of weakly) p c h s span step r u (told t.says next)
+      moves_by = record { makes = is.makes; goes_on = followed next is.comes }
 
     -- a spurious failure changes no word
     refused : (next : Next L A) → Comes true None weak goes next → ShownHere true None weak goes w next
     refused next comes = grind arith
 
-    abbrev Soon : Option Row → Type 0
-    Soon o = AnswersRow n p c l h s w span (answers_by t (steps_alone what) w c l h) (what.waits) o
-
-    soon_is : Soon (Some row) → is_open_now p what span s ≡ true → answers_by t (steps_alone what) w c l h ≡ true
+    soon_is : SoonRow n p c l h s w span (Some row) → is_open_now p what span s ≡ true → answers_by t (steps_alone what) w c l h ≡ true
     soon_is soon may = grind arith
 
     at_row : ((d : Change) → makes_by (t.act c l h) p ≡ Some d → is_step_of kind d ≡ true) → OwesHere (t.word l) (t.act c l h)
-        → Aimed (tries_of what) (goes_of what (row.made p)) (t.act c l h) (row.made p) p → Soon (Some row)
+        → Aimed (tries_of what) (goes_of what (row.made p)) (t.act c l h) (row.made p) p → SoonRow n p c l h s w span (Some row)
         → (v : Option V) → HasPhase kind.makes_value s.phase v → AtStep m n p c l h s v w span
     at_row fits owes aims soon v phase =
         let act = t.act c l h in
@@ -257,7 +213,7 @@ module _ {W V C L A B : Type 0} {t : Table W V C L A} {m : Machine W V C L B} {n
           due = gets_by kind what act p s span _ (row.made p) known.made known.needs aims is.gets;
           tries_on = λ ask asks none.
               let aims = is.aims ask (aims_try (tries_of what) _ act (row.made p) ask p asks (sym known.made ∙ none) aims) in
-              rw values.tells (tried_on _ _ _ is.step.opens is.step.branched is.step.fails ask _ asks aims is.step.comes);
+              rw values.tells (tried_on is.step ask asks aims);
           undisturbed = λ may. answers_within (steps_alone what) w c l h (soon_is soon may);
           refuses = λ next refuses.
               let other = f.refuses c l h next refuses in rw other.2 (moves_by (refused other.0 (is.refuses other.0 other.1).0));
@@ -274,9 +230,7 @@ module _ {W V C L A B : Type 0} {t : Table W V C L A} {m : Machine W V C L B} {n
       (pays.soon p c l h s w span)
     where
       by : (o : Option Row) → AtPoint n p c l h s w span o → IsSound kind (t.asks c h) p o → OwesRow n p c l h s w span o
-          → aim_by (tries_of (t.asks c h)) (t.act c l h) p ≡ aimed_at p (t.asks c h) o (aim_by (tries_of (t.asks c h)) (t.act c l h) p)
-          → AnswersRow n p c l h s w span (answers_by t (steps_alone (t.asks c h)) w c l h) ((t.asks c h).waits) o
-          → AtStep m n p c l h s v w span
+          → AimsRow n p c l h o → SoonRow n p c l h s w span o → AtStep m n p c l h s v w span
       by None at sound owes aims soon = absurd at.knows
       by (Some row) at sound owes aims soon =
           at_row p c l h s w span row at sound (λ d is. (fits_made kind (t.asks c h) _ _ d (and_parts _ _ (pays.fits p c l h)).0 is).0)
@@ -287,9 +241,7 @@ module _ {W V C L A B : Type 0} {t : Table W V C L A} {m : Machine W V C L B} {n
     others_at : (q : ℕ) (step : Option Change) (r : StepKind) (span : List Mark) (o : Option Row) → (q ≡ p → ⊥) → IsOpenStep s q step
         → (n.Knows c l h p s span → n.Knows c l h p (apply_some s step) (mark_of q step r s ∷ span)) → KnowsRow n c l h p s span o
         → KnowsRow n c l h p (apply_some s step) (mark_of q step r s ∷ span) o
-    others_at q step r span None ne may stays knows = absurd knows
-    others_at q step r span (Some row) ne may stays knows =
-        (known-other p q s step r span ne kind (t.asks c h) (t.act c l h) row may knows.0, stays knows.1)
+    others_at q step r span o ne may stays knows = grind (arith, stays, λ (row : Row). known-other p q s step r span ne kind (t.asks c h) (t.act c l h) row may)
 
     pub knows_beside : (span : List Mark) (q : ℕ) (step : Option Change) (r : StepKind) → (q ≡ p → ⊥) → n.Shape s → IsOpenStep s q step
         → BelongsTo kind step → Knows n c l h p s span → Knows n c l h p (apply_some s step) (mark_of q step r s ∷ span)
@@ -302,4 +254,4 @@ module _ {W V C L A B : Type 0} {t : Table W V C L A} {m : Machine W V C L B} {n
     begins_at (Some row) mine begins = grind arith
 
     pub knows_first : begin_of t c h ≡ Some l → entries p s ≡ entries_held p h → Knows n c l h p s []
-    knows_first e mine = begins_at (row_of n c l h) mine (subst (BeginsAt n c h p s) e (pays.begins p c h s))
+    knows_first e mine = begins_at (row_of n c l h) mine (rw e at (pays.begins p c h s))

@@ -1,5 +1,6 @@
 -- What has been played of a schedule, at the beginning of a turn of the loop.
-use Rattle.spin_world_core.proofs.Names.{slice_get-map, ◌≡◌, ℕ, map, ◌+◌, ◌<◌, ◌≤◌, ◌==◌, ◌&&◌, true, Option, Some, None, List, [], ◌∷◌, ◌++◌, length, if◌then◌else◌, refl, ap, sym, ◌∙◌, arith, subst, length-set, take, get_or, length-take-le, zero-add, ∥∥₁_map, length-map, take_all, Move, Outcome, Event, Machine, State, Happened, happens, after, events_of, with_begins, last_begin, is_begun, at_first, IsReached}
+use Rattle.spin_world_core.specs.Runs.{Schedule}
+use Rattle.spin_world_core.proofs.Names.{slice_get-map, ◌≡◌, ℕ, map, ◌+◌, ◌<◌, ◌≤◌, ◌==◌, ◌&&◌, true, Option, Some, None, List, [], ◌∷◌, ◌++◌, length, if◌then◌else◌, ap, sym, ◌∙◌, arith, subst, length-set, take, get_or, length-take-le, zero-add, ∥∥₁_map, length-map, take_all, Move, Outcome, Event, Machine, State, Happened, happens, after, events_of, with_begins, last_begin, is_begun, at_first, IsReached}
 use Rattle.spin_model.specs.Schedules.{begin_of, begins_after, with_begin}
 use Rattle.spin_model.proofs.Lists.{get-set_within}
 use Rattle.spin_world_core.proofs.Lists.{get-set_other, take_next}
@@ -14,52 +15,35 @@ begun_more : {V A : Type 0} (begins : List (Option ℕ)) (p q k : ℕ) (old : Op
     → begin_of begins q ≡ old → begin_of (begins_after begins p k o) q ≡ (if (p == q) && is_begun o then Some k else old)
 begun_more begins p q k old o lt e = grind (arith, lt, get-set_within begins p (Some k), get-set_other begins p q (Some k))
 
-length-begins_after : {V A : Type 0} (begins : List (Option ℕ)) (p k : ℕ) (o : Outcome A V) → length (begins_after begins p k o) ≡ length begins
-length-begins_after begins p k o = grind (arith, length-set begins p (Some k))
-
 module _ {W V C L A : Type 0} (m : Machine W V C L A) where
-  pub record Played (from now : State W V C L) (begins : List (Option ℕ)) (events : List (Event W V A)) (front : List (ℕ × Move C V)) : Type 0 where
+  pub record Played (from now : State W V C L) (begins : List (Option ℕ)) (events : List (Event W V A)) (front : Schedule C V) : Type 0 where
     pub table : now ≡ after m from front
     pub with_begins_so : events ≡ with_begins [] (events_of m from front)
     pub begun_so : (p : ℕ) → begin_of begins p ≡ last_begin p 0 None (events_of m from front)
     pub parties : length begins ≡ length now.seats
 
-  -- only a party that exists begins a call
-  begins_within : (s : State W V C L) (p : ℕ) (move : Move C V) → is_begun (happens m s p move).outcome ≡ true → p < length s.seats
-  begins_within s p move e = grind (arith, stranger m s p move)
-
   pub forgotten : (s : State W V C L) (begins now : List (Option ℕ)) → now ≡ map (λ b. None) begins → length begins ≡ length s.seats → Played s s now [] []
-  forgotten s begins now is parties =
-      record {
-        table = refl;
-        with_begins_so = refl;
-        begun_so = λ p. ap (λ bs. begin_of bs p) is ∙ none_begun begins p;
-        parties = ap length is ∙ (length-map begins (λ b. None) ∙ parties);
-      }
+  forgotten s begins now is parties = grind (arith, is, none_begun begins, length-map {B = Option ℕ} begins (λ b. None), parties)
 
-  played_at : (from : State W V C L) (begins : List (Option ℕ)) (events : List (Event W V A)) (front : List (ℕ × Move C V)) (p : ℕ) (move : Move C V)
+  played_at : (from : State W V C L) (begins : List (Option ℕ)) (events : List (Event W V A)) (front : Schedule C V) (p : ℕ) (move : Move C V)
       → Played from (after m from front) begins events front → (h : Happened W V C L A) → h ≡ happens m (after m from front) p move
       → Played from h.next (begins_after begins p (length front) h.outcome)
       (events ++ record { party = p; outcome = with_begin (begin_of begins p) h.outcome; words = h.next.words } ∷ []) (front ++ (p, move) ∷ [])
   played_at from begins events front p move played h is =
       let all = events_of-append m from front ((p, move) ∷ []) in
-      let event : Event W V A = record {
-        party = p;
-        outcome = (happens m (after m from front) p move).outcome;
-        words = (happens m (after m from front) p move).next.words;
-      } in
+      let event = events_of m (after m from front) ((p, move) ∷ []) in
       record {
         table = ap (λ h. h.next) is ∙ sym (after-append m from front ((p, move) ∷ []));
         with_begins_so =
-            grind (arith, all, is, played.with_begins_so, played.begun_so p, with_begins-append [] (events_of m from front) (event ∷ []));
+            grind (arith, all, is, played.with_begins_so, played.begun_so p, with_begins-append [] (events_of m from front) event);
         begun_so = λ q.
-            rw (all, last_begin-append q 0 None (events_of m from front) (event ∷ []), length-events_of m from front, is, zero-add)
+            rw (all, last_begin-append q 0 None (events_of m from front) event, length-events_of m from front, is, zero-add)
             (begun_more begins p q (length front) (last_begin q 0 None (events_of m from front)) (happens m (after m from front) p move).outcome
-            (λ e. omega (arith, begins_within (after m from front) p move e, played.parties)) (played.begun_so q));
-        parties = grind (arith, length-begins_after begins p (length front) h.outcome, played.parties, length-happens m (after m from front) p move, is);
+            (λ e. grind (arith, stranger m (after m from front) p move, played.parties)) (played.begun_so q));
+        parties = grind (arith, length-set begins p (Some (length front)), played.parties, length-happens m (after m from front) p move, is);
       }
 
-  pub played_next : (from now next : State W V C L) (begins begins' : List (Option ℕ)) (events events' : List (Event W V A)) (schedule : List (ℕ × Move C V))
+  pub played_next : (from now next : State W V C L) (begins begins' : List (Option ℕ)) (events events' : List (Event W V A)) (schedule : Schedule C V)
       (k : ℕ) (entry : ℕ × Move C V) (o o' : Outcome A V) (words : W)
       → Played from now begins events (take k schedule) → k < length schedule → entry ≡ get_or schedule k entry
       → (let h : Happened W V C L A = record { outcome = o; next = next } in h ≡ happens m now entry.0 entry.1) → words ≡ next.words
@@ -73,7 +57,7 @@ module _ {W V C L A : Type 0} (m : Machine W V C L A) where
       rw (take_next schedule k entry lt read, added, put, told_o, same_words) (rw front at more)
 
   -- the whole schedule has been played
-  pub played_all : (from now : State W V C L) (begins : List (Option ℕ)) (events : List (Event W V A)) (schedule : List (ℕ × Move C V)) (k : ℕ)
+  pub played_all : (from now : State W V C L) (begins : List (Option ℕ)) (events : List (Event W V A)) (schedule : Schedule C V) (k : ℕ)
       → Played from now begins events (take k schedule) → length schedule ≤ k → Played from now begins events schedule
   played_all from now begins events schedule k played all = subst (Played from now begins events) (take_all k schedule all) played
 

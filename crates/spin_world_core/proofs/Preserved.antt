@@ -1,16 +1,15 @@
 -- One event keeps all that is promised, for any machine that plays a table (`Plays`).
-use Rattle.spin_world_core.proofs.Names.{seat_of, slice_get_within, ◌≡◌, ℕ, ◌≤◌, ◌==◌, Bool, false, Option, Some, None, List, [], ◌∷◌, ◌++◌, suc, if◌then◌else◌, slice_get, slice_set, refl, ap, sym, ◌∙◌, subst, arith, ne_eqb, true≢false, Plain, Ask, Change, apply_some, IsOpenStep, Entries, entries, IsExclusive, entries-other, entries-own, Hold, Seat, Calling, Holding, Leaked, Next, Continue, Answers, Move, Step, Weak, Leak, StepKind, is_weak, by_step, encoded, BelongsTo, Mark, Machine, seated, goes_on, placed, resting, may_read, may_write, Seen, Scene, scene_at, scene_of, mark_of, own, own_count, failures, changes, if_completed, entries_of, entries_held, StandsFor, is_reader, is_writer, Keeps, IsRight, IsInTime, UndisturbedTakes, AnsweredSoon, Gets, GetsWhenDue, TriesOn, tries_of, Table, Phase, HasPhase}
-use Rattle.spin_world_core.specs.Runs.{InItsCall, InTime, IsCounted, IsWeakCall, OwnSteps, StepLeaves, asked, entries_so_far}
+use Rattle.spin_world_core.proofs.Names.{seat_of, slice_get_within, ◌≡◌, ℕ, ◌≤◌, ◌==◌, Bool, false, Option, Some, None, List, [], ◌∷◌, suc, if◌then◌else◌, slice_get, slice_set, refl, ap, sym, ◌∙◌, subst, arith, ne_eqb, true≢false, Plain, Ask, Change, apply_some, IsOpenStep, Entries, entries, IsExclusive, entries-other, entries-own, Hold, Seat, Calling, Holding, Leaked, Next, Continue, Answers, Move, Step, Weak, Leak, StepKind, is_weak, by_step, encoded, BelongsTo, Mark, Machine, seated, goes_on, placed, resting, may_read, may_write, Seen, Scene, scene_at, scene_of, mark_of, own, failures, changes, if_completed, entries_of, entries_held, StandsFor, is_reader, is_writer, Keeps, IsRight, IsInTime, UndisturbedTakes, AnsweredSoon, Gets, GetsWhenDue, TriesOn, tries_of, Table, HasPhase}
+use Rattle.spin_world_core.specs.Runs.{InItsCall, InTime, IsCounted, IsWeakCall, OwnSteps, asked, entries_so_far}
 use Rattle.spin_step.proofs.Exclusive.{exclusive-kept}
 use Rattle.spin_model.specs.declared.schedule.Outcome.TheVariants as outcome
 use Rattle.spin_model.specs.StepKinds as step_kind
 use Rattle.spin_model.proofs.Lists.{get-set_same}
 use Rattle.spin_world_core.proofs.Lists.{get-set, eqb_self}
-use Rattle.spin_world_core.proofs.Spans.{retries-mine}
-use Rattle.spin_world_core.proofs.Steps.{told, played, GoesOnOpen, ContinuesCounted, KnowsAt, Moves, AnswersWithin, AtStep, Plays}
+use Rattle.spin_world_core.proofs.Steps.{Makes, told, played, GoesOnOpen, ContinuesCounted, KnowsAt, Moves, AnswersWithin, AtStep, Plays}
 use Rattle.spin_world_core.proofs.Shapes.{Notes, InCall}
 use Rattle.spin_world_core.proofs.Paid.{at_step, knows_beside, knows_first}
-use Rattle.spin_world_core.proofs.Undisturbed.{RunsOn, GoesWithin, LeftBy, stepped, beside, runs_fresh, more_left}
+use Rattle.spin_world_core.proofs.Undisturbed.{RunsOn, GoesWithin, Left, stepped, beside, runs_fresh, soon_by}
 use Rattle.spin_world_core.proofs.Events.{LeavesBy, seat_with, OfBegin, OfWrite}
 
 -- A party whose hold lets it read is a reader in the plain lock. A party whose hold lets it write is a writer there.
@@ -27,23 +26,10 @@ at_seat : {C L : Type 0} (P : ℕ → Option (Seat C L) → Type 0) (seats : Lis
 at_seat P seats p x y there here away q =
     get-set (P q) seats p q x (slice_get_within seats p y there) (λ e. subst (λ i. P i (Some x)) e here) (away q)
 
--- another party's step keeps what the seat of q says of its entries
-stands_beside : {C L : Type 0} (s : Plain) (p q : ℕ) (step : Option Change) (r : StepKind) (span : List Mark) (o : Option (Seat C L)) → (p ≡ q → ⊥)
-    → IsOpenStep s p step → StandsFor s q span o → StandsFor (apply_some s step) q (mark_of p step r s ∷ span) o
-stands_beside s p q step r span o ne may stands = grind (arith, entries-other s p q step ne may)
-
 -- after a party's own step, the party's entries are those of its span with this step
 stands_stepped : (s : Plain) (p : ℕ) (step : Option Change) (r : StepKind) (span : List Mark) (e : Entries) → IsOpenStep s p step
     → entries p s ≡ entries_so_far p span e → entries p (apply_some s step) ≡ entries_so_far p (mark_of p step r s ∷ span) e
 stands_stepped s p step r span e may stands = grind (arith, entries-own s p step may)
-
--- a step changes the value only if a closure completes by it
-leaves : {V : Type 0} (old new put : Option V) (step : Option Change) → new ≡ if_completed old put step → StepLeaves step old new
-leaves old new put step is = grind arith
-
--- `HasPhase` stays true if the owner replaces a value by another value
-pub phase_set : {V : Type 0} (makes : Bool) (phase : Phase) (old v : V) → HasPhase makes phase (Some old) → HasPhase makes phase (Some v)
-phase_set makes phase old v is = grind (arith, is)
 
 module _ {W V C L A B : Type 0} {t : Table W V C L A} {by : Machine W V C L B} {n : Notes t} (f : Plays by n) where
   abbrev m : Machine W V C L B
@@ -93,18 +79,14 @@ module _ {W V C L A B : Type 0} {t : Table W V C L A} {by : Machine W V C L B} {
       → ((q : ℕ) → (p ≡ q → ⊥) → span q ≡ seen.span q) → OfParty seen.state.words seen.plain p (span p) (Some x)
       → Invariant (record { state = seated seen.state p x; plain = seen.plain; span = span; written = seen.written })
   good_seated seen p x y span good there same here =
-      record {
-        encodes = good.encodes;
-        shape = good.shape;
-        phase = good.phase;
-        exclusive = good.exclusive;
-        written = good.written;
-        parties = at_seat (λ q o. OfParty seen.state.words seen.plain q (span q) o) seen.state.seats p x y there here (λ q ne.
-            subst (λ ms. OfParty seen.state.words seen.plain q ms (seat_of seen q)) (sym (same q ne)) (good.parties q));
-      }
+      let parties = at_seat (λ q o. OfParty seen.state.words seen.plain q (span q) o) seen.state.seats p x y there here
+      (λ q ne. rw (same q ne) (good.parties q)) in
+      search (good, parties)
 
   -- what has to be shown of a step of a call and of how the call then goes on; of any other event these properties hold by themselves
   pub record StepRules (s : Scene W V C L B) : Type 0 where
+    pub opens : IsOpenStep s.before.plain s.party s.change
+    pub belongs : BelongsTo m.lock_kind s.change
     pub weak : (s.outcome ≡ outcome.Skipped → ⊥) → IsWeakCall s.move s.party (s.before.span s.party) (asked m s.seat)
     pub leaves : LeavesBy s.move s.change s.before.state.value s.after.state.value
     pub counted : IsCounted m s.party s.outcome s.move s.seat s.change s.step_kind s.before.plain
@@ -112,9 +94,8 @@ module _ {W V C L A B : Type 0} {t : Table W V C L A} {by : Machine W V C L B} {
     pub tries_on : TriesOn s.party s.outcome s.move (asked m s.seat) (s.before.span s.party) s.before.plain s.change
 
   pub record StepKeeps (s : Scene W V C L B) : Type 0 where
-    pub opens : IsOpenStep s.before.plain s.party s.change
-    pub belongs : BelongsTo m.lock_kind s.change
     pub rules : StepRules s
+    pub open rules use *
     pub own : OwnSteps m s.party (s.after.span s.party) s.outcome (asked m s.seat)
     pub right : IsRight m s
     pub in_time : InTime m.lock_kind s.party (s.after.span s.party) s.outcome (asked m s.seat)
@@ -139,25 +120,19 @@ module _ {W V C L A B : Type 0} {t : Table W V C L A} {by : Machine W V C L B} {
         → (encoded m.lock_kind (plain_by step) ≡ encoded m.lock_kind seen.plain → w ≡ seen.state.words)
         → OfParty seen.state.words seen.plain q (seen.span q) o → OfParty w (plain_by step) q (longer step r q) o
     of_others q w step r o there ne may belongs same is =
+        let beside_q = λ (c : C) (l : L) (h : Option Hold). knows_beside f q c l h seen.plain (seen.span q) in
         record {
-          stands = stands_beside seen.plain p q step r (seen.span q) o ne may is.stands;
-          knows = knows_after o is.knows;
+          stands = grind (arith, entries-other seen.plain p q step ne may, is.stands);
+          knows = grind (arith, is.knows, λ (c : C) (l : L) (h : Option Hold). beside_q c l h p step r ne good.shape may belongs);
           retries = grind arith;
           undisturbed =
               beside m seen.state.words w p q seen.plain step r (seen.span q) o ne same
               (λ c l h at. (at_step f _ (in_call q good (there ∙ at)) good.phase).undisturbed) is.undisturbed;
         }
-      where
-        knows_after : (o : Option (Seat C L)) → KnowsAt n seen.plain q (seen.span q) o
-            → KnowsAt n (plain_by step) q (longer step r q) o
-        knows_after (Some (Calling c l h)) knows =
-            knows_beside f q c l h seen.plain (seen.span q) p step r ne good.shape may belongs knows
-        knows_after _ knows = tt
 
     -- the invariant holds after a step of p's call
     good_stepped : (x y : Seat C L) (step : Option Change) (r : StepKind) (w : W) (v wr : Option V) → seat_of seen p ≡ Some y
-        → IsOpenStep seen.plain p step → BelongsTo t.lock_kind step → t.memory.numbers w ≡ encoded t.lock_kind (plain_by step)
-        → n.Shape (plain_by step) → HasPhase t.lock_kind.makes_value (plain_by step).phase v → v ≡ wr
+        → Makes n p seen.plain (seen.span p) step r w → HasPhase t.lock_kind.makes_value (plain_by step).phase v → v ≡ wr
         → OfParty w (plain_by step) p (longer step r p) (Some x)
         → Invariant (record {
           state = record { words = w; value = v; seats = slice_set seen.state.seats p x };
@@ -165,17 +140,11 @@ module _ {W V C L A B : Type 0} {t : Table W V C L A} {by : Machine W V C L B} {
           span = longer step r;
           written = wr;
         })
-    good_stepped x y step r w v wr there may belongs encodes shape phase written here =
-        record {
-          encodes = encodes;
-          shape = shape;
-          phase = phase;
-          exclusive = exclusive-kept seen.plain p step good.exclusive may;
-          written = written;
-          parties = at_seat (λ q o. OfParty w (plain_by step) q (longer step r q) o) seen.state.seats p x y there here (λ q ne.
-              of_others q w step r (seat_of seen q) refl ne may belongs
-              (λ e. f.pays.numbers_tell w seen.state.words (encodes ∙ (e ∙ sym good.encodes))) (good.parties q));
-        }
+    good_stepped x y step r w v wr there makes phase written here =
+        let parties = at_seat (λ q o. OfParty w (plain_by step) q (longer step r q) o) seen.state.seats p x y there here (λ q ne.
+        of_others q w step r (seat_of seen q) refl ne makes.opens makes.belongs
+        (λ e. f.pays.numbers_tell w seen.state.words (makes.encodes ∙ (e ∙ sym good.encodes))) (good.parties q)) in
+        search (makes, exclusive-kept seen.plain p step good.exclusive makes.opens, parties)
 
     -- the party p is in this call
     module _ (c : C) (l : L) (h : Option Hold) (there : seat_of seen p ≡ Some (Calling c l h)) where
@@ -185,73 +154,56 @@ module _ {W V C L A B : Type 0} {t : Table W V C L A} {by : Machine W V C L B} {
       -- what is left of the call after p's own step, if nobody has disturbed it
       left_by : (step : Option Change) (r : StepKind) (w : W) (next : Next L B)
           → (is_weak r ≡ false → (j : ℕ) → AnswersWithin m (suc j) seen.state.words c l h → GoesWithin m j w c h next)
-          → UndisturbedTakes (LeftBy m w p c h next) t.lock_kind p (t.asks c h) (longer step r p)
+          → UndisturbedTakes (Left m w c h next) t.lock_kind p (t.asks c h) (longer step r p)
       left_by step r w next steps =
           stepped m seen.state.words w p c l h seen.plain step r (seen.span p) next
-          (subst (RunsOn m seen.state.words p (seen.span p)) there (good.parties p).undisturbed) is.undisturbed steps
+          (rw there at (good.parties p).undisturbed) is.undisturbed steps
 
-      -- the event of a move of the call that makes this plain step, if any, stores this value, and leaves these words
-      abbrev event : Move C V → Option Change → StepKind → Option V → W → Option V → Next L B → Scene W V C L B
-      event move step r stored w v next = scene_of seen p move (Some (Calling c l h)) (goes_on (record seen.state { words = w; value = v }) p c h next) step r stored
+      stays : (k : L) → (next : L) × (slice_get (slice_set seen.state.seats p (Calling c k h)) p ≡ Some (Calling c next h))
+      stays k = (k, get-set_same seen.state.seats p (Calling c k h) (Calling c l h) there)
 
-      record Goes (move : Move C V) (step : Option Change) (r : StepKind) (stored : Option V) (w : W) (v : Option V) (next : Next L B) : Type 0 where
-        moves : Moves n move p c h seen.plain (seen.span p) step r w (told by.says next)
-        phase : HasPhase t.lock_kind.makes_value (plain_by step).phase v
-        written : v ≡ if_completed seen.written stored step
-        steps : is_weak r ≡ false → (j : ℕ) → AnswersWithin m (suc j) seen.state.words c l h → GoesWithin m j w c h next
-        rules : StepRules (event move step r stored w v next)
+      -- an event of the call that makes this plain step, if any, stores this value, and leaves these words and this value
+      module _ (move : Move C V) (step : Option Change) (r : StepKind) (stored : Option V) (w : W) (v : Option V) where
+        abbrev event : Next L B → Scene W V C L B
+        event next =
+            scene_of seen p move (Some (Calling c l h)) (goes_on (record seen.state { words = w; value = v }) p c h next) step r stored
 
-      went_on : (move : Move C V) (step : Option Change) (r : StepKind) (stored : Option V) (w : W) (v : Option V) (next : Next L B)
-          → Goes move step r stored w v next → Kept (event move step r stored w v next)
-      went_on move step r stored w v (Continue l') to =
-          let runs = left_by step r w (Continue l') to.steps in (
-            good_stepped (Calling c l' h) (Calling c l h) step r w v _ there to.moves.opens to.moves.belongs to.moves.encodes to.moves.shape to.phase to.written
-                (record {
-                  stands = stands_stepped seen.plain p step r (seen.span p) (entries_held p h) to.moves.opens (standing p good there);
-                  knows = to.moves.goes_on.knows;
-                  retries = grind arith;
-                  undisturbed = λ recent first older is may leaves.
-                      let left = runs recent first older is may leaves in record { steps = left.steps; few = left.few; answers = left.goes l' refl };
-                }),
-            record {
-              opens = to.moves.opens;
-              belongs = to.moves.belongs;
-              rules = to.rules;
-              own = to.moves.goes_on.own_so_far;
-              right = tt;
-              in_time = to.moves.goes_on.in_time;
-              undisturbed = λ recent first older is may leaves.
-                  let left = runs recent first older is may leaves in
-                  more_left m w c l' h (own_count p (recent ++ first ∷ [])) left.steps left.few (left.goes l' refl);
-              in_call = (l', get-set_same seen.state.seats p (Calling c l' h) (Calling c l h) there);
-            },
-          )
-      went_on move step r stored w v (Answers b rest) to =
-          let retries = retries-mine t.lock_kind p step r seen.plain (seen.span p) (good.parties p).retries to.moves.fails in (
-            good_stepped (resting rest) (Calling c l h) step r w v _ there to.moves.opens to.moves.belongs to.moves.encodes to.moves.shape to.phase to.written
-                (rests w (plain_by step) p (longer step r p) rest to.moves.goes_on.stands retries),
-            record {
-              opens = to.moves.opens;
-              belongs = to.moves.belongs;
-              rules = to.rules;
-              own = to.moves.goes_on.own_steps_are;
-              right = to.moves.goes_on.right;
-              in_time = to.moves.goes_on.in_time;
-              undisturbed = λ recent first older is may leaves.
-                  omega (arith, (left_by step r w (Answers b rest) to.steps recent first older is may leaves).few);
-              in_call = tt;
-            },
-          )
+        record Goes (next : Next L B) : Type 0 where
+          moves : Moves n move p c h seen.plain (seen.span p) step r w (told by.says next)
+          phase : HasPhase t.lock_kind.makes_value (plain_by step).phase v
+          written : v ≡ if_completed seen.written stored step
+          steps : is_weak r ≡ false → (j : ℕ) → AnswersWithin m (suc j) seen.state.words c l h → GoesWithin m j w c h next
+          rules : StepRules (event next)
+
+        went_on : (next : Next L B) → Goes next → Kept (event next)
+        went_on (Continue k) to =
+            let runs = left_by step r w (Continue k) to.steps in (
+              good_stepped (Calling c k h) (Calling c l h) step r w v _ there to.moves.makes to.phase to.written
+                  (record {
+                    stands = stands_stepped seen.plain p step r (seen.span p) (entries_held p h) to.moves.opens (standing p good there);
+                    knows = to.moves.goes_on.knows;
+                    retries = grind arith;
+                    undisturbed = runs;
+                  }),
+              search (to, soon_by m seen.state w p c h (longer step r p) (Continue k) runs, stays k),
+            )
+        went_on (Answers b rest) to = (
+          good_stepped (resting rest) (Calling c l h) step r w v _ there to.moves.makes to.phase to.written
+              (rests w (plain_by step) p (longer step r p) rest to.moves.goes_on.stands (grind (arith, (good.parties p).retries, to.moves.fails))),
+          search (to, soon_by m seen.state w p c h (longer step r p) (Answers b rest) (left_by step r w (Answers b rest) to.steps)),
+        )
 
       -- a step continues or answers its call, and changes the value only if a closure completes
-      step_rules : (step : Option Change) (r : StepKind) (stored : Option V) (w : W) (v : Option V) (next : Next L B) → v ≡ if_completed seen.state.value stored step
+      step_rules : (step : Option Change) (r : StepKind) (stored : Option V) (w : W) (v : Option V) (next : Next L B)
+          → Makes n p seen.plain (seen.span p) step r w
+          → v ≡ if_completed seen.state.value stored step
           → ContinuesCounted (λ u. m.change p u c l h) seen.plain (told by.says next) step r
           → Gets t.lock_kind p (t.asks c h) (seen.span p) seen.plain step r
           → ((ask : Ask) → tries_of (t.asks c h) ≡ Some ask → own p (seen.span p) ≡ [] → GoesOnOpen ask p (seen.span p) seen.plain (told by.says next) step)
           → StepRules (event Step step r stored w v next)
-      step_rules None r stored w v (Continue l') is counted due may = grind arith
-      step_rules (Some d) r stored w v (Continue l') is counted due may = grind arith
-      step_rules step r stored w v (Answers b rest) is counted due may = grind arith
+      step_rules None r stored w v (Continue k) makes is counted due may = grind arith
+      step_rules (Some d) r stored w v (Continue k) makes is counted due may = grind arith
+      step_rules step r stored w v (Answers b rest) makes is counted due may = grind arith
 
       pub step_kept : Kept (scene_at m seen p Step (Some (Calling c l h)))
       step_kept =
@@ -262,7 +214,7 @@ module _ {W V C L A B : Type 0} {t : Table W V C L A} {by : Machine W V C L B} {
             phase = is.values.phase;
             written = is.values.places ∙ ap (λ old. if_completed old st.placed (m.change p seen.state.words c l h)) good.written;
             steps = λ strong j answers. answers seen.state.value;
-            rules = step_rules _ _ st.placed st.words _ st.next is.values.places is.counted is.due is.tries_on;
+            rules = step_rules _ _ st.placed st.words _ st.next is.steps.makes is.values.places is.counted is.due is.tries_on;
           })
 
       pub refusal_kept : (next : Next L B) → m.refuse c l h ≡ Some next
@@ -274,7 +226,7 @@ module _ {W V C L A B : Type 0} {t : Table W V C L A} {by : Machine W V C L B} {
             phase = good.phase;
             written = good.written;
             steps = λ strong. absurd (true≢false strong);
-            rules = record { weak = λ e. is.weakly next refused; leaves = tt; counted = grind arith; due = grind arith; tries_on = grind arith };
+            rules = grind (arith, is.weakly next refused);
           })
 
     pub begun_kept : OfBegin m seen p Kept
@@ -291,8 +243,6 @@ module _ {W V C L A B : Type 0} {t : Table W V C L A} {by : Machine W V C L B} {
                 undisturbed = runs_fresh m seen.state.words p c l h;
               })),
           record {
-            opens = tt;
-            belongs = tt;
             rules = search;
             own = tt;
             right = tt;

@@ -1,24 +1,27 @@
 -- What holds of the state that a schedule leads to, and what the row of a party's point says of the party there.
+use Rattle.std.proofs.Common.{arith}
+use Rattle.spin_world_core.proofs.Every.{state-seen_at}
+use Rattle.spin_world_core.specs.Users.{seen_at}
+use Rattle.spin_world_core.specs.Runs.{state_at}
+use Rattle.spin_world_core.specs.Runs.{Schedule}
 use Rattle.std.proofs.Common.{◌≡◌, ℕ, Bool, true, false, Option, Some, None, List, slice_get, ap, sym, ◌∙◌}
 use Rattle.spin_step.specs.Plain.{Plain}
 use Rattle.spin_step.specs.Parties.{Entries, entries}
 use Rattle.spin_model.specs.declared.place.Hold.{Hold}
 use Rattle.spin_model.specs.declared.place.Seat.{Seat}
 use Rattle.spin_model.specs.declared.place.Seat.TheVariants.{Calling}
-use Rattle.spin_model.specs.declared.schedule.Move.{Move}
 use Rattle.spin_model.specs.Calls.{Mark, encoded}
 use Rattle.spin_model.specs.Machines.{Machine}
-use Rattle.spin_model.specs.Schedules.{State, after, at_first}
+use Rattle.spin_model.specs.Schedules.{State}
 use Rattle.spin_world_core.specs.Runs.{Seen, StandsFor, opening, own, seat_of}
 use Rattle.spin_model.specs.Acts.{Table}
-use Rattle.spin_world_core.specs.Users.{seen_after}
 use Rattle.spin_world_core.proofs.Steps.{played, Plays}
 use Rattle.spin_world_core.proofs.Shapes.{Notes}
 use Rattle.spin_world_core.proofs.Stands.{entries_at}
 use Rattle.spin_world_core.proofs.Rows.{Row}
 use Rattle.spin_world_core.proofs.Shapes.{InCall, KnowsRow, row_of}
 use Rattle.spin_world_core.proofs.Preserved.{Invariant, standing, in_call}
-use Rattle.spin_world_core.proofs.Every.{good_first, good_after, state-seen_after}
+use Rattle.spin_world_core.proofs.Every.{good_first, good_after}
 
 -- The row of a point says what the party has there in the plain lock, and which plain steps its call has made.
 
@@ -35,13 +38,11 @@ passes_all test (Some row) = test row
 module _ {W V C L A : Type 0} {t : Table W V C L A} (n : Notes t) (c : C) (l : L) (h : Option Hold) (p : ℕ) (s : Plain) (span : List Mark) where
   pub row_passes : (test : Row → Bool) → ((row : Row) → entries p s ≡ entries_at p row.stand → own p span ≡ row.made p → test row ≡ true) → (o : Option Row)
       → KnowsRow n c l h p s span o → passes_some test o ≡ true
-  row_passes test is (Some row) knows = is row knows.0.stand knows.0.made
-  row_passes test is None knows = absurd knows
+  row_passes test is o knows = grind (arith, is)
 
   pub row_tells : (test : Entries → Bool) (o : Option Row) → KnowsRow n c l h p s span o → passes_all (λ row. test (entries_at p row.stand)) o ≡ true
       → test (entries p s) ≡ true
-  row_tells test (Some row) knows is = ap test knows.0.stand ∙ is
-  row_tells test None knows is = absurd knows
+  row_tells test o knows is = grind arith
 
 -- the point has a row, and the entries that the row gives the party pass this test
 abbrev pub StandsSo : {W V C L A : Type 0} {t : Table W V C L A} → Notes t → (Entries → Bool) → ℕ → C → L → Option Hold → Type 0
@@ -49,21 +50,21 @@ StandsSo n test p c l h = passes_some (λ row. test (entries_at p row.stand)) (r
 
 -- The state after the schedule `past`
 
-module _ {W V C L A B : Type 0} {t : Table W V C L A} {by : Machine W V C L B} {n : Notes t} (f : Plays by n) (parties : ℕ) (past : List (ℕ × Move C V)) where
+module _ {W V C L A B : Type 0} {t : Table W V C L A} {by : Machine W V C L B} {n : Notes t} (f : Plays by n) (parties : ℕ) (past : Schedule C V) where
   abbrev m : Machine W V C L B
   m = played t by
 
   abbrev now : State W V C L
-  now = after m (at_first m parties) past
+  now = state_at m parties past
 
   abbrev pub seen : Seen W V C L
-  seen = seen_after m (opening m parties) past
+  seen = seen_at m parties past
 
   pub good : Invariant f seen
   good = good_after f (opening m parties) past (good_first f parties)
 
   pub state_is : seen.state ≡ now
-  state_is = state-seen_after m (opening m parties) past
+  state_is = state-seen_at m parties past
 
   pub words_are : seen.state.words ≡ now.words
   words_are = ap (λ (s : State W V C L). s.words) state_is

@@ -1,11 +1,10 @@
 -- What a party in a call knows of its entries and of its span, and how each step of any party keeps this knowledge.
-use Rattle.spin_world_core.proofs.Names.{◌≡◌, ℕ, suc, ◌+◌, ◌≤◌, ◌⊎◌, ◌==◌, Bool, true, false, not, ◌&&◌, ◌||◌, is_some, Option, Some, None, List, [], ◌∷◌, ◌++◌, option_to_list, nat_lt, if◌then◌else◌, refl, ◌∙◌, arith, inr, ⊎_elim, Plain, Ask, Change, gets, is_open, apply_some, IsOpenStep, entries, is_held, bit, entries-other, Hold, StepKind, is_again, is_look, LockKind, Asked, Said, Mark, AnyOf, first_word, Limit, registers_after, mark_of, own, own_count, failures, changes, EndsWithin, ContinuesWithin, is_due, Way, by_looks, past_looks, way_of, MayTryOn, Act, load, load_if, load_for, attempt, retry, ap, list_any, goes_of}
+use Rattle.spin_world_core.proofs.Names.{◌≡◌, ℕ, suc, ◌+◌, ◌≤◌, ◌⊎◌, ◌==◌, Bool, true, false, not, ◌&&◌, ◌||◌, is_some, Option, Some, None, List, [], ◌∷◌, ◌++◌, option_to_list, nat_lt, if◌then◌else◌, refl, arith, inr, ⊎_elim, Plain, Ask, Change, gets, is_open, apply_some, IsOpenStep, entries, is_held, bit, entries-other, Hold, StepKind, is_again, is_look, LockKind, Asked, Said, Mark, AnyOf, first_word, Limit, registers_after, mark_of, own, own_count, failures, changes, EndsWithin, ContinuesWithin, is_due, Way, by_looks, past_looks, way_of, MayTryOn, Act, load, load_if, load_for, attempt, retry, ap, list_any, goes_of}
 use Rattle.spin_world_core.proofs.Lists.{eqb_self}
 use Rattle.spin_world_core.proofs.Stands.{Stand, entries_at, stand_of}
-use Rattle.spin_world_core.proofs.Spans.{nil_left, own-mine, own-other, own_count-mine, own_count-other, failures-mine, failures-other, changes-mine, changes-other}
+use Rattle.spin_world_core.proofs.Names.{ne_eqb, append-nil}
 use Rattle.std.proofs.lemmas.Bool.{or_right}
-use Rattle.spin_model.specs.Calls.{got_or_starved, means, moment, own_steps, limit, FindsClosed, changes_within, gets_within, grant, within, within_changes, Meaning, got, grants, same_ask}
-use Rattle.spin_model.specs.Calls as meaning
+use Rattle.spin_model.specs.Calls.{got_or_starved, moment, own_steps, limit, FindsClosed, changes_within, gets_within, within, within_changes, Meaning, got, grants}
 
 -- The count of the call's steps
 
@@ -47,15 +46,10 @@ MaySpend _ t cs j k p kind span = Unit {0}
 
 -- A try that has found its plain step closed does not continue. By a step with the result `goes` a try continues only as
 -- `MayTryOn` allows.
-abbrev pub MayContinue : Option Ask → Branch → Option Change → ℕ → Plain → List Mark → Type 0 → Type 0
-MayContinue (Some ask) (misses c) step p s span Spend = ⊥
-MayContinue (Some ask) goes None p s span Spend = Spend × MayTryOn ask p span s
-MayContinue tries branch step p s span Spend = Spend
-
-pub may_spend : (tries : Option Ask) (branch : Branch) (step : Option Change) (p : ℕ) (s : Plain) (span : List Mark) (Spend : Type 0)
-    → MayContinue tries branch step p s span Spend
-    → Spend
-may_spend tries branch step p s span Spend may = grind arith
+abbrev pub MayContinue : Option Ask → Branch → Option Change → ℕ → Plain → List Mark → Type 0
+MayContinue (Some ask) (misses c) step p s span = ⊥
+MayContinue (Some ask) goes None p s span = MayTryOn ask p span s
+MayContinue tries branch step p s span = Unit {0}
 
 -- a call that has spent k steps has a step left
 abbrev pub is_timely : Limit → List Change → ℕ → Bool
@@ -65,15 +59,23 @@ is_timely (gets_within ask n) [] k = nat_lt k n
 is_timely (changes_within n) [] k = nat_lt k n
 is_timely _ cs k = true
 
-module _ (p : ℕ) (s : Plain) (step : Option Change) (r : StepKind) (span : List Mark) where
-  pub spent-mine : (what : Limit) (kind : LockKind) (t : Branch) (cs : List Change) (j k : ℕ) → Branched t s step r → own p (mark_of p step r s ∷ span) ≡ cs → MaySpend what t cs j k p kind (mark_of p step r s ∷ span) → Spends what j p span → Spends what k p (mark_of p step r s ∷ span)
-  spent-mine what kind t cs j k how is may spent =
-      grind (arith, nil_left (own p span), own-mine p step r s span, own_count-mine p step r s span, failures-mine p step r s span, spent)
+nil_left : {X : Type 0} (xs ys : List X) → xs ++ ys ≡ [] → xs ≡ []
+nil_left [] ys e = refl
+nil_left (x ∷ xs) ys e = absurd (cc (e))
 
--- a call with a step left may continue within its limit (`goes_within`), and is answered within it (`ends_within`)
+-- the span with a step of the party p
+abbrev pub now : ℕ → Plain → Option Change → StepKind → List Mark → List Mark
+now p s step r span = mark_of p step r s ∷ span
 
-pub goes_within : (what : Limit) (kind : LockKind) (t : Branch) (cs : List Change) (j k p : ℕ) (span : List Mark) → own p span ≡ cs → is_timely what cs k ≡ true → failures p span ≤ changes kind p span → MaySpend what t cs j k p kind span → Spends what k p span → ContinuesWithin what kind p span
-goes_within what kind t cs j k p span is timely retries may spent = grind (arith, spent)
+-- a call that has a step left after a step of its own may continue within its limit
+module _ (p : ℕ) (s : Plain) (step : Option Change) (r : StepKind) (span : List Mark) (what : Limit) (kind : LockKind) (t : Branch) (cs : List Change)
+    (j k : ℕ) (made : own p (now p s step r span) ≡ cs) (may : MaySpend what t cs j k p kind (now p s step r span)) where
+  pub spent-mine : Branched t s step r → Spends what j p span → Spends what k p (now p s step r span)
+  spent-mine how spent = grind (arith, nil_left (own p span), eqb_self p, spent)
+
+  pub goes_within : is_timely what cs k ≡ true → failures p (now p s step r span) ≤ changes kind p (now p s step r span) → Spends what k p (now p s step r span)
+      → ContinuesWithin what kind p (now p s step r span)
+  goes_within timely retries spent = grind (arith, spent)
 
 -- what the object has to show of the limit of a call that is answered: nothing, unless the limit is `registers_after`
 abbrev pub OwesEnd : Limit → LockKind → ℕ → List Mark → Type 0
@@ -81,8 +83,8 @@ OwesEnd (registers_after n i) kind p span = EndsWithin (registers_after n i) kin
 OwesEnd _ kind p span = Unit {0}
 
 pub ends_within : (what : Limit) (kind : LockKind) (cs : List Change) (k p : ℕ) (s : Plain) (step : Option Change) (r : StepKind) (span : List Mark) → is_timely what cs k ≡ true → failures p span ≤ changes kind p span → Spends what k p span
-    → OwesEnd what kind p (mark_of p step r s ∷ span) → EndsWithin what kind p (mark_of p step r s ∷ span)
-ends_within what kind cs k p s step r span timely retries spent owed = grind (arith, own_count-mine p step r s span, changes-mine kind p step r s span)
+    → OwesEnd what kind p (now p s step r span) → EndsWithin what kind p (now p s step r span)
+ends_within what kind cs k p s step r span timely retries spent owed = grind (arith, eqb_self p)
 
 -- The call's plain steps, and the moment of a grant
 
@@ -112,7 +114,7 @@ granted_at p ask [] opened any = absurd any
 granted_at p ask (m ∷ ms) opened any =
     ⊎_elim
     (λ (earlier : AnyOf (λ c. c ≡ gets p ask) (own p ms)). or_right (grants p ask m) _ (granted_at p ask ms opened.1 earlier))
-    (λ (here : AnyOf (λ c. c ≡ gets p ask) (if m.party == p then option_to_list m.change else [])). ap (λ b. b || list_any (grants p ask) ms) (granted_here p ask m (m.party == p) m.change refl refl opened.0 here))
+    (λ here. ap (λ b. b || list_any (grants p ask) ms) (granted_here p ask m (m.party == p) m.change refl refl opened.0 here))
     (any_split (λ c. c ≡ gets p ask) (own p ms) (if m.party == p then option_to_list m.change else []) any)
 
 -- what has to be shown of an answer's moment: nothing of a grant, whose moment follows from the call's plain steps
@@ -122,11 +124,7 @@ OwesMoment (got_or_starved a b) p span = Unit {0}
 OwesMoment meaning p span = moment meaning p span ≡ true
 
 pub moment_of : (meaning : Meaning) (p : ℕ) (span : List Mark) → Opened span → AnyOf (λ steps. own p span ≡ steps) (own_steps meaning p) → OwesMoment meaning p span → moment meaning p span ≡ true
-moment_of (got ask) p span opened is owed = grind (arith, granted_at p ask span opened)
-moment_of (got_or_starved a b) p span opened is owed = grind (arith, granted_at p a span opened, granted_at p b span opened)
-moment_of meaning.never p span opened is owed = owed
-moment_of (meaning.found test) p span opened is owed = owed
-moment_of (means steps right) p span opened is owed = owed
+moment_of meaning p span opened is owed = grind (arith, λ (ask : Ask). granted_at p ask span opened)
 
 -- nothing has to be shown of a moment if the answer may be a spurious failure
 abbrev pub OwesUnless : Bool → Type 0 → Type 0
@@ -135,10 +133,6 @@ OwesUnless false Owed = Owed
 
 abbrev pub OwesRight : Bool → Asked → Said → ℕ → List Mark → Type 0
 OwesRight weakly what said p span = OwesUnless (weakly && what.needs_no_cause said) (OwesMoment (what.answers said) p span)
-
-pub weakly_right : (free right : Bool) (Owed : Type 0) → (Owed → right ≡ true) → OwesUnless free Owed → (free || right) ≡ true
-weakly_right true right Owed shown owed = refl
-weakly_right false right Owed shown owed = shown owed
 
 -- What a row says of a point
 
@@ -161,9 +155,6 @@ abbrev pub starts : {L : Type 0} → Option L → Point
 starts None = nowhere
 starts (Some l) = looked 0
 
-abbrev pub row_looked : Option Hold → ℕ → (ℕ → List Change) → Said → Row
-row_looked h k rest said = record { stand = stand_of h; made = λ p. []; rest = rest; said = said; spent = k }
-
 abbrev pub first_of : List (List Change) → List Change
 first_of [] = []
 first_of (steps ∷ more) = steps
@@ -171,7 +162,9 @@ first_of (steps ∷ more) = steps
 abbrev pub row_at : Asked → Option Hold → Point → Option Row
 row_at what h nowhere = None
 row_at what h (onward row) = Some row
-row_at what h (looked k) = Some (row_looked h k (λ p. first_of (own_steps (what.answers what.most) p)) what.most)
+row_at what h (looked k) =
+    let rest : ℕ → List Change = λ p. first_of (own_steps (what.answers what.most) p) in
+    Some (record { stand = stand_of h; made = λ p. []; rest = rest; said = what.most; spent = k })
 
 -- At this row the call has a step left. Its plain steps so far, followed by those that are left, are the plain steps of
 -- an answer.
@@ -260,7 +253,7 @@ pub record Known {W L A : Type 0} (kind : LockKind) (what : Asked) (act : Act W 
 -- after a step of the party's own
 
 module _ (p : ℕ) (s : Plain) (step : Option Change) (r : StepKind) (span : List Mark) where
-  pub needs-mine : (needed : Need) (Finds : Type 0) → FoundBy needed Finds step r s → Needs needed p (mark_of p step r s ∷ span) × Finds
+  pub needs-mine : (needed : Need) (Finds : Type 0) → FoundBy needed Finds step r s → Needs needed p (now p s step r span) × Finds
   needs-mine needed Finds found = grind (arith, eqb_self p, found)
 
 -- after another party's step
@@ -270,23 +263,7 @@ pub moved : (a b n x y : ℕ) → a + bit (not (x == n)) ≤ b → a + bit (not 
 moved a b n x y le = grind arith
 
 module _ (p q : ℕ) (s : Plain) (step : Option Change) (r : StepKind) (span : List Mark) (ne : q ≡ p → ⊥) where
-  spent-other : (what : Limit) (k : ℕ) → Spends what k p span → Spends what k p (mark_of q step r s ∷ span)
-  spent-other what k spent =
-      grind (arith, own_count-other p q step r s span ne, failures-other p q step r s span ne, own-other p q step r s span ne, spent)
-
-  expects-other : {W L A : Type 0} (kind : LockKind) (act : Act W L A) → Expects kind act p s span
-      → Expects kind act p (apply_some s step) (mark_of q step r s ∷ span)
-  expects-other kind act expects =
-      grind (arith, failures-other p q step r s span ne, changes-other kind p q step r s span ne, moved, expects)
-
   pub known-other : {W L A : Type 0} (kind : LockKind) (what : Asked) (act : Act W L A) (row : Row) → IsOpenStep s q step → Known kind what act row p s span
-      → Known kind what act row p (apply_some s step) (mark_of q step r s ∷ span)
+      → Known kind what act row p (apply_some s step) (now q s step r span)
   known-other kind what act row may known =
-      record {
-        stand = entries-other s q p step ne may ∙ known.stand;
-        made = own-other p q step r s span ne ∙ known.made;
-        spent = spent-other (limit kind what) row.spent known.spent;
-        expects = expects-other kind act known.expects;
-        needs = grind arith;
-        opened = (may, known.opened);
-      }
+      grind (arith, entries-other s q p step ne may, ne_eqb q p ne, append-nil (own p span), moved, known)

@@ -1,4 +1,5 @@
 -- Schedules with one more entry.
+use Rattle.spin_world_core.specs.Runs.{Schedule}
 use Rattle.spin_world_core.proofs.Names.{Seat, ◌≡◌, ℕ, suc, ◌+◌, ◌≤◌, ◌==◌, ◌&&◌, Option, Some, List, [], ◌∷◌, ◌++◌, length, if◌then◌else◌, refl, ap, arith, append_assoc, length-set, slice_get_past, append-nil, length-map, Move, Event, Machine, State, happens, moves_at, after, events_of, with_begins, last_begin, is_begun, seen_by_owner, Seen, scene, seen_after}
 use Rattle.spin_model.specs.declared.schedule.Outcome.TheVariants as outcome
 
@@ -13,19 +14,18 @@ pub last_begin-append : {W V A : Type 0} (p k : ℕ) (found : Option ℕ) (xs ys
     → last_begin p k found (xs ++ ys) ≡ last_begin p (k + length xs) (last_begin p k found xs) ys
 last_begin-append p k found [] ys = grind arith
 last_begin-append p k found (x ∷ xs) ys =
-    let now = if (x.party == p) && is_begun x.outcome then Some k else found in
-    grind (arith, last_begin-append p (k + 1) now xs ys)
+    grind (arith, last_begin-append p (k + 1) (if (x.party == p) && is_begun x.outcome then Some k else found) xs ys)
 
 module _ {W V C L A : Type 0} (m : Machine W V C L A) where
-  pub events_of-append : (s : State W V C L) (xs ys : List (ℕ × Move C V)) → events_of m s (xs ++ ys) ≡ events_of m s xs ++ events_of m (after m s xs) ys
+  pub events_of-append : (s : State W V C L) (xs ys : Schedule C V) → events_of m s (xs ++ ys) ≡ events_of m s xs ++ events_of m (after m s xs) ys
   events_of-append s [] ys = refl
   events_of-append s (x ∷ xs) ys = grind (arith, events_of-append (happens m s x.0 x.1).next xs ys)
 
-  pub length-events_of : (s : State W V C L) (xs : List (ℕ × Move C V)) → length (events_of m s xs) ≡ length xs
+  pub length-events_of : (s : State W V C L) (xs : Schedule C V) → length (events_of m s xs) ≡ length xs
   length-events_of s [] = refl
   length-events_of s (x ∷ xs) = ap suc (length-events_of (happens m s x.0 x.1).next xs)
 
-  pub seen_after-append : (seen : Seen W V C L) (xs ys : List (ℕ × Move C V)) → seen_after m seen (xs ++ ys) ≡ seen_after m (seen_after m seen xs) ys
+  pub seen_after-append : (seen : Seen W V C L) (xs ys : Schedule C V) → seen_after m seen (xs ++ ys) ≡ seen_after m (seen_after m seen xs) ys
   seen_after-append seen [] ys = refl
   seen_after-append seen (x ∷ xs) ys = seen_after-append (scene m seen x.0 x.1).after xs ys
 

@@ -100,6 +100,10 @@ module _ {W V C L A : Type 0} {t : Table W V C L A} (n : Notes t) where
   -- What has to be shown of a step of a call that has made these plain steps. `Comes` says that the call continues or is
   -- answered correctly.
   module _ (p : ℕ) (what : Asked) (s : Plain) (w : W) (made : List Change) (Comes : Bool → Option Change → StepKind → Branch → Next L A → Type 0) where
+    -- the step makes this plain step and goes on as `won`, or finds it closed and goes on as `lost`
+    abbrev pub Tries : {X : Type 0} → (X → W) → Option X → Change → StepKind → Next L A → Next L A → Type 0
+    Tries put o c r won lost = Means p s c put o × Comes false (Some c) r goes won × (is_open s c ≡ false → Comes false None r (misses c) lost)
+
     -- what has to be shown of an act on the i-th word, if this word is the number n
     abbrev pub OwesOn : ℕ → ℕ → Act W L A → Type 0
     OwesOn i n (load next) = Comes false None plain goes (next n)
@@ -109,16 +113,10 @@ module _ {W V C L A : Type 0} {t : Table W V C L A} (n : Notes t) where
     OwesOn i n (load_for f step found missed) =
         Means p s (step p) (λ j. t.memory.put i j w) (f n) × (is_some (f n) ≡ true → Comes false None plain finds_open (found n))
         × (is_open s (step p) ≡ false → Comes false None plain (misses (step p)) missed)
-    OwesOn i n (enter test step won lost) =
-        let looking = by_step (look_kind what) in
-        Means p s (step p) (λ j. w) (passing (test n) n) × Comes false (Some (step p)) looking goes won
-        × (is_open s (step p) ≡ false → Comes false None looking (misses (step p)) lost)
-    OwesOn i n (exchange operation step won lost) =
-        Means p s (step p) (λ j. t.memory.put i j w) (tried operation n) × Comes false (Some (step p)) plain goes won
-        × (is_open s (step p) ≡ false → Comes false None plain (misses (step p)) (lost n))
+    OwesOn i n (enter test step won lost) = Tries (λ j. w) (passing (test n) n) (step p) (by_step (look_kind what)) won lost
+    OwesOn i n (exchange operation step won lost) = Tries (λ j. t.memory.put i j w) (tried operation n) (step p) plain won (lost n)
     OwesOn i n (weak_exchange j f step won lost) =
-        Means p s (step p) (λ j. t.memory.put i j w) (tried (swap j f) n) × Comes false (Some (step p)) plain goes won
-        × (is_open s (step p) ≡ false → Comes false None plain (misses (step p)) lost) × Comes true None weak goes lost
+        Tries (λ j. t.memory.put i j w) (tried (swap j f) n) (step p) plain won lost × Comes true None weak goes lost
         × (what.is_weak ≡ true) × (made ≡ what.before_weakly p)
     OwesOn i n (attempt j f step won lost) =
         MeansMade p s (step p) (λ j. t.memory.put i j w) (guessed j f n) × (is_some (guessed j f n) ≡ true → Comes false (Some (step p)) plain goes won)
@@ -129,9 +127,7 @@ module _ {W V C L A : Type 0} {t : Table W V C L A} (n : Notes t) where
         × (is_open s (step p) ≡ false → Comes false None again (misses (step p)) missed)
     OwesOn i n (store can operation step next) =
         (can n ≡ true) × Means p s (step p) (λ j. t.memory.put i j w) (Some (performed operation n)) × Comes false (Some (step p)) plain goes next
-    OwesOn i n (section can f step won lost) =
-        (can w ≡ true) × Means p s (step p) (λ u. u) (f w) × Comes false (Some (step p)) plain goes (won w)
-        × (is_open s (step p) ≡ false → Comes false None plain (misses (step p)) (lost w))
+    OwesOn i n (section can f step won lost) = (can w ≡ true) × Tries (λ u. u) (f w) (step p) plain (won w) (lost w)
 
     abbrev pub OwesBy : ℕ → Act W L A → Type 0
     OwesBy i act = OwesOn (place_of i act) (number_at t.memory (place_of i act) w) act
@@ -141,8 +137,8 @@ module _ {W V C L A : Type 0} {t : Table W V C L A} (n : Notes t) where
     pub record LeadsTo (step : Option Change) (r : StepKind) (branch : Branch) (l : L) (to : Row) : Type 0 where
       pub stands : stand_after s.next step row.stand ≡ Some to.stand
       pub made : row.made p ++ option_to_list step ≡ to.made p
-      pub spends : MayContinue (tries_of (t.asks c h)) branch step p s span
-          (MaySpend (limit t.lock_kind (t.asks c h)) branch (to.made p) row.spent to.spent p t.lock_kind (mark_of p step r s ∷ span))
+      pub spends : MaySpend (limit t.lock_kind (t.asks c h)) branch (to.made p) row.spent to.spent p t.lock_kind (mark_of p step r s ∷ span)
+      pub goes_on : MayContinue (tries_of (t.asks c h)) branch step p s span
       pub finds : FoundBy (need_of t.lock_kind (t.asks c h) (to.made p) (t.act c l h)) (RetryOwes (t.act c l h) (number_at t.memory 0 w) step) step r s
       pub knows : n.Knows c l h p (apply_some s step) (mark_of p step r s ∷ span)
 
@@ -169,18 +165,14 @@ module _ {W V C L A : Type 0} {t : Table W V C L A} (n : Notes t) where
   OwesRow p c l h s w span None = Unit {0}
   OwesRow p c l h s w span (Some row) = AtPoint p c l h s w span (Some row) → Owes p c h s w span row (t.word l) (t.act c l h)
 
-  abbrev pub OwesAt : ℕ → C → L → Option Hold → Plain → W → List Mark → Type 0
-  OwesAt p c l h s w span = OwesRow p c l h s w span (row_of c l h)
-
   -- if what a waiting call asks is open, `soon` is true: the call is answered in time if no other party steps in between
   abbrev pub AnswersRow : ℕ → C → L → Option Hold → Plain → W → List Mark → Bool → Bool → Option Row → Type 0
   AnswersRow p c l h s w span soon true (Some row) =
       AtPoint p c l h s w span (Some row) → (t.asks c h).is_open_next (is_empty (row.made p)) (arrived p span) p s ≡ true → soon ≡ true
   AnswersRow p c l h s w span soon _ _ = Unit {0}
 
-  abbrev pub OwesSoon : ℕ → C → L → Option Hold → Plain → W → List Mark → Type 0
-  OwesSoon p c l h s w span =
-      AnswersRow p c l h s w span (answers_by t (steps_alone (t.asks c h)) w c l h) (t.asks c h).waits (row_of c l h)
+  abbrev pub SoonRow : ℕ → C → L → Option Hold → Plain → W → List Mark → Option Row → Type 0
+  SoonRow p c l h s w span o = AnswersRow p c l h s w span (answers_by t (steps_alone (t.asks c h)) w c l h) (t.asks c h).waits o
 
   -- what has to be shown of the row at which a call begins
   abbrev pub BeginsRow : C → L → Option Hold → ℕ → Plain → Option Row → Type 0
@@ -193,28 +185,33 @@ module _ {W V C L A : Type 0} {t : Table W V C L A} (n : Notes t) where
   BeginsAt c h p s None = Unit {0}
   BeginsAt c h p s (Some l) = BeginsRow c l h p s (row_of c l h)
 
-  abbrev pub AimsAt : ℕ → C → L → Option Hold → Type 0
-  AimsAt p c l h = aim_by (tries_of (t.asks c h)) (t.act c l h) p ≡ aimed_at p (t.asks c h) (row_of c l h) (aim_by (tries_of (t.asks c h)) (t.act c l h) p)
+  abbrev pub AimsRow : ℕ → C → L → Option Hold → Option Row → Type 0
+  AimsRow p c l h o = let aim = aim_by (tries_of (t.asks c h)) (t.act c l h) p in aim ≡ aimed_at p (t.asks c h) o aim
 
   -- what has to be shown at every point of every call
   abbrev pub OwesAll : Type 0
-  OwesAll = (p : ℕ) (c : C) (l : L) (h : Option Hold) (s : Plain) (w : W) (span : List Mark) → OwesAt p c l h s w span
+  OwesAll = (p : ℕ) (c : C) (l : L) (h : Option Hold) (s : Plain) (w : W) (span : List Mark) → OwesRow p c l h s w span (row_of c l h)
 
   abbrev pub SoonAll : Type 0
-  SoonAll = (p : ℕ) (c : C) (l : L) (h : Option Hold) (s : Plain) (w : W) (span : List Mark) → OwesSoon p c l h s w span
+  SoonAll = (p : ℕ) (c : C) (l : L) (h : Option Hold) (s : Plain) (w : W) (span : List Mark) → SoonRow p c l h s w span (row_of c l h)
+
+  -- what an object shows of its table by computing alone
+  pub record Computes : Type 0 where
+    pub fits : (p : ℕ) (c : C) (l : L) (h : Option Hold) → fits_act t.lock_kind (t.asks c h) (t.act c l h) p ≡ true
+    pub own : OwnFits t
+    pub sound : (p : ℕ) (c : C) (l : L) (h : Option Hold) → IsSound t.lock_kind (t.asks c h) p (row_of c l h)
+    pub aims : (p : ℕ) (c : C) (l : L) (h : Option Hold) → AimsRow p c l h (row_of c l h)
+    pub first : t.memory.numbers t.words ≡ encoded t.lock_kind (opening_plain (machine_of t))
+    pub numbers_tell : (v w : W) → t.memory.numbers v ≡ t.memory.numbers w → v ≡ w
 
   -- all that an object has to show of its table
   pub record Pays : Type 0 where
-    pub fits : (p : ℕ) (c : C) (l : L) (h : Option Hold) → fits_act t.lock_kind (t.asks c h) (t.act c l h) p ≡ true
-    pub calls : CallsFit t
-    pub own : OwnFits t
+    pub computes : Computes
+    pub open computes use *
     pub operates : Operates t
-    pub first : t.memory.numbers t.words ≡ encoded t.lock_kind (opening_plain (machine_of t))
+    pub calls : CallsFit t
     pub shape_first : n.Shape (opening_plain (machine_of t))
-    pub numbers_tell : (v w : W) → t.memory.numbers v ≡ t.memory.numbers w → v ≡ w
     pub one_list : (s : Plain) → n.Shape s → (is_empty s.holders || is_empty s.tickets) ≡ true
-    pub sound : (p : ℕ) (c : C) (l : L) (h : Option Hold) → IsSound t.lock_kind (t.asks c h) p (row_of c l h)
-    pub aims : (p : ℕ) (c : C) (l : L) (h : Option Hold) → AimsAt p c l h
     pub begins : (p : ℕ) (c : C) (h : Option Hold) (s : Plain) → BeginsAt c h p s (begin_of t c h)
     pub others : (p q : ℕ) (c : C) (l : L) (h : Option Hold) (s : Plain) (step : Option Change) (r : StepKind) (span : List Mark) → (q ≡ p → ⊥) → n.Shape s
         → IsOpenStep s q step → BelongsTo t.lock_kind step

@@ -1,5 +1,5 @@
 -- What a party has in the plain lock during a call, and how its own plain steps change this.
-use Rattle.std.proofs.Common.{◌≡◌, ℕ, Bool, true, false, Option, Some, None, [], ◌∷◌, if◌then◌else◌, refl, arith}
+use Rattle.std.proofs.Common.{◌≡◌, ℕ, Bool, true, false, Option, Some, None, [], ◌∷◌, if◌then◌else◌, arith}
 use Rattle.spin_step.specs.Plain.{Plain, Kind, reading, upgradable, writing, holder, same_kind, ticket as queued, Effect, comes, becomes, enters, runs, effect, Change, gets, releases, serves, stops_starving, turns, completes, fails, arrives}
 use Rattle.spin_step.specs.Parties.{apply_some, IsOpenStep, Entries, entries, no_entries}
 use Rattle.spin_step.proofs.Entries.{entries-own}
@@ -33,8 +33,7 @@ stand_of (Some (Ticket n)) = queues n true
 stand_of (Some Starver) = starves
 
 pub held_at : (p : ℕ) (h : Option Hold) → entries_held p h ≡ entries_at p (stand_of h)
-held_at p (Some Read) = refl
-held_at p _ = refl
+held_at p h = grind arith
 
 -- What a party has after it gets this `Effect`, if it had this `Stand` before; n is the next ticket's number. `None`:
 -- no call gets this effect there.

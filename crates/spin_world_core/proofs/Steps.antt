@@ -44,16 +44,21 @@ module _ {W V C L A : Type 0} {t : Table W V C L A} (n : Notes t) where
   NextIs move p c h s span (Continue l) = Continues p c l h s span
   NextIs move p c h s span (Answers said after) = Ends t.lock_kind (t.asks c h) move p s span said after
 
-  -- what holds of a step or a spurious failure that makes this plain step, if any, leaves the words w, and continues as `next` says
-  pub record Moves (move : Move C V) (p : ℕ) (c : C) (h : Option Hold) (s : Plain) (span : List Mark)
-      (step : Option Change) (r : StepKind) (w : W) (next : Next L Said) : Type 0 where
+  -- what holds of a step or a spurious failure that makes this plain step, if any, and leaves the words w
+  pub record Makes (p : ℕ) (s : Plain) (span : List Mark) (step : Option Change) (r : StepKind) (w : W) : Type 0 where
     pub opens : IsOpenStep s p step
     pub belongs : BelongsTo t.lock_kind step
     pub encodes : t.memory.numbers w ≡ encoded t.lock_kind (apply_some s step)
     pub shape : n.Shape (apply_some s step)
-    pub goes_on : NextIs move p c h (apply_some s step) (mark_of p step r s ∷ span) next
     -- a repeated exchange fails only if another party has made a change for which no exchange has failed yet
     pub fails : is_again r ≡ true → step ≡ None → failures p span < changes t.lock_kind p span
+
+  -- the same, and the call continues as `next` says
+  pub record Moves (move : Move C V) (p : ℕ) (c : C) (h : Option Hold) (s : Plain) (span : List Mark)
+      (step : Option Change) (r : StepKind) (w : W) (next : Next L Said) : Type 0 where
+    pub makes : Makes p s span step r w
+    pub open makes use *
+    pub goes_on : NextIs move p c h (apply_some s step) (mark_of p step r s ∷ span) next
 
 module _ {W V C L B : Type 0} (m : Machine W V C L B) where
   -- from these words, at this point, the call is answered by its k-th step, if no other party steps in between

@@ -1,17 +1,19 @@
 -- A transcript tells the scenes of its schedule. A place agrees with the party's moves and with its entries.
-use Rattle.spin_world_core.proofs.Names.{cases_eq, ⊎_elim, moves_at, seat_of, ne_eqb, ◌≡◌, ℕ, ◌<◌, ◌≤◌, ◌==◌, Option, Some, None, List, [], ◌∷◌, ◌++◌, length, map, slice_get, if◌then◌else◌, refl, ap, sym, ◌∙◌, subst, arith, option_map, length-replicate, slice_get-map, slice_get_within, slice_get_cases, Plain, Seat, Idle, Calling, Leaked, Gone, Move, Event, Mark, Machine, opening_plain, State, happens, seen_by_owner, events_of, with_begins, Seen, Scene, scene, Every, Keeps, KeepsAll, StandsFor, opening, seen_after, scenes, EachTells, TellsAfterAnyPast}
+use Rattle.spin_world_core.proofs.Every.{state-seen_at}
+use Rattle.spin_world_core.specs.Users.{seen_at}
+use Rattle.spin_world_core.specs.Runs.{Schedule}
+use Rattle.spin_world_core.proofs.Names.{cases_eq, ⊎_elim, moves_at, seat_of, ne_eqb, ◌≡◌, ℕ, ◌<◌, ◌≤◌, ◌==◌, Option, Some, None, List, [], ◌∷◌, ◌++◌, length, map, slice_get, if◌then◌else◌, refl, ap, ◌∙◌, subst, arith, option_map, length-replicate, slice_get-map, slice_get_within, slice_get_cases, Plain, Seat, Idle, Calling, Leaked, Gone, Move, Event, Mark, Machine, opening_plain, State, happens, seen_by_owner, events_of, with_begins, Seen, Scene, scene, Every, Keeps, KeepsAll, StandsFor, opening, seen_after, scenes, EachTells, TellsAfterAnyPast}
 use Rattle.spin_model.specs.declared.place.Place.{Place}
 use Rattle.spin_model.specs.Schedules.{place_of}
 use Rattle.spin_world_core.specs.Transcripts.{has_leaked, PlaceSays, SaysAfterAnyPast, Stage, StandsAt, at_rest, in_call, is_gone, let_go_stage, stage_after, stage_by_own, stage_by_owner}
 use Rattle.spin_world_core.proofs.Lists.{eqb_self, get-set_other, get-replicate}
 use Rattle.spin_model.proofs.Lists.{get-set_within}
-use Rattle.spin_world_core.proofs.Every.{state-seen_after}
 use Rattle.spin_world_core.proofs.Schedules.{length-happens}
 
 -- The transcript
 
 module _ {W V C L A : Type 0} (m : Machine W V C L A) where
-  tells_from : (seen : Seen W V C L) (es : List (ℕ × Move C V)) (before : List (Event W V A))
+  tells_from : (seen : Seen W V C L) (es : Schedule C V) (before : List (Event W V A))
       → EachTells (scenes m seen es) (with_begins before (events_of m seen.state es))
   tells_from seen [] before = tt
   tells_from seen (e ∷ es) before =
@@ -21,13 +23,10 @@ module _ {W V C L A : Type 0} (m : Machine W V C L A) where
         tells_from (scene m seen e.0 e.1).after es (before ++ event ∷ []),
       )
 
-  pub tells_after : (s : State W V C L) (schedule : List (ℕ × Move C V)) (events : List (Event W V A)) → events ≡ with_begins [] (events_of m s schedule)
+  pub tells_after : (s : State W V C L) (schedule : Schedule C V) (events : List (Event W V A)) → events ≡ with_begins [] (events_of m s schedule)
       → TellsAfterAnyPast m s schedule events
   tells_after s schedule events is = λ n past reached.
-      rw is
-      (subst (λ (t : State W V C L). EachTells (scenes m (seen_after m (opening m n) past) schedule) (with_begins [] (events_of m t schedule)))
-      (state-seen_after m (opening m n) past ∙ reached)
-      (tells_from (seen_after m (opening m n) past) schedule []))
+      rw is (rw (state-seen_at m n past, reached) at (tells_from (seen_at m n past) schedule []))
 
 -- The place
 
@@ -59,58 +58,55 @@ module _ {W V C L A : Type 0} (m : Machine W V C L A) where
       stage_of (seat_of sc.after p) ≡ stage_by_owner sc.outcome sc.move (if sc.party == p then stage_by_own sc.outcome before else before)
 
   module _ (seen : Seen W V C L) (p q : ℕ) where
-    abbrev stage_now : Stage
-    stage_now = stage_of (seat_of seen p)
-
     brought_mine : (move : Move C V) (o : Option (Seat C L)) → seat_of seen p ≡ o
         → (let h = moves_at m seen.state p move o in stage_of (slice_get h.next.seats p) ≡ stage_by_owner h.outcome move (stage_by_own h.outcome (stage_of o)))
     brought_mine move o there = grind (arith, there, get-set_within seen.state.seats p, slice_get_within seen.state.seats p, let_go_all seen.state.seats p)
 
     brought_other : (move : Move C V) (o : Option (Seat C L)) → (q ≡ p → ⊥)
-        → (let h = moves_at m seen.state q move o in stage_of (slice_get h.next.seats p) ≡ stage_by_owner h.outcome move stage_now)
+        → (let h = moves_at m seen.state q move o in stage_of (slice_get h.next.seats p) ≡ stage_by_owner h.outcome move (stage_of (seat_of seen p)))
     brought_other move o ne = grind (arith, get-set_other seen.state.seats q p, let_go_all seen.state.seats p)
 
     brought : (move : Move C V) → Brings p (scene m seen q move)
     brought move =
         ⊎_elim
-        (λ (same : q ≡ p). subst (λ q. Brings p (scene m seen q move)) (sym same) (rw (eqb_self p) (brought_mine move (seat_of seen p) refl)))
+        (λ (same : q ≡ p). rw (same, eqb_self p) (brought_mine move (seat_of seen p) refl))
         (λ (other : q ≡ p → ⊥). rw (ne_eqb q p other) (brought_other move (seat_of seen q) other)) (cases_eq q p)
 
-  stage-seen_after : (seen : Seen W V C L) (p : ℕ) (es : List (ℕ × Move C V))
+  stage-seen_after : (seen : Seen W V C L) (p : ℕ) (es : Schedule C V)
       → stage_of (seat_of (seen_after m seen es) p) ≡ stage_after p (stage_of (seat_of seen p)) (scenes m seen es)
   stage-seen_after seen p [] = refl
   stage-seen_after seen p (e ∷ es) =
       stage-seen_after (scene m seen e.0 e.1).after p es ∙ ap (λ stage. stage_after p stage (scenes m (scene m seen e.0 e.1).after es)) (brought seen p e.0 e.1)
 
-  length-seen_after : (seen : Seen W V C L) (es : List (ℕ × Move C V)) → length (seen_after m seen es).state.seats ≡ length seen.state.seats
+  length-seen_after : (seen : Seen W V C L) (es : Schedule C V) → length (seen_after m seen es).state.seats ≡ length seen.state.seats
   length-seen_after seen [] = refl
   length-seen_after seen (e ∷ es) = length-seen_after (scene m seen e.0 e.1).after es ∙ length-happens m seen.state e.0 e.1
 
   -- after any schedule, each party's entries are those that its seat implies
-  stand_after : (seen : Seen W V C L) (es : List (ℕ × Move C V)) → Every (Keeps m) m seen es
+  stand_after : (seen : Seen W V C L) (es : Schedule C V) → Every (Keeps m) m seen es
       → ((q : ℕ) → StandsFor seen.plain q (seen.span q) (seat_of seen q))
       → (q : ℕ) → StandsFor (seen_after m seen es).plain q ((seen_after m seen es).span q) (seat_of (seen_after m seen es) q)
   stand_after seen [] all stand = stand
   stand_after seen (e ∷ es) all stand = stand_after (scene m seen e.0 e.1).after es all.1 all.0.places
 
-  says_seen : (p n : ℕ) (past : List (ℕ × Move C V)) → KeepsAll m n past
-      → let seen = seen_after m (opening m n) past in PlaceSays (stage_after p at_rest (scenes m (opening m n) past)) n seen.plain p (seen.span p)
+  says_seen : (p n : ℕ) (past : Schedule C V) → KeepsAll m n past
+      → let seen = seen_at m n past in PlaceSays (stage_after p at_rest (scenes m (opening m n) past)) n seen.plain p (seen.span p)
       (option_map place_of (seat_of seen p))
   says_seen p n past keeps =
-      let seen = seen_after m (opening m n) past in
+      let seen = seen_at m n past in
       let stage = stage-seen_after (opening m n) p past ∙ ap (λ st. stage_after p st (scenes m (opening m n) past))
       (get-replicate (λ (o : Option (Seat C L)). stage_of o ≡ at_rest) Idle n p refl refl) in
       let count = length-seen_after (opening m n) past ∙ length-replicate n Idle in
       let stands = stand_after (opening m n) past keeps.each (λ q. get-replicate (StandsFor {C = C} {L = L} (opening_plain m) q []) Idle n q refl refl) p in
-      subst (λ st. PlaceSays st n seen.plain p (seen.span p) (option_map place_of (seat_of seen p))) stage
+      rw (← stage)
       (says_at n p seen.plain (seen.span p) (seat_of seen p) (λ e. grind (arith, count, slice_get_cases))
       (λ x e. omega (arith, count, slice_get_within seen.state.seats p x e)) stands)
 
-  pub says_after : (s : State W V C L) (p : ℕ) → ((n : ℕ) (past : List (ℕ × Move C V)) → KeepsAll m n past) → (told : Option Place)
+  pub says_after : (s : State W V C L) (p : ℕ) → ((n : ℕ) (past : Schedule C V) → KeepsAll m n past) → (told : Option Place)
       → told ≡ option_map place_of (slice_get s.seats p) → SaysAfterAnyPast m s p told
   says_after s p keeps told is = λ n past reached.
-      let seen = seen_after m (opening m n) past in
+      let seen = seen_at m n past in
       rw is
       (subst (λ (t : State W V C L). PlaceSays (stage_after p at_rest (scenes m (opening m n) past)) n seen.plain p (seen.span p)
       (option_map place_of (slice_get t.seats p)))
-      (state-seen_after m (opening m n) past ∙ reached) (says_seen p n past (keeps n past)))
+      (state-seen_at m n past ∙ reached) (says_seen p n past (keeps n past)))

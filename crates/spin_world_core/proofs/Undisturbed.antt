@@ -1,5 +1,5 @@
 -- An undisturbed call is answered within as many own steps as it promises.
-use Rattle.spin_world_core.proofs.Names.{◌≡◌, ℕ, zero, suc, ◌+◌, ◌<◌, ◌≤◌, true, false, Option, Some, List, [], ◌∷◌, ◌++◌, refl, ap, arith, Plain, Change, apply_some, Hold, Seat, Calling, Next, Continue, StepKind, is_weak, encoded, LockKind, Asked, Mark, Machine, mark_of, is_open_now, Leaves, UndisturbedTakes, steps_alone, if◌then◌else◌, ◌==◌}
+use Rattle.spin_world_core.proofs.Names.{◌≡◌, ℕ, zero, suc, ◌+◌, ◌<◌, ◌≤◌, true, false, Option, Some, List, [], ◌∷◌, refl, arith, Plain, Change, apply_some, Hold, Seat, Calling, Next, Continue, Answers, State, goes_on, AnsweredSoon, StepKind, is_weak, encoded, LockKind, Asked, Mark, Machine, mark_of, is_open_now, Leaves, UndisturbedTakes, steps_alone, if◌then◌else◌, ◌==◌}
 use Rattle.spin_world_core.proofs.Steps.{AnswersWithin}
 use Rattle.spin_world_core.proofs.Lists.{eqb_self}
 
@@ -11,49 +11,39 @@ module _ (kind : LockKind) (p : ℕ) (what : Asked) (m : Mark) (span : List Mark
   takes_on runs [] first older is may leaves = grind arith
   takes_on runs (mark ∷ recent) first older is may leaves = grind arith
 
-no_split : (recent older : List Mark) (first : Mark) → [] ≡ recent ++ first ∷ older → ⊥
-no_split [] older first e = cc (e)
-no_split (m ∷ ms) older first e = cc (e)
-
 module _ {W V C L A : Type 0} (m : Machine W V C L A) where
-  -- what is left of a call after the steps that it has taken undisturbed
-  pub record Left (w : W) (p : ℕ) (c : C) (l : L) (h : Option Hold) (taken : ℕ) : Type 0 where
-    pub steps : ℕ
-    pub few : taken + steps ≤ steps_alone (m.asks c h)
-    pub answers : AnswersWithin m steps w c l h
-
-  abbrev pub RunsOn : W → ℕ → List Mark → Option (Seat C L) → Type 0
-  RunsOn w p span (Some (Calling c l h)) = UndisturbedTakes (Left w p c l h) m.lock_kind p (m.asks c h) span
-  RunsOn w p span _ = Unit {0}
-
   -- at each point to which the step may lead, the call is answered within k steps
   abbrev pub GoesWithin : ℕ → W → C → Option Hold → Next L A → Type 0
   GoesWithin k w c h next = (l : L) → next ≡ Continue l → AnswersWithin m k w c l h
 
-  -- what is left of a call after a step of its own
-  pub record LeftBy (w : W) (p : ℕ) (c : C) (h : Option Hold) (next : Next L A) (taken : ℕ) : Type 0 where
+  -- what is left of a call that goes on so, after the steps that it has taken undisturbed
+  pub record Left (w : W) (c : C) (h : Option Hold) (next : Next L A) (taken : ℕ) : Type 0 where
     pub steps : ℕ
     pub few : taken + steps ≤ steps_alone (m.asks c h)
     pub goes : GoesWithin steps w c h next
 
+  abbrev pub RunsOn : W → ℕ → List Mark → Option (Seat C L) → Type 0
+  RunsOn w p span (Some (Calling c l h)) = UndisturbedTakes (Left w c h (Continue l)) m.lock_kind p (m.asks c h) span
+  RunsOn w p span _ = Unit {0}
+
   module _ (w w' : W) (p : ℕ) (c : C) (l : L) (h : Option Hold) where
     -- no step has been taken yet
-    begun_by : AnswersWithin m (steps_alone (m.asks c h)) w c l h → Left w p c l h 0
-    begun_by answers = grind arith
+    begun_by : AnswersWithin m (steps_alone (m.asks c h)) w c l h → Left w c h (Continue l) 0
+    begun_by answers = record { steps = steps_alone (m.asks c h); few = omega arith; goes = λ j e. grind (arith, answers, e) }
 
     -- after a step of the call's own, one step fewer is left
     one_taken : (next : Next L A) (taken now k : ℕ) → taken + k ≤ steps_alone (m.asks c h) → now ≡ taken + 1 → AnswersWithin m k w c l h
-        → ((j : ℕ) → AnswersWithin m (suc j) w c l h → GoesWithin j w' c h next) → LeftBy w' p c h next now
+        → ((j : ℕ) → AnswersWithin m (suc j) w c l h → GoesWithin j w' c h next) → Left w' c h next now
     one_taken next taken now zero few is answers steps = absurd answers
     one_taken next taken now (suc j) few is answers steps = record { steps = j; few = omega (arith, few, is); goes = steps j answers }
 
     pub stepped : (s : Plain) (step : Option Change) (r : StepKind) (span : List Mark) (next : Next L A) → RunsOn w p span (Some (Calling c l h))
         → (is_open_now p (m.asks c h) span s ≡ true → AnswersWithin m (steps_alone (m.asks c h)) w c l h)
         → (is_weak r ≡ false → (j : ℕ) → AnswersWithin m (suc j) w c l h → GoesWithin j w' c h next)
-        → UndisturbedTakes (LeftBy w' p c h next) m.lock_kind p (m.asks c h) (mark_of p step r s ∷ span)
+        → UndisturbedTakes (Left w' c h next) m.lock_kind p (m.asks c h) (mark_of p step r s ∷ span)
     stepped s step r span next runs begins steps =
-        takes_on m.lock_kind p (m.asks c h) (mark_of p step r s) span (Left w p c l h) (LeftBy w' p c h next) (λ may. begun_by (begins may))
-        (λ n leaves left. one_taken next n _ left.steps left.few (ap (λ b. n + (if b then 1 else 0)) (eqb_self p)) left.answers (steps (leaves.strong refl))) runs
+        takes_on m.lock_kind p (m.asks c h) (mark_of p step r s) span (Left w c h (Continue l)) (Left w' c h next) (λ may. begun_by (begins may))
+        (λ n leaves left. one_taken next n _ left.steps left.few (rw (eqb_self p)) (left.goes l refl) (steps (leaves.strong refl))) runs
 
   -- a step of another party keeps what is left of a call, if a step that does not disturb the call leaves the words unchanged
   pub beside : (w w' : W) (p q : ℕ) (s : Plain) (step : Option Change) (r : StepKind) (span : List Mark) (o : Option (Seat C L)) → (p ≡ q → ⊥)
@@ -62,20 +52,23 @@ module _ {W V C L A : Type 0} (m : Machine W V C L A) where
       → AnswersWithin m (steps_alone (m.asks c h)) w c l h)
       → RunsOn w q span o → RunsOn w' q (mark_of p step r s ∷ span) o
   beside w w' p q s step r span (Some (Calling c l h)) ne same begins runs =
-      takes_on m.lock_kind q (m.asks c h) (mark_of p step r s) span (Left w q c l h) (Left w' q c l h) (λ may. begun_by w w q c l h (begins c l h refl may))
-      (λ n leaves left. record {
-        steps = left.steps;
-        few = grind arith;
-        answers = grind arith;
-      })
-      runs
+      takes_on m.lock_kind q (m.asks c h) (mark_of p step r s) span (Left w c h (Continue l)) (Left w' c h (Continue l))
+      (λ may. begun_by w w q c l h (begins c l h refl may))
+      (λ n leaves left. record { steps = left.steps; few = grind arith; goes = grind arith }) runs
   beside w w' p q s step r span _ ne same begins runs = tt
 
   -- when a call begins, no step has been taken
   pub runs_fresh : (w : W) (p : ℕ) (c : C) (l : L) (h : Option Hold) → RunsOn w p [] (Some (Calling c l h))
-  runs_fresh w p c l h = λ recent first older is may leaves. absurd (no_split recent older first is)
+  runs_fresh w p c l h [] first older is may leaves = cc (is)
+  runs_fresh w p c l h (mark ∷ recent) first older is may leaves = cc (is)
 
   -- a call that continues has a step left
-  pub more_left : (w : W) (c : C) (l : L) (h : Option Hold) (taken k : ℕ) → taken + k ≤ steps_alone (m.asks c h) → AnswersWithin m k w c l h
+  more_left : (w : W) (c : C) (l : L) (h : Option Hold) (taken k : ℕ) → taken + k ≤ steps_alone (m.asks c h) → AnswersWithin m k w c l h
       → taken < steps_alone (m.asks c h)
   more_left w c l h taken k few answers = grind arith
+
+  pub soon_by : (s : State W V C L) (w : W) (p : ℕ) (c : C) (h : Option Hold) (span : List Mark) (next : Next L A)
+      → UndisturbedTakes (Left w c h next) m.lock_kind p (m.asks c h) span → AnsweredSoon m.lock_kind p span (goes_on s p c h next).outcome (Some (m.asks c h))
+  soon_by s w p c h span (Continue l) runs = λ recent first older is may leaves.
+      let left = runs recent first older is may leaves in more_left w c l h _ left.steps left.few (left.goes l refl)
+  soon_by s w p c h span (Answers a rest) runs = λ recent first older is may leaves. omega (arith, (runs recent first older is may leaves).few)

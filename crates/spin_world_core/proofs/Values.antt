@@ -1,5 +1,6 @@
 -- Every event keeps what is promised of values that closures make.
-use Rattle.spin_world_core.proofs.Names.{seat_of, arith, ◌≡◌, ℕ, Option, Some, List, refl, ◌∙◌, Change, completes, Hold, Seat, Calling, Next, Answers, Move, Step, Weak, Machine, State, goes_on, refuses, placed, Seen, Scene, scene_at, scene, opening, Brings, GivesAt, KeepsValue, ValuesAll, Table}
+use Rattle.spin_world_core.specs.Runs.{Schedule}
+use Rattle.spin_world_core.proofs.Names.{seat_of, arith, ◌≡◌, ℕ, Option, Some, refl, ◌∙◌, Change, completes, Hold, Seat, Calling, Next, Answers, Move, Step, Weak, Machine, State, goes_on, refuses, placed, Seen, Scene, scene_at, scene, opening, Brings, GivesAt, KeepsValue, ValuesAll, Table}
 use Rattle.spin_world_core.proofs.Steps.{played, NextGives, Plays}
 use Rattle.spin_world_core.proofs.Paid.{at_step}
 use Rattle.spin_world_core.proofs.Shapes.{Notes}
@@ -8,11 +9,9 @@ use Rattle.spin_world_core.proofs.Every.{kept, every, good_first}
 
 module _ {W V C L A : Type 0} (m : Machine W V C L A) where
   -- whether a call continues or is answered, the value is as its step left it
-  value-goes_on : (s : State W V C L) (p : ℕ) (c : C) (h : Option Hold) (next : Next L A) → (goes_on s p c h next).next.value ≡ s.value
-  value-goes_on s p c h next = grind arith
-
-  gives-step : (s : State W V C L) (p : ℕ) (c : C) (h : Option Hold) (next : Next L A) → NextGives m s.value next → GivesAt m Step (goes_on s p c h next).outcome (goes_on s p c h next).next.value
-  gives-step s p c h next gives = grind arith
+  gives-step : (s : State W V C L) (p : ℕ) (c : C) (h : Option Hold) (next : Next L A)
+      → let is = goes_on s p c h next in (is.next.value ≡ s.value) × (NextGives m s.value next → GivesAt m Step is.outcome is.next.value)
+  gives-step s p c h next = grind arith
 
   gives-weak : (s : State W V C L) (p : ℕ) (c : C) (h : Option Hold) (o : Option (Next L A)) → ((next : Next L A) → o ≡ Some next → NextGives m s.value next)
       → GivesAt m Weak (refuses s p c h o).outcome (refuses s p c h o).next.value
@@ -37,8 +36,8 @@ module _ {W V C L A B : Type 0} {t : Table W V C L A} {by : Machine W V C L B} {
       let st = m.step seen.state.words seen.state.value c l h in
       let now : State W V C L = record seen.state { words = st.words; value = placed st.placed seen.state.value } in
       let is = (at_step f _ (in_call f p good there) good.phase).values in
-      still _ after (brings-by m c l h (m.change p seen.state.words c l h) _ (λ q e. value-goes_on m now p c h st.next ∙ is.brings q e))
-      (gives-step m now p c h st.next is.gives)
+      still _ after (brings-by m c l h (m.change p seen.state.words c l h) _ (λ q e. (gives-step m now p c h st.next).0 ∙ is.brings q e))
+      ((gives-step m now p c h st.next).1 is.gives)
   keeps_at seen p Weak (Some (Calling c l h)) good there after =
       still _ after tt (gives-weak m seen.state p c h (m.refuse c l h) (f.refusal_gives c l h seen.state.value))
   keeps_at seen p _ _ good there after = still _ after tt tt
@@ -47,7 +46,7 @@ module _ {W V C L A B : Type 0} {t : Table W V C L A} {by : Machine W V C L B} {
   pub keeps_value : (seen : Seen W V C L) (p : ℕ) (move : Move C V) → Invariant f seen → KeepsValue m (scene m seen p move)
   keeps_value seen p move good = keeps_at seen p move (seat_of seen p) good refl (kept f seen p move good).good
 
-  pub values_of : (parties : ℕ) (es : List (ℕ × Move C V)) → ValuesAll m parties es
+  pub values_of : (parties : ℕ) (es : Schedule C V) → ValuesAll m parties es
   values_of parties es =
       let first = good_first f parties in
       record { first = first.phase; each = every f (KeepsValue m) keeps_value (opening m parties) es first }

@@ -1,6 +1,6 @@
 -- Several runs, one after another, are one run of their joined schedules.
+use Rattle.spin_world_core.specs.Runs.{Schedule}
 use Rattle.std.specs.Prelude.{◌≡◌, ℕ, ◌-◌, Option, Some, None, List, [], ◌∷◌, ◌++◌, map, take, drop, nat_lt, if◌then◌else◌}
-use Rattle.spin_model.specs.declared.schedule.Move.{Move}
 use Rattle.spin_model.specs.declared.schedule.Outcome.{Outcome}
 use Rattle.spin_model.specs.declared.schedule.Outcome.TheVariants as outcome
 use Rattle.spin_model.specs.declared.schedule.Event.{Event}
@@ -11,7 +11,7 @@ use Rattle.spin_world_core.specs.Values.{ValuesAll}
 use Rattle.spin_world_core.specs.Transcripts.{TellsAfterAnyPast}
 
 -- all that is promised of a schedule, from the opening of a world of n parties
-pub record Promised {W V C L A : Type 0} (m : Machine W V C L A) (n : ℕ) (entries : List (ℕ × Move C V)) : Type 0 where
+pub record Promised {W V C L A : Type 0} (m : Machine W V C L A) (n : ℕ) (entries : Schedule C V) : Type 0 where
   pub keeps : KeepsAll m n entries
   pub moments : MomentsAll m n entries
   pub counts : CountsAll m n entries
@@ -42,18 +42,18 @@ abbrev pub joined : {X : Type 0} → List (List X) → List X
 joined [] = []
 joined (xs ∷ xss) = xs ++ joined xss
 
-abbrev pub after_runs : {W V C L A : Type 0} → Machine W V C L A → State W V C L → List (List (ℕ × Move C V)) → State W V C L
+abbrev pub after_runs : {W V C L A : Type 0} → Machine W V C L A → State W V C L → List (Schedule C V) → State W V C L
 after_runs m s [] = s
 after_runs m s (run ∷ runs) = after_runs m (after m s run) runs
 
 -- the transcript of each run
-abbrev pub transcripts_of : {W V C L A : Type 0} → Machine W V C L A → State W V C L → List (List (ℕ × Move C V)) → List (List (Event W V A))
+abbrev pub transcripts_of : {W V C L A : Type 0} → Machine W V C L A → State W V C L → List (Schedule C V) → List (List (Event W V A))
 transcripts_of m s [] = []
 transcripts_of m s (run ∷ runs) = with_begins [] (events_of m s run) ∷ transcripts_of m (after m s run) runs
 
 -- The runs end in the state of one run of their joined schedule. The events of all runs together tell the scenes of the
 -- joined schedule. All that is promised of a schedule holds of the joined one.
-pub record RunsAreOne {W V C L A : Type 0} (m : Machine W V C L A) (s : State W V C L) (runs : List (List (ℕ × Move C V))) : Type 0 where
+pub record RunsAreOne {W V C L A : Type 0} (m : Machine W V C L A) (s : State W V C L) (runs : List (Schedule C V)) : Type 0 where
   pub state : after_runs m s runs ≡ after m s (joined runs)
   pub tells : TellsAfterAnyPast m s (joined runs) (joined (transcripts_of m s runs))
   pub promised : AfterAnyPast m s (joined runs) (Promised m)

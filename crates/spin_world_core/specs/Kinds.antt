@@ -2,6 +2,11 @@
 use Rattle.std.specs.Prelude.{◌≡◌, ℕ, true, is_some, Option, List, [], ◌∷◌, ⊤}
 use Rattle.spin_model.specs.declared.place.Hold.{Hold}
 use Rattle.spin_model.specs.Machines.{Machine}
+use Rattle.spin_model.specs.Calls.{Asked}
+
+-- the call promises this, whatever its party holds
+abbrev pub Asks : {W V C L A : Type 0} → Machine W V C L A → C → Asked → Type 0
+Asks m c what = (h : Option Hold) → m.asks c h ≡ what
 
 -- each call of the list may begin when its party holds what the list has beside the call
 abbrev pub BeginAt : {W V C L A : Type 0} → Machine W V C L A → List (C × Option Hold) → Type 0

@@ -1,5 +1,6 @@
 -- The promises of each event of a schedule. A plain lock runs beside the world. An event that makes a plain step
 -- changes this lock; other events leave it unchanged.
+use Rattle.spin_model.specs.Schedules.{Entry}
 use Rattle.std.specs.Prelude.{◌≡◌, ℕ, ◌+◌, ◌<◌, ◌≤◌, ◌↔◌, ◌⊎◌, Bool, true, false, not, ◌||◌, Option, Some, None, List, [], ◌∷◌, ◌++◌, is_some, ◌==◌, if◌then◌else◌, slice_get, take}
 use Rattle.std.specs.List.{list_any}
 use Rattle.spin_step.specs.Plain.{Plain, reading, upgradable, writing, same_kind, Change, completes, is_open, holder, ticket, is_empty}
@@ -43,6 +44,14 @@ pub record Scene (W V C L A : Type 0) : Type 0 where
   pub change : Option Change
   pub step_kind : StepKind
   pub after : Seen W V C L
+
+-- a schedule: entries of a party and its move
+abbrev pub Schedule : Type 0 → Type 0 → Type 0
+Schedule C V = List (Entry C V)
+
+-- a world of n parties after a schedule
+abbrev pub state_at : {W V C L A : Type 0} → Machine W V C L A → ℕ → Schedule C V → State W V C L
+state_at m n past = after m (at_first m n) past
 
 abbrev pub opening : {W V C L A : Type 0} → Machine W V C L A → ℕ → Seen W V C L
 opening m n = record { state = at_first m n; plain = opening_plain m; span = λ p. []; written = m.value }
@@ -105,7 +114,7 @@ abbrev pub scene : {W V C L A : Type 0} → Machine W V C L A → Seen W V C L �
 scene m seen p move = scene_at m seen p move (seat_of seen p)
 
 -- `R` holds of each event of the schedule
-abbrev pub Every : {W V C L A : Type 0} → (Scene W V C L A → Type 0) → Machine W V C L A → Seen W V C L → List (ℕ × Move C V) → Type 0
+abbrev pub Every : {W V C L A : Type 0} → (Scene W V C L A → Type 0) → Machine W V C L A → Seen W V C L → Schedule C V → Type 0
 Every R m seen [] = Unit {0}
 Every R m seen (e ∷ es) = R (scene m seen e.0 e.1) × Every R m (scene m seen e.0 e.1).after es
 
@@ -402,16 +411,16 @@ pub record IsInTime {W V C L A : Type 0} (m : Machine W V C L A) (s : Scene W V 
 
 -- Over a whole schedule, from the opening of a world of n parties
 
-pub record KeepsAll {W V C L A : Type 0} (m : Machine W V C L A) (n : ℕ) (entries : List (ℕ × Move C V)) : Type 0 where
+pub record KeepsAll {W V C L A : Type 0} (m : Machine W V C L A) (n : ℕ) (entries : Schedule C V) : Type 0 where
   pub first : m.numbers m.words ≡ encoded m.lock_kind (opening_plain m)
   -- the numbers determine the words
   pub numbers_tell : (v w : W) → m.numbers v ≡ m.numbers w → v ≡ w
   pub each : Every (Keeps m) m (opening m n) entries
 
-abbrev pub MomentsAll : {W V C L A : Type 0} → Machine W V C L A → ℕ → List (ℕ × Move C V) → Type 0
+abbrev pub MomentsAll : {W V C L A : Type 0} → Machine W V C L A → ℕ → Schedule C V → Type 0
 MomentsAll m n entries = Every (IsRight m) m (opening m n) entries
 
-abbrev pub CountsAll : {W V C L A : Type 0} → Machine W V C L A → ℕ → List (ℕ × Move C V) → Type 0
+abbrev pub CountsAll : {W V C L A : Type 0} → Machine W V C L A → ℕ → Schedule C V → Type 0
 CountsAll m n entries = Every (IsInTime m) m (opening m n) entries
 
 -- each party in a call can take its next step
@@ -420,21 +429,21 @@ CanStep {W} {V} {C} {L} m s =
     (p : ℕ) (c : C) (l : L) (h : Option Hold) → slice_get s.seats p ≡ Some (Calling c l h) → m.can s.words c l h ≡ true
 
 -- after the schedule each party in a call can take its next step
-abbrev pub CanGoOn : {W V C L A : Type 0} → Machine W V C L A → ℕ → List (ℕ × Move C V) → Type 0
-CanGoOn m n entries = CanStep m (after m (at_first m n) entries)
+abbrev pub CanGoOn : {W V C L A : Type 0} → Machine W V C L A → ℕ → Schedule C V → Type 0
+CanGoOn m n entries = CanStep m (state_at m n entries)
 
 -- after every beginning of the schedule each party in a call can take its next step
-abbrev pub CanAlways : {W V C L A : Type 0} → Machine W V C L A → State W V C L → List (ℕ × Move C V) → Type 0
+abbrev pub CanAlways : {W V C L A : Type 0} → Machine W V C L A → State W V C L → Schedule C V → Type 0
 CanAlways m s entries = (k : ℕ) → CanStep m (after m s (take k entries))
 
 -- some schedule leads from the opening of some world to this state
 abbrev pub IsReached : {W V C L A : Type 0} → Machine W V C L A → State W V C L → Type 0
-IsReached {W} {V} {C} m s = ∥ ((n : ℕ) × (past : List (ℕ × Move C V)) × (after m (at_first m n) past ≡ s)) ∥₁
+IsReached {W} {V} {C} m s = ∥ ((n : ℕ) × (past : Schedule C V) × (state_at m n past ≡ s)) ∥₁
 
 -- `P` holds of every number of parties with every schedule, from the opening of such a world
-abbrev pub Always : {W V C L A : Type 0} → Machine W V C L A → (ℕ → List (ℕ × Move C V) → Type 0) → Type 0
-Always {V = V} {C = C} m P = (n : ℕ) (entries : List (ℕ × Move C V)) → P n entries
+abbrev pub Always : {W V C L A : Type 0} → Machine W V C L A → (ℕ → Schedule C V → Type 0) → Type 0
+Always {V = V} {C = C} m P = (n : ℕ) (entries : Schedule C V) → P n entries
 
 -- for any schedule of any world that led to this state: `P` holds of that schedule followed by the new one
-abbrev pub AfterAnyPast : {W V C L A : Type 0} → Machine W V C L A → State W V C L → List (ℕ × Move C V) → (ℕ → List (ℕ × Move C V) → Type 0) → Type 0
-AfterAnyPast {V = V} {C = C} m s schedule P = (n : ℕ) (past : List (ℕ × Move C V)) → after m (at_first m n) past ≡ s → P n (past ++ schedule)
+abbrev pub AfterAnyPast : {W V C L A : Type 0} → Machine W V C L A → State W V C L → Schedule C V → (ℕ → Schedule C V → Type 0) → Type 0
+AfterAnyPast {V = V} {C = C} m s schedule P = (n : ℕ) (past : Schedule C V) → state_at m n past ≡ s → P n (past ++ schedule)

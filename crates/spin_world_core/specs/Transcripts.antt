@@ -1,4 +1,7 @@
 -- What a transcript tells of the events of a schedule, and what `place` tells of a party in the plain lock.
+use Rattle.spin_world_core.specs.Users.{seen_at}
+use Rattle.spin_world_core.specs.Runs.{state_at}
+use Rattle.spin_world_core.specs.Runs.{Schedule}
 use Rattle.std.specs.Prelude.{◌≡◌, ℕ, ◌≤◌, ◌<◌, Bool, true, false, ◌&&◌, Option, Some, None, List, [], ◌∷◌, ◌++◌, length, ◌==◌, if◌then◌else◌}
 use Rattle.std.specs.List.{list_any}
 use Rattle.spin_step.specs.Plain.{Plain}
@@ -13,12 +16,11 @@ use Rattle.spin_model.specs.declared.schedule.Outcome.TheVariants as outcome
 use Rattle.spin_model.specs.declared.schedule.Event.{Event}
 use Rattle.spin_model.specs.Calls.{Mark}
 use Rattle.spin_model.specs.Machines.{Machine}
-use Rattle.spin_model.specs.Schedules.{State, after, at_first, is_begun}
+use Rattle.spin_model.specs.Schedules.{State, is_begun}
 use Rattle.spin_world_core.specs.Runs.{Seen, Scene, scene, opening, entries_of, entries_held, entries_so_far}
-use Rattle.spin_world_core.specs.Users.{seen_after}
 
 -- the scenes of a schedule, in order
-abbrev pub scenes : {W V C L A : Type 0} → Machine W V C L A → Seen W V C L → List (ℕ × Move C V) → List (Scene W V C L A)
+abbrev pub scenes : {W V C L A : Type 0} → Machine W V C L A → Seen W V C L → Schedule C V → List (Scene W V C L A)
 scenes m seen [] = []
 scenes m seen (e ∷ es) = scene m seen e.0 e.1 ∷ scenes m (scene m seen e.0 e.1).after es
 
@@ -41,9 +43,9 @@ EachTells (s ∷ ss) [] = ⊥
 EachTells (s ∷ ss) (e ∷ es) = TellsScene s e × EachTells ss es
 
 -- for any schedule of any world that led to this state: the events tell the scenes of the new schedule, played from there
-abbrev pub TellsAfterAnyPast : {W V C L A : Type 0} → Machine W V C L A → State W V C L → List (ℕ × Move C V) → List (Event W V A) → Type 0
+abbrev pub TellsAfterAnyPast : {W V C L A : Type 0} → Machine W V C L A → State W V C L → Schedule C V → List (Event W V A) → Type 0
 TellsAfterAnyPast {V = V} {C = C} m s schedule events =
-    (n : ℕ) (past : List (ℕ × Move C V)) → after m (at_first m n) past ≡ s → EachTells (scenes m (seen_after m (opening m n) past) schedule) events
+    (n : ℕ) (past : Schedule C V) → state_at m n past ≡ s → EachTells (scenes m (seen_at m n past) schedule) events
 
 -- the stage of a party, as the outcomes of its moves tell it
 pub data Stage : Type 0 where
@@ -91,8 +93,8 @@ PlaceSays stage n s p span (Some place) = (p < n) × StandsAt stage s p span pla
 -- for any schedule of any world that led to this state, `PlaceSays` holds of the place that was told
 abbrev pub SaysAfterAnyPast : {W V C L A : Type 0} → Machine W V C L A → State W V C L → ℕ → Option Place → Type 0
 SaysAfterAnyPast {V = V} {C = C} m s p told =
-    (n : ℕ) (past : List (ℕ × Move C V)) → after m (at_first m n) past ≡ s
-    → let seen = seen_after m (opening m n) past in PlaceSays (stage_after p at_rest (scenes m (opening m n) past)) n seen.plain p (seen.span p) told
+    (n : ℕ) (past : Schedule C V) → state_at m n past ≡ s
+    → let seen = seen_at m n past in PlaceSays (stage_after p at_rest (scenes m (opening m n) past)) n seen.plain p (seen.span p) told
 
 -- the event begins a call of the party
 abbrev pub begins_of : {W V A : Type 0} → ℕ → Event W V A → Bool

@@ -1,5 +1,6 @@
 -- Values that closures make: what the world has, what a step stores, and what an answer gives.
-use Rattle.std.specs.Prelude.{◌≡◌, ℕ, Bool, true, false, Option, Some, None, is_some, List}
+use Rattle.spin_world_core.specs.Runs.{Schedule}
+use Rattle.std.specs.Prelude.{◌≡◌, ℕ, Bool, true, false, Option, Some, None, is_some}
 use Rattle.spin_step.specs.Plain.{Phase, is_complete, Change, completes}
 use Rattle.spin_model.specs.declared.place.Seat.{Seat}
 use Rattle.spin_model.specs.declared.place.Seat.TheVariants.{Calling}
@@ -40,6 +41,6 @@ pub record KeepsValue {W V C L A : Type 0} (m : Machine W V C L A) (s : Scene W 
   pub gives : GivesAt m s.move s.outcome s.after.state.value
 
 -- over a whole schedule, from the opening of a world of n parties
-pub record ValuesAll {W V C L A : Type 0} (m : Machine W V C L A) (n : ℕ) (entries : List (ℕ × Move C V)) : Type 0 where
+pub record ValuesAll {W V C L A : Type 0} (m : Machine W V C L A) (n : ℕ) (entries : Schedule C V) : Type 0 where
   pub first : HasPhase m.lock_kind.makes_value (opening_plain m).phase m.value
   pub each : Every (KeepsValue m) m (opening m n) entries

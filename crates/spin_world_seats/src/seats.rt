@@ -35,8 +35,8 @@ impl Seats {
     /// Creates a lock with `seats` free seats, but at most `spin_seats::steps::MAX_SEATS`.
     ///
     /// # Contract
-    /// The object has this number of seats. Its machine is that of a lock with as many, up to the limit (`IsSeats`). At
-    /// first all seats are free, and each call asks what [`SeatsCall`] says.
+    /// The object keeps the number `seats`. Its machine is that of a lock with `seats` seats, or with `MAX_SEATS` if
+    /// `seats` is larger (`IsSeats`). At first all seats are free. [`SeatsCall`] says what each call asks for.
     pub fn new(seats: usize) -> Seats
         ensures fields { result ≡ record { seats = seats } }
         ensures named { IsSeats seats (⟦<Seats as Object>⟧.machine result) }

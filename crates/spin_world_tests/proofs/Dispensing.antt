@@ -14,7 +14,6 @@ use Rattle.spin_world_tests.specs.Dispenser.{next_after, dispenser_table, dispen
 use Rattle.spin_world_core.proofs.Steps.{Plays}
 use Rattle.spin_world_core.proofs.Rows.{Point, starts, looked}
 use Rattle.spin_world_core.proofs.Shapes.{Notes, Means, OwesAll, Pays}
-use Rattle.spin_world_core.proofs.Operating.{one_place, operates_by}
 use Rattle.spin_world_core.proofs.Usual.{no_queue}
 use Rattle.spin_world_core.proofs.Filled.{plays_of}
 use Rattle.spin_world_core.proofs.Lists.{eqb_self}
@@ -57,16 +56,11 @@ module _ (cap : ℕ) where
   dispenser_pays : Pays (dispenser_notes cap)
   dispenser_pays =
       record {
-        fits = λ p c l h. grind arith;
-        operates = operates_by (dispenser_table cap) one_place;
-        first = refl;
+        computes = grind arith;
+        operates = grind arith;
         shape_first = record { no_queue = refl; room = refl; all_read = refl };
-        numbers_tell = λ v w e. cc (e);
         one_list = λ s shape. no_queue s shape.no_queue;
         calls = λ c h. (number_of c, grind arith);
-        own = λ c h said p. grind arith;
-        sound = λ p c l h. grind arith;
-        aims = λ p c l h. grind arith;
         begins = λ p c h s. grind arith;
         others = λ p q c l h s step r span ne shape may belongs knows. tt;
         owes = owes;

@@ -1,5 +1,5 @@
--- Wrong locks of seats, each wrong in one part of its table, and schedules on which the laws refuse these locks. If a
--- step is wrong, the plain step that the table names for it is wrong in the same way.
+-- Wrong locks of seats, and schedules on which the laws refuse these locks. Each is wrong in one call, or in how it
+-- opens. A wrong step names a plain step of the right lock, which it makes if its wrong operation succeeds.
 use Rattle.std.specs.Prelude.{ℕ, zero, suc, Bool, true, false, Option, Some, None, List, [], ◌∷◌, ◌++◌, nat_lt, ◌-◌}
 use Rattle.spin_step.specs.Plain.{reading, to_read, gets, releases}
 use Rattle.spin_seats.specs.Seats.{entered}

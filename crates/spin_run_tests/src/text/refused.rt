@@ -12,7 +12,7 @@ use spin_world::{Move, World, run_in_two};
 use std::alloc::Global;
 use std::process::Abort;
 
-/// More bytes than any world of a worked schedule needs with its transcripts.
+/// More bytes than a world needs, with its transcripts, to play any schedule of these tests.
 const ROOM: usize = 16_384;
 
 /// The alignment of all allocations: a smaller difference in room changes nothing.
@@ -144,7 +144,8 @@ impl Refusals {
     }
 }
 
-/// Compares a refused run, and the same run again, with the two runs of a world that is never refused.
+/// Checks that a refused run leaves the world as the run before it did. Checks that the same run, made again, tells and
+/// leaves what it does in a world that is never refused.
 fn is_as_wanted(rt: &impl Abort, shows: &str, left: usize, again: &Again, past: &Run, two: &Two) {
     holds(rt, shows, left, again.refused.is_like(&past.stop));
     holds(

@@ -22,14 +22,14 @@ pub fn tickets_stand_in_order<V: Copy>()
 /// earlier. So no party with a later ticket enters before it.
 ///
 /// Let `s` be the number served after `past`. After `further`, the next step of a party that waits with ticket `t`
-/// succeeds exactly if `t - s` tickets have left during `further`. If a party holds with ticket `t` then, `t - s`
-/// tickets have left.
+/// succeeds exactly if `t - s` tickets have left during `further`. If a party holds with ticket `t` after `further`,
+/// `t - s` tickets have left during `further`.
 pub fn tickets_enter_by_releases<V: Copy>()
     ensures { (object : Ticket V) (n : ℕ) (past further : List (ℕ × Move TicketCall V)) → InTurn (⟦<Ticket<V> as Object>⟧.machine object) n past further }
 {}
 
 /// States that a `try_lock` never answers by its first step, which finds the next number. The second step answers only
-/// if that number is not the served one, or no ticket is left.
+/// if that number is not the served one, or is not below the limit of the numbers.
 pub fn a_try_finds_its_number_by_two_loads<V: Copy>()
     ensures { (object : Ticket V) (n : ℕ) (past : List (ℕ × Move TicketCall V)) → TriesByTwoLoads (⟦<Ticket<V> as Object>⟧.machine object) n past }
 {}

@@ -43,7 +43,8 @@ new_spec 𝓤 𝓛 𝓜 𝓡 wired X U P K S L _ _ _ LS g d _ =
     rewrite ! 0 (λ (ws : List Val). ‵ (R.own_val x ws)) got.1 refl $ fjoin ! $
     flt_i ! n (2 ^ 64) fits $ feq_i ! _ (vint w64 n ∷ []) _ refl $ fjoin ! $ fjoin ! $
     use0 𝓛 (‵ (Mk.own_val (record {}) (vstruct vnil ∷ []))) (makes_shadow 𝓛 (Mk.own_val (record {}) (vstruct vnil ∷ [])) (λ uss. (tt, tt)) (tt, (refl, tt))) $ fjoin ! $
-    feq_i ! _ (v ∷ []) _ refl $ fjoin ! $ fpack ! (Valss (Mk ∷ u64 ∷ R ∷ Sr ∷ [])) (within D (tt, (n, (x, (k, tt)))) (v ∷ [])) (vstruct vnil ∷ [], (vint w64 n ∷ [], (vy ∷ [], (vz ∷ [], tt)))) $
+    feq_i ! _ (v ∷ []) _ refl $ fjoin ! $
+    fpack ! (Valss (Mk ∷ u64 ∷ R ∷ Sr ∷ [])) (within D (tt, (n, (x, (k, tt)))) (v ∷ [])) (vstruct vnil ∷ [], (vint w64 n ∷ [], (vy ∷ [], (vz ∷ [], tt)))) $
     knows ! (Rule (n, k, x)) (opened.0, opened.2, opened.3) $ move ! (1 ∷ 0 ∷ []) $ fjoin ! $
     fpack ! (ℕ × S.Denot × X.Denot) owned (n, k, x) $ fpack ! Knows (λ _. fex (ℕ × S.Denot × X.Denot) owned) known $ knows ! (Typed F.mir (v ∷ [])) (typed, tt) $ fjoin ! $
     suffices ! (Run (vy ∷ vint w64 n ∷ vz ∷ at ∷ [])) (subst (λ (ws : List Val). ent 𝓤 (Run (vy ∷ vint w64 n ∷ vz ∷ at ∷ [])) (Run ws)) (sym (λ i. got.1 i ++ (are.1.0.0 i ++ (got_second.1 i ++ (are.1.1.1.0.0 i ++ []))))) (id⊢ 𝓤 (Run (vy ∷ vint w64 n ∷ vz ∷ at ∷ [])))) $

@@ -27,6 +27,7 @@ leak_spec 𝓤 𝓛 𝓜 𝓡 wired T V P K S L _ _ _ LS g d _ =
     cite _ (lasts 𝓛 β t.life q (body R b o t)) $ await ! tt $ split ! $
     sets ! (is ! (of_opd ! (get_in ! (fld ! refl (stop !)) (sub ! 0 refl (whole !)))) (ap ptr_val at)) refl (tt, tt) $ first ! $ blocks ! $ sets ! (addr ! (through ! refl (fld ! refl (stop !)))) refl (tt, tt) $
     sets_last ! (addr ! (through ! refl (stop !))) refl (tt, tt) $ exec ! 𝓣.C 𝓣.Λ Ev (tail (tail fn.body)) (at_ret Ev Post) $ sets ! (of_opd ! (get ! refl)) refl (tt, tt) $
-    let m : (MutRef (named 0) β R).Denot = record { ref_ptr = (b, e); ghost_name = t.value; now = x } in move ! (3 ∷ 0 ∷ []) $ feq_i ! _ (vptr b e ∷ []) _ refl $ fjoin3 ! $
+    let m : (MutRef (named 0) β R).Denot = record { ref_ptr = (b, e); ghost_name = t.value; now = x } in
+    move ! (3 ∷ 0 ∷ []) $ feq_i ! _ (vptr b e ∷ []) _ refl $ fjoin3 ! $
     says ! (x ≡ x) refl $ move ! (2 ∷ 3 ∷ []) $ fjoin ! $
     returns ! (look_at ! 0 refl) $ free_all ! refl $ keep ! (0 ∷ 2 ∷ 1 ∷ []) $ by ! (out (vptr b e) m)))))))

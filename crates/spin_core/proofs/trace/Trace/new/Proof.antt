@@ -26,7 +26,8 @@ new_spec 𝓤 𝓛 𝓜 𝓡 wired Ty S L N =
     qed 𝓛 ((raw (alive 𝓛 En.signature z.0.0 z.0.1) ⊛ ‵ (owns (types_at En.signature.params z.0.0) z.0.3 z.0.4)) ∷ raw ((c z.0.0 z.0.3).requires z.1) ∷ []) ∵ keep ! (0 ∷ []) $ split ! $
     move ! (1 ∷ []) $ fsplit ! $ keep ! (0 ∷ 2 ∷ []) $ rewrite ! 0 (λ (ws : List Val). ‵ (S'.own_val x ws)) got.1 refl $
     nothing ! $ use0 𝓛 (‵ (Mk.own_val (record {}) (vstruct vnil ∷ []))) (makes_shadow 𝓛 (Mk.own_val (record {}) (vstruct vnil ∷ [])) (λ uss. (tt, tt)) (tt, (refl, tt))) $ fjoin ! $ move ! (1 ∷ []) $ fjoin ! $
-    feq_i ! _ (v ∷ []) _ refl $ fjoin ! $ fpack ! (Valss (S' ∷ Mk ∷ [])) (within (fields_of T' S') (x, (record {}, tt)) (v ∷ [])) (vy ∷ [], (vstruct vnil ∷ [], tt)) $
+    feq_i ! _ (v ∷ []) _ refl $ fjoin ! $
+    fpack ! (Valss (S' ∷ Mk ∷ [])) (within (fields_of T' S') (x, (record {}, tt)) (v ∷ [])) (vy ∷ [], (vstruct vnil ∷ [], tt)) $
     suffices ! (Run (vy ∷ [])) (subst (λ (ws : List Val). ent 𝓤 (Run (vy ∷ [])) (Run ws)) (sym (λ i. got.1 i ++ [])) (id⊢ 𝓤 (Run (vy ∷ [])))) $
     enter ! 𝓣.C 𝓣.Λ fn (vy ∷ []) Post $ alloc_all ! (λ l. pass_all ! refl (fy, tt) $
     use0 𝓛 (later (some (λ (γ : ℕ). ‵ (log_owns cv.code γ [])))) (steps.begins 𝓛 cv).prf $ await ! tt $ pick ! (λ γ.

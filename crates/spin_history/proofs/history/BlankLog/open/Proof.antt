@@ -1,26 +1,21 @@
-use Rattle.spin_core.proofs.TraceWalk.{[], ◌∷◌, refl, a_type, dcons, dnil, Val, inst_fn, SProp, emp, Fml, ftrue, fsep, flft, ‵, raw, ◌⊛◌, given, ◌$◌, ◌∵◌, !, qed, by, move, keep, drop, split, fsplit, fjoin, learn, use0, use1, no_more, and_then, returns, enter, alloc_all, pass_all, free_all, look_at, get, sets, agg, fact, fact_i, tables, yes, RattleType, owns, types_at, plain, unit, nothing, param, bounded, Tuple, Stays, stay_dropped, walk_of, Goes-dropped, proved, token, Token, token_told, token_made, ends}
+use Rattle.spin_core.proofs.TraceWalk.{List, ◌≡◌, [], ◌∷◌, refl, ‵, given, ftrue, ◌$◌, !, by, move, keep, fsplit, fjoin, learn, use0, use1, no_more, and_then, returns, alloc_all, pass_all, free_all, look_at, get, sets, agg, unit, param, Tuple, token, Token, token_told, token_made}
+use Rattle.spin_core.proofs.WalkSteps.{says, last_fact}
+use Rattle.spin_core.proofs.Walking.{walks}
 use Rattle.spin_core.specs.Logs.{log_owns}
 use Rattle.spin_history.proofs.Steps as steps
-use Rattle.spin_history.specs.contracts.history.BlankLog as BlankLog
 use Rattle.spin_history.specs.contracts.history.BlankLog.open.{ended, clauses}
-use Rattle.spin_history.specs.contracts.history.BlankLog.open.Key.{name as #self}
 use Rattle.spin_history.proofs.history.BlankLog.open.Statement.{statement}
 use Rattle.spin_history.proofs.history.BlankLog.open.Code as code
 
 pub open_spec : {M : Type 1} → statement M
 open_spec 𝓤 𝓛 𝓜 𝓡 wired T L _ _ g d _ =
-    let H = 𝓛.H in let 𝓣 = tables 𝓤 H 𝓜 𝓡 𝓡.env in let T' : RattleType = param 0 T in let L' : RattleType = param 1 L in let En = ended T L g d in
-    let inst = bounded (a_type ∷ a_type ∷ []) (T, (L, tt)) (dcons d dnil) in let fn = inst_fn inst code.function in let c = clauses T L g d 𝓛 𝓜.mem 𝓡.returns in
-    let cv = T'.coded in let All : RattleType = Tuple (T' ∷ L' ∷ []) in
-    let hs : Stays En.signature.params En.kept = (stay_dropped (plain (λ _. BlankLog.the_row)) yes, tt) in
-    proved 𝓛 En hs c 𝓜 𝓡 (Goes-dropped 𝓛 2 (plain (λ _. BlankLog.the_row)) yes (λ κs x f. refl), tt) (#self inst) fn (code.unfolded 𝓤 H 𝓜 𝓡 wired (T, (L, tt)) d)
-    (λ κs. ((λ x. token ∷ []), tt)) (λ κs. ((λ x vs is. token_told unit vs is.0), tt)) (λ κs qs bounds a gh are.
-    let me = a.0 in
-    let y : (walk_of 𝓛 En hs c).Ghost = ((κs, qs, bounds, a, (token ∷ [], tt)), gh) in let Post : Val → SProp 𝓤 = (walk_of 𝓛 En hs c).post y in let toks : Fml = fsep (flft κs.0 qs.0) (fsep (flft κs.1.0 qs.1.0) ftrue) in
-    qed 𝓛 ((‵ toks ⊛ ‵ (owns (types_at En.signature.params κs) a y.0.4)) ∷ raw (fact 𝓤 _) ∷ raw (fact 𝓤 _) ∷ given _ (‵ ftrue) ∷ []) ∵ keep ! (3 ∷ 0 ∷ []) $ learn ! (λ asked. drop ! $ split ! $
-    move ! (1 ∷ []) $ fsplit ! $ fsplit ! $ keep ! (1 ∷ 3 ∷ []) $
-    enter ! 𝓣.C 𝓣.Λ fn (token ∷ []) Post $ alloc_all ! (λ l. pass_all ! refl ((tt, (tt, tt)), tt) $
-    use1 𝓛 (‵ (log_owns cv.code g.name [])) (steps.opens_as 𝓛 cv g.name me.name asked) $
+    let T' = param 0 T in let All = Tuple (T' ∷ param 1 L ∷ []) in let none : List T.Denot = [] in
+    walks 𝓛 (ended T L g d) (clauses T L g d 𝓛 𝓜.mem 𝓡.returns) 𝓜 𝓡 (λ κs x f. refl, tt) _ _ (code.unfolded 𝓤 𝓛.H 𝓜 𝓡 wired (T, (L, tt)) d)
+    (λ κs. (((λ x. token ∷ []), (λ x vs is. token_told unit vs is.0)), tt)) (λ κs qs bounds a gh are Post out.
+    move ! (2 ∷ []) $ use1 𝓛 (given (a.0.name ≡ g.name) (‵ ftrue)) (last_fact 𝓤 _ 2 (_, (_, tt))) $ learn ! (λ asked.
+    move ! (2 ∷ []) $ fsplit ! $ fsplit ! $ keep ! (1 ∷ 4 ∷ []) $
+    alloc_all ! (λ l. pass_all ! refl ((tt, (tt, tt)), tt) $ use1 𝓛 (‵ (log_owns T'.coded.code g.name [])) (steps.opens_as 𝓛 T'.coded g.name a.0.name asked) $
+    use0 𝓛 (‵ ((Token All).own_val (record {}, tt) (token ∷ []))) (token_made All 𝓛) $ fjoin ! $
     sets ! (agg ! (no_more !)) refl (tt, tt) $ sets ! (agg ! (and_then ! (get ! refl) (no_more !))) refl (tt, (tt, tt)) $
-    use0 𝓛 (‵ ((Token (All)).own_val (record {}, tt) (token ∷ []))) (token_made (All) 𝓛) $ fjoin ! $ nothing ! $ nothing ! $ fjoin ! $
-    returns ! (look_at ! 0 refl) $ free_all ! refl $ keep ! (2 ∷ 0 ∷ 1 ∷ []) $ by ! (ends 𝓛 En hs c y token (record { marker = record {}; entries = [] }) (tt, tt) (tt, tt) (fact_i 𝓤 _ (emp 𝓤) refl)))))
+    says ! (none ≡ none) refl $
+    returns ! (look_at ! 0 refl) $ free_all ! refl $ keep ! (2 ∷ 1 ∷ 0 ∷ []) $ by ! (out token (record { marker = record {}; entries = [] })))))

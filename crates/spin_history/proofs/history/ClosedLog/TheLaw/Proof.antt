@@ -11,7 +11,6 @@ use denote.Struct.Laws.{field_copy}
 use denote.Struct.Lending.{of_Lends}
 use Rattle.core.specs.contracts.marker.PhantomData as marker
 use Rattle.spin_core.proofs.TraceTokens.{lends_twice}
-use Rattle.spin_history.specs.History.{closed_owns}
 use Rattle.spin_history.specs.declared.history.History.{Ghosts}
 use Rattle.spin_history.specs.contracts.history.ClosedLog as C
 use Rattle.spin_history.proofs.Steps.{closed_twice}
@@ -19,7 +18,7 @@ use Rattle.spin_history.proofs.history.ClosedLog.TheLaw.Statement.{statement}
 
 pub shares : (T L : RattleType) (g : Ghosts L.Denot) (W : Laws T) (W' : Laws L) → statement T L g W W'
 shares T L g W W' = let All = Tuple (T ∷ L ∷ []) in
-    of_Lends (C.struct T L g) (C.the_codes T.Denot L.Denot T.coded L.coded (marker.the_row All).coded) (C.the_heap T L g) (C.the_lent T L g)
-    (λ d p. record { contraction = λ M 𝓤 𝓛 κ. (closed_twice 𝓛 T.coded g.name d.entries).prf; mono = λ M 𝓤 𝓛 κ' κ. snd∗ 𝓤 (sem 𝓛 (before κ' κ)) (sem 𝓛 (closed_owns T.coded.code g.name d.entries)) })
+    of_Lends (C.struct T L g) (C.the_codes _ _ T.coded L.coded (marker.the_row All).coded) _ (C.the_lent T L g)
+    (λ d p. record { contraction = λ M 𝓤 𝓛 κ. (closed_twice 𝓛 T.coded g.name d.entries).prf; mono = λ M 𝓤 𝓛 κ' κ. snd∗ 𝓤 (sem 𝓛 (before κ' κ)) _ })
     (copy_shared (marker.the_field All) (field_copy (marker.the_type All) tt), tt)
-    (λ M 𝓤 𝓛 d p. lends_twice 𝓛 (closed_owns T.coded.code g.name d.entries) (closed_twice 𝓛 T.coded g.name d.entries).prf (C.the_row T L g).lives)
+    (λ M 𝓤 𝓛 d p. lends_twice 𝓛 _ (closed_twice 𝓛 T.coded g.name d.entries).prf _)

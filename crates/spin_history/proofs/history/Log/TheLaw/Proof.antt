@@ -16,7 +16,7 @@ use Rattle.spin_history.proofs.history.Log.TheLaw.Statement.{statement}
 
 pub shares : (T L : RattleType) (g : Ghosts L.Denot) (W : Laws T) (W' : Laws L) → statement T L g W W'
 shares T L g W W' = let All = Tuple (T ∷ L ∷ []) in
-    of_Lends (C.struct T L g) (C.the_codes T.Denot L.Denot T.coded L.coded (marker.the_row All).coded) (C.the_heap T L g) (C.the_lent T L g)
+    of_Lends (C.struct T L g) (C.the_codes _ _ T.coded L.coded (marker.the_row All).coded) _ _
     (λ d p. one_shr_laws (log_part T.coded.code g.name d.entries))
     (copy_shared (marker.the_field All) (field_copy (marker.the_type All) tt), tt)
     (λ M 𝓤 𝓛 d p. log_lends 𝓛 T.coded g.name d.entries (C.the_row T L g).lives)

@@ -1,5 +1,5 @@
-use Rattle.spin_world_core.specs.Runs.{opening, scene}
-use Rattle.spin_world_core.specs.Users.{seen_after}
+use Rattle.spin_world_core.specs.Users.{seen_at}
+use Rattle.spin_world_core.specs.Runs.{scene}
 use Rattle.spin_world_core.proofs.Every.{kept}
 use Rattle.spin_world_core.proofs.Reached.{good}
 use Rattle.spin_step_more.specs.FairCalls.{fair_machine}
@@ -12,6 +12,6 @@ returns g c = λ fair n past p move.
     let m = fair_machine fair.value fair.cap fair.patience in
     let k = fair_notes fair.value fair.cap fair.patience in
     let f = fair_facts fair.value fair.cap fair.patience in
-    let before = seen_after m (opening m n) past in
+    let before = seen_at m n past in
     let keeps = (kept f before p move (good f n past)).keeps in
     λ idle newcomer holds. comes_after_starvers before.plain p (scene m before p move).change keeps.opens keeps.belongs idle newcomer holds

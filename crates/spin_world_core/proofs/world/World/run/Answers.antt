@@ -1,5 +1,6 @@
+use Rattle.spin_world_core.specs.Runs.{Schedule}
 use Rattle.std.proofs.Common.{rules, refl}
-use Rattle.spin_world_core.proofs.Names.{◌≡◌, ℕ, List, ◌++◌, length, take, sym, ap, ◌∙◌, subst, arith, length-take-le, length-append, ∥∥₁_map, ∥∥₁_elim, Move, Machine, State, after, at_first, CanStep, IsReached, TellsAfterAnyPast}
+use Rattle.spin_world_core.proofs.Names.{◌≡◌, ℕ, List, ◌++◌, length, take, sym, ap, ◌∙◌, subst, arith, length-take-le, length-append, ∥∥₁_map, ∥∥₁_elim, Machine, State, after, at_first, CanStep, IsReached, TellsAfterAnyPast}
 use Rattle.std.proofs.Math.Bool.{Bool-set}
 use Rattle.spin_model.proofs.Schedules.{after-append}
 use Rattle.spin_world_core.proofs.Transcripts.{tells_after}
@@ -16,7 +17,7 @@ play-requires-clause-can g c = λ k p call local holds there.
     subst (CanStep m) there_now can p call local holds there)
 
 -- a state that a schedule leads to from a reached state is reached
-further : {W V C L A : Type 0} (m : Machine W V C L A) (s t : State W V C L) (schedule : List (ℕ × Move C V)) → t ≡ after m s schedule → IsReached m s → IsReached m t
+further : {W V C L A : Type 0} (m : Machine W V C L A) (s t : State W V C L) (schedule : Schedule C V) → t ≡ after m s schedule → IsReached m s → IsReached m t
 further m s t schedule is reached =
     ∥∥₁_map reached (λ led.
     (led.0, led.1 ++ schedule, after-append m (at_first m led.0) led.1 schedule ∙ (ap (λ u. after m u schedule) led.2 ∙ sym is)))

@@ -1,10 +1,9 @@
 -- `deref_mut` lends the guard's permit to `get_mut`, and the guard follows what the permit follows. Assumes `Logic`.
-use Rattle.spin_core.proofs.WalkNames.{◌≡◌, ℕ, ◌+◌, List, [], ◌∷◌, ◌++◌, refl, ap, a_type, named, Val, vptr, vunit, inst_fn, full_share, SProp, emp, id⊢, Lft, Share, Fml, ftrue, fsep, flft, fbor, Logic, ‵, raw, ◌⊛◌, ◌$◌, ◌∵◌, !, qed, by, move, keep, drop, split, split3, join, fsplit, fsplit3, fjoin, fjoin3, feq_i, feq_l, use0, use1, use2, use3, later, some, await, pick, stop, addr, no_more, and_then, returns, enter, fld, alloc_all, pass_all, free_all, look_at, get, through, sets, env, ⊑_meet, tables, fact, fact_i, yes, no, RattleType, owns, types_at, plain, named_lft, RefMutOf, nothing, heard, param, layout, param_laws, Stays, stay_dropped, walk_of, proved, leaves}
+use Rattle.spin_core.proofs.WalkNames.{◌≡◌, ℕ, ◌+◌, List, [], ◌∷◌, ◌++◌, refl, ap, named, Val, vptr, vunit, full_share, id⊢, Lft, ftrue, fsep, flft, fbor, Logic, ‵, raw, ◌⊛◌, ◌$◌, !, by, move, keep, drop, split, split3, join, fsplit, fsplit3, fjoin, fjoin3, feq_i, feq_l, use0, use1, use2, use3, later, some, await, pick, stop, addr, no_more, and_then, returns, fld, alloc_all, pass_all, free_all, look_at, get, through, sets, ⊑_meet, fact, yes, no, RattleType, named_lft, nothing, heard, param, layout, param_laws}
 use seplogic.Ra.Ura.{Ura}
 use mathlib.Core.Option.{Option, some as found}
 use prog.Memory.{align, up}
 use mir.Syntax.{Ty, tcons, tnil, ty_struct}
-use mir.Raw.{raw as raw_type}
 use base.Fraction.{left as half, right as other}
 use base.Fml.{GName, Incl, fobs}
 use types.SemTy.{Body}
@@ -12,18 +11,19 @@ use types.ByLocal.{lands_as}
 use lib.ListN.{get_or}
 use contract.BorrowLft.{⊑_static}
 use contract.Lifetimes.{Lfts, Shares}
-use denote.Ref.{NamedLft, MutBor, MutRef, mut_vals, mut_Tells}
-use denote.Param.{layouts, arg}
+use denote.Ref.{NamedLft, MutBor, MutRef, mut_vals}
+use denote.Param.{arg}
 use denote.Builtin.{unit}
 use denote.Param.Laws.{Laws, arg_laws}
 use denote.Memory.{mem as in_memory}
 use denote.Follow.{follows, follows_then}
 use denote.Triple.Spec.{triple_of}
 use denote.Triple.Call.{calls_at}
-use denote.Triple.Walked.{Goes-spent_ref}
 use borrow.Follows.Field.{HandsTo, hands_on}
 use borrow.Struct.Lend.{kept_record, record_fill, record_apart}
 use Rattle.core.proofs.atomic.Steps.{fm}
+use Rattle.spin_core.proofs.Walking.{walks, as_mut, others, passed, passed_laws}
+use Rattle.spin_core.proofs.WalkSteps.{says}
 use Rattle.spin_core.specs.Writer.{with_value}
 use Rattle.spin_core.specs.contracts.cell.WritePermit as Permit
 use Rattle.spin_core.specs.contracts.cell.WritePermit.get_mut as callee
@@ -42,7 +42,6 @@ use Rattle.spin_rwlock.specs.contracts.rwlock.rule.RwRuleRuleParty.TheImpl.{ghos
 use Rattle.spin_rwlock.proofs.rwlock.rule.RwRuleRuleParty.TheImpl.Met.{bound}
 use Rattle.spin_rwlock.specs.Guards.{write_with}
 use Rattle.spin_rwlock.specs.contracts.rwlock.writer.RwLockWriteGuardDerefMut.deref_mut.{ended, clauses}
-use Rattle.spin_rwlock.specs.contracts.rwlock.writer.RwLockWriteGuardDerefMut.deref_mut.Key.{name as #self}
 use Rattle.spin_rwlock.proofs.rwlock.writer.RwLockWriteGuardDerefMut.deref_mut.Statement.{statement}
 use Rattle.spin_rwlock.proofs.rwlock.writer.RwLockWriteGuardDerefMut.deref_mut.Code as code
 
@@ -58,7 +57,6 @@ twice : (κ ν : Lft) → Incl κ ν → Incl κ ((ν ++ []) ++ (ν ++ []))
 twice κ ν h = let once = ⊑_meet κ ν [] h (⊑_static κ) in ⊑_meet κ (ν ++ []) (ν ++ []) once once
 
 -- the types of a party, of the key and of the second word
-
 abbrev Party : RattleType
 Party = numbered V.the_row
 
@@ -94,53 +92,62 @@ module _ (ℓ : NamedLft) (T S : RattleType) (LT : Laws T) (LS : Laws S) where
 
 pub deref_mut_spec : {M : Type 1} → statement M
 deref_mut_spec {M} 𝓤 𝓛 𝓜 𝓡 wired T S LT LS =
-    let H = 𝓛.H in let 𝓣 = tables 𝓤 H 𝓜 𝓡 𝓡.env in let R : RattleType = param 0 T in let Q : RattleType = param 1 S in
-    let En = ended T S in let c = clauses T S 𝓛 𝓜.mem 𝓡.returns in let inst = layouts (a_type ∷ a_type ∷ []) (T, (S, tt)) in let fn = inst_fn inst code.function in let closed = code.unfolded 𝓤 H 𝓜 𝓡 wired (T, (S, tt)) in
-    let row = plain (λ κs. the_row (named_lft 4 1 tt κs) R Q) in let self = RefMutOf (0 ∷ []) tt row (λ _. tt) in let hs : Stays En.signature.params En.kept = (stay_dropped self no, tt) in
-    let X : RattleType = arg (layout T) yes R in let W : RattleType = arg (raw_type (layout Party)) no Party in let Y : RattleType = arg (ty_struct [] (tcons (layout T) tnil)) no (F.the_row R) in let K : RattleType = arg (raw_type (layout (Key R))) no (Key R) in let U : RattleType = arg (raw_type (layout (Second R))) no (Second R) in let I : RattleType = arg (layout T) no R in
-    let met_rule = bound 𝓡.env I (arg_laws (layout T) no R (param_laws 0 T LT) refl) M 𝓤 𝓛 𝓜 𝓡 in
-    let called = met 𝓤 𝓛 𝓜 𝓡 (code.calls-spin_core::cell::WritePermit::get_mut 𝓡.env wired) X W Y K U (arg_laws (layout T) yes R (param_laws 0 T LT) refl)
-    (arg_laws (raw_type (layout Party)) no Party (numbered_laws V.the_row VL.the_row_laws) refl) (arg_laws (ty_struct [] (tcons (layout T) tnil)) no (F.the_row R) (FL.the_row_laws R (param_laws 0 T LT)) refl)
-    (arg_laws (raw_type (layout (Key R))) no (Key R) (opening_laws R (param_laws 0 T LT)) refl) (arg_laws (raw_type (layout (Second R))) no (Second R) (trace_over_laws call.the_row R unit call_laws.the_row_laws (param_laws 0 T LT) units) refl) (ghosts I) (dict I) (record { Self-Key-lives = met_rule.Self-Key-lives; Self-Second-lives = met_rule.Self-Second-lives }) in
-    proved 𝓛 En hs c 𝓜 𝓡 (Goes-spent_ref 𝓛 4 (0 ∷ []) tt row, tt) (#self inst) fn closed
-    (λ κs. (mut_vals, tt)) (λ κs. (mut_Tells (named 0) κs.0 (the_row (named_lft 4 1 tt κs) R Q), tt)) (λ κs qs bounds a gh are.
-    let ℓ = named_lft 4 1 tt κs in let G : RattleType = the_row ℓ R Q in let P : RattleType = Pen ℓ T S LT LS in let m = a.0 in let b : ℕ = m.ref_ptr.0 in let o : ℕ = m.ref_ptr.1 in let γ : GName = m.ghost_name in let h : G.Denot = m.now in
-    let κ : Lft = κs.0 in let q : Share = qs.0 in let β : Lft = κs.1.0 in let τ : Lft = κs.1.1.0 in let s : Share = qs.1.1.0 in let u : Fml = flft κs.1.1.1.0 qs.1.1.1.0 in
-    let y : (walk_of 𝓛 En hs c).Ghost = ((κs, qs, bounds, a, (vptr b o ∷ [], tt)), gh) in let Post : Val → SProp 𝓤 = (walk_of 𝓛 En hs c).post y in
-    let here : Fml = flft τ (half s) in let rest : Fml = flft τ (other s) in let its_rule : Fml = flft τ (half (other s)) in let more : Fml = flft τ (other (other s)) in
-    let its_key : Fml = flft τ (half (other (other s))) in let its_second : Fml = flft τ (other (other (other s))) in
-    let κs' : Lfts 7 = (κ, (β, (τ, ([], (τ, (τ, (τ, tt))))))) in let qs' : Shares 7 = (q, (qs.1.0, (half s, (full_share, (half (other s), (half (other (other s)), (other (other (other s)), tt))))))) in
+    let R = param 0 T in let Q = param 1 S in let LR = param_laws 0 T LT in
+    let X = arg (layout T) yes R in let W = passed Party in let Y = arg (ty_struct [] (tcons (layout T) tnil)) no (F.the_row R) in
+    let K = passed (Key R) in let U = passed (Second R) in let I = arg (layout T) no R in
+    let met_rule = bound 𝓡.env I (arg_laws (layout T) no R LR refl) M 𝓤 𝓛 𝓜 𝓡 in
+    let called = met 𝓤 𝓛 𝓜 𝓡 (code.calls-spin_core::cell::WritePermit::get_mut 𝓡.env wired) X W Y K U (arg_laws (layout T) yes R LR refl)
+    (passed_laws Party (numbered_laws V.the_row VL.the_row_laws) refl)
+    (arg_laws (ty_struct [] (tcons (layout T) tnil)) no (F.the_row R) (FL.the_row_laws R LR) refl)
+    (passed_laws (Key R) (opening_laws R LR) refl) (passed_laws (Second R) (trace_over_laws call.the_row R unit call_laws.the_row_laws LR units) refl)
+    (ghosts I) (dict I) (record { Self-Key-lives = met_rule.Self-Key-lives; Self-Second-lives = met_rule.Self-Second-lives }) in
     let C = triple_of 𝓛 (callee.signature X W Y K U (ghosts I) (dict I)) (callee.spec X W Y K U (ghosts I) (dict I) 𝓛 𝓜.mem 𝓡.returns) in
-    qed 𝓛 (((‵ (flft κ q) ⊛ (‵ (flft β qs.1.0) ⊛ (‵ (flft τ qs.1.1.0) ⊛ (‵ u ⊛ ‵ ftrue)))) ⊛ ‵ (owns (types_at En.signature.params κs) a y.0.4)) ∷ raw (fact 𝓤 (Incl τ T.lives)) ∷ raw (fact 𝓤 (Incl κs.1.1.1.0 S.lives)) ∷ ‵ ftrue ∷ []) ∵
-    split ! $ split ! $ move ! (1 ∷ []) $ split3 ! $ move ! (4 ∷ []) $ fsplit ! $ fsplit3 ! $
-    -- context: [its place; its value; its borrow; nothing; β; τ; the others; κ; T lives; ..]
-    keep ! (1 ∷ 2 ∷ 7 ∷ 4 ∷ 5 ∷ 6 ∷ 8 ∷ []) $
-    enter ! 𝓣.C 𝓣.Λ fn (vptr b o ∷ []) Post $ alloc_all ! (λ l. pass_all ! refl ((tt, tt), tt) $ let Ev = env fn.locals l in
-    use3 𝓛 (later (some (λ (δ : GName). ‵ (fobs δ (P.coded.code h.writer)) ⊛ ‵ (fbor κ (Body (in_memory P) b (o + 0) δ)) ⊛ ‵ (flft κ q) ⊛ ‵ (follows G P γ δ (put ℓ T S LT LS h))))) (hands ℓ T S LT LS 𝓛 h κ q γ b o) $ await ! tt $ pick ! (λ δ. split ! $ move ! (1 ∷ []) $ split3 ! $
+    walks 𝓛 (ended T S) (clauses T S 𝓛 𝓜.mem 𝓡.returns) 𝓜 𝓡 (λ κs x f. refl, tt) _ _ (code.unfolded 𝓤 𝓛.H 𝓜 𝓡 wired (T, (S, tt)))
+    (λ κs. (as_mut (named 0) κs.0 (the_row (named_lft 4 1 tt κs) R Q), tt)) (λ κs qs bounds a gh are Post out.
+    let ℓ = named_lft 4 1 tt κs in let G = the_row ℓ R Q in let P = Pen ℓ T S LT LS in
+    let m = a.0 in let b = m.ref_ptr.0 in let o = m.ref_ptr.1 in let γ = m.ghost_name in let h = m.now in
+    let κ = κs.0 in let q = qs.0 in let τ = κs.1.1.0 in let s = qs.1.1.0 in
+    let here = flft τ (half s) in let rest = flft τ (other s) in let its_rule = flft τ (half (other s)) in let more = flft τ (other (other s)) in
+    let its_key = flft τ (half (other (other s))) in let its_second = flft τ (other (other (other s))) in
+    let κs' : Lfts 7 = (κ, (κs.1.0, (τ, ([], (τ, (τ, (τ, tt))))))) in
+    let qs' : Shares 7 = (q, (qs.1.0, (half s, (full_share, (half (other s), (half (other (other s)), (other (other (other s)), tt))))))) in
+    move ! (2 ∷ []) $ use1 𝓛 (raw (fact 𝓤 (Incl τ T.lives)) ⊛ raw (fact 𝓤 (Incl κs.1.1.1.0 S.lives)) ⊛ ‵ ftrue) (id⊢ 𝓤 _) $ split ! $
+    heard ! (Incl τ T.lives) (λ lives. drop ! $ fsplit ! $ move ! (1 ∷ []) $ fsplit3 ! $ move ! (4 ∷ []) $ fsplit ! $ fsplit3 ! $
+    -- context: [its place; its value; its borrow; nothing; β; τ; the others; κ]
+    keep ! (1 ∷ 2 ∷ 7 ∷ 4 ∷ 5 ∷ 6 ∷ []) $ alloc_all ! (λ l. pass_all ! refl ((tt, tt), tt) $
+    use3 𝓛 (later (some (λ (δ : GName). ‵ (fobs δ (P.coded.code h.writer)) ⊛ ‵ (fbor κ (Body (in_memory P) b (o + 0) δ)) ⊛ ‵ (flft κ q) ⊛
+    ‵ (follows G P γ δ (put ℓ T S LT LS h))))) (hands ℓ T S LT LS 𝓛 h κ q γ b o) $
+    await ! tt $ pick ! (λ δ. split ! $ move ! (1 ∷ []) $ split3 ! $
     let m' : MutBor P.Denot = record { ref_ptr = (b, o + 0); ghost_name = δ; now = h.writer } in
-    let yc : C.Ghost = ((κs', qs', (bounds.0, (bounds.1.0, (⊑_static κ, (bounds.1.0, (bounds.1.1.1.0, tt))))), (m', tt), (vptr b (o + 0) ∷ [], tt)), tt) in
-    move ! (3 ∷ 0 ∷ []) $ feq_i ! (List Val) (mut_vals m') (mut_vals m') refl $ fjoin3 ! $ nothing ! $ move ! (1 ∷ 0 ∷ []) $ fjoin ! $
-    -- context: [the argument; κ; what follows; β; τ; the others; T lives; ..]
-    move ! (6 ∷ []) $ heard ! (Incl τ T.lives) (λ lives. move ! (4 ∷ []) $ use1 𝓛 (‵ here ⊛ ‵ rest) (𝓛.lfts.lft_split τ s) $ split ! $
-    move ! (1 ∷ []) $ use1 𝓛 (‵ its_rule ⊛ ‵ more) (𝓛.lfts.lft_split τ (other s)) $ split ! $ move ! (1 ∷ []) $ use1 𝓛 (‵ its_key ⊛ ‵ its_second) (𝓛.lfts.lft_split τ (other (other s))) $ split ! $
-    -- context: [τ of the key; of the second word; of the rule; of the value; the argument; κ; what follows; β; the others; ..]
-    nothing ! $ move ! (2 ∷ 0 ∷ []) $ fjoin ! $ move ! (1 ∷ 0 ∷ []) $ fjoin ! $ move ! (1 ∷ 0 ∷ []) $ fjoin ! $ use0 𝓛 (‵ (flft [] full_share)) (𝓛.lfts.lft-nil full_share) $ fjoin ! $
+    let yc : C.Ghost = ((κs', qs', (bounds.0, (bounds.1.0, (⊑_static κ, (bounds.1.0, bounds.1.1.1)))), (m', tt), (mut_vals m', tt)), tt) in
+    move ! (3 ∷ 0 ∷ []) $ feq_i ! _ (mut_vals m') _ refl $ fjoin3 ! $ nothing ! $ move ! (1 ∷ 0 ∷ []) $ fjoin ! $
+    -- context: [the argument; κ; what follows; β; τ; the others]
+    move ! (4 ∷ []) $ use1 𝓛 (‵ here ⊛ ‵ rest) (𝓛.lfts.lft_split τ s) $ split ! $
+    move ! (1 ∷ []) $ use1 𝓛 (‵ its_rule ⊛ ‵ more) (𝓛.lfts.lft_split τ (other s)) $ split ! $
+    move ! (1 ∷ []) $ use1 𝓛 (‵ its_key ⊛ ‵ its_second) (𝓛.lfts.lft_split τ (other (other s))) $ split ! $
+    -- context: [τ of the key; of the second word; of the rule; of the value; the argument; κ; what follows; β; the others]
+    nothing ! $ move ! (2 ∷ 0 ∷ []) $ fjoin ! $ move ! (1 ∷ 0 ∷ []) $ fjoin ! $ move ! (1 ∷ 0 ∷ []) $ fjoin ! $
+    use0 𝓛 (‵ (flft [] full_share)) (𝓛.lfts.lft-nil full_share) $ fjoin ! $
     move ! (1 ∷ 0 ∷ []) $ fjoin ! $ move ! (4 ∷ 0 ∷ []) $ fjoin ! $ move ! (2 ∷ 0 ∷ []) $ fjoin ! $ join ! $
-    -- context: [tokens and argument; what follows; the others; ..]
-    nothing ! $ use0 𝓛 (raw (fact 𝓤 (Incl τ U.lives))) (fact_i 𝓤 (Incl τ U.lives) (emp 𝓤) (trace_within τ T.lives lives)) $ join ! $ use0 𝓛 (raw (fact 𝓤 (Incl τ K.lives))) (fact_i 𝓤 (Incl τ K.lives) (emp 𝓤) (permit_within τ T.lives lives)) $ join ! $ use0 𝓛 (raw (fact 𝓤 (Incl τ Y.lives))) (fact_i 𝓤 (Incl τ Y.lives) (emp 𝓤) (twice τ T.lives lives)) $ join ! $ use0 𝓛 (raw (fact 𝓤 (Incl [] W.lives))) (fact_i 𝓤 (Incl [] W.lives) (emp 𝓤) (⊑_static [])) $ join ! $
-    use0 𝓛 (raw (fact 𝓤 (Incl τ T.lives))) (fact_i 𝓤 (Incl τ T.lives) (emp 𝓤) lives) $ join ! $ move ! (1 ∷ 0 ∷ []) $ join ! $ use1 𝓛 (raw (C.pre yc)) (id⊢ 𝓤 (C.pre yc)) $
+    -- context: [tokens and argument; what follows; the others]
+    nothing ! $ says ! (Incl τ U.lives) (trace_within τ T.lives lives) $ join ! $ says ! (Incl τ K.lives) (permit_within τ T.lives lives) $ join ! $
+    says ! (Incl τ Y.lives) (twice τ T.lives lives) $ join ! $ says ! (Incl [] W.lives) (⊑_static []) $ join ! $
+    says ! (Incl τ T.lives) lives $ join ! $ move ! (1 ∷ 0 ∷ []) $ join ! $ use1 𝓛 (raw (C.pre yc)) (id⊢ 𝓤 _) $
     sets ! (addr ! (through ! refl (fld ! starts (stop !)))) refl (tt, tt) $
     calls_at ! (fm 𝓛 𝓜 𝓡) C called yc (and_then ! (get ! refl) (no_more !)) (λ v.
-    use1 𝓛 (later (some (λ (r : MutBor T.Denot). ((‵ (flft κ q) ⊛ (‵ (flft β qs.1.0) ⊛ (‵ here ⊛ (‵ (flft [] full_share) ⊛ (‵ its_rule ⊛ ‵ (fsep its_key (fsep its_second ftrue))))))) ⊛ ‵ ((MutRef (named 0) κ R).own_val r (v ∷ []))) ⊛
-    some (λ (ws : Unit {0} × Unit {0}). ‵ (fsep ftrue ftrue) ⊛ (‵ (follows P R δ r.ghost_name (with_value h.writer)) ⊛ raw (fact 𝓤 (r.now ≡ h.writer.value))))))) (id⊢ 𝓤 (C.post yc v)) $
-    await ! tt $ pick ! (λ r. split ! $ split ! $ move ! (1 ∷ []) $ fsplit3 ! $ feq_l ! (λ e. move ! (3 ∷ []) $ pick ! (λ ws. split3 ! $ drop ! $ move ! (5 ∷ 0 ∷ []) $
+    use1 𝓛 (later (some (λ (r : MutBor T.Denot). (‵ (others 7 κs' qs') ⊛ ‵ ((MutRef (named 0) κ R).own_val r (v ∷ []))) ⊛
+    some (λ (ws : Unit {0} × Unit {0}). ‵ (fsep ftrue ftrue) ⊛
+    (‵ (follows P R δ r.ghost_name (with_value h.writer)) ⊛ raw (fact 𝓤 (r.now ≡ h.writer.value))))))) (id⊢ 𝓤 _) $
+    await ! tt $ pick ! (λ r. split ! $ split ! $ move ! (1 ∷ []) $ fsplit3 ! $ feq_l ! (λ e. move ! (3 ∷ []) $
+    pick ! (λ ws. split3 ! $ drop ! $ move ! (5 ∷ 0 ∷ []) $
     use2 𝓛 (‵ (follows G R γ r.ghost_name (write_with h))) (follows_then 𝓛 G P R (put ℓ T S LT LS h) (with_value h.writer) γ δ r.ghost_name) $
-    -- context: [what follows; the value; its place; its borrow; the tokens; the others; ..]
-    move ! (4 ∷ []) $ split3 ! $ move ! (2 ∷ []) $ split3 ! $ move ! (2 ∷ []) $ split ! $ move ! (1 ∷ []) $ fsplit3 ! $
-    use2 𝓛 (‵ more) (𝓛.lfts.lft_join τ (other (other s))) $ move ! (2 ∷ 0 ∷ []) $ use2 𝓛 (‵ rest) (𝓛.lfts.lft_join τ (other s)) $ move ! (2 ∷ 0 ∷ []) $ use2 𝓛 (‵ (flft τ s)) (𝓛.lfts.lft_join τ s) $ move ! (1 ∷ []) $ drop ! $ move ! (1 ∷ []) $ drop ! $
-    -- context: [τ; κ; β; what follows; the value; its place; its borrow; the others; ..]
-    move ! (0 ∷ 7 ∷ []) $ join ! $ move ! (2 ∷ 0 ∷ []) $ join ! $ move ! (1 ∷ 0 ∷ []) $ join ! $
-    move ! (3 ∷ 4 ∷ []) $ feq_i ! (List Val) (mut_vals r) (mut_vals r) refl $ fjoin3 ! $ move ! (2 ∷ 3 ∷ []) $ join ! $ nothing ! $ nothing ! $ fjoin ! $
-    lands_as ! (ap (λ (us : List Val). get_or us 0 vunit) e) refl (tt, tt) $ returns ! (look_at ! 0 refl) $ free_all ! refl $ keep ! (3 ∷ 0 ∷ 2 ∷ 1 ∷ []) $
-    by ! (leaves 𝓛 En hs c y (vptr r.ref_ptr.0 r.ref_ptr.1) r (tt, tt) (tt, tt)))))))))
+    -- context: [what follows; the value; its place; its borrow; the tokens; the others]
+    move ! (4 ∷ []) $ fsplit3 ! $ move ! (2 ∷ []) $ fsplit3 ! $ move ! (2 ∷ []) $ fsplit ! $ move ! (1 ∷ []) $ fsplit3 ! $
+    use2 𝓛 (‵ more) (𝓛.lfts.lft_join τ (other (other s))) $ move ! (2 ∷ 0 ∷ []) $ use2 𝓛 (‵ rest) (𝓛.lfts.lft_join τ (other s)) $
+    move ! (2 ∷ 0 ∷ []) $ use2 𝓛 (‵ (flft τ s)) (𝓛.lfts.lft_join τ s) $ move ! (1 ∷ []) $ drop ! $ move ! (1 ∷ []) $ drop ! $
+    -- context: [τ; κ; β; what follows; the value; its place; its borrow; the others]
+    move ! (0 ∷ 7 ∷ []) $ fjoin ! $ move ! (2 ∷ 0 ∷ []) $ fjoin ! $ move ! (1 ∷ 0 ∷ []) $ fjoin ! $
+    move ! (3 ∷ 4 ∷ []) $ feq_i ! _ (mut_vals r) _ refl $ fjoin3 ! $ move ! (2 ∷ 3 ∷ []) $ join ! $
+    lands_as ! (ap (λ (us : List Val). get_or us 0 vunit) e) refl (tt, tt) $ returns ! (look_at ! 0 refl) $ free_all ! refl $ keep ! (2 ∷ 1 ∷ 0 ∷ []) $
+    by ! (out (vptr r.ref_ptr.0 r.ref_ptr.1) r))))))))
     )
