@@ -53,8 +53,8 @@ fn run<I: Source, O: Sink>(
 /// party, in their order, are its program. In place of the header the text may begin with lines `lock NAME HEADER`,
 /// each with a header that lacks the number of parties. Then each move names its lock: `PARTY NAME MOVE`.
 ///
-/// It writes each outcome that any interleaving has, each way to get stuck with a schedule that leads there,
-/// and how many states it has seen. The words `--schedule NUMBER` ask for a schedule of the outcome with this
+/// It writes each outcome that any interleaving has, and how many states it has seen. It also writes each way to get
+/// stuck, and for each of these a schedule that leads there. The words `--schedule NUMBER` ask for a schedule of the outcome with this
 /// number instead. The words `--limit STATES` bound the search. A run that fails writes one line with the
 /// reason to `errors`.
 ///
@@ -63,8 +63,8 @@ fn run<I: Source, O: Sink>(
 ///
 /// - 0: what was asked for is written (`Does`). No run can get stuck, or a schedule was asked for.
 /// - 3: what was asked for is written (`Does`), and some run can get stuck.
-/// - 1: an allocation, a read or a write failed, or there are more states than the limit. Only a failed write leaves
-///   a beginning of the text on `output`.
+/// - 1: an allocation, a read or a write failed, there are more states than the limit, or the search did not settle.
+///   Only a failed write leaves a beginning of the text on `output`.
 /// - 2: the words are no command, a line of the text is wrong, or there is no such outcome.
 ///
 /// Status 1 or 2 is that of a fault (`status_of`). The run stopped as the fault says (`StopsProgram`), and

@@ -196,7 +196,7 @@ impl<T, R> FairMutex<T, R> {
     /// let guard = starver.lock(&rt);
     /// assert_eq!(rt; *guard, 4);
     /// ```
-    #[must_use = "a place that is dropped at once no longer starves: bind the answer"]
+    #[must_use = "if the place is dropped at once, the thread starves no longer: bind the answer"]
     pub fn starve<W: Wait>(&self, rt: &W) -> Option<Starvation<'_, T, R>> {
         let pass = self.pass().starve(rt).ok()?;
         Some(Starvation { pass })

@@ -55,8 +55,7 @@ grants TryUpgradeableRead n = read_upgradable reader_limit n
 grants UpgradeableRead n = read_upgradable reader_limit n
 grants _ n = None
 
--- Where the party of a call that wants to read sits in the model, after the call found a word that does not admit the
--- reader. A call that waits is at its first step again. A call that tries has failed, so its party is in no call.
+-- The `Seat` of the party of a call that wants to read, after the call has found a word that does not admit the reader. A call that waits is at its first step again. A call that tries has failed, so its party is in no call.
 abbrev pub kept_out : RwCall → Seat RwCall RwPoint
 kept_out Read = seat.Calling Read point.First None
 kept_out UpgradeableRead = seat.Calling UpgradeableRead point.First None
@@ -187,7 +186,7 @@ module _ {T : Type 0} where
   outcomes_of true answers = map outcome_of answers
   outcomes_of false answers = Begun ∷ map outcome_of answers
 
-  -- the course of one step of the model for each answer
+  -- the course that has one step of the model for each item of `answers`
   abbrev pub AreSteps : Bool → RwCall → List (Option (Answer T)) → OneCourse T
   AreSteps goes_on call answers own outs = (own ≡ moves_of goes_on call answers) × (outs ≡ outcomes_of goes_on answers)
 
@@ -198,7 +197,7 @@ module _ {T : Type 0} where
   behind_write true Q P = WritesSome Q P
   behind_write false Q P = P
 
-  -- the course of a step; a writer that stops writing first writes a value that satisfies `Q`
+  -- The course of a step. If a writer stops writing by it, the course begins with a write of a value that satisfies `Q`.
   abbrev pub course_of : (T → Type 0) → Turn T → OneCourse T
   course_of Q turn = behind_write turn.writes Q (steps_of turn)
 
@@ -261,8 +260,8 @@ module _ {T : Type 0} where
   abbrev pub missed : RwCall → ℕ → Option (Answer T)
   missed call n = if still call n then None else Some Refused
 
-  -- The answers of an exchange that admits the reader. With `true` the call is under way. With `false` the exchange begins the call. Then
-  -- the model's party first looks, and finds a free lock.
+  -- The answers of an exchange that admits the reader. With `true` the call is under way. With `false` the exchange is
+  -- the first step of the call. In the model the call looks before its exchange, so its party makes two steps.
   abbrev pub admitted : Bool → List (Option (Answer T))
   admitted true = Some Granted ∷ []
   admitted false = None ∷ Some Granted ∷ []
@@ -271,7 +270,8 @@ module _ {T : Type 0} where
   abbrev pub comes_by : Bool → View → RwCall → ℕ → ℕ → Turn T
   comes_by goes_on won call old n = steps_by goes_on call (either_at old (admitted goes_on) (missed call n ∷ []) n) (came won call old n)
 
-  -- the exchange of `{:?}`: a whole `try_read` if it succeeds, otherwise one more `reader_count`
+  -- The exchange of `{:?}`. If it succeeds, it is a whole call `try_read` of the model. Otherwise it is a whole call
+  -- `reader_count`, as the load of `{:?}` was.
   abbrev pub peeks_by : ℕ → ℕ → Turn T
   peeks_by old n =
       steps_by false (either_at old TryRead ReaderCount n) (either_at old (admitted false) (Some (Count (readers_in n)) ∷ []) n) (either_at old Reading Idle n)

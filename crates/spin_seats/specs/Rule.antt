@@ -36,7 +36,7 @@ use_of_view = used_by part
 abbrev pub use_of_party : Numbered View → Use
 use_of_party v = use_of_view v.0
 
--- the seat in the model of a party with this view
+-- Where a party with this view is in the model: its `Seat`, which is no seat of the lock.
 abbrev pub seat_of : View → Seat SeatsCall SeatsPoint
 seat_of Idle = seat.Idle
 seat_of Seated = seat.Holding Read
@@ -86,7 +86,7 @@ gone false = Idle
 abbrev pub at_word : ℕ → Bool → ℕ → View
 at_word n waits word = if nat_lt word (seats n) then Coming waits word else gone waits
 
--- a call that takes a seat has found this word, and has the view for it
+-- the view of an `enter` or a `try_enter` that has found this word
 abbrev pub IsAtWord : ℕ → Option View → ℕ → Type 0
 IsAtWord n view word = (waits : Bool) × (view ≡ Some (at_word n waits word))
 
@@ -119,7 +119,8 @@ abbrev pub waits_in : Option View → Bool
 waits_in (Some (Coming waits word)) = waits
 waits_in _ = true
 
--- the view after the exchange: if the exchange finds the word that it expects, the party sits; else its call goes on with the word found
+-- The view after the exchange. If the exchange finds the word that it expects, the party sits. Otherwise the party has
+-- the view for the word found.
 abbrev pub led_to : ℕ → ℕ → Bool → ℕ → View
 led_to n old waits found = if found == old then Seated else at_word n waits found
 

@@ -16,7 +16,7 @@ ghost use Rattle.spin_step.specs.Tickets.{IsTurn, take, served};
 
 /// Returns the number of the next ticket after a thread takes ticket `next`, or `None` if no number is left.
 ///
-/// If the queue is empty, the step that takes the ticket also lets the thread enter.
+/// If no other thread has a ticket, it is at once this thread's turn.
 ///
 /// # Contract
 /// The answer is `None` exactly where the plain lock refuses the step. Otherwise it is the word of the next

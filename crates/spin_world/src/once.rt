@@ -43,7 +43,7 @@ impl<V: Copy> OnceObject<V> {
     ///
     /// # Contract
     /// The object has no value. Its machine is that of a `Once` without an opening value (`IsOnceOf`): its word is 0,
-    /// and each call asks what [`OnceCall`] says.
+    /// and [`OnceCall`] says what each call asks for.
     pub fn new() -> OnceObject<V>
         ensures fields { result ≡ record { value = None } }
         ensures named { IsOnceOf None (⟦<OnceObject<V> as Object>⟧.machine result) }
@@ -55,7 +55,7 @@ impl<V: Copy> OnceObject<V> {
     ///
     /// # Contract
     /// The object has this value. Its machine is that of a `Once` with this opening value (`IsOnceOf`): its word is 2,
-    /// and each call asks what [`OnceCall`] says.
+    /// and [`OnceCall`] says what each call asks for.
     pub fn initialized(value: V) -> OnceObject<V>
         ensures fields { result ≡ record { value = Some value } }
         ensures named { IsOnceOf (Some value) (⟦<OnceObject<V> as Object>⟧.machine result) }
@@ -74,7 +74,7 @@ fn tell<V: Copy>(value: Option<V>, holds: Option<Hold>) -> Next<OncePoint, Answe
     }
 }
 
-/// Loads the word, and the value if there is one. If there is none, the call continues with `other`.
+/// Returns what follows for a call that found this word: the value as its answer if there is one, otherwise `other`.
 fn look<V: Copy>(
     words: u8,
     value: Option<V>,

@@ -1,15 +1,14 @@
--- The steps of a table as operations on one word, and what the form of a step shows by itself.
+-- The steps of a table as operations on one word, and what follows from the constructor (`Act`) of a step alone.
 use Rattle.spin_world_core.proofs.Names.{AnyOf, own_steps, list_all, Said, ◌≡◌, ℕ, Bool, true, false, not, ◌&&◌, ◌||◌, Option, Some, None, is_some, slice_set, unwrap_or, refl, ap, subst, arith, and_parts, Change, Hold, Answer, Next, LockKind, is_step_of, Asked, performed, Performs, IsOneOperation, RefusesAsLost, Stepwise, one_number, number_at, Act, weak_exchange, place_of, change_at, refusal_by, makes_by, operation_by, is_section, step_by, Table, machine_of, machine_with}
 
 -- What has to be shown
 
 -- The plain step is one that this kind of lock makes. What a call gets by a weak exchange it gets by no other step.
--- `fits_act`: also, a step is a section only in a kind of lock that has sections.
 abbrev pub fits_step : LockKind → Asked → Bool → Option Change → Bool
 fits_step kind what weakly None = true
 fits_step kind what weakly (Some c) = is_step_of kind c && (weakly || not (what.gets_weakly c))
 
--- the promise of each call of the table is one of its kind of lock
+-- each call of the table asks one of the things that `calls` of the kind of lock lists
 abbrev pub CallsFit : {W V C L A : Type 0} → Table W V C L A → Type 0
 CallsFit {C = C} t = (c : C) (h : Option Hold) → (n : ℕ) × AnyOf (λ what. t.asks c h ≡ what) (t.lock_kind.calls n h)
 
@@ -22,6 +21,7 @@ abbrev pub may_be_section : Bool → Bool → Bool
 may_be_section true is = true
 may_be_section false is = not is
 
+-- `fits_step`, and only a lock whose steps are critical sections makes a step that is one
 abbrev pub fits_act : {W L A : Type 0} → LockKind → Asked → Act W L A → ℕ → Bool
 fits_act kind what act p = fits_step kind what (is_some (refusal_by act)) (makes_by act p) && may_be_section kind.steps_in_sections (is_section act)
 
@@ -31,7 +31,7 @@ Operates {W} {V} {C} {L} t =
     (c : C) (l : L) (h : Option Hold) (w : W) → is_section (t.act c l h) ≡ false
     → (let i = place_of (t.word l) (t.act c l h) in t.memory.numbers (step_by {V = V} t.memory (t.word l) (t.act c l h) w).words ≡ slice_set (t.memory.numbers w) i (performed (operation_by (t.act c l h)) (number_at t.memory i w)))
 
--- a table with one number makes its operations
+-- a table whose memory is one number fulfils `Operates`
 pub operates_one : {V C L A : Type 0} (t : Table ℕ V C L A) → t.memory ≡ one_number → Operates t
 operates_one t is c l h w one = grind (arith, is, one)
 

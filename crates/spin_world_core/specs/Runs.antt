@@ -317,7 +317,7 @@ pub record Keeps {W V C L A : Type 0} (m : Machine W V C L A) (s : Scene W V C L
   pub touches : MayTouch s.before s.party s.outcome s.move
   -- a move is skipped exactly if it is not open
   pub skips : (s.outcome ≡ outcome.Skipped) ↔ (is_open_move m s.before.state s.move s.seat ≡ false)
-  -- a skipped move is one that may be skipped, by the plain lock and the party's seat
+  -- where a move is skipped, the plain lock and the party's seat allow it
   pub lets : s.outcome ≡ outcome.Skipped → MaySkip m s.before s.party s.move s.seat
   -- a skipped move changes nothing
   pub unchanged : s.outcome ≡ outcome.Skipped → s.after ≡ s.before

@@ -16,7 +16,7 @@ use std::sync::Wait;
 ///
 /// # Contract
 /// The starver's party is registered (the party's view is `Starving`).
-#[must_use = "a place that is dropped at once no longer starves: call `lock` on it"]
+#[must_use = "if the place is dropped at once, the thread starves no longer: call `lock` on it"]
 pub struct Starvation<'a, T, R = Spin> {
     pub(super) pass: StarvingPass<'a, T, R>,
 }

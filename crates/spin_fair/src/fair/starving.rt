@@ -47,7 +47,7 @@ use std::sync::Wait;
 /// assert!(rt; !is_locked);
 /// drop(pass);
 /// ```
-#[must_use = "a place that is dropped at once no longer starves: call `lock` on it"]
+#[must_use = "if the place is dropped at once, the thread starves no longer: call `lock` on it"]
 pub struct StarvingPass<'a, T, R> {
     pub(super) account: Account<'a, T>,
     pub(super) strategy: PhantomData<R>,

@@ -16,7 +16,7 @@ pub fn a_follower_waits_for_its_leader()
     ensures { MomentsAll leaves_early 1 two_steps → ⊥ }
 {}
 
-/// A group whose last arrival is told that it follows. Its arrival fills the group, so it should lead.
+/// A group whose last arrival is told that it follows. This arrival fills the group, so it should lead.
 pub fn the_last_of_a_group_is_no_follower()
     ensures { MomentsAll nobody_leads 2 one_group → ⊥ }
 {}
