@@ -33,8 +33,8 @@ pub trait Case: Drop {
 
 /// One call.
 pub trait Call: Drop {
-    /// Makes the call in the worker with this number. Returns what it read, or 0 if it added. It should be
-    /// inlined into the loop of [`Calls`].
+    /// Makes the call in the worker with this number. Returns what the call read, or 0 if the call added. The method
+    /// should be inlined into the loop of [`Calls`].
     fn call<W: Wait>(&self, rt: &W, worker: usize) -> u64;
 
     /// Returns the sum of what all calls added.

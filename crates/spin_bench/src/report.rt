@@ -27,7 +27,7 @@ const ROUND_MILLIS: u64 = 100;
 /// cache line.
 const BLOCK: usize = 32_768;
 
-/// The cases of one thread.
+/// The cases of one thread only.
 const ALONE: [&str; 8] = [
     "fair_starve",
     "rw_upgrade",
@@ -39,7 +39,7 @@ const ALONE: [&str; 8] = [
     "world",
 ];
 
-/// The cases of several threads, except `barrier_rounds`.
+/// The cases of one thread or several, except `barrier_rounds`.
 const BESIDE: [&str; 13] = [
     "floor",
     "spin_mutex",
@@ -188,9 +188,9 @@ fn report<R: Threads + Wait + Clock + Print + AllocGlobal + Sync>(
 }
 
 /// Returns how many calls of this case a thread makes before it checks again whether to stop. In the case `world`
-/// they are the events of one whole schedule. In each other case of one thread they are so many that the checks
-/// cost nothing. For several threads they are few, since each call takes longer. So a round ends soon after its
-/// time, even if a thread that others wait for is not running.
+/// they are the events of one whole schedule. In any other case a thread alone makes so many that the checks cost
+/// nothing. Several threads make few each, since each call takes longer. So a round ends soon after its time, even
+/// if a thread that others wait for is not running.
 fn chunk(name: &str, threads: u8) -> u64 {
     if name == "world" {
         EVENTS

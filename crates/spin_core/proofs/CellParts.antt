@@ -83,7 +83,7 @@ module _ {M : Type 1} {𝓤 : Ura M} (𝓛 : Logic 𝓤) (R : RattleType) (γ : 
   pub parts_agree : (s u : Round R) (i j : ℕ) → ‵ (parts R γ s i) ⊛ ‵ (parts R γ u j) ⊩ given (s ≡ u) (‵ (parts R γ s i) ⊛ ‵ (parts R γ u j))
   parts_agree s u i j = some_agree (λ r. Counts 63 r i) (λ r. Counts 63 r j) s u
 
-  -- ---- some part of a round whose readers may read for ever
+  -- ---- the part of a round that one reader has
   pub piece_in : (way : Way R.Denot) (s : Round R) (e : Share) → Part way s.1 e → ‵ (share R γ s e) ⊩ ‵ (piece R way γ s)
   piece_in way s = some_in (Part way s.1) s
 

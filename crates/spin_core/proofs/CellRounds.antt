@@ -75,7 +75,7 @@ module _ {M : Type 1} {𝓤 : Ura M} (𝓛 : Logic 𝓤) (R : RattleType) (b o :
   pub renewed : (x : R.Denot) (F : Fml) → ‵ (whole x) ⊩ ‵ F → ‵ (idle t.round) ⊛ ‵ (fex ℕ (begun x)) ⊫ ‵ F
   renewed x F to = update (via 𝓤 (upd 𝓤 ⟦ whole x ⟧) (renews x).prf (upd_mono 𝓤 {P = ⟦ whole x ⟧} {Q = ⟦ F ⟧} to.prf))
 
-  -- take from a whole round the r parts that r readers have: what is left is the state of the value while they read
+  -- a whole round, without one part for each of r readers, is the state of the value while these readers read
   pub rests_lent : (r : ℕ) (x : R.Denot) → r < 2 ^ 63 → ‵ (whole x) ⊩ ‵ (resting R b o t lends r x)
   rests_lent r x small = script ∵ fpick ! (λ a. fsplit ! $
       cite _ (parts_in 𝓛 R t.round (a, x) (2 ^ 63) full_share (Counts-all 63)) $

@@ -122,7 +122,7 @@ module _ {M : Type 1} {𝓤 : Ura M} (𝓛 : Logic 𝓤) (Er Ur : RattleType) wh
     abbrev pub finding : List E → (ℕ → V → Type 0) → ℕ → V → Option R.Denot → Type 0
     finding es then n w x = then n w × Learnt ways.2 u (f w) v x es
 
-    -- what a step leaves to its party, if it tells `tells` of the party's new view and value
+    -- what a step leaves to its party, if `tells` is what the step tells of the party's new view and value
     abbrev pub left_to : (V → Option R.Denot → Type 0) → V × Option R.Denot → Fml
     left_to tells s = fsep (fact (tells s.0 s.1 × Keeps ways view (Some s.0) v s.1)) (fsep (Stand (Some s.0)) (Held (f s.0) s.1))
 
@@ -139,7 +139,7 @@ module _ {M : Type 1} {𝓤 : Ura M} (𝓛 : Logic 𝓤) (Er Ur : RattleType) wh
     use_part : (g : Use → ℕ) → g off ≡ 0 → (w : Option V) → counted (λ x. g (f x)) w ≡ g (use_of f w)
     use_part g none w = grind arith
 
-    -- what a step that leads from m to the words s and the views us must show, while r parties read
+    -- what a step must show, if it leads from m to the words s and the views us while r parties read
     abbrev Owed : ℕ → Trace E U → ℕ × Trace E U → List V → V → Type 0
     Owed r m s us w = Going way u (f w) v r (Carrying ways.2 m s.1 u (f w) v (Meets holds ways s.0 s.1 us))
 

@@ -26,7 +26,8 @@ use Rattle.spin_model.specs.declared.schedule.Outcome.TheVariants.{Answered}
 use Rattle.spin_model.specs.Machines.{Machine}
 use Rattle.spin_model.specs.Schedules.{Entry}
 
--- if f has the same value at the idle view as without a view, it has the same value for each party that is out as for a new one
+-- A party is out if it is in no call and holds nothing (`IsOut`). If f has the same value at the idle view as without
+-- a view, f has at each party that is out the value that it has at a new party.
 pub as_new : {X Y : Type 0} (idle : X) (f : Option X → Y) → f (Some idle) ≡ f None → (view : Option X) → IsOut idle view → f view ≡ f None
 as_new idle f same view out = grind (arith, same)
 
@@ -157,7 +158,7 @@ module _ {K W V C L X S : Type 0} (lock : K → Mutex W V C L X S) (c : C) (a : 
   abbrev Step : (V → Type 0) → Option (Numbered X) → Type 0
   Step Q w = Moved (Watches named p.2 q.2 (Told (lock p.0) (leaves_by Q c a idle) p.1) n) w
 
-  -- if the trace tells values, this one
+  -- y is the value x, if the trace tells the value
   abbrev IsIt : V → V → Type 0
   IsIt x y = opening.told ≡ true → y ≡ x
 

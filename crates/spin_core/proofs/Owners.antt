@@ -57,7 +57,7 @@ module _ {X : Type 0} (owner : X → ℕ) (weight : X → ℕ) where
     pub within : (vs : List V) (xs : List X) → ((p : ℕ) → own p xs ≡ gives p (part_at part vs p)) → sum_by has vs ≤ sum_by weight xs
     within vs xs owns = omega (arith, all vs xs owns)
 
-    -- if nobody else owns anything, they own the total weight
+    -- if nobody else owns anything, the parties in the list own the total weight
     pub exactly : (vs : List V) (xs : List X) → ((p : ℕ) → own p xs ≡ gives p (part_at part vs p)) → ((p : ℕ) → length vs ≤ p → filter (λ x. owner x == p) xs ≡ []) → sum_by has vs ≡ sum_by weight xs
     exactly vs xs owns nobody = omega (arith, all vs xs owns, above-none (length vs) xs nobody)
 
@@ -99,11 +99,11 @@ module _ {V : Type 0} (part : V → Part) where
   abbrev pub OfHolders : V → Type 0
   OfHolders v = (read v ≡ 0) × IsWriters v
 
-  -- or: nobody reads, and each writer has a ticket with which it entered
+  -- nobody reads, and each writer has a ticket with which it entered
   abbrev pub OfTickets : V → Type 0
   OfTickets v = (read v ≡ 0) × ((p : ℕ) → written v ≡ sum_by is_entered (entries_of p (part v)).tickets)
 
-  -- or: nobody has a ticket; every holder uses the value, and writes if it is a writer
+  -- every holder uses the value, and writes it exactly if it is a writer; nobody else uses the value
   abbrev pub OfReaders : V → Type 0
   OfReaders v = ((p : ℕ) → read v + written v ≡ length (entries_of p (part v)).holders) × IsWriters v
 
@@ -112,7 +112,7 @@ module _ {V : Type 0} (part : V → Part) where
   Within way cap = (vs : List V) (s : Plain) → s.cap ≡ cap → IsInOrder s → IsLockOf part vs s
       → Limits way (readers_of (used_by part) vs) (writers_of (used_by part) vs)
 
-  -- if each writer is a holder, no more write than hold the lock to write
+  -- if each party that writes is a holder, at most as many parties write as hold the lock to write
   writers_hold : ((v : V) → IsWriters v) → (vs : List V) (s : Plain) → IsLockOf part vs s → writers_of (used_by part) vs ≤ count_kind writer s.holders
   writers_hold kind vs s is =
       within (λ h. h.party) one_writes part written (λ p x. count_kind writer (entries_of p x).holders)
@@ -139,14 +139,14 @@ module _ {V : Type 0} (part : V → Part) where
       let some = writers_hold (λ v. (kind v).1) vs s is in
       grind (arith, both vs, ones s.holders, one_writer s order.exclusive, order.exclusive.writer, order.holders_fit)
 
-  -- The same, for a lock that is held only to write: whatever a party with this part holds, it writes.
+  -- a party with this part holds the lock only to write, if it holds the lock
   abbrev pub Writes : Part → Type 0
   Writes x = (p : ℕ) → count_kind writer (entries_of p x).holders ≡ length (entries_of p x).holders
 
   as_many : (p : ℕ) (x : Part) → length (entries_of 0 x).holders ≡ length (entries_of p x).holders
   as_many p x = grind arith
 
-  -- such a lock has at most one holder
+  -- a lock in order that parties hold only to write has at most one holder
   pub one_holds : ((v : V) → Writes (part v)) → (vs : List V) (s : Plain) → IsInOrder s → IsLockOf part vs s → OneHolds s
   one_holds each vs s order is =
       let has : V → ℕ = λ v. length (entries_of 0 (part v)).holders in

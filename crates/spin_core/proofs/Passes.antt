@@ -90,7 +90,8 @@ module _ {W V C L A : Type 0} (m : Machine W V C L A) where
     none_between None p old log known knew none = (tt, rw (← drop-append_seam old known.0, ← knew, known.1) none)
     none_between (Some u) p old log known knew none = (none.0, rw (← drop-append_seam old known.0, ← knew, known.1) none.1)
 
-    -- what a step tells a party that knew all entries up to its last step: its moves, and that it knows all entries up to this step
+    -- What a step tells a party that knew all entries up to its last step: the party's moves, and that it now knows
+    -- all entries up to this step.
     pub learns : (says : Says V C A X) (named : Type 0) (view : Option (Numbered X)) (before now : Watch (Entry C V)) (n : ℕ) (v : Numbered X)
         → mark_of view ≡ length before.entries → Watches named before now (Tells m seat_of words_of says view) n v
         → Made m view before.entries (Some v) now.entries (λ own outs. says own outs n v.0) × (mark_of (Some v) ≡ length now.entries)
@@ -109,8 +110,8 @@ module _ {W V C L A : Type 0} (m : Machine W V C L A) where
 pub may_know : {E S V R : Type 0} (holds : ℕ → Trace E S → List V → Type 0) (ways : Ways R V (Trace E S)) (name : ℕ) → ((n : ℕ) (t : Trace E S) (vs : List V) → holds n t vs → t.name ≡ name) → (known : ℕ) → name ≡ known → Named holds ways known
 may_know holds ways name says known same n t vs meets = says n t vs meets.0 ∙ same
 
--- What a step tells a party that knew all entries up to its last step: its course, where that led, and that the party now knows all entries
--- up to this step.
+-- What a step tells a party that knew all entries up to its last step: the party's course and its next view; that it
+-- now knows all entries up to this step; and that its watch keeps the name.
 pub record Learnt {W V C L A X : Type 0} (m : Machine W V C L A) (view view' : Option (Numbered X)) (before now : Watch (Entry C V)) (to : X) (course : Course V C A) : Type 0 where
   pub made : Made m view before.entries view' now.entries course
   pub knows : mark_of view' ≡ length now.entries
@@ -132,7 +133,7 @@ replicate-sum : {X : Type 0} (i j : ℕ) (x : X) → replicate (i + j) x ≡ rep
 replicate-sum zero j x = ap (λ n. replicate n x) (zero-add j)
 replicate-sum (suc i) j x = let e : suc i + j ≡ suc (i + j) = omega arith in rw (e, replicate-sum i j x)
 
--- steps, and then as many steps as there are before this end
+-- i steps, followed by j steps and an end, are i + j steps and this end
 pub after_steps : {X : Type 0} (x : X) (i j : ℕ) (xs ys end : List X) → xs ≡ replicate i x → ys ≡ replicate j x ++ end → xs ++ ys ≡ replicate (i + j) x ++ end
 after_steps x i j xs ys end is are = cc (append_assoc (replicate i x) (replicate j x) end, replicate-sum i j x)
 

@@ -40,7 +40,7 @@ pub record Makes {S : Type 0} (first : Plain → ℕ) (second : Plain → S) (ol
   pub first_is : n ≡ first (apply_some s step)
   pub second_is : m ≡ second (apply_some s step)
 
--- the word contains this weight, and leaves room above
+-- the word n is at least the weight k, and below 2^63
 abbrev pub Weighs : ℕ → ℕ → Type 0
 Weighs k n = (k ≤ n) × (n < 2 ^ 63)
 
@@ -92,7 +92,7 @@ module _ {V S : Type 0} (lock : Lock V S) where
   by_exchange view won lost s p n m expected new hit miss =
       dite (ℕ_discrete n expected) (λ e. rw (eq-eqb n expected e) (won, hit e, refl)) (λ ne. rw (ne_eqb n expected ne) (lost, miss, refl))
 
-  -- a step to these words, if in this lock the party gets a view that satisfies P
+  -- if in this lock the party reaches these words and a view that satisfies P, the step to these words is allowed
   arrives : (view : Option V) (id : ℕ) (vs : List V) (s : Plain) (n : ℕ) (m : S) (P : V → Type 0) → Stands id view vs → s.cap ≡ cap → IsInOrder s → IsLockOf part vs s
       → (w : V) × Reaches view w s (number part id view vs) n m × P w
       → (w : V) × Going way (use_of uses view) (uses w) None (readers_of uses vs) (Meets Holds ways n m (after id view vs w)) × P w

@@ -34,14 +34,14 @@ module _ {W V C L A : Type 0} (m : Machine W V C L A) where
   abbrev world : W → Option V → Seats → State W V C L
   world w value seats = record { words = w; value = value; seats = seats }
 
-  -- The words, the value and the seat of one party, in a world with these others before it and behind it.
+  -- the words, the value, and the seat of one party; others may sit before this party and behind it
   abbrev Alone : Type 0
   Alone = W × Option V × Seat C L
 
   abbrev among : Alone → Seats → Seats → State W V C L
   among z xs ys = world z.0 z.1 (xs ++ z.2 ∷ ys)
 
-  -- wherever the party's seat is, this has the same outcome and leads to the same
+  -- whoever sits before and behind the party, h has one outcome, and leaves the party and the others in one way
   abbrev Alike : (Seats → Seats → Happened W V C L A) → Type 0
   Alike h = (o : Outcome A V) × (z : Alone) × ((xs ys : Seats) → h xs ys ≡ record { outcome = o; next = among z xs ys })
 
@@ -97,7 +97,7 @@ module _ {W V C L A : Type 0} (m : Machine W V C L A) where
       λ xs ys. rw (get_seam xs z.2 ys) (is xs ys) in
       (o ∷ outs, end, λ xs ys. (rw (now xs ys, after) (are xs ys).0, rw (now xs ys) (ap (λ l. o ∷ l) (are xs ys).1)))
 
-  -- so what they do in a world of the party's own, they do among others
+  -- so the moves do among others what they do in a world of the party's own
   go_among : (z z' : Alone) (own : List (Move C V)) (outs : List (Outcome A V)) → list_all is_of_call own ≡ true
       → after m (among z [] []) (by_party 0 own) ≡ among z' [] [] → outcomes m (among z [] []) (by_party 0 own) ≡ outs → GoAlike z own outs z'
   go_among z z' own outs all is are xs ys =

@@ -1,5 +1,5 @@
--- What a lock must show when it makes its cell: its trace is `Send`, with or without a second word, and its value is `Sync` where its rule
--- is.
+-- What a lock must show when it makes its cell: the trace is `Send`, with or without a second word, and the value is
+-- `Sync` where the rule is.
 use Rattle.std.proofs.Common.{◌≡◌, ℕ, ◌+◌, ◌-◌, ◌%◌, [], ◌∷◌, ap, ◌∙◌, arith, subst}
 use Rattle.std.proofs.Math.Nat.{mod_self, zero-mod}
 use base.Fml.{Lft}
@@ -17,7 +17,7 @@ use Rattle.spin_core.specs.contracts.trace.Trace.{the_row, the_type}
 use Rattle.spin_core.proofs.TraceSteps.{log_keyless}
 use Rattle.spin_model.specs.contracts.schedule.Move as move
 
--- the row of an entry, by the rows of its calls and its values; and of an entry without values
+-- the row of an entry, made from the row of the calls and the row of the values; `entry` has no values
 abbrev pub entry_over : RattleType → RattleType → RattleType
 entry_over C V = Tuple (usize ∷ move.the_row C V ∷ [])
 
@@ -44,6 +44,6 @@ at_first k =
     let none = ap (λ j. (k - j) % k) (zero-mod k) ∙ (ap (λ j. j % k) all ∙ mod_self k) in
     omega (arith, none)
 
--- so a shared struct shares its first field; the rule of such a lock is a struct over its value
+-- so a shared struct shares its first field; the type of a rule may be a struct whose first field is a value
 pub first_field : (T : RattleType) → ((x : T.Denot) (b o : ℕ) (κ : Lft) → Keyless (shared_of T x b (o + up (align (lone T.mir)) 0) κ)) → Common T
 first_field T may x b o κ = let same : o + up (align (lone T.mir)) 0 ≡ o = omega (arith, at_first (align (lone T.mir))) in subst (λ e. Keyless (shared_of T x b e κ)) same (may x b o κ)

@@ -22,7 +22,7 @@ numbers = of_field usize-field usize-laws refl (copy_shared usize-field usize-co
 abbrev pub units : Laws unit
 units = of_field unit-field unit-laws refl (copy_shared unit-field unit-copy)
 
--- a party with its number
+-- a party's view, with its number and its mark
 abbrev pub numbered : RattleType → RattleType
 numbered V = Tuple (V ∷ usize ∷ usize ∷ [])
 
@@ -43,7 +43,8 @@ traced_over C V S = trace.the_row (entry_over C V) S
 abbrev pub trace_over_laws : (C V S : RattleType) → Laws C → Laws V → Laws S → Laws (traced_over C V S)
 trace_over_laws C V S laws values = traces.the_row_laws (entry_over C V) S (tuple_laws (usize ∷ _ ∷ []) (numbers, (moves.the_row_laws C V laws values, tt)))
 
--- What a lock must show when it takes a watch of such a trace: its values live as long as the borrow of the lock.
+-- What a lock must show when it takes a watch of such a trace: the lock's values live as long as the borrow of the
+-- lock.
 module _ (κ l : Lft) (within : κ ⊑ l) where
   abbrev alone : Lft
   alone = l ++ []
@@ -67,6 +68,6 @@ module _ (κ l : Lft) (within : κ ⊑ l) where
   pub permit_within : κ ⊑ permit
   permit_within = search (within, ⊑_meet, ⊑_static) depth 20
 
-  -- what is fixed for a lock, with a number
+  -- the key of a ticket lock: its opening, and a number
   pub key_within : κ ⊑ (permit ++ []) ++ (permit ++ [])
   key_within = search (permit_within, ⊑_meet, ⊑_static) depth 20

@@ -1,4 +1,5 @@
--- A lock's rule together with its trace of numbered parties. A step that keeps the rule and is moves of the model keeps both.
+-- A lock's rule together with its trace of numbered parties. A step keeps both if it keeps the rule and consists of
+-- moves of the model.
 use Rattle.std.proofs.Common.{arith, ◌≡◌, ℕ, ◌<◌, ◌++◌, ◌∷◌, map, length, Option, Some, None, List, [], refl}
 use Rattle.std.specs.Prelude.{sum_by}
 use Rattle.atomic_table.proofs.Lists.{at_map}
@@ -102,7 +103,7 @@ module _ {W V C L A X S : Type 0} (m : Machine W V C L A) (seat_of : X → Seat 
         (is.0, rw (map-append bare before behind) gone, owns.leave m seat_of words_of v idle (n, t.word) t.entries before behind is.2),
   )
 
--- if what a step says of its moves implies less, the step may say less
+-- a step that says something of its moves may say instead what follows from that
 module _ {W V C L A X S : Type 0} (m : Machine W V C L A) (seat_of : X → Seat C L) (words_of : W → ℕ × S) (view : Option (Numbered X)) (says says' : Says V C A X)
     (less : (own : List (Move C V)) (outs : List (Outcome A V)) (n : ℕ) (u : X) → says own outs n u → says' own outs n u) where
   pub tells_less : {Y : Type 0} (holds : ℕ → Trace (Entry C V) S → List (Numbered X) → Type 0)

@@ -49,7 +49,7 @@ module _ {C V : Type 0} where
       now : latest opening.value (t.entries ++ by_party p own) ≡ left own (latest opening.value t.entries)
       now = latest_left opening.value t.entries p own
 
-      -- what moves must show that write as `Leaves` says
+      -- what moves must show, if they write as `Leaves` says
       pub owed : (u u' : Use) (shown : Option V) → Leaves u u' shown own → Owed (last opening) t (grown_at t word (by_party p own)) u u' shown
       owed writes writes shown l = tt
       owed writes _ None l = tt
@@ -71,15 +71,16 @@ module _ {C V : Type 0} where
       learns : {S : Type 0} → Tells S → Learns Last u u' before after
       learns learnt = rw (← learnt.1) learnt.2
 
-      -- a party that begins to use the value, or reads on, is shown it
+      -- a party that begins to use the value, or reads on, is shown the value written last
       pub shows_last : {S : Type 0} → Tells S → (u ≡ writes → u' ≡ reads) → Shows u' before after → IfSome after Last
       shows_last learnt so shows = tells Last u u' before after so shows (learns learnt)
 
-      -- a party that stops reading has read it
+      -- a party that stops reading has read the value written last
       pub read_last : {S : Type 0} → Tells S → u ≡ reads → u' ≡ off → IfSome before Last
       read_last learnt is is' = leaves_told Last before after (rw (is, is') at (learns learnt))
 
-      -- it is what a party finds when it begins to use the value, and what it leaves when it stops writing
+      -- a party finds the value written last when it begins to use the value, and leaves that value when it stops
+      -- writing
       pub found : {S : Type 0} (x : V) → Tells S → u ≡ off → after ≡ Some x → Last x
       found x learnt is some = rw (is, some) at (learns learnt)
 

@@ -1,5 +1,5 @@
--- A walk proves a function by hand, statement by statement. Here is how it begins and ends, for a function of whose
--- arguments the contract says nothing at the exit. Assumes `Logic`.
+-- A walk proves a function by hand, statement by statement. Here is how a walk begins and ends, if the contract says
+-- nothing of the function's arguments at the exit. Assumes `Logic`.
 use Rattle.std.proofs.Common.{◌≡◌, ℕ, zero, suc, List, [], ◌∷◌, refl, sym, ap, subst, w64}
 use seplogic.Ra.Ura.{Ura}
 use mir.Syntax.{Fn, Callee, Lifetime}
@@ -128,7 +128,7 @@ module _ {M : Type 1} {𝓤 : Ura M} (𝓛 : Logic 𝓤) (T : Ended) (c : Clause
       enter ! 𝓣.C 𝓣.Λ e (flat Rs vss) Post $
       walk κs qs outlive a g are Post (λ v r. subst (λ (P : SProp 𝓤). ent 𝓤 (sep 𝓤 P (Last v r)) (Post v)) (sym held) (out v r)))
 
--- a type, and its laws, as an argument of a function that does not know it
+-- a type that is passed, with its laws, to a function that is generic in it
 abbrev pub passed : RattleType → RattleType
 passed A = arg (raw_type (layout A)) no A
 

@@ -80,7 +80,7 @@ module _ {X : Type 0} where
   Fixes (fixes fact) = Unit {0}
   Fixes _ = ⊥
 
-  -- parties with these views may have used the new cell and left it; without `fixes` there are none
+  -- in the way `fixes` a new cell may have these views, of parties that have no permit; in the other ways it has none
   abbrev pub IsNew : {V : Type 0} → Way X → List V → Type 0
   IsNew (fixes fact) vs = Unit {0}
   IsNew _ vs = vs ≡ []
@@ -105,7 +105,7 @@ module _ {X : Type 0} where
   Knowing (knows φ) m zero x A = φ m x × A
   Knowing _ m w x A = A
 
-  -- A holds; if there is a known fact, it holds of every value
+  -- A holds; if there is a known fact, that fact holds of every value
   abbrev pub Freeing : {S : Type 0} → Knowledge S X → Type 0 → Type 0
   Freeing no_fact A = A
   Freeing {S} (knows φ) A = ((m : S) (x : X) → φ m x) × A
@@ -117,8 +117,9 @@ module _ {X : Type 0} where
   Carries φ ψ writes _ shown = IfSome shown ψ
   Carries φ ψ _ _ shown = (x : X) → φ x → ψ x
 
-  -- What a step tells its party of the value shown before it and after it. A party that writes on learns nothing. A party that stops using
-  -- the value learns ψ of the value before the step. Any other party learns ψ of the value after the step, if it is shown one.
+  -- What a step tells its party of the value shown before and after the step. A party that writes on learns nothing. A
+  -- party that stops using the value learns ψ of the value shown before. Any other party learns ψ of the value shown
+  -- after, if there is one.
   abbrev pub Learns : (X → Type 0) → Use → Use → Option X → Option X → Type 0
   Learns ψ writes writes before after = Unit {0}
   Learns ψ off v before after = IfSome after ψ
@@ -180,12 +181,13 @@ module _ {X V S : Type 0} (holds : ℕ → S → List V → Type 0) (ways : Ways
   abbrev pub Starts : ℕ → S → X → Type 0
   Starts n m x = (vs : List V) × Meets n m vs × Knowing ways.2 m (writers_of ways.1 vs) x (Fixed ways.0 (readers_of ways.1 vs) (writers_of ways.1 vs) x)
 
-  -- The rule may hold of a new cell with these words and this value. Nobody has used the cell, unless the way is `fixes`: then the parties
-  -- that made the value have left.
+  -- Like `Starts`, for a new cell. In the ways `alone` and `lends` there are no views, since nobody has used the cell.
+  -- In the way `fixes` there may be the views of parties that have no permit.
   abbrev pub Opens : ℕ → S → X → Type 0
   Opens n m x = (vs : List V) × IsNew ways.0 vs × Meets n m vs × Knowing ways.2 m (writers_of ways.1 vs) x (Fixed ways.0 (readers_of ways.1 vs) (writers_of ways.1 vs) x)
 
--- where the rule held under the old key it holds under the new one, and each view uses the value as before
+-- Where the rule held under the old key it holds under the new one. Each view uses the value as under the old key.
+-- Several parties may share the value only if they might do so under the old key.
 module _ {X V S : Type 0} (holds : ℕ → S → List V → Type 0) (ways : Ways X V S) (holds' : ℕ → S → List V → Type 0) (ways' : Ways X V S) where
   abbrev pub Lends : Type 0
   Lends = (IsShared ways'.0 → IsShared ways.0) × ((v : V) → ways'.1 v ≡ ways.1 v) × ((n : ℕ) (m : S) (x : X) → Starts holds ways n m x → Starts holds' ways' n m x)

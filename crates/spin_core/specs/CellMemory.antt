@@ -92,7 +92,7 @@ Part (fixes fact) x e = fact true x
 abbrev pub piece : (R : RattleType) → Way R.Denot → GName → Round R → Fml
 piece R way γ s = fex Share (λ e. fex (Part way s.1 e) (λ _. share R γ s e))
 
--- what the cell still has of a round of which r parties have each taken a part, to read for ever
+-- what the cell still has of a round after r parties have each taken a part, to read for ever
 abbrev pub remains : (R : RattleType) → (Bool → R.Denot → Type 0) → GName → Round R → ℕ → Fml
 remains R fact γ s zero = fex (fact false s.1) (λ _. share R γ s full_share)
 remains R fact γ s (suc r) = piece R (fixes fact) γ s

@@ -46,7 +46,7 @@ Rested schedule k (Some u ∷ us) = ((u.1 ≤ length schedule) × (entries_by k 
 
 module _ {W V C L A X S : Type 0} (m : Machine W V C L A) (seat_of : X → Seat C L) (words_of : W → ℕ × S) where
   -- The schedule leads to these words, and to the views of all parties that have not left. None of its entries is
-  -- skipped.
+  -- skipped. No party has made an entry from its mark on (`Rested`).
   abbrev pub IsRun : List (Entry C V) → ℕ × S → List (Numbered X) → Type 0
   IsRun schedule s vs =
       (came : List (Option (X × ℕ))) × (w : W) × (value : Option V) × (vs ≡ present_from 0 came) × (s ≡ words_of w) × LeadsTo m seat_of words_of schedule w value (map kind came) × IsPlayed m (length (map kind came)) schedule × Rested schedule 0 came
@@ -57,7 +57,7 @@ module _ {W V C L A X S : Type 0} (m : Machine W V C L A) (seat_of : X → Seat 
   MadeNone log p (Some u) = (p ≡ u.1) × (entries_by p (drop u.2 log) ≡ [])
 
   -- What a step tells: the party's number and its new mark; that the party made no entry between its last step and
-  -- this one; its moves in this step, with their outcomes.
+  -- this one; its moves in this step, with their outcomes; and what `says` states of these moves.
   abbrev pub Tells : (List (Move C V) → List (Outcome A V) → ℕ → X → Type 0) → Option (Numbered X) → List (Entry C V) → List (Entry C V) → ℕ → Numbered X → Type 0
   Tells says view log es n v =
       (own : List (Move C V)) × (outs : List (Outcome A V)) × (es ≡ by_party v.1 own) × (v.2 ≡ length (log ++ es)) × MadeNone log v.1 view × AreOwn m own outs log es × says own outs n v.0

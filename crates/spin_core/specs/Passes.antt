@@ -79,13 +79,13 @@ module _ {V C A : Type 0} where
   abbrev pub IsCall : C → A → Course V C A
   IsCall c a = Begins c (Ends a)
 
-  -- The course of one step with this outcome. If the argument is true, it is a step of a call that has begun. If false, the call begins and
-  -- makes its first step.
+  -- The course of one step with this outcome. If the Bool is true, the call has begun before. If it is false, the call
+  -- begins and makes its first step.
   abbrev pub IsStep : Bool → C → Outcome A V → Course V C A
   IsStep true c end own outs = (own ≡ Step ∷ []) × (outs ≡ end ∷ [])
   IsStep false c end own outs = (own ≡ Begin c ∷ Step ∷ []) × (outs ≡ Begun ∷ end ∷ [])
 
-  -- what a play says of such a step: the number found decides its outcome and the next view
+  -- what a play says of one step of a call (`IsStep`): the number found decides the outcome and the next view
   abbrev pub step_by : {X : Type 0} → Bool → C → (ℕ → Outcome A V) → (ℕ → X) → Says V C A X
   step_by goes_on c end to own outs n v = (v ≡ to n) × IsStep goes_on c (end n) own outs
 

@@ -7,6 +7,6 @@ module _ {S A : Type 0} (attempts : S → Result A S → Type 0) where
   Fails zero first last = first ≡ last
   Fails (suc n) first last = (next : S) × attempts first (Err next) × Fails n next last
 
-  -- from this state on some attempts fail, and then one gives the answer
+  -- from this state on n attempts fail, for some n, and the next attempt gives the answer
   abbrev pub Succeeds : S → A → Type 0
   Succeeds first answer = (n : ℕ) × (last : S) × Fails n first last × attempts last (Ok answer)

@@ -46,8 +46,8 @@ module _ {W V C L A : Type 0} (m : Machine W V C L A) where
   abbrev pub IsPlayed : ℕ → List (Entry C V) → Type 0
   IsPlayed least schedule = (more : ℕ) → list_all is_played (outcomes (at_first m (least + more)) schedule) ≡ true
 
-  -- The entries `es` are moves of one party, and none is skipped. Played after `log` they have these outcomes, in each world of the model
-  -- with enough parties.
+  -- The entries `es` are these moves, made by one party. Played after `log` they have these outcomes, in each world of
+  -- the model with enough parties. No entry of `log` or `es` is skipped there.
   abbrev pub AreOwn : List (Move C V) → List (Outcome A V) → List (Entry C V) → List (Entry C V) → Type 0
   AreOwn own outs log es = (p least : ℕ) × (es ≡ map (λ move. (p, move)) own) × IsPlayed least (log ++ es) × ((more : ℕ) → outcomes (after m (at_first m (least + more)) log) es ≡ outs)
 
@@ -68,15 +68,15 @@ module _ {W V C L A : Type 0} (m : Machine W V C L A) where
     abbrev pub of_one : List (Move C V) → List (Entry C V)
     of_one own = map (λ move. (0, move)) own
 
-    -- From the words w a party with the view `view` can make moves that lead to the view u and the words s. P holds of these moves and
-    -- their outcomes.
+    -- From the words w a party with the view `view` can make moves that lead to the view u and the words s. Each move
+    -- is one as in `is_of_call`, and none is skipped. P holds of the moves and their outcomes.
     abbrev pub Goes : Option X → X → W → Option V → (ℕ × S) → (List (Move C V) → List (Outcome A V) → Type 0) → Type 0
     Goes view u w value s P =
         (own : List (Move C V)) × (outs : List (Outcome A V)) × P own outs × (list_all is_of_call own ≡ true) × (list_all is_played outs ≡ true) × (w' : W) × (now : Option V)
         × (after m (alone w value (sits view)) (of_one own) ≡ record { words = w'; value = now; seats = seat_of u ∷ [] }) × (outcomes (alone w value (sits view)) (of_one own) ≡ outs) × (words_of w' ≡ s)
 
-    -- Take any words, and any view that a step satisfying `then` gives the party. The party has moves that lead to this view and to the
-    -- step's words. What `says` states holds of them.
+    -- Take any words, and any next view for which `then` holds of the number that the step finds. The party has moves
+    -- that lead to this view and to the words after the step. What `says` states holds of these moves.
     abbrev pub AreMoves : Option X → OnWord S → (ℕ → X → Type 0) → (List (Move C V) → List (Outcome A V) → ℕ → X → Type 0) → Type 0
     AreMoves view step then says = (w : W) (value : Option V) (u : X) → let s = words_of w in then (step.1 s) u
         → Goes view u w value (step.0 s) (λ own outs. says own outs (step.1 s) u)

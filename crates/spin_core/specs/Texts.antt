@@ -2,7 +2,7 @@
 use Rattle.std.specs.Prelude.{ℕ, List, Option, None, Some, codes}
 use Rattle.std.specs.Fmt.{◌++?◌}
 
--- The text of a lock, with the value that `try_lock` found, or without a value if `try_lock` found the lock held.
+-- The text of a lock, with the value that a try to acquire the lock found, or without a value if the try failed.
 -- `text` gives the text of a value.
 abbrev pub named_text : {T : Type 0} → List ℕ → List ℕ → (T → Option (List ℕ)) → Option T → Option (List ℕ)
 named_text shown locked text None = Some locked

@@ -29,7 +29,7 @@ module _ {C V : Type 0} where
   abbrev pub IsLast : Opening V → List (Entry C V) → V → Type 0
   IsLast opening entries x = opening.told ≡ true → latest opening.value entries ≡ x
 
-  -- the fact known of a value that nobody writes: it is the last one of the trace
+  -- the fact known of a value that nobody writes: the value is the last one of the trace
   abbrev pub last : {S : Type 0} → Opening V → Knowledge (Trace (Entry C V) S) V
   last opening = knows (λ t x. IsLast opening t.entries x)
 

@@ -23,7 +23,7 @@ entries_of p (knows_served n) = no_entries
 entries_of p starves = record { holders = []; tickets = []; starvers = p ∷ [] }
 entries_of p holds_starving = record { holders = holder p writing ∷ []; tickets = []; starvers = p ∷ [] }
 
--- what the part knows of the plain lock: the served number is at least the one that the party found
+-- what a party with this part knows of the plain lock: after `knows_served n` the served number is at least n
 abbrev pub Knows : Plain → Part → Type 0
 Knows s (knows_served n) = n ≤ serving_word s
 Knows s _ = Unit {0}
@@ -54,7 +54,7 @@ module _ {V : Type 0} (part : V → Part) where
   abbrev pub used_by : V → Use
   used_by v = use_of_part (part v)
 
-  -- the words are those of a plain lock with these parties and this cap
+  -- the words are those of a plain lock in order (`IsInOrder`), with these parties and this cap
   abbrev pub Encodes : {S : Type 0} → ℕ → (Plain → ℕ) → (Plain → S) → ℕ → S → List V → Type 0
   Encodes cap first second n m vs = (s : Plain) × (s.cap ≡ cap) × IsInOrder s × IsLockOf vs s × (n ≡ first s) × (m ≡ second s)
 

@@ -100,8 +100,8 @@ impl<'a, T, V, P: Rule<T, V>> Model for WritePermit<'a, T, V, P> {
 }
 
 impl<T, V, P: Rule<T, V>> Cell<T, V, P> {
-    /// Creates a cell that no party uses. In the way `fixes` the cell may be created as if a party had stored
-    /// its value and left.
+    /// Creates a cell without permits. In the way `fixes` the cell may begin as if parties had stored its value,
+    /// and had then leaked their permits.
     ///
     /// # Contract
     /// The rule has to hold of the words (`Opens`). If parties share the value, or some view reads it, its type
@@ -148,8 +148,8 @@ impl<T, V, E, S, P: Rule<T, V, Second = Trace<E, S>>> Cell<T, V, P> {
     /// Returns a watch of the cell's trace that knows no entries yet.
     ///
     /// # Contract
-    /// The caller chooses `name`. If the rule gives the trace this name, each step that is passed the watch returns
-    /// one with the same name (`Watches`).
+    /// The caller chooses `name`. If the rule gives the trace this name, each step that takes the watch returns a
+    /// watch with the same name (`Watches`).
     pub fn watch(&self) -> Watch<E>
         ghost name: { ℕ }
         ensures { (result.name ≡ name) × (result.entries ≡ []) }

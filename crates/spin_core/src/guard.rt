@@ -18,7 +18,7 @@ pub trait Uses<V> {
     ghost use_at: { Option V → Use };
 }
 
-/// The rule of a lock whose writer can release it. Each lock with a [`Guard`] implements it.
+/// The rule of a lock whose writer can release it. The rule of each lock with a [`Guard`] implements this trait.
 ///
 /// # Contract
 /// `use_at` agrees with the rule's own uses (`same`).
@@ -67,7 +67,7 @@ impl<'a, T, V, P: Release<T, V>, R> Guard<'a, T, V, P, R> {
     /// Creates the guard of a party that acquired the lock.
     ///
     /// # Contract
-    /// The guard has this permit. The call returns.
+    /// The guard has the permit `writer`. The call returns.
     pub fn new(writer: WritePermit<'a, T, V, P>) -> Self
         ensures { result.writer ≡ writer.entry }
     {

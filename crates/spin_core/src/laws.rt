@@ -12,8 +12,9 @@ ghost use Rattle.spin_core.specs.declared.tie.Opening.{Opening};
 /// release.
 ///
 /// # Contract
-/// Let `x` be the last value of a history `old`, and `y` that of a longer history of the lock (`IsLast`). Then `y` is
-/// the value that the further moves write last, or `x` if they write nothing (`latest`).
+/// Suppose that the owner has not borrowed the value (`opening.told`). Let `x` be the last value of a history `old`,
+/// and `y` that of a longer history of the lock (`IsLast`). Then `y` is the value that the further moves write last,
+/// or `x` if they write nothing (`latest`).
 pub fn a_guard_reads_the_last_value_written<C, T>()
     ensures { (opening : Opening T) (old new more : List (Entry C T)) (x y : T) → opening.told ≡ true → new ≡ old ++ more → IsLast opening old x → IsLast opening new y → latest x more ≡ y }
 {}
@@ -21,8 +22,9 @@ pub fn a_guard_reads_the_last_value_written<C, T>()
 /// Two guards read the same value if nothing was written in between.
 ///
 /// # Contract
-/// Let `x` be the last value of a history `old`, and `y` that of a longer history of the lock (`IsLast`). If the
-/// further moves write nothing (`latest`), `x` and `y` are the same.
+/// Suppose that the owner has not borrowed the value (`opening.told`). Let `x` be the last value of a history `old`,
+/// and `y` that of a longer history of the lock (`IsLast`). If the further moves write nothing (`latest`), `x` and
+/// `y` are the same.
 pub fn two_guards_read_one_value<C, T>()
     ensures { (opening : Opening T) (old new more : List (Entry C T)) (x y : T) → opening.told ≡ true → new ≡ old ++ more → ((z : T) → latest z more ≡ z) → IsLast opening old x → IsLast opening new y → x ≡ y }
 {}

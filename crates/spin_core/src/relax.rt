@@ -76,7 +76,7 @@ pub trait RelaxStrategy {
     /// Like [`retry`](RelaxStrategy::retry), but the closure `pause` computes from the state how many hints the
     /// pause before each attempt has.
     ///
-    /// It is not inlined, since that would lengthen the path of each caller that does not wait.
+    /// It is not inlined, since inlining would lengthen the path of each caller that does not wait.
     ///
     /// # Contract
     /// Like that of `retry`. The closure `pause` also has to be always callable.

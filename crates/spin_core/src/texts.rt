@@ -1,4 +1,4 @@
-//! What any lock prints. Begin at [`write_lock`].
+//! What a mutex or a read-write lock prints. Begin at [`write_lock`].
 ghost use Rattle.std.specs.Fmt.{DisplaysOnOk};
 ghost use Rattle.std.specs.Option.{option_copied};
 ghost use Rattle.spin_core.specs.Texts.{lock_text, named_text};
@@ -9,7 +9,7 @@ use std::fmt::{Debug, Formatter};
 /// Writes a mutex with this value. Without a value it writes `<locked>`: the caller tried to acquire the lock
 /// once, and failed.
 ///
-/// The text calls each mutex `Mutex`, as the Rust crate does.
+/// The text says `Mutex` for each type of mutex that uses this function, as in the Rust crate.
 ///
 /// # Contract
 /// Without formatting options, a call that returns `Ok` has written `lock_text` of the value.

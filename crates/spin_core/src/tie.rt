@@ -14,8 +14,8 @@ pub type Entry<C, T = ()> = (usize, Move<C, T>);
 
 /// What is fixed when a lock is made: the name of its trace, and its opening value. It has no bytes.
 ///
-/// If `told` is true, the lock's value is the one that the trace says was written last. This holds until the
-/// owner borrows the value.
+/// If `told` is true, a value that nobody writes is the one that the trace says was written last, or else the
+/// opening value. This holds until the owner borrows the value.
 pub struct Opening<T> {
     marker: PhantomData<T>,
     pub ghost name: { ℕ },

@@ -38,7 +38,7 @@ latch_notes = record { Shape = λ s. Latched s; point = point_of; Knows = λ c l
 holder_by : (p : ℕ) (k : Kind) (s : Plain) → entries p s ≡ entries_at p (holds k) → is_holder p k s.holders ≡ true
 holder_by p k s mine = is_holder-from_entries p k s.holders (ap (λ (e : Entries). e.holders) mine)
 
--- What the step functions mean in such a lock.
+-- What the step functions mean in the plain lock of a latch.
 module _ (p : ℕ) (s : Plain) (w : ℕ) (word : latch_word s ≡ w) (exclusive : IsExclusive s) (shape : Latched s) where
   read_means : Means latch_notes p s (gets p to_read) (λ k. k) (let_in w)
   read_means = grind (arith, read-decides s p w exclusive shape.room word, shape)

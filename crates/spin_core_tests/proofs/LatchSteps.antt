@@ -186,12 +186,12 @@ module _ (name : ℕ) where
   left_rests named before None known now found moved = absurd moved
   left_rests named before (Some v) known now found moved = idle_rests v moved.1.4.6
 
-  -- a try whose word has no room for a reader has failed, and its party may leave
+  -- a try that has found a word without room for a reader has failed, and its party may leave
   pub gives_up : (word : ℕ) → None ≡ let_in word → (view : Option (Numbered View)) → what view ≡ Some (at_word false word) → Rests (IsLatch name) use_of_party view
   gives_up word closed None is = absurd cc
   gives_up word closed (Some v) is = idle_rests v (grind (arith, closed, is))
 
--- a waiting call whose word has no room for a reader looks again
+-- a waiting call that has found a word without room for a reader looks again
 pub looks_again : (word : ℕ) (view : Option (Numbered View)) → None ≡ let_in word → what view ≡ Some (at_word true word) → MayLook (what view)
 looks_again word view closed is = let at : at_word true word ≡ WaitingToRead = grind (arith, closed) in rw (is ∙ ap Some at) tt
 

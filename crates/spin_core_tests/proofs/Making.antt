@@ -54,7 +54,7 @@ begins key id (suc (suc zero)) m vs has at small = let r = read_after id None vs
     (Reading, (λ e. refl, has.0.0, meets key 2 m (vs ++ Reading ∷ []) (omega (arith, has.0), omega (arith, has.0))), (λ e. absurd (omega (arith, e)), λ e. refl, λ ne ne'. absurd (ne' refl)))
 begins key id (suc (suc (suc n))) m vs has at small = absurd has.0
 
--- while a party makes the value, the word is 1
+-- while a party makes the value, nobody reads the value and nobody else writes it
 runs : (n id : ℕ) (vs : List View) → At id (Some Running) vs → IsOnce n tt vs → (readers_of f vs ≡ 0) × (writers_of f vs ≡ 1)
 runs zero id vs at s = absurd (let w = write_after id (Some Running) vs Away at in omega (arith, s))
 runs (suc zero) id vs at s = s

@@ -84,7 +84,7 @@ module _ {X : Type 0} where
       let l = subst (λ (y : Option View × Option View × Option X). Found (written_ways {X = X}) y.0 y.1 y.2 shown' now) (λ i. (holds i, Some (idle i), shown_is i)) found in
       (m.0, m.2, left_at now.entries m.0 m.1 m.4.1.0 x l.0 m.3 m.4.1.1 l.1 l.2)
 
-  -- if both parties know the same trace, one of them found what the other left
+  -- if one party left x, another found a value, and both know the same trace, the value found is x
   pub same_found : (wrote seen : List X) (did : Bool) (found : Option X) (x : X) → (IsTrue did → WroteLast wrote x) → IfSome found (λ y. LastIs seen y) → IsTrue did → wrote ≡ seen → IfSome found (λ y. y ≡ x)
   same_found wrote seen did None x w l is e = tt
   same_found wrote seen did (Some y) x w l is e = let was = w is in sym l.1 ∙ ap (latest l.0) (sym e ∙ was.1) ∙ latest-append l.0 was.0 x

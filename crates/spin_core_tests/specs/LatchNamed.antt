@@ -1,4 +1,5 @@
--- What the object of a latch is: its kind of lock, its first state, what each call asks, and how soon it answers.
+-- What the object of a latch is: its kind of lock, its first state, what each call asks, and how soon `Read` and
+-- `Write` are answered.
 use Rattle.std.specs.Prelude.{◌≡◌, ℕ, true, Option, Some, None, [], ◌∷◌}
 use Rattle.spin_step.specs.Plain.{to_read, to_write, fresh}
 use Rattle.spin_model.specs.declared.place.Hold.{Hold}

@@ -88,8 +88,8 @@ at_word waits word = if is_some (let_in word) then Coming waits word else gone w
 abbrev pub IsAtWord : Option View → ℕ → Type 0
 IsAtWord view word = (waits : Bool) × (view ≡ Some (at_word waits word))
 
--- the view after the exchange of a call to read: if it finds the word that it expects, the party reads; else the call goes on with the word
--- found
+-- The view after the exchange of a call to read. If the exchange finds the word that it expects, the party reads.
+-- Otherwise the view is `at_word` of the word found.
 abbrev pub reads_by : ℕ → Option View → ℕ → View
 reads_by old (Some (Coming waits word)) found = if found == old then Reading else at_word waits found
 reads_by old _ found = Idle

@@ -21,7 +21,7 @@ use_of_view Reading = reads
 abbrev pub once_ways : {S : Type 0} → ℕ → Ways Stage View S
 once_ways key = (fixes (IsMade key), use_of_view, no_fact)
 
--- the word is 0 before a party begins to make the value, 1 while the party makes it, and 2 afterwards
+-- the word is 1 while a party makes the value, 2 once the value is made, and 0 otherwise
 abbrev pub Stands : ℕ → ℕ → ℕ → Type 0
 Stands zero r w = (r ≡ 0) × (w ≡ 0)
 Stands (suc zero) r w = (r ≡ 0) × (w ≡ 1)
@@ -39,7 +39,7 @@ Loads old new before found after = (found ≡ 2 → after ≡ Reading) × (found
 abbrev pub Begins : ℕ → ℕ → Option View → ℕ → View → Type 0
 Begins old new before found after = (found ≡ 0 → after ≡ Running) × (found ≡ 2 → after ≡ Reading) × (found ≢ 0 → found ≢ 2 → after ≡ Away)
 
--- a party that was to make the value puts the number back
+-- a party that does not make the value after all puts the number back
 abbrev pub PutsBack : ℕ → ℕ → Option View → ℕ → View → Type 0
 PutsBack old new before found after = after ≡ Away
 

@@ -1,5 +1,5 @@
-//! A cell that allows any words. The functions return what a party's steps find in it, which no contract of
-//! the cell says.
+//! A cell that allows any words. The functions return what a party's steps find in it. No contract of the cell
+//! says what they find.
 ghost use Rattle.std.specs.Prelude.{◌≡◌, ◌+◌, ◌≤◌, length};
 
 use spin_core::cell::{Cell, Play, Rule};

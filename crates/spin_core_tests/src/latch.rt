@@ -60,7 +60,7 @@ impl<T> Latch<T> {
         }
     }
 
-    /// Acquires shared access, spinning while a writer holds the latch.
+    /// Acquires shared access, spinning while a writer holds the latch or the number of readers is at the limit.
     pub fn read<W: Wait>(&self, rt: &W) -> ReadGuard<'_, T> {
         match look_and_come(self.cell.enter()) {
             Ok(guard) => guard,

@@ -72,7 +72,7 @@ impl Play<u64, View, ()> for Complete {
     ghost told = { λ key old new before. quiet (Completes old new before) };
 }
 
-/// The number after `seed`, which the first caller makes.
+/// The number after `seed`. A call of [`force`](Next::force) makes this number, once.
 #[derive(Drop)]
 pub struct Next {
     cell: Cell<Stage, View, Stage>,

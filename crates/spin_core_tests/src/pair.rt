@@ -53,7 +53,7 @@ pub fn pair(value: u64) -> Pair {
     Cell::new(value, 0, Trace::new(()), &())
 }
 
-/// Begins to read, if exactly `others` parties read. Then at least one entry of the trace is known.
+/// Begins to read, if exactly `others` parties read. If it begins, at least one entry of the trace is known.
 pub fn read(pair: &Pair, others: u64) -> Option<(Reader<'_>, Watch<()>)>
     requires { others < 2 }
     ensures view { IfSome result (λ came. came.0.view ≡ Some Reading) }

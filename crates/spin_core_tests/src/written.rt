@@ -1,4 +1,4 @@
-//! A value that one party has at a time. The trace has each value that a party left in it. Begin with
+//! A value that one party has at a time. The trace has each value that a party left at its release. Begin with
 //! [`Written::try_take`].
 ghost use Rattle.std.specs.Prelude.{◌≡◌, ◌⊎◌, ◌++◌, [], ◌∷◌, List, Option, IsTrue, IfSome};
 ghost use mathlib.Core.List.{IsPrefix};
@@ -16,7 +16,7 @@ pub enum View {
 }
 
 /// The rule: the word is 1 while a party holds the value. A value that nobody holds is the last one in the
-/// trace.
+/// trace, if the trace has any.
 pub struct WrittenRule;
 
 impl<T> Rule<T, View> for WrittenRule {
@@ -76,7 +76,7 @@ impl<T> Written<T> {
     /// Takes the value, if nobody holds it.
     ///
     /// # Contract
-    /// The holder finds the value that was left last (`found`).
+    /// The holder finds the value that was left last, if any was (`found`).
     pub fn try_take(&self, seen: Watch<T>) -> (Option<Holder<'_, T>>, Watch<T>)
         requires { seen.name ≡ self.now.cell.name }
         ensures name { result.1.name ≡ seen.name }
@@ -143,8 +143,8 @@ pub fn read(lock: &Written<u64>, seen: Watch<u64>) -> (Option<u64>, Watch<u64>)
 /// Writes in one thread, and reads in another.
 ///
 /// # Contract
-/// If the first thread wrote, and the other one knows the same trace, the other one read the value written
-/// (`same`).
+/// Suppose that the first thread wrote, and both know the same trace afterwards. If the second thread found a value,
+/// that value is the one written (`same`).
 pub fn write_beside_read<W: Threads + Sync>(
     rt: &W,
     lock: &Written<u64>,

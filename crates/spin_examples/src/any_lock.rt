@@ -4,7 +4,7 @@ ghost use Rattle.std.specs.Prelude.{◌≤◌};
 use spin::lock::{Lock, SharedLock};
 use std::sync::Wait;
 
-/// Adds 1 to a number under any lock.
+/// Adds 1, modulo 2^64, to a number under any lock.
 pub fn count<L: Lock<u64>, W: Wait>(rt: &W, lock: &L) -> u64 {
     lock.with(rt, |number| {
         *number = number.wrapping_add(1);

@@ -1,4 +1,4 @@
-//! Programs for the Rust crate, and how they read here.
+//! How programs for the Rust crate read here.
 ghost use Rattle.std.specs.Prelude.{◌≤◌};
 ghost use Rattle.spin.specs.Lazy.{initialiser};
 
@@ -10,7 +10,7 @@ use std::sync::Wait;
 use std::thread;
 use std::thread::Threads;
 
-/// Adds 1 to a total that the caller owns.
+/// Adds 1, modulo 2^64, to a total that the caller owns.
 pub fn add_one<W: Wait>(rt: &W, total: &Mutex<u64>) {
     let mut guard = total.lock(rt);
     *guard = guard.wrapping_add(1);
@@ -41,7 +41,7 @@ pub fn doubled<W: Wait, F: FnOnce() -> u64>(rt: &W, lazy: &LazyLock<u64, F>) -> 
     LazyLock::force(lazy, rt).wrapping_mul(2)
 }
 
-/// Acquires the lock as a starver, or as a newcomer if no more threads may starve.
+/// Adds 1, modulo 2^64. Acquires the lock as a starver, or as a newcomer if no more threads may starve.
 pub fn add_starving<W: Wait>(rt: &W, total: &FairMutex<u64>) {
     let mut guard = match total.starve(rt) {
         Some(place) => place.lock(rt),
@@ -73,7 +73,7 @@ pub fn raise<W: Wait>(rt: &W, limit: &RwLock<u64>, least: u64) -> u64
     *guard.downgrade()
 }
 
-/// Returns the port of the `Once`. If there is none yet, the text names it, or the `Once` stays empty after an error.
+/// Returns the port of the `Once`. If there is none yet, reads it from the text. If that fails, the `Once` stays empty.
 pub fn port_of<'a, W: Wait>(
     rt: &W,
     port: &'a Once<u16>,

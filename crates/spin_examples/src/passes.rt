@@ -9,7 +9,7 @@ use spin::mutex::{SpinMutex, SpinMutexGuard};
 use std::sync::Wait;
 use std::thread::{Threads, join};
 
-/// Adds 1. The pass acquires the lock and releases it, once.
+/// Adds 1, unless the value is the largest number. The pass acquires the lock and releases it, once.
 fn count<'a, W: Wait>(rt: &W, pass: Pass<'a, u64, Spin>) -> Pass<'a, u64, Spin>
     ensures made { HeldOnce pass.entry result }
     ensures lock { lock_of result ≡ lock_of pass.entry }
@@ -19,8 +19,8 @@ fn count<'a, W: Wait>(rt: &W, pass: Pass<'a, u64, Spin>) -> Pass<'a, u64, Spin>
     SpinMutex::unlock(guard, seen)
 }
 
-/// Doubles the value. The pass keeps the lock by a hold in place of the guard, and its next call is the
-/// release.
+/// Doubles the value, or writes the largest number if twice the value does not fit. The pass keeps the lock by a
+/// hold in place of the guard, and its next call is the release.
 pub fn double_by_a_hold<'a, W: Wait>(rt: &W, pass: Pass<'a, u64, Spin>) -> Pass<'a, u64, Spin>
     ensures lock { lock_of result ≡ lock_of pass.entry }
 {
@@ -48,7 +48,7 @@ pub fn try_once(lock: &SpinMutex<u64>) -> Pass<'_, u64, Spin> {
     }
 }
 
-/// Adds 1 in each of two threads, while a third thread looks whether the lock is held.
+/// Calls `count` in each of two threads, while a third thread looks whether the lock is held.
 ///
 /// # Contract
 /// Each of the first two passes has acquired the lock and released it, once (`first`, `second`). The third

@@ -68,7 +68,7 @@ pub fn look_and_try<'a, W: Wait>(rt: &W, lock: &'a FairMutex<u64>) -> (bool, Pas
     (held, pass)
 }
 
-// Tries to acquire the lock as the only starver, and then as one of several. It gives up if the lock is held.
+// Tries to acquire the lock as the only starver, then as one of several. If both tries fail, ends the registration.
 fn try_starving(starving: StarvingPass<'_, u64, Spin>) -> Pass<'_, u64, Spin> {
     let starving = match starving.try_lock_fair() {
         Ok((guard, seen)) => return FairMutex::unlock(guard, seen),

@@ -30,7 +30,7 @@ fn force<'a, W: Wait>(
     (*value, pass)
 }
 
-/// Asks for the value in three threads. One of them makes it.
+/// Asks for the value in three threads. If it was not made before, one of them makes it.
 ///
 /// # Contract
 /// Of any two of the passes, one knows a prefix of the history that the other knows.

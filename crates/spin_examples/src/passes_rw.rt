@@ -8,7 +8,7 @@ use spin::rwlock::{Pass, RwLock};
 use std::sync::Wait;
 use std::thread::{Threads, join};
 
-/// Adds 1 as the writer.
+/// Adds 1 as the writer, unless the value is the largest number.
 fn add<'a, W: Wait>(rt: &W, pass: Pass<'a, u64, Spin>) -> Pass<'a, u64, Spin>
     ensures made { WroteOnce pass.entry result }
     ensures lock { lock_of result ≡ lock_of pass.entry }
@@ -47,7 +47,7 @@ pub fn count_writers(pass: Pass<'_, u64, Spin>) -> (usize, Pass<'_, u64, Spin>)
     (writers, pass)
 }
 
-/// Acquires the lock as an upgradable reader, becomes the writer, and doubles the value.
+/// Acquires the lock as an upgradable reader, becomes the writer, and doubles the value, up to the largest number.
 pub fn double<'a, W: Wait>(rt: &W, pass: Pass<'a, u64, Spin>) -> Pass<'a, u64, Spin>
     ensures made { RaisedOnce pass.entry result }
     ensures lock { lock_of result ≡ lock_of pass.entry }
@@ -98,7 +98,8 @@ pub fn write_beside_readers<'a, W: Threads + Wait + Sync>(
     all
 }
 
-/// Adds 1, and then reads the sum. Both use closures that get the value under the lock.
+/// Adds 1, unless the value is the largest number. Then reads the value, which another thread may have changed since.
+/// Both calls take a closure that gets the value under the lock.
 pub fn add_and_read<'a, W: Wait>(rt: &W, pass: Pass<'a, u64, Spin>) -> (u64, Pass<'a, u64, Spin>)
     ensures lock { lock_of result.1 ≡ lock_of pass.entry }
 {
@@ -107,7 +108,8 @@ pub fn add_and_read<'a, W: Wait>(rt: &W, pass: Pass<'a, u64, Spin>) -> (u64, Pas
     (value, pass)
 }
 
-/// Tries once to acquire the lock in each way. After a try that succeeds, it releases the lock at once.
+/// Tries once to acquire the lock in each way, and to upgrade. Releases the lock after each try to acquire it that
+/// succeeds.
 pub fn try_each<'a, W: Wait>(rt: &W, pass: Pass<'a, u64, Spin>) -> Pass<'a, u64, Spin> {
     let pass = match pass.try_read(rt) {
         Ok((guard, seen)) => RwLock::unlock_shared(guard, seen),

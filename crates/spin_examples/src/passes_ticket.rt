@@ -9,7 +9,7 @@ use spin::mutex::ticket::Pass;
 use std::sync::Wait;
 use std::thread::{Threads, join};
 
-/// Adds 1. The pass acquires the lock and releases it, once.
+/// Adds 1, unless the value is the largest number. The pass acquires the lock and releases it, once.
 fn count<'a, W: Wait>(rt: &W, pass: Pass<'a, u64, Spin>) -> Pass<'a, u64, Spin>
     ensures made { HeldOnce pass.entry result }
     ensures lock { lock_of result ≡ lock_of pass.entry }
@@ -35,7 +35,7 @@ pub fn try_once(pass: Pass<'_, u64, Spin>) -> Pass<'_, u64, Spin> {
     }
 }
 
-/// Adds 1 in each of three threads.
+/// Calls `count` in each of three threads.
 ///
 /// # Contract
 /// In this call each pass has acquired the lock and released it, once (`first`, `second`, `third`). Of the

@@ -51,12 +51,12 @@ fn run<I: Source, O: Sink>(
 /// It reads a text from `input`. The text is a schedule as [`world_text`](spin_text::world_text) reads it. The
 /// search leaves out the moves `step` and `weak`, and the moves of parties that do not exist. The other lines of one
 /// party, in their order, are its program. In place of the header the text may begin with lines `lock NAME HEADER`,
-/// each with a header that lacks the number of parties. Then each move names its lock: `PARTY NAME MOVE`.
+/// each with a header that lacks the number of parties. In such a text each move names its lock: `PARTY NAME MOVE`.
 ///
 /// It writes each outcome that any interleaving has, and how many states it has seen. It also writes each way to get
-/// stuck, and for each of these a schedule that leads there. The words `--schedule NUMBER` ask for a schedule of the outcome with this
-/// number instead. The words `--limit STATES` bound the search. A run that fails writes one line with the
-/// reason to `errors`.
+/// stuck, and for each of these a schedule that leads there. The words `--schedule NUMBER` ask instead for a schedule
+/// of the outcome with this number. The words `--limit STATES` bound the search. A run that fails writes one line with
+/// the reason to `errors`.
 ///
 /// # Contract
 /// The caller gives streams that have not failed. The status is one of these:
@@ -68,7 +68,7 @@ fn run<I: Source, O: Sink>(
 /// - 2: the words are no command, a line of the text is wrong, or there is no such outcome.
 ///
 /// Status 1 or 2 is that of a fault (`status_of`). The run stopped as the fault says (`StopsProgram`), and
-/// the fault's line is on `errors`. If that write failed, a beginning of the line is there (`Told`).
+/// the fault's line is on `errors`. If the write of this line failed, a beginning of it is there (`Told`).
 pub fn program<I: Source, O: Sink, E: Sink>(
     alloc: Global,
     words: &[&str],

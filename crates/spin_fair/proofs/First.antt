@@ -40,7 +40,7 @@ first_without before behind v order i j x u at_i at_j holds starves = let a = st
 
 -- The order holds after a step, on three conditions. (A party's mark is the place in the trace after its last move.)
 -- Before the step all marks are at most `len`. The party that makes the step gets a mark of at least `len`. If this
--- party gets the view `Holding`, no party is a starver.
+-- party gets the view `Holding`, no party was a starver.
 pub first_after : (id : ℕ) (view : Option (Numbered View)) (vs : List (Numbered View)) (w : Numbered View) (len : ℕ) → ((i : ℕ) (v : Numbered View) → slice_get vs i ≡ Some v → v.2 ≤ len) → len ≤ w.2
     → (w.0 ≡ Holding → (j : ℕ) (u : Numbered View) → slice_get vs j ≡ Some u → 0 < starver u.0 → ⊥) → StarversFirst vs → StarversFirst (after id view vs w)
 first_after id view vs w len marks late alone order i j v u at_i at_j holds starves = both (stood id view vs w i v at_i) (stood id view vs w j u at_j)

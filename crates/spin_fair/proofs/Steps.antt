@@ -194,7 +194,7 @@ frees_plain v holder = allows (Some v) (λ n. (n + (2 ^ 64 - 1)) % 2 ^ 64) (λ n
       (refl, is),
     ))
 
--- Each operation without an earlier load gives the same word as its step function
+-- Each operation whose operand does not depend on a loaded word gives the same word as its step function
 
 within : (s : Plain) → s.cap ≡ most_starvers → IsInOrder s → OneHolds s → fair_word s < words
 within s room order one = omega (arith, room, order.starvers_fit, one)
@@ -363,7 +363,7 @@ registers_off : (first now : Option View) (word : ℕ) → MayRegister first →
 registers_off first now word may (inl at) = ap (use_of use_of_view) at.0 ∙ register_off first may
 registers_off first now word may (inr at) = ap (use_of use_of_view) at ∙ goes_off (call_of first) word
 
--- steps write nothing
+-- moves that are steps of a call leave the value as it is
 steps_leave : {T : Type 0} (ends : List (Ending T)) (v : T) → left {C = FairCall} (map (λ _. Step) ends) v ≡ v
 steps_leave [] v = refl
 steps_leave (e ∷ ends) v = steps_leave ends v

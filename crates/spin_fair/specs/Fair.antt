@@ -42,7 +42,8 @@ part (Awaiting c) = starves
 part (HoldingStarving c) = holds_starving
 part _ = idle
 
--- How a party with this view uses the value. A party that has set the flag, but is still registered, does not use the value yet.
+-- How a party with this view uses the value. A party that has set the flag, but is still registered, does not use the
+-- value yet.
 abbrev pub use_of_view : View → Use
 use_of_view Holding = writes
 use_of_view Served = writes
@@ -71,7 +72,7 @@ seat_of (Setting c) = seat.Calling c point.SetFlag (held_before c)
 seat_of (Awaiting c) = seat.Calling c point.Await (held_before c)
 seat_of (HoldingStarving c) = seat.Calling c point.Unregister (held_before c)
 
--- the patience of `lock`: it registers after `patience + 1` looks that found the flag set
+-- `STARVATION_SPINS + 1`: after this many looks that found the flag set, the next such look makes a `lock` register
 abbrev pub patience : ℕ
 patience = 1025
 
@@ -118,7 +119,7 @@ StarversFirst parties = (i j : ℕ) (v w : Numbered View) → slice_get parties 
 unfoldable pub IsFair : {T : Type 0} → Opening T → ℕ → Trace (Done T) (Unit {0}) → List (Numbered View) → Type 0
 IsFair opening word trace parties = Runs (model opening.value) seat_of words_of (λ n second vs. Word n second vs × StarversFirst parties) opening.name word trace parties
 
--- while nobody holds the lock, its value is the one written last
+-- while nobody holds the lock, its value is the one written last, unless the owner has borrowed the value
 unfoldable pub known_of : {T : Type 0} → Opening T → Knowledge (Trace (Done T) (Unit {0})) T
 known_of = last
 
@@ -132,14 +133,14 @@ Told v = Tells (model v) seat_of words_of
 
 -- The steps. The number that a step finds decides its outcomes and the next view of its party.
 
--- The course with one step for each of these outcomes. With `true` the call is under way. With `false` the course first begins the call
--- `c`.
+-- The course with one step for each of these outcomes. With `true` the call is under way. With `false` the course first
+-- begins the call `c`.
 abbrev pub AreSteps : {T : Type 0} → Bool → FairCall → List (Ending T) → Course T FairCall (Answer T)
 AreSteps true c ends own outs = (own ≡ map (λ _. Step) ends) × (outs ≡ ends)
 AreSteps false c ends own outs = (own ≡ Begin c ∷ map (λ _. Step) ends) × (outs ≡ Begun ∷ ends)
 
--- A step of a call. `goes_on` says whether the call is under way before this step. If it is not, the step begins the call. The number that
--- the step finds decides the outcomes (`ends`) and the next view (`to`).
+-- A step of a call. `goes_on` says whether the call is under way before this step. If it is not, the step begins the
+-- call. The number that the step finds decides the outcomes (`ends`) and the next view (`to`).
 pub record Turn (T : Type 0) : Type 0 where
   pub goes_on : Bool
   pub call : FairCall
@@ -195,8 +196,8 @@ answer_of Starved = answer.Starved
 abbrev pub tries_by : {T : Type 0} → FairCall → Turn T
 tries_by c = steps_by false c (λ n. answered (if n == 0 then answer.Granted else refusal c n) ∷ []) (λ n. if n == 0 then Holding else Idle)
 
--- The outcomes of an exchange that expects 2 (one starver, and no holder) and finds another word. `try_lock_fair` fails. The other calls of
--- a starver have only begun, so no step has an outcome yet.
+-- The outcomes of an exchange that expects 2 (one starver, and no holder) and finds another word. `try_lock_fair`
+-- fails. The other calls of a starver have only begun, so no step has an outcome yet.
 abbrev pub missed_alone : {T : Type 0} → FairCall → List (Ending T)
 missed_alone StarverTryLockFair = answered answer.Refused ∷ []
 missed_alone _ = []
@@ -209,8 +210,8 @@ not_alone c = Setting c
 abbrev pub alone_to : FairCall → ℕ → View
 alone_to c n = if n == 2 then Served else not_alone c
 
--- The exchange with which a starver begins a call. If it succeeds, the party is the only starver. Then it makes both steps of the call at
--- once: it sets the flag, and ends its registration.
+-- The exchange with which a starver begins a call. If it succeeds, the party is the only starver. Then the exchange is
+-- both steps of the call at once: it sets the flag, and ends the registration.
 abbrev pub alone_by : {T : Type 0} → FairCall → Turn T
 alone_by c = steps_by false c (λ n. if n == 2 then GoingOn ∷ answered answer.Granted ∷ [] else missed_alone c) (alone_to c)
 
@@ -236,7 +237,8 @@ tried view n = if n == 0 then Holding else Looking (looks_of view)
 abbrev pub tried_by : {T : Type 0} → Option View → Turn T
 tried_by view = steps_by (in_call view) Lock (λ n. (if n == 0 then answered answer.Granted else GoingOn) ∷ []) (tried view)
 
--- The view after a look of `lock`. Looks that find the flag set are counted, until there are enough of them to register.
+-- The view after a look of `lock`. Looks that find the flag set are counted, until there are enough of them to
+-- register.
 abbrev pub looked : Option View → ℕ → View
 looked view n = if is_set n then (if nat_lt (looks_of view) patience then Looking (looks_of view + 1) else Loading) else Trying (looks_of view)
 
@@ -248,12 +250,14 @@ abbrev pub registered : FairCall → View
 registered Lock = Setting Lock
 registered _ = Starving
 
--- The view of a party that may not register, since too many are registered: `lock` looks again, and `starve` has failed.
+-- The view of a party that may not register, since too many are registered: `lock` looks again, and `starve` has
+-- failed.
 abbrev pub finds_no_room : FairCall → View
 finds_no_room Lock = Looking patience
 finds_no_room _ = Idle
 
--- the view of a party that found the word `n`: it exchanges `n` next, unless too many parties are registered
+-- The view of a party that found the word `n`. Its next step is an exchange that expects `n`, unless too many parties
+-- are registered.
 abbrev pub goes_for : FairCall → ℕ → View
 goes_for c n = if is_some (starve most_starvers n) then Registering c n else finds_no_room c
 
@@ -401,7 +405,8 @@ abbrev pub no_room_so : {T : Type 0} → FairCall → Option (Answer T)
 no_room_so Lock = None
 no_room_so _ = Some answer.Refused
 
--- the answer, if any, of a starver's call that found the flag set: `try_lock` is refused, and the other calls have none yet
+-- the answer, if any, of a starver's call that found the flag set: `try_lock` is refused, and the other calls have none
+-- yet
 abbrev pub flag_set_so : {T : Type 0} → FairCall → Option (Answer T)
 flag_set_so StarverTryLock = Some answer.Refused
 flag_set_so c = None

@@ -35,7 +35,7 @@ module _ {T : Type 0} where
   abbrev pub Goes : Course T FairCall (Answer T) → Account T → Account T → Type 0
   Goes course was now = Since model_at course (here was) (here now)
 
-  -- the party of `it` may make the step `turn`, which applies `f` to the word
+  -- the party of `it` does not use the value, and may make the step `turn`, which applies `f` to the word
   abbrev pub May : (ℕ → ℕ) → Turn T → Account T → Type 0
   May f turn it =
       let p = it.permit in (use_of use_of_view (what p.view) ≡ off) × Traces (IsFair p.key) (fair_ways p.key) p.view p.value f
@@ -45,8 +45,8 @@ module _ {T : Type 0} where
   abbrev pub Turned : Turn T → ℕ → Account T → Account T → Type 0
   Turned turn n was now = (view_of now ≡ Some (turn.to n)) × Goes (AreSteps turn.goes_on turn.call (turn.ends n)) was now
 
-  -- From `was` to now the party has made only moves of the call `c`. If `c` was not under way at `was`, these moves
-  -- begin it. At the end the call still waits (`None`), or has this answer.
+  -- From `was` to a later account the party has made only moves of the call `c`. If `c` was not under way at `was`,
+  -- these moves begin it. At the end the call still waits (`None`), or has this answer.
   abbrev pub GoesOn : FairCall → Option (Answer T) → Account T → Account T → Type 0
   GoesOn c answer was = Goes (Comes (in_call (view_of was)) c answer) was
 

@@ -36,8 +36,8 @@ pub fn no_newcomer_holds_that_came_behind_a_starver<T>()
 
 /// States that the blind operations on the word of a `FairMutex` do what its step functions say.
 ///
-/// The holder releases by a subtraction, and a starver stops starving by one. A starver sets the flag by a bit
-/// operation. No load of the word comes before these operations.
+/// Both the release and the end of a registration are subtractions. A starver sets the flag by a bit operation. No
+/// operand of these operations depends on a word that was loaded.
 ///
 /// # Contract
 /// On each word that the rule allows, the operation gives the word that the step function gives (`unlocked`,

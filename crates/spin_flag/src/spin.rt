@@ -33,7 +33,7 @@ pub use spin_core::laws::{a_guard_reads_the_last_value_written, two_guards_read_
 ///
 /// # Contract
 /// While a guard or a hold of the lock lives, no other call acquires it. A guard gives a value of `T`, with all that
-/// the invariant of `T` says. Nothing else is promised of what other threads wrote.
+/// the invariant of `T` says. Without a [`pass`](Self::pass) nothing else is promised of what other threads wrote.
 ///
 /// # Examples
 /// ```
@@ -237,7 +237,7 @@ impl<T, R> From<T> for SpinMutex<T, R> {
     }
 }
 
-/// Tries once to acquire the lock, and holds it while it writes the value. If the lock is held it writes `<locked>`.
+/// Tries once to acquire the lock, and holds it while it prints the value. If the lock is held it prints `<locked>`.
 impl<T: Debug, R> Debug for SpinMutex<T, R> {
     fn fmt<W: fmt::Write>(&self, f: &mut Formatter<W>) -> fmt::Result
         ensures { (found : Option T) × DisplaysOnOk W.write_str_gives f.old result (lock_text T.debug_output found) f.new }

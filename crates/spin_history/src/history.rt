@@ -94,7 +94,7 @@ pub fn open<K: Work>(work: K) -> K::Answer
     open_by::<K, Brand>(work, BlankLog::new())
 }
 
-/// A monotone log: a list that only grows, with the right to append to it. Each `H` has one.
+/// A monotone log: a list that only grows, with the right to append to it. Each `H` names one log.
 ///
 /// A log is kept together with the value that it is about, under the same lock. A struct that has both
 /// relates them by an invariant, as [`Register`](crate::register::Register) does.
@@ -109,7 +109,7 @@ impl<T, H: History> Model for Log<T, H> {
     ghost also_shares = { λ log _ κ. log_shares T.row.coded.code H.name log.entries κ };
 }
 
-/// A lower bound of a log: its entries are a prefix of the log, now and for ever.
+/// A lower bound of a log: the snapshot's entries are a prefix of the log, now and for ever.
 ///
 /// Any number of threads may each have a snapshot, whether or not they hold the lock.
 pub struct Snapshot<T, H: History> {
@@ -190,8 +190,8 @@ impl<T, H: History> Log<T, H> {
     /// Compares two references to the log that are held at the same time.
     ///
     /// # Contract
-    /// Both show the same entries. So if two readers hold the lock of a value and its log at the same time, they read
-    /// the same value.
+    /// Both show the same entries. So two readers that hold the lock of a [`Register`](crate::register::Register) at
+    /// the same time read the same value.
     pub fn same(&self, other: &Log<T, H>)
         ensures { self.now.entries ≡ other.now.entries }
     {}

@@ -41,8 +41,9 @@ use std::sync::Wait;
 
 /// A value, and the log of all its writes: the last entry is the value.
 ///
-/// Put it under any lock. Each call takes the caller's [`Snapshot`] and brings it up to date. The value
-/// changes only as the order `P` allows; the default order allows every change.
+/// Put it under any lock. Each call that reads or writes takes the caller's [`Snapshot`]. It brings the snapshot
+/// up to date, unless it is a try that fails. The value changes only as the order `P` allows; the default order
+/// allows every change.
 #[derive(Drop)]
 pub struct Register<T, H: History, P: Order<T> = Unordered> {
     value: T,
@@ -56,7 +57,7 @@ impl<T, H: History, P: Order<T>> Register<T, H, P> {
     /// Creates a register that holds `value`.
     ///
     /// # Contract
-    /// The value becomes the next entry of the log, and has to follow the last one in the order. An empty log
+    /// The value becomes the next entry of the log. The log has to be in order with this entry. An empty log
     /// accepts any value.
     #[tactic(auto, using(crate::proofs::Entries::last_is))]
     pub fn new(value: T, log: Log<T, H>) -> Self
@@ -453,7 +454,8 @@ pub fn try_read<T: Copy, P: Order<T>, H: History, L: Lock<Register<T, H, P>>>(
     Some(value)
 }
 
-/// Tries to read a register under a lock, together with other readers. Fails while a writer holds the lock.
+/// Tries to read a register under a lock, together with other readers. Fails if the lock refuses readers, for
+/// example while a writer holds it.
 ///
 /// # Contract
 /// Like that of [`try_read`]. Whether and when the call returns is not promised.

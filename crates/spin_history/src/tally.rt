@@ -65,7 +65,7 @@ impl<L: Ledger> Tally<L> {
     ///
     /// # Contract
     /// The share must not be empty. After `true` the share and the tally have grown by `more`; after `false`
-    /// both are unchanged. The answer is `false` exactly if the tally's sum exceeds `u64::MAX`. A share
+    /// both are unchanged. The answer is `false` exactly if the tally's count plus `more` exceeds `u64::MAX`. A share
     /// counts at most as much as the tally (`bound`). A share with all parts of the ledger counts exactly as
     /// much (`whole`).
     ///

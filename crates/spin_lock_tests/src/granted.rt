@@ -276,7 +276,7 @@ impl Crew for UpgradesBesideReader {
     type Answer = bool;
 
     // The first thread returns `true` if the writer finds the value. The second one returns `true` if the first one has
-    // asked while there was a reader.
+    // asked to upgrade while there was a reader.
     fn act<R: Abort + Wait>(&self, rt: &R, index: usize) -> bool {
         if index == 0 {
             await_number(rt, &self.reads, 1);

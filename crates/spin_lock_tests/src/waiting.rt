@@ -8,7 +8,7 @@ use std::sync::atomic::Ordering::SeqCst;
 /// The most looks that a thread makes, so that each test ends.
 pub const MAX_LOOKS: u32 = 10_000_000;
 
-/// Waits until the number is at least `wanted`.
+/// Waits until the number is at least `wanted`, for at most `MAX_LOOKS` looks.
 pub fn await_number<R: Wait>(rt: &R, number: &AtomicU64, wanted: u64) {
     for _ in 0..MAX_LOOKS {
         if number.load(SeqCst) >= wanted {

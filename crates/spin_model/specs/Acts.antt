@@ -59,8 +59,8 @@ pub data Act (W L A : Type 0) : Type 0 where
   retry : ℕ → (ℕ → Option ℕ) → (ℕ → Change) → Next L A → (ℕ → Next L A) → Next L A → Act W L A
   -- an operation that always succeeds; it is possible only if the number passes the test
   store : (ℕ → Bool) → Operation → (ℕ → Change) → Next L A → Act W L A
-  -- A section on all words, which is not one operation. It is possible only if the words pass the test. If it gives no new words, the plain
-  -- step is closed.
+  -- A critical section: a step on all words, which is not one operation. It is possible only if the words pass the
+  -- test. If it gives no new words, the plain step is closed.
   section : (W → Bool) → (W → Option W) → (ℕ → Change) → (W → Next L A) → (W → Next L A) → Act W L A
 
 -- The outcome of a step.
@@ -75,7 +75,7 @@ tried (exchanges from to) n = if n == from then Some to else None
 tried sets_lowest_bit n = if n % 2 == 0 then Some (n + 1) else None
 tried operation n = Some (performed operation n)
 
--- the number that the step function gives, if the number found is k
+-- the number that the step function gives for k, if the number found is k; otherwise none
 abbrev pub guessed : ℕ → (ℕ → Option ℕ) → ℕ → Option ℕ
 guessed k f n = if n == k then f n else None
 
@@ -86,7 +86,7 @@ either false a b = b
 abbrev pub stays : {W V L A : Type 0} → W → Next L A → Stepped W V L A
 stays w next = record { words = w; placed = None; next = next }
 
--- the outcome of an operation: if it gives something new, `put` stores it
+-- the outcome of an operation: if the operation gives something new, `put` stores what it gives
 abbrev pub becomes : {X W V L A : Type 0} → (X → W) → W → Option X → Next L A → Next L A → Stepped W V L A
 becomes put w None won lost = stays w lost
 becomes put w (Some x) won lost = stays (put x) won

@@ -10,8 +10,8 @@ use Rattle.spin_model.specs.Calls.{Said, granted, refused, locked, starved, done
 
 -- What a party holds.
 
--- What a party must hold to ask this. Only an upgradable reader upgrades, and only a starver locks or tries as a starver. For all else the
--- party holds nothing.
+-- What a party must hold to ask this. Only an upgradable reader upgrades, and only a starver locks or tries as a
+-- starver. To ask anything else a party must hold nothing.
 abbrev pub held_for : Ask → Option Hold
 held_for to_upgrade = Some Upgradable
 held_for to_upgrade_asked = Some Upgradable
@@ -162,7 +162,7 @@ waits_to_write =
 abbrev pub spins_to_write : Asked
 spins_to_write = record waits_to_write { undisturbed_steps = 1 }
 
--- a starver waits for the lock; its exchange sets the flag
+-- a starver waits for the lock; the call begins with an exchange that sets the flag, not with a look
 abbrev pub waits_starving : Asked
 waits_starving =
     record (waits to_lock_starving) {
@@ -283,11 +283,11 @@ counts_writers = counts writers
 abbrev pub does : (Hold → Bool) → (ℕ → List Change) → Asked
 does may steps = record a_call { begins = is_one_of may; most = done; answers = λ said. elim said [ done ↦ made steps | _ ↦ never ] }
 
--- a party that holds one of these turns what it holds into this kind
+-- a party whose hold passes the test turns this hold into one of this kind
 abbrev pub turns_to : (Hold → Bool) → Option Hold → Kind → Asked
 turns_to may held kind = does may (λ p. turn_to p held kind)
 
--- a party that holds one of these releases it
+-- a party whose hold passes the test releases this hold
 abbrev pub gives_back : (Hold → Bool) → Option Hold → Asked
 gives_back may held = does may (λ p. let_go_of p held)
 
@@ -325,7 +325,7 @@ waits_for_value =
       is_open_next = λ first k p s. is_complete s.phase;
     }
 
--- the answer is the value; or that there is none, where `none` holds of the plain lock
+-- the answer is the value, or that there is none; the second is right at a moment when `none` holds of the plain lock
 abbrev pub value_or : (Plain → Bool) → Said → Meaning
 value_or none gives_value = gave (λ p. [] ∷ [])
 value_or none has_no_value = found (λ p s. none s)

@@ -79,15 +79,16 @@ pub data Limit : Type 0 where
   unlimited : Limit
   within : ℕ → Limit
   within_changes : ℕ → Limit  -- this many steps, and one more for each change of the first word by another party during the call
-  -- After this many steps, and one more for each change by others, a call that waits has got what it asks here, or has found it closed.
+  -- `gets_within ask n`: after n steps, and one more for each change by others, a call that waits has got this ask, or
+  -- has found the ask closed.
   gets_within : Ask → ℕ → Limit
   changes_within : ℕ → Limit  -- after this many steps a call that waits has made a plain step
   -- `registers_after n m`: suppose that n looks of a waiting call have found the lock held. After one more such look
   -- the call registers as a starver, or finds the cap reached, within m steps and one more for each change by others.
   registers_after : ℕ → ℕ → Limit
 
--- The plain steps by which a party gets what it asks. A party takes a ticket before it enters. A call that waits to
--- upgrade first asks to upgrade. After a starver gets the lock, it stops starving.
+-- The plain steps by which a party gets what it asks. A party takes a ticket before it enters. For `to_upgrade_asked`
+-- it asks to upgrade before it upgrades. After a starver gets the lock, it stops starving.
 abbrev pub grant : ℕ → Ask → List Change
 grant p to_upgrade_asked = turns p upgradable asking ∷ gets p to_upgrade_asked ∷ []
 grant p to_enter = gets p to_take_ticket ∷ gets p to_enter ∷ []
@@ -159,10 +160,10 @@ pub record Asked : Type 0 where
   pub answers : Said → Meaning
   pub most : Said  -- one of the answers that it may give
   pub limit : ℕ → Limit  -- the most steps that it takes, on a lock of so many words
-  -- Whether what a waiting call asks next is open. The arguments: whether it has made no plain step yet, the number of arrivals up to its
-  -- own, its party, and the plain lock.
+  -- Whether the next request of a waiting call is open. The arguments: whether the call has made no plain step yet,
+  -- the number of arrivals up to its own, its party, and the plain lock.
   pub is_open_next : Bool → ℕ → ℕ → Plain → Bool
-  pub undisturbed_steps : ℕ  -- once what it asks next is open, it takes at most so many own steps if undisturbed
+  pub undisturbed_steps : ℕ  -- once its next request is open, it takes at most so many own steps if undisturbed
   -- what a waiting call tries to get without a look first, after these plain steps
   pub goes_for : List Change → Option Ask
   pub may_register : List Change → Bool  -- after these plain steps it may register as a starver in place of a look
@@ -187,7 +188,7 @@ pub record LockKind : Type 0 where
   pub calls : ℕ → Option Hold → List Asked
   pub spins_on_exchange : Bool  -- a waiting call that does not look first repeats its exchange without looks
   pub makes_value : Bool  -- closures make its value
-  pub steps_in_sections : Bool  -- a step is a whole section under a lock of its own, not one operation
+  pub steps_in_sections : Bool  -- a step is a critical section under a lock of its own, not one operation
 
 -- The usual kind, with these words, plain steps and calls. A call looks between its exchanges, no closure makes the value, and each step is
 -- one operation.

@@ -32,12 +32,13 @@ pub record Performs {W V C L A : Type 0} (m : Machine W V C L A) (c : C) (l : L)
   pub next : (w u : W) (v : Option V) → m.can w c l h ≡ true → m.can u c l h ≡ true → get_or (m.numbers w) i 0 ≡ get_or (m.numbers u) i 0 → (m.step w v c l h).next ≡ (m.step u v c l h).next
   pub placed : (w u : W) (v : Option V) → (m.step w v c l h).placed ≡ (m.step u v c l h).placed
 
--- a step is one operation, unless each step of this kind of lock is a whole section under a lock of its own
+-- a step is one operation, unless each step of this kind of lock is a critical section under a lock of its own
 abbrev pub IsOneOperation : {W V C L A : Type 0} → Bool → Machine W V C L A → C → L → Option Hold → Type 0
 IsOneOperation true m c l h = Unit {0}
 IsOneOperation false m c l h = (i : ℕ) × (operation : Operation) × Performs m c l h i operation
 
--- Only an exchange fails spuriously. The call then goes on as if the exchange had found another number.
+-- Only an exchange fails spuriously. The call then goes on as if the exchange had found another number. An exchange
+-- that finds the number that it expects makes a plain step.
 abbrev pub RefusesAsLost : {W V C L A : Type 0} → Machine W V C L A → C → L → Option Hold → Next L A → Type 0
 RefusesAsLost {W} {V} m c l h next =
     (i from to : ℕ) × Performs m c l h i (exchanges from to) × ((w : W) (v : Option V) → (get_or (m.numbers w) i 0 == from) ≡ false → (m.step w v c l h).next ≡ next)

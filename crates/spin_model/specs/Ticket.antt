@@ -40,11 +40,11 @@ word_of LookServing = 1
 word_of (Serve t) = 1
 word_of _ = 0
 
--- if this number is next, it can still be taken
+-- this number can still be taken, if it is the next one
 abbrev pub is_left : ℕ → Bool
 is_left n = nat_lt n ticket_limit
 
--- this number is served, and can still be taken
+-- the number n is served, and can still be taken if it is the next one
 abbrev pub is_free : ℕ → ℕ → Bool
 is_free n serving = (serving == n) && is_left n
 

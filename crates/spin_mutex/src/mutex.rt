@@ -19,7 +19,8 @@ mod texts;
 ///
 /// # Contract
 /// While a guard or a hold of the lock lives, no other call acquires the lock. A guard gives a value of `T`,
-/// which satisfies the invariant of `T`. Nothing else is promised of what other threads wrote.
+/// which satisfies the invariant of `T`. Without a [`pass`](Self::pass) nothing else is promised of what other threads
+/// wrote.
 ///
 /// # Examples
 /// ```
@@ -140,8 +141,8 @@ impl<T, R> Mutex<T, R> {
 
     /// Tries to acquire the mutex. Returns `None` at once if it is held.
     ///
-    /// It also returns `None` while another thread waits. The contract does not say which lock the mutex
-    /// contains, so it allows `None` for a free mutex too.
+    /// It also returns `None` while another thread waits, or if the tickets of the ticket lock inside are used up. The
+    /// contract does not say which lock the mutex contains, so it allows `None` for a free mutex too.
     ///
     /// # Contract
     /// A guard belongs to a holder of the lock (`holds`). After `None` nothing is promised. The call returns.
@@ -190,7 +191,7 @@ impl<T, R> Mutex<T, R> {
 
     /// Returns a pass that has made no call. It does not touch the lock.
     ///
-    /// The calls of the pass are those of the ticket lock inside: its guard is a [`TicketMutexGuard`].
+    /// The calls of the pass are those of the ticket lock inside, so the guard is a [`TicketMutexGuard`].
     ///
     /// # Contract
     /// The pass is of this mutex (`lock`), and knows nothing of the mutex's history yet (`new`).

@@ -171,7 +171,8 @@ is_load Look = true
 is_load Await = true
 is_load _ = false
 
--- The name of a call with a closure in the model. If the closure may fail, the call is named `TryCallOnceOk` until the closure has failed.
+-- The name that the model gives a call with a closure. If the closure may fail, the call is named `TryCallOnceOk` until
+-- the closure has failed.
 abbrev pub closure_call : Bool → OnceCall (Unit {0})
 closure_call may_fail = if may_fail then TryCallOnceOk tt else CallOnce tt
 

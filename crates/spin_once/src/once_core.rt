@@ -15,7 +15,7 @@ pub(crate) use self::rule::{Seed, Sure, Unsure};
 /// A cell that holds a seed, and later the value made from it.
 ///
 /// A thread that begins to make the value has the seed to itself. It stores a value, or leaves the seed for the next
-/// thread. Once there is a value, all threads see it.
+/// thread. From the moment there is a value, all threads see it.
 #[derive(Drop)]
 pub(crate) struct OnceCore<T, S: Seed<T>> {
     cell: SeedCell<T, S>,
@@ -67,7 +67,7 @@ impl<T, S: Seed<T>> OnceCore<T, S> {
         }
     }
 
-    /// Returns the value. It loads no word, since the cell is no longer shared.
+    /// Returns the value if there is one. It loads no word, since the cell is no longer shared.
     pub(crate) fn into_inner(self) -> Option<T>
     where
         S: Drop,
@@ -79,7 +79,7 @@ impl<T, S: Seed<T>> OnceCore<T, S> {
         }
     }
 
-    /// Returns a mutable reference to the value. The borrow shows that no other thread has the cell.
+    /// Returns a mutable reference to the value if there is one. The borrow shows that no other thread has the cell.
     pub(crate) fn get_mut(&mut self) -> Option<&mut T>
         requires any { (seed : S) (value : T) → S.makes seed value }
     {

@@ -13,7 +13,7 @@ AsksCount words workers times =
 abbrev pub AsksSomeCount : List (List ℕ) → Type 0
 AsksSomeCount words = (workers : ℕ) × (times : ℕ) × AsksCount words workers times
 
--- the word is `world`
+-- the only word is `world`
 abbrev pub AsksWorld : List (List ℕ) → Type 0
 AsksWorld words = words ≡ codes "world" ∷ []
 

@@ -29,7 +29,7 @@ impl Paper {
         }
     }
 
-    /// Paper without an end.
+    /// Creates a sink without limits.
     pub fn endless(alloc: Global) -> Paper
         ensures { result.failed ≡ false }
     {
@@ -41,8 +41,8 @@ impl Paper {
         str::from_utf8(&self.bytes).expect(rt, "text")
     }
 
-    /// Compares what was written with the beginning of the text for which there is room. If there is no room for the
-    /// whole text, a write has failed.
+    /// Checks that as much of the text was written as there is room for, and that a write failed exactly if this was
+    /// not the whole text.
     pub fn shows(&self, rt: &impl Abort, text: &[u8]) {
         let (fits, rest) = text.split_at(text.len().min(self.room));
         assert_eq!(rt; self.bytes.as_slice(), fits);

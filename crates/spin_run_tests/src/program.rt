@@ -135,7 +135,7 @@ impl<'a> Run<'a> {
     }
 }
 
-/// Counts, and their totals.
+/// Commands that ask for a count, each with the total.
 const COUNTS: &[(&[&str], &str)] = &[
     (&["count", "2", "100"], "200\n"),
     (&["count", "0", "5"], "0\n"),

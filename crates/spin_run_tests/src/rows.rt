@@ -19,7 +19,7 @@ struct Rows<'a, C, T, W, A = Answer<T>> {
     events: &'a [Event<W, T, A>],
 }
 
-/// Rows: each has a party, its move, the outcome, and the words after it.
+/// Rows: each has a party, its move, the outcome, and the words after the move.
 macro_rules! rows {
     ($($party:literal $action:expr => $outcome:expr, $words:expr;)*) => {
         Rows {

@@ -42,8 +42,8 @@ stops : (b : Bool) (u v : Use) → FitsUse b u v → u ≡ writes → v ≢ writ
 stops true u v fits is = fits.1
 stops false u v fits is = absurd (fits is)
 
--- After a step by which a party does not go on writing, a value that it sees is the one written last. So is a value
--- that it used before the step.
+-- For a step after which the party does not write, if it wrote before. A value that it sees after the step is the one
+-- written last. So is a value that it used before the step.
 module _ {T : Type 0} (opening : Opening T) (es : List (rws.Done T)) where
   abbrev IsLastNow : Option T → Type 0
   IsLastNow shown = IfSome shown (λ x. IsLast opening es x)
@@ -178,7 +178,7 @@ module _ {T : Type 0} {p q : Sight T} where
         );
       }
 
-  -- a step that begins a call, which then waits; steps of a call that waits
+  -- If a step begins a call and does not answer it, the call waits. A later step leaves it waiting, or answers it.
   pub comes_in : (c : RwCall) → Has (AreSteps false c (None ∷ [])) p q → Has (Begins c Waits) p q
   comes_in c = weaker (λ own outs are. (Step ∷ [], GoingOn ∷ [], are.0, are.1, (1, refl, refl)))
 

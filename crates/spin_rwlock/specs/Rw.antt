@@ -147,15 +147,16 @@ still call n = in_call (Some (Coming call n))
 abbrev pub either_at : {X : Type 0} → ℕ → X → X → ℕ → X
 either_at old won lost n = if n == old then won else lost
 
--- the next view after the exchange of a call that wants to read: `won` if the exchange found the word `old`
+-- the next view after the exchange of a call that wants to read: `won` if the exchange found the word `old`, otherwise
+-- `Coming` with the word found
 abbrev pub came : View → RwCall → ℕ → ℕ → View
 came won call old n = if n == old then won else Coming call n
 
 -- The steps. The number that a step finds decides its answers and the next view of its party.
 
 -- A step is one move of the model for each item of `answers`; an item is `None` while the call goes on. `goes_on` says
--- whether the call is under way before the step. If it is not, the step begins the call. With `writes` a writer stops
--- writing, and its first move writes the value that it leaves.
+-- whether the call is under way before the step. If it is not, the step begins the call. If `writes` is true, the step
+-- ends the exclusive access of a writer. Its first move then writes the value that the writer leaves.
 pub record Turn (T : Type 0) : Type 0 where
   pub writes : Bool
   pub goes_on : Bool
@@ -197,7 +198,8 @@ module _ {T : Type 0} where
   behind_write true Q P = WritesSome Q P
   behind_write false Q P = P
 
-  -- The course of a step. If a writer stops writing by it, the course begins with a write of a value that satisfies `Q`.
+  -- The course of a step. If the step ends the exclusive access of a writer, the course begins with a write of a value
+  -- that satisfies `Q`.
   abbrev pub course_of : (T → Type 0) → Turn T → OneCourse T
   course_of Q turn = behind_write turn.writes Q (steps_of turn)
 
@@ -261,7 +263,7 @@ module _ {T : Type 0} where
   missed call n = if still call n then None else Some Refused
 
   -- The answers of an exchange that admits the reader. With `true` the call is under way. With `false` the exchange is
-  -- the first step of the call. In the model the call looks before its exchange, so its party makes two steps.
+  -- the first step of the call. A call of the model begins with a look, so the party then makes two steps.
   abbrev pub admitted : Bool → List (Option (Answer T))
   admitted true = Some Granted ∷ []
   admitted false = None ∷ Some Granted ∷ []

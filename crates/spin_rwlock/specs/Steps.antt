@@ -19,7 +19,7 @@ use Rattle.spin_rwlock.specs.Rw.{OneCourse, Turn, IsRw, rw_ways, Told, use_of_vi
 abbrev pub Spot : Type 0 → Type 0
 Spot T = spots.Spot (Opening T) View (rws.Done T)
 
--- a party's spot, and the value that it sees
+-- a party's spot (its lock's opening, its view, what it knows of the trace), and the value that it sees
 abbrev pub Sight : Type 0 → Type 0
 Sight T = Spot T × Option T
 

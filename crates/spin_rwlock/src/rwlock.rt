@@ -29,9 +29,10 @@ pub use spin_core::laws::{a_guard_reads_the_last_value_written, two_guards_read_
 /// A reader-writer lock: many readers share the value, or one writer has it alone. A waiting thread spins.
 ///
 /// One reader at a time may be upgradable: it may become the writer without releasing the lock. The lock admits other
-/// readers until this reader's [`upgrade`](RwLockUpgradableGuard::upgrade) asks. From then on no new reader is
-/// admitted. Writers are not preferred: readers that keep acquiring the lock may keep a writer out. A waiting thread
-/// relaxes with strategy `R`. `V` is always `Party` and `P` is always `RwRule<T>`. Callers never name them.
+/// readers until this reader asks to become the writer ([`upgrade`](RwLockUpgradableGuard::upgrade)). Then no reader is
+/// admitted until the writer releases the lock or downgrades. Writers are not preferred: readers that keep acquiring
+/// the lock may keep a writer out. A waiting thread relaxes with strategy `R`. `V` is always `Party` and `P` is always
+/// `RwRule<T>`. Callers never name them.
 ///
 /// # Contract
 /// While the guard or the hold of a writer lives, no other guard gives access to the value. A guard gives a value of

@@ -7,9 +7,9 @@ use Rattle.atomic_table.specs.Table.{State, Step, Me}
 use Rattle.spin_seated.specs.declared.history.Entry.{Entry}
 use Rattle.spin_seated.specs.declared.history.Known.{Known}
 
--- The plain object. The arguments of `new` fix its first state and the number of passes. For a pass, a call and a state it says whether the
--- pass may make the call, the answer, and the next state. `holds` is what a pass holds in a state. `held_after` is what it holds after a
--- call of its own, by the call's answer and what it held before.
+-- The plain object. The arguments of `new` fix its first state and the number of passes. For a pass, a call and a state
+-- it says whether the pass may make the call, the answer, and the next state. `holds` is what a pass holds in a state.
+-- `held_after` is what it holds after a call of its own, by the call's answer and what it held before.
 pub record Machine (K S C A H : Type 0) : Type 0 where
   pub start : K → S
   pub passes : K → ℕ
@@ -93,8 +93,8 @@ module _ {K S C A H : Type 0} (m : Machine K S C A H) where
         → m.holds p (m.next p c (state k log)) ≡ m.held_after c (m.answer p c (state k log)) (m.holds p (state k log))
     pub steady : (p q : ℕ) (c : C) (s : S) → q ≢ p → m.holds p (m.next q c s) ≡ m.holds p s
 
-  -- The pass x made the call c and got the answer a; now it knows what y says. Its history is legal, extends the history of x, and ends
-  -- with this call and its answer. In between the pass made no other call.
+  -- The pass x made the call c and got the answer a; now it knows what y says. The history of y is legal, extends that
+  -- of x, and ends with this call and its answer. In between the pass made no other call.
   pub record Made (x : Known K C A) (c : C) (a : A) (y : Known K C A) : Type 0 where
     pub opening : y.opening ≡ x.opening
     pub pass : y.pass ≡ x.pass
@@ -103,8 +103,8 @@ module _ {K S C A H : Type 0} (m : Machine K S C A H) where
     pub own : calls_by x.pass y.seen ≡ calls_by x.pass x.seen ++ entry x.pass c a ∷ []
     pub legal : IsLegal x.opening y.seen
 
-  -- The pass x now knows the history `log`, as y says. This history is legal and begins with the history of x. In between the pass made no
-  -- call.
+  -- The pass x now knows the history `log`, as y says. This history is legal and begins with the history of x. In
+  -- between the pass made no call.
   pub record Met (x : Known K C A) (log : List (Entry C A)) (y : Known K C A) : Type 0 where
     pub opening : y.opening ≡ x.opening
     pub pass : y.pass ≡ x.pass
@@ -113,7 +113,8 @@ module _ {K S C A H : Type 0} (m : Machine K S C A H) where
     pub own : calls_by x.pass log ≡ calls_by x.pass x.seen
     pub legal : IsLegal x.opening log
 
-  -- What the pass knows agrees with the history of all calls: it is a beginning of that history, and has all calls of the pass.
+  -- What the pass knows agrees with the history of all calls: it is a beginning of that history, and has all calls of
+  -- the pass.
   pub record Fits (k : K) (log : List (Entry C A)) (x : Known K C A) : Type 0 where
     pub opening : x.opening ≡ k
     pub given : x.pass < m.passes k
@@ -124,8 +125,8 @@ module _ {K S C A H : Type 0} (m : Machine K S C A H) where
   AllFit k log [] = Unit {0}
   AllFit k log (x ∷ xs) = Fits k log x × AllFit k log xs
 
-  -- The rule of the table. There is one legal history, and the words are those of the state after it. What each seat knows agrees with this
-  -- history, and each pass is in at most one seat.
+  -- The rule of the table. There is one legal history, and the words are those of the state after it. What each seat
+  -- knows agrees with this history, and each pass is in at most one seat.
   pub record OneHistory {X : Type 0} (k : K) (table : State X (List (Known K C A))) : Type 0 where
     pub log : List (Entry C A)
     pub words : table.words ≡ m.words (state k log)
@@ -155,14 +156,16 @@ module _ {K S C A H : Type 0} (m : Machine K S C A H) where
   abbrev pub Shows : {X : Type 0} → Step X → Me X (List (Known K C A)) → ℕ → Me X (List (Known K C A)) → Type 0
   Shows step before found after = Two (λ x y. Two (λ u v. (log : List (Entry C A)) × Met x log u × Met y log v) after.0) before.0 × (after.1 ≡ before.1)
 
-  -- What a lock must show for a step that applies f to the word i in the state s. If the step is no call, the words stay the same. If it is
-  -- a call, the pass may make it, the words become those of the next state, and the answer is the machine's.
+  -- What a lock must show for a step that applies f to the word i in the state s. If the step is no call, the words
+  -- stay the same. If it is a call, the pass may make it, the words become those of the next state, and the answer is
+  -- the machine's.
   abbrev pub Owed : (p i : ℕ) → (ℕ → ℕ) → S → Option (C × A) → Type 0
   Owed p i f s None = slice_set (m.words s) i (f (slice_index (m.words s) i)) ≡ m.words s
   Owed p i f s (Some t) =
       (m.may p t.0 s ≡ true) × (slice_set (m.words s) i (f (slice_index (m.words s) i)) ≡ m.words (m.next p t.0 s)) × (t.1 ≡ m.answer p t.0 s)
 
-  -- the lock shows this after each legal history in which the pass holds what it knows to hold
+  -- The lock shows this (`Owed`) in the state after each legal history, if the pass then holds what it knows that it
+  -- holds.
   abbrev pub Owes : Known K C A → (i : ℕ) → (ℕ → ℕ) → (ℕ → Option (C × A)) → Type 0
   Owes x i f told =
       (log : List (Entry C A)) → IsLegal x.opening log → m.holds x.pass (state x.opening log) ≡ holds x → slice_index (m.words (state x.opening log)) i < 18446744073709551616

@@ -1,5 +1,5 @@
-//! Laws of the histories that passes know. Each law is the contract of a function that does nothing. A caller
-//! calls the function to learn what it states.
+//! Laws of the histories that passes of a `SeatedMutex` know; `rwlock::laws` has those of a `SeatedRwLock`. Each law
+//! is the contract of a function that does nothing. A caller calls the function to learn what it states.
 ghost use Rattle.std.specs.Prelude.{Bool, not, ◌≡◌, ℕ, ◌≤◌, ◌==◌, true, false, List, [], ◌∷◌, ◌++◌, Some, filter, if◌then◌else◌, length, slice_get};
 ghost use Rattle.spin_step.specs.Plain.{is_empty};
 ghost use Rattle.spin_seated.specs.declared.history.Entry.{Entry};

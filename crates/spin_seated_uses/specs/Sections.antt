@@ -1,5 +1,5 @@
--- A pass that adds. Each time it acquires the lock it reads the value, writes this value plus one, or writes nothing,
--- and releases the lock.
+-- A pass that adds. Each time it acquires the lock it reads the value. Then it writes this value plus one, or writes
+-- nothing. Then it releases the lock.
 use Rattle.std.specs.Prelude.{◌≡◌, ℕ, Bool, ◌+◌, ◌==◌, true, false, if◌then◌else◌, List, [], ◌∷◌, Option, Some, None, option_and_then}
 use Rattle.spin_seated.specs.declared.history.Entry.{Entry}
 use Rattle.spin_seated.specs.declared.mutex.Call.{Call}

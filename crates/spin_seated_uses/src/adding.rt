@@ -15,8 +15,8 @@ use std::thread::{Threads, join};
 /// Creates a lock for two callers, and their passes. Fails if an allocation fails.
 ///
 /// # Contract
-/// The lock opens with `value` and two passes. The result has its first pass and its second, which have made
-/// no call.
+/// The lock opens with `value` and two passes. The result has the lock, its first pass and its second. Neither
+/// pass has made a call.
 pub fn open_for_two(alloc: Global, value: u64) -> Result<(SeatedMutex, Pass, Pass), AllocError>
     ensures opening { IfOk result (λ r. opening_of r.0 ≡ record { value = value; passes = 2 }) }
     ensures passes { IfOk result (λ r. (r.1 ≡ pass_of r.0 0) × (r.2 ≡ pass_of r.0 1)) }
@@ -79,9 +79,8 @@ pub fn add_some(lock: &SeatedMutex, mut pass: Pass, turns: u64) -> (Pass, u64)
 
 /// Reads the lock's value after two passes have added.
 ///
-/// The passes meet before the first pass's next call, so this call comes after all calls of the second pass.
-/// Then they meet again, which shows that no other call was in between. Afterwards the first pass holds the
-/// lock.
+/// The passes meet first. Then the first pass acquires the lock and reads, after all calls of the second pass. Then
+/// the passes meet again, which shows that no other call was in between. Afterwards the first pass holds the lock.
 ///
 /// # Contract
 /// The lock has to have two passes: `a` is the first, and `b` the second. Each has to be outside its critical

@@ -42,7 +42,7 @@ pub fn open_for_three(
     Ok((lock, first, second, third))
 }
 
-/// Repeats its try until it holds the lock in this way.
+/// Tries to acquire the lock until the pass holds it as `hold` says.
 fn acquire<W: Wait>(rt: &W, lock: &SeatedRwLock, pass: &mut RwPass, hold: SeatedHold)
     requires own { IsPassOf lock.now pass.old }
     requires free { holds pass.old.known ≡ None }
@@ -149,7 +149,7 @@ fn look_in_two<R: Threads + Wait + Sync>(
     )
 }
 
-/// Compares what two readers read with what the third pass wrote, after all three have met.
+/// Lets three passes meet, and compares what two of them read with what the third one wrote.
 ///
 /// The readers meet first, and then one of them meets the writer. So the writer knows what both readers know.
 ///

@@ -5,7 +5,7 @@ use Rattle.spin_model.specs.declared.place.Hold.{Hold}
 use Rattle.spin_model.specs.Calls.{Asked, LockKind, usual}
 use Rattle.spin_model.specs.Asks.{counts_readers, gives_back, is_read, looks_and_tries, waits}
 
--- a party that takes a seat becomes a reader, and a party that leaves releases as a reader
+-- whether this is a plain step of the seats: a party takes a seat (becomes a reader), or frees it (releases as one)
 abbrev pub seats_plain_steps : Change → Bool
 seats_plain_steps (gets p to_read) = true
 seats_plain_steps (releases p reading) = true

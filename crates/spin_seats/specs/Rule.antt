@@ -114,7 +114,7 @@ met n false found = if nat_lt found (seats n) then GoingOn else Answered Refused
 abbrev pub looks_by : ℕ → Bool → Option View → Says
 looks_by n waits view = step_by (has_begun view) (call_of waits) (met n waits) (at_word n waits)
 
--- whether the call of this view is `enter`, which waits for a seat
+-- whether the call of this view is `enter`, which waits for a seat; in a view of no call this is `true`
 abbrev pub waits_in : Option View → Bool
 waits_in (Some (Coming waits word)) = waits
 waits_in _ = true

@@ -19,7 +19,7 @@ pub enum SeatsCall {
 /// The point of a call: its next step. Only a call that takes a seat has a second point.
 #[derive(Copy)]
 pub enum SeatsPoint {
-    /// The first step of any call, and of each further attempt.
+    /// The first step of any call, and the look of an `Enter` that has found no free seat.
     First,
     /// The exchange that expects this word, which the call has found.
     Exchange(usize),

@@ -24,11 +24,12 @@ Lets s p runs = is_nothing s.phase ≡ true
 pub lets : (s : Plain) (p : ℕ) (ask : Ask) → is_open_to s p ask ≡ true → Lets s p (effect ask)
 lets s p ask may = grind arith
 
--- if the lock has room for a newcomer, all holders admit it and the cap is not reached
+-- if the lock has room for another holder of this kind, all holders admit it and the cap is not reached
 pub room_to_come : (k : Kind) (s : Plain) → may_come k s ≡ true → (count_against k s.holders ≡ 0) × (length s.holders < s.cap)
 room_to_come k s may = grind arith
 
--- a lock with the same number of holders of each kind is exclusive too
+-- A lock with as many holders of each kind as an exclusive lock is exclusive too, if only its first ticket may have
+-- entered.
 pub exclusive-like : (s t : Plain) → ((f : Kind → ℕ) → sum_kinds f t.holders ≡ sum_kinds f s.holders) → first_alone_entered t.tickets ≡ true
     → IsExclusive s → IsExclusive t
 exclusive-like s t same e x =
@@ -50,7 +51,7 @@ exclusive-free s none empty =
       one_entered = ap first_alone_entered empty;
     }
 
--- a lock with one holder is exclusive
+-- an exclusive lock stays exclusive if one holder takes the place of its holders
 alone : (s : Plain) (hs : List Holder) → IsExclusive s → length hs ≡ 1 → IsExclusive (record s { holders = hs })
 alone s hs x one = record { writer = λ some. one; one_upgradable = omega (arith, by_kinds upgrader hs, all_kinds hs, one); one_entered = x.one_entered }
 

@@ -9,7 +9,7 @@ use Rattle.spin_step.specs.Tickets.{numbered_from, Numbered, gone}
 abbrev own : ℕ → List Ticket → List Ticket
 own p ts = filter (λ t. t.party == p) ts
 
--- if numbers begin with k, a party's only ticket has a number of at least k
+-- if the tickets' numbers begin with k, a party's only ticket has a number of at least k
 within : (p n k : ℕ) (ts : List Ticket) → numbered_from k ts → own p ts ≡ ticket p n false ∷ [] → k ≤ n
 within p n k [] numbers e = absurd (cc (e))
 within p n k (t ∷ ts) numbers e = grind (arith, within p n (suc k) ts)

@@ -25,6 +25,6 @@ filled_by s k = ((k - 1) / max s.group 1 + 1) * max s.group 1
 abbrev pub generation_at : Plain → ℕ → ℕ
 generation_at s k = (k / max s.group 1) % 2 ^ 64
 
--- the group of the k-th arrival is full, as far as a generation modulo 2^64 can tell
+-- Suppose that the k-th arrival does not lead. Its group is full, as far as a generation modulo 2^64 can tell.
 abbrev pub may_leave : Plain → ℕ → Bool
 may_leave s k = not (((s.arrivals / max s.group 1 - k / max s.group 1) % 2 ^ 64) == 0)

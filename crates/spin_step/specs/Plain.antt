@@ -25,7 +25,7 @@ pub data Phase : Type 0 where
   running : ℕ → Phase
   complete : Phase
 
--- The lock itself. In a fair lock the cap limits how many starve; in the others it limits how many hold.
+-- The lock itself. The cap limits how many starve in a fair lock, and how many hold in a lock that several may hold.
 pub record Plain : Type 0 where
   pub cap : ℕ  -- the most holders, or the most starvers, at a time
   pub group : ℕ  -- how many arrivals make a group at a barrier
@@ -125,18 +125,18 @@ may_upgrade _ = false
 abbrev pub upgraders : List Holder → ℕ
 upgraders hs = count_by (λ h. may_upgrade h.kind) hs
 
--- a holder of the first kind lets a newcomer of the second kind hold too
+-- a holder of the first kind lets another party come to hold with the second kind
 abbrev pub admits : Kind → Kind → Bool
 admits reading reading = true
 admits reading upgradable = true
 admits upgradable reading = true
 admits _ _ = false
 
--- how many holders do not let a newcomer of this kind hold
+-- how many holders do not let another party come to hold with this kind
 abbrev pub count_against : Kind → List Holder → ℕ
 count_against k hs = count_by (λ h. not (admits h.kind k)) hs
 
--- every holder lets a newcomer of this kind hold, and fewer hold than the cap
+-- every holder lets another party come to hold with this kind, and fewer hold than the cap allows
 abbrev pub may_come : Kind → Plain → Bool
 may_come k s = (count_against k s.holders == 0) && nat_lt (length s.holders) s.cap
 
@@ -218,7 +218,7 @@ without_first (t ∷ ts) = ts
 pub data Effect : Type 0 where
   comes : Kind → Effect  -- it becomes a holder of this kind
   becomes : Kind → Kind → Effect  -- its hold changes from the first kind to the second
-  queues : Bool → Effect  -- it takes the next ticket, and enters with it if this is true
+  queues : Bool → Effect  -- it takes the next ticket; if the Bool is true, it also enters with this ticket
   enters : Effect
   starves : Effect
   runs : Effect  -- its closure runs

@@ -36,5 +36,5 @@ fair_unlock-gives s p k w is = λ found. omega (arith, length-without_holder p k
 pub fair_is_locked-tells : (s : Plain) (w : ℕ) → OneHolds s → s.tickets ≡ [] → fair_word s ≡ w → is_held s ≡ is_set w
 fair_is_locked-tells s w one queue is = grind arith
 
--- the rules that the contracts of functions use that never fail
+-- the rules for the contracts of functions that never fail
 pub ruleset gives = (fair_unstarve-gives, fair_unlock-gives)

@@ -35,7 +35,7 @@ rw_release-gives s p k word is = λ found. omega (arith, sum-less weight p k s.h
 pub rw_turn-gives : (s : Plain) (p : ℕ) (j k : Kind) (word : ℕ) → weight j ≤ weight k → rw_word s ≡ word → Gives s (turns p j k) rw_word (turned j k word)
 rw_turn-gives s p j k word more is = λ may. grind (arith, word-turned p j k s.holders)
 
--- The rules that the contracts of `rw` use: of functions that may fail, of those that never do, and of the counts.
+-- The rules for the contracts of `rw`: for functions that may fail, for those that never fail, and for the counts.
 
 pub ruleset grants = (read-word, upgradable_read-word, only_upgradable-word, only_asking-word, word-more, word-turned)
 

@@ -12,7 +12,7 @@ word_of hs = sum_kinds weight hs
 pub one_of_each : (s : Plain) → IsExclusive s → OneOfEach s
 one_of_each s alone = grind (arith, alone.writer, all_kinds s.holders)
 
--- a lock's word, by how many holders of each kind there are
+-- a lock's word, as the sum of the weights of its holders of each kind
 record Counts (s : Plain) (w : ℕ) : Type 0 where
   all : length s.holders ≡ over_kinds (λ k. count_kind k s.holders)
   word : w ≡ over_kinds (λ k. weight k * count_kind k s.holders)

@@ -1,4 +1,4 @@
--- While a reader asks to upgrade, readers only release; it is alone when all have released.
+-- While a reader asks to upgrade, the other readers only release. The reader is alone when all others have released.
 use Rattle.std.proofs.Common.{◌≡◌, ℕ, ◌+◌, ◌↔◌, true, false, cond, List, [], ◌∷◌, Some, refl, arith}
 use Rattle.std.proofs.lemmas.List.Sums.{sum_by-cons}
 use Rattle.spin_step.specs.Plain.{Plain, Kind, reading, upgradable, asking, writing, Effect, comes, becomes, effect, given, Change, gets, releases, turns, to_write, to_upgrade_asked, apply, is_open, is_open_to, is_holder, is_only, count_kind, with_kind}
@@ -36,7 +36,7 @@ readers_only_go s p (turns q upgradable k) alone found may stays =
 readers_only_go s p (turns q j k) alone found may stays = grind arith
 readers_only_go s p _ alone found may stays = omega arith
 
--- the asking reader is alone exactly when no reader is left
+-- the asking reader is alone exactly when no other reader is left
 pub alone_when_gone : (s : Plain) (p : ℕ) → IsExclusive s → is_holder p asking s.holders ≡ true → (is_only p asking s.holders ≡ true) ↔ (count_kind reading s.holders ≡ 0)
 alone_when_gone s p alone found =
     let lone = only-length p asking s.holders found in let beside = beside_asking s p alone found in

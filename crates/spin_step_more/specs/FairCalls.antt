@@ -33,7 +33,7 @@ starts_at _ = First
 abbrev pub granted : {V : Type 0} → Next FairPoint (Answer V)
 granted = Answers Granted (Some Write)
 
--- the answer of a try that fails at this word, with the reason
+-- the answer of a try that fails because it found this word: the reason
 abbrev pub rejects : {V : Type 0} → Option Hold → ℕ → Next FairPoint (Answer V)
 rejects h w = Answers (either (w == holder_weight) Locked Starved) h
 

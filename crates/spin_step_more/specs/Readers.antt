@@ -26,12 +26,12 @@ tells upgradable word = (word % weight reading) == weight upgradable
 tells asking word = (word % weight reading) == weight asking
 tells writing word = word == weight writing
 
--- every holder lets a newcomer of this kind hold too
+-- for the kinds `reading` and `upgradable`: every holder lets another party come to hold with this kind
 abbrev pub lets_in : Kind → ℕ → Bool
 lets_in reading word = (word % weight reading == 0) || (word % weight reading == weight upgradable)
 lets_in _ word = word % weight reading == 0
 
--- every holder lets a newcomer of this kind hold too, and fewer read than the cap
+-- `lets_in` holds of this kind, and fewer parties read than the cap allows
 abbrev pub has_room : Kind → ℕ → ℕ → Bool
 has_room k word cap = lets_in k word && nat_lt (readers_in word) (min cap reader_limit)
 

@@ -10,7 +10,7 @@ pub fn a_downgrade_lets_no_writer_in()
     ensures { (s : Plain) (p q : ℕ) (k l : Kind) → is_open s (turns p k l) ≡ true → (is_open_to s q to_write ≡ false) × (is_open_to (apply s (turns p k l)) q to_write ≡ false) }
 {}
 
-/// States that while a reader asks to upgrade no further reader acquires the lock. Each release by a reader
+/// States that no further reader acquires the lock while a reader asks to upgrade. Each release by a reader
 /// reduces the number of readers by one.
 #[tactic(auto, using(crate::proofs::Upgrading::readers_go))]
 pub fn beside_an_asking_reader_readers_only_go()

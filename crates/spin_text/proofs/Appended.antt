@@ -49,7 +49,7 @@ but_none a b text all = (text, all, sym (append-nil text))
 pub but_line : (a b : Option (List ℕ)) (text piece line : List ℕ) → AppendsBut a b text piece → AppendsBut a b (text ++ line) (piece ++ line)
 but_line a b text piece line so_far = (so_far.0, so_far.1, ap (λ t. t ++ line) so_far.2 ∙ append_assoc so_far.0 piece line)
 
--- What follows for the text when the piece that is left is written: all but a rest of it, all of it, or its beginning.
+-- What follows for the text when the piece is written: up to a rest that is left, as a whole, or only its first bytes.
 module _ (a b c : Option (List ℕ)) (text piece : List ℕ) (so_far : AppendsBut a b text piece) where
   pub but_then : (rest : List ℕ) → AppendsBut b c piece rest → AppendsBut a c text rest
   but_then rest next = (

@@ -67,7 +67,8 @@ no_number_first line word more is none =
     none n fits (subst (λ w. IsNumber w n) (sym prints) (is_number n fits))) in
     ap number_at is ∙ sym (ap (λ r. r >>= λ n. Some (n, more)) unread)
 
--- Digits spell a number if there is at least one, and the first is 0 only if it is the only one.
+-- If the first word consists of one or more digits, has a value below 2^64, and begins with 0 only if it is `0`, then
+-- the line begins with this value as a number.
 pub number_first : (line word : List ℕ) (more : List (List ℕ)) (n : ℕ) → words_of line ≡ word ∷ more
     → n < 2 ^ 64 → AllDigits 10 word → digits_value 10 word ≡ n → 0 < length word → (slice_index word 0 ≡ 48 → length word ≡ 1)
     → number_at (words_of line) ≡ Some (n, more)

@@ -28,7 +28,7 @@ last_takes None x is = absurd (cc)
 last_takes (Some (y, [])) x is = ap (λ z. Some (z, [])) (some_is is)
 last_takes (Some (y, w ∷ ws)) x is = absurd (cc)
 
--- A weaker property of a result.
+-- If P implies Q, a result with the property P has the property Q.
 
 pub on_ok : {X E : Type 0} (r : Result X E) (P Q : Type 0) → (P → Q) → OnOk r P → OnOk r Q
 on_ok (Ok x) P Q then p = then p

@@ -181,7 +181,7 @@ pub whole_text : {W L : Type 0} → (bytes : List ℕ) (h : Header) (rest : List
 whole_text bytes h rest m parties text fits is same plays =
     (record { header = h; entries = plays.0 }, record { fits = (fits, plays.1); words = is ∙ ap (λ r. header_words h ∷ r) plays.2 }, plays.3 ∙ same plays.0)
 
--- A weaker property of the error of a call that writes
+-- If B implies C and P implies Q, an error of a call that writes may be described by C and Q in place of B and P.
 
 stops_so : (B C : RunError → Type 0) (U P Q : Type 0) → ((e : RunError) → B e → C e) → (P → Q) → (e : RunError) → StopsWriting B U P e → StopsWriting C U Q e
 stops_so B C U P Q before at_write errors.Read stops = (before errors.Read stops.0, stops.1)

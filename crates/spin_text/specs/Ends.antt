@@ -1,4 +1,4 @@
--- What a write has appended to a sink, also if it failed, and what is left to write.
+-- What writes have appended to a sink, even if one of them failed, and what is left to write.
 use Rattle.std.specs.Prelude.{◌≡◌, ℕ, ◌≤◌, List, ◌++◌, length, take, Option}
 use Rattle.std.specs.Io.KnownBytes.{Appends}
 
@@ -14,6 +14,6 @@ AppendsBut old new text piece = (front : List ℕ) × Appends old new front × (
 abbrev pub AppendsSome : (List ℕ → Type 0) → Option (List ℕ) → Option (List ℕ) → Type 0
 AppendsSome IsText old new = (text : List ℕ) × IsText text × Appends old new text
 
--- some first bytes of such a text were appended to the known bytes
+-- some first bytes of a text that satisfies `IsText` were appended to the known bytes
 abbrev pub AppendsSomeBeginning : (List ℕ → Type 0) → Option (List ℕ) → Option (List ℕ) → Type 0
 AppendsSomeBeginning IsText old new = (text : List ℕ) × IsText text × AppendsBeginning old new text

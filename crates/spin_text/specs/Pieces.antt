@@ -9,7 +9,7 @@ pub record PutBefore (text before : List ℕ) (end : ℕ) (now : List ℕ) (star
   pub begins : start + length text ≡ end
   pub stands : drop start now ≡ text ++ drop end before
 
--- the line at which the call began, if there is one, is a number of 64 bits
+-- if the call began on a line of this transcript, the number of that line fits into 64 bits
 abbrev pub HasLine : Option ℕ → Type 0
 HasLine None = Unit {0}
 HasLine (Some began) = began + 1 < 2 ^ 64

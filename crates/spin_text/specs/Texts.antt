@@ -81,9 +81,9 @@ abbrev pub Plays : Streams → Type 0
 Plays t =
     (bytes : List ℕ) × (text : List ℕ) × ReadsAll t.left t.left_after bytes × PlaysBytes bytes text × Appends t.written t.written_after text
 
--- Why a call stopped with an error. A failed read is always reported as `Read`, whatever else is wrong. A bad line is reported before
--- anything is written. A failed write is reported only if all lines are good. Then some first bytes of the text were written; otherwise
--- nothing was.
+-- Why a call stopped with an error. A failed read is always reported as `Read`, whatever else is wrong. A bad line is
+-- reported before anything is written. A failed write is reported only if all lines are good. After `Write` some first
+-- bytes of the text were written; after any other error nothing was.
 abbrev pub Stops : Streams → Type 0 → RunError → Type 0
 Stops t Unwritten errors.Read = (t.source_failed ≡ true) × Unwritten
 Stops t Unwritten errors.Memory = (t.source_failed ≡ false) × Unwritten
@@ -104,7 +104,7 @@ StopsPlaying bytes (errors.BadLine n) = IsFirstBad (words_by_line bytes) n
 StopsPlaying bytes errors.Memory = Unit {0}
 StopsPlaying bytes _ = ⊥
 
--- the error of a call that writes: it stopped before its first write, or at a failed write
+-- the error of a call that writes: the call stopped before its first write, or at a failed write
 abbrev pub StopsWriting : (RunError → Type 0) → Type 0 → Type 0 → RunError → Type 0
 StopsWriting Before Unwritten AtWrite errors.Read = Before errors.Read × Unwritten
 StopsWriting Before Unwritten AtWrite errors.Memory = Before errors.Memory × Unwritten

@@ -80,6 +80,6 @@ transcript_from m first schedule =
     let last = after m first schedule in
     schedule_lines m first schedule ++ end_line (m.numbers last.words) last.value
 
--- the same for a new world with this many parties
+-- the whole transcript (`transcript_from`) of a new world with this many parties
 abbrev pub transcript_text : {W C L : Type 0} → Machine W ℕ C L (Answer ℕ) → ℕ → List (ℕ × Move C ℕ) → List ℕ
 transcript_text m parties schedule = transcript_from m (at_first m parties) schedule

@@ -1,8 +1,8 @@
 //! Reads a schedule as text, plays it in a world, and writes the transcript as text.
 //!
-//! Begin with [`world_text`], which says how a text is written. Its first line has the object and the number of
-//! parties, and each further line has a move. To read or write other streams than those of `std`, implement [`Source`]
-//! and [`Sink`].
+//! Begin with [`world_text`], which says how a text is written. The first line of a text has the object and the number
+//! of parties, and each further line has a move. To read or write other streams than those of `std`, implement
+//! [`Source`] and [`Sink`].
 #![tactic(auto)]
 
 mod ends;

@@ -72,8 +72,8 @@ fn put_answer(answer: Answer<u64>, buffer: &mut [u8], end: usize) -> usize
     }
 }
 
-/// Writes the number of the line at which a call began. It is one more than the place, which is counted
-/// from 0.
+/// Writes ` from ` and the number of the line at which a call began, or nothing if the call began in an earlier run.
+/// The place `began` is counted from 0, so the line's number is one more.
 fn put_from(began: Option<usize>, buffer: &mut [u8], end: usize) -> usize
     requires line { HasLine began }
     requires room { 26 ≤ end }

@@ -98,8 +98,8 @@ fn with_digit(number: u64, digit: u8) -> Option<u64>
     number.checked_mul(10)?.checked_add((digit - b'0') as u64)
 }
 
-/// Returns the number that a line begins with, its digits, and the words after it. Returns `None` if the line
-/// does not begin with a number.
+/// Returns the value of a line's first word, this word, and the words after it. The word has only digits. It may be
+/// empty or have leading zeros. Returns `None` if the first word has another byte, or its value exceeds `u64::MAX`.
 fn digits(line: &[u8]) -> Option<(u64, &[u8], Rest<'_>)>
     ensures fits { IfSome result (λ x. x.0 < 2 ^ 64) }
     ensures digits { IfSome result (λ x. AllDigits 10 x.1.now) }

@@ -1,5 +1,5 @@
--- A call of a pass of a `Once`, unless its closure fails, is a call of its object. The object's schedule has the same
--- moves of the pass, with the same outcomes.
+-- A call that a pass of a `Once` makes is a call of the object `Once`, unless the call's closure fails. The object's
+-- schedule has the same moves of the pass, with the same outcomes.
 use Rattle.std.proofs.Common.{◌≡◌, ℕ, zero, suc, ◌+◌, ◌==◌, if◌then◌else◌, Bool, true, false, Option, Some, None, List, [], ◌∷◌, ◌++◌, replicate, slice_get, refl, sym, ap, ◌∙◌, subst, eqb-true, is_some, arith}
 use Rattle.std.specs.Option.{option_map}
 use Rattle.std.specs.List.{list_all}
@@ -199,7 +199,7 @@ module _ (given : Option (Unit {0})) where
       one_more q Weak has head tail plain later = ap (λ o. outcomes_by (t given) p o (foretold es)) (weak_alike given s q es (slice_get s.seats q) refl head) ∙ later ∙ by_weak q (q == p) plain
       one_more q move has head tail plain later = other q move has head tail (λ e. absurd (cc e)) plain later
 
-  -- after a schedule without skipped moves, the word tells whether there is a value
+  -- the world of n parties before any move
   abbrev From : ℕ → World
   From n = at_first (m given) n
 
@@ -219,6 +219,7 @@ module _ (given : Option (Unit {0})) where
       let word : (after (t given) (at_first (t given) n) past).words ≡ once_word plain = cc (numbers_are (once_facts given) n past) in
       lies (after (t given) (at_first (t given) n) past).value (sym (a_value_stays given n past []).complete ∙ complete_by plain (sym word ∙ is))
 
+  -- after a schedule without skipped moves, if the word says that there is a value, there is one
   has_it : (n : ℕ) (es : List Made) → list_all is_played (outcomes (m given) (From n) es) ≡ true → HasIt (after (m given) (From n) es)
   has_it n es played is =
       let there = as_object n es played in

@@ -151,8 +151,8 @@ pub fn a_refused_try_write_was_kept_out_at_a_moment<T>()
     ensures { (opening : T) → Found (rwlock.model opening) RwLockView rw.TryWrite Refused (Was is_held true) }
 {}
 
-/// If a pass that reads an `RwLock` tried once to upgrade and failed, then at a moment of the call another party held
-/// the lock.
+/// If a pass with upgradable access to an `RwLock` tried once to upgrade and failed, then at a moment of the call
+/// another party held the lock.
 ///
 /// # Contract
 /// `Found`: at a moment of the call the plain lock had more than one holder.

@@ -68,9 +68,9 @@ pub fn between_any_two_steps_of_a_rwlock<T>()
     ensures { (opening : Opening T) (word : ℕ) (trace : Trace (rwlock.Done T) (Unit {0})) (parties : List (Numbered RwLockView)) → rwlock.IsRw opening word trace parties → Between (rwlock.model opening.value) rwlock.seat_of rwlock.words_of trace.entries (word, trace.word) parties }
 {}
 
-/// Between any two steps of the threads that use a `Once` or a `LazyLock`, the word tells the phase: 0 without a value,
-/// 1 while a closure runs, 2 with a value. At most one closure runs, and none once there is a value. Each party is
-/// in the plain lock what its view says.
+/// Between any two steps of the threads that use a `Once` or a `LazyLock`, the word tells the phase: 1 while a closure
+/// runs, 2 with a value, else 0. At most one closure runs, and none once there is a value. Each party is in the plain
+/// lock what its view says.
 ///
 /// # Contract
 /// `Between` says this of the word and the parties of the cell. The moves in the cell's trace make a schedule of the

@@ -47,8 +47,8 @@ pub fn a_call_of_a_fair_mutex_keeps_its_limit<T>()
     ensures { (opening : T) → KeepsLimits (fair_mutex.model opening) FairMutexView }
 {}
 
-/// Of a pass of an `RwLock`, a try to read takes at most two steps, and one more for each change of the word by others
-/// meanwhile. Any other try, a count, a downgrade and a release take one step.
+/// Of a pass of an `RwLock`, a try to read, also upgradably, takes at most two steps, and one more for each change of
+/// the word by others meanwhile. A try to write or to upgrade, a count, a downgrade and a release take one step.
 ///
 /// # Contract
 /// `KeepsLimits` says that each call of a pass keeps its limit.

@@ -217,7 +217,7 @@ module _ {T : Type 0} (key : Key T) where
       (rw is (allows_second queue (Some (LoadedNext next)) (λ k. k) (Comes (freed next)) (λ s p room order has.
       (freed next (serving_word s), frees_if next s p (is_free next (serving_word s)) refl, refl)))))
 
-  -- the exchange of `try_lock`: if it succeeds, the next number is the served one, so nobody is in the queue
+  -- the exchange of `try_lock`: if it succeeds, the next number was the served one, so nobody was in the queue
   pub attempts : (view : Option (Numbered View)) (shown : Option T) (next after : ℕ) → what view ≡ Some (Trying next) → Some after ≡ take next
       → Keeps view shown (λ n. either (n == next) after n) (step_by true TryLock (answers_attempt next) (attempted next))
   attempts view shown next after is exact =

@@ -28,8 +28,8 @@ stands_with t (Waiting n) = n == t
 stands_with t (Entered n) = n == t
 stands_with t _ = false
 
--- Each number from the served one up to the last one taken is the ticket of one party. Only a party with the served number
--- has entered.
+-- Each number from the served one up to the last one taken is the ticket of one party. No party but the one with the
+-- served number has entered.
 pub record IsInTurn (next serving : ℕ) (vs : List View) : Type 0 where
   pub in_order : serving ≤ next
   pub within_limit : next ≤ ticket_limit

@@ -21,7 +21,7 @@ pub fn the_words_of_a_ticket_mutex_are_its_queue<T>()
 ///
 /// # Contract
 /// If the rule holds (`IsQueue`), each number from the served one up to the last one taken is the ticket of one party.
-/// Only the party with the served number has entered (`IsInTurn`).
+/// No party but the one with the served number has entered (`IsInTurn`).
 pub fn the_parties_of_a_ticket_mutex_enter_in_turn<T>()
     ensures { (key : Key T) (next : ℕ) (trace : Trace (Made T) ℕ) (parties : List (Numbered View)) → IsQueue key next trace parties → IsInTurn next trace.word (views parties) }
 {}

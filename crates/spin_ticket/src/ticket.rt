@@ -33,7 +33,7 @@ pub use spin_core::laws::{a_guard_reads_the_last_value_written, two_guards_read_
 /// # Contract
 /// While a guard or a hold of the lock lives, no other call acquires it. Threads enter in the order of their tickets
 /// (`the_parties_of_a_ticket_mutex_enter_in_turn`). A guard gives a value of `T`, with all that the invariant of `T`
-/// says. Nothing else is promised of what other threads wrote.
+/// says. Without a [`pass`](Self::pass) nothing else is promised of what other threads wrote.
 ///
 /// # Examples
 /// ```
@@ -64,8 +64,8 @@ pub type TicketMutexGuard<'a, T, R = Spin> = Guard<'a, T, Party, TicketRule, R>;
 /// `held_value` is the value that the guard had.
 pub type Held<'a, T, R = Spin> = guard::Held<'a, T, Party, TicketRule, R>;
 
-// The hints that a waiting thread gives in a pause, for each ticket before its own. The thread that is next gives one
-// hint.
+// The hints that a waiting thread gives in a pause, for each ticket before its own, up to a limit. The thread that is
+// next gives one hint.
 const HINTS_EACH: u64 = 8;
 
 impl<T, R> TicketMutex<T, R> {
@@ -185,7 +185,7 @@ impl<T, R> TicketMutex<T, R> {
     }
 }
 
-/// Tries once to acquire the lock, and holds it while it writes the value. If the try fails it writes `<locked>`.
+/// Tries once to acquire the lock, and holds it while it prints the value. If the try fails it prints `<locked>`.
 impl<T: Debug, R> Debug for TicketMutex<T, R> {
     fn fmt<W: fmt::Write>(&self, f: &mut Formatter<W>) -> fmt::Result
         ensures { (found : Option T) × DisplaysOnOk W.write_str_gives f.old result (lock_text T.debug_output found) f.new }

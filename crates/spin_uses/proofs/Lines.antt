@@ -38,7 +38,7 @@ last_of_more : {V : Type 0} (value_of : Setting → Option V) (d : V) (ss : List
 last_of_more value_of d [] s = refl
 last_of_more value_of d (u ∷ ss) s = last_of_more value_of (unwrap_or (value_of u) d) ss s
 
--- the settings `new` after one more line, which sets s
+-- `new` are the settings `old` after one more line, which sets s
 abbrev IsWith : Setting → Settings → Settings → Type 0
 IsWith s old new = (new.port ≡ unwrap_or (port_of s) old.port) × (new.workers ≡ unwrap_or (workers_of s) old.workers) × (new.verbose ≡ unwrap_or (verbose_of s) old.verbose)
 
@@ -55,7 +55,7 @@ with_line ls line s old new are sets is =
       ),
     )
 
--- The lines read so far made these settings, and the iterator has the others.
+-- The lines read so far made these settings, and the iterator has the remaining lines.
 pub record Midway (ls : List (List ℕ)) (it : Enumerate Lines) (settings : Settings) : Type 0 where
   pub read : List (List ℕ)
   pub left : List (List ℕ)

@@ -30,7 +30,7 @@ pub trait Answers {
     ghost respects_clone: { (k : Self.Key) (v w : Self.Value) → Self.Value.is_clone v w → IsTrue (may k v) → IsTrue (may k w) };
 }
 
-/// A cache of answers by key. Each answer is made once and kept.
+/// A cache of answers by key. Once a key has an answer, this answer is kept.
 ///
 /// A call looks for the answer as a reader, beside other readers. If there is none, the one upgradable reader
 /// makes it, while other readers may read the existing answers. It becomes the writer only to add the new
@@ -64,8 +64,8 @@ impl<C: Answers, A: Allocator + Clone, R: RelaxStrategy> Cache<C, A, R> {
     ///
     /// # Contract
     /// `make` has to be callable with `key`, and each answer that it may return has to be right for this key
-    /// (`may`). The call returns a right answer for this key, whichever thread made it. Whether and when the
-    /// call returns is not promised.
+    /// (`may`). On `Ok` the answer is right for this key, whichever thread made it. Whether and when the call
+    /// returns is not promised.
     pub fn answer<W: Wait, E: From<AllocError>, F: FnOnce(&C::Key) -> Result<C::Value, E>>(
         &self,
         rt: &W,

@@ -112,7 +112,7 @@ impl<P: Plan> Results<P> {
 struct Team<'a, P: Plan, G, R> {
     rt: &'a R,
     gate: &'a G,
-    // Locked while workers are started. Workers begin only if they then find `true`: all of them were started.
+    // Locked while workers are started. Afterwards a worker begins only if it finds `true`: all workers were started.
     begins: Mutex<bool, Yield>,
     barrier: Barrier<Yield>,
     results: Mutex<Results<P>, Yield>,

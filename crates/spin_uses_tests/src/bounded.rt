@@ -12,7 +12,7 @@ fn count<W: Wait>(rt: &W, counter: &Mutex<u64, Yield>) {
     *guard = guard.wrapping_add(1);
 }
 
-/// Counts one more, up to `most`. Under a guard a caller knows the value: `value_of` is the value before and after.
+/// Counts one more, up to `most`. Under a guard a caller knows the value: `value_of` of the guard, before and after.
 pub fn count_up_to(guard: &mut MutexGuard<'_, u64, Yield>, most: u64)
     ensures { value_of guard.old ≤ most → value_of guard.new ≤ most }
 {

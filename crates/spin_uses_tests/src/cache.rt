@@ -86,7 +86,7 @@ fn threads_make_each_answer_once(rt: HostRuntime) {
     equal(&rt, both.made.load(SeqCst), KEYS);
 }
 
-// A writer would wait for ever for a reader that never leaves.
+// If a caller asked for exclusive access, it would wait for ever for the reader, which never leaves.
 #[test]
 fn an_answer_that_is_there_takes_no_write(rt: HostRuntime) {
     let cache: SquareCache = Cache::new(rt.alloc());
@@ -147,7 +147,7 @@ impl Crew for AskedMeanwhile<'_> {
             }
             Yield::relax(rt);
         }
-        // The other thread is still waiting for this thread.
+        // The first thread waits for the maker of an answer, which waits for this thread. So the test fails here.
         equal(rt, self.done.load(SeqCst), 1);
         false
     }

@@ -125,7 +125,8 @@ fn threads_trade_and_leave_the_total(rt: HostRuntime) {
     trades_in_two::<Brand, _>(&rt, rt.alloc(), &opening, balances);
 }
 
-/// Makes transfers until no memory is left for another transfer. Returns whether memory sufficed for all of them.
+/// Makes a transfer, and replays the journal, with this many bytes of memory left. Returns whether memory sufficed for
+/// both.
 fn is_refused_whole<'a, O: Opening, R: Abort>(
     rt: &R,
     arena: &'a Bump,

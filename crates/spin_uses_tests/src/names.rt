@@ -56,8 +56,8 @@ fn values_that_are_made_once(rt: HostRuntime) {
     equal(&rt, (completed, values), (true, [6, 7, 8]));
 }
 
-// The size in bytes of each lock of a `u64`: one word and the value, or two words for tickets. A `Once` and a
-// `LazyLock` have a word and a stage, which says whether they have the seed or the value. A guard is a pointer.
+// The size in bytes of each lock of a `u64`: one word and the value, or with tickets two words and the value. A `Once`
+// and a `LazyLock` have a word and a stage, which says whether they have the seed or the value. A guard is a pointer.
 #[test]
 fn a_lock_has_the_words_that_it_needs(rt: HostRuntime) {
     for (bytes, wanted) in [

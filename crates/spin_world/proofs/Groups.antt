@@ -28,7 +28,8 @@ module _ (n : ℕ) where
       let here = kept f seen e.0 e.1 good in
       omega (arith, one_more seen.plain (scene m seen e.0 e.1).change here.keeps.belongs, counted (scene m seen e.0 e.1).after es here.good)
 
-  -- for any seat o of the party; `last` is the place of the next arrival in its group, or 0 if it fills the group
+  -- The party has any seat o. `last` is the place that the next arrival gets in its group, or 0 if this arrival fills
+  -- the group.
   leads_at : (s : State BarrierWords ℕ BarrierCall BarrierPoint) (p last : ℕ) (o : Option (Seat BarrierCall BarrierPoint)) → leads n s.words ≡ (last == 0)
       → ((moves_at m s p Step o).outcome ≡ Answered Leader None) ↔ ((passes is_arrival (step_at m s p Step o) ≡ true) × (last ≡ 0))
   leads_at s p last o leading = grind arith

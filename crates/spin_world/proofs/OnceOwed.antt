@@ -26,7 +26,7 @@ RunsAt TryBegin p s span = has_just_looked p span ≡ true
 RunsAt Run p s span = s.phase ≡ running p
 RunsAt l p s span = Unit {0}
 
--- nobody ever holds or queues
+-- nobody holds or queues
 abbrev pub IsFree : Plain → Type 0
 IsFree s = (s.holders ≡ []) × (s.tickets ≡ [])
 

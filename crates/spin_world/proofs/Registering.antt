@@ -28,19 +28,20 @@ module _ {Few Fewer : List Mark → Type 0} {p n : ℕ} {now : Mark} {span : Lis
 abbrev pub MayBeBlind : ℕ → ℕ → List Mark → Type 0
 MayBeBlind n p span = may_be_blind p n span ≡ true
 
--- nothing may follow a late look until the party has tried to register
+-- as the `IsFew` of `RegistersInTime`: after each late look the party has tried to register
 abbrev pub none_left : List Mark → Type 0
 none_left recent = ⊥
 
--- how many steps `lock` has made since the late look: when it loads the word, and when it is about to exchange the word w
+-- How many steps `lock` may have made since the late look. `few_to_load`: it is about to load the word.
+-- `few_to_register`: it is about to exchange the word w.
 abbrev pub few_to_load : ℕ → List Mark → Type 0
 few_to_load p recent = own_count p recent ≤ changes fair p recent
 
 abbrev pub few_to_register : ℕ → Plain → ℕ → List Mark → Type 0
 few_to_register p s w recent = own_count p recent + bit (not (first_word fair s == w)) ≤ 1 + changes fair p recent
 
--- `lock` has not begun to register. Its looks have found the lock held k times; once k is its patience, it counts no
--- further.
+-- `lock` is not about to register. Its looks have found the lock held k times, or at least k times if k is the
+-- patience.
 pub record Looking (patience k p : ℕ) (span : List Mark) : Type 0 where
   pub counted : k < patience → held_looks p span ≤ k
   pub many : k ≤ held_looks p span

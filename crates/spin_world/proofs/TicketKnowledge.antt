@@ -18,7 +18,7 @@ Stood span = AnyOf (λ m. is_empty m.before.tickets ≡ false) span
 abbrev pub Stays : ℕ → Plain → List Mark → Type 0
 Stays k s span = Stood span ⊎ (serving_word s ≡ k)
 
--- also, the served number is not below k
+-- `Stays`, and the served number is not below k
 abbrev pub Rises : ℕ → Plain → List Mark → Type 0
 Rises k s span = (k ≤ serving_word s) × Stays k s span
 

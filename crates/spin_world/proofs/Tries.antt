@@ -1,4 +1,5 @@
--- A try does not end by its first load, nor by its second if the number that it found is served then.
+-- A try does not end by its first load. It does not end by its second load if the number that it found is served then,
+-- and is below the limit of the numbers.
 use Rattle.spin_world_core.specs.Runs.{state_at}
 use Rattle.spin_world_core.specs.Users.{seen_at}
 use Rattle.spin_world_core.specs.Runs.{Schedule}

@@ -39,7 +39,7 @@ abbrev pub word_of : BarrierPoint → ℕ
 word_of Arrive = 0
 word_of (Leave g) = 1
 
--- no arrival is refused
+-- what the call does at each point; no arrival is refused
 abbrev pub act_of : ℕ → BarrierPoint → Option Hold → Act BarrierWords BarrierPoint (Answer ℕ)
 act_of n Arrive h = section (is_below n) (λ w. Some (arrive n w)) (λ p. arrives p) (λ w. either (leads n w) (Answers Leader h) (Continue (Leave w.generation))) (λ w. Continue Arrive)
 act_of n (Leave g) h = load_if (is_past g) (λ k. Answers Follower h) (λ k. Continue (Leave g))

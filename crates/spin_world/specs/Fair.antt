@@ -18,7 +18,7 @@ use Rattle.spin_world_core.specs.Kinds.{BeginAt}
 abbrev pub FairMachine : Type 0 → Type 0
 FairMachine V = Machine ℕ V FairCall FairPoint (Answer V)
 
--- `m` is the machine of a fair lock with this cap of starvers. A `lock` goes on to register when more than `patience`
+-- `m` is the machine of a fair lock with this cap of starvers. A `lock` tries to register when more than `patience`
 -- of its looks have found the flag set.
 pub record IsFairLock {V : Type 0} (given : V) (cap patience : ℕ) (m : FairMachine V) : Type 0 where
   pub lock_kind : m.lock_kind ≡ fair

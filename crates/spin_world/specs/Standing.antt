@@ -20,8 +20,8 @@ use Rattle.spin_model.specs.Machines.{Machine}
 use Rattle.spin_world_core.specs.Runs.{Seen, scene}
 use Rattle.spin_world_core.specs.Users.{outcome_after, steps_made}
 
--- A lock with this cap has this word and this plain lock. A writer holds alone, and at most one holder may upgrade. No
--- more parties hold than the cap and the reader limit allow, but one party may always hold.
+-- The word w is that of the plain lock s. A writer holds alone, and at most one holder may upgrade. No more parties
+-- hold than the cap and the reader limit allow, but one party may always hold.
 pub record StandTogether (cap w : ℕ) (s : Plain) : Type 0 where
   pub word : w ≡ rw_word s
   pub writer : 0 < count_kind writing s.holders → length s.holders ≡ 1

@@ -21,7 +21,7 @@ pub struct BarrierWords {
     pub generation: usize,
 }
 
-/// A call of a [`BarrierObject`]. The contract of [`BarrierObject::new`] says what this call asks.
+/// A call of a [`BarrierObject`]. `IsBarrierOf` says what this call asks.
 #[derive(Clone, Copy, Debug, PartialEq, Eq)]
 pub enum BarrierCall {
     /// Arrives, and waits until the group of this arrival is full. The last arrival of a group leads, and does not

@@ -56,7 +56,7 @@ impl<V: Copy> Fair<V> {
     /// Creates a lock that no party holds, with this value.
     ///
     /// At most `cap` starvers may be registered at a time, and never more than [`MAX_STARVERS`](fair::MAX_STARVERS). A
-    /// `Lock` registers when more than `spins` + 1 of its looks have found the flag set.
+    /// `Lock` tries to register when more than `spins` + 1 of its looks have found the flag set.
     ///
     /// # Contract
     /// `cap` must not be 0, and `spins` must be below `usize::MAX`. The object has this value, this cap, and a patience

@@ -38,8 +38,8 @@ pub struct Ticket<V> {
 }
 
 impl<V: Copy> Ticket<V> {
-    /// Creates a lock that no party holds, with this value. Its first ticket has the number `first`, and its last one
-    /// the number `u64::MAX - 1`.
+    /// Creates a lock that no party holds, with this value. Its tickets have the numbers from `first` on, up to
+    /// `u64::MAX - 1`.
     ///
     /// # Contract
     /// The object has this value and this first number. Its machine is that of a ticket lock (`IsTicketLock`): it opens

@@ -42,7 +42,8 @@ abbrev is_end : Option Change → Bool
 is_end None = false
 is_end (Some c) = is_completion c
 
--- only a store completes a closure, and only if the call brings a value; this does not depend on the party
+-- Only a store completes a closure, and only if the call brings a value. Whether a store completes a closure does not
+-- depend on the party.
 abbrev pub CompletesRight : {W V L A : Type 0} → Act W L A → ℕ → Option V → Type 0
 CompletesRight (store can operation step next) p value = (is_completion (step p) ≡ is_completion (step 0)) × (is_completion (step p) ≡ true → is_some value ≡ true)
 CompletesRight act p value = is_end (makes_by act p) ≡ false
@@ -58,7 +59,7 @@ pub record PaysWith {W V C L : Type 0} {t : Table W V C L (Answer (Unit {0}))} (
   pub makes : t.lock_kind.makes_value ≡ true
   pub strong : (c : C) (h : Option Hold) (d : Change) → (t.asks c h).gets_weakly d ≡ false
   pub says : (a : Answer (Unit {0})) → t.says a ≡ says_of a
-  -- no party holds the lock
+  -- no party may write, and no party holds the lock
   pub none_writes : (s : Plain) (p : ℕ) → n.Shape s → is_writer (entries p s) ≡ false
   pub none_holds : (s : Plain) → n.Shape s → is_held s ≡ false
   pub completes_right : (p : ℕ) (c : C) (l : L) (h : Option Hold) → CompletesRight (t.act c l h) p (brings c)

@@ -72,12 +72,12 @@ module _ {W V C L A B : Type 0} {t : Table W V C L A} {by : Machine W V C L B} {
         → ReaderOrGone s p o
     reads_at w s p span o stands knows guard = grind (arith, λ (c : C) (l : L) (h : Hold). g.reads p c l h s span)
 
-    -- the party p has a guard, and q moves
+    -- `Guard` holds of the party p, and q moves
     module _ (seen : Seen W V C L) (p q : ℕ) (good : Invariant f seen) (guard : Guard r seen.written (seat_of seen p)) where
       reads : ReaderOrGone seen.plain p (seat_of seen p)
       reads = reads_at seen.written seen.plain p (seen.span p) (seat_of seen p) (good.parties p).stands (good.parties p).knows guard
 
-      -- q takes the seat x
+      -- `Guard` still holds of p after q moves from the seat y to the seat x; if q is p, x has to keep `Guard`
       sits : (w : Option V) (x y : Seat C L) → seat_of seen q ≡ Some y → (q ≡ p → Guard r w (Some y) → Guard r w (Some x))
           → Guard r w (seat_of seen p) → Guard r w (slice_get (slice_set seen.state.seats q x) p)
       sits w x y there own held =

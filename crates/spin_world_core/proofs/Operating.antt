@@ -3,7 +3,7 @@ use Rattle.spin_world_core.proofs.Names.{AnyOf, own_steps, list_all, Said, ◌�
 
 -- What has to be shown
 
--- The plain step is one that this kind of lock makes. What a call gets by a weak exchange it gets by no other step.
+-- The plain step, if any, is one that this kind of lock makes. If the call gets it weakly, the act is a weak exchange.
 abbrev pub fits_step : LockKind → Asked → Bool → Option Change → Bool
 fits_step kind what weakly None = true
 fits_step kind what weakly (Some c) = is_step_of kind c && (weakly || not (what.gets_weakly c))
@@ -21,7 +21,7 @@ abbrev pub may_be_section : Bool → Bool → Bool
 may_be_section true is = true
 may_be_section false is = not is
 
--- `fits_step`, and only a lock whose steps are critical sections makes a step that is one
+-- `fits_step`, and the act is no section unless the steps of this kind of lock are sections
 abbrev pub fits_act : {W L A : Type 0} → LockKind → Asked → Act W L A → ℕ → Bool
 fits_act kind what act p = fits_step kind what (is_some (refusal_by act)) (makes_by act p) && may_be_section kind.steps_in_sections (is_section act)
 

@@ -21,7 +21,7 @@ yields_at s q span None stands away = stands
 yields_at s q span (Some x) stands away = grind (arith, away x refl)
 
 module _ {W V C L A : Type 0} (m : Machine W V C L A) where
-  -- if every party leaves the value to the owner, the owner's move is open
+  -- if there is an owner, and every party leaves the value to it, the owner's move is open
   pub none_owns : (seen : Seen W V C L) → is_owners m seen.state ≡ false → m.owned ≡ true → IsOwners seen → ⊥
   none_owns seen closed owned all =
       true≢false (sym (and_from m.owned (list_all yields_to_owner seen.state.seats) owned

@@ -184,7 +184,7 @@ abbrev pub RetryOwes : {W L A : Type 0} → Act W L A → ℕ → Option Change 
 RetryOwes (retry k f step won found missed) n made = (made ≡ None) × (n ≡ k) × (is_some (f k) ≡ true)
 RetryOwes _ n made = Unit {0}
 
--- whether a try is due at a point (`free`: it may be due or not; `never`: there is no such point)
+-- whether a try is due at a point (`free`: it may be due or not; `never`: an object may have no such point)
 pub data Need : Type 0 where
   free : Need
   due : Need

@@ -321,8 +321,9 @@ pub record Keeps {W V C L A : Type 0} (m : Machine W V C L A) (s : Scene W V C L
   pub lets : s.outcome ≡ outcome.Skipped → MaySkip m s.before s.party s.move s.seat
   -- a skipped move changes nothing
   pub unchanged : s.outcome ≡ outcome.Skipped → s.after ≡ s.before
-  -- A move that is not skipped has the outcome of its kind. A read finds the present value, and a write stores its
-  -- argument. Any other move changes the value only if a closure completes by it.
+  -- A move that is not skipped has the outcome of its kind. A read finds the present value. A write stores its
+  -- argument, but the owner's write stores nothing if there is no value. Any other move changes the value only if a
+  -- closure completes by it.
   pub comes : (s.outcome ≡ outcome.Skipped → ⊥) → ComesTo s.move s.change s.before.state.value s.after.state.value s.outcome
   -- only a call that makes a weak exchange fails spuriously
   pub weak : (s.outcome ≡ outcome.Skipped → ⊥) → IsWeakCall s.move s.party (s.before.span s.party) (asked m s.seat)
@@ -406,7 +407,8 @@ pub record IsInTime {W V C L A : Type 0} (m : Machine W V C L A) (s : Scene W V 
   -- A waiting call that begins without a look tries at its first step, after each of its plain steps, and after each look
   -- that found the lock free. `Gets` says what its other steps do.
   pub due : GetsWhenDue m.lock_kind s.party s.outcome s.move (asked m s.seat) (s.before.span s.party) s.before.plain s.change s.step_kind
-  -- a try continues only while what it asks is open; `MayTryOn` has the exceptions of a queue
+  -- Before its plain step, a try continues only by a step at which what it asks is open. `MayTryOn` has the exceptions
+  -- of a queue.
   pub tries_on : TriesOn s.party s.outcome s.move (asked m s.seat) (s.before.span s.party) s.before.plain s.change
 
 -- Over a whole schedule, from the opening of a world of n parties

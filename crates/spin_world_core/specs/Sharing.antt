@@ -5,7 +5,7 @@ use Rattle.spin_model.specs.declared.place.Seat.{Seat}
 use Rattle.spin_model.specs.declared.place.Seat.TheVariants.{Leaked}
 use Rattle.spin_model.specs.Schedules.{yields_to_owner}
 
--- the party is in a call, or holds the lock and has not leaked
+-- the party is in a call, or is holding (the lock, or only a registration as a starver)
 abbrev pub shares : {C L : Type 0} → Seat C L → Bool
 shares seat = not (yields_to_owner seat)
 

@@ -15,7 +15,7 @@ abbrev pub own_count : ℕ → List Mark → ℕ
 own_count p [] = 0
 own_count p (m ∷ ms) = own_count p ms + (if m.party == p then 1 else 0)
 
--- how many exchanges of the party have failed and are repeated
+-- how many of the party's exchanges of the kind `again` have failed
 abbrev pub failures : ℕ → List Mark → ℕ
 failures p [] = 0
 failures p (m ∷ ms) = failures p ms + bit ((m.party == p) && (is_again m.step_kind && not (is_some m.change)))

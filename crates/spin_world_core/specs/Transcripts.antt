@@ -49,7 +49,7 @@ TellsAfterAnyPast {V = V} {C = C} m s schedule events =
 
 -- the stage of a party, as the outcomes of its moves tell it
 pub data Stage : Type 0 where
-  at_rest : Stage  -- in no call
+  at_rest : Stage  -- in no call, and neither leaked nor gone
   in_call : Stage
   has_leaked : Stage
   is_gone : Stage

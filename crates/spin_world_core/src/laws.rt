@@ -25,9 +25,9 @@ pub fn two_runs_are_one<O: Object>()
 
 /// States that runs one after another, of any schedules, end in the state of one run of all these schedules.
 ///
-/// Their joined transcripts tell what happens in that run. But each run counts the places where calls began from its
-/// own start. What is promised of every schedule is promised of the joined schedule. So the promises also hold for a
-/// call that begins in one run and ends in a later one.
+/// Their joined transcripts tell what happens in that run. But each run counts places from its own start, also the
+/// places where calls began. What is promised of every schedule is promised of the joined schedule. So the promises
+/// also hold for a call that begins in one run and ends in a later one.
 pub fn runs_are_one<O: Object>()
     ensures { (object : O) (state : State O.Words O.Value O.Call O.Local) (runs : List (List (ℕ × Move O.Call O.Value))) → RunsAreOne (O.machine object) state runs }
 {

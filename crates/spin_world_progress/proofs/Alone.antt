@@ -1,5 +1,5 @@
--- Suppose that what a call asks is open. In as many rounds as an undisturbed call takes steps, the call is answered,
--- or another party changes a word, or the call's own exchange fails spuriously.
+-- Suppose that what a waiting call asks is open. In as many rounds as an undisturbed call takes steps, the call is
+-- answered, or another party changes a word, or the call's own exchange fails spuriously.
 use Rattle.spin_world_progress.proofs.Names.{seat_of, ◌≡◌, ℕ, ◌+◌, ◌-◌, ◌<◌, ◌≤◌, ◌⊎◌, ◌==◌, ◌&&◌, ◌||◌, Bool, true, false, not, Option, Some, None, List, [], ◌∷◌, ◌++◌, length, slice_get, if◌then◌else◌, refl, ap, sym, ◌∙◌, subst, arith, inl, inr, ⊎_elim, cases_eq, cases_lt, eqb-true, ne_eqb, false≢true, Plain, Change, Hold, Seat, Calling, Next, Continue, Answers, Move, Step, Weak, Outcome, Mark, joined, Machine, Seen, Scene, scene, scene_at, opening, State, happens, after, at_first, goes_on, seen_after, eqb_self, get-set_same, of_event, state-seen_after, Test, occurs, MovesOn, AreRounds, is_step, placed_at, owner_writes}
 use Rattle.spin_world_core.proofs.Names.{StepKind, by_step, AllOf, Leaves, UndisturbedTakes, is_open_now, steps_alone, Lawful, Every, IsInTime, Keeps, OwnerSet, and_from, encoded, mark_of, scene_of}
 use Rattle.spin_world_core.specs.Spans.{own_count}

@@ -140,7 +140,7 @@ module _ {V : Type 0} (v : V) (cap patience : ℕ) where
       takes_none : (q : ℕ) (d : FairCall) (i : FairPoint) (j : Option Hold) → is_set seen.state.words ≡ true → walk.SitsSo (fair_notes v cap patience) (λ e. not (holds_lock e)) q (Some (Calling d i j)) → (sc seen q d i j).after.plain.holders ≡ s.holders
       takes_none q d i j set so = grind (arith, set, so)
 
-      -- by a step a holder leaves, or its call is granted
+      -- by its step, a holder releases the lock, or its call is granted
       holder_steps : (n q : ℕ) (d : FairCall) (i : FairPoint) (j : Option Hold) → seat_of seen q ≡ Some (Calling d i j) → Sits q (Some (Calling d i j)) → walk.After f x seen q (sc seen q d i j) → theirs_by true (Some (Calling d i j)) ≤ suc n
           → walk.Reaches f x (sc seen q d i j) ⊎ walk.Falls f x seen l q (sc seen q d i j) n
       holder_steps n q Release First (Some Write) seat so made few =

@@ -6,8 +6,8 @@ use Rattle.spin_world_progress.proofs.Progress.{is_busy}
 use Rattle.spin_world_progress.proofs.Loads.{Wait}
 use Rattle.spin_world_progress.proofs.Loads as walk
 
--- The load of a holder, a number of rounds (see Loads.antt). It is one for the beginning of its release, one for the
--- step of the release, and then the bound of the waiting party.
+-- The load of a holder, a number of rounds (see Loads.antt). A holder takes one round to begin its release, and one
+-- for the step of the release. Then the rounds of the waiting party are left (`bound`).
 abbrev load_by : {C L : Type 0} → ℕ → Bool → Option (Seat C L) → ℕ
 load_by bound true (Some (Calling c l h)) = bound + 1
 load_by bound true o = bound + 2
@@ -59,7 +59,7 @@ module _ {W V C L A : Type 0} {t : Table W V C L A} {n : Notes t} (f : Plays (ma
     -- a step makes no party a holder, unless the step reaches the goal
     pub comes : (seen : World) (l : L) (q : ℕ) (d : C) (i : L) (j : Option Hold) → Waits seen l → seat_of seen q ≡ Some (Calling d i j) → holds q seen ≡ false
         → let sc = scene_at m seen q Step (Some (Calling d i j)) in IsOpenStep seen.plain q sc.change → Reaches sc ⊎ (test (entries_after seen.plain sc.change (entries q seen.plain)) ≡ false)
-    -- a holder's call releases by its next step, which does not fail
+    -- a holder's call ends by its next step, after which the party holds nothing; this step never fails spuriously
     pub releases : (q : ℕ) (d : C) (i : L) (j : Option Hold) (w : W) (v : Option V) → StandsSo n test q d i j → (a : A) × ((m.step w v d i j).next ≡ Answers a None)
     pub strong : (q : ℕ) (d : C) (i : L) (j : Option Hold) (next : Next L A) → StandsSo n test q d i j → m.refuse d i j ≡ Some next → ⊥
     pub few : (l : L) → rank l ≤ bound

@@ -11,7 +11,7 @@ module _ {V : Type 0} (v : V) (first : ℕ) where
   abbrev behind : ℕ → State TicketWords V TicketCall TicketPoint
   behind k = record { words = record { next = k; serving = k }; value = Some v; seats = Calling Lock (Take k) None ∷ Idle ∷ [] }
 
-  -- party 1 takes the ticket with this number and enters, before party 0 makes its exchange
+  -- party 1 takes the ticket with the next number and enters; party 0 then loses its exchange; then party 1 releases
   abbrev round : List (ℕ × Move TicketCall V)
   round = (1, Begin Lock) ∷ (1, Step) ∷ (1, Step) ∷ (1, Step) ∷ (0, Step) ∷ (1, Begin Release) ∷ (1, Step) ∷ []
 

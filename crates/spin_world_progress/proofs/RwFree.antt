@@ -369,7 +369,7 @@ module _ {V : Type 0} (v : V) (cap : ℕ) (some : 1 ≤ cap) where
   abbrev reads_so : Bool → Entries → Bool
   reads_so reader e = only_read e.holders && (if reader then reads e.holders else not (reads e.holders))
 
-  -- a reader's step is a release, and a newcomer's step that is no grant does not change the holders
+  -- a reader's step is a release; a step of a party that holds nothing is a grant, or does not change the holders
   others_step : (seen : World) (q : ℕ) (c : RwCall) (l : RwPoint) (h : Option Hold) (reader : Bool) → seat_of seen q ≡ Some (Calling c l h) → Sits (reads_so reader) q (Some (Calling c l h)) → let y = sc seen q c l h in
       Grants seen q c l h ⊎ (((y.change ≡ None) × (reader ≡ false)) ⊎ ((y.change ≡ Some (releases q reading)) × (reader ≡ true) × (leaves (Some (Calling c l h)) ≡ true) × (seat_of y.after q ≡ Some Idle)))
   others_step seen q c l h reader there so = grind (arith, so, get-set_same seen.state.seats q Idle _ there)
@@ -435,7 +435,7 @@ module _ {V : Type 0} (v : V) (cap : ℕ) (some : 1 ≤ cap) where
           let z = witness u s.holders some in
           (z.0, z.1, λ e. true≢false (sym (ap (λ i. is_empty (its i s.holders)) e ∙ nothing_mine l mine_at) ∙ z.2), reads_some (its z.0 s.holders) z.2 (known z.0 z.1))
 
-      -- a step of a reader, or of a newcomer
+      -- a step of a reader, or of a party that holds nothing
 
       module _ (l : RwPoint) (n : ℕ) (within : walk.Within f x seen l (suc n)) (known : Known seen) (q : ℕ) (d : RwCall) (i : RwPoint) (j : Option Hold) (ne : q ≡ p → ⊥) (at : seat_of seen q ≡ Some (Calling d i j)) (made : walk.After f x seen q (sc seen q d i j)) (mine_at : seat_of seen p ≡ Some (Calling c l None)) where
         abbrev y : Scene ℕ V RwCall RwPoint (Answer V)
@@ -667,7 +667,7 @@ module _ {V : Type 0} (v : V) (cap : ℕ) (some : 1 ≤ cap) where
         same : (d : RwCall) (i : RwPoint) (j : Option Hold) → IsOpenStep seen.plain q (sc seen q d i j).change → (o : ℕ) → (q ≡ o → ⊥) → its o (sc seen q d i j).after.plain.holders ≡ its o seen.plain.holders
         same d i j opens o ne = ap (λ (e : Entries). e.holders) (entries-other seen.plain q o (sc seen q d i j).change ne opens)
 
-    -- some party has a load
+    -- some party's load is not 0
     some_load : (seen : World) (l : RwPoint) → walk.Waits f x seen l → walk.Within f x seen l 0 → ⊥
     some_load seen l w none = by (beside u hs) refl (kind_of u hs) refl
       where

@@ -158,7 +158,7 @@ at_most_one a b p r (inr some) = grind (arith, some)
 abbrev has_ticket : Entries → Bool
 has_ticket e = not (is_empty e.tickets)
 
--- the ticket t is in the queue and has not entered
+-- the list begins with the ticket t, which has not entered
 abbrev waits_by : ℕ → List Queued → Bool
 waits_by t [] = false
 waits_by t (x ∷ xs) = (x.number == t) && not x.entered

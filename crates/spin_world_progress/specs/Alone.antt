@@ -1,4 +1,5 @@
--- Progress that every object makes: a call whose request is open is answered, or another party changes a word.
+-- Progress that every object makes: a waiting call whose request is open is answered, or its exchange fails spuriously,
+-- or another party changes a word.
 use Rattle.std.specs.Prelude.{◌≡◌, ℕ, ◌≤◌, ◌==◌, ◌&&◌, ◌||◌, Bool, true, false, not, Option, Some, List, [], ◌∷◌, ◌⊎◌, length, slice_get}
 use Rattle.spin_model.specs.Machines.{Machine}
 use Rattle.spin_model.specs.Schedules.{State, happens, after, at_first}
@@ -28,9 +29,9 @@ abbrev pub ends_or_fails : {V C L A : Type 0} → ℕ → Test V C L A
 ends_or_fails p q move (outcome.Answered a b) x = q == p
 ends_or_fails p q move o x = refuses_weakly p q move o x
 
--- Suppose that what a party's call asks is open. Take as many rounds as an undisturbed call takes steps
--- (`steps_alone`), at least one. In them the call is answered, or another party changes a word, or the call's own
--- exchange fails spuriously.
+-- Suppose that a party's call waits, and that what the call asks is open. Take as many rounds as an undisturbed call
+-- takes steps (`steps_alone`), at least one. In them the call is answered, or another party changes a word, or the
+-- call's own exchange fails spuriously.
 abbrev pub AnsweredOrDisturbed : {W V C L A : Type 0} → Machine W V C L A → ℕ → List (ℕ × Move C V) → List (List (ℕ × Move C V)) → Type 0
 AnsweredOrDisturbed {C = C} {L = L} m n past rounds =
     let seen = seen_after m (opening m n) past in

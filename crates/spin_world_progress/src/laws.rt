@@ -36,9 +36,9 @@ use spin_world::{BarrierObject, Fair, Flag, OnceObject, Rw, Ticket};
 use spin_world_core::Object;
 use spin_world_seats::Seats;
 
-/// States that a call of any object is obstruction-free while what it asks is open. In as many rounds as the call
-/// promises, at most four, one of three things happens: the call is answered, another party changes a word, or the
-/// call's own exchange fails spuriously.
+/// States that a waiting call of any object is obstruction-free once what it asks is open. In as many rounds as the
+/// call promises steps, at least one and at most four, one of three things happens: the call is answered, another
+/// party changes a word, or the call's own exchange fails spuriously.
 pub fn an_open_call_is_answered_or_disturbed<O: Object>()
     ensures { (object : O) (n : ℕ) (past : List (ℕ × Move O.Call O.Value)) (rounds : List (List (ℕ × Move O.Call O.Value))) → AnsweredOrDisturbed (O.machine object) n past rounds }
 {
@@ -201,7 +201,7 @@ pub fn a_wait_may_starve<V: Copy>()
 {}
 
 /// States that a party may wait at a barrier for ever, since the others of its group may never arrive. A law of
-/// `spin_world` says that a party leaves once its group is full.
+/// `spin_world` says when a party leaves a full group.
 pub fn a_group_may_never_fill()
     ensures { (object : BarrierObject) → 2 ≤ object.n → MayStarve (⟦<BarrierObject as Object>⟧.machine object) 1 meets }
 {}

@@ -218,7 +218,7 @@ lock_beside_a_dropped_starver =
     (0, Begin TryLock) ∷ (0, Step) ∷ (1, Begin Starve) ∷ (1, Step) ∷ (1, Step) ∷ (2, Begin Lock) ∷ (2, Step)
     ∷ (0, Begin Release) ∷ (0, Step) ∷ (2, Step) ∷ (1, Begin StarverDrop) ∷ (1, Step) ∷ (2, Step) ∷ []
 
--- a `starver_try_lock` that finds the flag set looks once more, and is always refused
+-- a `starver_try_lock` that finds the flag set loads the word once more, and is refused whatever it finds
 abbrev pub refuses_late : {V : Type 0} → V → FairMachine V
 refuses_late {V} v =
     let late : FairAct V = load (λ w. Answers Refused (Some Starver)) in

@@ -190,11 +190,11 @@ looks_first v = write_by v (load (λ w. Continue (Exchange w)))
 abbrev pub one_look : {V : Type 0} → Entries V
 one_look = (0, Begin Write) ∷ (0, Step) ∷ []
 
--- `try_read` looks for ever
+-- `try_read` loads the word for ever
 abbrev pub tries_for_ever : {V : Type 0} → V → RwMachine V
 tries_for_ever v = with_steps v (λ c l h act. elim c [ TryRead ↦ load (λ w. Continue First) | _ ↦ act ])
 
--- `try_read` looks and acquires in one event
+-- `try_read` checks for room and acquires in one event
 abbrev pub reads_in_one : {V : Type 0} → V → RwMachine V
 reads_in_one v = reads_by v (read 9)
 
@@ -265,7 +265,7 @@ forgets_its_value {V} v = let t : RwTable V = rw_table v 9 in machine_of (record
 abbrev pub has_no_owner : {V : Type 0} → V → RwMachine V
 has_no_owner {V} v = let t : RwTable V = rw_table v 9 in machine_of (record t { owned = false })
 
--- a `try_read` that finds the lock closed looks once more, and is always refused
+-- a `try_read` that finds the lock closed loads the word once more, and is refused whatever it finds
 abbrev pub refuses_late : {V : Type 0} → V → RwMachine V
 refuses_late {V} v =
     let first : RwAct V = load_for (read 9) (λ p. gets p to_read) goes_for (Continue Asking) in

@@ -49,7 +49,7 @@ leaves_for_two =
 abbrev pub one_of_two_leaves : Entries
 one_of_two_leaves = takes_a_seat 0 ++ (takes_a_seat 1 ++ (0, Begin call.Leave) ∷ (0, Step) ∷ [])
 
--- `try_enter` looks for ever
+-- `try_enter` loads the word for ever
 abbrev pub tries_for_ever : SeatsMachine
 tries_for_ever = with_steps 2 (λ c l h act. elim c [ call.TryEnter ↦ load (λ w. Continue First) | _ ↦ act ])
 
@@ -66,7 +66,7 @@ looks_twice = with_steps 2 (λ c l h act. elim c [
 abbrev pub enter_alone : Entries
 enter_alone = (0, Begin call.Enter) ∷ (0, Step) ∷ (0, Step) ∷ []
 
--- `try_enter` looks and takes its seat in one event
+-- `try_enter` checks for a free seat and takes it in one event
 abbrev pub enters_in_one : SeatsMachine
 enters_in_one =
     let at_once : SeatsAct = section (λ w. true) (entered 2) (λ p. gets p to_read) (λ w. granted) (λ w. Answers Refused None) in

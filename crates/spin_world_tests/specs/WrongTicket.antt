@@ -78,7 +78,7 @@ two_queue =
 abbrev pub lock_alone : {V : Type 0} → Entries V
 lock_alone = (0, Begin Lock) ∷ (0, Step) ∷ (0, Step) ∷ (0, Step) ∷ (0, Step) ∷ []
 
--- `try_lock` looks, and is always refused
+-- `try_lock` makes its two loads, and is always refused
 abbrev pub never_tries : {V : Type 0} → V → TicketMachine V
 never_tries v = with_steps v 0 (λ w c l h step. elim l [ TryLoadServing n ↦ stays w (Answers Refused h) | _ ↦ step ])
 

@@ -14,8 +14,7 @@ use spin_world_core::{Act, Hold, Next, Object};
 /// A call of a [`Dispenser`].
 #[derive(Clone, Copy)]
 pub enum DispenserCall {
-    /// Draws the next number. The answer is `SoldOut` only if every number was drawn already at some moment of the
-    /// call.
+    /// Draws the next number. The answer is `SoldOut` only if at some moment of the call every number had been drawn.
     Draw,
     /// Draws this number, if it is the next one. No other object has such a try.
     DrawThis(u64),

@@ -28,7 +28,7 @@ impl Call for Gets {
 }
 
 /// A `Once` that holds 1. Each call passes a closure, which never runs. The loop is here, not in [`Calls`]:
-/// the compiler tests a byte after each call that may wait, and the `call` of a [`Call`] would add one such
+/// compiled code tests a byte after each call that may wait, and the `call` of a [`Call`] would add one such
 /// test.
 #[derive(Drop)]
 pub struct LateCalls(pub Once<u64>);

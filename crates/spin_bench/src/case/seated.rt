@@ -54,7 +54,7 @@ impl Case for Seated {
         0
     }
 
-    /// Returns the value if the lock is free.
+    /// Returns the value, or 0 if a call left the lock held.
     fn added(self) -> u64 {
         let Seated { caller } = self;
         let Caller { lock, mut pass } = caller.into_inner();

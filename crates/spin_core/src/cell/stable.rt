@@ -29,8 +29,8 @@ impl<T: Stabilizes, V, P: Rule<MaybeStable<T>, V>> Cell<MaybeStable<T>, V, P> {
     ///
     /// # Contract
     /// The cell gets the key that the rule names (`lent`). Where the rule holds under the old key, it has to hold
-    /// under the new one (`Lends`). Where the rule holds of the word `first`, the value has to be stable
-    /// (`StableAt`). It stays stable.
+    /// under the new one (`Lends`). Where the new rule holds of the word `first`, the value has to be stable, and
+    /// any stable value may replace it (`StableAt`). The value stays stable.
     pub fn get_stable(&mut self, first: u64) -> Option<&mut Stable<T>>
         requires stable { StableAt (P.holds (P.lent self.old)) (P.ways (P.lent self.old)) T.stable first }
         requires lends { Lends (P.holds self.old) (P.ways self.old) (P.holds (P.lent self.old)) (P.ways (P.lent self.old)) }

@@ -18,7 +18,7 @@ pub enum View {
     Idle,
     Reading,
     Writing,
-    /// It is in `read` if the flag is true, else in `try_read`. Its next step is the exchange that expects
+    /// It is in `read` if the `bool` is true, else in `try_read`. Its next step is the exchange that expects
     /// this word.
     Coming(bool, usize),
     /// It is in `read`, and its next step is a look.

@@ -12,7 +12,7 @@ use std::thread::{Threads, join};
 
 type Pass<'a> = spin::Pass<'a, u64, Spin>;
 
-/// Adds 1. The new calls of the pass are one `lock` and its release.
+/// Adds 1, unless the value is the largest number. The new calls of the pass are one `lock` and its release.
 pub fn add<'a, W: Wait>(rt: &W, pass: Pass<'a>) -> Pass<'a>
     ensures made { HeldOnce pass.entry result }
     ensures lock { lock_of result ≡ lock_of pass.entry }
@@ -22,8 +22,8 @@ pub fn add<'a, W: Wait>(rt: &W, pass: Pass<'a>) -> Pass<'a>
     SpinMutex::unlock(guard, seen)
 }
 
-/// Adds 1 in each of two threads. The history that one pass knows is a prefix of the history that the other pass
-/// knows.
+/// Calls `add` in each of two threads. The history that one pass knows is a prefix of the history that the other
+/// pass knows.
 pub fn add_both<'a, R: Threads + Wait + Sync>(
     rt: &R,
     lock: &'a SpinMutex<u64>,

@@ -1,4 +1,4 @@
-//! A party that knows the lock's history, between two of its steps. Begin with [`Account`].
+//! A party between two of its steps, and the lock's history that it knows. Begin with [`Account`].
 ghost use Rattle.std.specs.Prelude.{◌≡◌, ◌+◌, ◌-◌, ◌%◌, ◌^◌, ◌==◌, Some, true, bit_or, length};
 ghost use prog.Atomic.{either};
 ghost use Rattle.spin_core.specs.Cell.{writes, use_of};
@@ -16,8 +16,8 @@ use spin_core::cell::Permit;
 use spin_core::guard::Guard;
 use spin_core::trace::Watch;
 
-// A party, and all moves in the lock up to the party's last step. If the party sees the value, it is the value written
-// last.
+// A party, and all moves in the lock up to the party's last step. If the party sees a value, that value is the one
+// written last.
 pub struct Account<'a, T> {
     pub(super) permit: Permit<'a, T, Party, FairRule>,
     pub(super) seen: Watch<Entry<T>>,
@@ -46,7 +46,7 @@ pub(crate) type Got<'a, T, R> = (FairMutexGuard<'a, T, R>, Watch<Entry<T>>);
 impl<'a, T> Account<'a, T> {
     ghost use Rattle.spin_fair.specs.Waits.{view_of, May, Turned};
 
-    // Makes a step of this kind by a load. It returns the word found, as the operations below do.
+    // Makes a step of the kind `K` by a load. Returns the word found, as the operations below do.
     pub(super) fn load<K: Turns>(self) -> (u64, Account<'a, T>)
         requires { May (λ n. n) (K.turn T (view_of self) 0) self }
         ensures { Turned (K.turn T (view_of self.entry) 0) result.0 self.entry result.1 }

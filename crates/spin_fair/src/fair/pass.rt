@@ -30,9 +30,9 @@ use std::sync::Wait;
 /// of others. A pass is as large as a reference to the lock. It can be sent, and a lock can have any number of passes.
 ///
 /// # Contract
-/// Each call takes the pass and returns it. The call ensures `Called`: in the history the pass's new moves are
-/// those of exactly one call, and this call has the returned answer. The lock's model plays the moves of all
-/// threads in the order of the history. It skips no move, and gives this call the same answer.
+/// Each call takes the pass, and returns it or a guard with what the pass knows. The call ensures `Called`: in the
+/// history the pass's new moves are those of exactly one call, and this call has the returned answer. The lock's model
+/// plays the moves of all threads in the order of the history. It skips no move, and gives this call the same answer.
 #[must_use = "a pass that is dropped ends: bind it, or write `drop(..)`"]
 pub struct Pass<'a, T, R> {
     pub(super) account: Account<'a, T>,

@@ -27,11 +27,12 @@ pub enum View {
     /// It is in `lock`, and its next step is the exchange. The number counts looks that found the lock held. The count
     /// stops once there are enough looks to starve.
     Trying(usize),
-    /// It is in `lock`, and its next step is a look. The number is that of `Trying`.
+    /// It is in `lock`, and its next step is a look. The number counts as in `Trying`.
     Looking(usize),
     /// It is in `lock`, and has looked often enough to register.
     Loading,
-    /// It is in this call, and its next step is the exchange of this word, which registers.
+    /// It is in this call. Its next step is an exchange that expects this word. If the exchange finds it, the party is
+    /// registered.
     Registering(FairCall, usize),
     /// It is a starver in this call, and its next step sets the flag.
     Setting(FairCall),
@@ -63,7 +64,7 @@ impl<T> Rule<T, Party> for FairRule {
     ghost lent = { untold };
 }
 
-/// A party with its number.
+/// A party's view, its number, and how long the trace was after the party's last step.
 pub type Party = tie::Numbered<View>;
 
 /// An entry of the trace of a lock of values of type `T`.

@@ -86,8 +86,8 @@ impl<'a, T, R: RelaxStrategy> Starvation<'a, T, R> {
     /// Acquires the mutex, spinning until it is free.
     ///
     /// It tries once as the only starver (see [`try_lock_fair`](Self::try_lock_fair)). If that try fails, it sets the
-    /// flag, and acquires the lock if the flag was clear. After a failed attempt the thread pauses with strategy `R`,
-    /// and looks at the word before it tries again. Other starvers may overtake it.
+    /// flag, and acquires the lock if the flag was clear. If the flag was set, the thread pauses with strategy `R`,
+    /// and looks at the word before it sets the flag again. Other starvers may overtake it.
     ///
     /// # Contract
     /// The guard belongs to a holder of the lock (`IsHolder`). Whether and when the call returns is not promised.

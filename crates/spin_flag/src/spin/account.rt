@@ -29,7 +29,8 @@ pub(super) type Got<'a, T, R> = (SpinMutexGuard<'a, T, R>, Watch<Entry<T>>);
 impl<'a, T> Account<'a, T> {
     ghost use Rattle.spin_flag.specs.Waits.{Spot, here, Gets, Attempts, GoesOn};
 
-    // Makes an exchange that sets a clear flag. If the party is in no call, the exchange begins one.
+    // Makes an exchange that acquires the lock if the flag is clear. If the party is in no call, the exchange begins
+    // one.
     pub(super) fn attempt<K: Tries, R>(self) -> Result<Got<'a, T, R>, Account<'a, T>>
         requires { MayTry K.waits (what self.permit.view) }
         ensures { Attempts K.waits (here self.entry) result }

@@ -81,7 +81,8 @@ fn a_lock_is_made_of_a_value(rt: HostRuntime) {
     equal(&rt, of_five, [(false, 5); 4]);
 }
 
-// Returns whether a lock is locked after its owner has written, the value that a try finds, and what that try writes.
+// The owner of a lock writes, and then a try does. Returns whether the lock is locked between these writes, the value
+// that the try finds, and twice the value that the owner finds at the end.
 macro_rules! owned {
     ($rt:expr, $Lock:ident) => {{
         let mut lock: $Lock<u64, Loop> = $Lock::new(1);

@@ -91,7 +91,7 @@ impl RelaxStrategy for Slow {
 }
 
 // The test looks for a starver this many times. Meanwhile the waiting `lock` makes about as many looks. The patience
-// of `lock` is 25 times this number.
+// of `lock` is about 25 times this number.
 const SLOW_LOOKS: u32 = 40;
 
 impl Crew for Held<Slow> {

@@ -163,7 +163,7 @@ impl<'a, T, S: Seed<T>> Account<'a, T, S> {
         unreachable!()
     }
 
-    // Looks, and tries to begin if no other thread makes the value.
+    // Looks. Finds the value, or tries to begin if there is none and no other thread makes it.
     fn look_and_begin<C: Closure>(self) -> Result<Claim<'a, T, S>, Account<'a, T, S>>
         requires { what self.party.view ≡ Some (in_closure C.may_fail Await) }
         ensures { Attempts C.may_fail (here self.entry) result }
@@ -178,7 +178,7 @@ impl<'a, T, S: Seed<T>> Account<'a, T, S> {
         account.begin::<C>()
     }
 
-    // Tries once to begin. Fails while another thread makes the value.
+    // Finds the value, or begins, by one exchange. Fails while another thread makes the value.
     fn begin<C: Closure>(self) -> Result<Claim<'a, T, S>, Account<'a, T, S>>
         requires { what self.party.view ≡ Some (in_closure C.may_fail TryBegin) }
         ensures { Attempts C.may_fail (here self.entry) result }

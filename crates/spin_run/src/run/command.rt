@@ -119,12 +119,12 @@ fn run<I: Source, O: Sink, R: AllocGlobal + Threads + Wait + Sync, A: Allocator>
 /// The caller gives streams that have not failed. The status is one of these:
 ///
 /// - 0: the run did what the words ask for, no read or write failed, and `errors` is unchanged (`Does`).
-/// - 1: starting a thread failed, or an allocation, a read or a write. Only a failed write leaves a beginning of the
+/// - 1: the start of a thread, an allocation, a read or a write failed. Only a failed write leaves a beginning of the
 ///   text on `output`.
 /// - 2: the words are no command, or a line of the schedule is wrong. Then `output` is unchanged.
 ///
 /// Status 1 or 2 is that of a fault (`status_of`). The run stopped as the fault says (`Stops`), and the
-/// fault's line is on `errors`. If that write failed, a beginning of the line is there (`Told`).
+/// fault's line is on `errors`. If the write of this line failed, a beginning of it is there (`Told`).
 pub fn program<I: Source, O: Sink, E: Sink, R: AllocGlobal + Threads + Wait + Sync, A: Allocator>(
     rt: &R,
     alloc: A,

@@ -20,7 +20,7 @@ pub const MAX_TIMES: u64 = 1_000_000;
 /// The reason why a count has no total.
 #[derive(Clone, Copy, Debug, PartialEq, Eq)]
 pub enum CountError {
-    /// Starting a thread failed, or allocating memory for it.
+    /// A thread could not be started, or memory for it could not be allocated.
     Refused,
 }
 

@@ -15,7 +15,7 @@ use std::alloc::AllocError;
 pub(crate) enum Fault {
     /// The words are no command.
     Usage,
-    /// Starting a thread failed, or allocating memory for it.
+    /// A thread could not be started, or memory for it could not be allocated.
     Refused,
     /// Another allocation failed.
     Memory,

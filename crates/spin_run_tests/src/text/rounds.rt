@@ -31,7 +31,8 @@ fn due_in_round(rt: &impl Abort, place: Option<Place>) -> Option<Owed> {
     }
 }
 
-/// What the parties still have to do in a round, and whether a call that counts was answered in this round.
+/// What the parties still have to do in a round, and whether a call that counts got in this round what it waited for:
+/// `Granted`, a value or `Follower`.
 #[derive(Drop)]
 struct Round {
     owing: [Option<Owed>; 3],

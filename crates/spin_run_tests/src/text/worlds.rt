@@ -98,7 +98,7 @@ pub fn look_at<O: OfHeader, A: Allocator + Copy>(
     }
 }
 
-/// An event: the party, the outcome of its move, and the words after it as numbers.
+/// An event: the party, the outcome of its move, and the words after the move as numbers.
 #[derive(Clone, Copy)]
 pub struct Told {
     pub party: usize,

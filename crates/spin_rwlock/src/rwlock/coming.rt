@@ -81,8 +81,8 @@ pub(super) struct Coming<'a, T, K: Kind, M: Mode, R> {
 impl<'a, T, K: Kind, M: Mode, R> Coming<'a, T, K, M, R> {
     ghost use Rattle.spin_rwlock.specs.Waits.{reads_at, SeeksOn, IsLetIn};
 
-    /// Begins the call with an exchange that expects a free lock. If the exchange fails, it tries once more, at the
-    /// word found. This saves a load, since a failed exchange returns the word too.
+    /// Begins the call with an exchange that expects a free lock. If the exchange fails, a second one expects the word
+    /// found, if this word admits the reader. This saves a load, since a failed exchange returns the word too.
     pub(super) fn begin(account: Account<'a, T>) -> Result<Lent<'a, T, K, R>, Self>
         requires { IsPass (sight account) }
         ensures lent { IfOk result (λ lent.
@@ -224,8 +224,8 @@ impl<'a, T, K: Kind, R: RelaxStrategy> Coming<'a, T, K, Waits, R> {
     ghost use Rattle.spin_rwlock.specs.Waits.{SeeksOn, IsLetIn};
 
     /// Waits until the lock admits the reader.
-    // It is not inlined, since that would lengthen the path of every caller that does not wait. Its pause depends on
-    // the word found, which `retry` does not offer.
+    // It is not inlined, since that would lengthen the path of every caller that does not wait. It does not call
+    // `retry`, since its pause depends on the word found.
     #[cold]
     #[inline(never)]
     pub(super) fn wait<W: Wait>(self, rt: &W) -> Lent<'a, T, K, R>

@@ -34,8 +34,9 @@ use std::sync::Wait;
 /// # Contract
 /// A call takes the pass, or a guard with what the pass knew when it acquired the guard. It returns the pass or a
 /// guard. The call ensures `Called`: in the history the pass's new moves are those of exactly one call, and this
-/// call has the returned answer. The lock's model plays the moves of all threads in the order of the history. It
-/// skips no move, and gives this call the same answer.
+/// call has the returned answer. (`with` and `with_shared` make two calls: one acquires the lock, the other releases
+/// it.) The lock's model plays the moves of all threads in the order of the history. It skips no move, and gives this
+/// call the same answer.
 ///
 /// Before a writer releases or downgrades, it records its value in the history (`Wrote`). So the value of a guard is
 /// the one written last in the history (`found`), until the owner borrows the value by `get_mut`.
@@ -211,7 +212,7 @@ impl<'a, T, R: RelaxStrategy> Pass<'a, T, R> {
 impl<'a, T, R: RelaxStrategy> Pass<'a, T, R> {
     ghost use Rattle.spin_rwlock.specs.RwPasses.{ReadOnce, WroteOnce};
 
-    /// Acquires exclusive access, calls the closure with the value, and releases it, as the lock's own
+    /// Acquires exclusive access, calls the closure with the value, and releases the access, as the lock's own
     /// [`with`](spin_core::lock::Lock::with) does.
     ///
     /// # Contract
@@ -240,7 +241,7 @@ impl<'a, T, R: RelaxStrategy> Pass<'a, T, R> {
         (answer, RwLock::unlock(guard, seen))
     }
 
-    /// Acquires shared access, calls the closure with the value, and releases it, as the lock's own
+    /// Acquires shared access, calls the closure with the value, and releases the access, as the lock's own
     /// [`with_shared`](spin_core::lock::SharedLock::with_shared) does.
     ///
     /// # Contract

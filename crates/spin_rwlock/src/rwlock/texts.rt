@@ -14,7 +14,7 @@ use spin_core::texts::write_named;
 use std::fmt;
 use std::fmt::{Debug, Display, Formatter};
 
-/// Tries once to acquire shared access, and keeps it while it writes the value. If the try fails it writes `<locked>`.
+/// Tries once to acquire shared access, and keeps it while it prints the value. If the try fails it prints `<locked>`.
 /// The try makes one load and at most one compare-exchange.
 impl<T: Debug, R> Debug for RwLock<T, R> {
     fn fmt<W: fmt::Write>(&self, f: &mut Formatter<W>) -> fmt::Result

@@ -23,7 +23,7 @@ use std::sync::Wait;
 
 /// The guard of the upgradable reader of an [`RwLock`](super::RwLock). Dropping it releases the shared access.
 ///
-/// While it lives, other readers may acquire and release the lock, until its `upgrade` asks to become the writer.
+/// Other readers may acquire the lock until this guard's `upgrade` asks to become the writer.
 ///
 /// # Contract
 /// Like that of [`SharedGuard`]. The value stays the same when the reader becomes the writer.

@@ -18,7 +18,7 @@ pub(crate) trait Tells<C> {
     ghost use Rattle.spin_seated.specs.declared.lock.Answer.{Answer};
 
     // The arguments: an operand, and the word found. The operand of an exchange is the word that it expects.
-    // It is 0 for a load.
+    // The operand of a load is 0.
     ghost told: { ℕ → ℕ → Option (C × Answer) };
 }
 

@@ -1,4 +1,4 @@
-//! For each step on the table: which call it is, with its answer.
+//! For each step on the table: which call it is, if any, with its answer.
 ghost use Rattle.spin_seated.specs.declared.rwlock.Call.TheVariants.{UnlockRead, UnlockWrite, Downgrade};
 ghost use Rattle.spin_seated.specs.Rw.{loads, acquires_read, acquires_write, counts_readers, counts_writers, reads, writes, is_call};
 

@@ -156,7 +156,7 @@ pub(super) struct Trying<'a, const N: usize> {
 }
 
 impl<'a, const N: usize> Trying<'a, N> {
-    // Tries to take a seat at each word found, until it has one or a word has no free seat.
+    // Tries to take a seat at each word found, until it has a seat or finds a word without a free one.
     pub(super) fn take<W: Wait>(self, rt: &W) -> Result<SeatGuard<'a, N>, Pass<'a, N>>
         ensures { (before : TheAccount N) → IsTrying N self.entry.word before self.entry.account → IfOk result (λ guard. Called N TryEnter Granted before guard.account) × IfErr result (λ pass. Called N TryEnter Refused before pass.account) }
     {

@@ -23,7 +23,7 @@ pub enum View {
     Waiting,
 }
 
-/// A party with its number.
+/// A party's view, its number, and how long the trace was after the party's last step.
 pub type Party = tie::Numbered<View>;
 
 /// An entry of the lock's trace.
@@ -34,7 +34,7 @@ pub type Entry = tie::Entry<SeatsCall>;
 pub struct SeatsRule<const N: usize>;
 
 impl<const N: usize> Rule<(), Party> for SeatsRule<N> {
-    // The name of the trace, by a watch that knows no entries.
+    // A watch that knows no entries: it only names the trace.
     type Key = Watch<Entry>;
 
     type Second = Trace<Entry>;

@@ -42,8 +42,8 @@ impl<'a, T> Account<'a, T> {
         (serving, Account { permit, seen })
     }
 
-    // Takes the ticket with the number `next`, and enters. The call of `try_lock` has found this number as the next one
-    // and as the served one.
+    // Takes the ticket with the number `next` and enters, if this is still the next number. The call of `try_lock` has
+    // found this number as the next one and as the served one.
     pub(super) fn take_and_enter(
         self,
         next: u64,

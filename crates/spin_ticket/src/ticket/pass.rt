@@ -32,9 +32,10 @@ use std::sync::Wait;
 /// of others. A pass is as large as a reference to the lock. It can be sent, and a lock can have any number of passes.
 ///
 /// # Contract
-/// Each call takes the pass and returns it. The call ensures `Called`: in the history the pass's new moves are
-/// those of exactly one call, and this call has the returned answer. The lock's model plays the moves of all
-/// threads in the order of the history. It skips no move, and gives this call the same answer.
+/// A call takes the pass, or a guard with what the pass knew when it acquired the guard. It returns the pass or a
+/// guard. The call ensures `Called`: in the history the pass's new moves are those of exactly one call, and this
+/// call has the returned answer. The lock's model plays the moves of all threads in the order of the history. It
+/// skips no move, and gives this call the same answer.
 ///
 /// # Examples
 /// ```

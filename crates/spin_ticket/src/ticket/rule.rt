@@ -72,7 +72,7 @@ impl<T> Play<Key<T>, Party, Entry<T>> for LoadNext {
 }
 
 /// The compare-exchange of `lock`. If the exchange finds the number expected, the party has the ticket with this number
-/// and waits. Else the party tries the number that the exchange found.
+/// and waits. Else the party tries the number that the exchange found, if a ticket is left.
 pub(super) struct Take;
 
 impl<T> Play<Key<T>, Party, Entry<T>> for Take {
@@ -95,7 +95,7 @@ impl<T> Play<Key<T>, Party, Entry<T>> for TryLoadNext {
 }
 
 /// The load of the served number in `try_lock`. The call continues if this is the number that the call found as the
-/// next one.
+/// next one, and a ticket is left.
 pub(super) struct TryLoadServing;
 
 impl<T> Play<Key<T>, Party, Entry<T>> for TryLoadServing {

@@ -28,6 +28,7 @@ pub(super) struct Going<'a, T> {
 }
 
 // A call of `lock` that has a ticket and waits. `ahead` is how many tickets were before its own when it last looked.
+// Before the first look it is 0.
 pub(super) struct Place<'a, T> {
     pub(super) number: u64,
     pub(super) ahead: u64,

@@ -48,7 +48,8 @@ fn a_writer_goes_on_as_a_reader(rt: HostRuntime) {
     equal(&rt, (counts, value), ([1, 2], 9));
 }
 
-// Acquires the lock as a writer some times, and adds 1 each time. Then downgrades, and reads the number that it wrote.
+// Acquires the lock as a writer `TIMES` times. Each time it adds 1, downgrades, and reads. Returns whether it made all
+// these additions, and each read found the number just written.
 fn add_some<R: Wait>(rt: &R, lock: &SeatedRwLock, mut pass: RwPass) -> (RwPass, bool)
     requires { IsPassOf lock.now pass × (holds pass.known ≡ None) }
     ensures { IsPassOf lock.now result.0 × (holds result.0.known ≡ None) }
@@ -73,8 +74,8 @@ fn add_some<R: Wait>(rt: &R, lock: &SeatedRwLock, mut pass: RwPass) -> (RwPass, 
     (pass, same && added == TIMES)
 }
 
-// Acquires the lock as a reader some times, and reads each time. Returns whether it read this many times, and no number
-// was less than an earlier one.
+// Acquires the lock as a reader `TIMES` times, and reads each time. Returns whether it made all these reads, and no
+// number was less than an earlier one.
 fn read_some<R: Wait>(rt: &R, lock: &SeatedRwLock, mut pass: RwPass) -> (RwPass, bool)
     requires { IsPassOf lock.now pass × (holds pass.known ≡ None) }
     ensures { IsPassOf lock.now result.0 × (holds result.0.known ≡ None) }

@@ -23,8 +23,8 @@ pub fn starvers_stay_within_the_cap<V: Copy>()
     ensures { (value : V) → KeepsAll (starves_without_cap value) 2 two_starve → ⊥ }
 {}
 
-/// A `lock` that never registers. Two steps after a look past its patience, it has to be a starver or to have found the
-/// cap reached.
+/// A `lock` that never registers. If nobody else changes the word, two steps after a look past its patience it has to
+/// be a starver, or to have found the cap reached.
 pub fn a_lock_in_vain_registers<V: Copy>()
     ensures { (value : V) → CountsAll (never_registers value) 2 lock_beside_a_holder → ⊥ }
 {}
@@ -70,7 +70,8 @@ pub fn a_lock_counts_each_look<V: Copy>()
     ensures { (value : V) → CountsAll (counts_each_second_look value) 2 lock_beside_a_holder → ⊥ }
 {}
 
-/// A `starver_lock` that has set the flag and waits while another party starves. Its call has to be answered then.
+/// A `starver_lock` that has set the flag and waits while another party starves. If nobody disturbs this call, it has
+/// to be answered by its fourth step.
 pub fn a_starver_that_holds_is_answered<V: Copy>()
     ensures { (value : V) → CountsAll (keeps_the_flag value) 2 lock_beside_a_starver → ⊥ }
 {}
@@ -111,13 +112,14 @@ pub fn a_fair_lock_opens_without_starvers<V: Copy>()
     ensures { (value : V) → KeepsAll (opens_with_a_starver value) 1 [] → ⊥ }
 {}
 
-/// A `lock` that finds the flag clear while a party starves, and looks again. The step after such a look has to acquire
-/// the lock if it is free.
+/// A `lock` that finds the flag clear while a party starves, and looks again. If nobody holds or starves then, the step
+/// after such a look has to acquire the lock.
 pub fn a_lock_exchanges_where_it_finds_the_flag_clear<V: Copy>()
     ensures { (value : V) → CountsAll (waits_for_starvers value) 3 lock_beside_a_dropped_starver → ⊥ }
 {}
 
-/// A `starver_try_lock` that finds the flag set, looks once more, and is refused even if the flag is then clear.
+/// A `starver_try_lock` that finds the flag set, loads the word once more, and is refused even if the flag is then
+/// clear.
 pub fn a_starver_is_refused_where_it_finds_the_flag_set<V: Copy>()
     ensures { (value : V) → CountsAll (refuses_late value) 2 starver_beside_a_holder → ⊥ }
 {}
@@ -127,8 +129,8 @@ pub fn a_starver_looks_until_the_flag_is_clear<V: Copy>()
     ensures { (value : V) → CountsAll (spins_by_setting value) 2 two_steps_of_a_starver → ⊥ }
 {}
 
-/// A `lock` that starts to count its looks anew when it has found the flag clear. A `lock` has to register two steps
-/// after a look past its patience, whatever it found before.
+/// A `lock` that starts to count its looks anew when it has found the flag clear. If nobody else changes the word
+/// meanwhile, a `lock` has to register two steps after a look past its patience, whatever it found before.
 pub fn a_count_of_looks_survives_a_clear_flag<V: Copy>()
     ensures { (value : V) → CountsAll (counts_anew value) 2 lock_past_a_clear_flag → ⊥ }
 {}

@@ -52,8 +52,8 @@ pub fn a_value_is_the_closures_own<V: Copy>()
     ensures { (u v : V) → (u ≡ v → ⊥) → ValuesAll (places_another v) 1 (one_closure u) → ⊥ }
 {}
 
-/// A closure that never ends. Once a closure runs, its call has to be answered by its fourth step if nobody disturbs
-/// it.
+/// A closure that never ends. If nobody disturbs a call whose closure runs, this call has to be answered within four
+/// steps.
 pub fn a_closure_ends<V: Copy>()
     ensures { (v : V) → CountsAll (runs_on V) 1 (six_steps v) → ⊥ }
 {}

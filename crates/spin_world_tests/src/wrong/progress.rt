@@ -16,7 +16,7 @@ pub fn each_number_is_served_once<V: Copy>()
     ensures { (value : V) → EntersInRounds (serves_twice value) 2 one_before_it four_turns → ⊥ }
 {}
 
-/// An upgrade that withdraws its ask. It is not granted in three rounds, though nobody else reads.
+/// An upgrade that withdraws its request. It is not granted in three rounds, though nobody else reads.
 pub fn an_upgrade_asks_until_it_is_granted<V: Copy>()
     ensures { (value : V) → UpgradesInThree (gives_up value) 1 asked three_steps → ⊥ }
 {}

@@ -76,12 +76,13 @@ pub fn a_call_that_waits_is_answered<V: Copy>()
     ensures write { (value : V) → CountsAll (looks_first value) 1 one_look → ⊥ }
 {}
 
-/// A `try_read` that looks for ever. It may take two steps, and one more for each change of the word by another party.
+/// A `try_read` that loads the word for ever. It may take two steps, and one more for each change of the word by
+/// another party.
 pub fn a_try_read_is_answered<V: Copy>()
     ensures { (value : V) → CountsAll (tries_for_ever value) 1 read_alone → ⊥ }
 {}
 
-/// A `try_read` that looks and acquires access in one event. No processor does both in one step.
+/// A `try_read` that checks for room and acquires access in one event. No processor does both in one step.
 pub fn a_step_is_one_operation<V: Copy>()
     ensures { (value : V) → Stepwise (reads_in_one value) → ⊥ }
 {}
@@ -135,7 +136,7 @@ pub fn a_lock_is_as_it_was_made<V: Copy>()
     ensures cap { (value : V) → IsRw value 9 (rw_machine value 1) → ⊥ }
 {}
 
-/// A `try_read` that finds the lock closed, looks once more, and is refused even if the lock is then open.
+/// A `try_read` that finds the lock closed, loads the word once more, and is refused even if the lock is then open.
 pub fn a_try_is_refused_where_it_finds_it_closed<V: Copy>()
     ensures { (value : V) → CountsAll (refuses_late value) 2 try_beside_a_writer → ⊥ }
 {}

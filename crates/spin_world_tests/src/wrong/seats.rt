@@ -17,7 +17,8 @@ pub fn a_leave_frees_one_seat()
     ensures { KeepsAll leaves_for_two 2 one_of_two_leaves → ⊥ }
 {}
 
-/// A try that looks for ever. It may take two steps, and one more for each change of the word by another party.
+/// A try that loads the word for ever. It may take two steps, and one more for each change of the word by another
+/// party.
 pub fn a_try_is_answered()
     ensures { CountsAll tries_for_ever 1 two_looks → ⊥ }
 {}
@@ -27,7 +28,7 @@ pub fn an_enter_is_answered()
     ensures { CountsAll looks_twice 1 enter_alone → ⊥ }
 {}
 
-/// A try that looks and takes its seat in one event. No processor does both in one step.
+/// A try that checks for a free seat and takes it in one event. No processor does both in one step.
 pub fn a_step_is_one_operation()
     ensures { Stepwise enters_in_one → ⊥ }
 {}

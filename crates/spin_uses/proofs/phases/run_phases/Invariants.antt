@@ -1,4 +1,4 @@
--- for the book of this call: the sum of all gains, and the book's name and parts
+-- what `run_by` takes as its `Plan`: the sum of all gains, and the name and parts of this call's book
 use Rattle.std.proofs.Common.{◌*◌}
 use Rattle.spin_uses.proofs.phases.run_phases.Given as goal
 

@@ -1,4 +1,4 @@
--- each started worker took one part of the book, and its gains
+-- from the caller's share each started worker took one part of the book, and the amount of its own gains
 use Rattle.std.proofs.Common.{◌≡◌, ◌+◌, ◌*◌, ◌≤◌, vec_len, vec_capacity}
 use Rattle.spin_uses.proofs.phases.Team.start_each.Given as goal
 

@@ -1,4 +1,4 @@
--- `deref_mut` lends the guard's permit to `get_mut`, and the guard follows what the permit follows. Assumes `Logic`.
+-- `deref_mut` lends the guard's permit to `get_mut`; the guard then has what the permit has. Assumes `Logic`.
 use Rattle.spin_core.proofs.WalkNames.{◌≡◌, ℕ, ◌+◌, List, [], ◌∷◌, ◌++◌, refl, ap, named, Val, vptr, vunit, full_share, id⊢, Lft, ftrue, fsep, flft, fbor, Logic, ‵, raw, ◌⊛◌, ◌$◌, !, by, move, keep, drop, split, split3, join, fsplit, fsplit3, fjoin, fjoin3, feq_i, feq_l, use0, use1, use2, use3, later, some, await, pick, stop, addr, no_more, and_then, returns, fld, alloc_all, pass_all, free_all, look_at, get, through, sets, ⊑_meet, fact, yes, no, RattleType, named_lft, nothing, heard, param, layout, param_laws}
 use seplogic.Ra.Ura.{Ura}
 use mathlib.Core.Option.{Option, some as found}
