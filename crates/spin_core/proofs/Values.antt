@@ -40,7 +40,7 @@ module _ {C V : Type 0} where
   pub write_leaves : {A : Type 0} (x : V) (goes_on : Bool) (c : C) (end : Outcome A V) (own : List (Move C V)) (outs : List (Outcome A V)) → Writes x (IsStep goes_on c end) own outs → (v : V) → left own v ≡ x
   write_leaves x goes_on c end own outs (rest, comes, is, came, step) v = rw is (step_leaves goes_on c end rest comes step x)
 
-  -- so a step of a call writes nothing, for a party that does not use the value
+  -- so the moves of a step of a call are as `Leaves` says of a party that did not use the value before
   pub steps_leave : {A : Type 0} (u u' : Use) (shown : Option V) → u ≡ off → (goes_on : Bool) (c : C) (end : Outcome A V) (own : List (Move C V)) (outs : List (Outcome A V)) → IsStep goes_on c end own outs → Leaves u u' shown own
   steps_leave u u' shown is goes_on c end own outs step = rw is (step_leaves goes_on c end own outs step)
 
@@ -79,8 +79,8 @@ module _ {C V : Type 0} where
       pub read_last : {S : Type 0} → Tells S → u ≡ reads → u' ≡ off → IfSome before Last
       read_last learnt is is' = leaves_told Last before after (rw (is, is') at (learns learnt))
 
-      -- a party finds the value written last when it begins to use the value, and leaves that value when it stops
-      -- writing
+      -- A party that begins to use the value finds the value written last. When a party stops writing, the value that
+      -- it leaves is the value written last.
       pub found : {S : Type 0} (x : V) → Tells S → u ≡ off → after ≡ Some x → Last x
       found x learnt is some = rw (is, some) at (learns learnt)
 
@@ -93,6 +93,7 @@ module _ {C V : Type 0} where
         let here : latest opening.value now ≡ y = rw (is, mine, latest_left opening.value log p own) (all (latest opening.value log)) in
         sym here ∙ so told
 
-    -- a later value is the last one written since the earlier look, or the value of that look if nothing was written
+    -- Let x be the last value of a history, and y that of a longer one. Then y is the last value that the new moves
+    -- write, or x if they write nothing.
     pub read_on : (old new more : List (Entry C V)) (x y : V) → opening.told ≡ true → new ≡ old ++ more → IsLast opening old x → IsLast opening new y → latest x more ≡ y
     read_on old new more x y told grew is is' = cc (is told, is' told, latest-append opening.value old more)

@@ -11,15 +11,15 @@ pub data Use : Type 0 where
   writes : Use
 
 -- How the parties share a value of type X. `alone`: one user at a time. `lends`: many readers, or one writer.
--- `fixes fact`: like `lends`, but a party may also read for ever. In this way `fact true` holds of a value that
+-- `fixes fact`: like `lends`, but a party may also read for ever. Under `fixes`, `fact true` holds of a value that
 -- somebody reads, and `fact false` of a value that nobody uses.
 pub data Way (X : Type 0) : Type 1 where
   alone : Way X
   lends : Way X
   fixes : (Bool → X → Type 0) → Way X
 
--- What is known of a value that nobody writes: nothing, or a fact that relates the value to the cell's `Second`, such
--- as a trace.
+-- What is known of a value that nobody writes: nothing, or a fact that relates the value to what the cell keeps beside
+-- it (its `Second`): a trace, perhaps with a second word.
 pub data Knowledge (S X : Type 0) : Type 1 where
   no_fact : Knowledge S X
   knows : (S → X → Type 0) → Knowledge S X

@@ -11,7 +11,8 @@ use std::marker::{Brand, Model, PhantomData};
 
 /// The name of a log, as a type. All tokens with the same `H` belong to one log.
 ///
-/// Generic code takes a type parameter `H: History`. The code that opens the log passes `Brand` for `H`.
+/// Generic code takes a type parameter `H: History`. The code that makes the log ([`BlankLog::new`]) passes `Brand`
+/// for `H`. In the `run` of a [`Work`] the `H` of `run` names the log.
 pub trait History {
     ghost name: { ℕ };
 }
@@ -30,7 +31,7 @@ impl Model for BlankLog {
     ghost also_owns = { λ blank. blank_owns blank.name };
 }
 
-/// Work that uses a log of its own. [`open`] names that log.
+/// Work that uses a log of its own. The function [`open`](fn@open) makes this log and names it.
 ///
 /// # Contract
 /// `asks` says what has to hold of the fields of the work, and `gives` which answers it may give. Each says

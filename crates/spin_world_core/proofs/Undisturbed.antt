@@ -3,8 +3,8 @@ use Rattle.spin_world_core.proofs.Names.{◌≡◌, ℕ, zero, suc, ◌+◌, ◌
 use Rattle.spin_world_core.proofs.Steps.{AnswersWithin}
 use Rattle.spin_world_core.proofs.Lists.{eqb_self}
 
--- The span gets one more mark, m. If m is the party's own, it adds a step to each stretch since an earlier mark. A new
--- stretch begins with m.
+-- The span gets one more mark, m. A stretch is the part of the span since some mark. If m is the party's own, each
+-- stretch that began before m gets one more own step. A new stretch begins with m.
 module _ (kind : LockKind) (p : ℕ) (what : Asked) (m : Mark) (span : List Mark) (P Q : ℕ → Type 0) (begins : is_open_now p what span m.before ≡ true → P 0)
     (step : (n : ℕ) → Leaves kind p m → P n → Q (n + (if m.party == p then 1 else 0))) where
   takes_on : UndisturbedTakes P kind p what span → UndisturbedTakes Q kind p what (m ∷ span)
@@ -16,7 +16,8 @@ module _ {W V C L A : Type 0} (m : Machine W V C L A) where
   abbrev pub GoesWithin : ℕ → W → C → Option Hold → Next L A → Type 0
   GoesWithin k w c h next = (l : L) → next ≡ Continue l → AnswersWithin m k w c l h
 
-  -- what is left of a call that goes on so, after the steps that it has taken undisturbed
+  -- How many steps an undisturbed call has left at most, if it goes on as `next` says. With the `taken` steps that it
+  -- has made undisturbed they are no more than `steps_alone`.
   pub record Left (w : W) (c : C) (h : Option Hold) (next : Next L A) (taken : ℕ) : Type 0 where
     pub steps : ℕ
     pub few : taken + steps ≤ steps_alone (m.asks c h)
@@ -45,7 +46,7 @@ module _ {W V C L A : Type 0} (m : Machine W V C L A) where
         takes_on m.lock_kind p (m.asks c h) (mark_of p step r s) span (Left w c h (Continue l)) (Left w' c h next) (λ may. begun_by (begins may))
         (λ n leaves left. one_taken next n _ left.steps left.few (rw (eqb_self p)) (left.goes l refl) (steps (leaves.strong refl))) runs
 
-  -- a step of another party keeps what is left of a call, if a step that does not disturb the call leaves the words unchanged
+  -- A step of another party keeps what is left of a call. It either disturbs the call, or leaves the words unchanged.
   pub beside : (w w' : W) (p q : ℕ) (s : Plain) (step : Option Change) (r : StepKind) (span : List Mark) (o : Option (Seat C L)) → (p ≡ q → ⊥)
       → (encoded m.lock_kind (apply_some s step) ≡ encoded m.lock_kind s → w' ≡ w)
       → ((c : C) (l : L) (h : Option Hold) → o ≡ Some (Calling c l h) → is_open_now q (m.asks c h) span s ≡ true

@@ -10,7 +10,7 @@ use Rattle.spin_model.specs.StepKinds.{StepKind, is_look}
 use Rattle.spin_model.specs.Calls.{AnyOf, Asked, LockKind, Mark}
 use Rattle.spin_world_core.specs.Spans.{own, own_count}
 
--- what a waiting call tries to get without a look first, after these plain steps; no other call has such a request
+-- the request, after these plain steps, of a waiting call that tries before it looks; a call that does not wait has none
 abbrev pub goes_of : Asked → List Change → Option Ask
 goes_of what made = if what.waits then what.goes_for made else None
 
@@ -57,8 +57,8 @@ GetsWhenDue kind p (outcome.Answered a b) Step (Some what) span s step r = Gets 
 GetsWhenDue kind p _ _ _ span s step r = Unit {0}
 
 -- Before its plain step, a try continues only by a step at which what it asks is open. A try on a queue reads two words.
--- It also continues by its first step, and by a step at which the served number is what the next number was at an
--- earlier step of the party.
+-- So it may also continue by its first step, and by a step at which the served number equals the next number as it was
+-- at an earlier step of the party.
 abbrev pub MayTryOn : Ask → ℕ → List Mark → Plain → Type 0
 MayTryOn to_take_and_enter p span s = (is_open_to s p to_take_and_enter ≡ true) ⊎ (own_count p span ≡ 0) ⊎ AnyOf (λ m. (m.party ≡ p) × (next_word m.before ≡ serving_word s)) span
 MayTryOn ask p span s = is_open_to s p ask ≡ true
