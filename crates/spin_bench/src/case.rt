@@ -16,7 +16,7 @@ pub use seated::Seated;
 pub use world::{EVENTS, Plays};
 
 /// Calls that are repeated, perhaps by several threads at once. A call either adds 1 to what `added` returns, or
-/// reads a 1.
+/// reads a 1. At a barrier the leader of a group reads a 1 for each thread of the group.
 pub trait Case: Drop {
     /// Makes this many calls in the worker with this number, and returns the sum of what they read. This
     /// function is measured, so it has only a loop with the calls and their sum.

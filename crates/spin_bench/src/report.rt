@@ -22,9 +22,9 @@ const ROUNDS: usize = 7;
 /// How long one round is, in milliseconds.
 const ROUND_MILLIS: u64 = 100;
 
-/// For how many cases a block of memory has room, though it contains one. The allocator begins so large a block
-/// 16 bytes after the beginning of a page. So no lock crosses a cache line. The Rust driver aligns each case to a
-/// cache line.
+/// A block of memory has room for this many cases, but contains only one. The allocator begins so large a block 16
+/// bytes after the beginning of a page. So no lock crosses a cache line. The Rust driver aligns each case to a cache
+/// line.
 const BLOCK: usize = 32_768;
 
 /// The cases of one thread only.

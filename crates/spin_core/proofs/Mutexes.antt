@@ -26,8 +26,8 @@ use Rattle.spin_model.specs.declared.schedule.Outcome.TheVariants.{Answered}
 use Rattle.spin_model.specs.Machines.{Machine}
 use Rattle.spin_model.specs.Schedules.{Entry}
 
--- A party is out if it is in no call and holds nothing (`IsOut`). If f has the same value at the idle view as without
--- a view, f has at each party that is out the value that it has at a new party.
+-- A party is out if it is in no call and holds nothing (`IsOut`). If f gives the same for the idle view and for no
+-- view, f gives the same for each party that is out and for a new party.
 pub as_new : {X Y : Type 0} (idle : X) (f : Option X → Y) → f (Some idle) ≡ f None → (view : Option X) → IsOut idle view → f view ≡ f None
 as_new idle f same view out = grind (arith, same)
 

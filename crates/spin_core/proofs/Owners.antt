@@ -112,7 +112,7 @@ module _ {V : Type 0} (part : V → Part) where
   Within way cap = (vs : List V) (s : Plain) → s.cap ≡ cap → IsInOrder s → IsLockOf part vs s
       → Limits way (readers_of (used_by part) vs) (writers_of (used_by part) vs)
 
-  -- if each party that writes is a holder, at most as many parties write as hold the lock to write
+  -- if each party that writes is a holder of the kind `writing`, there are at most as many such parties as such holders
   writers_hold : ((v : V) → IsWriters v) → (vs : List V) (s : Plain) → IsLockOf part vs s → writers_of (used_by part) vs ≤ count_kind writer s.holders
   writers_hold kind vs s is =
       within (λ h. h.party) one_writes part written (λ p x. count_kind writer (entries_of p x).holders)
@@ -139,14 +139,14 @@ module _ {V : Type 0} (part : V → Part) where
       let some = writers_hold (λ v. (kind v).1) vs s is in
       grind (arith, both vs, ones s.holders, one_writer s order.exclusive, order.exclusive.writer, order.holders_fit)
 
-  -- a party with this part holds the lock only to write, if it holds the lock
+  -- a party with this part does not hold the lock, or holds it to write
   abbrev pub Writes : Part → Type 0
   Writes x = (p : ℕ) → count_kind writer (entries_of p x).holders ≡ length (entries_of p x).holders
 
   as_many : (p : ℕ) (x : Part) → length (entries_of 0 x).holders ≡ length (entries_of p x).holders
   as_many p x = grind arith
 
-  -- a lock in order that parties hold only to write has at most one holder
+  -- if parties hold the lock only to write, and the lock is in order (`IsInOrder`), it has at most one holder
   pub one_holds : ((v : V) → Writes (part v)) → (vs : List V) (s : Plain) → IsInOrder s → IsLockOf part vs s → OneHolds s
   one_holds each vs s order is =
       let has : V → ℕ = λ v. length (entries_of 0 (part v)).holders in

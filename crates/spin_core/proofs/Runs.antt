@@ -41,7 +41,8 @@ module _ {W V C L A : Type 0} (m : Machine W V C L A) where
   abbrev among : Alone → Seats → Seats → State W V C L
   among z xs ys = world z.0 z.1 (xs ++ z.2 ∷ ys)
 
-  -- whoever sits before and behind the party, h has one outcome, and leaves the party and the others in one way
+  -- Whoever sits before and behind the party, h has the same outcome and leads to the same words, value and seat of the
+  -- party. It leaves the other seats as they are.
   abbrev Alike : (Seats → Seats → Happened W V C L A) → Type 0
   Alike h = (o : Outcome A V) × (z : Alone) × ((xs ys : Seats) → h xs ys ≡ record { outcome = o; next = among z xs ys })
 

@@ -22,7 +22,8 @@ pub use steps::Play;
 
 /// A rule: what holds of a cell's words and of its parties between any two steps.
 ///
-/// `V` is the type of a party's view, a plain `Copy` enum of the lock's own. `T` is the value's type.
+/// `V` is the type of a party's view: a plain `Copy` enum of the lock's own, or such an enum in
+/// [`Numbered`](crate::tie::Numbered). `T` is the value's type.
 pub trait Rule<T, V> {
     // What is fixed when a cell is made. For a lazy value this includes the closure.
     type Key;

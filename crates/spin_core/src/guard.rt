@@ -26,8 +26,8 @@ pub trait Release<T, V>: Rule<T, V> + Uses<V> {
     /// Releases the lock of a party that writes.
     ///
     /// # Contract
-    /// There is no clause. A permit cannot be dropped, so the body has to end the writer's permit: by
-    /// `leave`, or by `leak`.
+    /// There is no clause. A permit cannot be dropped, so the body has to end the writer's permit, for example by
+    /// `leave` or by `leak`.
     fn release(writer: WritePermit<'_, T, V, Self>);
 
     // `use_at` agrees with the rule. This is stated apart, since a ghost field cannot use names of the rule.

@@ -9,7 +9,7 @@ ghost use Rattle.spin_core.specs.declared.tie.Opening.{Opening};
 ///
 /// `C` is the type of the lock's calls, and `T` the type of its values. A contract of a pass says which value
 /// was last in the history that the pass knows: the clause `found` of an acquire, and the clause `left` of a
-/// release.
+/// writer's release.
 ///
 /// # Contract
 /// Suppose that the owner has not borrowed the value (`opening.told`). Let `x` be the last value of a history `old`,

@@ -129,7 +129,7 @@ pub trait RelaxStrategy {
     }
 }
 
-/// The strategy that gives the processor's hint for spinning. It is the default strategy of every lock.
+/// The strategy that gives the processor's hint for spinning. It is the default of every lock that has a parameter `R`.
 pub struct Spin;
 
 impl RelaxStrategy for Spin {

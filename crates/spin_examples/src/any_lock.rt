@@ -12,7 +12,7 @@ pub fn count<L: Lock<u64>, W: Wait>(rt: &W, lock: &L) -> u64 {
     })
 }
 
-/// Tries to add 1 to a number under any lock. Returns `None` if the lock is held.
+/// Tries to add 1, modulo 2^64, to a number under any lock. Returns `None` if the lock's try fails.
 pub fn try_count<L: Lock<u64>>(lock: &L) -> Option<u64> {
     lock.try_with(|number| {
         *number = number.wrapping_add(1);

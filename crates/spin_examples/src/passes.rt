@@ -19,8 +19,8 @@ fn count<'a, W: Wait>(rt: &W, pass: Pass<'a, u64, Spin>) -> Pass<'a, u64, Spin>
     SpinMutex::unlock(guard, seen)
 }
 
-/// Doubles the value, or writes the largest number if twice the value does not fit. The pass keeps the lock by a
-/// hold in place of the guard, and its next call is the release.
+/// Turns the guard into a hold and back. Then doubles the value, or writes the largest number if twice the value does
+/// not fit. The new calls of the pass are one `lock` and its release.
 pub fn double_by_a_hold<'a, W: Wait>(rt: &W, pass: Pass<'a, u64, Spin>) -> Pass<'a, u64, Spin>
     ensures lock { lock_of result ≡ lock_of pass.entry }
 {

@@ -108,8 +108,8 @@ pub fn add_and_read<'a, W: Wait>(rt: &W, pass: Pass<'a, u64, Spin>) -> (u64, Pas
     (value, pass)
 }
 
-/// Tries once to acquire the lock in each way, and to upgrade. Releases the lock after each try to acquire it that
-/// succeeds.
+/// Tries once to acquire the lock in each way. As an upgradable reader it also tries once to upgrade. Each time it has
+/// acquired the lock, it releases the lock again.
 pub fn try_each<'a, W: Wait>(rt: &W, pass: Pass<'a, u64, Spin>) -> Pass<'a, u64, Spin> {
     let pass = match pass.try_read(rt) {
         Ok((guard, seen)) => RwLock::unlock_shared(guard, seen),

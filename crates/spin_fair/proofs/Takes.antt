@@ -190,7 +190,7 @@ reason_so {T} n = at (n == 1)
     at true = refl
     at false = refl
 
--- the moves of a party that was in no call are those of a whole `starve`
+-- if a party that registers was in no call, its moves begin a call of `starve`
 pub comes_whole : {T : Type 0} (p q : Spot T) (view : Option View) (o : FairCall → Option (Answer T)) → IsOut Idle view
     → Since model_at (Comes (in_call view) (call_of view) (o (call_of view))) p q → Since model_at (Comes false Starve (o Starve)) p q
 comes_whole p q None o out so = so

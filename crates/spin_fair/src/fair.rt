@@ -179,8 +179,8 @@ impl<T, R> FairMutex<T, R> {
     /// Registers the caller as a starver. Returns `None` if [`fair::MAX_STARVERS`] are registered.
     ///
     /// From then on no newcomer acquires the lock, until the starver has the lock or is dropped. The first
-    /// compare-exchange expects the word to be 0. If it fails, a second one expects the word found. More follow only
-    /// while other threads change the word.
+    /// compare-exchange expects the word to be 0. If it fails, and the word found has room for a starver, a second one
+    /// expects that word. More follow only while other threads change the word.
     ///
     /// # Contract
     /// The `Starvation` in `Some` is a registered starver, as every `Starvation` is. `None` promises nothing. Whether and

@@ -40,8 +40,9 @@ pub fn no_newcomer_holds_that_came_behind_a_starver<T>()
 /// operand of these operations depends on a word that was loaded.
 ///
 /// # Contract
-/// On each word that the rule allows, the operation gives the word that the step function gives (`unlocked`,
-/// `unstarved`, `lock_starved`). If `lock_starved` returns `None`, the operation leaves the word as it is.
+/// If the rule holds (`IsFair`), a holder's subtraction gives the word that `unlocked` gives. A starver's subtraction
+/// gives the word that `unstarved` gives. On any word the bit operation gives the word that `lock_starved` gives. If
+/// `lock_starved` returns `None`, the bit operation leaves the word as it is.
 pub fn an_addition_is_its_step_function<T>()
     ensures unlock { (opening : Opening T) (word : ℕ) (trace : Trace (Done T) (Unit {0})) (parties : List (Numbered View)) (p : ℕ) → IsFair opening word trace parties → HoldsAt (views_of parties) p → (is_set word ≡ true) × ((word + (2 ^ 64 - holder_weight)) % 2 ^ 64 ≡ unlocked word) }
     ensures unstarve { (opening : Opening T) (word : ℕ) (trace : Trace (Done T) (Unit {0})) (parties : List (Numbered View)) (p : ℕ) → IsFair opening word trace parties → StarvesAt (views_of parties) p → (starver_weight ≤ word) × ((word + (2 ^ 64 - starver_weight)) % 2 ^ 64 ≡ unstarved word) }

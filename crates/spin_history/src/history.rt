@@ -147,7 +147,7 @@ impl BlankLog {
     /// Opens the log under the name `H`, with entries of type `T`.
     ///
     /// # Contract
-    /// `H` has to name this log: in the `run` of a [`Work`] it is the `H` of `run`, elsewhere `Brand`. The log is empty.
+    /// `H` has to name this log (see [`History`]). The log is empty.
     pub fn open<T, H: History>(self) -> Log<T, H>
         requires { self.name ≡ H.name }
         ensures { result.entries ≡ [] }

@@ -4,7 +4,7 @@ use spin_core::relax::{MAX_HINTS, RelaxStrategy};
 use std::cell::Cell;
 use std::sync::Wait;
 
-/// A strategy that never returns from a pause whose hints are 0, too many, or no power of two.
+/// A strategy whose `pause` never returns if the number of hints is too large or no power of two.
 struct Strict;
 
 impl RelaxStrategy for Strict {

@@ -114,7 +114,7 @@ fn options_go_to_the_value(rt: HostRuntime) {
     equal(&rt, text.as_str(), "Mutex { data: Some(\n    5,\n) }");
 }
 
-/// A writer with room for `room` pieces. It counts the pieces at which the lock was free.
+/// A writer with room for `room` pieces. It counts how often the lock is free when a piece is written.
 #[derive(Drop)]
 struct Watch<'a> {
     lock: &'a SpinMutex<u64>,

@@ -74,7 +74,7 @@ Registers p m = (m.party ≡ p) × (m.change ≡ Some (gets p to_starve))
 abbrev pub TriesToStarve : ℕ → Mark → Type 0
 TriesToStarve p m = Registers p m ⊎ FindsClosed p to_starve m
 
--- the most steps that a call may take
+-- how many steps a call may take, in all or until something happens
 pub data Limit : Type 0 where
   unlimited : Limit
   within : ℕ → Limit
@@ -159,7 +159,7 @@ pub record Asked : Type 0 where
   pub tries : Option Ask  -- what a try asks; where that is closed the try ends
   pub answers : Said → Meaning
   pub most : Said  -- one of the answers that it may give
-  pub limit : ℕ → Limit  -- the most steps that it takes, on a lock of so many words
+  pub limit : ℕ → Limit  -- the limit of its steps, on a lock of so many words
   -- Whether the next request of a waiting call is open. The arguments: whether the call has made no plain step yet,
   -- the number of arrivals up to its own, its party, and the plain lock.
   pub is_open_next : Bool → ℕ → ℕ → Plain → Bool
@@ -181,8 +181,8 @@ HasWeakMoment what said p span = (what.needs_no_cause said || moment (what.answe
 
 -- A kind of lock, which its object provides. The laws speak of the kind that a machine has. So each object says by name which kind that is.
 pub record LockKind : Type 0 where
-  pub word : Plain → ℕ  -- its first word, as a sum over the plain lock
-  pub further_words : List (Plain → ℕ)  -- its other words, as sums over the plain lock
+  pub word : Plain → ℕ  -- its first word, computed from the plain lock
+  pub further_words : List (Plain → ℕ)  -- its other words, computed from the plain lock
   pub plain_steps : Change → Bool  -- the plain steps that it makes; for `completes`, `makes_value` decides
   -- the calls of a party that holds this; the number is an argument that a call may have
   pub calls : ℕ → Option Hold → List Asked
@@ -221,6 +221,6 @@ BelongsTo kind (Some c) = is_step_of kind c ≡ true
 abbrev pub first_word : LockKind → Plain → ℕ
 first_word kind s = kind.word s
 
--- the most steps that a call takes on this kind of lock
+-- the limit of a call's steps on this kind of lock
 abbrev pub limit : LockKind → Asked → Limit
 limit kind what = what.limit (suc (length kind.further_words))

@@ -3,7 +3,7 @@ use Rattle.std.specs.Prelude.{Bool, true, false}
 
 pub data StepKind : Type 0 where
   plain : StepKind  -- a step of no other kind
-  again : StepKind  -- an exchange that the call repeats if it fails
+  again : StepKind  -- an exchange of the shape `retry` (`Act`), which the call may repeat if it fails
   look : StepKind  -- a load of the shape `load_if` or `enter` (`Act`), in a call that may wait
   weak : StepKind  -- a weak exchange that fails, whatever the word is; only the move `Weak` makes it
 

@@ -17,8 +17,8 @@ pub enum Move<C, V> {
     /// Leaks what the party holds, such as a guard. The party has to be in no call.
     Leak,
     /// Reads the value as the object's owner. The party of the entry does not matter, but has to exist. The
-    /// move is open if the object is owned and no party holds or is in a call. After it every party that
-    /// leaked is gone.
+    /// move is open if the object is owned, no party is in a call, and each party that holds has leaked its hold.
+    /// After it every party that leaked is gone.
     OwnerGet,
     /// Replaces the value, as the owner. It is open exactly when `OwnerGet` is.
     OwnerSet(V),

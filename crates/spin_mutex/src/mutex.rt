@@ -218,7 +218,7 @@ impl<T, R: RelaxStrategy> Mutex<T, R> {
     /// Acquires the mutex, spinning until it is free.
     ///
     /// A waiting thread passes the time with the strategy `R`. The call never returns if its own thread holds
-    /// the lock, or if all 2^64 - 1 tickets of the ticket lock inside are used up.
+    /// the lock, or if it finds all 2^64 - 1 tickets of the ticket lock inside used up.
     ///
     /// # Contract
     /// The guard belongs to a holder of the lock (`holds`). Whether and when the call returns is not promised.

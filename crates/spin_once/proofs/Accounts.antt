@@ -232,7 +232,7 @@ module _ {T S : Type 0} (c : OnceCall (Unit {0})) (p q : Place T S) where
       (subst (λ z. Since z (Comes false c next) r) at.0 so.0, so.1)
   looked r n (inr at) step next is = let so = next_by q r c n step next c Look at.1 is in (call_on p q r c next at.0 so.0, so.1)
 
--- The permit's party has put a value into the cell, which led it to the point `p`. The store that ends its call leads
+-- The permit's party has put a value into the cell, and is still at the point `p`. The store that ends its call leads
 -- it to the point `q`.
 module _ {T S : Type 0} (makes : S → T → Type 0) (me : InitPermit T S) (p q : Place T S) (at : p ≡ here me.account) (same : q.0 ≡ p.0)
     (moved : Moved (Watches (Of makes p.0 p.2.name) p.2 q.2 (Told p.0.opening (turn_by (CallOnce tt) (what p.1)) p.1) 0) q.1) where

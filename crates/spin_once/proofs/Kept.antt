@@ -206,8 +206,8 @@ module _ {T S : Type 0} (makes : S → T → Type 0) (key : Key T S) where
   made_of_any any (Done value) done = any key.seed.value value
   made_of_any any _ done = absurd cc
 
-  -- The content that some party reads is a value that was made. Once the trace does not tell the value any more, any other value that was
-  -- made may replace it.
+  -- The content that some party reads is a value that was made. Any other value may replace it if the trace does not
+  -- tell the value any more, and each seed may give each value.
   pub stabilizes : key.opening.told ≡ false → ((it : S) (value : T) → makes it value) → StableAt (IsOnce key.opening) (once_ways makes key) is_done 2
   unfolding IsOnce
   stabilizes untold any t x lies =

@@ -36,7 +36,7 @@ Onward = Next OncePoint (Answer (Unit {0}))
 abbrev pub table : Call → OncePoint → ℕ → Stepped ℕ (Unit {0}) OncePoint (Answer (Unit {0}))
 table c l n = let m : OnceMachine (Unit {0}) = once_machine None in m.step n (Some tt) c l None
 
--- a party whose call this step answers holds nothing
+-- a party whose call is answered by this step holds nothing
 abbrev pub IsFree : Onward → Type 0
 IsFree (Continue l) = Unit {0}
 IsFree (Answers a None) = seat_of (answered a) ≡ seat.Idle

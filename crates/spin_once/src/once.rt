@@ -24,7 +24,7 @@ impl<T> Seed<T> for () {
 /// A value that is made at most once, by a closure of one of its callers.
 ///
 /// When there is a value, it stays, and reading it costs one load. At most one closure runs at a time, and none runs
-/// when there is a value. A caller that finds a closure running spins until that closure has ended.
+/// when there is a value. If a call brings a closure while another one runs, the call spins until that one has ended.
 ///
 /// A closure that waits for the value of its own `Once` never returns. A call that does not wait, such as
 /// [`get`](Once::get), finds that there is no value yet.

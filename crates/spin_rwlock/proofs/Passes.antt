@@ -42,8 +42,8 @@ stops : (b : Bool) (u v : Use) → FitsUse b u v → u ≡ writes → v ≢ writ
 stops true u v fits is = fits.1
 stops false u v fits is = absurd (fits is)
 
--- For a step after which the party does not write, if it wrote before. A value that it sees after the step is the one
--- written last. So is a value that it used before the step.
+-- For a step of a party that did not write before the step, or does not write after it. A value that the party sees
+-- after the step is the one written last. So is a value that it used before the step.
 module _ {T : Type 0} (opening : Opening T) (es : List (rws.Done T)) where
   abbrev IsLastNow : Option T → Type 0
   IsLastNow shown = IfSome shown (λ x. IsLast opening es x)

@@ -187,7 +187,7 @@ module _ {T : Type 0} where
   outcomes_of true answers = map outcome_of answers
   outcomes_of false answers = Begun ∷ map outcome_of answers
 
-  -- the course that has one step of the model for each item of `answers`
+  -- the course that begins the call if it is not under way (`false`), and has a step for each item of `answers`
   abbrev pub AreSteps : Bool → RwCall → List (Option (Answer T)) → OneCourse T
   AreSteps goes_on call answers own outs = (own ≡ moves_of goes_on call answers) × (outs ≡ outcomes_of goes_on answers)
 
@@ -263,7 +263,7 @@ module _ {T : Type 0} where
   missed call n = if still call n then None else Some Refused
 
   -- The answers of an exchange that admits the reader. With `true` the call is under way. With `false` the exchange is
-  -- the first step of the call. A call of the model begins with a look, so the party then makes two steps.
+  -- the first step of the call. In the model a call to read begins with a look, so the party then makes two steps.
   abbrev pub admitted : Bool → List (Option (Answer T))
   admitted true = Some Granted ∷ []
   admitted false = None ∷ Some Granted ∷ []

@@ -25,7 +25,7 @@ writes_at held = let writer = held.0.writer in ((writer.key, Some writer.view, h
 
 -- For a call that wants to read
 module _ {T K M R : Type 0} {k : kind.Ghosts K} {m : mode.Ghosts M} (call : RwCall) (was : Coming T K M R k m) where
-  -- from `was` to `now` the call has found the word of `now`, by which it waits, tries again or has failed
+  -- from `was` to `now` the call has found the word of `now`, and so waits, tries again or has failed
   abbrev pub SeeksOn : Coming T K M R k m → Type 0
   SeeksOn now = Leads (Seeks call was.word) (Seeks call now.word) (sight was.account) (sight now.account)
 

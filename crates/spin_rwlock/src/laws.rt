@@ -31,7 +31,7 @@ pub fn the_word_of_a_rwlock_counts_its_parties<T>()
     ensures { (opening : Opening T) (word : ℕ) (trace : Trace (Done T) (Unit {0})) (parties : List (Numbered View)) → IsRw opening word trace parties → word ≡ ((weight reading * readers (views parties) + weight upgradable * upgradables (views parties)) + weight asking * askers (views parties)) + weight writing * writers (views parties) }
 {}
 
-/// States that several parties read an `RwLock`, or one writes it alone.
+/// States that the holders of an `RwLock` are readers, or one writer alone.
 ///
 /// # Contract
 /// If the rule holds (`IsRw`), at most one holder is upgradable or has asked to upgrade. If a party writes, it is the
@@ -53,7 +53,8 @@ pub fn the_word_of_a_rwlock_is_zero_when_nobody_holds<T>()
 /// A holder releases by a subtraction, and downgrades or asks to upgrade by an addition. Neither loads the word first.
 ///
 /// # Contract
-/// On each word that the rule allows, the operation gives the word that the step function gives (`released`, `turned`).
+/// Suppose that the rule holds (`IsRw`). If the party holds as `k`, its subtraction gives the word that `released`
+/// gives. If it holds as `j` and may turn to `k` (`may_turn`), its addition gives the word that `turned` gives.
 pub fn an_addition_is_its_step_function<T>()
     ensures release { (opening : Opening T) (word : ℕ) (trace : Trace (Done T) (Unit {0})) (parties : List (Numbered View)) (p : ℕ) (k : Kind) → IsRw opening word trace parties → HoldsAt (views parties) p k → (tells k word ≡ true) × ((word + (2 ^ 64 - weight k)) % 2 ^ 64 ≡ released k word) }
     ensures downgrade { (opening : Opening T) (word : ℕ) (trace : Trace (Done T) (Unit {0})) (parties : List (Numbered View)) (p : ℕ) (j k : Kind) → IsRw opening word trace parties → HoldsAt (views parties) p j → may_turn j k ≡ true → (tells j word ≡ true) × ((word + (weight k - weight j)) % 2 ^ 64 ≡ turned j k word) }

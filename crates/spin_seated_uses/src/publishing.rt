@@ -63,7 +63,7 @@ fn acquire<W: Wait>(rt: &W, lock: &SeatedRwLock, pass: &mut RwPass, hold: Seated
     unreachable!()
 }
 
-/// Acquires the lock as the writer, and publishes a value.
+/// Acquires the lock as the writer, publishes a value, and releases the lock.
 fn publish<W: Wait>(rt: &W, lock: &SeatedRwLock, pass: &mut RwPass, value: u64)
     requires own { IsPassOf lock.now pass.old }
     requires free { holds pass.old.known ≡ None }
@@ -76,7 +76,7 @@ fn publish<W: Wait>(rt: &W, lock: &SeatedRwLock, pass: &mut RwPass, value: u64)
     lock.unlock_write(pass);
 }
 
-/// Acquires the lock as a reader, and reads the value.
+/// Acquires the lock as a reader, reads the value, and releases the lock.
 fn look<W: Wait>(rt: &W, lock: &SeatedRwLock, pass: &mut RwPass) -> u64
     requires own { IsPassOf lock.now pass.old }
     requires free { holds pass.old.known ≡ None }

@@ -27,7 +27,7 @@ module _ (n : ℕ) where
   abbrev pub Called : SeatsCall → Answer (Unit {0}) → Account n → Account n → Type 0
   Called call answer before now = spots.HasCalled model call answer (known before) (known now)
 
-  -- the party's `try_enter` found a word: if by this word a seat is free, the call goes on, otherwise it has failed
+  -- the party's `try_enter` found a word: if this word has a free seat, the call goes on, otherwise it has failed
   abbrev pub GoesFor : Bool → Account n → Account n → Type 0
   GoesFor true = IsIn TryEnter
   GoesFor false = Called TryEnter Refused

@@ -14,8 +14,8 @@ pub fn no_more_sit_than_there_are_seats()
     ensures { (n word : ℕ) (views : List View) → IsWord n word tt views → (word ≡ seated views) × (word ≤ n) }
 {}
 
-/// States that a subtraction frees a seat as the step function says, on each word that the rule allows. A thread
-/// that frees its seat subtracts without a load.
+/// States that the subtraction of a party that sits frees a seat as the step function says, on each word that the
+/// rule allows. A thread that frees its seat subtracts without a load.
 pub fn a_subtraction_is_its_step_function()
     ensures { (n word : ℕ) (views : List View) (p : ℕ) → IsWord n word tt views → part_at part views p ≡ holds reading → (1 ≤ word) × ((word + (2 ^ 64 - 1)) % 2 ^ 64 ≡ left word) }
 {}

@@ -256,7 +256,7 @@ apply s (completes p) = record s { phase = complete }
 apply s (fails p) = record s { phase = nothing }
 apply s (arrives p) = record s { arrivals = s.arrivals + 1 }
 
--- the words of each lock, as sums over its parties
+-- the words of each lock, computed from the plain lock
 abbrev pub flag_word : Plain → ℕ
 flag_word s = length s.holders
 

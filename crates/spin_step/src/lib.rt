@@ -1,5 +1,5 @@
-//! Every change of a lock's word, as a pure function from the word before to the word after. Each function makes one
-//! step of the plain lock, which is defined here too.
+//! Each change of the words of the flag, the ticket lock and the `Once`, as a pure function from the word before to the
+//! word after. Each of these functions makes one step of the plain lock, which is defined here too.
 //!
 //! Begin with [`flag`], the smallest lock. A function that may fail returns `None` in place of a new word.
 //!

@@ -23,7 +23,7 @@ counts : (s : Plain) (word : ℕ) → OneOfEach s → rw_word s ≡ word → Cou
 counts s word one is =
     record { all = all_kinds s.holders; word = omega (arith, by_kinds weight s.holders, is); upgraders = omega (arith, by_kinds upgrader s.holders, one.0); writers = one.1 }
 
--- the word tells whether the lock has room for a reader: its low bits show who lets none in, the rest counts readers
+-- the word tells whether the lock has room for a reader: it shows whether a holder lets none in, and how many read
 pub read-word : (s : Plain) (word cap : ℕ) → OneOfEach s → s.cap ≡ min cap reader_limit → rw_word s ≡ word → may_come reading s ≡ has_room reading word cap
 read-word s word cap one room is =
     let c = counts s word one is in let others = by_kinds (against reading) s.holders in grind arith

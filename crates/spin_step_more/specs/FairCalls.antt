@@ -86,8 +86,8 @@ asks_of patience StarverLock h = waits_starving
 asks_of patience StarverDrop h = gives_back is_registered (Some Starver)
 asks_of patience Release h = gives_back is_write (Some Write)
 
--- The table of the fair lock that opens with the value v and this cap of starvers. `lock` registers when more than `patience` of its looks have
--- found the flag set.
+-- The table of the fair lock that opens with the value v and this cap of starvers. When more than `patience` of its
+-- looks have found the flag set, `lock` goes on to register.
 abbrev pub fair_table : {V : Type 0} → V → ℕ → ℕ → Table ℕ V FairCall FairPoint (Answer V)
 fair_table v cap patience =
     record (usual_table (Some v) fair 0 one_number (λ c h. starts_at c) (act_of cap patience) (asks_of patience)) { cap = min cap most_starvers }

@@ -5,7 +5,7 @@ ghost use Rattle.spin_step.specs.Plain.{Plain, Kind, Change, reading, to_write, 
 ghost use Rattle.spin_step.specs.Parties.{IsExclusive};
 ghost use Rattle.spin_step_more.specs.Upgrading.{StaysAsking, apply_all, reader_releases};
 
-/// States that a downgrade is one step, before and after which no thread may begin to write.
+/// States that a downgrade is one step, before and after which no writer may acquire the lock.
 pub fn a_downgrade_lets_no_writer_in()
     ensures { (s : Plain) (p q : ℕ) (k l : Kind) → is_open s (turns p k l) ≡ true → (is_open_to s q to_write ≡ false) × (is_open_to (apply s (turns p k l)) q to_write ≡ false) }
 {}

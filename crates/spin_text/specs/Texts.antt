@@ -53,7 +53,7 @@ abbrev pub played : (h : Header) → List (ℕ × Move (CallOf h) ℕ) → List 
 played (Flag value parties) entries = transcript_text (flag_machine value) parties entries
 played (Ticket value first parties) entries = transcript_text (ticket_machine value first) parties entries
 played (Rw value cap parties) entries = transcript_text (rw_machine value cap) parties entries
--- a fair lock with this many spins has a patience that is one more
+-- the patience of a fair lock is one more than its spins
 played (Fair value cap spins parties) entries = transcript_text (fair_machine value cap (spins + 1)) parties entries
 played (Barrier n parties) entries = transcript_text (barrier_machine n) parties entries
 played (Once parties) entries = transcript_text (once_machine None) parties entries

@@ -36,8 +36,8 @@ answer_text answer.Failed = codes "err"
 answer_text answer.Leader = codes "leader"
 answer_text answer.Follower = codes "follower"
 
--- ` from LINE`, with the line of the transcript at which the call began: the event at place 0 is on line 1. A call that began in an earlier
--- run has no line.
+-- ` from LINE`, where LINE is the line of the transcript at which the call began: the event at place 0 is on line 1. A
+-- call that began in an earlier run has no line.
 abbrev pub from_text : Option ℕ → List ℕ
 from_text None = []
 from_text (Some began) = codes " from " ++ decimal (began + 1)

@@ -1,5 +1,5 @@
-//! Text that is written from its end to its start: each piece goes in front of the last one. Begin with
-//! [`put`].
+//! Text that is written from its end to its start: each piece goes in front of what is written so far. Begin
+//! with [`put`].
 ghost use Rattle.std.specs.Prelude.{◌≡◌, ◌≤◌, ◌+◌, length, decimal};
 ghost use Rattle.spin_text.specs.Pieces.{PutBefore};
 

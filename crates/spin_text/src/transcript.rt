@@ -1,5 +1,5 @@
-//! The text of a transcript. Begin with [`write_transcript`]. A buffer gets each line from its end to its
-//! start.
+//! The text of a transcript. Begin with [`write_transcript`]. Each line is written into a buffer, its last
+//! part first.
 ghost use Rattle.std.specs.Prelude.{◌≡◌, ◌≤◌, ◌<◌, ◌++◌, ◌+◌, ◌^◌, OnOk, OnErr, IfOk, IfErr, ℕ, None, true, take, drop, length};
 ghost use Rattle.std.specs.Io.KnownBytes.{Appends};
 ghost use Rattle.spin_model.specs.Schedules.{after, begin_of};

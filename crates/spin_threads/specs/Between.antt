@@ -18,7 +18,7 @@ pub record Between {W V C L A X S : Type 0} (m : Machine W V C L A) (seat_of : X
   -- the world to which the moves of `log` lead, with its plain lock
   pub seen : Seen W V C L
   pub led : seen ≡ seen_after m (opening m came) log
-  -- the model's words encode exactly the holders, tickets and starvers of the plain lock; the lock has these words
+  -- the model's words are those that encode the plain lock; the lock has these words
   pub encodes : m.numbers seen.state.words ≡ encoded m.lock_kind seen.plain
   pub words_are : words ≡ words_of seen.state.words
   -- a writer is the only holder, and at most one ticket has entered

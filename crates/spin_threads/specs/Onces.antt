@@ -1,6 +1,6 @@
 -- The calls of a pass of a `Once` or a `LazyLock`, as calls of the object `Once`. In the history of the pass, only a
--- later move reports that a call's closure fails. The object's schedule names such a call from its beginning as one
--- whose closure fails. `foretold` makes this schedule from the history.
+-- later move reports that a call's closure fails. In the object's schedule the name of the call already says at its
+-- beginning that the closure fails. `foretold` makes this schedule from the history.
 use Rattle.std.specs.Prelude.{◌≡◌, Bool, true, Option, List, length, take}
 use Rattle.spin_step.specs.Plain.{Plain, is_complete}
 use Rattle.spin_core.specs.Own.{Numbered}

@@ -1,5 +1,5 @@
-//! One law for each lock. Each law is the contract of a function that does nothing. A caller that calls this function
-//! learns what the law states.
+//! One law for each kind of lock, except for a `Barrier` and the seated locks. Each law is the contract of a function
+//! that does nothing. A caller that calls this function learns what the law states.
 ghost use Rattle.std.specs.Prelude.{ℕ, List};
 ghost use Rattle.spin_core.specs.Own.{Numbered};
 ghost use Rattle.spin_core.specs.declared.tie.Opening.{Opening};

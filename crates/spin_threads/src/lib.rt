@@ -1,11 +1,13 @@
 //! What the laws of the model say of locks on threads.
 //!
-//! Each lock's cell keeps a list of all moves that threads have made in the cell. This list is a schedule of the lock's
-//! model. So what is promised of every schedule holds between any two steps of running threads. Begin with
-//! [`between_any_two_steps_of_a_spin_mutex`], which cites the definition `Between` of specs/Between.antt.
+//! Each lock but a `Barrier` and the seated locks has a cell that keeps a list of all moves that threads have made in
+//! the cell. This list is a schedule of the lock's model. So what is promised of every schedule holds between any two
+//! steps of running threads. Begin with [`between_any_two_steps_of_a_spin_mutex`], which cites the definition `Between`
+//! of specs/Between.antt.
 //!
-//! The answer of a pass's call was right at some moment of the call: [`a_refused_try_found_the_spin_mutex_held`] is an
-//! example. A call keeps the limit of steps that it has in the model: see [`a_call_of_a_ticket_mutex_keeps_its_limit`].
+//! Some answers to a pass were right at some moment of the call, such as a failed try: see
+//! [`a_refused_try_found_the_spin_mutex_held`]. A call of a pass keeps the limit of steps that it has in the model: see
+//! [`a_call_of_a_ticket_mutex_keeps_its_limit`]. A `Once` and a `LazyLock` have no law about limits.
 #![tactic(auto)]
 
 mod answers;

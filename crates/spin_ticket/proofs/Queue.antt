@@ -64,7 +64,7 @@ Comes to n v = v ≡ to n
 abbrev Compares : ℕ → ℕ → View → Type 0
 Compares served n v = (served ≤ n) × (v ≡ Idle)
 
--- the load of the served number in a release finds the party's ticket
+-- the load of the served number in a release finds the number of the party's ticket
 abbrev Finds : ℕ → ℕ → View → Type 0
 Finds number n v = (n ≡ number) × (number < ticket_limit) × (v ≡ Entered number)
 

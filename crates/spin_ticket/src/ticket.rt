@@ -106,7 +106,7 @@ impl<T, R> TicketMutex<T, R> {
     ///
     /// The call takes a ticket, and waits with strategy `R` until the number of its ticket is served. With [`Spin`] the
     /// call looks less often the more tickets are before its own. The call never returns if its own thread holds the
-    /// lock, or once all 2^64 - 1 tickets are used up.
+    /// lock, or if it finds all 2^64 - 1 tickets used up.
     ///
     /// # Contract
     /// The guard belongs to a holder of the lock (`IsHolder`). Whether and when the call returns is not promised.

@@ -25,8 +25,8 @@ pub fn next<T, R>(lock: &TicketMutex<T, R>) -> u64 {
 
 /// Creates an unlocked mutex whose first ticket has the number `first`.
 ///
-/// Tickets are used up after 2^64 - 1 calls. With a late first ticket a caller can test what its program does when no
-/// ticket is left.
+/// A lock from [`TicketMutex::new`] has 2^64 - 1 tickets. With a late first ticket a caller can test what its program
+/// does when no ticket is left.
 ///
 /// # Contract
 /// Only that the call returns.

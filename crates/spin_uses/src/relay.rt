@@ -7,7 +7,7 @@ use spin_core::relax::RelaxStrategy;
 use spin_flag::spin::{Pass, SpinMutex};
 use std::sync::Wait;
 
-/// Writes a value by one pass, and then reads it by another pass.
+/// Writes a value by one pass, and then reads the lock's value by another pass.
 ///
 /// # Contract
 /// Each pass has acquired the lock and released it, once, and is returned (`wrote`, `read`). `value` is the

@@ -147,7 +147,8 @@ impl Crew for AskedMeanwhile<'_> {
             }
             Yield::relax(rt);
         }
-        // The first thread waits for the maker of an answer, which waits for this thread. So the test fails here.
+        // If the first thread is not done yet, it waits for the maker of an answer, which waits for this thread. Then
+        // the test fails here.
         equal(rt, self.done.load(SeqCst), 1);
         false
     }

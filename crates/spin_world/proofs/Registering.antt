@@ -28,7 +28,7 @@ module _ {Few Fewer : List Mark → Type 0} {p n : ℕ} {now : Mark} {span : Lis
 abbrev pub MayBeBlind : ℕ → ℕ → List Mark → Type 0
 MayBeBlind n p span = may_be_blind p n span ≡ true
 
--- as the `IsFew` of `RegistersInTime`: after each late look the party has tried to register
+-- with this `IsFew`, `RegistersInTime` says that after each late look the party has tried to register
 abbrev pub none_left : List Mark → Type 0
 none_left recent = ⊥
 

@@ -1,5 +1,5 @@
 -- What users of a barrier may rely on: exactly the last arrival of each group leads, and a follower leaves once its
--- group is full.
+-- group is full, as far as its generation tells.
 use Rattle.spin_world_core.specs.Users.{IsCalling}
 use Rattle.spin_world_core.specs.Runs.{state_at}
 use Rattle.spin_world_core.specs.Users.{seen_at}

@@ -18,7 +18,7 @@ use spin_world_core::{Act, Answer, Hold, Next, Object};
 
 /// The cell that is filled once, by the first closure that gives a value.
 ///
-/// Its word is 0 while it has no value, 1 while a closure runs, and 2 once it has a value.
+/// Its word is 1 while a closure runs, and 2 once the cell has a value. Otherwise it is 0.
 ///
 /// # Examples
 /// ```

@@ -6,7 +6,8 @@ use Rattle.spin_world_core.specs.Users.{ReadsAgree}
 use Rattle.spin_world_core.specs.Values.{ValuesAll}
 
 pub record Lawful {W V C L A : Type 0} (m : Machine W V C L A) : Type 0 where
-  -- each call begins only if its party holds what the call needs, and each step is one operation on one word
+  -- Each call begins only if its party holds what the call needs. Each step is one operation on one word, unless the
+  -- steps of this kind of lock are sections.
   pub stepwise : Stepwise m
   -- a party in a call can take its next step
   pub can : Always m (CanGoOn m)

@@ -115,7 +115,7 @@ abbrev pub IsLastBegin : {W V A : Type 0} → ℕ → List (Event W V A) → Opt
 IsLastBegin p events None = list_any (begins_of p) events ≡ false
 IsLastBegin p events (Some place) = IsLastOf p events place
 
--- each answer tells where in the transcript its call began
+-- each answer tells where in the transcript its call began, or `None` if the call began earlier
 abbrev pub TellsBegins : {W V A : Type 0} → List (Event W V A) → Type 0
 TellsBegins {W} {V} {A} events =
     (front : List (Event W V A)) (e : Event W V A) (back : List (Event W V A)) (a : A) (began : Option ℕ) → events ≡ front ++ e ∷ back → e.outcome ≡ outcome.Answered a began → IsLastBegin e.party front began

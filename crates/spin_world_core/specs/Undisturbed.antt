@@ -33,11 +33,12 @@ UndisturbedTakes IsFew kind p what span =
     (recent : List Mark) (first : Mark) (older : List Mark) → span ≡ recent ++ first ∷ older → is_open_now p what older first.before ≡ true → AllOf (Leaves kind p) (recent ++ first ∷ [])
     → IsFew (own_count p (recent ++ first ∷ []))
 
--- how many steps an undisturbed call takes at most: as many as it promises, and never more than four
+-- how many steps an undisturbed call takes at most once its request is open: as many as it promises, and at most four
 abbrev pub steps_alone : Asked → ℕ
 steps_alone what = min what.undisturbed_steps 4
 
--- an undisturbed call has made at most `steps_alone` steps when it is answered, and fewer while it continues
+-- Since its request was open, an undisturbed call has made at most `steps_alone` steps when it is answered, and fewer
+-- while it continues.
 abbrev pub AnsweredSoon : {V A : Type 0} → LockKind → ℕ → List Mark → Outcome A V → Option Asked → Type 0
 AnsweredSoon kind p span (outcome.Answered a b) (Some what) = UndisturbedTakes (λ n. n ≤ steps_alone what) kind p what span
 AnsweredSoon kind p span outcome.GoingOn (Some what) = UndisturbedTakes (λ n. n < steps_alone what) kind p what span

@@ -43,7 +43,7 @@ pub record FindsLastWritten {W V C L A : Type 0} (m : Machine W V C L A) (n : �
   pub owner : (p : ℕ) (seat : Seat C L) → slice_get (state_at m n past).seats p ≡ Some seat
       → is_owners m (state_at m n past) ≡ true → outcome_after m n past p OwnerGet ≡ Value (seen_at m n past).written
 
--- the move is no write; if the move begins a call, this call keeps the guard
+-- the move is no `Write`; if the move begins a call, this call keeps the guard
 abbrev pub is_quiet_move : {C V : Type 0} → (C → Bool) → Move C V → Bool
 is_quiet_move keeps (Begin c) = keeps c
 is_quiet_move keeps (Write v) = false

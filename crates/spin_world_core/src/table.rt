@@ -246,8 +246,7 @@ impl<O: Object, A: Allocator> Table<O, A> {
         }
     }
 
-    /// Makes the next step of the party's call. If `is_weak`, that step fails spuriously; a step that cannot fail
-    /// spuriously is skipped.
+    /// Makes the next step of the party's call. If `is_weak`, that step fails spuriously, or is skipped if it cannot.
     // `next_act` is called at one place, so that the compiler inlines it and builds no `Act`.
     fn step(
         &mut self,

@@ -197,8 +197,8 @@ impl<O: Object, A: Allocator + Copy> World<O, A> {
     /// The call first allocates the transcript, and then no step allocates. An `Err` leaves the world unchanged.
     ///
     /// # Contract
-    /// On `Ok` the new state is the one after the schedule (`after`). The transcript has its events (`events_of`), and
-    /// each answer tells where its call began (`TellsBegins`).
+    /// On `Ok` the new state is the one after the schedule (`after`). The transcript has its events (`events_of`). Each
+    /// answer tells where in the transcript its call began, or `None` if the call began earlier (`TellsBegins`).
     ///
     /// Take any schedule that led to the old state, and append this schedule to it. All promises hold of the result:
     /// `KeepsAll`, `MomentsAll`, `CountsAll`, `ValuesAll`. The transcript tells what happens in the appended part

@@ -1,5 +1,6 @@
--- Wrong read-write locks, each wrong in one part of its table, and schedules on which the laws refuse these locks. If a
--- step is wrong, the table names a plain step for it that has the same fault.
+-- Wrong read-write locks, each wrong in one part of its table or machine, and schedules on which the laws refuse
+-- these locks. A wrong step that changes the word still names a plain step, perhaps one that is not open, or one that
+-- fits another word. Only `reads_and_regrets_unseen` names none.
 use Rattle.std.specs.Prelude.{ℕ, zero, suc, ◌+◌, ◌-◌, ◌/◌, true, false, Option, Some, None, List, [], ◌∷◌, ◌++◌, if◌then◌else◌}
 use Rattle.spin_step.specs.Plain.{reading, upgradable, asking, writing, weight, Ask, to_read, to_write, to_upgrade, to_upgrade_asked, to_lock_starving, gets, releases, turns, to_read_upgradable}
 use Rattle.spin_model.specs.declared.place.Hold.{Hold}

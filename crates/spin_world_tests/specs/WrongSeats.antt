@@ -1,6 +1,5 @@
--- Wrong locks of seats, and schedules on which the laws refuse these locks. Each is wrong in one call, or in how it
--- opens. A wrong step that changes a word has a wrong operation, with a plain step of the right lock. If the operation
--- succeeds, it makes this plain step.
+-- Wrong locks of seats, and schedules on which the laws refuse these locks. Each is wrong in one call, in its number of
+-- seats, or in how it opens. When a wrong step changes the word, its plain step is still one that the right lock makes.
 use Rattle.std.specs.Prelude.{ℕ, zero, suc, Bool, true, false, Option, Some, None, List, [], ◌∷◌, ◌++◌, nat_lt, ◌-◌}
 use Rattle.spin_step.specs.Plain.{reading, to_read, gets, releases}
 use Rattle.spin_seats.specs.Seats.{entered}

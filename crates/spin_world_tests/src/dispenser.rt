@@ -25,9 +25,10 @@ pub enum DispenserCall {
 /// The point of a call: which step comes next.
 #[derive(Clone, Copy)]
 pub enum DispenserPoint {
-    /// The first step of any call, and of each further attempt.
+    /// The first step of any call.
     First,
-    /// The exchange of this number, which the call has found, for the number after it.
+    /// The exchange of this number, which the call has found, for the number after it. If the word has changed, the
+    /// step is a load.
     Exchange(u64),
 }
 

@@ -23,7 +23,7 @@ impl Rounds {
 }
 
 impl Case for Rounds {
-    /// The leader of a group adds one wait for each thread of the group.
+    /// The leader of each group counts the waits of all threads of the group.
     #[inline(never)]
     fn repeat<W: Wait>(&self, rt: &W, _worker: usize, calls: u64) -> u64 {
         let mut seen = 0u64;

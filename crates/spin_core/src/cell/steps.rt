@@ -34,8 +34,8 @@ pub trait Play<K, V, E> {
 /// `Watches`).
 ///
 /// The rule may know a fact of a value that nobody writes. Then the step has to keep this fact (`Carrying`).
-/// A party that stops writing has to show the fact of the value that it leaves. A party that begins to use
-/// the value, reads on or stops using it learns the fact of its value (`Found`).
+/// A party that stops writing has to show the fact of the value that it leaves. Each party that uses the value before
+/// or after the step learns the fact of its value, unless it writes on (`Found`).
 impl<'a, T, V, E, S, P: Rule<T, V, Second = Trace<E, S>>> Permit<'a, T, V, P> {
     /// Loads the first word.
     pub fn load<M: Play<P::Key, V, E>>(self, seen: Watch<E>) -> (u64, Permit<'a, T, V, P>, Watch<E>)

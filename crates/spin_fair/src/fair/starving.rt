@@ -242,7 +242,7 @@ pub(super) fn wait_as_starver<'a, T, R: RelaxStrategy, W: Wait>(
 }
 
 // Returns the word after the only starver has acquired the lock and stopped starving. The starver does both at once, so
-// no thread sees a holder that is still registered.
+// no thread sees this starver hold the lock while it is registered.
 fn taken_alone() -> u64
     ensures exact { result ≡ 1 }
     ensures plain { (s : Plain) (party : ℕ) → OneHolds s → is_starver party s.starvers ≡ true → fair_word s ≡ 2 → Decides s (gets party to_lock_starving_alone) fair_word (Some 3) }

@@ -139,8 +139,8 @@ struct Relay {
 }
 
 impl Relay {
-    // Takes turns until the third thread has made its looks. Each turn lasts until the other thread has the next
-    // ticket, or the looks are over.
+    // Takes turns until the thread that looks is done. Each turn lasts until the other thread has the next ticket, or
+    // the looks are over.
     fn run<R: Wait>(&self, rt: &R) {
         for _ in 0..TURNS {
             if self.looked.load(SeqCst) {

@@ -25,8 +25,9 @@ use std::sync::Wait;
 ///
 /// # Contract
 /// Each call takes the pass and returns it. The call ensures `Called`: in the history the pass's new moves are
-/// those of exactly one call, and this call has the returned answer. A model of a `Once` that threads share plays
-/// the moves of all threads in the order of the history. It skips no move, and gives this call the same answer.
+/// those of exactly one call, and this call has the returned answer. (A call whose closure may fail ensures `Tried`.)
+/// A model of a `Once` that threads share plays the moves of all threads in the order of the history. It skips no
+/// move, and gives this call the same answer.
 ///
 /// # Examples
 /// ```
@@ -177,7 +178,7 @@ impl<'a, T, R: RelaxStrategy> Pass<'a, T, R> {
     ///
     /// # Contract
     /// The call is one `Wait` with the answer `Value`, however often it looked (`made`). The value is the only one in
-    /// the history (`found`). Whether and when it returns is not promised.
+    /// the history (`found`). Whether and when the call returns is not promised.
     pub fn wait<W: Wait>(self, rt: &W) -> (&'a T, Pass<'a, T, R>)
         ensures made { Called WaitCall (Value tt) self.entry result.1 }
         ensures found { IsValue (opening_of self.entry) (history result.1) result.0.now }
@@ -191,7 +192,7 @@ impl<'a, T, R: RelaxStrategy> Pass<'a, T, R> {
     ///
     /// # Contract
     /// The call is one `Poll`, however often it looked, with the answer `Value` and a reference, or else `NoValue`
-    /// (`made`). The value is the only one in the history (`found`). Whether and when it returns is not promised.
+    /// (`made`). The value is the only one in the history (`found`). Whether and when the call returns is not promised.
     pub fn poll<W: Wait>(self, rt: &W) -> (Option<&'a T>, Pass<'a, T, R>)
         ensures made { Called Poll (found_or_none result.0) self.entry result.1 }
         ensures found { IfSome result.0 (λ value. IsValue (opening_of self.entry) (history result.1) value.now) }

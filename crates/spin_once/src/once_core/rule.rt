@@ -89,10 +89,10 @@ impl<T, S> Stabilizes for Stage<T, S> {
     ghost stable = { is_done };
 }
 
-/// The word is that of a plain lock in the phase that these parties show. The trace without its values is a schedule of
-/// the model. The schedule leads to this word, and to the seat that each party's view names. The values are those of
-/// the trace and the one, if any, with which the cell opened. There is at most one, and none before the word says that
-/// there is a value. A value that lies in the cell is that one (`IsMade`), until the owner borrows it.
+/// The word is that of a plain lock in the phase that the cell's parties show. The trace without its values is a
+/// schedule of the model. The schedule leads to this word, and to the seat that each party's view names. The values are
+/// those of the trace and the one, if any, with which the cell opened. There is at most one, and none before the word
+/// says that there is a value. A value that lies in the cell is that one (`IsMade`), until the owner borrows it.
 impl<T, S: Seed<T>> Rule<Slot<T, S>, Party> for Stage<T, S> {
     ghost use Rattle.spin_once.specs.Once.{IsOnce, once_ways};
     ghost use Rattle.spin_once.specs.OnceValues.{lent_key};

@@ -32,7 +32,7 @@ pub(super) type Held<'a, T, R> = (RwLockWriteGuard<'a, T, R>, Watch<Entry<T>>);
 impl<'a, T> Account<'a, T> {
     ghost use Rattle.spin_rwlock.specs.Waits.{reads_at, writes_at};
 
-    // Makes a step of this kind by a load. It returns the word found, as the operations below do.
+    // Makes a step of this kind by a load. Like the next three functions, it returns the word found.
     pub(super) fn load<K: Turns>(self) -> (u64, Account<'a, T>)
         requires { MayDo (λ n. n) (K.turn T (view_of self) 0) (sight self) }
         ensures word { IsRwWord result.0 }

@@ -1,4 +1,5 @@
-//! The steps of a party that knows the lock's history. Each function makes one step. Begin with [`Account::find_next`].
+//! Steps of a party, with what it knows of the lock's history. Each function makes one step. Begin with
+//! [`Account::find_next`].
 ghost use Rattle.std.specs.Prelude.{◌≡◌, ◌≤◌, Some, None, true, false, length};
 ghost use Rattle.spin_core.specs.Cell.{use_of, writes};
 ghost use Rattle.spin_core.specs.Own.{what};
@@ -85,8 +86,8 @@ impl<'a, T> Account<'a, T> {
     }
 }
 
-// Begins a release: finds the number of the holder's own ticket. The model has no move for this load. `seen` is the
-// trace that the holder knows up to its last step, or nothing.
+// Begins a release by a load that finds the number of the holder's own ticket. The model has no move for this load.
+// `seen` is the trace that the holder knows up to its last step, or nothing.
 pub(super) fn find_own<'a, T>(
     permit: Permit<'a, T, Party, TicketRule>,
     seen: Watch<Entry<T>>,

@@ -34,8 +34,8 @@ use std::sync::Wait;
 /// # Contract
 /// A call takes the pass, or a guard with what the pass knew when it acquired the guard. It returns the pass or a
 /// guard. The call ensures `Called`: in the history the pass's new moves are those of exactly one call, and this
-/// call has the returned answer. The lock's model plays the moves of all threads in the order of the history. It
-/// skips no move, and gives this call the same answer.
+/// call has the returned answer. (`unlock` also writes the guard's value: `Left`.) The lock's model plays the moves of
+/// all threads in the order of the history. It skips no move, and gives this call the same answer.
 ///
 /// # Examples
 /// ```

@@ -160,7 +160,7 @@ impl<C: Answers, H: History, A: Allocator + Clone, R: RelaxStrategy> LoggedCache
         }
         let value = make(&key)?;
         let answer = value.clone()?;
-        // The call never released the lock, so the key still has no answer.
+        // From the look-up above to the `add` below the lock is not released, so the key still has no answer.
         let mut guard = guard.upgrade(rt);
         guard.add(key, value, seen)?;
         Ok(answer)

@@ -23,8 +23,8 @@ pub fn starvers_stay_within_the_cap<V: Copy>()
     ensures { (value : V) → KeepsAll (starves_without_cap value) 2 two_starve → ⊥ }
 {}
 
-/// A `lock` that never registers. If nobody else changes the word, two steps after a look past its patience it has to
-/// be a starver, or to have found the cap reached.
+/// A `lock` that never registers. If nobody else changes the word, two steps after a look past the patience the party
+/// has to be a starver, or to have found the cap reached.
 pub fn a_lock_in_vain_registers<V: Copy>()
     ensures { (value : V) → CountsAll (never_registers value) 2 lock_beside_a_holder → ⊥ }
 {}
@@ -49,7 +49,8 @@ pub fn a_refusal_tells_its_reason<V: Copy>()
     ensures { (value : V) → MomentsAll (tells_the_other_reason value) 2 try_beside_a_holder → ⊥ }
 {}
 
-/// A `starver_lock` that never tries again. If nobody disturbs this call, it has to be answered by its fourth step.
+/// A `starver_lock` that never tries again. If the flag is clear and nobody disturbs this call, it has to be answered
+/// within four steps.
 pub fn a_starver_tries_again<V: Copy>()
     ensures { (value : V) → CountsAll (waits_for_ever value) 2 four_looks_of_a_starver → ⊥ }
 {}
@@ -71,7 +72,7 @@ pub fn a_lock_counts_each_look<V: Copy>()
 {}
 
 /// A `starver_lock` that has set the flag and waits while another party starves. If nobody disturbs this call, it has
-/// to be answered by its fourth step.
+/// to be answered within four steps.
 pub fn a_starver_that_holds_is_answered<V: Copy>()
     ensures { (value : V) → CountsAll (keeps_the_flag value) 2 lock_beside_a_starver → ⊥ }
 {}
@@ -129,8 +130,8 @@ pub fn a_starver_looks_until_the_flag_is_clear<V: Copy>()
     ensures { (value : V) → CountsAll (spins_by_setting value) 2 two_steps_of_a_starver → ⊥ }
 {}
 
-/// A `lock` that starts to count its looks anew when it has found the flag clear. If nobody else changes the word
-/// meanwhile, a `lock` has to register two steps after a look past its patience, whatever it found before.
+/// A `lock` that starts to count its looks anew when it has found the flag clear. If nobody else changes the word, two
+/// steps after a look past the patience the party has to be a starver, or to have found the cap reached.
 pub fn a_count_of_looks_survives_a_clear_flag<V: Copy>()
     ensures { (value : V) → CountsAll (counts_anew value) 2 lock_past_a_clear_flag → ⊥ }
 {}

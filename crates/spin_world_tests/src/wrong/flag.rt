@@ -6,8 +6,8 @@ ghost use Rattle.spin_model.specs.Operations.{Stepwise};
 ghost use Rattle.spin_world_core.specs.Runs.{KeepsAll};
 ghost use Rattle.spin_world_tests.specs.WrongFlag.{never_looks, lock_beside_a_holder, refuses_at_its_look, looks_first, lock_alone, looks_for_ever, two_looks, tries_by_chance, one_try, looks_by_chance, look_beside_a_holder, never_releases, locks_to_read, opens_set, grants_to_read, whole_try};
 
-/// A flag whose `lock` never tries again after its first failure. If nobody disturbs this call, it has to be answered
-/// by its second step.
+/// A flag whose `lock` never tries again after its first failure. If the flag is clear and nobody disturbs this call,
+/// it has to be answered within two steps.
 pub fn a_lock_tries_again<V: Copy>()
     ensures { (value : V) → CountsAll (looks_for_ever value) 2 two_looks → ⊥ }
 {}

@@ -68,16 +68,16 @@ pub fn a_count_tells_the_upgradable_reader<V: Copy>()
     ensures asking { (value : V) → MomentsAll (counts_without_asking value) 2 count_beside_an_asking_reader → ⊥ }
 {}
 
-/// A `read` that looks for ever, and one that looks twice. If nobody disturbs a `read`, it has to be answered by its
-/// second step. Also a `write` that looks, though its first step has to be the exchange.
+/// A `read` that looks for ever, and one that looks twice. If the lock admits a reader and nobody disturbs a `read`, it
+/// has to be answered within two steps. Also a `write` that looks, though its first step has to be the exchange.
 pub fn a_call_that_waits_is_answered<V: Copy>()
     ensures never { (value : V) → CountsAll (looks_for_ever value) 1 two_looks → ⊥ }
     ensures late { (value : V) → CountsAll (looks_twice value) 1 two_looks → ⊥ }
     ensures write { (value : V) → CountsAll (looks_first value) 1 one_look → ⊥ }
 {}
 
-/// A `try_read` that loads the word for ever. It may take two steps, and one more for each change of the word by
-/// another party.
+/// A `try_read` that loads the word for ever. A `try_read` may take at most two steps, and one more for each change of
+/// the word by another party.
 pub fn a_try_read_is_answered<V: Copy>()
     ensures { (value : V) → CountsAll (tries_for_ever value) 1 read_alone → ⊥ }
 {}

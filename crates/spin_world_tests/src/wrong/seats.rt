@@ -17,13 +17,14 @@ pub fn a_leave_frees_one_seat()
     ensures { KeepsAll leaves_for_two 2 one_of_two_leaves → ⊥ }
 {}
 
-/// A try that loads the word for ever. It may take two steps, and one more for each change of the word by another
-/// party.
+/// A try that loads the word for ever. A try may take at most two steps, and one more for each change of the word by
+/// another party.
 pub fn a_try_is_answered()
     ensures { CountsAll tries_for_ever 1 two_looks → ⊥ }
 {}
 
-/// An `enter` that looks twice. If nobody disturbs this call, it has to be answered by its second step.
+/// An `enter` that looks twice. If a seat is free and nobody disturbs this call, it has to be answered within two
+/// steps.
 pub fn an_enter_is_answered()
     ensures { CountsAll looks_twice 1 enter_alone → ⊥ }
 {}

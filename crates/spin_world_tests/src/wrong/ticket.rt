@@ -27,8 +27,8 @@ pub fn a_look_takes_two_loads<V: Copy>()
     ensures { (value : V) → CountsAll (looks_in_vain value) 1 three_loads → ⊥ }
 {}
 
-/// A `lock` that takes its ticket only if nobody has one. If no other party takes a ticket meanwhile, a `lock` has to
-/// have its ticket by its second step, also while another party holds.
+/// A `lock` that takes its ticket only if nobody has one. If a ticket is left and no other party takes it, a `lock` has
+/// to have its ticket by its second step, also while another party holds.
 pub fn a_lock_queues_behind_others<V: Copy>()
     ensures { (value : V) → CountsAll (queues_behind_nobody value) 2 lock_beside_a_holder → ⊥ }
 {}

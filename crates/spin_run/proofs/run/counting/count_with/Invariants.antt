@@ -1,4 +1,4 @@
--- for the book of this call: the number of all additions, and the book's name and parts
+-- how many additions all workers of this call make, and the name and the parts of this call's book
 use Rattle.std.proofs.Common.{◌*◌}
 use Rattle.spin_run.proofs.run.counting.count_with.Given as goal
 
