@@ -31,7 +31,8 @@ use std::sync::Wait;
 pub trait Lock<T> {
     /// Acquires the lock, calls the closure with the value, and releases the lock.
     ///
-    /// While it waits, the call spins as the lock's own call does. It never returns if its own thread holds the lock.
+    /// While it waits, the call spins as `lock` of a mutex or `write` of an `RwLock` does. It never returns if its own
+    /// thread holds the lock.
     ///
     /// # Contract
     /// The closure has to be always callable. It is called once, with some value of `T`, and its answer is returned
@@ -78,7 +79,7 @@ pub trait Lock<T> {
 pub trait SharedLock<T>: Lock<T> {
     /// Acquires shared access, calls the closure with the value, and releases the access.
     ///
-    /// While it waits, the call spins as the lock's own call does. It never returns if its own thread is the writer.
+    /// While it waits, the call spins as `read` of an `RwLock` does. It never returns if its own thread is the writer.
     ///
     /// # Contract
     /// The closure has to be always callable. It is called once, with some value of `T`, and its answer is returned

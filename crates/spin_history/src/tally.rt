@@ -180,8 +180,8 @@ pub fn open<K: Work>(work: K) -> K::Answer
 ///
 /// # Contract
 /// The share must not be empty. After `true` it has grown by `more`; after `false` it is unchanged. After
-/// `false` there is some number to which `more` cannot be added (`full`); a test shows that the tally held
-/// such a number. If the share has all parts of the ledger, the answer is `true` exactly if the sum fits
+/// `false` some `u64` plus `more` exceeds `u64::MAX` (`full`). No clause says that this `u64` was the tally's
+/// count; a test shows that it was. If the share has all parts of the ledger, the answer is `true` exactly if the sum fits
 /// (`whole`). Whether and when the call returns is not promised.
 pub fn add<L: Ledger, K: Lock<Tally<L>>, W: Wait>(
     rt: &W,

@@ -1,5 +1,5 @@
--- The steps of a lock of seats keep its rule. Each makes the plain step of its step function, and its moves of the
--- lock's model.
+-- The steps of a lock of seats keep its rule. A step that takes or frees a seat makes the plain step of its step
+-- function. Each step is the moves that its party makes in the lock's model.
 use Rattle.std.proofs.Common.{◌≡◌, ℕ, ◌+◌, ◌-◌, ◌≤◌, ◌%◌, ◌^◌, ◌==◌, Bool, true, false, if◌then◌else◌, cond, List, [], ◌∷◌, length, filter, Option, Some, None, refl, sym, ap, ◌∙◌, subst, arith}
 use Rattle.std.specs.Prelude.{max, sum_by}
 use Rattle.std.proofs.lemmas.List.Sums.{sum_by-cons}
@@ -232,7 +232,7 @@ module _ (n name : ℕ) where
   pub gets_up : (view : Option (Numbered View)) → what view ≡ Some Seated → Keeps view (λ w. (w + (2 ^ 64 - 1)) % 2 ^ 64) gets_up_by
   gets_up view is = traces view (λ w. (w + (2 ^ 64 - 1)) % 2 ^ 64) (λ w v. (v ≡ Idle) × (1 ≤ w) × (w ≤ seats n)) gets_up_by (rw is (leave_moves n)) (rw is (gets_up_at n))
 
--- A party that may leave.
+-- an idle party may leave the cell
 
 also : (n : ℕ) (v : View) → Rests (Holds (lock n)) use_of_view (Some v) → Rests (IsWord n) use_of_view (Some v)
 also n v rest = (rest.0, λ w m before behind is. (rest.1 w m before behind is.0, is.1))

@@ -28,8 +28,8 @@ lets s p ask may = grind arith
 pub room_to_come : (k : Kind) (s : Plain) → may_come k s ≡ true → (count_against k s.holders ≡ 0) × (length s.holders < s.cap)
 room_to_come k s may = grind arith
 
--- A lock with as many holders of each kind as an exclusive lock is exclusive too, if only its first ticket may have
--- entered.
+-- Let a lock t have as many holders of each kind as an exclusive lock s. Then t is exclusive too, if no ticket of t but
+-- the first has entered.
 pub exclusive-like : (s t : Plain) → ((f : Kind → ℕ) → sum_kinds f t.holders ≡ sum_kinds f s.holders) → first_alone_entered t.tickets ≡ true
     → IsExclusive s → IsExclusive t
 exclusive-like s t same e x =

@@ -1,4 +1,4 @@
-//! The numbers of the tickets: how many were taken, and a lock that begins with a late one. Begin at [`next`].
+//! The numbers of the tickets: the next number, and a lock whose first ticket has a high number. Begin at [`next`].
 use crate::ticket::TicketMutex;
 
 /// Returns the number of the next ticket.

@@ -26,7 +26,8 @@ at_seat : {C L : Type 0} (P : ℕ → Option (Seat C L) → Type 0) (seats : Lis
 at_seat P seats p x y there here away q =
     get-set (P q) seats p q x (slice_get_within seats p y there) (λ e. subst (λ i. P i (Some x)) e here) (away q)
 
--- after a party's own step, the party's entries are those of its span with this step
+-- If the party's entries are those to which its own steps of the span lead, this also holds after its next step, with
+-- this step in the span.
 stands_stepped : (s : Plain) (p : ℕ) (step : Option Change) (r : StepKind) (span : List Mark) (e : Entries) → IsOpenStep s p step
     → entries p s ≡ entries_so_far p span e → entries p (apply_some s step) ≡ entries_so_far p (mark_of p step r s ∷ span) e
 stands_stepped s p step r span e may stands = grind (arith, entries-own s p step may)
@@ -162,7 +163,8 @@ module _ {W V C L A B : Type 0} {t : Table W V C L A} {by : Machine W V C L B} {
       stays : (k : L) → (next : L) × (slice_get (slice_set seen.state.seats p (Calling c k h)) p ≡ Some (Calling c next h))
       stays k = (k, get-set_same seen.state.seats p (Calling c k h) (Calling c l h) there)
 
-      -- an event of the call that makes this plain step, if any, stores this value, and leaves these words and this value
+      -- an event of the call: it makes the plain step `step`, if any, stores the value `stored`, if any, and leaves the
+      -- words w and the value v
       module _ (move : Move C V) (step : Option Change) (r : StepKind) (stored : Option V) (w : W) (v : Option V) where
         abbrev event : Next L B → Scene W V C L B
         event next =

@@ -1,4 +1,4 @@
--- A proof that several locks share. If the holders of one kind only release, all of them leave within the first two
+-- A proof that several locks share. If all holders of one kind do nothing but release, they leave within the first two
 -- rounds. Then the waiting party can continue.
 use Rattle.spin_world_progress.proofs.Names.{seat_of, apply_some, seen_after, opening, cases_eq, suc, ◌<◌, cases_lt, ◌≡◌, ℕ, ◌≤◌, ◌⊎◌, ◌+◌, Bool, true, false, Option, Some, None, List, length, slice_get, refl, ap, sym, ◌∙◌, subst, arith, inl, inr, ⊎_elim, IsOpenStep, entries, entries-other, entries-own, Hold, Seat, Idle, Calling, Next, Answers, Move, Step, Weak, Machine, goes_on, resting, may_read, after, at_first, Seen, Scene, scene_at, joined, entries_of, StandsFor, Table, machine_of, ◌-◌, no_entries, entries_after, get-set_same, Plays, Invariant, Notes, StandsSo, Test, occurs, AreRounds}
 use Rattle.spin_step.specs.Parties.{Entries}
@@ -7,7 +7,7 @@ use Rattle.spin_world_progress.proofs.Loads.{Wait}
 use Rattle.spin_world_progress.proofs.Loads as walk
 
 -- The load of a holder, a number of rounds (see Loads.antt). A holder takes one round to begin its release, and one
--- for the step of the release. Then the rounds of the waiting party are left (`bound`).
+-- for the step of the release. To these are added the rounds that the waiting party needs after that (`bound`).
 abbrev load_by : {C L : Type 0} → ℕ → Bool → Option (Seat C L) → ℕ
 load_by bound true (Some (Calling c l h)) = bound + 1
 load_by bound true o = bound + 2

@@ -30,7 +30,7 @@ EntersInRounds m n past rounds =
     → AreRounds m s rounds → 3 * (t - s.words.serving) + 1 ≤ length rounds → occurs m (grants m p) s (joined rounds) ≡ true
 
 -- One of n parties is in a `lock`. This party is granted the lock within 3 n - 2 rounds (2 if n is 1). Each ticket
--- taken meanwhile, its own included, adds one round. At the end the next number has to be below the limit.
+-- taken meanwhile adds one round, also the ticket of this party. At the end the next number has to be below the limit.
 abbrev pub LocksInRounds : {V : Type 0} → TicketMachine V → ℕ → List (ℕ × Move TicketCall V) → List (List (ℕ × Move TicketCall V)) → Type 0
 LocksInRounds m n past rounds =
     let s = after m (at_first m n) past in
@@ -45,8 +45,8 @@ IsNeverStarved m n past schedule =
     (p t : ℕ) (c : TicketCall) (l : TicketPoint) (h : Option Hold) → slice_get s.seats p ≡ Some (Calling c l h) → entries p (seen_after m (opening m n) past).plain ≡ waits_with p t
     → IsFair m s schedule → (place : ℕ) × (occurs m (grants m p) s (stretch schedule 0 place) ≡ true)
 
--- If others take tickets without end, no number of rounds is enough. Let r be any number of rounds for which numbers
--- are left. In some schedule of two parties, a party is in a `lock` for r rounds, and is not granted the lock.
+-- If others take tickets without end, no number of rounds is enough. Let r be such that r more tickets can be taken below
+-- the limit. In some schedule of two parties, a party is in a `lock` for r rounds, and is not granted the lock.
 abbrev pub MayBePassedOver : {V : Type 0} → TicketMachine V → ℕ → Type 0
 MayBePassedOver {V} m first =
     (r : ℕ) → first + r < ticket_limit → (past : List (ℕ × Move TicketCall V)) × (rounds : List (List (ℕ × Move TicketCall V)))

@@ -28,7 +28,7 @@ arrived w = either (leads 2 w) (Answers Leader None) (Continue (Leave w.generati
 abbrev looked : ℕ → Goes
 looked g w = either (is_past g w.generation) (Answers Follower None) (Continue (Leave g))
 
--- groups of n whose parties continue like this
+-- groups of n: a call continues after its arrival as `arrives` says, and after its looks as `looks` says
 abbrev going : ℕ → Goes → (ℕ → Goes) → BarrierMachine
 going n arrives looks =
     record (barrier_machine n) { step = λ w value c l h. elim l [ Arrive ↦ stays (arrive n w) (arrives w) | Leave g ↦ stays w (looks g w) ] }

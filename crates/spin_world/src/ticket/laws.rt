@@ -12,8 +12,8 @@ ghost use Rattle.spin_world.specs.Turns.{InOrder, InTurn, TriesByTwoLoads};
 use crate::ticket::Ticket;
 use spin_world_core::Object;
 
-/// States that the two words are the numbers of a queue of tickets. There is no gap between the tickets' numbers, and
-/// only the first ticket may have entered.
+/// States that the two words are the next number and the served number of a queue of tickets. There is no gap between
+/// the tickets' numbers, and only the first ticket may have entered.
 pub fn tickets_stand_in_order<V: Copy>()
     ensures { (object : Ticket V) (n : ℕ) (past : List (ℕ × Move TicketCall V)) → let m = ⟦<Ticket<V> as Object>⟧.machine object in InOrder (after m (at_first m n) past).words (seen_after m (opening m n) past).plain }
 {}
