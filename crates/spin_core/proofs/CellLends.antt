@@ -160,7 +160,8 @@ module _ {M : Type 1} {𝓤 : Ura M} (𝓛 : Logic 𝓤) where
         V' = shown R b o x
 
         reads_again : (k : Knows) (t : Id) (a : ℕ) (e : Share) → Part ways.0 x e
-            → ‵ (before β t.life) ⊛ ‵ (finv (Inv b o t)) ⊛ ‵ (stand R b o t c view) ⊛ ‵ (tag t.round e (round_code R (a, x))) ⊛ ‵ (V' (a ∷ t.life)) ⊩ ‵ (fwand (fsep (fdead ν) (fseps (flft (a ∷ []) e ∷ []))) (fupd P))
+            → ‵ (before β t.life) ⊛ ‵ (finv (Inv b o t)) ⊛ ‵ (stand R b o t c view) ⊛ ‵ (tag t.round e (round_code R (a, x)))
+            ⊛ ‵ (V' (a ∷ t.life)) ⊩ ‵ (fwand (fsep (fdead ν) (fseps (flft (a ∷ []) e ∷ []))) (fupd P))
         unfolding fseps
         reads_again k t a e n = script ∵ assume ! (‵ (fsep (fdead ν) (fsep (flft (a ∷ []) e) ftrue))) $
             settled ! ⟦ P ⟧ $ fsplit3 ! $ move ! (1 ∷ 6 ∷ []) $ fjoin ! $ cite _ (piece_in 𝓛 R t.round ways.0 (a, x) e n) $ move ! (0 ∷ 6 ∷ []) $ fjoin ! $
@@ -190,7 +191,8 @@ module _ {M : Type 1} {𝓤 : Ura M} (𝓛 : Logic 𝓤) where
       Lends-owned L l le reads None = no_reader l
       Lends-owned L l le reads (Some x) = λ κ ts inc sp. let ν : Lft = κ ++ β in let P : Fml = Owned reads (Some x) in
           qed 𝓛 (‵ (fbor κ P) ∷ raw (lfts 𝓛 ts) ∷ []) ∵ use1 𝓛 (‵ (fbor ν P)) (𝓛.bors.bor_shorten κ ν P (meet_⊑_left κ β)) $
-          by ! (by_one 𝓛 ν ts (⊑_meet (span ts) κ β sp (Incl-trans inc le)) (A.bor ν P) ⟦ fex Knows (λ _. shown R b o x ν) ⟧ (λ q. (lends_shown L x ν (meet_⊑_right κ β) q).prf))
+          by ! (by_one 𝓛 ν ts (⊑_meet (span ts) κ β sp (Incl-trans inc le)) (A.bor ν P)
+          ⟦ fex Knows (λ _. shown R b o x ν) ⟧ (λ q. (lends_shown L x ν (meet_⊑_right κ β) q).prf))
 
     pub Lends-permit : RowLaws R → (l : Lft) → Incl l β → (p : Ptr) (view : Option V) (x : Option R.Denot) → Lends 𝓛 (permit_owns Y R c S holds ways β p view x) (permit_shares Y R c S holds ways β p view x) l
     Lends-permit L l le (block_ptr b o) view x = Lends-owned b o view L l le (use_of ways.1 view) x

@@ -50,13 +50,16 @@ module _ {M : Type 1} {𝓤 : Ura M} (𝓛 : Logic 𝓤) {V : Type 0} (cv : Code
   resets k g u = let B : Share × Gv → Type 0 = λ x. Path (Share × Gv) x (full_share, c u) in let F : Share × Gv → SProp 𝓤 = λ x. guard 𝓤 (B x) ⟦ entry halved γ k x ⟧ in let Z : SProp 𝓤 = ⟦ L k u ⟧ ∗ ⟦ R k u ⟧ in
       record {
         prf = via 𝓤 (upd 𝓤 (ex 𝓤 F)) (entry_set halved 𝓛 γ k (full_share, g) B ∣ ((full_share, c u), refl) ∣₁ (λ f d. absurd (not-OpDef-full_share f.0 d.0)))
-            (upd_mono 𝓤 {P = ex 𝓤 F} {Q = Z} (ex_e 𝓤 F (λ x. guard_e 𝓤 (B x) ⟦ entry halved γ k x ⟧ (λ e. subst (λ (y : Share × Gv). ⟦ entry halved γ k y ⟧ ⊢ Z) (sym e)
+            (upd_mono 𝓤 {P = ex 𝓤 F} {Q = Z}
+            (ex_e 𝓤 F (λ x. guard_e 𝓤 (B x) ⟦ entry halved γ k x ⟧
+            (λ e. subst (λ (y : Share × Gv). ⟦ entry halved γ k y ⟧ ⊢ Z) (sym e)
             (entry_cut halved 𝓛 γ k (quarter, c u) (three_quarters, c u) (full_share, c u) (two_parts (c u)))))));
       }
 
   joined : (k : ℕ) (w v : V) → ‵ (L k w) ⊛ ‵ (R k v) ⊩ given (w ≡ v) (‵ (Whole k (c w)))
   joined k w v = let F : Share × Gv → SProp 𝓤 = λ x. guard 𝓤 (x ∈ halved.op (quarter, c w) (three_quarters, c v)) ⟦ entry halved γ k x ⟧ in let Z : SProp 𝓤 = guard 𝓤 (w ≡ v) ⟦ Whole k (c w) ⟧ in
-      lemma (via 𝓤 (ex 𝓤 F) (entry_glue halved 𝓛 γ k (quarter, c w) (three_quarters, c v)) (ex_e 𝓤 F (λ x. guard_e 𝓤 (x ∈ halved.op (quarter, c w) (three_quarters, c v)) ⟦ entry halved γ k x ⟧ (λ m.
+      lemma (via 𝓤 (ex 𝓤 F) (entry_glue halved 𝓛 γ k (quarter, c w) (three_quarters, c v))
+      (ex_e 𝓤 F (λ x. guard_e 𝓤 (x ∈ halved.op (quarter, c w) (three_quarters, c v)) ⟦ entry halved γ k x ⟧ (λ m.
       subst (λ (y : Share × Gv). ⟦ entry halved γ k y ⟧ ⊢ Z) m.1 (guard_i 𝓤 (w ≡ v) ⟦ Whole k (c w) ⟧ (cv.inj w v m.0.1))))))
 
   -- the roster and a party's view, if the party is at place i and gets the view `next`

@@ -229,7 +229,8 @@ module _ {M : Type 1} {𝓤 : Ura M} (𝓛 : Logic 𝓤) (Er Ur : RattleType) wh
           each ! (λ (_ : Unit {0}). Again 𝓛 t.life q I b e to always left n) (λ _. assume ! (‵ (word b e (to n))) $ by ! (go typed.1.fits).prf)))
 
       pub first_steps : (q : Share) (to : ℕ → ℕ) (γ : ℕ) (k : List E) → May γ k → Traces holds ways view v to told
-          → ‵ (finv (fbor t.life I)) ⊛ ‵ (flft t.life q) ⊛ ‵ (fsep Mine (Known γ k)) ⊩ raw (asks 𝓛 (block_ptr b (o + 0)) to always (λ n. fsep (flft t.life q) (watched γ k n)))
+          → ‵ (finv (fbor t.life I)) ⊛ ‵ (flft t.life q) ⊛ ‵ (fsep Mine (Known γ k))
+          ⊩ raw (asks 𝓛 (block_ptr b (o + 0)) to always (λ n. fsep (flft t.life q) (watched γ k n)))
       first_steps q to γ k may allows =
           let e : ℕ = o + 0 in let Own : Fml = fsep Mine (Known γ k) in let left : ℕ → Fml = watched γ k in
           lemma (borrowed 𝓛 t.life q I b e to always left ⟦ Own ⟧ (qed 𝓛 (‵ I ∷ ‵ Own ∷ []) ∵
@@ -266,7 +267,8 @@ module _ {M : Type 1} {𝓤 : Ura M} (𝓛 : Logic 𝓤) (Er R : RattleType) (L 
       fpick ! (λ s. let n : ℕ = s.0 in let m : Trace Er.Denot ℕ = s.1 in let y : ℕ = m.word in let First : Fml = word b (o + 0) n in
       let Inside : Fml = core R b o t cv.code (S 𝓛 Er u64) holds ways s in
       fsplit ! $ move ! (1 ∷ []) $ fsplit ! $ cite _ (word_apart 𝓛 Er b place m) $
-      by ! (answers 𝓛 Er u64 R L b o t cv holds ways view v told e to q (left γ k) y (raw (Takes 𝓛 Er b place m) ⊛ ‵ Inside ⊛ ‵ First ⊛ ‵ Own) (λ small. updates ∵
+      by ! (answers 𝓛 Er u64 R L b o t cv holds ways view v told e to q (left γ k) y
+      (raw (Takes 𝓛 Er b place m) ⊛ ‵ Inside ⊛ ‵ First ⊛ ‵ Own) (λ small. updates ∵
       let Here : Fml = Traced 𝓛 Er u64 R L b o t cv holds ways view v (beside m (to y)) in
       move ! (1 ∷ []) $ use1 𝓛 (raw (with 𝓛 Er b place m (to y))) (all_e 𝓤 (with 𝓛 Er b place m) (to y)) $
       move ! (1 ∷ 0 ∷ []) $ use2 𝓛 (‵ Here) (apply∗ 𝓤 ⟦ word b e (to y) ⟧ ⟦ Here ⟧) $ move ! (3 ∷ []) $ fsplit ! $ move ! (4 ∷ 2 ∷ 3 ∷ 0 ∷ 1 ∷ []) $

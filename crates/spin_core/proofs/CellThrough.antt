@@ -87,9 +87,12 @@ module _ {M : Type 1} {𝓤 : Ura M} (𝓛 : Logic 𝓤) where
       Lending x δ = ‵ ((MutRef ℓ κ R).own_val (renamed (inside x) δ) (mut_vals (inside x))) ⊛ ‵ (flft κ q) ⊛ ‵ (follows G R m.ghost_name δ F)
 
       pub through : (x : R.Denot) → ‵ ((mem G).own_at m.now m.ref_ptr.0 m.ref_ptr.1) ⊩ some (Opened x)
-          → ‵ (fobs m.ghost_name (G.coded.code m.now)) ⊛ ‵ (fbor κ (Body (mem G) m.ref_ptr.0 m.ref_ptr.1 m.ghost_name)) ⊛ ‵ (flft κ q) ⊩ later (some (Lending x))
+          → ‵ (fobs m.ghost_name (G.coded.code m.now)) ⊛ ‵ (fbor κ (Body (mem G) m.ref_ptr.0 m.ref_ptr.1 m.ghost_name))
+          ⊛ ‵ (flft κ q) ⊩ later (some (Lending x))
       through x cut = script ∵ updating ! $
           use3 𝓛 (later (some (λ (γ : GName). ‵ (fobs γ (R.coded.code x)) ⊛ ‵ (fbor κ (Body (mem R) c (e + offset R) γ)) ⊛ ‵ (flft κ q) ⊛ ‵ (follows G R m.ghost_name γ F))))
-          (hands_before 𝓛 (mem G) (mem R) F inj m.ref_ptr.0 m.ref_ptr.1 c (e + offset R) m.ghost_name κ β inc Id (λ t. t.life) (λ t. t.value) (λ t. all 𝓤 (Again t)) (λ t z. (Parts-in t z).prf) q m.now x (via 𝓤 _ cut.prf (Parts-out x).prf)) $
+          (hands_before 𝓛 (mem G) (mem R) F inj m.ref_ptr.0 m.ref_ptr.1 c (e + offset R) m.ghost_name κ β inc Id
+          (λ t. t.life) (λ t. t.value) (λ t. all 𝓤 (Again t)) (λ t z. (Parts-in t z).prf) q m.now x
+          (via 𝓤 _ cut.prf (Parts-out x).prf)) $
           await ! tt $ pick ! (λ γ. split3 ! $ feq_i ! _ (mut_vals (inside x)) _ refl $
           fjoin3 ! $ now ! $ having ! (Lending x) γ $ done !)

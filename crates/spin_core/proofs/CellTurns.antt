@@ -194,7 +194,8 @@ module _ {M : Type 1} {𝓤 : Ura M} (𝓛 : Logic 𝓤) (R : RattleType) (L : R
   -- ---- a party takes what it may use
   module _ (ψ : X → Type 0) where
     abbrev Takes : Way X → ℕ → Use → X → Type 1
-    Takes way r u x = ‵ (Rest way (room way u r) x) ⊩ given (Finds way off u (shown_to u x)) (‵ (St way ψ (with_reader u r) (with_writer u 0)) ⊛ ‵ (Held u way (shown_to u x)))
+    Takes way r u x = ‵ (Rest way (room way u r) x) ⊩ given (Finds way off u (shown_to u x))
+        (‵ (St way ψ (with_reader u r) (with_writer u 0)) ⊛ ‵ (Held u way (shown_to u x)))
 
     takes_nothing : (way : Way X) (r : ℕ) (x : X) → ψ x → (A : Type 0) → A → ‵ (Rest way r x) ⊩ given A (‵ (St way ψ r 0) ⊛ ‵ ftrue)
     takes_nothing way r x known A a =

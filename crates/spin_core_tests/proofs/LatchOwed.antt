@@ -1,11 +1,10 @@
 -- What the table of a latch must show.
-use Rattle.std.proofs.Common.{◌≡◌, ℕ, ◌-◌, true, Option, Some, None, List, [], nat_lt, refl, ap, arith, eq-eqb}
+use Rattle.std.proofs.Common.{◌≡◌, ℕ, ◌-◌, true, Option, Some, None, [], nat_lt, refl, ap, arith, eq-eqb}
 use Rattle.spin_step.specs.Plain.{Plain, Kind, reading, writing, to_read, to_write, gets, releases, is_holder}
 use Rattle.spin_step.specs.Parties.{Entries, entries, IsExclusive}
 use Rattle.spin_step.proofs.Sums.{sum-less}
 use Rattle.spin_step.proofs.Holders.{is_holder-from_entries}
 use Rattle.spin_model.specs.declared.place.Hold.{Hold}
-use Rattle.spin_model.specs.Calls.{Mark}
 use Rattle.spin_model.specs.Acts.{begin_of}
 use Rattle.spin_world_core.proofs.Steps.{Plays}
 use Rattle.spin_world_core.proofs.Stands.{holds, entries_at}

@@ -142,7 +142,8 @@ module _ (name : ℕ) where
   Keeps view f to = Traces (IsLatch name) own_ways view None f (Leads to view)
 
   keeps : (view : Option (Numbered View)) (f : ℕ → ℕ) (says : ℕ → View → Type 0) (to : ℕ → View) → Moves (what view) f says to → Allows IsWord (ways latch) (what view) f says → Keeps view f to
-  keeps view f says to moves step = tie.traces latch_machine seat_of words_of IsWord name (Unit {0}) lends use_of_view no_fact view None (by_first f) says (leads_by to) moves (λ own outs n u said t word p. tt) step
+  keeps view f says to moves step = tie.traces latch_machine seat_of words_of IsWord name (Unit {0}) lends use_of_view
+      no_fact view None (by_first f) says (leads_by to) moves (λ own outs n u said t word p. tt) step
 
   pub opens : (t : Trace rule.Done (Unit {0})) → t.name ≡ name → t.entries ≡ [] → Meets (IsLatch name) own_ways 0 t []
   opens t named empty = tie.opens latch_machine seat_of words_of IsWord name (Unit {0}) lends use_of_view no_fact 0 t named empty refl (begins latch 0 0 0 tt (omega arith) refl refl)

@@ -6,8 +6,8 @@ use native.Mathlib.Decide.{ℕ_discrete}
 use prog.Atomic.{either}
 use Rattle.std.specs.Prelude.{IsTrue, IfSome}
 use Rattle.std.proofs.lemmas.List.{append-nil}
-use Rattle.spin_core.specs.Cell.{Use, off, reads, writes, reading, writing, Meets, Moved, after, Rests, use_of, readers_of, writers_of, Going, Carrying, Opens}
-use Rattle.spin_core.specs.Traced.{Traces, Named, Watches, Found, grown}
+use Rattle.spin_core.specs.Cell.{Use, off, reads, writes, reading, writing, Meets, Moved, after, Rests, readers_of, Going, Carrying, Opens}
+use Rattle.spin_core.specs.Traced.{Traces, Watches, Found, grown}
 use Rattle.spin_core.specs.declared.trace.Trace.{Trace}
 use Rattle.spin_core.specs.declared.trace.Watch.{Watch}
 use Rattle.spin_core.proofs.CellCounts.{none, moves, without}

@@ -397,7 +397,8 @@ module _ {T : Type 0} (opening : Opening T) where
       → Keeps view shown f says
   unfolding IsFair Told known_of
   keeps view shown f leads says frees leaves moves allows id n t vs meets at small =
-      let made = mutexes.keeps (mutex opening) view shown (by_first f) leads says leaves moves allows id n t vs ((meets.0.0, meets.0.1.0, meets.0.2), meets.1) at small in
+      let made = mutexes.keeps (mutex opening) view shown (by_first f) leads says leaves moves allows id n t vs
+      ((meets.0.0, meets.0.1.0, meets.0.2), meets.1) at small in
       let w : Numbered View = made.0 in let told : Told v₀ says view t.entries made.1 n w = made.3 in let kept = made.2.1 in
       let order = first_after id view vs w (length t.entries) (marks_within v₀ t.entries (n, t.word) vs meets.0.2) (omega (arith, told.3, length-append t.entries made.1))
       (λ got. nobody_starves n t.word vs meets.0.1.0 (frees told.0 told.1 n w.0 told.6 got)) meets.0.1.1 in
@@ -554,7 +555,9 @@ module _ {T : Type 0} (opening : Opening T) where
   unfolding Told
   frees v x held =
       let ready = ready_of v.0 held in let exact : Says T = leaves_by (λ y. y ≡ x) Release Done Idle in let to : ℕ → ℕ = λ n. (n + (2 ^ 64 - 1)) % 2 ^ 64 in
-      tie.tells_less (model v₀) seat_of words_of (Some v) exact frees_by (λ own outs n u (stays, (y, is, by)). (stays, (y, tt, by))) (IsFair opening) (fair_ways opening) (Some x) (by_first to)
+      tie.tells_less (model v₀) seat_of words_of (Some v) exact frees_by
+      (λ own outs n u (stays, (y, is, by)). (stays, (y, tt, by))) (IsFair opening) (fair_ways opening) (Some x)
+      (by_first to)
       (keeps (Some v) (Some x) to (λ n v. (v ≡ Idle) × Takes 1 n) exact (λ own outs n u said got. never n u Idle said.0 refl got)
       (leaving (mutex opening) (Some v.0) (Some x) x Release Done held refl) ready.0 ready.1)
     where

@@ -162,8 +162,11 @@ module _ {T S : Type 0} (p q r : Place T S) where
 
   -- if a call waited, and its closure then fails, all these moves are the course `Fails`
   waits_fail : (own own' : List OneMove) (outs outs' : List Ending) → Waits own outs → Fails own' outs' → Fails (own ++ own') (outs ++ outs')
-  waits_fail own own' outs outs' (i, is, are) (j, is', are') =
-      (i + j, passes.after_steps Step i j own own' (Weak ∷ Step ∷ []) is is', passes.after_steps GoingOn i j outs outs' (GoingOn ∷ Answered Failed None ∷ []) are are')
+  waits_fail own own' outs outs' (i, is, are) (j, is', are') = (
+    i + j,
+    passes.after_steps Step i j own own' (Weak ∷ Step ∷ []) is is',
+    passes.after_steps GoingOn i j outs outs' (GoingOn ∷ Answered Failed None ∷ []) are are',
+  )
 
   pub and_fails : Since p Waits q → Since q IsFailure r → Since p Fails r
   and_fails = both Waits IsFailure Fails (λ own own' outs outs' so end. waits_fail own own' outs outs' so (0, end.0, end.1))

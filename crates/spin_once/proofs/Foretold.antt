@@ -22,8 +22,7 @@ use Rattle.spin_once.specs.Model.{Point, at, failed}
 use Rattle.spin_once.specs.OnceValues.{Made}
 use Rattle.spin_once.specs.Once.{OneMove, seat_of, words_of}
 use Rattle.spin_once.specs.declared.once_core.rule.View.{View}
-use Rattle.spin_once.specs.declared.once_core.rule.View.TheVariants as view
-use Rattle.spin_once.specs.declared.once_core.rule.View.TheVariants.{Reading, InCall}
+use Rattle.spin_once.specs.declared.once_core.rule.View.TheVariants.{InCall}
 use Rattle.spin_once.proofs.Resting.{Call, World, is_step, rests, rests_after}
 use Rattle.spin_once.proofs.Named.{Object, seat_named, seats_named, object, Alike, renamed, t, m, named_get, named_set, named_alike, named_idle, put_same, moves_alike}
 

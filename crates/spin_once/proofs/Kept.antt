@@ -1,5 +1,5 @@
 -- Each step keeps the rule of a value that is made once, and appends its moves to the trace.
-use Rattle.std.proofs.Common.{◌≡◌, ◌≢◌, Bool, true, false, ℕ, zero, suc, ◌+◌, replicate, ◌==◌, ◌<◌, List, [], ◌∷◌, map, Option, Some, None, refl, sym, ap, ◌∙◌, subst, arith}
+use Rattle.std.proofs.Common.{◌≡◌, ◌≢◌, Bool, true, false, ℕ, zero, suc, ◌+◌, replicate, ◌==◌, ◌<◌, List, [], ◌∷◌, map, Option, Some, refl, sym, ap, ◌∙◌, subst, arith}
 use prog.Atomic.{either}
 use Rattle.spin_core.specs.Cell.{off, reads, writes, use_of, alone, Fixed, Opens, Rests, Lends, Knowing, readers_of, writers_of, no_fact}
 use Rattle.spin_core.specs.Own.{Numbered, what, IsRun, Runs, Tells}
@@ -14,7 +14,7 @@ use Rattle.spin_core.proofs.Ties as tie
 use Rattle.spin_core.specs.Run.{by_first}
 use Rattle.spin_model.specs.declared.once.OnceCall.{OnceCall}
 use Rattle.spin_model.specs.declared.once.OnceCall.TheVariants.{CallOnce, TryCallOnceOk}
-use Rattle.spin_model.specs.declared.once.OncePoint.TheVariants.{Look, TryBegin, Await, Run}
+use Rattle.spin_model.specs.declared.once.OncePoint.TheVariants.{TryBegin, Run}
 use Rattle.spin_model.specs.declared.place.Seat.TheVariants as seat
 use Rattle.spin_model.specs.declared.schedule.Move.TheVariants.{Write, Weak, Step}
 use Rattle.spin_model.specs.Schedules.{State}
@@ -25,7 +25,7 @@ use Rattle.spin_once.specs.declared.once_core.rule.Key.{Key}
 use Rattle.spin_once.specs.declared.once_core.rule.View.{View}
 use Rattle.spin_once.specs.declared.once_core.rule.View.TheVariants.{Idle, Reading, InCall}
 use Rattle.spin_once.specs.declared.once_core.rule.Stage.{Stage}
-use Rattle.spin_once.specs.declared.once_core.rule.Stage.TheVariants.{Seed, Taken, Done}
+use Rattle.spin_once.specs.declared.once_core.rule.Stage.TheVariants.{Seed, Done}
 use Rattle.spin_once.proofs.Steps as steps
 use Rattle.spin_once.proofs.Steps.{ComesTo, Any}
 use Rattle.spin_once.proofs.Moves.{Moves, Turns, finding, to_view, turn_moves, load_moves, load_leads, load_finds, as_sure, begin_words, begin_free, end_words, end_free, fail_moves}
@@ -79,7 +79,8 @@ module _ {T S : Type 0} (makes : S → T → Type 0) (key : Key T S) where
       → Moves given (what view) f leads says → steps.Allowed makes key (what view) shown f leads
       → Traces (Runs (model given) seat_of words_of Word name) (steps.way makes key, use_of_party, no_fact) view shown f (Tells (model given) seat_of words_of says view)
   traces view shown f leads says moves allows =
-      tie.traces (model given) seat_of words_of Word name Content (steps.way makes key) use_of_view no_fact view shown (by_first f) leads says moves (λ own outs n u said t word p. tt) allows
+      tie.traces (model given) seat_of words_of Word name Content (steps.way makes key) use_of_view no_fact view shown
+      (by_first f) leads says moves (λ own outs n u said t word p. tt) allows
 
   -- the next step of the party's call, if this step writes nothing
   module _ (c : OnceCall (Unit {0})) (view : Option (Numbered View)) (shown : Option Content) where

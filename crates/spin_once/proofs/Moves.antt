@@ -6,7 +6,7 @@ use Rattle.spin_core.specs.Run.{AreMoves, is_played, by_first}
 use Rattle.spin_model.specs.declared.answer.Answer.{Answer}
 use Rattle.spin_model.specs.declared.answer.Answer.TheVariants.{Value, NoValue, Is, Failed}
 use Rattle.spin_model.specs.declared.once.OnceCall.{OnceCall}
-use Rattle.spin_model.specs.declared.once.OnceCall.TheVariants.{CallOnce, TryCallOnceOk, TryCallOnceErr, InitFromRef, Wait, Poll, Get, IsCompleted}
+use Rattle.spin_model.specs.declared.once.OnceCall.TheVariants.{CallOnce, Wait, Poll, Get, IsCompleted}
 use Rattle.spin_model.specs.declared.once.OncePoint.{OncePoint}
 use Rattle.spin_model.specs.declared.once.OncePoint.TheVariants.{Look, TryBegin, Await, Run}
 use Rattle.spin_model.specs.declared.place.Seat.TheVariants as seat

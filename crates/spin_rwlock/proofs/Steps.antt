@@ -365,7 +365,8 @@ module _ {T : Type 0} (opening : Opening T) where
   keeps Q view shown f so turn leaves moves allows id n t vs meets at small =
       let (w, es, going, told) = tie.tells_less (model opening.value) seat_of words_of view (says_with Q turn) (says_with (λ x. Unit {0}) turn)
       (λ own outs n u said. (leaves own outs n u said).1) (IsRw opening) (rw_ways opening) shown (by_first f)
-      (tie.traces (model opening.value) seat_of words_of Word opening.name T lends use_of_view (last opening) view shown (by_first f) so (says_with Q turn) moves
+      (tie.traces (model opening.value) seat_of words_of Word opening.name T lends use_of_view (last opening) view shown
+      (by_first f) so (says_with Q turn) moves
       (λ own outs n u said t word p. owed opening own t word p (use_of use_of_view (what view)) (use_of_view u) shown (leaves own outs n u said).0) allows) id n t vs meets at small in
       (w, es, going, (is_word n t vs meets, told))
 

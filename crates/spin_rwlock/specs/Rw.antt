@@ -55,7 +55,8 @@ grants TryUpgradeableRead n = read_upgradable reader_limit n
 grants UpgradeableRead n = read_upgradable reader_limit n
 grants _ n = None
 
--- The `Seat` of the party of a call that wants to read, after the call has found a word that does not admit the reader. A call that waits is at its first step again. A call that tries has failed, so its party is in no call.
+-- The `Seat` of the party of a call that wants to read, after the call has found a word that does not admit the reader.
+-- A call that waits is at its first step again. A call that tries has failed, so its party is in no call.
 abbrev pub kept_out : RwCall → Seat RwCall RwPoint
 kept_out Read = seat.Calling Read point.First None
 kept_out UpgradeableRead = seat.Calling UpgradeableRead point.First None

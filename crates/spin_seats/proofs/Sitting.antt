@@ -199,7 +199,8 @@ module _ (n name : ℕ) where
   Keeps view f says = Traces (IsSeats n name) own_ways view None f (Told n says view)
 
   abbrev traces : (view : Option (Numbered View)) (f : ℕ → ℕ) (th : ℕ → View → Type 0) (says : Says) → Moves n (what view) f th says → Allows (IsWord n) ways (what view) f th → Keeps view f says
-  traces view f th says moves step = tie.traces (model n) seat_of words_of (IsWord n) name (Unit {0}) lends use_of_view no_fact view None (by_first f) th says moves (λ own outs n u said t word p. tt) step
+  traces view f th says moves step = tie.traces (model n) seat_of words_of (IsWord n) name (Unit {0}) lends use_of_view
+      no_fact view None (by_first f) th says moves (λ own outs n u said t word p. tt) step
 
   pub opens : (t : Trace rule.Done (Unit {0})) → t.name ≡ name → t.entries ≡ [] → Meets (IsSeats n name) own_ways 0 t []
   opens t named empty = tie.opens (model n) seat_of words_of (IsWord n) name (Unit {0}) lends use_of_view no_fact 0 t named empty refl (starts n)
@@ -223,7 +224,8 @@ module _ (n name : ℕ) where
   sits_from : (old new : ℕ) (waits : Bool) → ((s : Plain) (p : ℕ) → AllRead s → s.cap ≡ seats n → seats_word s ≡ old → Decides s (gets p to_read) seats_word (Some new)) → Some new ≡ entered n old → new ≤ seats n
       → (view : Option (Numbered View)) → what view ≡ Some (Coming waits old) → Keeps view (λ w. either (w == old) new w) (sits_by n old (what view))
   sits_from old new waits plain free room view is =
-      traces view (λ w. either (w == old) new w) (becomes_by (led_to n old waits)) (sits_by n old (what view)) (rw is (sit_moves n old new waits free)) (rw is (sits_at n old new waits plain room))
+      traces view (λ w. either (w == old) new w) (becomes_by (led_to n old waits)) (sits_by n old (what view))
+      (rw is (sit_moves n old new waits free)) (rw is (sits_at n old new waits plain room))
 
   pub sits_down : (old new : ℕ) (waits : Bool) → ((s : Plain) (p : ℕ) → AllRead s → s.cap ≡ seats n → seats_word s ≡ old → Decides s (gets p to_read) seats_word (Some new)) → Some new ≡ entered n old → new ≤ seats n
       → (view : Option (Numbered View)) → what view ≡ Some (at_word n waits old) → Keeps view (λ w. either (w == old) new w) (sits_by n old (what view))

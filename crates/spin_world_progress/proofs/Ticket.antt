@@ -5,7 +5,7 @@ use Rattle.spin_world.proofs.TicketOwed.{ticket_notes, ticket_facts}
 use Rattle.spin_model.specs.TicketKind.{ticket}
 use Rattle.spin_step.proofs.Tickets.{serving-gone}
 use Rattle.spin_step.specs.Tickets.{numbered_from}
-use Rattle.spin_world_core.proofs.Names.{length-replicate, true≢false, slice_get_within, to_enter}
+use Rattle.spin_world_core.proofs.Names.{length-replicate, true≢false, slice_get_within}
 use Rattle.spin_world_progress.proofs.Endless.{at_last}
 use Rattle.spin_world_progress.proofs.Loads.{Wait}
 use Rattle.spin_world_progress.proofs.Progress.{is_busy}

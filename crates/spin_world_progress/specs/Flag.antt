@@ -1,6 +1,5 @@
 -- Progress of a flag: in how many rounds somebody is granted the lock.
 use Rattle.std.specs.Prelude.{◌≡◌, ℕ, ◌≤◌, ◌||◌, Bool, true, Option, Some, List, length, slice_get}
-use Rattle.spin_step.specs.Plain.{to_write}
 use Rattle.spin_model.specs.Machines.{Machine}
 use Rattle.spin_model.specs.Schedules.{after, at_first}
 use Rattle.spin_model.specs.declared.answer.Answer.{Answer}

@@ -1,6 +1,5 @@
 -- Progress of a lock of seats: in how many rounds somebody is granted a seat.
 use Rattle.std.specs.Prelude.{◌≡◌, ℕ, ◌≤◌, true, Option, Some, List, length, slice_get}
-use Rattle.spin_step.specs.Plain.{to_read}
 use Rattle.spin_model.specs.Schedules.{after, at_first}
 use Rattle.spin_model.specs.declared.place.Hold.{Hold}
 use Rattle.spin_model.specs.declared.place.Seat.TheVariants.{Calling}

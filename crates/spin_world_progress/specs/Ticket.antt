@@ -1,6 +1,6 @@
 -- Progress of a ticket lock: in how many rounds a `lock` is granted.
 use Rattle.std.specs.Prelude.{◌≡◌, ℕ, ◌+◌, ◌-◌, ◌*◌, ◌<◌, ◌≤◌, true, false, Option, Some, None, List, length, slice_get, max}
-use Rattle.spin_step.specs.Plain.{ticket_limit, to_enter}
+use Rattle.spin_step.specs.Plain.{ticket_limit}
 use Rattle.spin_model.specs.Machines.{Machine}
 use Rattle.spin_model.specs.Schedules.{after, at_first}
 use Rattle.spin_model.specs.declared.answer.Answer.{Answer}

@@ -1,5 +1,5 @@
 -- What the table of the seats has to show.
-use Rattle.std.proofs.Common.{◌≡◌, ℕ, ◌-◌, ◌≤◌, true, Option, Some, None, List, [], ◌∷◌, length, nat_lt, refl, ap, arith, length-append}
+use Rattle.std.proofs.Common.{◌≡◌, ℕ, ◌-◌, ◌≤◌, true, Option, Some, None, [], ◌∷◌, length, nat_lt, refl, ap, arith, length-append}
 use Rattle.spin_step.specs.Plain.{Plain, reading, holder, to_read, gets, releases, apply, may_come, is_holder}
 use Rattle.spin_step.specs.Parties.{Entries, entries}
 use Rattle.spin_step.proofs.Sums.{one_of, sum-more, sum-less}
@@ -12,7 +12,6 @@ use Rattle.spin_seats.specs.declared.calls.SeatsCall.{SeatsCall}
 use Rattle.spin_seats.specs.declared.calls.SeatsCall.TheVariants.{TryEnter, Enter}
 use Rattle.spin_seats.specs.declared.calls.SeatsPoint.{SeatsPoint}
 use Rattle.spin_seats.specs.declared.calls.SeatsPoint.TheVariants.{Exchange}
-use Rattle.spin_model.specs.Calls.{Mark}
 use Rattle.spin_model.specs.Acts.{begin_of}
 use Rattle.spin_seats.specs.Table.{seats_table, seats_machine}
 use Rattle.spin_world_core.proofs.Steps.{Plays}

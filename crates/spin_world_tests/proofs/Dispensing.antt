@@ -1,5 +1,5 @@
 -- What the table of the dispenser has to show, and how the dispenser draws.
-use Rattle.std.proofs.Common.{◌≡◌, ℕ, Option, None, List, [], ◌∷◌, length, nat_lt, refl, arith, length-append}
+use Rattle.std.proofs.Common.{◌≡◌, ℕ, Option, None, [], ◌∷◌, length, nat_lt, refl, arith, length-append}
 use Rattle.spin_step.specs.Plain.{Plain, reading, holder, to_read, gets, apply, flag_word, may_come, count_kind}
 use Rattle.spin_step.proofs.Sums.{one_of, sum-more}
 use Rattle.spin_step_more.proofs.Readers.{nobody_against, each_reads}
@@ -8,7 +8,6 @@ use Rattle.spin_world_tests.specs.declared.dispenser.DispenserCall.{DispenserCal
 use Rattle.spin_world_tests.specs.declared.dispenser.DispenserCall.TheVariants as call
 use Rattle.spin_world_tests.specs.declared.dispenser.DispenserPoint.{DispenserPoint}
 use Rattle.spin_world_tests.specs.declared.dispenser.DispenserPoint.TheVariants.{Exchange}
-use Rattle.spin_model.specs.Calls.{Mark}
 use Rattle.spin_model.specs.Acts.{begin_of}
 use Rattle.spin_world_tests.specs.Dispenser.{next_after, dispenser_table, dispenser_machine}
 use Rattle.spin_world_core.proofs.Steps.{Plays}

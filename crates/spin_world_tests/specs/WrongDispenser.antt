@@ -2,7 +2,6 @@
 use Rattle.std.specs.Prelude.{ℕ, ◌+◌, Bool, true, Option, Some, List, [], ◌∷◌, nat_lt, if◌then◌else◌}
 use Rattle.spin_step.specs.Plain.{to_read, gets, reading, Change, releases}
 use Rattle.spin_model.specs.declared.place.Hold.{Hold}
-use Rattle.spin_model.specs.declared.place.Hold.TheVariants.{Read}
 use Rattle.spin_model.specs.declared.schedule.Move.{Move}
 use Rattle.spin_model.specs.declared.schedule.Move.TheVariants.{Begin, Step}
 use Rattle.spin_world_tests.specs.declared.dispenser.DispenserCall.{DispenserCall}

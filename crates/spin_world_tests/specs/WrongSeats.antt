@@ -1,6 +1,6 @@
 -- Wrong locks of seats, and schedules on which the laws refuse these locks. Each is wrong in one call, in its number of
 -- seats, or in how it opens. When a wrong step changes the word, its plain step is still one that the right lock makes.
-use Rattle.std.specs.Prelude.{ℕ, zero, suc, Bool, true, false, Option, Some, None, List, [], ◌∷◌, ◌++◌, nat_lt, ◌-◌}
+use Rattle.std.specs.Prelude.{ℕ, zero, suc, true, false, Option, Some, None, List, [], ◌∷◌, ◌++◌, nat_lt, ◌-◌}
 use Rattle.spin_step.specs.Plain.{reading, to_read, gets, releases}
 use Rattle.spin_seats.specs.Seats.{entered}
 use Rattle.spin_model.specs.declared.place.Hold.{Hold}
@@ -14,7 +14,6 @@ use Rattle.spin_seats.specs.declared.calls.SeatsPoint.TheVariants.{First, Exchan
 use Rattle.spin_model.specs.declared.schedule.Move.{Move}
 use Rattle.spin_model.specs.declared.schedule.Move.TheVariants.{Begin, Step, Weak}
 use Rattle.spin_model.specs.Calls.{Asked}
-use Rattle.spin_seats.specs.Kind as kind
 use Rattle.spin_model.specs.Acts.{Act, load, exchange, store, section, machine_of}
 use Rattle.spin_model.specs.Operations.{exchanges, subtracts}
 use Rattle.spin_seats.specs.Table.{granted, goes_for, comes_by, act_of, asks_of, SeatsTable, seats_table, SeatsMachine, seats_machine}

@@ -1,4 +1,4 @@
-use Rattle.std.proofs.Common.{◌≡◌, ◌∙◌, sym, ap}
+use Rattle.std.proofs.Common.{◌∙◌, sym, ap}
 use mathlib.Core.Logic.{inr}
 use Rattle.spin_core_tests.proofs.Writing.{frees, left}
 use Rattle.spin_core_tests.proofs.written.let_go.Goals as goal

@@ -219,7 +219,8 @@ module _ {M : Type 1} {𝓤 : Ura M} (𝓛 : Logic 𝓤) (m ms : Member) (V Y K 
     -- ---- the invariant is made; its roster has the views vs, of which the rule holds
     module _ (l : Lft) (shares : Shares 𝓛 R l) (μ : Lft) (e f : Share) (i : Incl μ κ) (j : Incl μ l) where
       stands : (k : S.Denot) (vs : List V.Denot) (v : Option R.Denot) → Limits way (read vs) (wrote vs)
-          → ‵ (found k way ν (read vs) (wrote vs) v) ⊛ ‵ (fbor κ (Named ν)) ⊛ ‵ (idle γ) ⊛ ‵ (flft μ e) ⊛ ‵ (flft μ f) ⊩ later (‵ (St way (φ k) (read vs) (wrote vs)) ⊛ ‵ (flft μ e) ⊛ ‵ (flft μ f))
+          → ‵ (found k way ν (read vs) (wrote vs) v) ⊛ ‵ (fbor κ (Named ν)) ⊛ ‵ (idle γ) ⊛ ‵ (flft μ e) ⊛ ‵ (flft μ f)
+          ⊩ later (‵ (St way (φ k) (read vs) (wrote vs)) ⊛ ‵ (flft μ e) ⊛ ‵ (flft μ f))
       stands k vs None lim = let r = read vs in let w = wrote vs in
           script ∵ updating ! $ fpick ! (λ writes. drop ! $ drop ! $ cite _ (away k way r w writes) $ now ! $ done !)
       stands k vs (Some x) lim = let r = read vs in let w = wrote vs in
@@ -264,7 +265,9 @@ module _ {M : Type 1} {𝓤 : Ura M} (𝓛 : Logic 𝓤) (m ms : Member) (V Y K 
       -- context: [two tokens; a third; the way back; the unused entries of ρ; the name γ; the words' borrow; the
       -- value's]
       move ! (6 ∷ 7 ∷ 4 ∷ 5 ∷ 0 ∷ 1 ∷ []) $ group ! 6 $
-      use2 𝓛 (later ((‵ Q ⊛ ‵ (flft μ e) ⊛ ‵ (flft μ f)) ⊛ ‵ (flft μ a))) (by_one 𝓛 κ ((μ, a) ∷ []) sp (mean 𝓛 (Given γ ρ ν l shares μ e f sp inc none)) (⟦ Q ⟧ ∗ A.lft μ e ∗ A.lft μ f) (λ z. (guarded γ ρ ν l shares μ e f sp inc k none z).prf)) $
+      use2 𝓛 (later ((‵ Q ⊛ ‵ (flft μ e) ⊛ ‵ (flft μ f)) ⊛ ‵ (flft μ a)))
+      (by_one 𝓛 κ ((μ, a) ∷ []) sp (mean 𝓛 (Given γ ρ ν l shares μ e f sp inc none)) (⟦ Q ⟧ ∗ A.lft μ e ∗ A.lft μ f)
+      (λ z. (guarded γ ρ ν l shares μ e f sp inc k none z).prf)) $
       await ! tt $
       split ! $ split3 ! $ move ! (1 ∷ 2 ∷ []) $ use2 𝓛 (‵ (flft μ d)) (𝓛.lfts.lft_join μ d) $ move ! (2 ∷ 0 ∷ []) $ use2 𝓛 (‵ (flft μ q)) (𝓛.lfts.lft_join μ q) $
       move ! (0 ∷ 2 ∷ []) $ use2 𝓛 (raw (lfts 𝓛 ts)) (apply∗ 𝓤 (A.lft μ q) (lfts 𝓛 ts)) $ now ! $ keep ! (1 ∷ 0 ∷ []) $ done !)))))
@@ -281,6 +284,10 @@ shares T V P K S g L W J I N = let m : Member = record { row = T; ty = layout T 
           some_shr_laws Id (λ t. kept (row_of m) b o t V.coded.code (row_of ms) (g.holds d) (g.ways d))
           (λ t. let I = inner (row_of m) b o t V.coded.code (row_of ms) (g.holds d) (g.ways d) in
           beside_shr_laws (ends t.life) (always (fbor t.life I)) (ends_shr_laws t.life) (always_shr_laws (fbor t.life I))));
-      shares = λ M 𝓤 𝓛 d κ ts b o inc sp. (made 𝓛 m ms V P K g d (subst (Lawful 𝓛) same (L.lawful 𝓛)) (subst (Lawful 𝓛) same_second (N.lawful 𝓛)) b o κ T.lives (subst (λ (R : RattleType). Shares 𝓛 R T.lives) same (L.shares 𝓛)) ts
-          (Incl-trans inc (Incl-trans (meet_⊑_left (T.lives ++ (V.lives ++ (P.lives ++ (K.lives ++ (S.lives ++ []))))) _) (meet_⊑_left T.lives (V.lives ++ (P.lives ++ (K.lives ++ (S.lives ++ []))))))) sp).prf;
+      shares = λ M 𝓤 𝓛 d κ ts b o inc sp.
+          (made 𝓛 m ms V P K g d (subst (Lawful 𝓛) same (L.lawful 𝓛)) (subst (Lawful 𝓛) same_second (N.lawful 𝓛)) b o κ
+          T.lives (subst (λ (R : RattleType). Shares 𝓛 R T.lives) same (L.shares 𝓛)) ts
+          (Incl-trans inc
+          (Incl-trans (meet_⊑_left (T.lives ++ (V.lives ++ (P.lives ++ (K.lives ++ (S.lives ++ []))))) _)
+          (meet_⊑_left T.lives (V.lives ++ (P.lives ++ (K.lives ++ (S.lives ++ []))))))) sp).prf;
     })

@@ -40,7 +40,9 @@ get_mut_spec 𝓤 𝓛 𝓜 𝓡 wired X U P K S L _ _ _ LS g d _ =
     -- context: [the value; the way back; the words; the open borrow; two entries for its ghost name; the tokens]
     move ! (2 ∷ 1 ∷ []) $ join ! $ move ! (2 ∷ 3 ∷ 4 ∷ 1 ∷ 0 ∷ []) $ group ! 5 $
     use1 𝓛 (later (some (λ (δ : GName). ‵ (Lent.own_val (record { ref_ptr = (b, e); ghost_name = δ; now = x }) (at ∷ [])) ⊛ ‵ (flft κ q) ⊛ ‵ (follows Ty R γ δ (λ _. key)))))
-    (lends_Part 𝓛 Ty R (λ _. key) (named 0) κ q b o b e γ (sep 𝓤 (sem 𝓛 (words (n, k))) Joined) (λ v. (rejoined 𝓛 m ms V Y Kr g key b o Lw Ls Cell takes_out back (n, k, v) (restarts (g.holds key) (g.ways key) n k x v asked.0 rule)).prf) (K.coded.code old) (K.coded.code old) x) $
+    (lends_Part 𝓛 Ty R (λ _. key) (named 0) κ q b o b e γ (sep 𝓤 (sem 𝓛 (words (n, k))) Joined)
+    (λ v. (rejoined 𝓛 m ms V Y Kr g key b o Lw Ls Cell takes_out back (n, k, v)
+    (restarts (g.holds key) (g.ways key) n k x v asked.0 rule)).prf) (K.coded.code old) (K.coded.code old) x) $
     await ! tt $ pick ! (λ δ. split3 ! $
     sets ! (addr ! (through ! refl (fld ! refl (stop !)))) refl (tt, tt) $ move ! (1 ∷ 3 ∷ []) $ fjoin ! $
     returns ! (look_at ! 0 refl) $ free_all ! refl $ keep ! (0 ∷ 1 ∷ 2 ∷ []) $ by ! (out at (record { ref_ptr = (b, e); ghost_name = δ; now = x }))))))))

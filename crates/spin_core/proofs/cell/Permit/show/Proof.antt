@@ -29,7 +29,9 @@ show_spec 𝓤 𝓛 𝓜 𝓡 wired T V P K S L _ _ _ LS g d _ =
     let Asked : Type 0 = use_of ways.1 h.view ≡ reads in let Fixed : Type 0 = Fixes ways.0 in
     takes_at ! Owned refl p (last_two 𝓤 Asked Fixed 5 (_, (_, (_, (_, (_, tt)))))) (λ asked inb. let at = at_block p inb in
     alloc_all ! (λ l. pass_all ! refl (typed p inb, tt) $ let Ev = types.ByLocal.env fn.locals l in
-    use1 𝓛 (later (some (λ (x : T.Denot). given ((h.value ≡ Some x) × Seen ways.0 x) (‵ (hidden_shr R β x b e) ⊛ ‵ (Owned (block_ptr b o)))))) (shown_to 𝓛 Y R cw.code Sr (g.holds h.key) ways β LR.shr_laws b o h.view h.value asked.0 asked.1).prf $
+    use1 𝓛 (later (some (λ (x : T.Denot). given ((h.value ≡ Some x) × Seen ways.0 x)
+    (‵ (hidden_shr R β x b e) ⊛ ‵ (Owned (block_ptr b o))))))
+    (shown_to 𝓛 Y R cw.code Sr (g.holds h.key) ways β LR.shr_laws b o h.view h.value asked.0 asked.1).prf $
     await ! tt $ pick ! (λ x. learn ! (λ so. split ! $
     sets ! (is ! (of_opd ! (get_in ! (fld ! refl (stop !)) (sub ! 0 refl (whole !)))) (ap ptr_val at)) refl (tt, tt) $ first ! $ blocks ! $
     sets_last ! (addr ! (through ! refl (fld ! refl (stop !)))) refl (tt, tt) $ exec ! 𝓣.C 𝓣.Λ Ev (tail (tail fn.body)) (at_ret Ev Post) $

@@ -83,7 +83,9 @@ get_mut_spec 𝓤 𝓛 𝓜 𝓡 wired T V P K S L _ _ _ LS g d _ =
     rewrite ! 1 (λ (us : List Val). ‵ (cell_at full_share D.mir us b o)) (sym ev) refl $ move ! (1 ∷ 0 ∷ []) $ fjoin ! $
     fpack ! (List Val) (λ us. fsep (cell_at full_share D.mir us b o) (D.own_val (p, (tt, tt)) us)) vs $
     use2 𝓛 (‵ (part_at G full_share h b o)) (part_in 𝓛 (the_type ℓ R W Y Kr Sr g) full_share h b o) $ close_ref ! tt (in_memory G) h $
-    cite _ (goes_through 𝓛 Y R cw Sr (g.holds h.key) (g.ways h.key) β pb po h.view G F (same 𝓛 ℓ R W Y Kr Sr g κ bounds.0 q m pb po at) (named 0) κ bounds.0 q m x (cut 𝓛 ℓ R W Y Kr Sr g κ bounds.0 q m pb po at)) $
+    cite _ (goes_through 𝓛 Y R cw Sr (g.holds h.key) (g.ways h.key) β pb po h.view G F
+    (same 𝓛 ℓ R W Y Kr Sr g κ bounds.0 q m pb po at) (named 0) κ bounds.0 q m x
+    (cut 𝓛 ℓ R W Y Kr Sr g κ bounds.0 q m pb po at)) $
     await ! tt $ pick ! (λ δ. split3 ! $
     move ! (1 ∷ 3 ∷ []) $ fjoin ! $ says ! (x ≡ x) refl $ move ! (3 ∷ 0 ∷ []) $ join ! $
     returns ! (look_at ! 0 refl) $ free_all ! refl $ keep ! (1 ∷ 2 ∷ 0 ∷ []) $ by ! (out (vptr pb e) (record { ref_ptr = (pb, e); ghost_name = δ; now = x }))))))))

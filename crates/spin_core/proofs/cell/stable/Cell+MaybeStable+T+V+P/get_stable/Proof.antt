@@ -76,7 +76,11 @@ get_stable_spec 𝓤 𝓛 𝓜 𝓡 wired X U P K N L _ _ _ LN s d' g d _ _ =
     sets_last ! (agg ! (and_then ! (lit ! tt) (and_then ! (get ! refl) (no_more !)))) refl (tt, (record { fits = lit< tt }, (tt, tt))) $ exec ! 𝓣.C 𝓣.Λ Ev (after 4 fn.body) (at_ret Ev Post) $ sets ! (of_opd ! (get ! refl)) refl (tt, (record { fits = lit< tt }, (tt, tt))) $
     move ! (0 ∷ 3 ∷ []) $ fjoin ! $ move ! (0 ∷ 2 ∷ []) $ join ! $ move ! (1 ∷ []) $ rewrite ! 0 (λ (F : Fml). ‵ F) (sym (lies X₀ s w b e)) refl $ move ! (2 ∷ 3 ∷ 4 ∷ 0 ∷ 1 ∷ []) $ group ! 5 $
     use1 𝓛 (later (some (λ (δ : GName). ‵ (Lent.own_val (record { ref_ptr = (b, e); ghost_name = δ; now = w }) (at ∷ [])) ⊛ ‵ (flft κ q) ⊛ ‵ (follows Ty S γ δ (λ _. key)))))
-    (lends_Part 𝓛 Ty S (λ _. key) (named 0) κ q b o b e γ (Rest (n, k)) (λ v. subst (λ (F : Fml). ent 𝓤 (sep 𝓤 (sem 𝓛 F) (Rest (n, k))) Q) (sym (lies X₀ s v b e)) (shuts (n, k, record { value = v.value }) (subst (λ (j : ℕ). Starts (g.holds key) (g.ways key) j k (record { value = v.value })) (sym is) (may.1 v.value v.stable))).prf) (K.coded.code old) (K.coded.code old) w) $
+    (lends_Part 𝓛 Ty S (λ _. key) (named 0) κ q b o b e γ (Rest (n, k))
+    (λ v. subst (λ (F : Fml). ent 𝓤 (sep 𝓤 (sem 𝓛 F) (Rest (n, k))) Q) (sym (lies X₀ s v b e))
+    (shuts (n, k, record { value = v.value })
+    (subst (λ (j : ℕ). Starts (g.holds key) (g.ways key) j k (record { value = v.value })) (sym is)
+    (may.1 v.value v.stable))).prf) (K.coded.code old) (K.coded.code old) w) $
     await ! tt $ pick ! (λ δ.
     let r : MutBor S.Denot = record { ref_ptr = (b, e); ghost_name = δ; now = w } in
     split3 ! $ use1 𝓛 (‵ (Out.own_val (Some r) (live 1 (vcons at vnil) ∷ []))) (Some-of 𝓛 Lent r at) $ move ! (2 ∷ []) $ drop ! $ move ! (1 ∷ 2 ∷ []) $ fjoin ! $ move ! (1 ∷ []) $ nothing ! $

@@ -28,6 +28,8 @@ bound γ wired T LT M 𝓤 𝓛 𝓜 𝓡 = let at = layouts (a_type ∷ []) (T,
   same = same-law T;
   Self-Key-lives = (rule_met.bound γ T LT M 𝓤 𝓛 𝓜 𝓡).Self-Key-lives;
   Self-Second-lives = (rule_met.bound γ T LT M 𝓤 𝓛 𝓜 𝓡).Self-Second-lives;
-  release = released (F.the_row T) (numbered V.the_row) (watch.the_row (entry call.the_row)) (traced_over call.the_row unit unit) T (rule.ghosts T) 𝓛 𝓜 𝓡 (γ called) (block.ghosts T) (uses.ghosts T) (block.dict T) (rule.dict T) (uses.dict T)
+  release = released (F.the_row T) (numbered V.the_row) (watch.the_row (entry call.the_row))
+      (traced_over call.the_row unit unit) T (rule.ghosts T) 𝓛 𝓜 𝓡 (γ called) (block.ghosts T) (uses.ghosts T)
+      (block.dict T) (rule.dict T) (uses.dict T)
       (widened 𝓤 𝓛.H (triple_of 𝓛 (own.signature T) (own.spec T 𝓛 𝓜.mem 𝓡.returns)) 𝓜 𝓡 γ (γ (name at)) (γ called) (as_method γ wired called refl) (met 𝓤 𝓛 𝓜 (within 𝓤 𝓛.H 𝓜 𝓡 γ) wired T LT));
 }
