@@ -307,19 +307,6 @@ waiting_sets (Some (Setting _)) may = absurd cc
 waiting_sets (Some _) may = absurd may
 waiting_sets None may = absurd may
 
--- a call that waits continues with a look if it finds the flag set
-pub waits_so : {T : Type 0} (view : Option View) → MayAwait view → (flag_set_so {T = T} (call_of view) ≡ None) × (awaits (Some (finds_flag_set (call_of view))) ≡ true)
-waits_so (Some (Setting Lock)) may = (refl, refl)
-waits_so (Some (Setting StarverLock)) may = (refl, refl)
-waits_so (Some (Setting _)) may = absurd cc
-waits_so (Some _) may = absurd may
-waits_so None may = absurd may
-
-pub awaits_still : (view : Option View) (n : ℕ) → awaits view ≡ true → true ≡ is_set n → awaits (Some (awaited_by view n)) ≡ true
-awaits_still (Some (Awaiting c)) n is set = subst (λ b. awaits (Some (if b then Awaiting c else Setting c)) ≡ true) set is
-awaits_still (Some _) n is set = absurd cc
-awaits_still None n is set = absurd cc
-
 pub may_await : (view : Option View) (n : ℕ) → awaits view ≡ true → false ≡ is_set n → MayAwait (Some (awaited_by view n))
 may_await (Some (Awaiting c)) n is clear = subst (λ b. MayAwait (Some (if b then Awaiting c else Setting c))) clear is
 may_await (Some _) n is clear = absurd cc

@@ -21,10 +21,6 @@ use Rattle.spin_core.proofs.Lemmas.{lemma, script, cite, having}
 use Rattle.spin_core.specs.Logs.{logs, log_owns, log_part, known_owns}
 use Rattle.spin_history.specs.History.{blank_owns, closed_owns}
 
-pub blank_keyless : (γ : ℕ) → Keyless (blank_owns γ)
-unfolding blank_owns latest
-blank_keyless γ = tt
-
 module _ {T : Type 0} (c : T → Gv) where
   pub closed_keyless : (γ : ℕ) (l : List T) → Keyless (closed_owns c γ l)
   unfolding closed_owns latest

@@ -41,10 +41,6 @@ Appends-none (Some s) = sym (append-nil s)
 pub but_all : (a : Option (List ℕ)) (text piece : List ℕ) → text ≡ piece → AppendsBut a a text piece
 but_all a text piece is = ([], Appends-none a, is)
 
--- if the whole text was written, the piece that is left is empty
-pub but_none : (a b : Option (List ℕ)) (text : List ℕ) → Appends a b text → AppendsBut a b text []
-but_none a b text all = (text, all, sym (append-nil text))
-
 -- a line added to the text is added to the piece that is left to write
 pub but_line : (a b : Option (List ℕ)) (text piece line : List ℕ) → AppendsBut a b text piece → AppendsBut a b (text ++ line) (piece ++ line)
 but_line a b text piece line so_far = (so_far.0, so_far.1, ap (λ t. t ++ line) so_far.2 ∙ append_assoc so_far.0 piece line)

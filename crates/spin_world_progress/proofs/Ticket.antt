@@ -144,10 +144,6 @@ doorway_two n taken some = grind (arith, some)
 doorway_long : (n taken r : ℕ) (next : Bool) → 2 ≤ taken → doorway n taken next ≤ suc r → 3 * n - 2 ≤ r
 doorway_long n taken r next many le = grind (arith, many, le)
 
-first_of_more : (ts : List Queued) (u : Queued) → is_empty ts ≡ false → first_party (ts ++ u ∷ []) ≡ first_party ts
-first_of_more [] u some = absurd (true≢false some)
-first_of_more (x ∷ xs) u some = refl
-
 bit_few : (b : Bool) → (if b then 1 else 0) ≤ 1
 bit_few b = grind arith
 
