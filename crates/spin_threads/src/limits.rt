@@ -2,9 +2,9 @@
 //! function learns what the law states.
 //!
 //! Each law but the last speaks of every call of every pass of its lock. The call kept the limit that it has in the
-//! model (`limit` of `spin_model`). Changes of the first word by others during the call may raise this limit. The
-//! exchanges that the call repeats failed at most as often as others changed that word (`KeepsLimits`,
-//! `IsWithinLimit`).
+//! model (`limit` of `spin_model`). A step is one of the model. Changes of the first word by others during the call may
+//! raise this limit. The exchanges that the call repeats failed at most as often as others changed that word
+//! (`KeepsLimits`, `IsWithinLimit`).
 ghost use Rattle.std.specs.Prelude.{ℕ, Option, List};
 ghost use Rattle.spin_core.specs.Own.{Numbered};
 ghost use Rattle.spin_fair.specs.Fair as fair_mutex;

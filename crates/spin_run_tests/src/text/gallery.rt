@@ -157,7 +157,7 @@ pub const GALLERY: &[Worked] = &[
         ",
     ),
     (
-        "A try makes one pass",
+        "A try of a ticket lock never begins again",
         "ticket 5 0 2\n\
          1 begin try_lock\n\
          1 step\n\
@@ -344,7 +344,7 @@ pub const GALLERY: &[Worked] = &[
         ",
     ),
     (
-        "A try to read goes again only after another's change",
+        "A `try_read` retries only after another's change",
         "rw 1 2 2\n\
          0 begin try_read\n\
          0 step\n\
